@@ -1,0 +1,89 @@
+-- What compiling gives, by what the program keeps of it.
+use Rattle.std.proofs.Common.{◌≡◌, ℕ, zero, suc, ◌+◌, List, [], ◌∷◌, ◌++◌, map, length, take, drop, Option, None, Some, arith, refl, sym, ap, subst, ◌∙◌}
+use Rattle.std.specs.Prelude.{slice_get, option_map, option_and_then}
+use Rattle.std.proofs.lemmas.Option.{slice_get-map}
+use Rattle.x_lex.specs.declared.kind.Kind.{Kind}
+use Rattle.x_lex.specs.Places.{Lexeme, lexemes_from, lexemes}
+use Rattle.x_lex.specs.Tiling.{AreTokens}
+use Rattle.rpcx.specs.Parse.{Parse, IsParse, view_parsed}
+use Rattle.rpcx.specs.Items.{AreItems, joined}
+use Rattle.rpcx.specs.Cut.{AreEach, IsCut}
+use Rattle.std.proofs.Math.Seq.{take-append_seam, drop-append_seam}
+use Rattle.rpcx.specs.Tree.{Tree}
+use Rattle.rpcx.specs.Names.{first_declarer}
+use Rattle.rpcx.specs.Kept.{view_item, kept_definition}
+use Rattle.rpcx.specs.Compile.{Item, parts, definitions_of, definition_at, first_of, faults_from, faults_of, tokens_of, IsCompilation, AreParses}
+use Rattle.rpcx.specs.Header.{body_from, body_of}
+use Rattle.rpcx.specs.declared.item.Item as rust
+use Rattle.rpcx.specs.declared.names.Declarer.{Declarer}
+use Rattle.rpcx.specs.declared.fault.Fault.{Fault}
+
+pub length-lexemes : (text : List ℕ) (at : ℕ) (ts : List (Kind × ℕ)) → length (lexemes_from text at ts) ≡ length ts
+length-lexemes text at [] = refl
+length-lexemes text at (t ∷ ts) = ap suc (length-lexemes text (at + t.1) ts)
+
+pub length-parts : (tokens : List Lexeme) (ks : List (ℕ × Parse)) → length (parts tokens ks) ≡ length ks
+length-parts tokens [] = refl
+length-parts tokens (k ∷ ks) = ap suc (length-parts (drop k.0 tokens) ks)
+
+pub definitions-parts : (tokens : List Lexeme) (items : List rust.Item) → definitions_of (parts tokens (map view_item items)) ≡ map kept_definition items
+definitions-parts tokens [] = refl
+definitions-parts tokens (i ∷ is) = ap (λ ds. kept_definition i ∷ ds) (definitions-parts (drop i.tokens tokens) is)
+
+-- the table of names gives first declarers
+pub same_first : (find : List ℕ → Option Declarer) (tokens : List Lexeme) (items : List rust.Item) → ((name : List ℕ) → find name ≡ first_declarer (map kept_definition items) name)
+    → find ≡ first_of (parts tokens (map view_item items))
+same_first find tokens items h = λ i name. (h name ∙ ap (λ ds. first_declarer ds name) (sym (definitions-parts tokens items))) i
+
+pub same_faults : (text : List ℕ) (find : List ℕ → Option Declarer) (items : List Item) → find ≡ first_of items → faults_from text find 0 items ≡ faults_of text items
+same_faults text find items h = ap (λ f. faults_from text f 0 items) h
+
+pub same_body : (find : List ℕ → Option Declarer) (items : List Item) → find ≡ first_of items → body_from find 0 items ≡ body_of items
+same_body find items h = ap (λ f. body_from f 0 items) h
+
+pub tokens_are : (text : List ℕ) (tokens : List (Kind × ℕ)) (items : List Item) → IsCompilation text tokens items → tokens_of items ≡ lexemes text tokens
+tokens_are text tokens items h = h.are_items.all
+
+-- a definition by its index
+pub definition_found : (tokens : List Lexeme) (items : List rust.Item) (index : ℕ)
+    → option_and_then kept_definition (slice_get items index) ≡ definition_at (parts tokens (map view_item items)) index
+definition_found tokens items index =
+    by (slice_get items index) ∙ sym (ap (option_and_then (λ d. d)) (slice_get-map kept_definition items index)) ∙ sym (ap (λ ds. option_and_then (λ d. d) (slice_get ds index)) (definitions-parts tokens items))
+  where
+    by : (o : Option rust.Item) → option_and_then kept_definition o ≡ option_and_then (λ d. d) (option_map kept_definition o)
+    by None = refl
+    by (Some i) = refl
+
+take_part : (part rest : List Lexeme) (n : ℕ) → n ≡ length part → take n (part ++ rest) ≡ part
+take_part part rest n e = ap (λ k. take k (part ++ rest)) e ∙ take-append_seam part rest
+
+drop_part : (part rest : List Lexeme) (n : ℕ) → n ≡ length part → drop n (part ++ rest) ≡ rest
+drop_part part rest n e = ap (λ k. drop k (part ++ rest)) e ∙ drop-append_seam part rest
+
+-- the items by their numbers of tokens are those that were cut
+pub parts_are : (ps : List (List Lexeme)) (items : List rust.Item) (tokens : List Lexeme) → joined ps ≡ tokens → AreEach ps items → map (λ i. i.tokens) (parts tokens (map view_item items)) ≡ ps
+parts_are [] [] tokens e each = refl
+parts_are [] (i ∷ is) tokens e each = absurd each
+parts_are (p ∷ ps) [] tokens e each = absurd each
+parts_are (p ∷ ps) (i ∷ is) tokens e each =
+    let first : take i.tokens tokens ≡ p = ap (take i.tokens) (sym e) ∙ take_part p (joined ps) i.tokens each.0.count in
+    let rest : drop i.tokens tokens ≡ joined ps = ap (drop i.tokens) (sym e) ∙ drop_part p (joined ps) i.tokens each.0.count in
+    let others = parts_are ps is (drop i.tokens tokens) (sym rest) each.1 in
+    λ k. first k ∷ others k
+
+pub parses_are : (ps : List (List Lexeme)) (items : List rust.Item) (tokens : List Lexeme) → joined ps ≡ tokens → AreEach ps items → AreParses (parts tokens (map view_item items))
+parses_are [] [] tokens e each = tt
+parses_are [] (i ∷ is) tokens e each = absurd each
+parses_are (p ∷ ps) [] tokens e each = absurd each
+parses_are (p ∷ ps) (i ∷ is) tokens e each =
+    let first : take i.tokens tokens ≡ p = ap (take i.tokens) (sym e) ∙ take_part p (joined ps) i.tokens each.0.count in
+    let rest : drop i.tokens tokens ≡ joined ps = ap (drop i.tokens) (sym e) ∙ drop_part p (joined ps) i.tokens each.0.count in
+    (subst (λ part. IsParse part (view_parsed i.parsed)) (sym first) each.0.parsed, parses_are ps is (drop i.tokens tokens) (sym rest) each.1)
+
+pub compiles : (text : List ℕ) (tokens : List (Kind × ℕ)) (items : List rust.Item) → AreTokens text tokens → IsCut (lexemes text tokens) items
+    → IsCompilation text tokens (parts (lexemes text tokens) (map view_item items))
+compiles text tokens items are cut = record {
+  are_tokens = are;
+  are_items = subst (λ ps. AreItems (lexemes text tokens) ps) (sym (parts_are cut.parts items (lexemes text tokens) cut.are.all cut.each)) cut.are;
+  are_parses = parses_are cut.parts items (lexemes text tokens) cut.are.all cut.each;
+}

@@ -1,0 +1,17 @@
+use Rattle.std.proofs.Common.{◌≡◌, ◌++◌, map, drop}
+use Rattle.x_lex.specs.Places.{lexemes}
+use Rattle.rpcx.specs.NamesTable.{first_in}
+use Rattle.rpcx.specs.Compile.{parts, faults_from}
+use Rattle.rpcx.specs.Header.{body_from}
+use Rattle.rpcx.specs.Kept.{view_item}
+use Rattle.rpcx.proofs.findings.find.Given as goal
+
+-- what was found, and what the items that are left give
+abbrev pub invariant-loop-index : goal.invariant-loop-index
+invariant-loop-index l = record {
+  faults : l.faults.items ++ faults_from l.source (first_in l.names) l.index (parts l.walk (map view_item (drop l.index l.items)))
+      ≡ faults_from l.source (first_in l.names) 0 (parts (lexemes l.source l.fn.tokens) (map view_item l.items));
+  body : l.body.items ++ body_from (first_in l.names) l.index (parts l.walk (map view_item (drop l.index l.items)))
+      ≡ body_from (first_in l.names) 0 (parts (lexemes l.source l.fn.tokens) (map view_item l.items));
+  lines : l.lines ≡ l.source;
+}

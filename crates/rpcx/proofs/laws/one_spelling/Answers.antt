@@ -1,0 +1,5 @@
+use Rattle.rpcx.proofs.ItemLaws.{one_spelling}
+use Rattle.rpcx.proofs.laws.one_spelling.Goals as goal
+
+pub returns : goal.returns
+returns c = one_spelling

@@ -1,0 +1,17 @@
+use Rattle.std.proofs.Common.{◌≡◌, ℕ, map, length, ap, sym, subst, ◌∙◌}
+use Rattle.std.proofs.lemmas.List.{length-map}
+use Rattle.std.specs.Prelude.{slice_get, option_map, option_and_then}
+use Rattle.x_lex.specs.Places.{lexeme, lexemes}
+use Rattle.rpcx.specs.Kept.{view_item, kept_definition}
+use Rattle.rpcx.specs.Session.{Compiles}
+use Rattle.rpcx.specs.Tree.{tree_at}
+use Rattle.rpcx.specs.Compile.{parts, tokens_of, definition_at, faults_of}
+use Rattle.rpcx.proofs.Compiled.{length-lexemes, length-parts, tokens_are, definition_found}
+use Rattle.rpcx.proofs.session.Session.definition.Goals as goal
+
+pub returns : goal.returns
+returns c =
+    let tokens = lexemes c.self.inside.source c.self.inside.tokens in
+    let items = parts tokens (map view_item c.self.inside.items.items) in
+    let found = c.definition_in.ensures ∙ ap (λ is. option_and_then kept_definition (slice_get is c.args.index)) c.deref.ensures.value ∙ definition_found tokens c.self.inside.items.items c.args.index in
+    subst (λ v. Compiles v.text (λ is. tree_at c.definition_in.result ≡ definition_at is c.args.index)) c.self.view_is (c.self.inside.tokens, items, c.self.invariant.compiles, found)

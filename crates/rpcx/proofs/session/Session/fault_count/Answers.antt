@@ -1,0 +1,16 @@
+use Rattle.std.proofs.Common.{◌≡◌, ℕ, map, length, ap, sym, subst, ◌∙◌}
+use Rattle.std.proofs.lemmas.List.{length-map}
+use Rattle.std.specs.Prelude.{slice_get, option_map, option_and_then}
+use Rattle.x_lex.specs.Places.{lexeme, lexemes}
+use Rattle.rpcx.specs.Kept.{view_item, kept_definition}
+use Rattle.rpcx.specs.Session.{Compiles}
+use Rattle.rpcx.specs.Tree.{tree_at}
+use Rattle.rpcx.specs.Compile.{parts, tokens_of, definition_at, faults_of}
+use Rattle.rpcx.proofs.Compiled.{length-lexemes, length-parts, tokens_are, definition_found}
+use Rattle.rpcx.proofs.session.Session.fault_count.Goals as goal
+
+pub returns : goal.returns
+returns c =
+    let items = parts (lexemes c.self.inside.source c.self.inside.tokens) (map view_item c.self.inside.items.items) in
+    let count : c.len.result ≡ length (faults_of c.self.inside.source items) = c.len.ensures ∙ c.self.inside.faults.ok.0 ∙ ap length c.self.invariant.faults_are in
+    subst (λ v. Compiles v.text (λ is. c.len.result ≡ length (faults_of v.text is))) c.self.view_is (c.self.inside.tokens, items, c.self.invariant.compiles, count)

@@ -1,0 +1,17 @@
+use Rattle.std.proofs.Common.{◌≡◌, ℕ, map, length, ap, sym, subst, ◌∙◌}
+use Rattle.std.proofs.lemmas.List.{length-map}
+use Rattle.std.specs.Prelude.{slice_get, option_map, option_and_then}
+use Rattle.x_lex.specs.Places.{lexeme, lexemes}
+use Rattle.rpcx.specs.Kept.{view_item, kept_definition}
+use Rattle.rpcx.specs.Session.{Compiles}
+use Rattle.rpcx.specs.Tree.{tree_at}
+use Rattle.rpcx.specs.Compile.{parts, tokens_of, definition_at, faults_of}
+use Rattle.rpcx.proofs.Compiled.{length-lexemes, length-parts, tokens_are, definition_found}
+use Rattle.rpcx.proofs.session.Session.token.Goals as goal
+
+pub returns : goal.returns
+returns c =
+    let items = parts (lexemes c.self.inside.source c.self.inside.tokens) (map view_item c.self.inside.items.items) in
+    let all = tokens_are c.self.inside.source c.self.inside.tokens items c.self.invariant.compiles in
+    let found = c.token.ensures ∙ ap (λ ls. slice_get ls c.args.index) (sym all) in
+    subst (λ v. Compiles v.text (λ is. option_map lexeme c.token.result ≡ slice_get (tokens_of is) c.args.index)) c.self.view_is (c.self.inside.tokens, items, c.self.invariant.compiles, found)

@@ -1,0 +1,16 @@
+-- What a table of names says.
+use Rattle.std.specs.Prelude.{ℕ, List, Option, option_map}
+use Rattle.std.specs.Str.{bytes_eq}
+use Rattle.indexmap.specs.IndexMap.{get_by}
+use Rattle.rpcx.specs.Names as names
+use Rattle.rpcx.specs.declared.names.Names.{Names}
+use Rattle.rpcx.specs.declared.names.Declarer.{Declarer}
+use Rattle.rpcx.specs.declared.names.Declared as rust
+
+-- the first declarer that the table has for the name
+abbrev pub first_in : Names → List ℕ → Option Declarer
+first_in table name = get_by (λ key. bytes_eq name key.items) table.table
+
+-- a declared name of the program
+abbrev pub view_declared : rust.Declared → names.Declared
+view_declared d = record { name = d.name.now; word = d.word }

@@ -1,0 +1,67 @@
+-- What the tokens of an item parse to.
+use Rattle.std.specs.Prelude.{◌≡◌, ◌≢◌, ℕ, Bool, true, IsTrue, List, [], ◌∷◌, ◌++◌, ◌⊎◌, length}
+use Rattle.x_lex.specs.Places.{Lexeme}
+use Rattle.x_lex.specs.declared.kind.Kind.{Kind}
+use Rattle.x_lex.specs.declared.kind.Kind.TheVariants as kinds
+use Rattle.rpcx.specs.Words.{Word, word_of, words_of, is_significant}
+use Rattle.rpcx.specs.Tree.{Tree, view_definition}
+use Rattle.rpcx.specs.Spell.{spell, Begins}
+use Rattle.rpcx.specs.declared.fault.FaultCode.{FaultCode}
+use Rattle.rpcx.specs.declared.fault.FaultCode.TheVariants as codes
+use Rattle.rpcx.specs.declared.parse.Parsed.{Parsed}
+use Rattle.rpcx.specs.declared.parse.Parsed.TheVariants as parsed
+
+-- a definition, or the fault at a token of the item, counted from 0
+pub data Parse : Type 0 where
+  Nothing : Parse
+  Def : (definition : Tree) → Parse
+  Fault : (token : ℕ) (code : FaultCode) → Parse
+
+-- the code of a word with which no spelling goes on
+abbrev pub code_of : Kind → FaultCode
+code_of kinds.BadByte = codes.BadByte
+code_of kinds.BadNumber = codes.BadNumber
+code_of kinds.OpenComment = codes.OpenComment
+code_of kinds.Directive = codes.Directive
+code_of kind = codes.Syntax
+
+-- the token is a word; the words before it begin a spelling, and with it they begin none
+pub record IsStuck (item : List Lexeme) (at : ℕ) (code : FaultCode) : Type 0 where
+  pub front : List Lexeme
+  pub token : Lexeme
+  pub rear : List Lexeme
+  pub parts : item ≡ front ++ token ∷ rear
+  pub place : at ≡ length front
+  pub is_word : IsTrue (is_significant token.kind)
+  pub before : Begins (words_of front)
+  pub here : Begins (words_of front ++ word_of token ∷ []) → ⊥
+  pub by_kind : code ≡ code_of token.kind
+
+-- the token is a word, and there is none behind it
+pub record IsLastWord (item : List Lexeme) (at : ℕ) : Type 0 where
+  pub front : List Lexeme
+  pub token : Lexeme
+  pub rear : List Lexeme
+  pub parts : item ≡ front ++ token ∷ rear
+  pub place : at ≡ length front
+  pub is_word : IsTrue (is_significant token.kind)
+  pub behind : words_of rear ≡ []
+
+-- all words begin a spelling and are none, and the token is the last of them
+pub record IsUnfinished (item : List Lexeme) (at : ℕ) (code : FaultCode) : Type 0 where
+  pub last : IsLastWord item at
+  pub begins : Begins (words_of item)
+  pub no_whole : (d : Tree) → spell d ≢ words_of item
+  pub unfinished : code ≡ codes.Unfinished
+
+-- what an item parses to
+abbrev pub IsParse : List Lexeme → Parse → Type 0
+IsParse item Nothing = words_of item ≡ []
+IsParse item (Def d) = spell d ≡ words_of item
+IsParse item (Fault at code) = IsStuck item at code ⊎ IsUnfinished item at code
+
+-- what the program says that an item is
+abbrev pub view_parsed : Parsed → Parse
+view_parsed parsed.Nothing = Nothing
+view_parsed (parsed.Def d) = Def (view_definition d)
+view_parsed (parsed.Fault token code) = Fault token code

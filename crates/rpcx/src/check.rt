@@ -1,0 +1,74 @@
+//! The rules that definitions keep beyond their spelling.
+
+ghost use Rattle.std.specs.Prelude.{◌≡◌, IfOk};
+ghost use Rattle.x_text.specs.Counts.{raised};
+ghost use Rattle.rpcx.specs.Tree.{view_definition};
+ghost use Rattle.rpcx.specs.NamesTable.{first_in, view_declared};
+ghost use Rattle.rpcx.specs.Rules.{is_beforehand, is_taken, is_at, rules};
+
+use crate::{Declared, Declarer, Definition, FaultCode, Names, is_in_range};
+use std::alloc::Global;
+use x_text::{Meter, NoMemory};
+
+/// A fault at a word of an item, counted from 0.
+#[derive(Clone, Copy, Debug, PartialEq, Eq)]
+pub struct WordFault {
+    pub word: usize,
+    pub code: FaultCode,
+}
+
+/// Whether the name is a constant that no item declares.
+fn is_beforehand(name: &[u8]) -> bool
+    ensures { result ≡ is_beforehand name.now }
+{
+    matches!(name, b"TRUE" | b"FALSE")
+}
+
+/// Whether the declarer is this word of this item.
+fn is_at(item: usize, word: usize, declarer: Option<Declarer>) -> bool
+    ensures { result ≡ is_at item word declarer }
+{
+    match declarer {
+        None => false,
+        Some(declarer) => declarer.item == item && declarer.word == word,
+    }
+}
+
+/// Whether a name that the item declares was declared at an earlier place or beforehand.
+fn is_taken(names: &Names, item: usize, declared: &Declared) -> bool
+    ensures { result ≡ is_taken (first_in names.now) item (view_declared declared.now) }
+{
+    is_beforehand(declared.name) || !is_at(item, declared.word, names.first(declared.name))
+}
+
+/// The faults of an item's definition by rules, in order of word and then of code. Counts one checked item.
+pub fn check_item(
+    alloc: Global,
+    item: usize,
+    definition: &Definition,
+    names: &Names,
+    meter: &mut Meter,
+) -> Result<Vec<WordFault>, NoMemory>
+    ensures faults { IfOk result (λ faults. faults.items ≡ rules (first_in names.now) item (view_definition definition.now)) }
+    ensures counted { meter.new ≡ record meter.old { checked = raised meter.old.checked 1 } }
+{
+    meter.tick_checked();
+    let mut faults = Vec::new(alloc);
+    match definition {
+        Definition::Const { name, value } => {
+            if is_taken(names, item, &Declared { name, word: 1 }) {
+                faults.push(WordFault {
+                    word: 1,
+                    code: FaultCode::Duplicate,
+                })?;
+            }
+            if !is_in_range(value) {
+                faults.push(WordFault {
+                    word: 3,
+                    code: FaultCode::Range,
+                })?;
+            }
+        }
+    }
+    Ok(faults)
+}

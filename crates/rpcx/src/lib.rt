@@ -1,0 +1,30 @@
+//! The compiler of a `.x` text.
+#![tactic(auto)]
+
+mod check;
+mod compile;
+mod cut;
+mod cutter;
+mod definition;
+mod fault;
+mod findings;
+mod header;
+mod item;
+mod laws;
+mod mark;
+mod names;
+mod number;
+mod parse;
+mod reader;
+mod session;
+
+pub use check::{WordFault, check_item};
+pub use definition::Definition;
+pub use fault::{Fault, FaultCode};
+pub use findings::TokenFault;
+pub use item::Item;
+pub use laws::{one_cut, one_parse, one_spelling};
+pub use names::{Declared, Declarer, Names, declares};
+pub use number::is_in_range;
+pub use parse::{Parsed, parse_item};
+pub use session::{Session, Which};

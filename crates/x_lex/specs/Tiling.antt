@@ -1,0 +1,22 @@
+-- The tokens of a text, each with its kind and length, one after another.
+use Rattle.std.specs.Prelude.{◌≡◌, ℕ, ◌+◌, ◌-◌, ◌==◌, Bool, true, List, [], ◌∷◌, drop, slice_index}
+use Rattle.x_lex.specs.declared.kind.Kind.{Kind}
+use Rattle.x_lex.specs.Word.{IsToken}
+
+-- whether the place behind the first `len` bytes of rest, one or more, is a line start
+abbrev pub starts_after : List ℕ → ℕ → Bool
+starts_after rest len = slice_index rest (len - 1) == 10
+
+-- ts are the tokens of rest, where `start` says whether rest begins at a line start
+abbrev pub Tiles : Bool → List ℕ → List (Kind × ℕ) → Type 0
+Tiles start rest [] = rest ≡ []
+Tiles start rest (t ∷ ts) = IsToken t.0 start rest t.1 × Tiles (starts_after rest t.1) (drop t.1 rest) ts
+
+-- ts are the tokens of the whole text
+abbrev pub AreTokens : List ℕ → List (Kind × ℕ) → Type 0
+AreTokens text ts = Tiles true text ts
+
+-- how many bytes the tokens have together
+abbrev pub span : List (Kind × ℕ) → ℕ
+span [] = 0
+span (t ∷ ts) = t.1 + span ts

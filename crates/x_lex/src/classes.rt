@@ -1,0 +1,71 @@
+//! The classes of bytes, and how far a run of one class goes.
+ghost use Rattle.std.specs.Prelude.{◌≡◌, ◌≤◌, length};
+ghost use Rattle.std.specs.List.{prefix_len};
+ghost use Rattle.x_lex.specs.Bytes.{is_space, is_digit, is_letter, is_word_byte, is_punct, is_in_line, is_blank};
+
+use memchr::memchr;
+
+pub(crate) fn is_space(byte: u8) -> bool
+    ensures { result ≡ is_space byte }
+{
+    matches!(byte, 9..=13 | b' ')
+}
+
+pub(crate) fn is_digit(byte: u8) -> bool
+    ensures { result ≡ is_digit byte }
+{
+    byte.is_ascii_digit()
+}
+
+pub(crate) fn is_letter(byte: u8) -> bool
+    ensures { result ≡ is_letter byte }
+{
+    byte.is_ascii_alphabetic() || byte == b'_'
+}
+
+fn is_word_byte(byte: u8) -> bool
+    ensures { result ≡ is_word_byte byte }
+{
+    is_letter(byte) || is_digit(byte)
+}
+
+pub(crate) fn is_punct(byte: u8) -> bool
+    ensures { result ≡ is_punct byte }
+{
+    matches!(
+        byte,
+        b'{' | b'}' | b'(' | b')' | b'[' | b']' | b'<' | b'>' | b',' | b';' | b':' | b'=' | b'*'
+    )
+}
+
+/// How many white bytes `rest` begins with.
+pub(crate) fn space_len(rest: &[u8]) -> usize
+    ensures { result ≡ prefix_len is_space rest.now }
+{
+    rest.iter().take_while(|byte| is_space(**byte)).count()
+}
+
+/// How many spaces and tabs `rest` begins with.
+pub(crate) fn blank_len(rest: &[u8]) -> usize
+    ensures { result ≡ prefix_len is_blank rest.now }
+{
+    rest.iter()
+        .take_while(|byte| matches!(byte, b' ' | b'\t'))
+        .count()
+}
+
+/// How many letters, digits and `_` `rest` begins with.
+pub(crate) fn word_len(rest: &[u8]) -> usize
+    ensures within { result ≤ length rest.now }
+    ensures value { result ≡ prefix_len is_word_byte rest.now }
+{
+    rest.iter().take_while(|byte| is_word_byte(**byte)).count()
+}
+
+/// How many bytes of `rest` stand before its first line feed, or all.
+#[tactic(auto, using(crate::proofs::LineLemmas::found_line))]
+pub(crate) fn line_len(rest: &[u8]) -> usize
+    ensures { result ≡ prefix_len is_in_line rest.now }
+{
+    memchr(b'\n', rest).unwrap_or(rest.len())
+}

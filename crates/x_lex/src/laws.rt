@@ -1,0 +1,22 @@
+//! Laws of the definitions that the contracts of this crate speak of, each a function that does nothing and ensures the law.
+ghost use Rattle.std.specs.Prelude.{◌≡◌, ℕ, List, ◌↔◌};
+ghost use Rattle.x_lex.specs.declared.kind.Kind.{Kind};
+ghost use Rattle.x_lex.specs.Tiling.{AreTokens};
+ghost use Rattle.x_lex.specs.Places.{Lexeme, lexemes, TilesByPlace};
+
+/// A text has one list of tokens.
+pub fn one_tiling()
+    ensures { (text : List ℕ) (ts us : List (Kind × ℕ)) → AreTokens text ts → AreTokens text us → ts ≡ us }
+{}
+
+/// A text has tokens.
+pub fn has_tokens()
+    ensures { (text : List ℕ) → (ts : List (Kind × ℕ)) × AreTokens text ts }
+{}
+
+/// The tokens of a text are those that follow one another from its start to its end, none of them empty, each the word with the
+/// greatest end of those that begin at its place.
+pub fn tokens_by_place()
+    ensures same { (text : List ℕ) (ts : List (Kind × ℕ)) → AreTokens text ts ↔ TilesByPlace text (lexemes text ts) }
+    ensures only { (text : List ℕ) (ls : List Lexeme) → TilesByPlace text ls → (ts : List (Kind × ℕ)) × AreTokens text ts × (ls ≡ lexemes text ts) }
+{}

@@ -1,0 +1,21 @@
+//! The tokens of the text of a `.x` file: [`lex`] cuts a text into tokens that follow one another without a gap, comments and
+//! white space among them, and [`lex_one`] finds the one token at a place.
+#![tactic(auto)]
+
+mod classes;
+mod kind;
+mod laws;
+mod lexing;
+mod scan;
+#[cfg(test)]
+mod tests;
+mod token;
+mod tokens;
+mod words;
+
+pub use kind::Kind;
+pub use laws::{has_tokens, one_tiling, tokens_by_place};
+pub use lexing::lex;
+pub use scan::lex_one;
+pub use token::Token;
+pub use tokens::{Tokens, Walk};

@@ -1,0 +1,141 @@
+ghost use Rattle.std.specs.Prelude.{◌≡◌, ◌≤◌, [], false, Bool, ℕ, List, Option, IsTrue, OnOk, IfErr, take, length};
+ghost use Rattle.std.specs.Io.KnownBytes.{Appends};
+ghost use Rattle.x_text.specs.Writing.{Writes, Adds, IsWritten};
+
+use crate::Sink;
+use arrayvec::ArrayVec;
+use std::marker::Model;
+use thiserror::Error;
+
+/// The sink failed when it had taken the first `written` bytes of the text, and no others.
+#[derive(Clone, Copy, Debug, PartialEq, Eq, Error)]
+#[error("the write failed after {written} bytes")]
+pub struct WriteFault {
+    /// How many bytes the sink took. It stays at the greatest number.
+    pub written: u64,
+}
+
+/// How many bytes a pen holds back at the most.
+const HELD: usize = 8192;
+
+/// Writes a text to a sink in parts: it holds back a few bytes, so that the sink is asked seldom, and takes no memory.
+///
+/// Once the sink has failed nothing more goes to it, and [`Pen::finish`] tells.
+#[derive(Drop)]
+pub struct Pen {
+    pending: ArrayVec<u8, HELD>,
+    written: u64,
+    stopped: bool,
+}
+
+impl Model for Pen {
+    ghost use Rattle.x_text.specs.Writing.{Inked};
+
+    ghost Value = { Inked };
+
+    ghost view = { λ p. record { pending = p.pending.items; written = p.written; stopped = p.stopped } };
+}
+
+impl Pen {
+    /// A pen that was given nothing.
+    pub fn new() -> Pen
+        ensures { result ≡ record { pending = []; written = 0; stopped = false } }
+    {
+        Pen {
+            pending: ArrayVec::new(),
+            written: 0,
+            stopped: false,
+        }
+    }
+
+    /// Writes these bytes, some of them perhaps later.
+    pub fn add<S: Sink>(&mut self, bytes: &[u8], sink: &mut S)
+        ensures { Adds self.old (S.contents sink.old) (S.has_failed sink.old) self.new (S.contents sink.new) (S.has_failed sink.new) bytes.now }
+    {
+        if self.holds(bytes) {
+            return;
+        }
+        self.pass_on(sink);
+        if self.holds(bytes) {
+            return;
+        }
+        self.write_through(bytes, sink);
+    }
+
+    /// Holds the bytes back if there is room for them, or if nothing more goes to the sink, and answers whether it does.
+    fn holds(&mut self, bytes: &[u8]) -> bool
+        ensures holds { IsTrue result → (now : Option (List ℕ)) (failed : Bool) → Adds self.old now failed self.new now failed bytes.now }
+        ensures same { result ≡ false → self.new ≡ self.old }
+        ensures goes_on { result ≡ false → self.new.stopped ≡ false }
+    {
+        self.stopped || self.pending.try_extend_from_slice(bytes).is_ok()
+    }
+
+    /// Writes what is held back.
+    fn pass_on<S: Sink>(&mut self, sink: &mut S)
+        ensures adds { Adds self.old (S.contents sink.old) (S.has_failed sink.old) self.new (S.contents sink.new) (S.has_failed sink.new) [] }
+        ensures empty { self.new.stopped ≡ false → self.new.pending ≡ [] }
+    {
+        if self.stopped {
+            return;
+        }
+        match put_all(&self.pending, sink) {
+            Ok(()) => {
+                self.written = self.written.saturating_add(self.pending.len() as u64);
+                self.pending.clear();
+            }
+            Err(taken) => {
+                self.written = self.written.saturating_add(taken as u64);
+                self.stopped = true;
+            }
+        }
+    }
+
+    /// Writes bytes that there is no room for, where nothing is held back.
+    fn write_through<S: Sink>(&mut self, bytes: &[u8], sink: &mut S)
+        requires empty { self.old.pending ≡ [] }
+        requires goes_on { self.old.stopped ≡ false }
+        ensures { Adds self.old (S.contents sink.old) (S.has_failed sink.old) self.new (S.contents sink.new) (S.has_failed sink.new) bytes.now }
+    {
+        match put_all(bytes, sink) {
+            Ok(()) => self.written = self.written.saturating_add(bytes.len() as u64),
+            Err(taken) => {
+                self.written = self.written.saturating_add(taken as u64);
+                self.stopped = true;
+            }
+        }
+    }
+
+    /// Writes what was held back.
+    pub fn finish<S: Sink>(self, sink: &mut S) -> Result<(), WriteFault>
+        ensures { (start : Option (List ℕ)) (text : List ℕ) → Writes start text self (S.contents sink.old) (S.has_failed sink.old) →
+            IsWritten result start (S.contents sink.new) (S.has_failed sink.new) text }
+    {
+        let mut pen = self;
+        pen.pass_on(sink);
+        if pen.stopped {
+            Err(WriteFault {
+                written: pen.written,
+            })
+        } else {
+            Ok(())
+        }
+    }
+}
+
+/// Puts all the bytes, or answers how many the sink took before it failed.
+fn put_all<S: Sink>(bytes: &[u8], sink: &mut S) -> Result<(), usize>
+    ensures all { OnOk result (Appends (S.contents sink.old) (S.contents sink.new) bytes.now) }
+    ensures front { IfErr result (λ taken. Appends (S.contents sink.old) (S.contents sink.new) (take taken bytes.now)) }
+    ensures within { IfErr result (λ taken. taken ≤ length bytes.now) }
+    ensures failed { IfErr result (λ _. IsTrue (S.has_failed sink.new)) }
+{
+    let mut done = 0;
+    while done < bytes.len() {
+        match sink.put(&bytes[done..]) {
+            Ok(count) => done += count,
+            Err(_) => return Err(done),
+        }
+    }
+    Ok(())
+}
