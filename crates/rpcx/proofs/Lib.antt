@@ -1,3 +1,5 @@
+pub mod Bases
+pub mod Commands
 pub mod Compiled
 pub mod CutLemmas
 pub mod Digits

@@ -1,6 +1,8 @@
+pub mod Args
 pub mod Compile
 pub mod Cut
 pub mod Entries
+pub mod Generate
 pub mod Header
 pub mod Items
 pub mod Keeps

@@ -1,6 +1,7 @@
 //! The compiler of a `.x` text.
 #![tactic(auto)]
 
+mod args;
 mod check;
 mod compile;
 mod cut;
@@ -8,6 +9,7 @@ mod cutter;
 mod definition;
 mod fault;
 mod findings;
+mod generate;
 mod header;
 mod item;
 mod laws;
@@ -18,10 +20,12 @@ mod parse;
 mod reader;
 mod session;
 
+pub use args::{GenArgs, gen_args};
 pub use check::{WordFault, check_item};
 pub use definition::Definition;
 pub use fault::{Fault, FaultCode};
 pub use findings::TokenFault;
+pub use generate::{complain, gen_mode, gen_open, gen_write, tell_of_file};
 pub use item::Item;
 pub use laws::{one_cut, one_parse, one_spelling};
 pub use names::{Declared, Declarer, Names, declares};

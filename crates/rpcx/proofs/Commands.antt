@@ -1,0 +1,103 @@
+-- What the proofs of commands that are built by a chain of `.arg(..)` calls share.
+use Rattle.std.proofs.Common.{◌≡◌, ◌∙◌, ◌<◌, ℕ, Bool, List, [], ◌∷◌, ◌&&◌, true, false, zero, suc, not, ap, sym, subst, refl, length, map, inl, inr, arith, codes, Option, Some, None, is_some}
+use Rattle.std.specs.List.{All, list_any, slice_index_or}
+use Rattle.std.specs.Str.{bytes_eq}
+use Rattle.std.proofs.lemmas.Slice.Eq.{bytes_eq-Decides}
+use Rattle.std.proofs.lemmas.List.Folds.{list_any_at}
+use Rattle.std.proofs.lemmas.Bool.{and_parts, both_ways, not-true}
+use Rattle.clap.proofs.CallerLemmas.{required_in_chain}
+use Rattle.clap.proofs.WalkLemmas.{find_row, list_any-map}
+use Rattle.std.specs.Prelude.{find, option_and_then, option_map}
+use Rattle.clap.specs.Facts.{Entry}
+use Rattle.clap.specs.Walk.{row_of}
+use Rattle.clap.specs.declared.parser.matches.Found.{Found}
+use Rattle.clap.specs.declared.parser.matches.MatchedArg.{MatchedArg}
+use Rattle.clap.specs.Words.{Text, app_of, new_app, IsPlainArg, Row, first_value, found_of, args_of, groups_of, subcommands_of, AddsArg, AddsInTurn, matched_of, rows_of}
+use Rattle.clap.specs.Simple.{app_of_fields, on_top}
+use Rattle.clap.specs.Built.{FitsChain, HasDistinctIds, TakesValue}
+use Rattle.clap.specs.declared.builder.arg.Arg.{Arg}
+use Rattle.clap.specs.declared.builder.command.Command.{Command}
+use Rattle.clap.specs.declared.builder.command.Command.TheViews.{out-Command}
+use Rattle.rpcx.specs.Args.{AlwaysHas, plain_app, source_of}
+
+-- a new command without clap's own help flag
+pub plain_is : (old new : Command) (name : Text) → app_of old ≡ new_app name
+    → out-Command new ≡ record (out-Command old) { disable_help_flag = true } → app_of new ≡ plain_app name
+plain_is old new name is fields = ap app_of_fields fields ∙ ap (on_top (λ s. record s { disable_help_flag = true })) is
+
+-- the id is neither empty nor one of clap's own
+abbrev pub is_own : Text → Bool
+is_own id = not (bytes_eq id []) && (not (bytes_eq id (codes "help")) && not (bytes_eq id (codes "version")))
+
+-- no two ids are one
+abbrev pub are_distinct : List Text → Bool
+are_distinct [] = true
+are_distinct (id ∷ ids) = not (list_any (bytes_eq id) ids) && are_distinct ids
+
+-- such an argument may stand in a chain
+pub fits_chain : (a : Arg) (id : Text) → IsPlainArg a → a.global ≡ false → a.id.now ≡ id → is_own id ≡ true → FitsChain a
+fits_chain a id plain global is own =
+    let all = and_parts (not (bytes_eq id [])) _ own in
+    let flags = and_parts (not (bytes_eq id (codes "help"))) _ all.1 in (
+      plain,
+      global,
+      (λ empty. differs id [] (sym is ∙ empty) (not-true _ all.0)),
+      (λ auto. elim auto [
+        | inl help ↦ differs id (codes "help") (sym is ∙ help) (not-true _ flags.0)
+        | inr version ↦ differs id (codes "version") (sym is ∙ version) (not-true _ flags.1)
+      ]),
+    )
+  where
+    differs : (x y : Text) → x ≡ y → bytes_eq x y ≡ false → ⊥
+    differs x y same other = both_ways (bytes_eq x y) other ((bytes_eq-Decides x y).1 same)
+
+abbrev id_of : Arg → Text
+id_of a = a.id.now
+
+-- no later argument has an id that stands in none of theirs
+apart : (id : Text) (xs : List Arg) (k : ℕ) (d : Arg) → list_any (bytes_eq id) (map id_of xs) ≡ false
+    → k < length xs → bytes_eq id (slice_index_or xs k d).id.now ≡ true → ⊥
+apart id xs k d other lt same =
+    both_ways _ (list_any-map (bytes_eq id) id_of xs ∙ other) (list_any_at (λ a. bytes_eq id a.id.now) xs k d lt same)
+
+turned : (x y : Text) → bytes_eq x y ≡ true → bytes_eq y x ≡ true
+turned x y same = (bytes_eq-Decides y x).1 (sym ((bytes_eq-Decides x y).0 same))
+
+from_test : (xs : List Arg) → are_distinct (map id_of xs) ≡ true → HasDistinctIds xs
+from_test [] distinct j k d e low high same = absurd (omega arith)
+from_test (x ∷ xs) distinct zero zero d e low high same = refl
+from_test (x ∷ xs) distinct zero (suc k) d e low high same =
+    let parts = and_parts (not (list_any (bytes_eq x.id.now) (map id_of xs))) _ distinct in
+    absurd (apart x.id.now xs k d (not-true _ parts.0) (omega arith) same)
+from_test (x ∷ xs) distinct (suc j) zero d e low high same =
+    let parts = and_parts (not (list_any (bytes_eq x.id.now) (map id_of xs))) _ distinct in
+    absurd (apart x.id.now xs j e (not-true _ parts.0) (omega arith) (turned (slice_index_or xs j e).id.now x.id.now same))
+from_test (x ∷ xs) distinct (suc j) (suc k) d e low high same =
+    let parts = and_parts (not (list_any (bytes_eq x.id.now) (map id_of xs))) _ distinct in
+    ap suc (from_test xs parts.1 j k d e (omega arith) (omega arith) same)
+
+-- arguments of these ids have no id twice
+pub distinct_ids : (xs : List Arg) (ids : List Text) → map (λ a. a.id.now) xs ≡ ids → are_distinct ids ≡ true → HasDistinctIds xs
+distinct_ids xs ids is distinct = from_test xs (ap are_distinct is ∙ distinct)
+
+-- where clap's own look-up says that an entry came from
+pub source_is : (f : Found) (id : Text) → option_and_then (λ a. a.source) (matched_of f id) ≡ source_of id (rows_of f)
+source_is f id = go (find (λ e. bytes_eq e.0.now id) f.entries.items) ∙ ap (option_and_then (λ (r : Row). r.source)) (sym (find_row f.entries.items id))
+  where
+    go : (o : Option Entry) → option_and_then (λ (a : MatchedArg). a.source) (option_map (λ e. e.1) o) ≡ option_and_then (λ (r : Row). r.source) (option_map row_of o)
+    go None = refl
+    go (Some e) = refl
+
+-- in a chain from a new command without clap's own help flag, a required argument that takes a value always has one
+pub always_has : (new start cmd : Command) (xs : List Arg) (k : ℕ) (d : Arg) (id : Text)
+    → out-Command start ≡ record (out-Command new) { disable_help_flag = true }
+    → (args_of new ≡ []) × (groups_of new ≡ []) × (subcommands_of new ≡ [])
+    → (out-Command new).has_globals ≡ false → (out-Command new).subcommand_negates_reqs ≡ false
+    → AddsInTurn AddsArg start xs cmd → All FitsChain xs → HasDistinctIds xs
+    → k < length xs → TakesValue (slice_index_or xs k d) → (slice_index_or xs k d).id.now ≡ id → AlwaysHas id cmd
+always_has new start cmd xs k d id fields nothing globals negates chain fit distinct lt value is m parsed =
+    subst (λ name. is_some (first_value (found_of m) name) ≡ true) is
+    (required_in_chain start cmd xs k d m chain
+    (ap (λ f. f.args.items) fields ∙ nothing.0) (ap (λ f. f.groups.items) fields ∙ nothing.1)
+    (ap (λ f. f.has_globals) fields ∙ globals) (ap (λ f. f.subcommand_negates_reqs) fields ∙ negates)
+    fit distinct lt value parsed)

@@ -1,0 +1,142 @@
+//! What `rpcgen` does, over a text that was read and sinks.
+
+ghost use Rattle.std.specs.Prelude.{◌≡◌, ◌≢◌, ◌⊎◌, ◌<◌, ◌==◌, [], Some, None, IsTrue, IfOk, OnOk, IfErr, IsErrOf, length, if◌then◌else◌};
+ghost use Rattle.std.specs.List.{after_last};
+ghost use Rattle.std.specs.Io.KnownBytes.{Appends};
+ghost use Rattle.x_text.specs.declared.source.TheConstants.{MAX_TEXT};
+ghost use Rattle.rpcx.specs.Generate.{base_of, without_x};
+ghost use Rattle.rpcx.specs.Session.{Compiles};
+ghost use Rattle.rpcx.specs.Compile.{faults_of};
+ghost use Rattle.rpcx.specs.Header.{header};
+
+use crate::{GenArgs, Session, Which};
+use memchr::memrchr;
+use std::alloc::{AllocError, Global};
+use x_text::{Pen, Sink, TextFault};
+
+/// The status of a run whose text has faults.
+const FAULTY: u8 = 1;
+
+/// The status of a run that could not be carried out.
+const FAILED: u8 = 2;
+
+/// Writes text that says why a run does not go on. Where that fails there is nobody to tell.
+pub fn complain<E: Sink>(text: &str, err: &mut E) {
+    let mut pen = Pen::new();
+    pen.add(text.as_bytes(), err);
+    let _ = pen.finish(err);
+}
+
+/// The text that a command line asks for: exactly one letter tells it.
+pub fn gen_mode<E: Sink>(args: &GenArgs, err: &mut E) -> Option<Which>
+    ensures { result ≡ (if args.now.header then Some Which.Header else None) }
+{
+    if args.header {
+        return Some(Which::Header);
+    }
+    complain("rpcgen: exactly one of -c, -h, -l, -t\n", err);
+    None
+}
+
+/// The part of a path behind its last `/`.
+#[tactic(auto, using(crate::proofs::Bases::behind_last))]
+fn file_name(path: &[u8]) -> &[u8]
+    ensures { result.now ≡ after_last (λ b. b == 47) path.now }
+{
+    match memrchr(b'/', path) {
+        Some(slash) => &path[slash + 1..],
+        None => path,
+    }
+}
+
+/// A name without a final `.x`.
+fn without_x(name: &[u8]) -> &[u8]
+    ensures { result.now ≡ without_x name.now }
+{
+    name.strip_suffix(b".x").unwrap_or(name)
+}
+
+/// Opens the text of a file for a run, or tells what is wrong with it and answers the status: 1 where the text has faults, which
+/// are written one a line, and 2 where it is too large or memory runs out.
+pub fn gen_open<E: Sink>(
+    alloc: Global,
+    file: &str,
+    bytes: &[u8],
+    err: &mut E,
+) -> Result<Session, u8>
+    ensures opened { IfOk result (λ s. s ≡ record { base = base_of file.now; text = bytes.now }) }
+    ensures clean { OnOk result (Compiles bytes.now (λ items. faults_of bytes.now items ≡ [])) }
+    ensures faulty { IsErrOf result 1 → Compiles bytes.now (λ items. 0 < length (faults_of bytes.now items)) }
+    ensures too_large { MAX_TEXT < length bytes.now → IsErrOf result 2 }
+    ensures others { IfErr result (λ status. (status ≡ 1) ⊎ (status ≡ 2)) }
+{
+    match Session::open(alloc, without_x(file_name(file.as_bytes())), bytes) {
+        Ok(session) => {
+            if session.fault_count() == 0 {
+                return Ok(session);
+            }
+            Err(tell_faults(alloc, file, &session, err))
+        }
+        Err(TextFault::TooLarge) => {
+            tell_of_file(file, ": 2 TooLarge\n", err);
+            Err(FAILED)
+        }
+        Err(_) => {
+            complain("rpcgen: out of memory\n", err);
+            Err(FAILED)
+        }
+    }
+}
+
+/// Writes what is wrong with a file.
+pub fn tell_of_file<E: Sink>(file: &str, wrong: &str, err: &mut E) {
+    let mut pen = Pen::new();
+    pen.add(b"rpcgen: ", err);
+    pen.add(file.as_bytes(), err);
+    pen.add(wrong.as_bytes(), err);
+    let _ = pen.finish(err);
+}
+
+/// Writes the faults of a text, one a line, and answers the status.
+fn tell_faults<E: Sink>(alloc: Global, file: &str, session: &Session, err: &mut E) -> u8
+    ensures { (result ≡ 1) ⊎ (result ≡ 2) }
+{
+    let mut pen = Pen::new();
+    for index in 0..session.fault_count() {
+        if add_fault(alloc, file, session, index, &mut pen, err).is_err() {
+            pen.add(b"rpcgen: out of memory\n", err);
+            let _ = pen.finish(err);
+            return FAILED;
+        }
+    }
+    let _ = pen.finish(err);
+    FAULTY
+}
+
+/// Writes one fault of a text.
+fn add_fault<E: Sink>(
+    alloc: Global,
+    file: &str,
+    session: &Session,
+    index: usize,
+    pen: &mut Pen,
+    err: &mut E,
+) -> Result<(), AllocError> {
+    if let Some(fault) = session.fault(index) {
+        let line = format!(in alloc; "{file}:{}:{}: {}\n", fault.line, fault.col, fault.code)?;
+        pen.add(line.as_bytes(), err);
+    }
+    Ok(())
+}
+
+/// Writes a generated text, and answers the status: 0, or 2 where the output fails, which it tells.
+pub fn gen_write<O: Sink, E: Sink>(which: Which, session: &Session, out: &mut O, err: &mut E) -> u8
+    ensures written { result ≡ 0 → Compiles session.now.text (λ items. Appends (O.contents out.old) (O.contents out.new) (header session.now.base items)) }
+    ensures failed { result ≢ 0 → (result ≡ 2) × IsTrue (O.has_failed out.new) }
+{
+    if session.write_text(which, out).is_ok() && out.flush().is_ok() {
+        return 0;
+    }
+    complain("rpcgen: output cannot be written\n", err);
+    FAILED
+}
