@@ -1,10 +1,12 @@
 -- What compiling gives, by what the program keeps of it.
-use Rattle.std.proofs.Common.{◌≡◌, ℕ, zero, suc, ◌+◌, List, [], ◌∷◌, ◌++◌, map, length, take, drop, Option, None, Some, arith, refl, sym, ap, subst, ◌∙◌}
+use Rattle.std.proofs.Common.{◌≡◌, ℕ, true, zero, suc, ◌+◌, List, [], ◌∷◌, ◌++◌, map, length, take, drop, Option, None, Some, arith, refl, sym, ap, subst, ◌∙◌}
 use Rattle.std.specs.Prelude.{slice_get, option_map, option_and_then}
 use Rattle.std.proofs.lemmas.Option.{slice_get-map}
 use Rattle.x_lex.specs.declared.kind.Kind.{Kind}
 use Rattle.x_lex.specs.Places.{Lexeme, lexemes_from, lexemes}
 use Rattle.x_lex.specs.Tiling.{AreTokens}
+use Rattle.x_lex.proofs.TilingLemmas.{same_tiles}
+use Rattle.rpcx.proofs.OneLemmas.{one_cut, one_parse}
 use Rattle.rpcx.specs.Parse.{Parse, IsParse, view_parsed}
 use Rattle.rpcx.specs.Items.{AreItems, joined}
 use Rattle.rpcx.specs.Cut.{AreEach, IsCut}
@@ -87,3 +89,22 @@ compiles text tokens items are cut = record {
   are_items = subst (λ ps. AreItems (lexemes text tokens) ps) (sym (parts_are cut.parts items (lexemes text tokens) cut.are.all cut.each)) cut.are;
   are_parses = parses_are cut.parts items (lexemes text tokens) cut.are.all cut.each;
 }
+
+-- items with the same tokens have the same parses
+same_items : (is js : List Item) → map (λ i. i.tokens) is ≡ map (λ i. i.tokens) js → AreParses is → AreParses js → is ≡ js
+same_items [] [] e p q = refl
+same_items [] (j ∷ js) e p q = absurd (cc)
+same_items (i ∷ is) [] e p q = absurd (cc)
+same_items (i ∷ is) (j ∷ js) e p q =
+    let tokens : i.tokens ≡ j.tokens = cc in
+    let others : map (λ k. k.tokens) is ≡ map (λ k. k.tokens) js = cc in
+    let parse : i.parse ≡ j.parse = one_parse j.tokens i.parse j.parse (subst (λ ts. IsParse ts i.parse) tokens p.0) q.0 in
+    let first : i ≡ j = λ k. record { tokens = tokens k; parse = parse k } in
+    let rest = same_items is js others p.1 q.1 in
+    λ k. first k ∷ rest k
+
+pub one_compilation : (text : List ℕ) (tokens others : List (Kind × ℕ)) (items more : List Item) → IsCompilation text tokens items → IsCompilation text others more → items ≡ more
+one_compilation text tokens others items more h k =
+    let same = same_tiles true text tokens others h.are_tokens k.are_tokens in
+    let parts = one_cut (lexemes text others) (map (λ i. i.tokens) items) (map (λ i. i.tokens) more) (subst (λ ts. AreItems (lexemes text ts) (map (λ i. i.tokens) items)) same h.are_items) k.are_items in
+    same_items items more parts h.are_parses k.are_parses

@@ -27,8 +27,11 @@ pub use fault::{Fault, FaultCode};
 pub use findings::TokenFault;
 pub use generate::{complain, gen_mode, gen_open, gen_write, tell_of_file};
 pub use item::Item;
-pub use laws::{one_cut, one_parse, one_spelling};
+pub use laws::{one_compilation, one_cut, one_parse, one_spelling};
 pub use names::{Declared, Declarer, Names, declares};
 pub use number::is_in_range;
 pub use parse::{Parsed, parse_item};
 pub use session::{Session, Which};
+
+#[cfg(test)]
+mod tests;

@@ -1,6 +1,6 @@
 -- Lines and columns by searches for line feeds.
-use Rattle.std.proofs.Common.{◌≡◌, ℕ, zero, suc, ◌+◌, ◌-◌, ◌<◌, ◌≤◌, Bool, true, false, not, cond, List, [], ◌∷◌, ◌++◌, length, get_or, take, drop, Option, None, Some, arith, refl, sym, ap, subst, ◌∙◌, length-append, length-take-le}
-use Rattle.std.specs.Prelude.{reverse, count_by, slice_range}
+use Rattle.std.proofs.Common.{◌≡◌, ℕ, ◌+◌, ◌-◌, ◌≤◌, Bool, true, false, cond, List, ◌++◌, length, get_or, take, drop, Option, None, Some, arith, refl, sym, ap, ◌∙◌, length-take-le}
+use Rattle.std.specs.Prelude.{reverse, count_by}
 use Rattle.std.specs.List.{prefix_len}
 use Rattle.std.proofs.lemmas.Bool.Decides.{nat_tests}
 use Rattle.std.proofs.lemmas.List.Sums.{prefix_len_is, prefix_len-le-length, sum_by-append}
@@ -32,8 +32,8 @@ last_feed front (Some i) h =
     sym (prefix_len_is is_in_line (reverse front) (length front - i - 1) 0 (let e = length-reverse front in omega (arith, e))
     (λ k lt. let b = h.0.high in ap is_in_line (get_or-reverse front k 0 (omega (arith, b))) ∙ is_none (get_or front (length front - 1 - k) 0) (h.0.after (length front - 1 - k) (omega (arith, b)) (omega (arith, b))))
     (λ lt. let b = h.0.high in
-        let e : length front - 1 - (length front - i - 1) ≡ i = omega (arith, b) in
-        ap is_in_line (get_or-reverse front (length front - i - 1) 0 (omega (arith, b)) ∙ ap (λ k. get_or front k 0) e) ∙ is_feed (get_or front i 0) h.1))
+    let e : length front - 1 - (length front - i - 1) ≡ i = omega (arith, b) in
+    ap is_in_line (get_or-reverse front (length front - i - 1) 0 (omega (arith, b)) ∙ ap (λ k. get_or front k 0) e) ∙ is_feed (get_or front i 0) h.1))
 
 count_more : (p : ℕ → Bool) (xs ys : List ℕ) → count_by p (xs ++ ys) ≡ count_by p xs + count_by p ys
 count_more p xs ys = sum_by-append (λ x. cond (p x) 1 0) xs ys

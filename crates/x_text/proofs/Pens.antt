@@ -1,10 +1,10 @@
 -- How a pen and a sink go on.
-use Rattle.std.proofs.Common.{◌≡◌, ℕ, ◌+◌, ◌-◌, ◌^◌, ◌<◌, ◌≤◌, min, Bool, true, false, List, [], ◌∷◌, ◌++◌, length, take, drop, Option, None, Some, arith, refl, sym, ap, subst, ◌∙◌, append_assoc, append-nil, length-append}
+use Rattle.std.proofs.Common.{◌≡◌, ℕ, ◌+◌, ◌-◌, ◌^◌, ◌≤◌, min, Bool, true, false, List, [], ◌++◌, length, take, drop, Option, arith, refl, sym, ap, subst, ◌∙◌, append_assoc, append-nil, length-append}
 use Rattle.std.proofs.lemmas.List.{take-append-le, take_rest}
 use Rattle.std.proofs.Math.Seq.{take-append-add, take-add}
 use Rattle.std.specs.Io.KnownBytes.{Appends}
 use Rattle.std.proofs.KnownBytes.{Appends-trans, Appends-nil}
-use Rattle.x_text.specs.Writing.{Inked, counted, HasFront, HasAllBut, Writes, Adds}
+use Rattle.x_text.specs.Writing.{Inked, counted, HasFront, Writes, Adds}
 
 pub adds_trans : (p q r : Inked) (a b c : Option (List ℕ)) (f g h : Bool) (xs ys : List ℕ) → Adds p a f q b g xs → Adds q b g r c h ys → Adds p a f r c h (xs ++ ys)
 adds_trans p q r a b c f g h xs ys first second start text w =
@@ -61,13 +61,15 @@ stopped_at p now now' failed failed' bytes more pending written n e is le taken 
     on true e w = absurd (cc)
     on false e w =
         let text_is : text ++ bytes ≡ w.front ++ more = ap (λ t. t ++ bytes) w.text_is ∙ append_assoc w.front p.pending bytes ∙ ap (λ l. w.front ++ l) (sym is) in
-        let cut : take (length w.front + n) (text ++ bytes) ≡ w.front ++ take n more = ap (take (length w.front + n)) text_is ∙ take-append-add w.front more n in
-        (record {
-          count = length w.front + n;
-          within = omega (arith, le, ap length text_is, length-append w.front more);
-          taken = subst (λ t. Appends start now' t) (sym cut) (Appends-trans start now now' w.front (take n more) w.taken taken);
-          written_is = count ∙ ap (λ m. min (m + n) (2 ^ 64 - 1)) w.written_is ∙ counted_more (length w.front) n;
-        }, fails)
+        let cut : take (length w.front + n) (text ++ bytes) ≡ w.front ++ take n more = ap (take (length w.front + n)) text_is ∙ take-append-add w.front more n in (
+          record {
+            count = length w.front + n;
+            within = omega (arith, le, ap length text_is, length-append w.front more);
+            taken = subst (λ t. Appends start now' t) (sym cut) (Appends-trans start now now' w.front (take n more) w.taken taken);
+            written_is = count ∙ ap (λ m. min (m + n) (2 ^ 64 - 1)) w.written_is ∙ counted_more (length w.front) n;
+          },
+          fails,
+        )
 
 -- the end: nothing is held back
 pub all_written : (p : Inked) (start now : Option (List ℕ)) (text : List ℕ) (failed : Bool) → p.stopped ≡ false → p.pending ≡ [] → Writes start text p now failed → Appends start now text

@@ -1,3 +1,4 @@
 pub mod Counts
+pub mod Memory
 pub mod Text
 pub mod Writing

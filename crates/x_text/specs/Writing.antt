@@ -1,5 +1,5 @@
 -- What a sink has of a text that is written in parts.
-use Rattle.std.specs.Prelude.{◌≡◌, ℕ, ◌+◌, ◌-◌, ◌^◌, ◌≤◌, min, Bool, true, List, ◌++◌, length, take, Option, MatchBool, MatchResult, Result}
+use Rattle.std.specs.Prelude.{◌≡◌, ℕ, ◌-◌, ◌^◌, ◌≤◌, min, Bool, true, List, ◌++◌, length, take, Option, MatchBool, MatchResult, Result}
 use Rattle.std.specs.Io.KnownBytes.{Appends}
 use Rattle.x_text.specs.declared.pen.WriteFault.{WriteFault}
 

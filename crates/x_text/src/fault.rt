@@ -13,3 +13,6 @@ pub enum TextFault {
     #[error("3 NoMemory")]
     NoMemory = 3,
 }
+
+#[cfg(test)]
+mod tests;

@@ -1,6 +1,9 @@
-ghost use Rattle.std.specs.Prelude.{◌≡◌, ◌<◌, ◌≤◌, [], Some, false, length};
+ghost use Rattle.std.specs.Prelude.{◌≡◌, ◌↔◌, ◌+◌, ◌<◌, ◌≤◌, [], Some, false, min, length, IfOk, MatchResult, IsTrue, IsErr, is_err};
+ghost use Rattle.std.specs.Io.KnownBytes.{WriteAppends, Keeps};
+ghost use Rattle.x_text.specs.Memory.{share, Fails};
 
 use crate::{Broken, Sink};
+use std::marker::Model;
 
 /// A [`Sink`] over memory, for tests: it takes at most a set number of bytes a call, and fails after a set number of bytes or
 /// where its slice is full.
@@ -11,17 +14,28 @@ pub struct MemSink<'b> {
     most: usize,
     left: usize,
     failed: bool,
-    ghost within: { used ≤ length bytes.now },
-    ghost some: { 0 < most },
+}
+
+impl<'b> Model for MemSink<'b> {
+    ghost use Rattle.std.specs.Prelude.{◌+◌, ◌<◌, ◌≤◌, take, length};
+    ghost use Rattle.x_text.specs.Memory.{MemBytes};
+
+    ghost Value = { MemBytes };
+
+    ghost view = { λ s. record { taken = take s.used s.bytes.now; most = s.most; left = s.left; failed = s.failed } };
+
+    ghost invariant = { λ s. (s.used + s.left ≤ length s.bytes.now) × (0 < s.most) };
 }
 
 impl<'b> MemSink<'b> {
     /// An empty sink that takes at most `most` bytes a call, and fails after `left` bytes.
     pub fn new(bytes: &'b mut [u8], most: usize, left: usize) -> MemSink<'b>
         requires { 0 < most }
+        ensures state { result ≡ record { taken = []; most = most; left = min left (length bytes.old); failed = false } }
         ensures contents { ⟦<MemSink<'b> as Sink>⟧.contents result ≡ Some [] }
         ensures has_failed { ⟦<MemSink<'b> as Sink>⟧.has_failed result ≡ false }
     {
+        let left = left.min(bytes.len());
         MemSink {
             bytes,
             used: 0,
@@ -33,22 +47,33 @@ impl<'b> MemSink<'b> {
 
     /// The bytes that it took.
     pub fn bytes(&self) -> &[u8]
-        ensures { ⟦<MemSink<'b> as Sink>⟧.contents self.now ≡ Some result.now }
+        ensures taken { result.now ≡ self.now.taken }
+        ensures contents { ⟦<MemSink<'b> as Sink>⟧.contents self.now ≡ Some result.now }
     {
         &self.bytes[..self.used]
     }
 }
 
 impl Sink for MemSink<'_> {
-    ghost use Rattle.std.specs.Prelude.{Some, take};
+    ghost use Rattle.std.specs.Prelude.{Some};
 
-    ghost contents = { λ s. Some (take s.used s.bytes.now) };
+    ghost contents = { λ s. Some s.taken };
 
     ghost has_failed = { λ s. s.failed };
 
-    fn put(&mut self, bytes: &[u8]) -> Result<usize, Broken> {
-        let space = self.bytes.len() - self.used;
-        let count = bytes.len().min(self.most).min(self.left).min(space);
+    fn put(&mut self, bytes: &[u8]) -> Result<usize, Broken>
+        ensures taken { WriteAppends (Some self.old.taken) (Some self.new.taken) result bytes.now }
+        ensures within { IfOk result (λ n. n ≤ length bytes.now) }
+        ensures some { IfOk result (λ n. 0 < length bytes.now → 0 < n) }
+        ensures failed { self.new.failed ≡ is_err result }
+        ensures for_good { IsTrue self.old.failed → IsErr result }
+
+        ensures count { IfOk result (λ n. n ≡ share self.old.most self.old.left (length bytes.now)) }
+        ensures fails { IsErr result ↔ Fails self.old.failed self.old.left (length bytes.now) }
+        ensures left { MatchResult result (λ n. self.new.left + n ≡ self.old.left) (λ _. self.new.left ≡ self.old.left) }
+        ensures most { self.new.most ≡ self.old.most }
+    {
+        let count = bytes.len().min(self.most).min(self.left);
         if self.failed || (count == 0 && !bytes.is_empty()) {
             self.failed = true;
             return Err(Broken);
@@ -59,7 +84,16 @@ impl Sink for MemSink<'_> {
         Ok(count)
     }
 
-    fn flush(&mut self) -> Result<(), Broken> {
+    fn flush(&mut self) -> Result<(), Broken>
+        ensures same { Keeps (Some self.old.taken) (Some self.new.taken) }
+        ensures failed { self.new.failed ≡ is_err result }
+        ensures for_good { IsTrue self.old.failed → IsErr result }
+
+        ensures unchanged { self.new ≡ self.old }
+    {
         if self.failed { Err(Broken) } else { Ok(()) }
     }
 }
+
+#[cfg(test)]
+mod tests;

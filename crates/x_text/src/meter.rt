@@ -91,3 +91,6 @@ impl Meter {
         self.moved = self.moved.saturating_add(count);
     }
 }
+
+#[cfg(test)]
+mod tests;

@@ -56,3 +56,6 @@ impl<W: Write> Sink for Out<W> {
         }
     }
 }
+
+#[cfg(test)]
+mod tests;

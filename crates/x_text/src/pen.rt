@@ -139,3 +139,6 @@ fn put_all<S: Sink>(bytes: &[u8], sink: &mut S) -> Result<(), usize>
     }
     Ok(())
 }
+
+#[cfg(test)]
+mod tests;

@@ -68,3 +68,6 @@ impl Source {
         Lines::of(self).line_col(at)
     }
 }
+
+#[cfg(test)]
+mod tests;

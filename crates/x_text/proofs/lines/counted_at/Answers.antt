@@ -1,5 +1,4 @@
-use Rattle.std.specs.Prelude.{◌==◌}
-use Rattle.std.proofs.Common.{◌≡◌, ℕ, cond, ◌+◌, ◌-◌, ◌≤◌, length, take, drop, arith, sym, subst, length-take}
+use Rattle.std.proofs.Common.{◌+◌, ◌-◌, drop, arith, sym, subst, length-take}
 use Rattle.x_text.specs.Text.{AreCounts}
 use Rattle.x_text.proofs.Columns.{counts_more, since_le}
 use Rattle.x_text.proofs.lines.counted_at.Goals as goal

@@ -1,4 +1,4 @@
-use Rattle.std.proofs.Common.{◌+◌, ◌-◌, length, take, drop, arith, length-take, length-drop}
+use Rattle.std.proofs.Common.{◌-◌, length, drop, arith, length-take, length-drop}
 use Rattle.x_text.proofs.Pens.{put_more}
 use Rattle.x_text.proofs.pen.put_all.Goals as goal
 

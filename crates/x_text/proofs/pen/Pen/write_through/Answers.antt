@@ -14,7 +14,7 @@ returns-in-Ok g c start text w =
     (subst (λ v. Writes start text v (g.S.Sink.contents c.args.sink.now) (g.S.Sink.has_failed c.args.sink.now)) (sym c.self.view_is) w)
 
 pub returns-in-Err : goal.returns-in-Err
-returns-in-Err g c start text w = 
+returns-in-Err g c start text w =
     let old : Inked = record { pending = c.self.inside.pending.items; written = c.self.inside.written; stopped = c.self.inside.stopped } in
     let empty = ap (λ v. v.pending) c.self.view_is ∙ c.requires.empty in
     let goes = ap (λ v. v.stopped) c.self.view_is ∙ c.requires.goes_on in
