@@ -1,5 +1,5 @@
 -- The name of a file behind its last slash.
-use Rattle.std.proofs.Common.{◌≡◌, ℕ, ◌+◌, ◌-◌, ◌≤◌, true, false, not, List, length, get_or, drop, Option, None, Some, arith, refl, sym, ap, ◌∙◌}
+use Rattle.std.proofs.Common.{◌≡◌, ℕ, ◌+◌, ◌-◌, true, false, not, List, length, get_or, drop, Option, None, Some, arith, ap, ◌∙◌}
 use Rattle.std.specs.Prelude.{◌==◌}
 use Rattle.std.specs.List.{after_last, suffix_len}
 use Rattle.std.proofs.lemmas.Bool.Decides.{nat_tests}

@@ -1,5 +1,5 @@
 -- What compiling gives, by what the program keeps of it.
-use Rattle.std.proofs.Common.{◌≡◌, ℕ, true, zero, suc, ◌+◌, List, [], ◌∷◌, ◌++◌, map, length, take, drop, Option, None, Some, arith, refl, sym, ap, subst, ◌∙◌}
+use Rattle.std.proofs.Common.{◌≡◌, ℕ, true, suc, ◌+◌, List, [], ◌∷◌, ◌++◌, map, length, take, drop, Option, None, Some, refl, sym, ap, subst, ◌∙◌}
 use Rattle.std.specs.Prelude.{slice_get, option_map, option_and_then}
 use Rattle.std.proofs.lemmas.Option.{slice_get-map}
 use Rattle.x_lex.specs.declared.kind.Kind.{Kind}
@@ -11,14 +11,12 @@ use Rattle.rpcx.specs.Parse.{Parse, IsParse, view_parsed}
 use Rattle.rpcx.specs.Items.{AreItems, joined}
 use Rattle.rpcx.specs.Cut.{AreEach, IsCut}
 use Rattle.std.proofs.Math.Seq.{take-append_seam, drop-append_seam}
-use Rattle.rpcx.specs.Tree.{Tree}
 use Rattle.rpcx.specs.Names.{first_declarer}
 use Rattle.rpcx.specs.Kept.{view_item, kept_definition}
 use Rattle.rpcx.specs.Compile.{Item, parts, definitions_of, definition_at, first_of, faults_from, faults_of, tokens_of, IsCompilation, AreParses}
 use Rattle.rpcx.specs.Header.{body_from, body_of}
 use Rattle.rpcx.specs.declared.item.Item as rust
 use Rattle.rpcx.specs.declared.names.Declarer.{Declarer}
-use Rattle.rpcx.specs.declared.fault.Fault.{Fault}
 
 pub length-lexemes : (text : List ℕ) (at : ℕ) (ts : List (Kind × ℕ)) → length (lexemes_from text at ts) ≡ length ts
 length-lexemes text at [] = refl
@@ -103,8 +101,8 @@ same_items (i ∷ is) (j ∷ js) e p q =
     let rest = same_items is js others p.1 q.1 in
     λ k. first k ∷ rest k
 
-pub one_compilation : (text : List ℕ) (tokens others : List (Kind × ℕ)) (items more : List Item) → IsCompilation text tokens items → IsCompilation text others more → items ≡ more
+pub one_compilation : (text : List ℕ) (tokens others : List (Kind × ℕ)) (items more : List Item) → IsCompilation text tokens items → IsCompilation text others more → (tokens ≡ others) × (items ≡ more)
 one_compilation text tokens others items more h k =
     let same = same_tiles true text tokens others h.are_tokens k.are_tokens in
     let parts = one_cut (lexemes text others) (map (λ i. i.tokens) items) (map (λ i. i.tokens) more) (subst (λ ts. AreItems (lexemes text ts) (map (λ i. i.tokens) items)) same h.are_items) k.are_items in
-    same_items items more parts h.are_parses k.are_parses
+    (same, same_items items more parts h.are_parses k.are_parses)

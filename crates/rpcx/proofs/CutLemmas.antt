@@ -1,9 +1,9 @@
 -- Cutting tokens into items, token by token.
-use Rattle.std.proofs.Common.{◌≡◌, ℕ, ◌+◌, ◌-◌, ◌<◌, ◌≤◌, ◌^◌, Bool, true, false, IsTrue, ◌↔◌, List, [], ◌∷◌, ◌++◌, length, map, refl, ap, sym, ◌∙◌, subst, append_assoc, arith}
-use Rattle.std.proofs.lemmas.List.{append-nil, length-map, length_push}
+use Rattle.std.proofs.Common.{◌≡◌, ℕ, ◌+◌, ◌-◌, ◌<◌, ◌^◌, Bool, true, false, IsTrue, ◌↔◌, List, [], ◌∷◌, ◌++◌, length, refl, ap, sym, ◌∙◌, subst, append_assoc, arith}
+use Rattle.std.proofs.lemmas.List.{append-nil, length_push}
 use Rattle.x_text.specs.Counts.{Counts, raised}
-use Rattle.x_lex.specs.Places.{Lexeme, lexeme}
-use Rattle.rpcx.specs.Items.{depth, Ends, AreItems}
+use Rattle.x_lex.specs.Places.{Lexeme}
+use Rattle.rpcx.specs.Items.{depth, Ends}
 use Rattle.rpcx.specs.Cut.{IsItem, AreEach, IsCut}
 use Rattle.rpcx.specs.declared.item.Item.{Item}
 use Rattle.rpcx.proofs.ItemLemmas.{Cuts, cuts_none, cuts_on, cuts_end, cuts_all, depth-le-length}

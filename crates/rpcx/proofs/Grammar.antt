@@ -1,5 +1,5 @@
 -- What each symbol of the grammar stands for, and that its steps are right.
-use Rattle.std.proofs.Common.{◌≡◌, ℕ, List, [], ◌∷◌, ◌++◌, Option, Some, None, Bool, true, false, cond, nat_eq, refl, ap, sym, ◌∙◌, subst, get_or}
+use Rattle.std.proofs.Common.{◌≡◌, ℕ, List, [], ◌∷◌, Option, Some, None, Bool, true, false, cond, nat_eq, refl, ap, sym, ◌∙◌, subst, get_or}
 use Rattle.std.specs.Prelude.{if◌then◌else◌}
 use Rattle.std.specs.List.{find}
 use Rattle.std.specs.Str.{bytes_eq}
@@ -16,7 +16,7 @@ use Rattle.rpcx.specs.Entries.{Entry, entry_of, marked, keywords, puncts}
 use Rattle.rpcx.specs.Symbols.{Symbol, Item, Fixed, AnyName, AnyNumber, mark_code, step_item, step_fixed, step_name, step_number, step_entry, step}
 use Rattle.rpcx.specs.declared.mark.Mark.{Mark}
 use Rattle.rpcx.specs.declared.mark.Mark.TheVariants as marks
-use Rattle.rpcx.proofs.Machine.{Vals, Kids, texts, kid_texts}
+use Rattle.rpcx.proofs.Machine.{Kids, kid_texts}
 
 -- the word that an entry stands for, but for the others
 abbrev pub IsWordOf : Entry → Word → Type 0

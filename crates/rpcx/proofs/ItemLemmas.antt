@@ -1,5 +1,5 @@
 -- Cutting tokens into items, token by token.
-use Rattle.std.proofs.Common.{◌≡◌, ℕ, suc, ◌+◌, ◌-◌, ◌≤◌, max, Bool, true, false, cond, IsTrue, List, [], ◌∷◌, ◌++◌, length, count_by, refl, ap, sym, ◌∙◌, subst, append_assoc, arith, ◌⊎◌, inl, inr, ⊎_elim, true≢false}
+use Rattle.std.proofs.Common.{◌≡◌, ℕ, ◌+◌, ◌-◌, ◌≤◌, Bool, true, false, cond, List, [], ◌∷◌, ◌++◌, length, count_by, refl, ap, sym, ◌∙◌, subst, append_assoc, arith, ◌⊎◌, inl, inr, ⊎_elim, true≢false}
 use Rattle.std.specs.Str.{bytes_eq}
 use Rattle.std.proofs.lemmas.List.{append-nil}
 use Rattle.std.proofs.lemmas.List.Sums.{sum_by-append, count_by-le-length}
@@ -8,7 +8,7 @@ use Rattle.std.proofs.lemmas.Slice.Eq.{bytes_eq-Decides}
 use Rattle.x_lex.specs.declared.kind.Kind.{Kind}
 use Rattle.x_lex.specs.declared.kind.Kind.TheVariants as kinds
 use Rattle.x_lex.specs.Places.{Lexeme}
-use Rattle.rpcx.specs.Items.{is_punct, is_open, is_close, surplus, depth, Ends, HasNoEnd, IsWhole, AreWhole, joined, AreItems}
+use Rattle.rpcx.specs.Items.{is_punct, is_open, is_close, depth, Ends, HasNoEnd, IsWhole, AreWhole, joined, AreItems}
 
 -- one mark of punctuation is no other
 no_other : (k : Kind) (t : List ℕ) → is_punct 123 k t ≡ true → is_punct 125 k t ≡ false
@@ -75,6 +75,8 @@ shallower n ts t is h = ap (λ x. x - 1) is ∙ sym (depth-close ts t h)
 pub as_deep : (n : ℕ) (ts : List Lexeme) (t : Lexeme) → n ≡ depth ts → is_open t ≡ false → is_close t ≡ false → n ≡ depth (ts ++ t ∷ [])
 as_deep n ts t is o h = is ∙ sym (depth-other ts t o h)
 
+pub ruleset depths = (deeper, shallower, as_deep)
+
 -- the depth is at most the number of tokens
 pub depth-le-length : (ts : List Lexeme) → depth ts ≤ length ts
 depth-le-length [] = omega arith
@@ -89,19 +91,26 @@ pub record Cuts (seen : List Lexeme) (whole : List (List Lexeme)) (part : List L
   pub each : AreWhole whole
   pub rest : HasNoEnd part
 
+same_cons : {x y : Lexeme} {xs ys : List Lexeme} → x ≡ y → xs ≡ ys → x ∷ xs ≡ y ∷ ys
+same_cons {x} {y} {xs} {ys} h t = ap (λ z. z ∷ xs) h ∙ ap (λ zs. y ∷ zs) t
+
+pub same_head : {x y : Lexeme} {xs ys : List Lexeme} → x ∷ xs ≡ y ∷ ys → x ≡ y
+same_head e = cc
+
+pub same_tail : {x y : Lexeme} {xs ys : List Lexeme} → x ∷ xs ≡ y ∷ ys → xs ≡ ys
+same_tail e = cc
+
 -- where a list that ends with t is cut: at t, or before
 cut_before : (part : List Lexeme) (t : Lexeme) (front : List Lexeme) (x : Lexeme) (rear : List Lexeme) → part ++ t ∷ [] ≡ front ++ x ∷ rear → ((front ≡ part) × (x ≡ t)) ⊎ ((behind : List Lexeme) × (part ≡ front ++ x ∷ behind))
-cut_before [] t [] x rear e = let same : x ≡ t = cc in inl (refl, same)
+cut_before [] t [] x rear e = inl (refl, sym (same_head e))
 cut_before [] t (y ∷ []) x rear e = cc
 cut_before [] t (y ∷ z ∷ front) x rear e = cc
-cut_before (p ∷ part) t [] x rear e = let same : p ≡ x = cc in inr (part, ap (λ y. y ∷ part) same)
+cut_before (p ∷ part) t [] x rear e = inr (part, same_cons (same_head e) refl)
 cut_before (p ∷ part) t (y ∷ front) x rear e =
-    let same : p ≡ y = cc in
-    let rest : part ++ t ∷ [] ≡ front ++ x ∷ rear = cc in
     ⊎_elim
-    (λ h. let whole : y ∷ front ≡ p ∷ part = ap (λ z. z ∷ front) (sym same) ∙ ap (λ f. p ∷ f) h.0 in inl (whole, h.1))
-    (λ h. let whole : p ∷ part ≡ y ∷ (front ++ x ∷ h.0) = ap (λ z. z ∷ part) same ∙ ap (λ f. y ∷ f) h.1 in inr (h.0, whole))
-    (cut_before part t front x rear rest)
+    (λ h. inl (same_cons (sym (same_head e)) h.0, h.1))
+    (λ h. inr (h.0, same_cons (same_head e) h.1))
+    (cut_before part t front x rear (same_tail e))
 
 no_end_on : (part : List Lexeme) (t : Lexeme) → HasNoEnd part → (Ends part t → ⊥) → HasNoEnd (part ++ t ∷ [])
 no_end_on part t none here = record {

@@ -4,11 +4,12 @@ pub mod Compiled
 pub mod CutLemmas
 pub mod Digits
 pub mod Grammar
-pub mod ItemLaws
+pub mod Grown
 pub mod ItemLemmas
 pub mod Machine
 pub mod NameLemmas
 pub mod OneLemmas
+pub mod ParseLemmas
 pub mod ReadLemmas
 pub mod WalkLemmas
 pub mod WordLemmas

@@ -1,16 +1,16 @@
 -- Tokens have one list of items, and an item has one parse.
-use Rattle.std.proofs.Common.{◌≡◌, ◌≢◌, true, ℕ, ◌+◌, List, [], ◌∷◌, ◌++◌, length, refl, ap, sym, ◌∙◌, subst, append_assoc, ◌⊎◌, inl, inr, ⊎_elim}
+use Rattle.std.proofs.Common.{◌≡◌, ◌≢◌, true, ℕ, List, [], ◌∷◌, ◌++◌, length, refl, ap, sym, ◌∙◌, subst, append_assoc, inl, inr}
 use Rattle.std.proofs.lemmas.List.{append-nil}
 use Rattle.x_lex.specs.Places.{Lexeme}
 use Rattle.rpcx.specs.Words.{Word, word_of, words_of, is_significant}
 use Rattle.rpcx.specs.Tree.{Tree}
 use Rattle.rpcx.specs.Spell.{spell, Begins}
-use Rattle.rpcx.specs.Parse.{Parse, Nothing, Def, Fault, IsParse, IsStuck, IsLastWord, IsUnfinished, code_of}
-use Rattle.rpcx.specs.Items.{Ends, HasNoEnd, IsWhole, AreWhole, joined, AreItems}
+use Rattle.rpcx.specs.Parse.{Parse, Nothing, Def, Fault, IsParse, IsStuck, IsLastWord, code_of}
+use Rattle.rpcx.specs.Items.{HasNoEnd, IsWhole, AreWhole, joined, AreItems}
 use Rattle.rpcx.specs.declared.fault.FaultCode.{FaultCode}
 use Rattle.rpcx.proofs.WordLemmas.{words_of-append, words_of-word}
-use Rattle.rpcx.proofs.ItemLemmas.{joined_push}
-use Rattle.rpcx.proofs.ItemLaws.{one_spelling, some_spelling}
+use Rattle.rpcx.proofs.ItemLemmas.{joined_push, same_head, same_tail}
+use Rattle.rpcx.proofs.ParseLemmas.{one_spelling, some_spelling}
 
 -- two ways to cut a list at one of its elements: at the same, or the one before the other
 pub data Order (a : List Lexeme) (t : Lexeme) (b c : List Lexeme) (u : Lexeme) (d : List Lexeme) : Type 0 where
@@ -24,13 +24,10 @@ later x y a t b c u d is (First m p q) = First m (ap (λ l. y ∷ l) p ∙ ap (�
 later x y a t b c u d is (Second m p q) = Second m (ap (λ l. x ∷ l) p ∙ ap (λ z. z ∷ (c ++ u ∷ m)) is) q
 
 pub order : (a : List Lexeme) (t : Lexeme) (b c : List Lexeme) (u : Lexeme) (d : List Lexeme) → a ++ t ∷ b ≡ c ++ u ∷ d → Order a t b c u d
-order [] t b [] u d e = let heads : t ≡ u = cc in let tails : b ≡ d = cc in Same refl heads tails
-order [] t b (y ∷ c) u d e = let heads : y ≡ t = cc in let tails : b ≡ c ++ u ∷ d = cc in First c (ap (λ z. z ∷ c) heads) tails
-order (x ∷ a) t b [] u d e = let heads : x ≡ u = cc in let tails : d ≡ a ++ t ∷ b = cc in Second a (ap (λ z. z ∷ a) heads) tails
-order (x ∷ a) t b (y ∷ c) u d e =
-    let heads : x ≡ y = cc in
-    let tails : a ++ t ∷ b ≡ c ++ u ∷ d = cc in
-    later x y a t b c u d heads (order a t b c u d tails)
+order [] t b [] u d e = Same refl (same_head e) (same_tail e)
+order [] t b (y ∷ c) u d e = First c (ap (λ z. z ∷ c) (sym (same_head e))) (same_tail e)
+order (x ∷ a) t b [] u d e = Second a (ap (λ z. z ∷ a) (same_head e)) (sym (same_tail e))
+order (x ∷ a) t b (y ∷ c) u d e = later x y a t b c u d (same_head e) (order a t b c u d (same_tail e))
 
 words_at : (a : List Lexeme) (t : Lexeme) (b : List Lexeme) → is_significant t.kind ≡ true → words_of (a ++ t ∷ b) ≡ words_of a ++ word_of t ∷ words_of b
 words_at a t b is = words_of-append a (t ∷ b) ∙ ap (λ ws. words_of a ++ ws) (words_of-word t b is)

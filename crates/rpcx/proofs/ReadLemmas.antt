@@ -1,5 +1,5 @@
 -- Reading tokens by symbols.
-use Rattle.std.proofs.Common.{◌≡◌, ◌≢◌, ℕ, suc, ◌+◌, List, [], ◌∷◌, ◌++◌, length, Bool, true, false, Option, Some, None, Result, Ok, Err, refl, ap, sym, ◌∙◌, subst, add-one, ⊎_elim, nat_eq}
+use Rattle.std.proofs.Common.{◌≡◌, ◌≢◌, suc, ◌+◌, List, [], ◌∷◌, ◌++◌, length, Bool, true, false, Option, Some, None, Result, Err, refl, ap, sym, ◌∙◌, subst, add-one, ⊎_elim, nat_eq}
 use Rattle.std.specs.Prelude.{if◌then◌else◌}
 use Rattle.std.proofs.lemmas.List.{append-nil}
 use Rattle.std.specs.Result.{IsErrAnd, IfErr}
@@ -176,3 +176,6 @@ begins_other {m = m} h is other at = stops h at (ap (step Item) is ∙ none m ot
     none : (m : Mark) → m ≢ marks.Const → step Item (fixed m) ≡ None
     none marks.Const other = absurd (other refl)
     none m other = refl
+
+-- what the reader's callers need
+pub ruleset reads = (ends, leads_fixed, fails_fixed, leads_name, fails_name, leads_number, fails_number, begins_const, begins_unmarked, leads_4, fails_1, fails_2, fails_3, fails_4)

@@ -1,5 +1,5 @@
 -- A walk by one token more.
-use Rattle.std.proofs.Common.{◌≡◌, ℕ, suc, ◌+◌, ◌-◌, ◌<◌, List, [], ◌∷◌, ◌++◌, take, drop, arith, refl, sym, ap, subst, ◌∙◌, append_assoc}
+use Rattle.std.proofs.Common.{◌≡◌, ℕ, suc, ◌+◌, ◌-◌, ◌<◌, List, [], ◌∷◌, ◌++◌, take, drop, arith, sym, ap, ◌∙◌, append_assoc}
 
 step_take : {X : Type 0} (x : X) (next : List X) (k m : ℕ) → k ≡ suc m → take k (x ∷ next) ≡ x ∷ take m next
 step_take x next k m e = ap (λ n. take n (x ∷ next)) e

@@ -1,11 +1,11 @@
 -- The words of tokens, one by one.
-use Rattle.std.proofs.Common.{◌≡◌, ℕ, suc, List, [], ◌∷◌, ◌++◌, ◌⊎◌, inl, inr, Bool, true, false, cond, IsTrue, refl, ap, sym, ◌∙◌, subst, append_assoc, map, take, drop, get_or, length, arith, ◌<◌, ◌≤◌, ◌+◌}
+use Rattle.std.proofs.Common.{◌≡◌, ℕ, List, [], ◌∷◌, ◌++◌, ◌⊎◌, inl, inr, Bool, true, false, cond, IsTrue, refl, ap, sym, ◌∙◌, append_assoc, map, take, drop, get_or, length, arith, ◌<◌, ◌≤◌, ◌+◌}
 use Rattle.std.proofs.lemmas.List.{append-nil, map-append, drop_more, drop_all, take-append-drop, length-map, length-take-le}
 use Rattle.std.proofs.lemmas.List.Elements.{filter-append}
 use Rattle.std.specs.List.{filter}
 use Rattle.x_lex.specs.Places.{Lexeme, lexeme}
 use Rattle.x_lex.specs.declared.token.Token.{Token}
-use Rattle.rpcx.specs.Words.{Word, word_of, words_of, is_significant}
+use Rattle.rpcx.specs.Words.{word_of, words_of, is_significant}
 use Rattle.rpcx.specs.Parse.{IsLastWord}
 use Rattle.rpcx.specs.Reading.{Passes}
 

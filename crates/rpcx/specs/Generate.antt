@@ -1,6 +1,7 @@
 -- What a run of `rpcgen` does.
-use Rattle.std.specs.Prelude.{ℕ, ◌-◌, ◌==◌, List, length, take, drop, codes, if◌then◌else◌}
+use Rattle.std.specs.Prelude.{ℕ, ◌-◌, ◌≤◌, ◌==◌, List, Option, length, take, drop, codes, if◌then◌else◌}
 use Rattle.std.specs.List.{after_last}
+use Rattle.std.specs.Io.KnownBytes.{Appends}
 use Rattle.std.specs.Str.{bytes_eq}
 
 -- a name without a final `.x`
@@ -10,3 +11,7 @@ without_x name = if bytes_eq (drop (length name - 2) name) (codes ".x") then tak
 -- the name that generated texts use: that of the file, behind its last `/`
 abbrev pub base_of : List ℕ → List ℕ
 base_of file = without_x (after_last (λ b. b == 47) file)
+
+-- what a sink holds grew by the text, or by a front of it
+abbrev pub Grows : Option (List ℕ) → Option (List ℕ) → List ℕ → Type 0
+Grows before after text = (count : ℕ) × (count ≤ length text) × Appends before after (take count text)

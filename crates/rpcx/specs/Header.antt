@@ -1,5 +1,5 @@
 -- The header that is generated of a text.
-use Rattle.std.specs.Prelude.{ℕ, suc, ◌-◌, Bool, true, false, ◌||◌, ◌==◌, nat_le, ◌&&◌, List, [], ◌∷◌, ◌++◌, map, drop, Option, codes, if◌then◌else◌}
+use Rattle.std.specs.Prelude.{ℕ, suc, ◌-◌, Bool, true, false, ◌||◌, nat_le, ◌&&◌, List, [], ◌∷◌, ◌++◌, map, drop, Option, codes, if◌then◌else◌}
 use Rattle.std.specs.List.{filter, flat_map}
 use Rattle.x_lex.specs.declared.kind.Kind.{Kind}
 use Rattle.x_lex.specs.declared.kind.Kind.TheVariants as kinds

@@ -1,5 +1,5 @@
 -- How tokens are cut into items.
-use Rattle.std.specs.Prelude.{◌≡◌, ℕ, ◌-◌, max, Bool, true, false, IsTrue, List, [], ◌∷◌, ◌++◌, count_by}
+use Rattle.std.specs.Prelude.{◌≡◌, ℕ, ◌-◌, max, Bool, false, IsTrue, List, [], ◌∷◌, ◌++◌, count_by}
 use Rattle.std.specs.List.{flat_map}
 use Rattle.std.specs.Str.{bytes_eq}
 use Rattle.x_lex.specs.declared.kind.Kind.{Kind}

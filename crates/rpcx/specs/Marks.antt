@@ -1,6 +1,5 @@
 -- How single words are written.
 use Rattle.std.specs.Prelude.{ℕ, List, codes}
-use Rattle.x_lex.specs.declared.kind.Kind.{Kind}
 use Rattle.x_lex.specs.declared.kind.Kind.TheVariants as kinds
 use Rattle.rpcx.specs.Words.{Word}
 use Rattle.rpcx.specs.declared.mark.Mark.{Mark}

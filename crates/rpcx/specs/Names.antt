@@ -1,5 +1,5 @@
 -- The names that definitions declare, and who declares each first (RFC 4506, section 6.4).
-use Rattle.std.specs.Prelude.{ℕ, suc, List, [], ◌∷◌, Option, Some, None, if◌then◌else◌}
+use Rattle.std.specs.Prelude.{ℕ, suc, Bool, ◌||◌, List, [], ◌∷◌, Option, Some, None, codes, if◌then◌else◌}
 use Rattle.std.specs.Str.{bytes_eq}
 use Rattle.rpcx.specs.Tree.{Tree, Const}
 use Rattle.rpcx.specs.declared.names.Declarer.{Declarer}
@@ -38,6 +38,10 @@ abbrev pub first_from : ℕ → List (Option Tree) → List ℕ → Option Decla
 first_from item [] name = None
 first_from item (d ∷ ds) name = or_else (in_item item (word_declaring name d)) (first_from (suc item) ds name)
 
--- the first declarer of the name
+-- TRUE and FALSE are constants that no item declares: they are declared beforehand
+abbrev pub is_beforehand : List ℕ → Bool
+is_beforehand name = bytes_eq name (codes "TRUE") || bytes_eq name (codes "FALSE")
+
+-- the first item and word that declare the name, where it was not declared beforehand
 abbrev pub first_declarer : List (Option Tree) → List ℕ → Option Declarer
-first_declarer definitions name = first_from 0 definitions name
+first_declarer definitions name = if is_beforehand name then None else first_from 0 definitions name

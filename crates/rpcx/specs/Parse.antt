@@ -1,9 +1,9 @@
 -- What the tokens of an item parse to.
-use Rattle.std.specs.Prelude.{◌≡◌, ◌≢◌, ℕ, Bool, true, IsTrue, List, [], ◌∷◌, ◌++◌, ◌⊎◌, length}
+use Rattle.std.specs.Prelude.{◌≡◌, ◌≢◌, ℕ, IsTrue, List, [], ◌∷◌, ◌++◌, ◌⊎◌, length}
 use Rattle.x_lex.specs.Places.{Lexeme}
 use Rattle.x_lex.specs.declared.kind.Kind.{Kind}
 use Rattle.x_lex.specs.declared.kind.Kind.TheVariants as kinds
-use Rattle.rpcx.specs.Words.{Word, word_of, words_of, is_significant}
+use Rattle.rpcx.specs.Words.{word_of, words_of, is_significant}
 use Rattle.rpcx.specs.Tree.{Tree, view_definition}
 use Rattle.rpcx.specs.Spell.{spell, Begins}
 use Rattle.rpcx.specs.declared.fault.FaultCode.{FaultCode}

@@ -1,7 +1,7 @@
 -- What the functions of the reader say.
 use Rattle.std.specs.Prelude.{◌+◌, ◌-◌, ◌≤◌, ◌≢◌, length, ◌≡◌, List, [], ◌∷◌, ◌++◌, Result, Err, IsTrue}
 use Rattle.x_lex.specs.Places.{Lexeme}
-use Rattle.rpcx.specs.Words.{Word, word_of, words_of, is_significant}
+use Rattle.rpcx.specs.Words.{words_of, is_significant}
 use Rattle.rpcx.specs.Tree.{Tree}
 use Rattle.rpcx.specs.Spell.{spell, Begins}
 use Rattle.rpcx.specs.Parse.{code_of, IsStuck}

@@ -1,6 +1,5 @@
 -- What is wrong with definitions beyond their spelling (RFC 4506, section 6.4).
-use Rattle.std.specs.Prelude.{ℕ, Bool, false, not, ◌&&◌, ◌||◌, ◌==◌, List, [], ◌∷◌, ◌++◌, Option, Some, None, codes, if◌then◌else◌}
-use Rattle.std.specs.Str.{bytes_eq}
+use Rattle.std.specs.Prelude.{ℕ, Bool, false, not, ◌&&◌, ◌==◌, List, [], ◌∷◌, ◌++◌, Option, Some, None, if◌then◌else◌}
 use Rattle.rpcx.specs.Tree.{Tree, Const}
 use Rattle.rpcx.specs.Names.{Declared}
 use Rattle.rpcx.specs.Numbers.{in_range}
@@ -8,17 +7,13 @@ use Rattle.rpcx.specs.declared.names.Declarer.{Declarer}
 use Rattle.rpcx.specs.declared.fault.FaultCode.TheVariants as faults
 use Rattle.rpcx.specs.declared.check.WordFault.{WordFault}
 
--- TRUE and FALSE are constants that no item declares
-abbrev pub is_beforehand : List ℕ → Bool
-is_beforehand name = bytes_eq name (codes "TRUE") || bytes_eq name (codes "FALSE")
-
 abbrev pub is_at : ℕ → ℕ → Option Declarer → Bool
 is_at item word None = false
 is_at item word (Some d) = d.item == item && d.word == word
 
 -- whether a name that the item declares was declared at an earlier place or beforehand; `first` gives first declarers
 abbrev pub is_taken : (List ℕ → Option Declarer) → ℕ → Declared → Bool
-is_taken first item d = is_beforehand d.name || not (is_at item d.word (first d.name))
+is_taken first item d = not (is_at item d.word (first d.name))
 
 -- a word at which a rule is broken
 abbrev pub broken : Bool → WordFault → List WordFault

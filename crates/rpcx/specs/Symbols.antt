@@ -1,5 +1,5 @@
 -- The grammar as symbols, each of which takes one word and leaves symbols for what may follow it.
-use Rattle.std.specs.Prelude.{ℕ, suc, Bool, true, false, List, [], ◌∷◌, ◌++◌, Option, Some, None, Result, Ok, Err, length, if◌then◌else◌, nat_eq}
+use Rattle.std.specs.Prelude.{ℕ, suc, true, false, List, [], ◌∷◌, ◌++◌, Option, Some, None, Result, Ok, Err, length, if◌then◌else◌, nat_eq}
 use Rattle.x_lex.specs.Places.{Lexeme}
 use Rattle.rpcx.specs.Words.{Word, word_of, is_significant}
 use Rattle.rpcx.specs.Entries as entries
@@ -8,6 +8,7 @@ use Rattle.rpcx.specs.declared.mark.Mark.{Mark}
 use Rattle.rpcx.specs.declared.mark.Mark.TheVariants as marks
 use Rattle.rpcx.specs.declared.fault.FaultCode.{FaultCode}
 
+-- a whole definition, a mark, a name, a number
 pub data Symbol : Type 0 where
   Item : Symbol
   Fixed : (mark : Mark) → Symbol
@@ -20,29 +21,34 @@ mark_code marks.Const = 0
 mark_code marks.Equals = 1
 mark_code marks.Semicolon = 2
 
+-- the word that begins a definition
 abbrev pub step_item : entries.Entry → Option (List Symbol)
 step_item (entries.Fixed marks.Const) = Some (AnyName ∷ Fixed marks.Equals ∷ AnyNumber ∷ Fixed marks.Semicolon ∷ [])
 step_item entry = None
 
+-- the mark itself
 abbrev pub step_fixed : Mark → entries.Entry → Option (List Symbol)
 step_fixed mark (entries.Fixed other) = if nat_eq (mark_code mark) (mark_code other) then Some [] else None
 step_fixed mark entry = None
 
+-- any name
 abbrev pub step_name : entries.Entry → Option (List Symbol)
 step_name (entries.Name text) = Some []
 step_name entry = None
 
+-- any number
 abbrev pub step_number : entries.Entry → Option (List Symbol)
 step_number (entries.Number text) = Some []
 step_number entry = None
 
+-- the symbols behind a word that the symbol takes, and nothing for one that it does not take
 abbrev pub step_entry : Symbol → entries.Entry → Option (List Symbol)
 step_entry Item = step_item
 step_entry (Fixed mark) = step_fixed mark
 step_entry AnyName = step_name
 step_entry AnyNumber = step_number
 
--- what is left to read behind a word that the symbol takes
+-- the same, of a word
 abbrev pub step : Symbol → Word → Option (List Symbol)
 step s w = step_entry s (entries.entry_of w)
 
@@ -51,6 +57,7 @@ pub data Halt : Type 0 where
   AtEnd : Halt
   AtWord : (left : ℕ) (code : FaultCode) → Halt
 
+-- on with the symbols where there is a step, else a stop
 abbrev pub go : {S : Type 0} {X : Type 0} → Option (List S) → (List S → X) → X → X
 go None next stop = stop
 go (Some symbols) next stop = next symbols

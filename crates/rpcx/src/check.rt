@@ -4,7 +4,7 @@ ghost use Rattle.std.specs.Prelude.{◌≡◌, IfOk};
 ghost use Rattle.x_text.specs.Counts.{raised};
 ghost use Rattle.rpcx.specs.Tree.{view_definition};
 ghost use Rattle.rpcx.specs.NamesTable.{first_in, view_declared};
-ghost use Rattle.rpcx.specs.Rules.{is_beforehand, is_taken, is_at, rules};
+ghost use Rattle.rpcx.specs.Rules.{is_taken, is_at, rules};
 
 use crate::{Declared, Declarer, Definition, FaultCode, Names, is_in_range};
 use std::alloc::Global;
@@ -15,13 +15,6 @@ use x_text::{Meter, NoMemory};
 pub struct WordFault {
     pub word: usize,
     pub code: FaultCode,
-}
-
-/// Whether the name is a constant that no item declares.
-fn is_beforehand(name: &[u8]) -> bool
-    ensures { result ≡ is_beforehand name.now }
-{
-    matches!(name, b"TRUE" | b"FALSE")
 }
 
 /// Whether the declarer is this word of this item.
@@ -38,7 +31,7 @@ fn is_at(item: usize, word: usize, declarer: Option<Declarer>) -> bool
 fn is_taken(names: &Names, item: usize, declared: &Declared) -> bool
     ensures { result ≡ is_taken (first_in names.now) item (view_declared declared.now) }
 {
-    is_beforehand(declared.name) || !is_at(item, declared.word, names.first(declared.name))
+    !is_at(item, declared.word, names.first(declared.name))
 }
 
 /// The faults of an item's definition by rules, in order of word and then of code. Counts one checked item.

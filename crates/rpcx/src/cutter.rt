@@ -28,7 +28,7 @@ impl Cutter {
     }
 
     /// Whether the token ends the item. It goes on behind the token; behind an end it is at the start of an item.
-    #[tactic(auto, using(crate::proofs::ItemLemmas::deeper, crate::proofs::ItemLemmas::shallower, crate::proofs::ItemLemmas::as_deep))]
+    #[tactic(auto, using(crate::proofs::ItemLemmas::depths))]
     pub fn ends(&mut self, token: &Token) -> bool
         requires { self.old < usize.MAX }
         ensures ends { (front : List Lexeme) → self.old ≡ depth front → (IsTrue result ↔ Ends front (lexeme token.now)) }

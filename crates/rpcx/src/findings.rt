@@ -52,7 +52,12 @@ fn token_faults(
 {
     match parsed {
         Parsed::Nothing => Ok(Vec::new(alloc)),
-        Parsed::Fault { token, code } => Ok(vec![in alloc; TokenFault { token: *token, code: *code }]?),
+        Parsed::Fault { token, code } => Ok(vec![in alloc;
+            TokenFault {
+                token: *token,
+                code: *code
+            },
+        ]?),
         Parsed::Def(definition) => {
             let faults = check_item(alloc, index, definition, names, meter)?;
             at_tokens(alloc, tokens, &faults)
@@ -78,10 +83,12 @@ fn at_tokens(
 ) -> Result<Vec<TokenFault>, NoMemory>
     ensures { IfOk result (λ found. found.items ≡ map (at_token (map lexeme tokens.now)) faults.now) }
 {
-    Ok(faults
-        .iter()
-        .map(|fault| at_token(tokens, fault))
-        .collect(alloc)?)
+    Ok(
+        faults
+            .iter()
+            .map(|fault| at_token(tokens, fault))
+            .collect(alloc)?,
+    )
 }
 
 /// A fault of an item with its line and its column.

@@ -1,10 +1,10 @@
 //! What `rpcgen` does, over a text that was read and sinks.
 
-ghost use Rattle.std.specs.Prelude.{◌≡◌, ◌≢◌, ◌⊎◌, ◌<◌, ◌==◌, [], Some, None, IsTrue, IfOk, OnOk, IfErr, IsErrOf, length, if◌then◌else◌};
+ghost use Rattle.std.specs.Prelude.{◌≡◌, ◌≢◌, ◌⊎◌, false, not, ◌<◌, ◌==◌, ◌++◌, codes, [], Some, None, IsTrue, IfOk, OnOk, IfErr, IsErrOf, length, if◌then◌else◌};
 ghost use Rattle.std.specs.List.{after_last};
 ghost use Rattle.std.specs.Io.KnownBytes.{Appends};
 ghost use Rattle.x_text.specs.declared.source.TheConstants.{MAX_TEXT};
-ghost use Rattle.rpcx.specs.Generate.{base_of, without_x};
+ghost use Rattle.rpcx.specs.Generate.{base_of, without_x, Grows};
 ghost use Rattle.rpcx.specs.Session.{Compiles};
 ghost use Rattle.rpcx.specs.Compile.{faults_of};
 ghost use Rattle.rpcx.specs.Header.{header};
@@ -21,7 +21,9 @@ const FAULTY: u8 = 1;
 const FAILED: u8 = 2;
 
 /// Writes text that says why a run does not go on. Where that fails there is nobody to tell.
-pub fn complain<E: Sink>(text: &str, err: &mut E) {
+pub fn complain<E: Sink>(text: &str, err: &mut E)
+    ensures { Grows (E.contents err.old) (E.contents err.new) text.now }
+{
     let mut pen = Pen::new();
     pen.add(text.as_bytes(), err);
     let _ = pen.finish(err);
@@ -29,7 +31,8 @@ pub fn complain<E: Sink>(text: &str, err: &mut E) {
 
 /// The text that a command line asks for: exactly one letter tells it.
 pub fn gen_mode<E: Sink>(args: &GenArgs, err: &mut E) -> Option<Which>
-    ensures { result ≡ (if args.now.header then Some Which.Header else None) }
+    ensures mode { result ≡ (if args.now.header then Some Which.Header else None) }
+    ensures told { result ≡ None → Grows (E.contents err.old) (E.contents err.new) (codes "rpcgen: exactly one of -c, -h, -l, -t\n") }
 {
     if args.header {
         return Some(Which::Header);
@@ -89,7 +92,9 @@ pub fn gen_open<E: Sink>(
 }
 
 /// Writes what is wrong with a file.
-pub fn tell_of_file<E: Sink>(file: &str, wrong: &str, err: &mut E) {
+pub fn tell_of_file<E: Sink>(file: &str, wrong: &str, err: &mut E)
+    ensures { Grows (E.contents err.old) (E.contents err.new) (codes "rpcgen: " ++ file.now ++ wrong.now) }
+{
     let mut pen = Pen::new();
     pen.add(b"rpcgen: ", err);
     pen.add(file.as_bytes(), err);
@@ -129,12 +134,25 @@ fn add_fault<E: Sink>(
     Ok(())
 }
 
+/// Writes a generated text and flushes the output, and answers whether it took all.
+fn is_written<O: Sink>(which: Which, session: &Session, out: &mut O) -> bool
+    ensures written { IsTrue result → Compiles session.now.text (λ items. Appends (O.contents out.old) (O.contents out.new) (header session.now.base items)) }
+    ensures front { result ≡ false → Compiles session.now.text (λ items. Grows (O.contents out.old) (O.contents out.new) (header session.now.base items)) }
+    ensures working { result ≡ not (O.has_failed out.new) }
+{
+    if session.write_text(which, out).is_err() {
+        return false;
+    }
+    out.flush().is_ok()
+}
+
 /// Writes a generated text, and answers the status: 0, or 2 where the output fails, which it tells.
 pub fn gen_write<O: Sink, E: Sink>(which: Which, session: &Session, out: &mut O, err: &mut E) -> u8
     ensures written { result ≡ 0 → Compiles session.now.text (λ items. Appends (O.contents out.old) (O.contents out.new) (header session.now.base items)) }
-    ensures failed { result ≢ 0 → (result ≡ 2) × IsTrue (O.has_failed out.new) }
+    ensures front { result ≢ 0 → Compiles session.now.text (λ items. Grows (O.contents out.old) (O.contents out.new) (header session.now.base items)) }
+    ensures status { result ≡ (if O.has_failed out.new then 2 else 0) }
 {
-    if session.write_text(which, out).is_ok() && out.flush().is_ok() {
+    if is_written(which, session, out) {
         return 0;
     }
     complain("rpcgen: output cannot be written\n", err);

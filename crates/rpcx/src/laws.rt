@@ -25,5 +25,5 @@ pub fn one_parse()
 /// A text has one compilation: all that a session answers is a function of its text.
 pub fn one_compilation()
     ensures { (text : List ℕ) (tokens others : List (Kind × ℕ)) (items more : List compile.Item)
-        → compile.IsCompilation text tokens items → compile.IsCompilation text others more → items ≡ more }
+        → compile.IsCompilation text tokens items → compile.IsCompilation text others more → (tokens ≡ others) × (items ≡ more) }
 {}

@@ -21,12 +21,12 @@ mod reader;
 mod session;
 
 pub use args::{GenArgs, gen_args};
-pub use check::{WordFault, check_item};
+use check::{WordFault, check_item};
 pub use definition::Definition;
 pub use fault::{Fault, FaultCode};
-pub use findings::TokenFault;
+use findings::TokenFault;
 pub use generate::{complain, gen_mode, gen_open, gen_write, tell_of_file};
-pub use item::Item;
+use item::Item;
 pub use laws::{one_compilation, one_cut, one_parse, one_spelling};
 pub use names::{Declared, Declarer, Names, declares};
 pub use number::is_in_range;

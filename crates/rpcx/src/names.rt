@@ -3,8 +3,8 @@
 ghost use Rattle.std.specs.Prelude.{◌≡◌, ℕ, List, map, IfOk, OnOk, Some, None, if◌then◌else◌};
 ghost use Rattle.std.specs.Str.{bytes_eq};
 ghost use Rattle.rpcx.specs.Tree.{view_definition, tree_at};
-ghost use Rattle.rpcx.specs.Names.{declared, first_declarer, or_else, in_item, word_of_name};
-ghost use Rattle.rpcx.specs.NamesTable.{first_in, view_declared};
+ghost use Rattle.rpcx.specs.Names.{declared, is_beforehand, first_declarer, or_else, in_item, word_of_name};
+ghost use Rattle.rpcx.specs.NamesTable.{entry_in, first_in, view_declared};
 
 use crate::Definition;
 use indexmap::IndexMap;
@@ -47,17 +47,28 @@ impl Names {
         Ok(names)
     }
 
-    /// The first declarer of the name.
+    /// The first declarer of the name. A name that was declared beforehand has none.
     pub fn first(&self, name: &[u8]) -> Option<Declarer>
         ensures { result ≡ first_in self.now name.now }
+    {
+        if is_beforehand(name) {
+            None
+        } else {
+            self.entry(name)
+        }
+    }
+
+    /// What the table has for the name.
+    fn entry(&self, name: &[u8]) -> Option<Declarer>
+        ensures { result ≡ entry_in self.now name.now }
     {
         self.table.get(name).copied()
     }
 
     /// Takes in the names that an item declares, but for those that are there.
     fn add(&mut self, alloc: Global, item: usize, definition: &Definition) -> Result<(), NoMemory>
-        ensures { OnOk result ((name : List ℕ) → first_in self.new name
-            ≡ or_else (first_in self.old name) (in_item item (word_of_name name (declared (view_definition definition.now))))) }
+        ensures { OnOk result ((name : List ℕ) → entry_in self.new name
+            ≡ or_else (entry_in self.old name) (in_item item (word_of_name name (declared (view_definition definition.now))))) }
     {
         for declared in &declares(alloc, definition)? {
             let name = Vec::from_slice(alloc, declared.name)?;
@@ -69,14 +80,21 @@ impl Names {
 
     /// Takes in a name with its declarer, if the name is not there.
     fn note(&mut self, name: Vec<u8>, declarer: Declarer) -> Result<(), NoMemory>
-        ensures { OnOk result ((other : List ℕ) → first_in self.new other
-            ≡ or_else (first_in self.old other) (if bytes_eq other name.items then Some declarer else None)) }
+        ensures { OnOk result ((other : List ℕ) → entry_in self.new other
+            ≡ or_else (entry_in self.old other) (if bytes_eq other name.items then Some declarer else None)) }
     {
-        if self.first(&name).is_none() {
+        if self.entry(&name).is_none() {
             self.table.insert(name, declarer)?;
         }
         Ok(())
     }
+}
+
+/// Whether the name is a constant that no item declares.
+fn is_beforehand(name: &[u8]) -> bool
+    ensures { result ≡ is_beforehand name.now }
+{
+    matches!(name, b"TRUE" | b"FALSE")
 }
 
 /// The names that a definition declares, in the order of their words.
@@ -84,6 +102,11 @@ pub fn declares(alloc: Global, definition: &Definition) -> Result<Vec<Declared<'
     ensures { IfOk result (λ ds. map view_declared ds.items ≡ declared (view_definition definition.now)) }
 {
     match definition {
-        Definition::Const { name, .. } => Ok(vec![in alloc; Declared { name: name.as_slice(), word: 1 }]?),
+        Definition::Const { name, .. } => Ok(vec![in alloc;
+            Declared {
+                name: name.as_slice(),
+                word: 1
+            },
+        ]?),
     }
 }

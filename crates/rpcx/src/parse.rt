@@ -88,7 +88,7 @@ fn last_word(tokens: &[Token]) -> Option<usize>
 }
 
 /// Reads a definition.
-#[tactic(auto, using(crate::proofs::ReadLemmas::begins_const, crate::proofs::ReadLemmas::begins_unmarked, crate::proofs::ReadLemmas::leads_4, crate::proofs::ReadLemmas::fails_1, crate::proofs::ReadLemmas::fails_2, crate::proofs::ReadLemmas::fails_3, crate::proofs::ReadLemmas::fails_4))]
+#[tactic(auto, using(crate::proofs::ReadLemmas::reads))]
 fn definition(alloc: Global, reader: &mut Reader) -> Result<Definition, ParseError>
     ensures found { IfOk result (λ d. words_of reader.old ≡ spell (view_definition d) ++ words_of reader.new) }
     ensures leads { IfOk result (λ _. Leads Item reader.old reader.new) }

@@ -86,7 +86,7 @@ impl<'w, 't> Reader<'w, 't> {
     }
 
     /// The next word: [`ParseError::AtEnd`] behind the last.
-    #[tactic(auto, using(crate::proofs::ReadLemmas::ends))]
+    #[tactic(auto, using(crate::proofs::ReadLemmas::reads))]
     pub fn word(&mut self) -> Result<Token<'t>, ParseError>
         ensures word { IfOk result (λ token. Passes self.old (lexeme token) self.new) }
         ensures stuck { IfErr result (λ e. (s : Symbol) → Fails s self.old e) }
@@ -105,7 +105,7 @@ impl<'w, 't> Reader<'w, 't> {
     }
 
     /// Reads a mark.
-    #[tactic(auto, using(crate::proofs::ReadLemmas::fails_fixed, crate::proofs::ReadLemmas::leads_fixed))]
+    #[tactic(auto, using(crate::proofs::ReadLemmas::reads))]
     pub fn expect(&mut self, mark: Mark) -> Result<(), ParseError>
         ensures found { IfOk result (λ _. words_of self.old ≡ fixed mark ∷ words_of self.new) }
         ensures leads { IfOk result (λ _. Leads (Fixed mark) self.old self.new) }
@@ -121,7 +121,7 @@ impl<'w, 't> Reader<'w, 't> {
     }
 
     /// Reads a name.
-    #[tactic(auto, using(crate::proofs::ReadLemmas::fails_name, crate::proofs::ReadLemmas::leads_name))]
+    #[tactic(auto, using(crate::proofs::ReadLemmas::reads))]
     pub fn name(&mut self, alloc: Global) -> Result<Vec<u8>, ParseError>
         ensures found { IfOk result (λ name. words_of self.old ≡ name_word name.items ∷ words_of self.new) }
         ensures leads { IfOk result (λ _. Leads AnyName self.old self.new) }
@@ -135,7 +135,7 @@ impl<'w, 't> Reader<'w, 't> {
     }
 
     /// Reads a number.
-    #[tactic(auto, using(crate::proofs::ReadLemmas::fails_number, crate::proofs::ReadLemmas::leads_number))]
+    #[tactic(auto, using(crate::proofs::ReadLemmas::reads))]
     pub fn number(&mut self, alloc: Global) -> Result<Vec<u8>, ParseError>
         ensures found { IfOk result (λ number. words_of self.old ≡ number_word number.items ∷ words_of self.new) }
         ensures leads { IfOk result (λ _. Leads AnyNumber self.old self.new) }
@@ -149,9 +149,9 @@ impl<'w, 't> Reader<'w, 't> {
     }
 
     /// Asks that there is no further word.
-    pub fn end(&mut self) -> Result<(), ParseError>
-        ensures ended { IfOk result (λ _. words_of self.old ≡ []) }
-        ensures stuck { IfErr result (λ e. IsBehind self.old e) }
+    pub fn end(mut self) -> Result<(), ParseError>
+        ensures ended { IfOk result (λ _. words_of self.entry ≡ []) }
+        ensures stuck { IfErr result (λ e. IsBehind self.entry e) }
     {
         match self.next_word() {
             Some(word) => Err(self.stuck_at(word.kind)),

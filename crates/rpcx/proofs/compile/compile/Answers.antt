@@ -1,4 +1,4 @@
-use Rattle.std.proofs.Common.{◌≡◌, ℕ, List, map, sym, ap, ◌∙◌}
+use Rattle.std.proofs.Common.{◌≡◌, map, ap, ◌∙◌}
 use Rattle.x_lex.specs.Places.{lexemes}
 use Rattle.rpcx.specs.Kept.{view_item, kept_definition}
 use Rattle.rpcx.specs.Names.{first_declarer}

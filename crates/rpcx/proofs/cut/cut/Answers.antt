@@ -1,8 +1,8 @@
-use Rattle.std.proofs.Common.{◌≡◌, ℕ, ◌<◌, ◌-◌, ◌^◌, List, [], ◌∷◌, ◌++◌, map, length, arith, refl, sym, ap, subst, ◌∙◌}
+use Rattle.std.proofs.Common.{◌≡◌, [], ◌∷◌, ◌++◌, map, length, arith, sym, ap, subst, ◌∙◌}
 use Rattle.std.proofs.lemmas.List.{map-append, length-map}
 use Rattle.x_lex.specs.Places.{lexeme, lexemes}
 use Rattle.rpcx.specs.Cut.{IsItem, IsCut}
-use Rattle.rpcx.proofs.CutLemmas.{HasCut, HasCounted, Says, has_none, has_on, has_end, has_all, in_range, counted_none, counted_push}
+use Rattle.rpcx.proofs.CutLemmas.{HasCut, HasCounted, has_none, has_on, has_end, has_all, in_range, counted_none, counted_push}
 use Rattle.rpcx.proofs.cut.cut.Goals as goal
 
 pub loop-token-init : goal.loop-token-init

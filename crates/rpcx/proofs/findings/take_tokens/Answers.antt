@@ -1,4 +1,4 @@
-use Rattle.std.proofs.Common.{◌≡◌, ◌<◌, [], ◌∷◌, ◌++◌, ◌-◌, map, take, drop, vec_len, arith, ap, sym, subst, ◌∙◌}
+use Rattle.std.proofs.Common.{◌<◌, [], ◌∷◌, ◌++◌, ◌-◌, map, take, drop, vec_len, arith, ap, ◌∙◌}
 use Rattle.std.proofs.lemmas.List.{map-append}
 use Rattle.x_lex.specs.Places.{lexeme}
 use Rattle.rpcx.proofs.WalkLemmas.{taken_more, left_more}

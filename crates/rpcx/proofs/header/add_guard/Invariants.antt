@@ -1,4 +1,4 @@
-use Rattle.std.proofs.Common.{◌≡◌, ◌++◌, map, drop, take}
+use Rattle.std.proofs.Common.{◌≡◌, ◌++◌, map, take}
 use Rattle.std.specs.Prelude.{codes}
 use Rattle.rpcx.specs.Header.{guard_byte}
 use Rattle.rpcx.proofs.header.add_guard.Given as goal

@@ -1,4 +1,4 @@
-use Rattle.rpcx.proofs.ItemLaws.{one_spelling}
+use Rattle.rpcx.proofs.ParseLemmas.{one_spelling}
 use Rattle.rpcx.proofs.laws.one_spelling.Goals as goal
 
 pub returns : goal.returns

@@ -1,5 +1,5 @@
-use Rattle.std.proofs.Common.{◌≡◌, ◌+◌, ◌*◌, ◌<◌, ◌≤◌, ◌^◌, length, get_or, arith, sym}
-use Rattle.rpcx.specs.Numbers.{digit_value, value_in}
+use Rattle.std.proofs.Common.{◌^◌, arith, sym}
+use Rattle.rpcx.specs.Numbers.{value_in}
 use Rattle.rpcx.proofs.Digits.{too_great, all_digits}
 use Rattle.rpcx.proofs.number.value_in.Goals as goal
 

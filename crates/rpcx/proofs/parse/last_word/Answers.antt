@@ -1,4 +1,4 @@
-use Rattle.std.proofs.Common.{◌≡◌, ◌≤◌, ◌+◌, ◌-◌, length, arith, sym, ◌∙◌}
+use Rattle.std.proofs.Common.{◌-◌, length, arith, sym, ◌∙◌}
 use Rattle.rpcx.proofs.WordLemmas.{none_behind, last_here, none_past, none_at_all}
 use Rattle.rpcx.proofs.parse.last_word.Goals as goal
 

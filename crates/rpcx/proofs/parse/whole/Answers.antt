@@ -1,9 +1,7 @@
-use Rattle.std.proofs.Common.{◌≡◌, ◌∙◌, ap, sym, map, subst}
+use Rattle.std.proofs.Common.{map}
 use Rattle.x_lex.specs.Places.{lexeme}
 use Rattle.rpcx.specs.Tree.{view_definition}
-use Rattle.rpcx.specs.Symbols.{Item}
-use Rattle.rpcx.specs.Reading.{Fails}
-use Rattle.rpcx.proofs.ItemLaws.{refused, behind, exit_refused}
+use Rattle.rpcx.proofs.ParseLemmas.{refused, behind, exit_refused}
 use Rattle.rpcx.proofs.parse.whole.Goals as goal
 
 pub returns-in_err-definition-clause-stuck : goal.returns-in_err-definition-clause-stuck

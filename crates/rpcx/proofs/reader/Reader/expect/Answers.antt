@@ -1,5 +1,4 @@
 use Rattle.std.proofs.Common.{◌≡◌, ◌∙◌, ap, rules}
-use Rattle.rpcx.specs.declared.mark.Mark.{Mark}
 use Rattle.rpcx.specs.Marks.{fixed}
 use Rattle.rpcx.proofs.ReadLemmas.{leads_fixed}
 use Rattle.rpcx.proofs.reader.Reader.expect.Goals as goal

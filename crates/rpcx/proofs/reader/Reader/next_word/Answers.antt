@@ -1,6 +1,4 @@
-use Rattle.std.proofs.Common.{◌≡◌, true, false, sym, ◌∙◌, arith, subst}
-use Rattle.rpcx.specs.Words.{words_of}
-use Rattle.rpcx.specs.Reading.{Passes}
+use Rattle.std.proofs.Common.{sym, ◌∙◌, arith}
 use Rattle.rpcx.proofs.WordLemmas.{skips_more, passes_here, skips_past}
 use Rattle.rpcx.proofs.reader.Reader.next_word.Goals as goal
 

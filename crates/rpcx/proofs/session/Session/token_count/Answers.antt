@@ -1,12 +1,9 @@
-use Rattle.std.proofs.Common.{◌≡◌, ℕ, map, length, ap, sym, subst, ◌∙◌}
-use Rattle.std.proofs.lemmas.List.{length-map}
-use Rattle.std.specs.Prelude.{slice_get, option_map, option_and_then}
-use Rattle.x_lex.specs.Places.{lexeme, lexemes}
-use Rattle.rpcx.specs.Kept.{view_item, kept_definition}
+use Rattle.std.proofs.Common.{◌≡◌, map, length, ap, sym, subst, ◌∙◌}
+use Rattle.x_lex.specs.Places.{lexemes}
+use Rattle.rpcx.specs.Kept.{view_item}
 use Rattle.rpcx.specs.Session.{Compiles}
-use Rattle.rpcx.specs.Tree.{tree_at}
-use Rattle.rpcx.specs.Compile.{parts, tokens_of, definition_at, faults_of}
-use Rattle.rpcx.proofs.Compiled.{length-lexemes, length-parts, tokens_are, definition_found}
+use Rattle.rpcx.specs.Compile.{parts, tokens_of}
+use Rattle.rpcx.proofs.Compiled.{length-lexemes, tokens_are}
 use Rattle.rpcx.proofs.session.Session.token_count.Goals as goal
 
 pub returns : goal.returns

@@ -1,4 +1,4 @@
-use Rattle.std.proofs.Common.{◌≡◌, ℕ, List, [], ◌++◌, false, map, refl, sym, ap, subst, ◌∙◌}
+use Rattle.std.proofs.Common.{◌≡◌, [], ◌++◌, map, refl, sym, subst, ◌∙◌}
 use Rattle.x_text.specs.Writing.{Inked, Writes, IsWritten}
 use Rattle.x_text.proofs.Pens.{writes_none}
 use Rattle.x_lex.specs.Places.{lexemes}

@@ -1,5 +1,5 @@
 -- What reading an item says of spellings.
-use Rattle.std.proofs.Common.{◌≡◌, ◌≢◌, ℕ, suc, ◌+◌, ◌-◌, ◌≤◌, List, [], ◌∷◌, ◌++◌, length, Bool, true, false, Option, Some, None, Result, Ok, Err, refl, ap, sym, ◌∙◌, subst, append_assoc, arith, length-append, ⊎_elim, IsTrue}
+use Rattle.std.proofs.Common.{◌≡◌, ◌≢◌, ℕ, suc, ◌+◌, ◌-◌, ◌≤◌, List, [], ◌∷◌, ◌++◌, length, true, false, Option, Some, None, Result, Ok, Err, refl, ap, sym, ◌∙◌, subst, append_assoc, arith, length-append, ⊎_elim, IsTrue}
 use Rattle.std.proofs.lemmas.List.{append-nil, append_cancel_right, nil_from_length}
 use Rattle.std.specs.Result.{IsErrAnd, IfErr}
 use Rattle.std.proofs.lemmas.Result.{err_from_is_err_and}
@@ -16,7 +16,7 @@ use Rattle.rpcx.specs.declared.reader.ParseError.TheVariants as errors
 use Rattle.rpcx.proofs.Machine.{drive, Vals, Stuck, past, stuck, one_text}
 use Rattle.rpcx.proofs.Grammar.{Value, text, build, built, split, least}
 use Rattle.rpcx.proofs.WordLemmas.{words_of-append, words_of-word, words_of-other, cases_word}
-use Rattle.rpcx.proofs.ReadLemmas.{at_word, read_word, read_other}
+use Rattle.rpcx.proofs.ReadLemmas.{read_word, read_other}
 
 -- two lists cut at the same length
 pub same_cut : {A : Type 0} (a c b d : List A) → length a ≡ length c → a ++ b ≡ c ++ d → (a ≡ c) × (b ≡ d)
