@@ -1,4 +1,5 @@
 pub mod Counts
+pub mod Edits
 pub mod Memory
 pub mod Text
 pub mod Writing

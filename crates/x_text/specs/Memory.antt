@@ -1,18 +1,18 @@
 -- Sinks and taps over memory, for tests.
 use Rattle.std.specs.Prelude.{◌≡◌, ℕ, ◌<◌, ◌⊎◌, min, Bool, true, List}
 
--- A sink over memory: the bytes that it took, how many it takes a call at the most, how many more it takes before it fails,
--- and whether it has failed.
-pub record MemBytes : Type 0 where
-  pub taken : List ℕ
+-- A sink or a tap over memory: the bytes that the sink took or the tap has left, how many it moves a call at the most, how many
+-- more it moves before it fails, and whether it has failed.
+pub record MemState : Type 0 where
+  pub bytes : List ℕ
   pub most : ℕ
   pub left : ℕ
   pub failed : Bool
 
--- how many of the offered bytes one call moves
-abbrev pub share : ℕ → ℕ → ℕ → ℕ
-share most left offered = min offered (min most left)
+-- how many of the bytes that it could move one call moves, if it does not fail
+abbrev pub share : MemState → ℕ → ℕ
+share state possible = min possible (min state.most state.left)
 
--- whether a call fails: it failed before, or no more bytes may be moved and some are offered
-abbrev pub Fails : Bool → ℕ → ℕ → Type 0
-Fails failed left offered = (failed ≡ true) ⊎ ((left ≡ 0) × (0 < offered))
+-- whether a call with a slice of this length fails: one failed before, or no more bytes may be moved and the slice has room or bytes
+abbrev pub Fails : MemState → ℕ → Type 0
+Fails state length = (state.failed ≡ true) ⊎ ((state.left ≡ 0) × (0 < length))

@@ -1,22 +1,31 @@
-//! The text of a `.x` file, the counts of work done on it, and the sinks that generated text goes to.
+//! The text of a `.x` file and its edits, the counts of work done on it, the taps that bytes come from, and the sinks that
+//! generated text goes to.
 #![tactic(auto)]
 
+mod edit;
 mod fault;
+mod input;
 mod lines;
 mod mem_sink;
+mod mem_tap;
 mod meter;
 mod no_memory;
 mod out;
 mod pen;
 mod sink;
 mod source;
+mod tap;
 
+pub use edit::Edit;
 pub use fault::TextFault;
+pub use input::In;
 pub use lines::Lines;
 pub use mem_sink::MemSink;
+pub use mem_tap::MemTap;
 pub use meter::Meter;
 pub use no_memory::NoMemory;
 pub use out::Out;
 pub use pen::{Pen, WriteFault};
 pub use sink::{Broken, Sink};
 pub use source::{MAX_TEXT, Source};
+pub use tap::Tap;

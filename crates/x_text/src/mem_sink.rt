@@ -18,11 +18,11 @@ pub struct MemSink<'b> {
 
 impl<'b> Model for MemSink<'b> {
     ghost use Rattle.std.specs.Prelude.{◌+◌, ◌<◌, ◌≤◌, take, length};
-    ghost use Rattle.x_text.specs.Memory.{MemBytes};
+    ghost use Rattle.x_text.specs.Memory.{MemState};
 
-    ghost Value = { MemBytes };
+    ghost Value = { MemState };
 
-    ghost view = { λ s. record { taken = take s.used s.bytes.now; most = s.most; left = s.left; failed = s.failed } };
+    ghost view = { λ s. record { bytes = take s.used s.bytes.now; most = s.most; left = s.left; failed = s.failed } };
 
     ghost invariant = { λ s. (s.used + s.left ≤ length s.bytes.now) × (0 < s.most) };
 }
@@ -31,7 +31,7 @@ impl<'b> MemSink<'b> {
     /// An empty sink that takes at most `most` bytes a call, and fails after `left` bytes.
     pub fn new(bytes: &'b mut [u8], most: usize, left: usize) -> MemSink<'b>
         requires { 0 < most }
-        ensures state { result ≡ record { taken = []; most = most; left = min left (length bytes.old); failed = false } }
+        ensures state { result ≡ record { bytes = []; most = most; left = min left (length bytes.old); failed = false } }
         ensures contents { ⟦<MemSink<'b> as Sink>⟧.contents result ≡ Some [] }
         ensures has_failed { ⟦<MemSink<'b> as Sink>⟧.has_failed result ≡ false }
     {
@@ -47,7 +47,7 @@ impl<'b> MemSink<'b> {
 
     /// The bytes that it took.
     pub fn bytes(&self) -> &[u8]
-        ensures taken { result.now ≡ self.now.taken }
+        ensures taken { result.now ≡ self.now.bytes }
         ensures contents { ⟦<MemSink<'b> as Sink>⟧.contents self.now ≡ Some result.now }
     {
         &self.bytes[..self.used]
@@ -57,19 +57,19 @@ impl<'b> MemSink<'b> {
 impl Sink for MemSink<'_> {
     ghost use Rattle.std.specs.Prelude.{Some};
 
-    ghost contents = { λ s. Some s.taken };
+    ghost contents = { λ s. Some s.bytes };
 
     ghost has_failed = { λ s. s.failed };
 
     fn put(&mut self, bytes: &[u8]) -> Result<usize, Broken>
-        ensures taken { WriteAppends (Some self.old.taken) (Some self.new.taken) result bytes.now }
+        ensures taken { WriteAppends (Some self.old.bytes) (Some self.new.bytes) result bytes.now }
         ensures within { IfOk result (λ n. n ≤ length bytes.now) }
         ensures some { IfOk result (λ n. 0 < length bytes.now → 0 < n) }
         ensures failed { self.new.failed ≡ is_err result }
         ensures for_good { IsTrue self.old.failed → IsErr result }
 
-        ensures count { IfOk result (λ n. n ≡ share self.old.most self.old.left (length bytes.now)) }
-        ensures fails { IsErr result ↔ Fails self.old.failed self.old.left (length bytes.now) }
+        ensures count { IfOk result (λ n. n ≡ share self.old (length bytes.now)) }
+        ensures fails { IsErr result ↔ Fails self.old (length bytes.now) }
         ensures left { MatchResult result (λ n. self.new.left + n ≡ self.old.left) (λ _. self.new.left ≡ self.old.left) }
         ensures most { self.new.most ≡ self.old.most }
     {
@@ -85,7 +85,7 @@ impl Sink for MemSink<'_> {
     }
 
     fn flush(&mut self) -> Result<(), Broken>
-        ensures same { Keeps (Some self.old.taken) (Some self.new.taken) }
+        ensures same { Keeps (Some self.old.bytes) (Some self.new.bytes) }
         ensures failed { self.new.failed ≡ is_err result }
         ensures for_good { IsTrue self.old.failed → IsErr result }
 

@@ -1,7 +1,9 @@
-ghost use Rattle.std.specs.Prelude.{◌≡◌, ◌↔◌, ◌<◌, ◌≤◌, [], length, IfOk, IsErrOf};
+ghost use Rattle.std.specs.Prelude.{◌≡◌, ◌↔◌, ◌<◌, ◌≤◌, [], length, IfOk, OnOk, OnErr, IsErrOf};
+ghost use Rattle.x_text.specs.Edits.{edited, LiesWithin};
 ghost use Rattle.x_text.specs.Text.{line_of, column_of};
 
-use crate::{Lines, TextFault};
+use crate::edit::edit_in_room;
+use crate::{Edit, Lines, TextFault};
 use std::alloc::Global;
 use std::marker::Model;
 
@@ -56,6 +58,30 @@ impl Source {
         ensures small { length self.now ≤ MAX_TEXT }
     {
         &self.bytes
+    }
+
+    /// Carries an edit out: [`TextFault::BadRange`] where its range does not lie within the text, and [`TextFault::TooLarge`]
+    /// where the text would have more than [`MAX_TEXT`] bytes, which take no memory. After a fault the text is as before.
+    pub fn replace(&mut self, edit: &Edit) -> Result<(), TextFault>
+        ensures text { OnOk result (self.new ≡ edited self.old edit.now.start edit.now.end edit.now.insert.now) }
+        ensures bad_range { IsErrOf result TextFault.BadRange ↔ ¬ (LiesWithin self.old edit.now.start edit.now.end) }
+        ensures too_large { IsErrOf result TextFault.TooLarge ↔
+            (LiesWithin self.old edit.now.start edit.now.end × (MAX_TEXT < length (edited self.old edit.now.start edit.now.end edit.now.insert.now))) }
+        ensures err { OnErr result (self.new ≡ self.old) }
+    {
+        if edit.start > edit.end || edit.end > self.bytes.len() {
+            return Err(TextFault::BadRange);
+        }
+        let removed = edit.end - edit.start;
+        if edit.insert.len() > MAX_TEXT - (self.bytes.len() - removed) {
+            return Err(TextFault::TooLarge);
+        }
+        let more = edit.insert.len().saturating_sub(removed);
+        if self.bytes.reserve(more).is_err() {
+            return Err(TextFault::NoMemory);
+        }
+        edit_in_room(&mut self.bytes, edit);
+        Ok(())
     }
 
     /// The line and the column of a place, each counted from 1: the line feeds before it, and the bytes since the last of them.

@@ -1,0 +1,60 @@
+ghost use Rattle.std.specs.Prelude.{◌≡◌, ◌+◌, ◌-◌, ◌≤◌, ◌++◌, length, take, drop, vec_len, vec_capacity};
+ghost use Rattle.x_text.specs.Edits.{edited, LiesWithin};
+
+/// A change of a text: other bytes take the place of those from `start` to before `end`.
+#[derive(Clone, Copy, Debug)]
+pub struct Edit<'e> {
+    pub start: usize,
+    pub end: usize,
+    /// The bytes that take their place.
+    pub insert: &'e [u8],
+}
+
+/// Carries the edit out where there is room for the text that it leaves, and takes no memory.
+#[tactic(auto, using(crate::proofs::Edits::closed))]
+pub(crate) fn edit_in_room(bytes: &mut Vec<u8>, edit: &Edit)
+    requires within { LiesWithin bytes.old.items edit.now.start edit.now.end }
+    requires room { vec_len bytes.old + length edit.now.insert.now ≤ vec_capacity bytes.old + (edit.now.end - edit.now.start) }
+    ensures { bytes.new.items ≡ edited bytes.old.items edit.now.start edit.now.end edit.now.insert.now }
+{
+    // First bytes are written over others. Then there is a gap to close, or there are bytes left to insert, or neither.
+    let over = edit.insert.len().min(edit.end - edit.start);
+    let (front, rest) = edit.insert.split_at(over);
+    let at = edit.start + over;
+    write_over(bytes, edit.start, front);
+    if at < edit.end {
+        close_gap(bytes, at, edit.end);
+    } else {
+        insert_in_room(bytes, at, rest);
+    }
+}
+
+/// Writes these bytes over as many others.
+fn write_over(bytes: &mut Vec<u8>, at: usize, front: &[u8])
+    requires { at + length front.now ≤ vec_len bytes.old }
+    ensures items { bytes.new.items ≡ edited bytes.old.items at (at + length front.now) front.now }
+    ensures capacity { vec_capacity bytes.new ≡ vec_capacity bytes.old }
+{
+    bytes[at..at + front.len()].copy_from_slice(front);
+}
+
+/// Takes the bytes from `at` to before `end` out.
+fn close_gap(bytes: &mut Vec<u8>, at: usize, end: usize)
+    requires forward { at ≤ end }
+    requires within { end ≤ vec_len bytes.old }
+    ensures { bytes.new.items ≡ take at bytes.old.items ++ drop end bytes.old.items }
+{
+    let length = bytes.len() - (end - at);
+    bytes[at..].rotate_left(end - at);
+    bytes.truncate(length);
+}
+
+/// Inserts bytes that there is room for.
+fn insert_in_room(bytes: &mut Vec<u8>, at: usize, more: &[u8])
+    requires within { at ≤ vec_len bytes.old }
+    requires room { vec_len bytes.old + length more.now ≤ vec_capacity bytes.old }
+    ensures { bytes.new.items ≡ edited bytes.old.items at at more.now }
+{
+    bytes.extend_from_slice(more).unwrap();
+    bytes[at..].rotate_right(more.len());
+}
