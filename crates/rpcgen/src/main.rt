@@ -54,7 +54,10 @@ fn run(rt: &HostRuntime) -> u8 {
     let words: Vec<String> = match env::args(rt).map(|words| words.collect(rt.alloc())) {
         Ok(Ok(words)) => words,
         Err(error) if error.kind() == ErrorKind::InvalidData => {
-            complain("rpcgen: a word of the command line is not UTF-8\n", &mut err);
+            complain(
+                "rpcgen: a word of the command line is not UTF-8\n",
+                &mut err,
+            );
             return FAILED;
         }
         _ => {
