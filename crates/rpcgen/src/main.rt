@@ -28,7 +28,7 @@ fn generate<E: Sink>(rt: &HostRuntime, args: &GenArgs, which: Which, err: &mut E
             return FAILED;
         }
         Err(_) => {
-            tell_of_file(args.file, ": cannot be read\n", err);
+            tell_of_file("rpcgen", args.file, ": cannot be read\n", err);
             return FAILED;
         }
     };
@@ -42,7 +42,7 @@ fn generate<E: Sink>(rt: &HostRuntime, args: &GenArgs, which: Which, err: &mut E
     match fs::create(rt, output) {
         Ok(file) => gen_write(which, &session, &mut Out::new(file), err),
         Err(_) => {
-            tell_of_file(output, ": cannot be written\n", err);
+            tell_of_file("rpcgen", output, ": cannot be written\n", err);
             FAILED
         }
     }

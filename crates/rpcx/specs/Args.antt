@@ -10,6 +10,7 @@ use Rattle.clap.specs.declared.builder.command.Command.{Command}
 use Rattle.clap.specs.declared.parser.matches.ArgMatches.{ArgMatches}
 use Rattle.clap.specs.declared.parser.matches.ValueSource.{ValueSource}
 use Rattle.clap.specs.declared.parser.matches.ValueSource.TheVariants.{CommandLine}
+use Rattle.rpcx.specs.declared.editing.EditArgs.{EditArgs}
 use Rattle.rpcx.specs.declared.args.GenArgs.{GenArgs}
 
 -- `-h`, a flag
@@ -32,6 +33,10 @@ plain_app name = on_top (λ s. record s { disable_help_flag = true }) (new_app n
 unfoldable pub gen_app : App
 gen_app = with_rule (with_rule (with_rule (plain_app (codes "rpcgen")) header_rule) output_rule) file_rule
 
+-- `rpcedit FILE`
+unfoldable pub edit_app : App
+edit_app = with_rule (plain_app (codes "rpcedit")) file_rule
+
 -- every parse by the command that succeeds gives the argument a value
 abbrev pub AlwaysHas : Text → Command → Type 0
 AlwaysHas id c = (m : ArgMatches) → IsParsedFrom c m → is_some (first_value (found_of m) id) ≡ true
@@ -53,4 +58,8 @@ is_in_words id rows = is_command_line (source_of id rows)
 pub record IsGenArgs (rows : List Row) (args : GenArgs) : Type 0 where
   pub header : args.header ≡ is_in_words (codes "header") rows
   pub output : option_map (λ s. s.now) args.output ≡ first_of (codes "output") rows
+  pub file : Some args.file.now ≡ first_of (codes "file") rows
+
+-- the value of `rpcedit`, as clap read it
+pub record IsEditArgs (rows : List Row) (args : EditArgs) : Type 0 where
   pub file : Some args.file.now ≡ first_of (codes "file") rows

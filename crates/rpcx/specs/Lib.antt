@@ -1,12 +1,16 @@
+pub mod Answers
 pub mod Args
+pub mod Commands
 pub mod Compile
 pub mod Cut
 pub mod Entries
+pub mod Faults
 pub mod Generate
 pub mod Header
 pub mod Items
 pub mod Keeps
 pub mod Kept
+pub mod Lines
 pub mod Marks
 pub mod Names
 pub mod NamesTable
@@ -14,6 +18,7 @@ pub mod Numbers
 pub mod Parse
 pub mod Reading
 pub mod Rules
+pub mod Script
 pub mod Session
 pub mod Spell
 pub mod Symbols

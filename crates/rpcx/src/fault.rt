@@ -1,35 +1,28 @@
-ghost use Rattle.std.specs.Prelude.{◌≡◌};
+ghost use Rattle.std.specs.Prelude.{◌≡◌, Some};
+ghost use Rattle.rpcx.specs.Faults.{fault_text};
 ghost use Rattle.rpcx.specs.Parse.{code_of};
 
-use thiserror::Error;
+use std::fmt;
 use x_lex::Kind;
 
 /// What is wrong at a word of an item. The number of each is its code.
-#[derive(Clone, Copy, Debug, PartialEq, Eq, Error)]
+#[derive(Clone, Copy, Debug, PartialEq, Eq)]
 pub enum FaultCode {
     /// No definition goes on with this word.
-    #[error("10 Syntax")]
     Syntax = 10,
     /// A byte that begins no token.
-    #[error("11 BadByte")]
     BadByte = 11,
     /// A number that is neither decimal, hexadecimal nor octal.
-    #[error("12 BadNumber")]
     BadNumber = 12,
     /// A comment that is not closed.
-    #[error("13 OpenComment")]
     OpenComment = 13,
     /// A line for the C preprocessor that is no line marker.
-    #[error("14 Directive")]
     Directive = 14,
     /// The text ends within a definition.
-    #[error("15 Unfinished")]
     Unfinished = 15,
     /// The name is declared before.
-    #[error("20 Duplicate")]
     Duplicate = 20,
     /// The number does not fit.
-    #[error("25 Range")]
     Range = 25,
 }
 
@@ -45,6 +38,30 @@ impl FaultCode {
             Kind::Directive => FaultCode::Directive,
             _ => FaultCode::Syntax,
         }
+    }
+
+    /// The number and the name that are printed for the code.
+    pub fn text(self) -> &'static str
+        ensures { result.now ≡ fault_text self }
+    {
+        match self {
+            FaultCode::Syntax => "10 Syntax",
+            FaultCode::BadByte => "11 BadByte",
+            FaultCode::BadNumber => "12 BadNumber",
+            FaultCode::OpenComment => "13 OpenComment",
+            FaultCode::Directive => "14 Directive",
+            FaultCode::Unfinished => "15 Unfinished",
+            FaultCode::Duplicate => "20 Duplicate",
+            FaultCode::Range => "25 Range",
+        }
+    }
+}
+
+impl fmt::Display for FaultCode {
+    ghost output = { λ code. Some (fault_text code) };
+
+    fn fmt<W: fmt::Write>(&self, f: &mut fmt::Formatter<W>) -> fmt::Result {
+        f.write_str(self.text())
     }
 }
 

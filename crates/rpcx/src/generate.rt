@@ -59,6 +59,13 @@ fn without_x(name: &[u8]) -> &[u8]
     name.strip_suffix(b".x").unwrap_or(name)
 }
 
+/// The name that generated texts use: that of the file, behind its last `/`, without a final `.x`.
+pub(crate) fn base(file: &str) -> &[u8]
+    ensures { result.now ≡ base_of file.now }
+{
+    without_x(file_name(file.as_bytes()))
+}
+
 /// Opens the text of a file for a run, or tells what is wrong with it and answers the status: 1 where the text has faults, which
 /// are written one a line, and 2 where it is too large or memory runs out.
 pub fn gen_open<E: Sink>(
@@ -73,7 +80,7 @@ pub fn gen_open<E: Sink>(
     ensures too_large { MAX_TEXT < length bytes.now → IsErrOf result 2 }
     ensures others { IfErr result (λ status. (status ≡ 1) ⊎ (status ≡ 2)) }
 {
-    match Session::open(alloc, without_x(file_name(file.as_bytes())), bytes) {
+    match Session::open(alloc, base(file), bytes) {
         Ok(session) => {
             if session.fault_count() == 0 {
                 return Ok(session);
@@ -81,7 +88,7 @@ pub fn gen_open<E: Sink>(
             Err(tell_faults(alloc, file, &session, err))
         }
         Err(TextFault::TooLarge) => {
-            tell_of_file(file, ": 2 TooLarge\n", err);
+            tell_of_file("rpcgen", file, ": 2 TooLarge\n", err);
             Err(FAILED)
         }
         Err(_) => {
@@ -91,12 +98,13 @@ pub fn gen_open<E: Sink>(
     }
 }
 
-/// Writes what is wrong with a file.
-pub fn tell_of_file<E: Sink>(file: &str, wrong: &str, err: &mut E)
-    ensures { Grows (E.contents err.old) (E.contents err.new) (codes "rpcgen: " ++ file.now ++ wrong.now) }
+/// Writes what is wrong with a file, behind the name of the program.
+pub fn tell_of_file<E: Sink>(program: &str, file: &str, wrong: &str, err: &mut E)
+    ensures { Grows (E.contents err.old) (E.contents err.new) (program.now ++ codes ": " ++ file.now ++ wrong.now) }
 {
     let mut pen = Pen::new();
-    pen.add(b"rpcgen: ", err);
+    pen.add(program.as_bytes(), err);
+    pen.add(b": ", err);
     pen.add(file.as_bytes(), err);
     pen.add(wrong.as_bytes(), err);
     let _ = pen.finish(err);

@@ -1,37 +1,47 @@
 //! The compiler of a `.x` text.
 #![tactic(auto)]
 
+mod answer;
 mod args;
+mod byte_queue;
 mod check;
+mod command;
 mod compile;
 mod cut;
 mod cutter;
 mod definition;
+mod editing;
 mod fault;
 mod findings;
 mod generate;
 mod header;
 mod item;
 mod laws;
+mod lines;
 mod mark;
 mod names;
 mod number;
 mod parse;
 mod reader;
+mod script;
 mod session;
 
 pub use args::{GenArgs, gen_args};
 use check::{WordFault, check_item};
+pub use command::{Command, parse_command};
 pub use definition::Definition;
+pub use editing::{EditArgs, edit_args, edit_run};
 pub use fault::{Fault, FaultCode};
 use findings::TokenFault;
 pub use generate::{complain, gen_mode, gen_open, gen_write, tell_of_file};
 use item::Item;
 pub use laws::{one_compilation, one_cut, one_parse, one_spelling};
+pub use lines::{Found, LONGEST, LineFault, LineReader};
 pub use names::{Declared, Declarer, Names, declares};
 pub use number::is_in_range;
 pub use parse::{Parsed, parse_item};
-pub use session::{Session, Which};
+pub use script::{EngineFault, Outcome, run_script};
+pub use session::{Session, Which, Work};
 
 #[cfg(test)]
 mod tests;

@@ -1,11 +1,13 @@
 //! A text that stays open, with all that compiling it gives.
 
-ghost use Rattle.std.specs.Prelude.{◌≡◌, ◌↔◌, ◌<◌, ℕ, List, Option, length, map, option_map, option_and_then, slice_get, IfOk, OnOk, IfErr, IsErrOf, IsTrue, Some, None};
-ghost use Rattle.x_text.specs.Writing.{IsWritten};
+ghost use Rattle.std.specs.Prelude.{◌≡◌, ◌↔◌, ◌<◌, ◌≤◌, ℕ, List, Option, length, map, option_map, option_and_then, slice_get, IfOk, OnOk, OnErr, IfErr, IsErrOf, IsTrue, Some, None};
+ghost use Rattle.x_text.specs.Counts.{raised};
+ghost use Rattle.x_text.specs.Edits.{edited, LiesWithin};
+ghost use Rattle.x_text.specs.Writing.{Adds, IsWritten};
 ghost use Rattle.x_text.specs.declared.source.TheConstants.{MAX_TEXT};
 ghost use Rattle.x_lex.specs.Places.{lexeme};
 ghost use Rattle.rpcx.specs.Tree.{tree_at};
-ghost use Rattle.rpcx.specs.Session.{Opened, Compiles};
+ghost use Rattle.rpcx.specs.Session.{Opened, Compiles, edited_by_all, TakesAll, StopsAt};
 ghost use Rattle.rpcx.specs.Compile.{tokens_of, definition_at, faults_of};
 ghost use Rattle.rpcx.specs.Kept.{kept_definition};
 ghost use Rattle.rpcx.specs.Header.{header};
@@ -15,8 +17,8 @@ use crate::header::{EPILOGUE, prologue};
 use crate::{Definition, Fault, Item};
 use std::alloc::Global;
 use std::marker::Model;
-use x_lex::{Token, Tokens};
-use x_text::{Meter, NoMemory, Pen, Sink, Source, TextFault, WriteFault};
+use x_lex::{Token, Tokens, Walk};
+use x_text::{Edit, Meter, NoMemory, Pen, Sink, Source, TextFault, WriteFault};
 
 /// A text that is generated.
 #[derive(Clone, Copy, Debug, PartialEq, Eq)]
@@ -25,9 +27,49 @@ pub enum Which {
     Header,
 }
 
+/// What work an edit took.
+#[derive(Clone, Copy, Debug, Default, PartialEq, Eq)]
+pub struct Work {
+    /// How many tokens were lexed.
+    pub lexed: u64,
+    /// How many items were parsed.
+    pub parsed: u64,
+    /// How many items were checked.
+    pub checked: u64,
+    /// How many kept entries were moved.
+    pub moved: u64,
+}
+
+impl Work {
+    /// What a meter counted.
+    fn of(meter: &Meter) -> Work
+        ensures { result ≡ record { lexed = meter.now.lexed; parsed = meter.now.parsed; checked = meter.now.checked; moved = meter.now.moved } }
+    {
+        Work {
+            lexed: meter.lexed(),
+            parsed: meter.parsed(),
+            checked: meter.checked(),
+            moved: meter.moved(),
+        }
+    }
+
+    /// This work and other work. Each count stays at the greatest number.
+    fn with(self, other: &Work) -> Work
+        ensures { result ≡ record { lexed = raised self.lexed other.now.lexed; parsed = raised self.parsed other.now.parsed; checked = raised self.checked other.now.checked; moved = raised self.moved other.now.moved } }
+    {
+        Work {
+            lexed: self.lexed.saturating_add(other.lexed),
+            parsed: self.parsed.saturating_add(other.parsed),
+            checked: self.checked.saturating_add(other.checked),
+            moved: self.moved.saturating_add(other.moved),
+        }
+    }
+}
+
 /// A text that stays open: its tokens, definitions and faults, and what is generated of it.
 #[derive(Debug, Drop)]
 pub struct Session {
+    alloc: Global,
     base: Vec<u8>,
     source: Source,
     tokens: Tokens,
@@ -75,6 +117,7 @@ impl Session {
             findings,
         } = compile(alloc, &source, &mut meter)?;
         Ok(Session {
+            alloc,
             base,
             source,
             tokens,
@@ -83,6 +126,59 @@ impl Session {
             prologue,
             body: findings.body,
         })
+    }
+
+    /// Carries an edit out, with the faults of [`Source::replace`], and answers what work it took. After a fault all is as before.
+    pub fn apply(&mut self, edit: &Edit) -> Result<Work, TextFault>
+        ensures text { OnOk result (self.new ≡ record self.old { text = edited self.old.text edit.now.start edit.now.end edit.now.insert.now }) }
+        ensures fits { OnOk result (LiesWithin self.old.text edit.now.start edit.now.end
+            × (length (edited self.old.text edit.now.start edit.now.end edit.now.insert.now) ≤ MAX_TEXT)) }
+        ensures bad_range { IsErrOf result TextFault.BadRange ↔ ¬ (LiesWithin self.old.text edit.now.start edit.now.end) }
+        ensures too_large { IsErrOf result TextFault.TooLarge ↔
+            (LiesWithin self.old.text edit.now.start edit.now.end × (MAX_TEXT < length (edited self.old.text edit.now.start edit.now.end edit.now.insert.now))) }
+        ensures same { OnErr result (self.new ≡ self.old) }
+    {
+        let source = self.source.edited(self.alloc, edit)?;
+        let mut meter = Meter::new();
+        let Compiled {
+            tokens,
+            items,
+            findings,
+        } = match compile(self.alloc, &source, &mut meter) {
+            Ok(compiled) => compiled,
+            Err(NoMemory) => return Err(TextFault::NoMemory),
+        };
+        self.source = source;
+        self.tokens = tokens;
+        self.items = items;
+        self.faults = findings.faults;
+        self.body = findings.body;
+        Ok(Work::of(&meter))
+    }
+
+    /// Carries the edits out in order, and answers what work they took. At the first that is refused it stops and answers its index,
+    /// from 0, and the fault: the edits before it are done.
+    pub fn apply_all(&mut self, edits: &[Edit]) -> Result<Work, (usize, TextFault)>
+        ensures text { OnOk result (self.new ≡ record self.old { text = edited_by_all self.old.text edits.now }) }
+        ensures takes { OnOk result (TakesAll self.old.text edits.now) }
+        ensures stops { IfErr result (λ fault. StopsAt self.old.text edits.now self.new.text fault.0 fault.1) }
+        ensures base { self.new.base ≡ self.old.base }
+    {
+        let mut total = Work::default();
+        for (index, edit) in edits.iter().enumerate() {
+            match self.apply(edit) {
+                Ok(work) => total = total.with(&work),
+                Err(fault) => return Err((index, fault)),
+            }
+        }
+        Ok(total)
+    }
+
+    /// The bytes of the text.
+    pub fn bytes(&self) -> &[u8]
+        ensures { result.now ≡ self.now.text }
+    {
+        self.source.bytes()
     }
 
     /// How many tokens the text has.
@@ -97,6 +193,13 @@ impl Session {
         ensures { Compiles self.now.text (λ items. option_map lexeme result ≡ slice_get (tokens_of items) index) }
     {
         self.tokens.token(index, &self.source)
+    }
+
+    /// The tokens of the text, one after another.
+    pub fn tokens(&self) -> Walk<'_>
+        ensures { Compiles self.now.text (λ items. result ≡ tokens_of items) }
+    {
+        self.tokens.iter(&self.source)
     }
 
     /// How many items the text has: one more than end with their own `;`.
@@ -127,11 +230,26 @@ impl Session {
         fault_in(&self.faults, index)
     }
 
+    /// The faults of the text, in the order of [`Session::fault`].
+    pub fn faults(&self) -> &[Fault]
+        ensures { Compiles self.now.text (λ items. result.now ≡ faults_of self.now.text items) }
+    {
+        &self.faults
+    }
+
     /// Writes a generated text. After a fault the sink has exactly its first `written` bytes.
     pub fn write_text<S: Sink>(&self, which: Which, sink: &mut S) -> Result<(), WriteFault>
         ensures { Compiles self.now.text (λ items. IsWritten result (S.contents sink.old) (S.contents sink.new) (S.has_failed sink.new) (header self.now.base items)) }
     {
         let mut pen = Pen::new();
+        self.add_text(which, &mut pen, sink);
+        pen.finish(sink)
+    }
+
+    /// Adds a generated text.
+    pub(crate) fn add_text<S: Sink>(&self, which: Which, pen: &mut Pen, sink: &mut S)
+        ensures { Compiles self.now.text (λ items. Adds pen.old (S.contents sink.old) (S.has_failed sink.old) pen.new (S.contents sink.new) (S.has_failed sink.new) (header self.now.base items)) }
+    {
         match which {
             Which::Header => {
                 pen.add(&self.prologue, sink);
@@ -139,7 +257,17 @@ impl Session {
                 pen.add(EPILOGUE, sink);
             }
         }
-        pen.finish(sink)
+    }
+
+    /// How many bytes a generated text has.
+    pub(crate) fn text_length(&self, which: Which) -> u128
+        ensures { Compiles self.now.text (λ items. result ≡ length (header self.now.base items)) }
+    {
+        match which {
+            Which::Header => {
+                self.prologue.len() as u128 + self.body.len() as u128 + EPILOGUE.len() as u128
+            }
+        }
     }
 }
 

@@ -1,4 +1,4 @@
-ghost use Rattle.std.specs.Prelude.{Some};
+ghost use Rattle.std.specs.Prelude.{◌≡◌, Some};
 ghost use Rattle.x_lex.specs.Names.{kind_name};
 
 use std::fmt;
@@ -32,11 +32,12 @@ pub enum Kind {
     BadByte,
 }
 
-impl fmt::Display for Kind {
-    ghost output = { λ kind. Some (kind_name kind) };
-
-    fn fmt<W: fmt::Write>(&self, f: &mut fmt::Formatter<W>) -> fmt::Result {
-        f.write_str(match self {
+impl Kind {
+    /// The name that is printed for the kind.
+    pub fn name(self) -> &'static str
+        ensures { result.now ≡ kind_name self }
+    {
+        match self {
             Kind::Space => "Space",
             Kind::Comment => "Comment",
             Kind::OpenComment => "OpenComment",
@@ -49,6 +50,14 @@ impl fmt::Display for Kind {
             Kind::BadNumber => "BadNumber",
             Kind::Punct => "Punct",
             Kind::BadByte => "BadByte",
-        })
+        }
+    }
+}
+
+impl fmt::Display for Kind {
+    ghost output = { λ kind. Some (kind_name kind) };
+
+    fn fmt<W: fmt::Write>(&self, f: &mut fmt::Formatter<W>) -> fmt::Result {
+        f.write_str(self.name())
     }
 }

@@ -1,5 +1,8 @@
-ghost use Rattle.std.specs.Prelude.{◌≡◌, ◌+◌, ◌-◌, ◌≤◌, ◌++◌, length, take, drop, vec_len, vec_capacity};
+ghost use Rattle.std.specs.Prelude.{◌≡◌, ◌+◌, ◌-◌, ◌≤◌, ◌++◌, IfOk, length, take, drop, vec_len, vec_capacity};
 ghost use Rattle.x_text.specs.Edits.{edited, LiesWithin};
+
+use crate::NoMemory;
+use std::alloc::Global;
 
 /// A change of a text: other bytes take the place of those from `start` to before `end`.
 #[derive(Clone, Copy, Debug)]
@@ -8,6 +11,19 @@ pub struct Edit<'e> {
     pub end: usize,
     /// The bytes that take their place.
     pub insert: &'e [u8],
+}
+
+/// The bytes that the edit leaves of these.
+pub(crate) fn edited(alloc: Global, bytes: &[u8], edit: &Edit) -> Result<Vec<u8>, NoMemory>
+    requires within { LiesWithin bytes.now edit.now.start edit.now.end }
+    ensures { IfOk result (λ left. left.items ≡ edited bytes.now edit.now.start edit.now.end edit.now.insert.now) }
+{
+    let length = bytes.len() - (edit.end - edit.start);
+    let mut left = Vec::with_capacity(alloc, length.saturating_add(edit.insert.len()))?;
+    left.extend_from_slice(&bytes[..edit.start])?;
+    left.extend_from_slice(edit.insert)?;
+    left.extend_from_slice(&bytes[edit.end..])?;
+    Ok(left)
 }
 
 /// Carries the edit out where there is room for the text that it leaves, and takes no memory.

@@ -106,6 +106,32 @@ impl Pen {
         }
     }
 
+    /// Writes what was held back, and has the sink pass it on.
+    pub fn flush<S: Sink>(&mut self, sink: &mut S)
+        ensures adds { Adds self.old (S.contents sink.old) (S.has_failed sink.old) self.new (S.contents sink.new) (S.has_failed sink.new) [] }
+        ensures empty { self.new.stopped ≡ false → self.new.pending ≡ [] }
+        ensures working { self.new.stopped ≡ false → S.has_failed sink.new ≡ false }
+    {
+        self.pass_on(sink);
+        if !self.stopped {
+            self.stopped = sink.flush().is_err();
+        }
+    }
+
+    /// Whether the sink has failed, so that nothing more goes to it.
+    pub fn has_stopped(&self) -> bool
+        ensures { result ≡ self.now.stopped }
+    {
+        self.stopped
+    }
+
+    /// How many bytes the sink took. It stays at the greatest number.
+    pub fn written(&self) -> u64
+        ensures { result ≡ self.now.written }
+    {
+        self.written
+    }
+
     /// Writes what was held back.
     pub fn finish<S: Sink>(self, sink: &mut S) -> Result<(), WriteFault>
         ensures { (start : Option (List ℕ)) (text : List ℕ) → Writes start text self (S.contents sink.old) (S.has_failed sink.old) →

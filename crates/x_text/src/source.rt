@@ -2,8 +2,8 @@ ghost use Rattle.std.specs.Prelude.{◌≡◌, ◌↔◌, ◌<◌, ◌≤◌, []
 ghost use Rattle.x_text.specs.Edits.{edited, LiesWithin};
 ghost use Rattle.x_text.specs.Text.{line_of, column_of};
 
-use crate::edit::edit_in_room;
-use crate::{Edit, Lines, TextFault};
+use crate::edit::{edit_in_room, edited};
+use crate::{Edit, Lines, NoMemory, TextFault};
 use std::alloc::Global;
 use std::marker::Model;
 
@@ -69,18 +69,46 @@ impl Source {
             (LiesWithin self.old edit.now.start edit.now.end × (MAX_TEXT < length (edited self.old edit.now.start edit.now.end edit.now.insert.now))) }
         ensures err { OnErr result (self.new ≡ self.old) }
     {
-        if edit.start > edit.end || edit.end > self.bytes.len() {
-            return Err(TextFault::BadRange);
-        }
-        let removed = edit.end - edit.start;
-        if edit.insert.len() > MAX_TEXT - (self.bytes.len() - removed) {
-            return Err(TextFault::TooLarge);
-        }
-        let more = edit.insert.len().saturating_sub(removed);
+        self.accepts(edit)?;
+        let more = edit.insert.len().saturating_sub(edit.end - edit.start);
         if self.bytes.reserve(more).is_err() {
             return Err(TextFault::NoMemory);
         }
         edit_in_room(&mut self.bytes, edit);
+        Ok(())
+    }
+
+    /// The text that an edit would leave, with the faults of [`Source::replace`].
+    pub fn edited(&self, alloc: Global, edit: &Edit) -> Result<Source, TextFault>
+        ensures text { IfOk result (λ s. s ≡ edited self.now edit.now.start edit.now.end edit.now.insert.now) }
+        ensures fits { OnOk result (LiesWithin self.now edit.now.start edit.now.end
+            × (length (edited self.now edit.now.start edit.now.end edit.now.insert.now) ≤ MAX_TEXT)) }
+        ensures bad_range { IsErrOf result TextFault.BadRange ↔ ¬ (LiesWithin self.now edit.now.start edit.now.end) }
+        ensures too_large { IsErrOf result TextFault.TooLarge ↔
+            (LiesWithin self.now edit.now.start edit.now.end × (MAX_TEXT < length (edited self.now edit.now.start edit.now.end edit.now.insert.now))) }
+    {
+        self.accepts(edit)?;
+        match edited(alloc, &self.bytes, edit) {
+            Ok(bytes) => Ok(Source { bytes }),
+            Err(NoMemory) => Err(TextFault::NoMemory),
+        }
+    }
+
+    /// Whether the range of an edit lies within the text and the text that it leaves is not too large.
+    fn accepts(&self, edit: &Edit) -> Result<(), TextFault>
+        ensures fits { OnOk result (LiesWithin self.now edit.now.start edit.now.end
+            × (length (edited self.now edit.now.start edit.now.end edit.now.insert.now) ≤ MAX_TEXT)) }
+        ensures bad_range { IsErrOf result TextFault.BadRange ↔ ¬ (LiesWithin self.now edit.now.start edit.now.end) }
+        ensures too_large { IsErrOf result TextFault.TooLarge ↔
+            (LiesWithin self.now edit.now.start edit.now.end × (MAX_TEXT < length (edited self.now edit.now.start edit.now.end edit.now.insert.now))) }
+        ensures no_memory { IsErrOf result TextFault.NoMemory → ⊥ }
+    {
+        if edit.start > edit.end || edit.end > self.bytes.len() {
+            return Err(TextFault::BadRange);
+        }
+        if edit.insert.len() > MAX_TEXT - (self.bytes.len() - (edit.end - edit.start)) {
+            return Err(TextFault::TooLarge);
+        }
         Ok(())
     }
 

@@ -1,0 +1,141 @@
+-- How a run of a script goes on.
+use Rattle.std.proofs.Common.{◌≡◌, ℕ, Bool, true, false, ◌||◌, List, [], ◌∷◌, ◌++◌, length, Option, Some, None, refl, sym, ap, subst, ◌∙◌, append-nil}
+use Rattle.std.specs.Prelude.{MatchOption}
+use Rattle.std.specs.Io.KnownBytes.{Appends}
+use Rattle.x_text.specs.Writing.{Inked, Writes, Adds, counted}
+use Rattle.x_text.proofs.Pens.{writes_none, all_written, front_written}
+use Rattle.rpcx.specs.Session.{Opened, Compiles}
+use Rattle.rpcx.specs.Answers.{Answer, line_answer}
+use Rattle.rpcx.specs.Lines.{Reading, IsUnread, script_lines}
+use Rattle.rpcx.specs.Compile.{IsCompilation}
+use Rattle.rpcx.specs.declared.lines.State.TheVariants.{Between}
+use Rattle.rpcx.specs.Script.{then_answer, AreAnswered, IsGiven, HasGiven, IsAsBefore, HasRun, HasStopped, HasFailed, IsFrontOf}
+use Rattle.rpcx.proofs.Scripts.{answered_more}
+
+-- between two lines: the lines that were given are answered, and their answers are written
+pub record IsBetween (script : List ℕ) (old : Opened) (start : Option (List ℕ)) (session : Opened) (reader : Reading) (left : Option (List ℕ)) (refused : Bool) (pen : Inked) (now : Option (List ℕ)) (failed : Bool) : Type 0 where
+  pub given : List (List ℕ)
+  pub all : Answer
+  pub reads : HasGiven script reader left given
+  pub answered : AreAnswered old.base old.text given all
+  pub session_is : session ≡ record old { text = all.text }
+  pub refused_is : refused ≡ all.refused
+  pub writes : Writes start all.told pen now failed
+  pub goes : pen.stopped ≡ false
+  pub empty : pen.pending ≡ []
+
+pub at_start : (script : List ℕ) (old : Opened) (start : Option (List ℕ)) (reader : Reading) (left : Option (List ℕ)) (pen : Inked) (failed : Bool)
+    → left ≡ Some script → reader ≡ record { line = []; bytes = []; state = Between } → pen ≡ record { pending = []; written = 0; stopped = false }
+    → IsBetween script old start old reader left false pen start failed
+at_start script old start reader left pen failed left_is reader_is pen_is = record {
+  given = [];
+  all = record { told = []; refused = false; text = old.text };
+  reads = record { unread = []; later = script; left_is = left_is; unread_is = subst (λ r. IsUnread r left []) (sym reader_is) refl; lines_are = refl };
+  answered = refl;
+  session_is = refl;
+  refused_is = refl;
+  writes = subst (λ (p : Inked). Writes start [] p start failed) (sym pen_is) (writes_none start failed);
+  goes = ap (λ (p : Inked). p.stopped) pen_is;
+  empty = ap (λ (p : Inked). p.pending) pen_is;
+}
+
+-- a line is answered, and its answer is passed on, or the sink has failed
+pub record IsBehind (script : List ℕ) (old : Opened) (start : Option (List ℕ)) (session : Opened) (reader : Reading) (left : Option (List ℕ)) (refused : Bool) (pen : Inked) (now : Option (List ℕ)) (failed : Bool) : Type 0 where
+  pub given : List (List ℕ)
+  pub all : Answer
+  pub reads : HasGiven script reader left given
+  pub answered : AreAnswered old.base old.text given all
+  pub session_is : session ≡ record old { text = all.text }
+  pub refused_is : refused ≡ all.refused
+  pub writes : Writes start all.told pen now failed
+
+pub behind : (script : List ℕ) (old : Opened) (start : Option (List ℕ)) (session new : Opened) (reader reader' : Reading) (left left' : Option (List ℕ)) (refused refuses : Bool)
+    (p q r : Inked) (now now' now'' : Option (List ℕ)) (failed failed' failed'' : Bool) → (h : IsBetween script old start session reader left refused p now failed)
+    → ((line : List ℕ) × HasGiven script reader' left' (h.given ++ line ∷ []) × Compiles session.text (λ items. IsGiven (line_answer session.base session.text items line) session new refuses p now failed q now' failed'))
+    → Adds q now' failed' r now'' failed'' []
+    → IsBehind script old start new reader' left' (refused || refuses) r now'' failed''
+behind script old start session new reader reader' left left' refused refuses p q r now now' now'' failed failed' failed'' h k flushed =
+    let line = k.0 in
+    let items = k.2.1 in
+    let text_is : session.text ≡ h.all.text = ap (λ s. s.text) h.session_is in
+    let base_is : session.base ≡ old.base = ap (λ s. s.base) h.session_is in
+    let a = line_answer old.base h.all.text items line in
+    let same : line_answer session.base session.text items line ≡ a = λ i. line_answer (base_is i) (text_is i) items line in
+    let given : IsGiven a session new refuses p now failed q now' failed' = subst (λ b. IsGiven b session new refuses p now failed q now' failed') same k.2.3 in
+    let compiled = subst (λ t. IsCompilation t k.2.0 items) text_is k.2.2 in
+    let told = flushed start (h.all.told ++ a.told) (given.added start h.all.told h.writes) in
+    record {
+      given = h.given ++ line ∷ [];
+      all = then_answer h.all a;
+      reads = k.1;
+      answered = answered_more old.base old.text h.given line h.all h.answered k.2.0 items compiled;
+      session_is = given.session_is ∙ (λ i. record (h.session_is i) { text = a.text });
+      refused_is = λ i. h.refused_is i || given.refused_is i;
+      writes = subst (λ t. Writes start t r now'' failed'') (append-nil (h.all.told ++ a.told)) told;
+    }
+
+pub between : (script : List ℕ) (old : Opened) (start : Option (List ℕ)) (session : Opened) (reader : Reading) (left : Option (List ℕ)) (refused : Bool) (pen : Inked) (now : Option (List ℕ)) (failed : Bool)
+    → IsBehind script old start session reader left refused pen now failed → pen.stopped ≡ false → pen.pending ≡ [] → IsBetween script old start session reader left refused pen now failed
+between script old start session reader left refused pen now failed h goes empty = record {
+  given = h.given;
+  all = h.all;
+  reads = h.reads;
+  answered = h.answered;
+  session_is = h.session_is;
+  refused_is = h.refused_is;
+  writes = h.writes;
+  goes = goes;
+  empty = empty;
+}
+
+-- the sink failed
+pub at_stop : (script : List ℕ) (old : Opened) (start : Option (List ℕ)) (session : Opened) (reader : Reading) (left : Option (List ℕ)) (refused : Bool) (pen : Inked) (now : Option (List ℕ)) (failed : Bool)
+    → IsBehind script old start session reader left refused pen now failed → pen.stopped ≡ true → IsFrontOf script (λ lines. HasFailed lines old session start now pen.written) × (failed ≡ true)
+at_stop script old start session reader left refused pen now failed h stops =
+    let front = front_written pen start now h.all.told failed stops h.writes in
+    ((h.given, script_lines (h.reads.unread ++ h.reads.later), h.reads.lines_are, record { all = h.all; answered = h.answered; front = front.0; session_is = h.session_is }), front.1)
+
+-- all lines that were given are answered
+pub so_far : (script : List ℕ) (old : Opened) (start : Option (List ℕ)) (session : Opened) (reader : Reading) (left : Option (List ℕ)) (refused : Bool) (pen : Inked) (now : Option (List ℕ)) (failed : Bool)
+    → (h : IsBetween script old start session reader left refused pen now failed) → HasRun h.given old session start now refused
+so_far script old start session reader left refused pen now failed h = record {
+  all = h.all;
+  answered = h.answered;
+  written = all_written pen start now h.all.told failed h.goes h.empty h.writes;
+  refused_is = h.refused_is;
+  session_is = h.session_is;
+}
+
+-- nothing more was done, so all lines that were given are still answered
+pub so_still : (script : List ℕ) (old : Opened) (start : Option (List ℕ)) (session new : Opened) (reader : Reading) (left : Option (List ℕ)) (refused : Bool) (p q : Inked) (now now' : Option (List ℕ)) (failed failed' : Bool)
+    → (h : IsBetween script old start session reader left refused p now failed) → IsAsBefore session new p now failed q now' failed' → HasRun h.given old new start now' refused
+so_still script old start session new reader left refused p q now now' failed failed' h same =
+    subst (λ s. HasRun h.given old s start now' refused) (sym same.session_same)
+    (subst (λ n. HasRun h.given old session start n refused) (sym same.contents_same) (so_far script old start session reader left refused p now failed h))
+
+pub match_some : {X : Type 0} (o : Option X) (P : X → Type 0) → ((x : X) → o ≡ Some x → P x) → MatchOption o (Unit {0}) P
+match_some None P h = tt
+match_some (Some x) P h = h x refl
+
+-- a pen that holds nothing back has counted all that was written
+counted_all : (p : Inked) (start now : Option (List ℕ)) (text : List ℕ) (failed : Bool) → p.stopped ≡ false → p.pending ≡ [] → Writes start text p now failed → p.written ≡ counted (length text)
+counted_all p start now text failed e empty w = on (p.stopped) e w
+  where
+    on : (s : Bool) → s ≡ false → Writes start text (record p { stopped = s }) now failed → p.written ≡ counted (length text)
+    on true e w = absurd (cc)
+    on false e w = w.written_is ∙ ap (λ t. counted (length t)) (sym (w.text_is ∙ ap (λ l. w.front ++ l) empty ∙ append-nil w.front))
+
+-- a fault that is not the sink's
+pub at_fault : (script : List ℕ) (old : Opened) (start : Option (List ℕ)) (session new : Opened) (reader : Reading) (left : Option (List ℕ)) (refused : Bool) (p q : Inked) (now now' : Option (List ℕ)) (failed failed' : Bool)
+    (written : ℕ) → (h : IsBetween script old start session reader left refused p now failed) → IsAsBefore session new p now failed q now' failed' → written ≡ q.written → HasStopped h.given old new start now' written
+at_fault script old start session new reader left refused p q now now' failed failed' written h same is = record {
+  refused = refused;
+  run = record {
+    all = h.all;
+    answered = h.answered;
+    refused_is = h.refused_is;
+    written = subst (λ n. Appends start n h.all.told) (sym same.contents_same) (all_written p start now h.all.told failed h.goes h.empty h.writes);
+    session_is = same.session_same ∙ h.session_is;
+  };
+  written_is = is ∙ ap (λ (p : Inked). p.written) same.pen_same ∙ counted_all p start now h.all.told failed h.goes h.empty h.writes;
+}

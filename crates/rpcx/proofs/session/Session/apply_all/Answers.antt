@@ -1,0 +1,31 @@
+use Rattle.std.proofs.Common.{◌+◌, [], drop, get_or, ap, subst, ◌∙◌}
+use Rattle.x_text.specs.declared.edit.Edit.{Edit}
+use Rattle.rpcx.proofs.EditLists.{HasTaken, taken_more, stops_at, refuses_by}
+use Rattle.rpcx.proofs.Listing.{drop_one}
+use Rattle.rpcx.proofs.session.Session.apply_all.Goals as goal
+
+-- what stands where there is no edit
+abbrev none : Edit
+none = record { start = 0; end = 0; insert = record { ref_ptr = (0, 0); now = [] } }
+
+pub loop-index-preserved : goal.loop-index-preserved
+loop-index-preserved c =
+    let text = c.args.self.now.text in
+    let edits = c.args.edits.now in
+    let index = c.loop-index.index in
+    let now = c.loop-index.self.text in
+    let taken = subst (λ es. HasTaken text edits es now index) (drop_one edits index none c.loop-index-test.true) c.loop-index.invariant.0 in (
+      taken_more text edits (drop (index + 1) edits) (get_or edits index none) now c.apply.new.self.text index taken c.in-Ok.ensures.fits.0 c.in-Ok.ensures.fits.1 (ap (λ s. s.text) c.in-Ok.ensures.text),
+      ap (λ s. s.base) c.in-Ok.ensures.text ∙ c.loop-index.invariant.1,
+    )
+
+pub returns-in-Err-clause-stops : goal.returns-in-Err-clause-stops
+returns-in-Err-clause-stops c =
+    let text = c.args.self.now.text in
+    let edits = c.args.edits.now in
+    let index = c.loop-index.index in
+    let now = c.loop-index.self.text in
+    let edit = get_or edits index none in
+    let taken = subst (λ es. HasTaken text edits es now index) (drop_one edits index none c.loop-index-test.true) c.loop-index.invariant.0 in
+    stops_at text edits (drop (index + 1) edits) edit now c.apply.new.self.text index c.in-Err.fault taken (ap (λ s. s.text) c.in-Err.ensures.same)
+    (refuses_by now edit c.in-Err.fault c.in-Err.ensures.bad_range c.in-Err.ensures.too_large)

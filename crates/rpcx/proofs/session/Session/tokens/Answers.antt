@@ -1,0 +1,14 @@
+use Rattle.std.proofs.Common.{◌≡◌, map, sym, subst, ◌∙◌}
+use Rattle.x_lex.specs.Places.{lexemes}
+use Rattle.rpcx.specs.Kept.{view_item}
+use Rattle.rpcx.specs.Session.{Compiles}
+use Rattle.rpcx.specs.Compile.{parts, tokens_of}
+use Rattle.rpcx.proofs.Compiled.{tokens_are}
+use Rattle.rpcx.proofs.session.Session.tokens.Goals as goal
+
+pub returns : goal.returns
+returns c =
+    let items = parts (lexemes c.self.inside.source c.self.inside.tokens) (map view_item c.self.inside.items.items) in
+    let all = tokens_are c.self.inside.source c.self.inside.tokens items c.self.invariant.compiles in
+    let found = c.iter.ensures.tokens ∙ sym all in
+    subst (λ v. Compiles v.text (λ is. c.iter.result ≡ tokens_of is)) c.self.view_is (c.self.inside.tokens, items, c.self.invariant.compiles, found)

@@ -1,0 +1,72 @@
+-- What a script of edits and questions is answered, over a text and its items.
+use Rattle.std.specs.Prelude.{ℕ, Bool, true, false, ◌&&◌, nat_le, List, ◌++◌, length, codes, if◌then◌else◌}
+use Rattle.std.specs.List.{flat_map}
+use Rattle.std.specs.Fmt.{decimal}
+use Rattle.x_text.specs.Edits.{edited}
+use Rattle.x_text.specs.declared.source.TheConstants.{MAX_TEXT}
+use Rattle.x_lex.specs.Places.{Lexeme}
+use Rattle.x_lex.specs.Names.{kind_name}
+use Rattle.rpcx.specs.declared.fault.Fault.{Fault}
+use Rattle.rpcx.specs.Faults.{fault_text}
+use Rattle.rpcx.specs.declared.lines.TheConstants.{LONGEST}
+use Rattle.rpcx.specs.Commands.{Asked, ToEdit, ForTokens, ForFaults, ForHeader, Nothing, command_of}
+use Rattle.rpcx.specs.Compile.{Item, tokens_of, faults_of}
+use Rattle.rpcx.specs.Header.{header}
+
+-- what a line is answered, whether that refuses it, and the text that it leaves
+pub record Answer : Type 0 where
+  pub told : List ℕ
+  pub refused : Bool
+  pub text : List ℕ
+
+-- a name and how many there are
+abbrev pub counted_by : List ℕ → List ℕ → List ℕ
+counted_by name count = name ++ codes " " ++ count ++ codes "\n"
+
+abbrev pub counted_line : List ℕ → ℕ → List ℕ
+counted_line name count = counted_by name (decimal count)
+
+-- `START END KIND`
+abbrev pub token_line : Lexeme → List ℕ
+token_line t = decimal t.start ++ codes " " ++ decimal t.end ++ codes " " ++ kind_name t.kind ++ codes "\n"
+
+-- `LINE:COL CODE NAME`
+abbrev pub fault_line : Fault → List ℕ
+fault_line f = decimal f.line ++ codes ":" ++ decimal f.col ++ codes " " ++ fault_text f.code ++ codes "\n"
+
+abbrev pub tokens_answer : List Lexeme → List ℕ
+tokens_answer ts = counted_line (codes "tokens") (length ts) ++ flat_map token_line ts
+
+abbrev pub faults_answer : List Fault → List ℕ
+faults_answer fs = counted_line (codes "faults") (length fs) ++ flat_map fault_line fs
+
+abbrev pub text_answer : List ℕ → List ℕ
+text_answer text = counted_line (codes "text") (length text) ++ text
+
+-- an answer that leaves the text
+abbrev pub answered : List ℕ → List ℕ → Answer
+answered text told = record { told = told; refused = false; text = text }
+
+abbrev pub refused : List ℕ → List ℕ → Answer
+refused text told = record { told = told; refused = true; text = text }
+
+-- what an edit is answered; its range is tested first
+abbrev pub edit_answer : List ℕ → ℕ → ℕ → List ℕ → Answer
+edit_answer text start end insert =
+    if nat_le start end && nat_le end (length text)
+    then (if nat_le (length (edited text start end insert)) MAX_TEXT
+    then answered (edited text start end insert) (counted_line (codes "ok") (length (edited text start end insert)))
+    else refused text (codes "refused 2 TooLarge\n"))
+    else refused text (codes "refused 1 BadRange\n")
+
+abbrev pub answer : List ℕ → List ℕ → List Item → Asked → Answer
+answer base text items (ToEdit start end insert) = edit_answer text start end insert
+answer base text items ForTokens = answered text (tokens_answer (tokens_of items))
+answer base text items ForFaults = answered text (faults_answer (faults_of text items))
+answer base text items ForHeader = answered text (text_answer (header base items))
+answer base text items Nothing = refused text (codes "refused 43 BadLine\n")
+
+-- what a line is answered, over a text that has these items
+abbrev pub line_answer : List ℕ → List ℕ → List Item → List ℕ → Answer
+line_answer base text items line =
+    if nat_le (length line) LONGEST then answer base text items (command_of line) else refused text (codes "refused 44 LongLine\n")

@@ -1,0 +1,89 @@
+-- What a script does with a text.
+use Rattle.std.specs.Prelude.{◌≡◌, ℕ, Bool, true, false, ◌||◌, List, [], ◌∷◌, ◌++◌, length, Option, Some, None, Result, Ok, Err}
+use Rattle.x_text.specs.Writing.{Inked, Adds}
+use Rattle.rpcx.specs.Session.{Opened, Compiles}
+use Rattle.rpcx.specs.Answers.{Answer, line_answer}
+use Rattle.rpcx.specs.declared.lines.LineFault.{LineFault}
+use Rattle.rpcx.specs.declared.script.Outcome.{Outcome}
+use Rattle.rpcx.specs.declared.script.Outcome.TheVariants.{Clean, Refused}
+use Rattle.rpcx.specs.declared.script.EngineFault.{EngineFault}
+use Rattle.rpcx.specs.declared.script.EngineFault.TheVariants.{Read, Write, NoMemory}
+use Rattle.rpcx.specs.Lines.{Reading, IsUnread, script_lines}
+use Rattle.x_text.specs.Writing.{HasFront, counted}
+use Rattle.std.specs.Io.KnownBytes.{Appends}
+
+-- one answer behind another
+abbrev pub then_answer : Answer → Answer → Answer
+then_answer first rest = record { told = first.told ++ rest.told; refused = first.refused || rest.refused; text = rest.text }
+
+-- the lines, one after another, get these answers in all, and leave this text
+abbrev pub AreAnswered : List ℕ → List ℕ → List (List ℕ) → Answer → Type 0
+AreAnswered base text [] all = all ≡ record { told = []; refused = false; text = text }
+AreAnswered base text (line ∷ lines) all = Compiles text (λ items. (rest : Answer)
+    × AreAnswered base (line_answer base text items line).text lines rest × (all ≡ then_answer (line_answer base text items line) rest))
+
+-- an answer was given: it was added to what is written, and the session has the text that it leaves
+pub record IsGiven (a : Answer) (old new : Opened) (refused : Bool) (p : Inked) (now : Option (List ℕ)) (failed : Bool) (q : Inked) (now' : Option (List ℕ)) (failed' : Bool) : Type 0 where
+  pub added : Adds p now failed q now' failed' a.told
+  pub refused_is : refused ≡ a.refused
+  pub session_is : new ≡ record old { text = a.text }
+
+-- Of the script, which the tap told at first, the reader has given these lines; what is left stands unread in the reader and in the tap.
+pub record HasGiven (script : List ℕ) (reader : Reading) (left : Option (List ℕ)) (given : List (List ℕ)) : Type 0 where
+  pub unread : List ℕ
+  pub later : List ℕ
+  pub left_is : left ≡ Some later
+  pub unread_is : IsUnread reader left unread
+  pub lines_are : script_lines script ≡ given ++ script_lines (unread ++ later)
+
+-- nothing was done
+pub record IsAsBefore (old new : Opened) (p : Inked) (now : Option (List ℕ)) (failed : Bool) (q : Inked) (now' : Option (List ℕ)) (failed' : Bool) : Type 0 where
+  pub session_same : new ≡ old
+  pub pen_same : q ≡ p
+  pub contents_same : now' ≡ now
+  pub failed_same : failed' ≡ failed
+
+-- A script goes on behind the lines that were given: the next one is answered, or there is none, or nothing is done.
+abbrev pub GoesOn : (old new : Opened) (script : List ℕ) (reader : Reading) (left : Option (List ℕ)) (given : List (List ℕ)) → Result (Option Bool) LineFault
+    → (p : Inked) (now : Option (List ℕ)) (failed : Bool) (q : Inked) (now' : Option (List ℕ)) (failed' : Bool) → Type 0
+GoesOn old new script reader left given (Ok (Some refused)) p now failed q now' failed' =
+    (line : List ℕ) × HasGiven script reader left (given ++ line ∷ []) × Compiles old.text (λ items. IsGiven (line_answer old.base old.text items line) old new refused p now failed q now' failed')
+GoesOn old new script reader left given (Ok None) p now failed q now' failed' = (script_lines script ≡ given) × IsAsBefore old new p now failed q now' failed'
+GoesOn old new script reader left given (Err fault) p now failed q now' failed' =
+    ((rest : List (List ℕ)) × (script_lines script ≡ given ++ rest)) × IsAsBefore old new p now failed q now' failed'
+
+-- this holds of some of the script's lines, from the first on
+abbrev pub IsFrontOf : List ℕ → (List (List ℕ) → Type 0) → Type 0
+IsFrontOf script P = (lines : List (List ℕ)) × (rest : List (List ℕ)) × (script_lines script ≡ lines ++ rest) × P lines
+
+-- These lines are answered: the sink, which held `before`, has their answers, and the session has the text that they leave.
+pub record HasRun (lines : List (List ℕ)) (old new : Opened) (before after : Option (List ℕ)) (refused : Bool) : Type 0 where
+  pub all : Answer
+  pub answered : AreAnswered old.base old.text lines all
+  pub written : Appends before after all.told
+  pub refused_is : refused ≡ all.refused
+  pub session_is : new ≡ record old { text = all.text }
+
+-- These lines are answered, and so many bytes were written.
+pub record HasStopped (lines : List (List ℕ)) (old new : Opened) (before after : Option (List ℕ)) (written : ℕ) : Type 0 where
+  pub refused : Bool
+  pub run : HasRun lines old new before after refused
+  pub written_is : written ≡ counted (length run.all.told)
+
+-- Lines are answered, the session has the text that they leave, and the sink failed within their answers.
+pub record HasFailed (lines : List (List ℕ)) (old new : Opened) (before after : Option (List ℕ)) (written : ℕ) : Type 0 where
+  pub all : Answer
+  pub answered : AreAnswered old.base old.text lines all
+  pub front : HasFront before after all.told written
+  pub session_is : new ≡ record old { text = all.text }
+
+abbrev pub is_refused : Outcome → Bool
+is_refused Clean = false
+is_refused Refused = true
+
+-- What a run of a script does. A fault of the reader or of memory comes behind the answers of whole lines, and one of the sink within them.
+abbrev pub Runs : (script : List ℕ) (old new : Opened) (before after : Option (List ℕ)) (failed : Bool) → Result Outcome EngineFault → Type 0
+Runs script old new before after failed (Ok outcome) = HasRun (script_lines script) old new before after (is_refused outcome)
+Runs script old new before after failed (Err (Read written)) = IsFrontOf script (λ lines. HasStopped lines old new before after written)
+Runs script old new before after failed (Err (NoMemory written)) = IsFrontOf script (λ lines. HasStopped lines old new before after written)
+Runs script old new before after failed (Err (Write written)) = IsFrontOf script (λ lines. HasFailed lines old new before after written) × (failed ≡ true)

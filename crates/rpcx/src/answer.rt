@@ -1,0 +1,87 @@
+//! What a script is answered.
+
+ghost use Rattle.std.specs.Prelude.{◌≡◌};
+ghost use Rattle.x_text.specs.Writing.{Adds};
+ghost use Rattle.x_lex.specs.Places.{lexeme};
+ghost use Rattle.rpcx.specs.Session.{Compiles};
+ghost use Rattle.rpcx.specs.Compile.{tokens_of, faults_of};
+ghost use Rattle.rpcx.specs.Header.{header};
+ghost use Rattle.rpcx.specs.Answers.{counted_by, token_line, fault_line, tokens_answer, faults_answer, text_answer};
+
+use crate::{Fault, Session, Which};
+use itoa::{Buffer, Integer};
+use x_lex::Token;
+use x_text::{Pen, Sink};
+
+/// Adds a number in decimal.
+fn add_number<I: Integer, S: Sink>(number: I, pen: &mut Pen, sink: &mut S)
+    ensures { Adds pen.old (S.contents sink.old) (S.has_failed sink.old) pen.new (S.contents sink.new) (S.has_failed sink.new) (I.text number) }
+{
+    let mut buffer = Buffer::new();
+    pen.add(buffer.format(number).as_bytes(), sink);
+}
+
+/// Adds how many things of a name there are.
+#[tactic(auto, using(crate::proofs::Adding::four))]
+pub(crate) fn add_counted<I: Integer, S: Sink>(name: &str, count: I, pen: &mut Pen, sink: &mut S)
+    ensures { Adds pen.old (S.contents sink.old) (S.has_failed sink.old) pen.new (S.contents sink.new) (S.has_failed sink.new) (counted_by name.now (I.text count)) }
+{
+    pen.add(name.as_bytes(), sink);
+    pen.add(b" ", sink);
+    add_number(count, pen, sink);
+    pen.add(b"\n", sink);
+}
+
+/// Adds the line of a token.
+#[tactic(auto, using(crate::proofs::Adding::six))]
+fn add_token<S: Sink>(token: &Token, pen: &mut Pen, sink: &mut S)
+    ensures { Adds pen.old (S.contents sink.old) (S.has_failed sink.old) pen.new (S.contents sink.new) (S.has_failed sink.new) (token_line (lexeme token.now)) }
+{
+    add_number(token.start, pen, sink);
+    pen.add(b" ", sink);
+    add_number(token.end, pen, sink);
+    pen.add(b" ", sink);
+    pen.add(token.kind.name().as_bytes(), sink);
+    pen.add(b"\n", sink);
+}
+
+/// Adds the line of a fault.
+#[tactic(auto, using(crate::proofs::Adding::six))]
+fn add_fault<S: Sink>(fault: &Fault, pen: &mut Pen, sink: &mut S)
+    ensures { Adds pen.old (S.contents sink.old) (S.has_failed sink.old) pen.new (S.contents sink.new) (S.has_failed sink.new) (fault_line fault.now) }
+{
+    add_number(fault.line as usize, pen, sink);
+    pen.add(b":", sink);
+    add_number(fault.col as usize, pen, sink);
+    pen.add(b" ", sink);
+    pen.add(fault.code.text().as_bytes(), sink);
+    pen.add(b"\n", sink);
+}
+
+/// Adds the tokens of a text.
+pub(crate) fn add_tokens<S: Sink>(session: &Session, pen: &mut Pen, sink: &mut S)
+    ensures { Compiles session.now.text (λ items. Adds pen.old (S.contents sink.old) (S.has_failed sink.old) pen.new (S.contents sink.new) (S.has_failed sink.new) (tokens_answer (tokens_of items))) }
+{
+    add_counted("tokens", session.token_count(), pen, sink);
+    for token in session.tokens() {
+        add_token(&token, pen, sink);
+    }
+}
+
+/// Adds the faults of a text.
+pub(crate) fn add_faults<S: Sink>(session: &Session, pen: &mut Pen, sink: &mut S)
+    ensures { Compiles session.now.text (λ items. Adds pen.old (S.contents sink.old) (S.has_failed sink.old) pen.new (S.contents sink.new) (S.has_failed sink.new) (faults_answer (faults_of session.now.text items))) }
+{
+    add_counted("faults", session.fault_count(), pen, sink);
+    for fault in session.faults() {
+        add_fault(fault, pen, sink);
+    }
+}
+
+/// Adds a generated text.
+pub(crate) fn add_text<S: Sink>(which: Which, session: &Session, pen: &mut Pen, sink: &mut S)
+    ensures { Compiles session.now.text (λ items. Adds pen.old (S.contents sink.old) (S.has_failed sink.old) pen.new (S.contents sink.new) (S.has_failed sink.new) (text_answer (header session.now.base items))) }
+{
+    add_counted("text", session.text_length(which), pen, sink);
+    session.add_text(which, pen, sink);
+}

@@ -1,0 +1,93 @@
+//! What `rpcedit` does: its command line, and its run over a text that was read, a tap and sinks.
+
+ghost use Rattle.std.specs.Prelude.{◌≡◌, ◌⊎◌, ◌<◌, IfOk, codes, length, map};
+ghost use Rattle.clap.specs.Words.{FailsBy, app_of, fault_of, matches_of};
+ghost use Rattle.x_text.specs.declared.source.TheConstants.{MAX_TEXT};
+ghost use Rattle.rpcx.specs.Args.{AlwaysHas, IsEditArgs, edit_app};
+
+use crate::generate::base;
+use crate::{EngineFault, Outcome, Session, complain, run_script, tell_of_file};
+use clap::{Arg, ArgAction, Command, Error};
+use std::alloc::{AllocError, Global};
+use std::convert::AsStr;
+use x_text::{Sink, Tap, TextFault};
+
+/// What a command line of `rpcedit` asks for.
+#[derive(Clone, Copy, Debug, PartialEq, Eq)]
+pub struct EditArgs<'a> {
+    /// FILE: the text that is edited.
+    pub file: &'a str,
+}
+
+/// Reads a command line of `rpcedit`; the first of `words` is the program's name.
+///
+/// # Errors
+/// The words are no command line of `rpcedit`, or memory ran out.
+pub fn edit_args<'a, S: AsStr>(alloc: Global, words: &'a [S]) -> Result<EditArgs<'a>, Error>
+    ensures reads { IfOk result (IsEditArgs (matches_of edit_app (map S.text words.entry.now))) }
+    ensures refuses { FailsBy (fault_of edit_app (map S.text words.entry.now)) result }
+{
+    let matches = edit_command(alloc)?.try_get_matches_from(words)?;
+    Ok(EditArgs {
+        file: matches.get_str("file").unwrap(),
+    })
+}
+
+// The one value of `rpcedit`.
+fn edit_command<'a>(alloc: Global) -> Result<Command<'a>, AllocError>
+    ensures app { IfOk result (λ c. app_of c ≡ edit_app) }
+    ensures file { IfOk result (AlwaysHas (codes "file")) }
+{
+    let file = Arg::new(alloc, "file")
+        .required(true)
+        .action(ArgAction::Set);
+    Command::new(alloc, "rpcedit")
+        .disable_help_flag(true)
+        .arg(file)
+}
+
+/// Opens the text of a file, carries out the script of the input, and answers the status: 0 where each line was carried out, 1
+/// where one was refused, and 2 where the run could not be carried out, which it tells.
+pub fn edit_run<I: Tap, O: Sink, E: Sink>(
+    alloc: Global,
+    args: &EditArgs,
+    bytes: &[u8],
+    input: &mut I,
+    out: &mut O,
+    err: &mut E,
+) -> u8
+    ensures status { (result ≡ 0) ⊎ (result ≡ 1) ⊎ (result ≡ 2) }
+    ensures too_large { MAX_TEXT < length bytes.now → result ≡ 2 }
+{
+    let mut session = match Session::open(alloc, base(args.file), bytes) {
+        Ok(session) => session,
+        Err(TextFault::TooLarge) => {
+            tell_of_file("rpcedit", args.file, ": 2 TooLarge\n", err);
+            return 2;
+        }
+        Err(_) => {
+            complain("rpcedit: out of memory\n", err);
+            return 2;
+        }
+    };
+    match run_script(alloc, &mut session, input, out) {
+        Ok(Outcome::Clean) => 0,
+        Ok(Outcome::Refused) => 1,
+        Err(fault) => {
+            tell_fault(fault, err);
+            2
+        }
+    }
+}
+
+/// Writes why a script stopped.
+fn tell_fault<E: Sink>(fault: EngineFault, err: &mut E) {
+    match fault {
+        EngineFault::Read { .. } => complain("rpcedit: -: cannot be read\n", err),
+        EngineFault::Write { .. } => complain("rpcedit: output cannot be written\n", err),
+        EngineFault::NoMemory { .. } => complain("rpcedit: out of memory\n", err),
+    }
+}
+
+#[cfg(test)]
+mod tests;
