@@ -108,23 +108,6 @@ given_all (Some script) (Some later) None lines unread come given took are end =
 given_all (Some script) (Some later) (Some later') lines unread come given took are end =
     given ∙ ap (λ l. lines ++ script_lines l) (ap (λ l. unread ++ l) took ∙ sym (append_assoc unread come later')) ∙ ap (λ l. lines ++ l) (given_end (unread ++ come) later' are end) ∙ append-nil lines
 
--- These lines were given of what was read, and whatever comes next, those that line feeds end are told by what is unread.
-abbrev pub IsGivenOf : List ℕ → List (List ℕ) → List ℕ → Type 0
-IsGivenOf read lines unread = (later : List ℕ) → whole_lines (read ++ later) ≡ lines ++ whole_lines (unread ++ later)
-
-pub given_of_start : IsGivenOf [] [] []
-given_of_start later = refl
-
-pub given_of_more : (read unread come line rest : List ℕ) (lines : List (List ℕ)) (state : State) (left : Option (List ℕ))
-    → IsGivenOf read lines unread → IsNextLine (unread ++ come) line rest state left → (state ≡ Ended → ⊥) → IsGivenOf (read ++ come) (lines ++ line ∷ []) rest
-given_of_more read unread come line rest lines state left given next goes later =
-    ap whole_lines (append_assoc read come later) ∙ given (come ++ later) ∙ ap (λ l. lines ++ whole_lines l) (sym (append_assoc unread come later))
-    ∙ ap (λ l. lines ++ l) (given_whole_line (unread ++ come) line rest later state left next goes) ∙ sym (append_assoc lines (line ∷ []) (whole_lines (rest ++ later)))
-
--- after a failed call the lines given are all that line feeds end in what was read
-pub given_of_all : (read unread come rest : List ℕ) (lines : List (List ℕ)) → IsGivenOf read lines unread → HasNoLine (unread ++ come) rest → whole_lines (read ++ come) ≡ lines
-given_of_all read unread come rest lines given none = given come ∙ ap (λ l. lines ++ l) (given_none (unread ++ come) rest none) ∙ append-nil lines
-
 -- any line that was found, also one that is too long, is one line more
 pub found_more : (start left left' : Option (List ℕ)) (lines : List (List ℕ)) (unread : List ℕ) (new : Reading) (found : Found) → IsGiven start lines unread left
     → (on : ReadsOn unread new left left' (Ok found)) → (found ≡ End → ⊥) → (line : List ℕ) × IsGiven start (lines ++ line ∷ []) on.rest left'

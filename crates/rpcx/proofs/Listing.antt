@@ -6,7 +6,7 @@ use Rattle.x_text.proofs.Pens.{adds_trans}
 
 -- nothing was added
 pub adds_none : (p : Inked) (now : Option (List ℕ)) (failed : Bool) → Adds p now failed p now failed []
-adds_none p now failed start text w = subst (λ t. Writes start t p now failed) (sym (append-nil text)) w
+adds_none p now failed = record { no_fewer = omega arith; goes_on = λ start text w. subst (λ t. Writes start t p now failed) (sym (append-nil text)) w }
 
 flat_map_more : {X : Type 0} (f : X → List ℕ) (xs : List X) (x : X) → flat_map f (xs ++ x ∷ []) ≡ flat_map f xs ++ f x
 flat_map_more f [] x = append-nil (f x)

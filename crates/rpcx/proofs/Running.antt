@@ -1,5 +1,5 @@
 -- How a run of a script goes on.
-use Rattle.std.proofs.Common.{◌≡◌, ℕ, Bool, true, false, ◌||◌, List, [], ◌∷◌, ◌++◌, length, Option, Some, None, refl, sym, ap, subst, ◌∙◌, append-nil}
+use Rattle.std.proofs.Common.{◌≡◌, ◌≤◌, ℕ, arith, Bool, true, false, ◌||◌, List, [], ◌∷◌, ◌++◌, length, Option, Some, None, Ok, refl, sym, ap, subst, ◌∙◌, append-nil}
 use Rattle.std.specs.Prelude.{MatchOption}
 use Rattle.std.specs.Io.KnownBytes.{Appends}
 use Rattle.x_text.specs.Writing.{Inked, Writes, Adds, counted}
@@ -7,9 +7,11 @@ use Rattle.x_text.proofs.Pens.{writes_none, all_written, front_written}
 use Rattle.rpcx.specs.Session.{Opened, Compiles}
 use Rattle.rpcx.specs.Answers.{Answer, line_answer}
 use Rattle.rpcx.specs.Lines.{Reading, IsUnread, script_lines}
-use Rattle.rpcx.specs.Compile.{IsCompilation}
+use Rattle.x_lex.specs.declared.kind.Kind.{Kind}
+use Rattle.rpcx.specs.Compile.{Item, IsCompilation}
 use Rattle.rpcx.specs.declared.lines.State.TheVariants.{Between}
-use Rattle.rpcx.specs.Script.{then_answer, AreAnswered, IsGiven, HasGiven, IsAsBefore, HasRun, HasStopped, HasFailed, IsFrontOf}
+use Rattle.rpcx.specs.Script.{then_answer, AreAnswered, IsGiven, HasGiven, IsAsBefore, HasRun, HasStopped, HasFailed, IsFrontOf, Runs, Answers, is_refused, status_of}
+use Rattle.rpcx.specs.declared.script.Outcome.{Outcome}
 use Rattle.rpcx.proofs.Scripts.{answered_more}
 
 -- between two lines: the lines that were given are answered, and their answers are written
@@ -30,7 +32,16 @@ pub at_start : (script : List ℕ) (old : Opened) (start : Option (List ℕ)) (r
 at_start script old start reader left pen failed left_is reader_is pen_is = record {
   given = [];
   all = record { told = []; refused = false; text = old.text };
-  reads = record { unread = []; later = script; left_is = left_is; unread_is = subst (λ r. IsUnread r left []) (sym reader_is) refl; lines_are = refl };
+  reads = record {
+    read = [];
+    unread = [];
+    later = script;
+    left_is = left_is;
+    script_is = refl;
+    unread_is = subst (λ r. IsUnread r left []) (sym reader_is) refl;
+    lines_are = refl;
+    whole_are = λ goes next. refl;
+  };
   answered = refl;
   session_is = refl;
   refused_is = refl;
@@ -39,15 +50,31 @@ at_start script old start reader left pen failed left_is reader_is pen_is = reco
   empty = ap (λ (p : Inked). p.pending) pen_is;
 }
 
--- a line is answered, and its answer is passed on, or the sink has failed
+-- a line is answered behind the others, and its answer is passed on, or the sink has failed
 pub record IsBehind (script : List ℕ) (old : Opened) (start : Option (List ℕ)) (session : Opened) (reader : Reading) (left : Option (List ℕ)) (refused : Bool) (pen : Inked) (now : Option (List ℕ)) (failed : Bool) : Type 0 where
-  pub given : List (List ℕ)
+  pub earlier : List (List ℕ)
+  pub last : List ℕ
   pub all : Answer
-  pub reads : HasGiven script reader left given
-  pub answered : AreAnswered old.base old.text given all
-  pub session_is : session ≡ record old { text = all.text }
-  pub refused_is : refused ≡ all.refused
-  pub writes : Writes start all.told pen now failed
+  pub tokens : List (Kind × ℕ)
+  pub items : List Item
+  pub reads : HasGiven script reader left (earlier ++ last ∷ [])
+  pub answered : AreAnswered old.base old.text earlier all
+  pub compiled : IsCompilation all.text tokens items
+  pub session_is : session ≡ record old { text = (line_answer old.base all.text items last).text }
+  pub refused_is : refused ≡ (all.refused || (line_answer old.base all.text items last).refused)
+  pub writes : Writes start (all.told ++ (line_answer old.base all.text items last).told) pen now failed
+  pub whole : counted (length all.told) ≤ pen.written
+
+-- a pen that holds nothing back has counted all that was written
+counted_all : (p : Inked) (start now : Option (List ℕ)) (text : List ℕ) (failed : Bool) → p.stopped ≡ false → p.pending ≡ [] → Writes start text p now failed → p.written ≡ counted (length text)
+counted_all p start now text failed e empty w = on (p.stopped) e w
+  where
+    on : (s : Bool) → s ≡ false → Writes start text (record p { stopped = s }) now failed → p.written ≡ counted (length text)
+    on true e w = absurd (cc)
+    on false e w = w.written_is ∙ ap (λ t. counted (length t)) (sym (w.text_is ∙ ap (λ l. w.front ++ l) empty ∙ append-nil w.front))
+
+no_fewer_then : (a b c d : ℕ) → b ≡ a → b ≤ c → c ≤ d → a ≤ d
+no_fewer_then a b c d is first second = omega (arith, is, first, second)
 
 pub behind : (script : List ℕ) (old : Opened) (start : Option (List ℕ)) (session new : Opened) (reader reader' : Reading) (left left' : Option (List ℕ)) (refused refuses : Bool)
     (p q r : Inked) (now now' now'' : Option (List ℕ)) (failed failed' failed'' : Bool) → (h : IsBetween script old start session reader left refused p now failed)
@@ -62,25 +89,29 @@ behind script old start session new reader reader' left left' refused refuses p 
     let a = line_answer old.base h.all.text items line in
     let same : line_answer session.base session.text items line ≡ a = λ i. line_answer (base_is i) (text_is i) items line in
     let given : IsGiven a session new refuses p now failed q now' failed' = subst (λ b. IsGiven b session new refuses p now failed q now' failed') same k.2.3 in
-    let compiled = subst (λ t. IsCompilation t k.2.0 items) text_is k.2.2 in
-    let told = flushed start (h.all.told ++ a.told) (given.added start h.all.told h.writes) in
+    let told = flushed.goes_on start (h.all.told ++ a.told) (given.added.goes_on start h.all.told h.writes) in
     record {
-      given = h.given ++ line ∷ [];
-      all = then_answer h.all a;
+      earlier = h.given;
+      last = line;
+      all = h.all;
+      tokens = k.2.0;
+      items = items;
       reads = k.1;
-      answered = answered_more old.base old.text h.given line h.all h.answered k.2.0 items compiled;
+      answered = h.answered;
+      compiled = subst (λ t. IsCompilation t k.2.0 items) text_is k.2.2;
       session_is = given.session_is ∙ (λ i. record (h.session_is i) { text = a.text });
       refused_is = λ i. h.refused_is i || given.refused_is i;
       writes = subst (λ t. Writes start t r now'' failed'') (append-nil (h.all.told ++ a.told)) told;
+      whole = no_fewer_then (counted (length h.all.told)) p.written q.written r.written (counted_all p start now h.all.told failed h.goes h.empty h.writes) given.added.no_fewer flushed.no_fewer;
     }
 
 pub between : (script : List ℕ) (old : Opened) (start : Option (List ℕ)) (session : Opened) (reader : Reading) (left : Option (List ℕ)) (refused : Bool) (pen : Inked) (now : Option (List ℕ)) (failed : Bool)
     → IsBehind script old start session reader left refused pen now failed → pen.stopped ≡ false → pen.pending ≡ [] → IsBetween script old start session reader left refused pen now failed
 between script old start session reader left refused pen now failed h goes empty = record {
-  given = h.given;
-  all = h.all;
+  given = h.earlier ++ h.last ∷ [];
+  all = then_answer h.all (line_answer old.base h.all.text h.items h.last);
   reads = h.reads;
-  answered = h.answered;
+  answered = answered_more old.base old.text h.earlier h.last h.all h.answered h.tokens h.items h.compiled;
   session_is = h.session_is;
   refused_is = h.refused_is;
   writes = h.writes;
@@ -92,8 +123,17 @@ between script old start session reader left refused pen now failed h goes empty
 pub at_stop : (script : List ℕ) (old : Opened) (start : Option (List ℕ)) (session : Opened) (reader : Reading) (left : Option (List ℕ)) (refused : Bool) (pen : Inked) (now : Option (List ℕ)) (failed : Bool)
     → IsBehind script old start session reader left refused pen now failed → pen.stopped ≡ true → IsFrontOf script (λ lines. HasFailed lines old session start now pen.written) × (failed ≡ true)
 at_stop script old start session reader left refused pen now failed h stops =
-    let front = front_written pen start now h.all.told failed stops h.writes in
-    ((h.given, script_lines (h.reads.unread ++ h.reads.later), h.reads.lines_are, record { all = h.all; answered = h.answered; front = front.0; session_is = h.session_is }), front.1)
+    let last = line_answer old.base h.all.text h.items h.last in
+    let front = front_written pen start now (h.all.told ++ last.told) failed stops h.writes in
+    let fails : HasFailed (h.earlier ++ h.last ∷ []) old session start now pen.written = record {
+      earlier = h.earlier;
+      last = h.last;
+      lines_are = refl;
+      all = h.all;
+      answered = h.answered;
+      within = (h.tokens, h.items, h.compiled, record { front = front.0; whole = h.whole; session_is = h.session_is });
+    } in
+    ((h.earlier ++ h.last ∷ [], script_lines (h.reads.unread ++ h.reads.later), h.reads.lines_are, fails), front.1)
 
 -- all lines that were given are answered
 pub so_far : (script : List ℕ) (old : Opened) (start : Option (List ℕ)) (session : Opened) (reader : Reading) (left : Option (List ℕ)) (refused : Bool) (pen : Inked) (now : Option (List ℕ)) (failed : Bool)
@@ -117,14 +157,6 @@ pub match_some : {X : Type 0} (o : Option X) (P : X → Type 0) → ((x : X) →
 match_some None P h = tt
 match_some (Some x) P h = h x refl
 
--- a pen that holds nothing back has counted all that was written
-counted_all : (p : Inked) (start now : Option (List ℕ)) (text : List ℕ) (failed : Bool) → p.stopped ≡ false → p.pending ≡ [] → Writes start text p now failed → p.written ≡ counted (length text)
-counted_all p start now text failed e empty w = on (p.stopped) e w
-  where
-    on : (s : Bool) → s ≡ false → Writes start text (record p { stopped = s }) now failed → p.written ≡ counted (length text)
-    on true e w = absurd (cc)
-    on false e w = w.written_is ∙ ap (λ t. counted (length t)) (sym (w.text_is ∙ ap (λ l. w.front ++ l) empty ∙ append-nil w.front))
-
 -- a fault that is not the sink's
 pub at_fault : (script : List ℕ) (old : Opened) (start : Option (List ℕ)) (session new : Opened) (reader : Reading) (left : Option (List ℕ)) (refused : Bool) (p q : Inked) (now now' : Option (List ℕ)) (failed failed' : Bool)
     (written : ℕ) → (h : IsBetween script old start session reader left refused p now failed) → IsAsBefore session new p now failed q now' failed' → written ≡ q.written → HasStopped h.given old new start now' written
@@ -139,3 +171,16 @@ at_fault script old start session new reader left refused p q now now' failed fa
   };
   written_is = is ∙ ap (λ (p : Inked). p.written) same.pen_same ∙ counted_all p start now h.all.told failed h.goes h.empty h.writes;
 }
+
+one_status : (a b : Bool) → status_of a ≡ status_of b → a ≡ b
+one_status true true e = refl
+one_status true false e = absurd (omega (arith, e))
+one_status false true e = absurd (omega (arith, e))
+one_status false false e = refl
+
+-- a run without a fault answers its script
+pub answers_all : (tap : Option (List ℕ)) (left : Option (List ℕ)) (old new : Opened) (before after : Option (List ℕ)) (failed : Bool) (outcome : Outcome) (status : ℕ) → status ≡ status_of (is_refused outcome)
+    → MatchOption tap (Unit {0}) (λ script. Runs script left old new before after failed (Ok outcome)) → MatchOption tap (Unit {0}) (λ script. Answers script old.base old.text before after status)
+answers_all None left old new before after failed outcome status is run = tt
+answers_all (Some script) left old new before after failed outcome status is run =
+    λ refused e. (new, subst (λ r. HasRun (script_lines script) old new before after r) (one_status (is_refused outcome) refused (sym is ∙ e)) run)

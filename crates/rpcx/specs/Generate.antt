@@ -1,5 +1,5 @@
 -- What a run of `rpcgen` does.
-use Rattle.std.specs.Prelude.{ℕ, ◌-◌, ◌≤◌, ◌==◌, List, Option, length, take, drop, codes, if◌then◌else◌}
+use Rattle.std.specs.Prelude.{ℕ, Bool, MatchBool, ◌-◌, ◌≤◌, ◌==◌, List, Option, length, take, drop, codes, if◌then◌else◌}
 use Rattle.std.specs.List.{after_last}
 use Rattle.std.specs.Io.KnownBytes.{Appends}
 use Rattle.std.specs.Str.{bytes_eq}
@@ -15,3 +15,7 @@ base_of file = without_x (after_last (λ b. b == 47) file)
 -- what a sink holds grew by the text, or by a front of it
 abbrev pub Grows : Option (List ℕ) → Option (List ℕ) → List ℕ → Type 0
 Grows before after text = (count : ℕ) × (count ≤ length text) × Appends before after (take count text)
+
+-- a sink was told a text: it took all, or it has failed with a front
+abbrev pub IsTold : Option (List ℕ) → Option (List ℕ) → Bool → List ℕ → Type 0
+IsTold before after failed text = MatchBool failed (Grows before after text) (Appends before after text)

@@ -1,5 +1,5 @@
 -- The lines of a script, and what a reader of them has read and not given.
-use Rattle.std.specs.Prelude.{◌≡◌, ℕ, ◌+◌, ◌<◌, ◌≤◌, ◌⊎◌, Bool, true, false, nat_lt, ◌==◌, List, [], ◌∷◌, ◌++◌, length, take, drop, filter, Option, Result, Ok, Err, MatchResult, MatchBool}
+use Rattle.std.specs.Prelude.{◌≡◌, ℕ, ◌+◌, ◌<◌, ◌≤◌, ◌⊎◌, Bool, true, false, nat_lt, ◌==◌, List, [], ◌∷◌, ◌++◌, length, take, drop, filter, Option, Some, Result, Ok, Err, MatchResult, MatchBool}
 use Rattle.std.specs.List.{slice_split, All}
 use Rattle.rpcx.specs.declared.lines.LineFault.{LineFault}
 use Rattle.rpcx.specs.declared.lines.LineFault.TheVariants.{Read, NoMemory}
@@ -135,3 +135,8 @@ pub record ReadsOn (unread : List ℕ) (new : Reading) (left left' : Option (Lis
 -- the same of every text that the reader may stand before
 abbrev pub Advances : Reading → Reading → Option (List ℕ) → Option (List ℕ) → Result Found LineFault → Type 0
 Advances old new left left' result = (unread : List ℕ) → IsUnread old left unread → ReadsOn unread new left left' result
+
+-- Where a fault leaves a script: in reading, the lines given are all that a line feed ends in what was read; for want of memory they are some, from the first on.
+abbrev pub StopsBehind : LineFault → (script : List ℕ) (left : Option (List ℕ)) (given : List (List ℕ)) → Type 0
+StopsBehind Read script left given = (read : List ℕ) × Consumes (Some script) left read × (whole_lines read ≡ given)
+StopsBehind NoMemory script left given = (rest : List (List ℕ)) × (script_lines script ≡ given ++ rest)

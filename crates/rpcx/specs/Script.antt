@@ -1,16 +1,17 @@
 -- What a script does with a text.
-use Rattle.std.specs.Prelude.{◌≡◌, ℕ, Bool, true, false, ◌||◌, List, [], ◌∷◌, ◌++◌, length, Option, Some, None, Result, Ok, Err}
+use Rattle.std.specs.Prelude.{◌≡◌, ◌≤◌, ℕ, Bool, true, false, ◌||◌, List, [], ◌∷◌, ◌++◌, length, Option, Some, None, Result, Ok, Err, if◌then◌else◌}
 use Rattle.x_text.specs.Writing.{Inked, Adds}
 use Rattle.rpcx.specs.Session.{Opened, Compiles}
 use Rattle.rpcx.specs.Answers.{Answer, line_answer}
 use Rattle.rpcx.specs.declared.lines.LineFault.{LineFault}
+use Rattle.rpcx.specs.declared.lines.State.TheVariants.{Ended}
 use Rattle.rpcx.specs.declared.script.Outcome.{Outcome}
 use Rattle.rpcx.specs.declared.script.Outcome.TheVariants.{Clean, Refused}
 use Rattle.rpcx.specs.declared.script.EngineFault.{EngineFault}
 use Rattle.rpcx.specs.declared.script.EngineFault.TheVariants.{Read, Write, NoMemory}
-use Rattle.rpcx.specs.Lines.{Reading, IsUnread, script_lines}
+use Rattle.rpcx.specs.Lines.{Reading, IsUnread, StopsBehind, script_lines, whole_lines}
 use Rattle.x_text.specs.Writing.{HasFront, counted}
-use Rattle.std.specs.Io.KnownBytes.{Appends}
+use Rattle.std.specs.Io.KnownBytes.{Appends, Consumes}
 
 -- one answer behind another
 abbrev pub then_answer : Answer → Answer → Answer
@@ -29,12 +30,16 @@ pub record IsGiven (a : Answer) (old new : Opened) (refused : Bool) (p : Inked) 
   pub session_is : new ≡ record old { text = a.text }
 
 -- Of the script, which the tap told at first, the reader has given these lines; what is left stands unread in the reader and in the tap.
+-- But at the end, they and those of what is unread are also the lines that line feeds end, whatever comes behind what was read.
 pub record HasGiven (script : List ℕ) (reader : Reading) (left : Option (List ℕ)) (given : List (List ℕ)) : Type 0 where
+  pub read : List ℕ
   pub unread : List ℕ
   pub later : List ℕ
   pub left_is : left ≡ Some later
+  pub script_is : script ≡ read ++ later
   pub unread_is : IsUnread reader left unread
   pub lines_are : script_lines script ≡ given ++ script_lines (unread ++ later)
+  pub whole_are : (reader.state ≡ Ended → ⊥) → (next : List ℕ) → whole_lines (read ++ next) ≡ given ++ whole_lines (unread ++ next)
 
 -- nothing was done
 pub record IsAsBefore (old new : Opened) (p : Inked) (now : Option (List ℕ)) (failed : Bool) (q : Inked) (now' : Option (List ℕ)) (failed' : Bool) : Type 0 where
@@ -49,8 +54,7 @@ abbrev pub GoesOn : (old new : Opened) (script : List ℕ) (reader : Reading) (l
 GoesOn old new script reader left given (Ok (Some refused)) p now failed q now' failed' =
     (line : List ℕ) × HasGiven script reader left (given ++ line ∷ []) × Compiles old.text (λ items. IsGiven (line_answer old.base old.text items line) old new refused p now failed q now' failed')
 GoesOn old new script reader left given (Ok None) p now failed q now' failed' = (script_lines script ≡ given) × IsAsBefore old new p now failed q now' failed'
-GoesOn old new script reader left given (Err fault) p now failed q now' failed' =
-    ((rest : List (List ℕ)) × (script_lines script ≡ given ++ rest)) × IsAsBefore old new p now failed q now' failed'
+GoesOn old new script reader left given (Err fault) p now failed q now' failed' = StopsBehind fault script left given × IsAsBefore old new p now failed q now' failed'
 
 -- this holds of some of the script's lines, from the first on
 abbrev pub IsFrontOf : List ℕ → (List (List ℕ) → Type 0) → Type 0
@@ -70,20 +74,38 @@ pub record HasStopped (lines : List (List ℕ)) (old new : Opened) (before after
   pub run : HasRun lines old new before after refused
   pub written_is : written ≡ counted (length run.all.told)
 
--- Lines are answered, the session has the text that they leave, and the sink failed within their answers.
+-- The earlier lines have these answers in all, and the sink has them whole; it failed within the last line's answer, and the session has the text that this leaves.
+pub record FailsWithin (all last : Answer) (old new : Opened) (before after : Option (List ℕ)) (written : ℕ) : Type 0 where
+  pub front : HasFront before after (all.told ++ last.told) written
+  pub whole : counted (length all.told) ≤ written
+  pub session_is : new ≡ record old { text = last.text }
+
+-- These lines are carried out, and the sink failed within the answer of the last of them.
 pub record HasFailed (lines : List (List ℕ)) (old new : Opened) (before after : Option (List ℕ)) (written : ℕ) : Type 0 where
+  pub earlier : List (List ℕ)
+  pub last : List ℕ
+  pub lines_are : lines ≡ earlier ++ last ∷ []
   pub all : Answer
-  pub answered : AreAnswered old.base old.text lines all
-  pub front : HasFront before after all.told written
-  pub session_is : new ≡ record old { text = all.text }
+  pub answered : AreAnswered old.base old.text earlier all
+  pub within : Compiles all.text (λ items. FailsWithin all (line_answer old.base all.text items last) old new before after written)
 
 abbrev pub is_refused : Outcome → Bool
 is_refused Clean = false
 is_refused Refused = true
 
--- What a run of a script does. A fault of the reader or of memory comes behind the answers of whole lines, and one of the sink within them.
-abbrev pub Runs : (script : List ℕ) (old new : Opened) (before after : Option (List ℕ)) (failed : Bool) → Result Outcome EngineFault → Type 0
-Runs script old new before after failed (Ok outcome) = HasRun (script_lines script) old new before after (is_refused outcome)
-Runs script old new before after failed (Err (Read written)) = IsFrontOf script (λ lines. HasStopped lines old new before after written)
-Runs script old new before after failed (Err (NoMemory written)) = IsFrontOf script (λ lines. HasStopped lines old new before after written)
-Runs script old new before after failed (Err (Write written)) = IsFrontOf script (λ lines. HasFailed lines old new before after written) × (failed ≡ true)
+-- What a run of a script does, of which the tap has `left` then. A fault of the reader comes behind the answers of all lines that a line feed ends
+-- in what was read, want of memory behind those of some lines, from the first on, and a fault of the sink within an answer.
+abbrev pub Runs : (script : List ℕ) (left : Option (List ℕ)) (old new : Opened) (before after : Option (List ℕ)) (failed : Bool) → Result Outcome EngineFault → Type 0
+Runs script left old new before after failed (Ok outcome) = HasRun (script_lines script) old new before after (is_refused outcome)
+Runs script left old new before after failed (Err (Read written)) = (read : List ℕ) × Consumes (Some script) left read × HasStopped (whole_lines read) old new before after written
+Runs script left old new before after failed (Err (NoMemory written)) = IsFrontOf script (λ lines. HasStopped lines old new before after written)
+Runs script left old new before after failed (Err (Write written)) = IsFrontOf script (λ lines. HasFailed lines old new before after written) × (failed ≡ true)
+
+-- the status of a run that carried out each line, whether or not one was refused
+abbrev pub status_of : Bool → ℕ
+status_of refused = if refused then 1 else 0
+
+-- A run over a text answers the script: where its status tells of no fault, the sink has the answers of all lines, and the status says whether one was refused.
+abbrev pub Answers : (script base text : List ℕ) (before after : Option (List ℕ)) (status : ℕ) → Type 0
+Answers script base text before after status =
+    (refused : Bool) → status ≡ status_of refused → (new : Opened) × HasRun (script_lines script) (record { base = base; text = text }) new before after refused

@@ -4,7 +4,7 @@ ghost use Rattle.std.specs.Prelude.{◌≡◌, ◌≢◌, ◌⊎◌, false, not,
 ghost use Rattle.std.specs.List.{after_last};
 ghost use Rattle.std.specs.Io.KnownBytes.{Appends};
 ghost use Rattle.x_text.specs.declared.source.TheConstants.{MAX_TEXT};
-ghost use Rattle.rpcx.specs.Generate.{base_of, without_x, Grows};
+ghost use Rattle.rpcx.specs.Generate.{base_of, without_x, Grows, IsTold};
 ghost use Rattle.rpcx.specs.Session.{Compiles};
 ghost use Rattle.rpcx.specs.Compile.{faults_of};
 ghost use Rattle.rpcx.specs.Header.{header};
@@ -22,7 +22,7 @@ const FAILED: u8 = 2;
 
 /// Writes text that says why a run does not go on. Where that fails there is nobody to tell.
 pub fn complain<E: Sink>(text: &str, err: &mut E)
-    ensures { Grows (E.contents err.old) (E.contents err.new) text.now }
+    ensures { IsTold (E.contents err.old) (E.contents err.new) (E.has_failed err.new) text.now }
 {
     let mut pen = Pen::new();
     pen.add(text.as_bytes(), err);
@@ -32,7 +32,7 @@ pub fn complain<E: Sink>(text: &str, err: &mut E)
 /// The text that a command line asks for: exactly one letter tells it.
 pub fn gen_mode<E: Sink>(args: &GenArgs, err: &mut E) -> Option<Which>
     ensures mode { result ≡ (if args.now.header then Some Which.Header else None) }
-    ensures told { result ≡ None → Grows (E.contents err.old) (E.contents err.new) (codes "rpcgen: exactly one of -c, -h, -l, -t\n") }
+    ensures told { result ≡ None → IsTold (E.contents err.old) (E.contents err.new) (E.has_failed err.new) (codes "rpcgen: exactly one of -c, -h, -l, -t\n") }
 {
     if args.header {
         return Some(Which::Header);
@@ -100,7 +100,7 @@ pub fn gen_open<E: Sink>(
 
 /// Writes what is wrong with a file, behind the name of the program.
 pub fn tell_of_file<E: Sink>(program: &str, file: &str, wrong: &str, err: &mut E)
-    ensures { Grows (E.contents err.old) (E.contents err.new) (program.now ++ codes ": " ++ file.now ++ wrong.now) }
+    ensures { IsTold (E.contents err.old) (E.contents err.new) (E.has_failed err.new) (program.now ++ codes ": " ++ file.now ++ wrong.now) }
 {
     let mut pen = Pen::new();
     pen.add(program.as_bytes(), err);

@@ -58,7 +58,7 @@ pub fn run_script<R: Tap, S: Sink>(
     tap: &mut R,
     sink: &mut S,
 ) -> Result<Outcome, EngineFault>
-    ensures runs { MatchOption (R.remaining tap.old) (Unit {0}) (λ script. Runs script session.old session.new (S.contents sink.old) (S.contents sink.new) (S.has_failed sink.new) result) }
+    ensures runs { MatchOption (R.remaining tap.old) (Unit {0}) (λ script. Runs script (R.remaining tap.new) session.old session.new (S.contents sink.old) (S.contents sink.new) (S.has_failed sink.new) result) }
     ensures read { IfErr result (λ fault. (written : ℕ) → fault ≡ EngineFault.Read written → IsTrue (R.has_failed tap.new)) }
 {
     let mut reader = LineReader::new(alloc);

@@ -7,8 +7,10 @@ use Rattle.std.proofs.KnownBytes.{Appends-trans, Appends-nil}
 use Rattle.x_text.specs.Writing.{Inked, counted, HasFront, Writes, Adds}
 
 pub adds_trans : (p q r : Inked) (a b c : Option (List ℕ)) (f g h : Bool) (xs ys : List ℕ) → Adds p a f q b g xs → Adds q b g r c h ys → Adds p a f r c h (xs ++ ys)
-adds_trans p q r a b c f g h xs ys first second start text w =
-    subst (λ t. Writes start t r c h) (append_assoc text xs ys) (second start (text ++ xs) (first start text w))
+adds_trans p q r a b c f g h xs ys first second = record {
+  no_fewer = let m = first.no_fewer in let n = second.no_fewer in omega (arith, m, n);
+  goes_on = λ start text w. subst (λ t. Writes start t r c h) (append_assoc text xs ys) (second.goes_on start (text ++ xs) (first.goes_on start text w));
+}
 
 -- nothing more goes to a sink that has failed
 front_more : (start now : Option (List ℕ)) (text bytes : List ℕ) (written : ℕ) → HasFront start now text written → HasFront start now (text ++ bytes) written
@@ -20,31 +22,31 @@ front_more start now text bytes written h = record {
 }
 
 pub stopped_on : (p : Inked) (now : Option (List ℕ)) (failed : Bool) (bytes : List ℕ) → p.stopped ≡ true → Adds p now failed p now failed bytes
-stopped_on p now failed bytes e start text w = back (p.stopped) e w
+stopped_on p now failed bytes e = record { no_fewer = omega arith; goes_on = λ start text w. back start text (p.stopped) e w }
   where
-    back : (s : Bool) → s ≡ true → Writes start text (record p { stopped = s }) now failed → Writes start (text ++ bytes) (record p { stopped = s }) now failed
-    back true e w = (front_more start now text bytes p.written w.0, w.1)
-    back false e w = absurd (cc)
+    back : (start : Option (List ℕ)) (text : List ℕ) (s : Bool) → s ≡ true → Writes start text (record p { stopped = s }) now failed → Writes start (text ++ bytes) (record p { stopped = s }) now failed
+    back start text true e w = (front_more start now text bytes p.written w.0, w.1)
+    back start text false e w = absurd (cc)
 
 pub held_on : (p : Inked) (now : Option (List ℕ)) (failed : Bool) (bytes : List ℕ) → p.stopped ≡ false → Adds p now failed (record p { pending = p.pending ++ bytes }) now failed bytes
-held_on p now failed bytes e start text w = on (p.stopped) e w
+held_on p now failed bytes e = record { no_fewer = omega arith; goes_on = λ start text w. on start text (p.stopped) e w }
   where
-    on : (s : Bool) → s ≡ false → Writes start text (record p { stopped = s }) now failed → Writes start (text ++ bytes) (record p { stopped = s; pending = p.pending ++ bytes }) now failed
-    on true e w = absurd (cc)
-    on false e w = record { front = w.front; taken = w.taken; text_is = ap (λ t. t ++ bytes) w.text_is ∙ append_assoc w.front p.pending bytes; written_is = w.written_is }
+    on : (start : Option (List ℕ)) (text : List ℕ) (s : Bool) → s ≡ false → Writes start text (record p { stopped = s }) now failed → Writes start (text ++ bytes) (record p { stopped = s; pending = p.pending ++ bytes }) now failed
+    on start text true e w = absurd (cc)
+    on start text false e w = record { front = w.front; taken = w.taken; text_is = ap (λ t. t ++ bytes) w.text_is ∙ append_assoc w.front p.pending bytes; written_is = w.written_is }
 
 counted_more : (n m : ℕ) → min (counted n + m) (2 ^ 64 - 1) ≡ counted (n + m)
 counted_more n m = omega arith
 
 -- the sink took what was held back, and these bytes
 pub passed_on : (p : Inked) (now now' : Option (List ℕ)) (failed failed' : Bool) (bytes more : List ℕ) (written : ℕ) → p.stopped ≡ false → more ≡ p.pending ++ bytes → Appends now now' more
-    → written ≡ min (p.written + length more) (2 ^ 64 - 1) → (left : List ℕ) → left ≡ [] → (stopped : Bool) → stopped ≡ false → Adds p now failed (record { pending = left; written = written; stopped = stopped }) now' failed' bytes
-passed_on p now now' failed failed' bytes more written e is taken count left none stopped goes start text w = on (p.stopped) e stopped goes w
+    → p.written ≤ written → written ≡ min (p.written + length more) (2 ^ 64 - 1) → (left : List ℕ) → left ≡ [] → (stopped : Bool) → stopped ≡ false → Adds p now failed (record { pending = left; written = written; stopped = stopped }) now' failed' bytes
+passed_on p now now' failed failed' bytes more written e is taken fits count left none stopped goes = record { no_fewer = fits; goes_on = λ start text w. on start text (p.stopped) e stopped goes w }
   where
-    on : (s : Bool) → s ≡ false → (t : Bool) → t ≡ false → Writes start text (record p { stopped = s }) now failed → Writes start (text ++ bytes) (record { pending = left; written = written; stopped = t }) now' failed'
-    on true e t goes w = absurd (cc)
-    on false e true goes w = absurd (cc)
-    on false e false goes w = record {
+    on : (start : Option (List ℕ)) (text : List ℕ) (s : Bool) → s ≡ false → (t : Bool) → t ≡ false → Writes start text (record p { stopped = s }) now failed → Writes start (text ++ bytes) (record { pending = left; written = written; stopped = t }) now' failed'
+    on start text true e t goes w = absurd (cc)
+    on start text false e true goes w = absurd (cc)
+    on start text false e false goes w = record {
       front = w.front ++ more;
       taken = Appends-trans start now now' w.front more w.taken taken;
       text_is = ap (λ t. t ++ bytes) w.text_is ∙ append_assoc w.front p.pending bytes ∙ ap (λ l. w.front ++ l) (sym is) ∙ sym (append-nil (w.front ++ more)) ∙ ap (λ l. (w.front ++ more) ++ l) (sym none);
@@ -53,13 +55,13 @@ passed_on p now now' failed failed' bytes more written e is taken count left non
 
 -- the sink took the first n of what was held back and these bytes, and failed
 pub stopped_at : (p : Inked) (now now' : Option (List ℕ)) (failed failed' : Bool) (bytes more pending : List ℕ) (written n : ℕ) → p.stopped ≡ false → more ≡ p.pending ++ bytes → n ≤ length more
-    → Appends now now' (take n more) → written ≡ min (p.written + n) (2 ^ 64 - 1) → failed' ≡ true
+    → Appends now now' (take n more) → p.written ≤ written → written ≡ min (p.written + n) (2 ^ 64 - 1) → failed' ≡ true
     → Adds p now failed (record { pending = pending; written = written; stopped = true }) now' failed' bytes
-stopped_at p now now' failed failed' bytes more pending written n e is le taken count fails start text w = on (p.stopped) e w
+stopped_at p now now' failed failed' bytes more pending written n e is le taken fits count fails = record { no_fewer = fits; goes_on = λ start text w. on start text (p.stopped) e w }
   where
-    on : (s : Bool) → s ≡ false → Writes start text (record p { stopped = s }) now failed → Writes start (text ++ bytes) (record { pending = pending; written = written; stopped = true }) now' failed'
-    on true e w = absurd (cc)
-    on false e w =
+    on : (start : Option (List ℕ)) (text : List ℕ) (s : Bool) → s ≡ false → Writes start text (record p { stopped = s }) now failed → Writes start (text ++ bytes) (record { pending = pending; written = written; stopped = true }) now' failed'
+    on start text true e w = absurd (cc)
+    on start text false e w =
         let text_is : text ++ bytes ≡ w.front ++ more = ap (λ t. t ++ bytes) w.text_is ∙ append_assoc w.front p.pending bytes ∙ ap (λ l. w.front ++ l) (sym is) in
         let cut : take (length w.front + n) (text ++ bytes) ≡ w.front ++ take n more = ap (take (length w.front + n)) text_is ∙ take-append-add w.front more n in (
           record {

@@ -32,10 +32,10 @@ pub record HasAllBut (start now : Option (List ℕ)) (text : List ℕ) (pen : In
 abbrev pub Writes : Option (List ℕ) → List ℕ → Inked → Option (List ℕ) → Bool → Type 0
 Writes start text pen now failed = MatchBool pen.stopped (HasFront start now text pen.written × (failed ≡ true)) (HasAllBut start now text pen)
 
--- the pen was given these bytes more
-abbrev pub Adds : Inked → Option (List ℕ) → Bool → Inked → Option (List ℕ) → Bool → List ℕ → Type 0
-Adds pen now failed pen' now' failed' bytes =
-    (start : Option (List ℕ)) (text : List ℕ) → Writes start text pen now failed → Writes start (text ++ bytes) pen' now' failed'
+-- the pen was given these bytes more, and the sink took no fewer than before
+pub record Adds (pen : Inked) (now : Option (List ℕ)) (failed : Bool) (pen' : Inked) (now' : Option (List ℕ)) (failed' : Bool) (bytes : List ℕ) : Type 0 where
+  pub no_fewer : pen.written ≤ pen'.written
+  pub goes_on : (start : Option (List ℕ)) (text : List ℕ) → Writes start text pen now failed → Writes start (text ++ bytes) pen' now' failed'
 
 -- At Ok the sink took the text; at Err it has failed, with the first bytes of the text that the fault counts.
 abbrev pub IsWritten : {T : Type 0} → Result T WriteFault → Option (List ℕ) → Option (List ℕ) → Bool → List ℕ → Type 0

@@ -1,5 +1,6 @@
 ghost use Rattle.std.specs.Prelude.{◌≡◌, ◌≤◌, [], false, Bool, ℕ, List, Option, IsTrue, OnOk, IfErr, take, length};
 ghost use Rattle.std.specs.Io.KnownBytes.{Appends};
+ghost use Rattle.x_text.specs.Counts.{raised};
 ghost use Rattle.x_text.specs.Writing.{Writes, Adds, IsWritten};
 
 use crate::Sink;
@@ -81,11 +82,11 @@ impl Pen {
         }
         match put_all(&self.pending, sink) {
             Ok(()) => {
-                self.written = self.written.saturating_add(self.pending.len() as u64);
+                self.written = raised(self.written, self.pending.len());
                 self.pending.clear();
             }
             Err(taken) => {
-                self.written = self.written.saturating_add(taken as u64);
+                self.written = raised(self.written, taken);
                 self.stopped = true;
             }
         }
@@ -98,9 +99,9 @@ impl Pen {
         ensures { Adds self.old (S.contents sink.old) (S.has_failed sink.old) self.new (S.contents sink.new) (S.has_failed sink.new) bytes.now }
     {
         match put_all(bytes, sink) {
-            Ok(()) => self.written = self.written.saturating_add(bytes.len() as u64),
+            Ok(()) => self.written = raised(self.written, bytes.len()),
             Err(taken) => {
-                self.written = self.written.saturating_add(taken as u64);
+                self.written = raised(self.written, taken);
                 self.stopped = true;
             }
         }
@@ -147,6 +148,14 @@ impl Pen {
             Ok(())
         }
     }
+}
+
+/// The count with so many more. It stays at the greatest number.
+fn raised(count: u64, more: usize) -> u64
+    ensures sum { result ≡ raised count more }
+    ensures no_fewer { count ≤ result }
+{
+    count.saturating_add(more as u64)
 }
 
 /// Puts all the bytes, or answers how many the sink took before it failed.

@@ -1,6 +1,6 @@
-use Rattle.std.proofs.Common.{Bool, ◌||◌, ◌++◌, Option, Ok, refl, sym, subst, ◌∙◌}
+use Rattle.std.proofs.Common.{Bool, ◌||◌, ◌++◌, Option, Ok, Err, refl, sym, subst, ◌∙◌}
 use Rattle.rpcx.specs.Lines.{script_lines}
-use Rattle.rpcx.specs.Script.{is_refused, GoesOn, HasRun, HasFailed, IsFrontOf}
+use Rattle.rpcx.specs.Script.{is_refused, GoesOn, HasRun, HasStopped, HasFailed, IsFrontOf}
 use Rattle.rpcx.proofs.Running.{IsBetween, at_start, behind, between, at_stop, at_fault, so_still, match_some}
 use Rattle.rpcx.proofs.script.run_script.Goals as goal
 
@@ -58,15 +58,20 @@ returns-in-Ok-None-clause-runs g c = match_some (g.R.Tap.remaining c.args.tap.no
 pub returns-in-Err-Read-clause-runs : goal.returns-in-Err-Read-clause-runs
 returns-in-Err-Read-clause-runs g c = match_some (g.R.Tap.remaining c.args.tap.now) _ (λ script e.
     let h = c.loop.invariant script e in
-    let k = c.in-Err-Read.ensures.given script h.given h.reads in
-    let stop = at_fault script c.args.session.now (g.S.Sink.contents c.args.sink.now) c.loop.session c.next_answer.new.session c.loop.reader (g.R.Tap.remaining c.loop.tap) (is_refused c.loop.outcome) c.loop.pen c.next_answer.new.pen
-    (g.S.Sink.contents c.loop.sink) (g.S.Sink.contents c.next_answer.new.sink) (g.S.Sink.has_failed c.loop.sink) (g.S.Sink.has_failed c.next_answer.new.sink) c.written.result h k.1 c.written.ensures in
-    (h.given, k.0.0, k.0.1, stop))
+    let start = g.S.Sink.contents c.args.sink.now in
+    let now = g.S.Sink.contents c.next_answer.new.sink in
+    let k = subst (λ fault. GoesOn c.loop.session c.next_answer.new.session script c.next_answer.new.reader (g.R.Tap.remaining c.next_answer.new.tap) h.given (Err fault)
+    c.loop.pen (g.S.Sink.contents c.loop.sink) (g.S.Sink.has_failed c.loop.sink) c.next_answer.new.pen now (g.S.Sink.has_failed c.next_answer.new.sink)) c.in-Err-Read.field-0-is (c.in-Err-Read.ensures.given script h.given h.reads) in
+    let stop = at_fault script c.args.session.now start c.loop.session c.next_answer.new.session c.loop.reader (g.R.Tap.remaining c.loop.tap) (is_refused c.loop.outcome) c.loop.pen c.next_answer.new.pen
+    (g.S.Sink.contents c.loop.sink) now (g.S.Sink.has_failed c.loop.sink) (g.S.Sink.has_failed c.next_answer.new.sink) c.written.result h k.1 c.written.ensures in
+    (k.0.0, k.0.1, subst (λ lines. HasStopped lines c.args.session.now c.next_answer.new.session start now c.written.result) (sym k.0.2) stop))
 
 pub returns-in-Err-NoMemory-clause-runs : goal.returns-in-Err-NoMemory-clause-runs
 returns-in-Err-NoMemory-clause-runs g c = match_some (g.R.Tap.remaining c.args.tap.now) _ (λ script e.
     let h = c.loop.invariant script e in
-    let k = c.in-Err-NoMemory.ensures.given script h.given h.reads in
+    let k = subst (λ fault. GoesOn c.loop.session c.next_answer.new.session script c.next_answer.new.reader (g.R.Tap.remaining c.next_answer.new.tap) h.given (Err fault)
+    c.loop.pen (g.S.Sink.contents c.loop.sink) (g.S.Sink.has_failed c.loop.sink) c.next_answer.new.pen (g.S.Sink.contents c.next_answer.new.sink) (g.S.Sink.has_failed c.next_answer.new.sink))
+    c.in-Err-NoMemory.field-0-is (c.in-Err-NoMemory.ensures.given script h.given h.reads) in
     let stop = at_fault script c.args.session.now (g.S.Sink.contents c.args.sink.now) c.loop.session c.next_answer.new.session c.loop.reader (g.R.Tap.remaining c.loop.tap) (is_refused c.loop.outcome) c.loop.pen c.next_answer.new.pen
     (g.S.Sink.contents c.loop.sink) (g.S.Sink.contents c.next_answer.new.sink) (g.S.Sink.has_failed c.loop.sink) (g.S.Sink.has_failed c.next_answer.new.sink) c.written-in-Err-NoMemory.result h k.1 c.written-in-Err-NoMemory.ensures in
     (h.given, k.0.0, k.0.1, stop))

@@ -10,4 +10,4 @@ returns g c =
     let failed = g.S.Sink.has_failed c.args.sink.now in
     let added = c.add_text.ensures in
     let none : Writes start [] c.new-pen.result start failed = subst (λ (p : Inked). Writes start [] p start failed) (sym c.new-pen.ensures) (writes_none start failed) in
-    (added.0, added.1, added.2, c.finish.ensures start (header c.args.self.now.base added.1) (added.3 start [] none))
+    (added.0, added.1, added.2, c.finish.ensures start (header c.args.self.now.base added.1) (added.3.goes_on start [] none))
