@@ -3,9 +3,8 @@ use Rattle.std.proofs.Common.{◌≡◌, ℕ, zero, suc, ◌+◌, ◌-◌, ◌<�
 use Rattle.std.specs.Prelude.{◌==◌, ◌||◌}
 use Rattle.std.proofs.lemmas.List.{drop-drop}
 use Rattle.x_lex.specs.declared.kind.Kind.{Kind}
-use Rattle.x_lex.specs.Tiling.{Tiles, AreTokens, starts_after, span}
+use Rattle.x_lex.specs.Tiling.{Tiles, AreTokens, starts_after, span, end_of}
 use Rattle.x_lex.specs.Places.{is_line_start}
-use Rattle.x_lex.specs.Relex.{end_of}
 use Rattle.x_lex.proofs.TilingLemmas.{token_spans}
 use Rattle.x_lex.proofs.LocalLemmas.{Agree, local_token}
 

@@ -1,14 +1,16 @@
 -- The end of the loop of `relex`: the patch.
 use mathlib.Core.Bool.{beq}
-use Rattle.std.proofs.Common.{◌≡◌, ℕ, zero, suc, ◌+◌, ◌-◌, ◌<◌, ◌≤◌, ◌⊎◌, inl, inr, Bool, true, false, List, [], ◌∷◌, ◌++◌, length, get_or, take, drop, arith, refl, sym, ap, subst, ◌∙◌, length-drop, length-append, length-take-le, append_assoc, take-append-drop}
+use Rattle.std.proofs.Common.{◌≡◌, ℕ, zero, suc, ◌+◌, ◌-◌, ◌<◌, ◌≤◌, ◌⊎◌, inl, inr, Result, Ok, Err, Bool, true, false, List, [], ◌∷◌, ◌++◌, length, get_or, take, drop, arith, refl, sym, ap, subst, ◌∙◌, length-drop, length-append, length-take-le, append_assoc, take-append-drop}
 use Rattle.std.proofs.lemmas.List.{drop-drop, drop_all, take_at, take-take, append-nil}
 use Rattle.x_lex.specs.declared.kind.Kind.{Kind}
 use Rattle.x_lex.specs.Word.{IsToken}
-use Rattle.std.specs.Prelude.{◌==◌}
-use Rattle.x_lex.specs.Tiling.{Tiles, starts_after, AreTokens, span}
+use Rattle.std.specs.Prelude.{◌==◌, IfOk}
+use Rattle.x_text.specs.declared.source.TheConstants.{MAX_TEXT}
+use Rattle.x_text.specs.declared.no_memory.NoMemory.{NoMemory}
+use Rattle.x_lex.specs.Tiling.{Tiles, starts_after, AreTokens, span, end_of}
 use Rattle.x_lex.specs.Places.{is_line_start}
-use Rattle.x_lex.specs.TokenList.{TokenPatch, patched}
-use Rattle.x_lex.specs.Relex.{end_of, IsBoundary, old_place, Agrees, fresh, fresh_from, kept, kept_from, IsPatch, IsFront}
+use Rattle.x_lex.specs.TokenList.{TokenPatch, patched, IsOfText}
+use Rattle.x_lex.specs.Relex.{IsBoundary, old_place, Agrees, fresh, fresh_from, kept, kept_from, IsPatch, IsFront}
 use Rattle.x_lex.proofs.TilingLemmas.{token_spans}
 use Rattle.x_lex.proofs.SpanLemmas.{span-append, span_tiles}
 use Rattle.x_lex.proofs.EndLemmas.{end_mono, end_all, tiles_from}
@@ -18,6 +20,12 @@ use Rattle.x_lex.proofs.RelexRun.{IsEdit, Meets, Relexing, new_length, drop_new,
 -- the patch that takes `removed` tokens out from index x on
 abbrev pub made : List (Kind × ℕ) → ℕ → ℕ → List (Kind × ℕ) → TokenPatch
 made ts x removed news = record { at = x; removed = removed; start = end_of ts x; fresh = news }
+
+-- the same with the place as it was found
+pub patch_is : (old new : List ℕ) (ts : List (Kind × ℕ)) (a b n x removed start : ℕ) (news : List (Kind × ℕ)) (patch : TokenPatch) →
+    patch ≡ record { at = x; removed = removed; start = start; fresh = news } → start ≡ end_of ts x → IsPatch old new ts a b n (made ts x removed news) → IsPatch old new ts a b n patch
+patch_is old new ts a b n x removed start news patch is at h =
+    subst (λ p. IsPatch old new ts a b n p) (sym (is ∙ λ i. record { at = x; removed = removed; start = at i; fresh = news })) h
 
 end_nil : (i : ℕ) → end_of [] i ≡ 0
 end_nil zero = refl
@@ -44,7 +52,7 @@ module _ (old new ins : List ℕ) (a b : ℕ) (change : IsEdit old new ins a b) 
     back_is = omega arith
 
     patched_is : patched ts (made ts x (back - x) news) ≡ take x ts ++ news ++ drop back ts
-    patched_is = ap (λ i. take x ts ++ news ++ drop i ts) back_is
+    patched_is = ap (λ i. take x ts ++ (news ++ drop i ts)) back_is ∙ sym (append_assoc (take x ts) news (drop back ts))
 
     sums : end_of ts x + span news ≡ at
     sums = let s = span-append (take x ts) news in let e = h.spans in omega (arith, s, e)
@@ -204,3 +212,26 @@ differ_from_beq true true h e = cc
 differ_from_beq true false h e = cc
 differ_from_beq false true h e = cc
 differ_from_beq false false h e = cc
+
+-- a text has no more tokens than bytes
+length_le_text : (start : Bool) (rest : List ℕ) (ts : List (Kind × ℕ)) → Tiles start rest ts → length ts ≤ length rest
+length_le_text start rest [] h = omega arith
+length_le_text start rest (t ∷ ts) h =
+    let s = token_spans t.0 start rest t.1 h.0 in
+    let some = s.some in
+    let within = s.within in
+    let r = length_le_text (starts_after rest t.1) (drop t.1 rest) ts h.1 in
+    let d = length-drop t.1 rest in
+    omega (arith, some, within, r, d)
+
+-- the tokens of a text that isn't too long are as few and as short as those of a text can be
+pub tokens_fit : (text : List ℕ) (ts : List (Kind × ℕ)) → AreTokens text ts → length text ≤ MAX_TEXT → IsOfText ts
+tokens_fit text ts h le = record {
+  few = let f = length_le_text true text ts h in omega (arith, f);
+  short = let s = span_tiles true text ts h in omega (arith, s);
+}
+
+-- what is so of a patch that was made
+pub if_made : (r : Result TokenPatch NoMemory) (P Q : TokenPatch → Type 0) → ((p : TokenPatch) → P p → Q p) → IfOk r P → IfOk r Q
+if_made (Ok p) P Q f h = f p h
+if_made (Err e) P Q f h = h

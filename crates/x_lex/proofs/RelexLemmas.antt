@@ -4,8 +4,8 @@ use Rattle.std.specs.Prelude.{◌||◌, nat_lt, nat_le}
 use Rattle.std.proofs.lemmas.Bool.{cases_lt, lt-ltb, le-ltb, le-leb, lt-leb, cond-true, cond-false, or_left, or_right, or_from}
 use Rattle.std.proofs.lemmas.List.{take_at, take-append-le}
 use Rattle.x_lex.specs.declared.kind.Kind.{Kind}
-use Rattle.x_lex.specs.Tiling.{span}
-use Rattle.x_lex.specs.Relex.{end_of, IsBoundary, fresh_from, kept_from}
+use Rattle.x_lex.specs.Tiling.{span, end_of}
+use Rattle.x_lex.specs.Relex.{IsBoundary, fresh_from, kept_from}
 use Rattle.x_lex.proofs.SpanLemmas.{span-append}
 use Rattle.x_lex.proofs.EndLemmas.{end_le_span, end_mono, end_all}
 

@@ -1,14 +1,14 @@
 -- The loop of `relex`: what it keeps, one token more, and both ends.
-use Rattle.std.proofs.Common.{◌≡◌, ℕ, zero, suc, ◌+◌, ◌-◌, ◌<◌, ◌≤◌, ⊎_elim, Bool, true, List, [], ◌∷◌, ◌++◌, length, get_or, take, drop, arith, refl, sym, ap, subst, ◌∙◌, length-drop, length-append, length-take-le, get_or-drop, get_or-take, append_assoc}
+use Rattle.std.proofs.Common.{◌≡◌, ℕ, suc, ◌+◌, ◌-◌, ◌<◌, ◌≤◌, ⊎_elim, Bool, List, [], ◌∷◌, ◌++◌, length, get_or, take, drop, arith, refl, sym, ap, subst, ◌∙◌, length-drop, length-append, length-take-le, get_or-drop, get_or-take, append_assoc}
 use Rattle.std.specs.Prelude.{◌==◌}
 use Rattle.std.proofs.lemmas.Bool.{cases_lt, cases_order}
 use Rattle.std.proofs.lemmas.List.{drop-drop, drop_at, take-append-le, append-nil, get_or_append_left, length_push}
 use Rattle.x_lex.specs.declared.kind.Kind.{Kind}
 use Rattle.x_lex.specs.Word.{IsToken}
 use Rattle.x_text.specs.Edits.{edited}
-use Rattle.x_lex.specs.Tiling.{Tiles, AreTokens, span}
+use Rattle.x_lex.specs.Tiling.{Tiles, AreTokens, span, end_of}
 use Rattle.x_lex.specs.Places.{is_line_start}
-use Rattle.x_lex.specs.Relex.{end_of, IsBoundary, old_place, IsFront}
+use Rattle.x_lex.specs.Relex.{IsBoundary, old_place, IsFront}
 use Rattle.x_lex.proofs.TilingLemmas.{token_spans, Leads, leads_more, same_token}
 use Rattle.x_lex.proofs.LocalLemmas.{local_token}
 use Rattle.x_lex.proofs.SpanLemmas.{span-append}

@@ -2,13 +2,9 @@
 -- and `us` of the new one. The bytes from a to before b of the old text went, and n bytes came in their place.
 use Rattle.std.specs.Prelude.{◌≡◌, ℕ, ◌+◌, ◌-◌, ◌<◌, ◌≤◌, ◌||◌, ◌⊎◌, nat_lt, nat_le, List, [], ◌∷◌, ◌++◌, length, take, drop, if◌then◌else◌}
 use Rattle.x_lex.specs.declared.kind.Kind.{Kind}
-use Rattle.x_lex.specs.Tiling.{AreTokens, span}
+use Rattle.x_lex.specs.Tiling.{AreTokens, end_of}
 use Rattle.x_lex.specs.Places.{is_line_start}
 use Rattle.x_lex.specs.TokenList.{TokenPatch, patched, LiesAmong}
-
--- the place behind the first i tokens
-abbrev pub end_of : List (Kind × ℕ) → ℕ → ℕ
-end_of ts i = span (take i ts)
 
 -- the place is 0 or the end of a token
 pub record IsBoundary (ts : List (Kind × ℕ)) (place : ℕ) : Type 0 where
