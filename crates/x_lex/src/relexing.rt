@@ -158,3 +158,6 @@ fn advance(tokens: &Tokens, from: usize, place: usize, target: usize) -> (usize,
     }
     (index, end)
 }
+
+#[cfg(test)]
+mod tests;
