@@ -26,9 +26,9 @@ pub struct Compiled {
 
 /// Compiles a text from scratch.
 pub fn compile(alloc: Global, source: &Source, meter: &mut Meter) -> Result<Compiled, NoMemory>
-    ensures items { IfOk result (λ c. IsCompilation source.now c.tokens (parts (lexemes source.now c.tokens) (map view_item c.items.items))) }
-    ensures faults { IfOk result (λ c. c.findings.faults.items ≡ faults_of source.now (parts (lexemes source.now c.tokens) (map view_item c.items.items))) }
-    ensures body { IfOk result (λ c. c.findings.body.items ≡ body_of (parts (lexemes source.now c.tokens) (map view_item c.items.items))) }
+    ensures items { IfOk result (λ c. IsCompilation source.now c.tokens.list (parts (lexemes source.now c.tokens.list) (map view_item c.items.items))) }
+    ensures faults { IfOk result (λ c. c.findings.faults.items ≡ faults_of source.now (parts (lexemes source.now c.tokens.list) (map view_item c.items.items))) }
+    ensures body { IfOk result (λ c. c.findings.body.items ≡ body_of (parts (lexemes source.now c.tokens.list) (map view_item c.items.items))) }
 {
     let tokens = lex(alloc, source, meter)?;
     let items = cut(alloc, &tokens, source, meter)?;

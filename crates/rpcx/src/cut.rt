@@ -19,8 +19,8 @@ pub fn cut(
     source: &Source,
     meter: &mut Meter,
 ) -> Result<Vec<Item>, NoMemory>
-    requires { AreTokens source.now tokens.now }
-    ensures cut { IfOk result (λ items. IsCut (lexemes source.now tokens.now) items.items) }
+    requires { AreTokens source.now tokens.now.list }
+    ensures cut { IfOk result (λ items. IsCut (lexemes source.now tokens.now.list) items.items) }
     ensures counted { IfOk result (λ items. meter.new ≡ record meter.old { parsed = raised meter.old.parsed (length items.items) }) }
 {
     let mut items = Vec::new(alloc);

@@ -163,11 +163,11 @@ pub fn find(
     names: &Names,
     meter: &mut Meter,
 ) -> Result<Findings, NoMemory>
-    requires { AreTokens source.now tokens.now }
+    requires { AreTokens source.now tokens.now.list }
     ensures faults { IfOk result (λ found. found.faults.items
-        ≡ faults_from source.now (first_in names.now) 0 (parts (lexemes source.now tokens.now) (map view_item items.now))) }
+        ≡ faults_from source.now (first_in names.now) 0 (parts (lexemes source.now tokens.now.list) (map view_item items.now))) }
     ensures body { IfOk result (λ found. found.body.items
-        ≡ body_from (first_in names.now) 0 (parts (lexemes source.now tokens.now) (map view_item items.now))) }
+        ≡ body_from (first_in names.now) 0 (parts (lexemes source.now tokens.now.list) (map view_item items.now))) }
 {
     let mut faults = Vec::new(alloc);
     let mut body = Vec::new(alloc);

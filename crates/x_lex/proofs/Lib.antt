@@ -6,3 +6,10 @@ pub mod TilingLemmas
 pub mod SpanLemmas
 pub mod PlaceLemmas
 pub mod LexedLemmas
+pub mod EntryLemmas
+pub mod LocalLemmas
+pub mod EndLemmas
+pub mod MeetingLemmas
+pub mod RelexLemmas
+pub mod RelexRun
+pub mod RelexEnds

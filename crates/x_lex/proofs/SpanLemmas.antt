@@ -1,10 +1,10 @@
 -- How many bytes tokens have together, and where each of them stands.
 use Rattle.std.proofs.Common.{◌≡◌, ℕ, zero, suc, ◌+◌, ◌≤◌, ◌<◌, Bool, true, List, [], ◌∷◌, ◌++◌, length, get_or, take, drop, map, None, Some, arith, refl, sym, ap, ◌∙◌, length-drop, add-one}
 use Rattle.std.specs.Prelude.{option_map, slice_get}
-use Rattle.std.proofs.lemmas.Option.{slice_get-get_or}
+use Rattle.std.proofs.lemmas.List.{take-map}
 use Rattle.x_lex.specs.declared.kind.Kind.{Kind}
-use Rattle.x_lex.specs.declared.tokens.Entry.{Entry}
-use Rattle.x_lex.specs.Tiling.{Tiles, AreTokens, starts_after, span}
+use Rattle.x_lex.specs.declared.entry.Entry.{Entry}
+use Rattle.x_lex.specs.Tiling.{Tiles, AreTokens, starts_after, span, end_of}
 use Rattle.x_lex.specs.Places.{places_from, lexeme_at, lexemes_from}
 use Rattle.x_lex.specs.Entries.{pair_of}
 use Rattle.x_lex.proofs.TilingLemmas.{token_spans}
@@ -58,9 +58,14 @@ places_get : (xs : List Entry) (i : ℕ) → slice_get (places_from 0 (map pair_
 places_get xs i = let e : 0 + span (map pair_of (take i xs)) ≡ span (map pair_of (take i xs)) = omega arith in places_get_from 0 xs i ∙ ap (λ n. option_map (place_of n) (slice_get xs i)) e
 
 -- the place of the token of an entry, as it is read
-pub place_found : (xs : List Entry) (i start : ℕ) (d : Entry) → i < length xs → start ≡ span (map pair_of (take i xs)) →
-    slice_get (places_from 0 (map pair_of xs)) i ≡ Some ((get_or xs i d).kind, start, start + (get_or xs i d).length)
-place_found xs i start d lt e = places_get xs i ∙ ap (option_map (place_of (span (map pair_of (take i xs))))) (slice_get-get_or xs i d lt) ∙ ap (λ n. Some (place_of n (get_or xs i d))) (sym e)
+pub place_found : (xs : List Entry) (ts : List (Kind × ℕ)) (i start : ℕ) (x : Entry) → map pair_of xs ≡ ts → slice_get xs i ≡ Some x → start ≡ end_of ts i →
+    slice_get (places_from 0 ts) i ≡ Some (x.kind, start, start + x.length)
+place_found xs ts i start x same found e =
+    let before : span (map pair_of (take i xs)) ≡ start = ap span (sym (take-map pair_of i xs)) ∙ ap (λ l. end_of l i) same ∙ sym e in
+    ap (λ l. slice_get (places_from 0 l) i) (sym same)
+    ∙ places_get xs i
+    ∙ ap (option_map (place_of (span (map pair_of (take i xs))))) found
+    ∙ ap (λ n. Some (place_of n x)) before
 
 -- no place past the end
 pub place_past : (ts : List (Kind × ℕ)) (at i : ℕ) → length ts ≤ i → slice_get (places_from at ts) i ≡ None

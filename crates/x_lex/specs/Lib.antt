@@ -5,3 +5,5 @@ pub mod Scan
 pub mod Tiling
 pub mod Places
 pub mod Entries
+pub mod TokenList
+pub mod Relex

@@ -1,5 +1,5 @@
 -- The tokens of a text, each with its kind and length, one after another.
-use Rattle.std.specs.Prelude.{◌≡◌, ℕ, ◌+◌, ◌-◌, ◌==◌, Bool, true, List, [], ◌∷◌, drop, slice_index}
+use Rattle.std.specs.Prelude.{◌≡◌, ℕ, ◌+◌, ◌-◌, ◌==◌, Bool, true, List, [], ◌∷◌, take, drop, slice_index}
 use Rattle.x_lex.specs.declared.kind.Kind.{Kind}
 use Rattle.x_lex.specs.Word.{IsToken}
 
@@ -20,3 +20,7 @@ AreTokens text ts = Tiles true text ts
 abbrev pub span : List (Kind × ℕ) → ℕ
 span [] = 0
 span (t ∷ ts) = t.1 + span ts
+
+-- the place behind the first i tokens
+abbrev pub end_of : List (Kind × ℕ) → ℕ → ℕ
+end_of ts i = span (take i ts)

@@ -2,6 +2,7 @@
 ghost use Rattle.std.specs.Prelude.{◌≡◌, ℕ, List, ◌↔◌};
 ghost use Rattle.x_lex.specs.declared.kind.Kind.{Kind};
 ghost use Rattle.x_lex.specs.Tiling.{AreTokens};
+ghost use Rattle.x_lex.specs.Relex.{IsMeeting};
 ghost use Rattle.x_lex.specs.Places.{Lexeme, lexemes, TilesByPlace};
 
 /// A text has one list of tokens.
@@ -19,4 +20,10 @@ pub fn has_tokens()
 pub fn tokens_by_place()
     ensures same { (text : List ℕ) (ts : List (Kind × ℕ)) → AreTokens text ts ↔ TilesByPlace text (lexemes text ts) }
     ensures only { (text : List ℕ) (ls : List Lexeme) → TilesByPlace text ls → (ts : List (Kind × ℕ)) × AreTokens text ts × (ls ≡ lexemes text ts) }
+{}
+
+/// The place from which the tokens of a text hold again behind an edit is determined by the two texts and the edit.
+pub fn one_meeting()
+    ensures { (old new : List ℕ) (ts vs us ws : List (Kind × ℕ)) (a b n p q : ℕ) → AreTokens old ts → AreTokens old vs → AreTokens new us → AreTokens new ws
+        → IsMeeting old new ts us a b n p → IsMeeting old new vs ws a b n q → p ≡ q }
 {}

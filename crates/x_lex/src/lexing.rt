@@ -3,16 +3,19 @@ ghost use Rattle.std.specs.Prelude.{◌≡◌, ◌≤◌, [], length, IfOk, IsOk
 ghost use Rattle.x_text.specs.Counts.{raised};
 ghost use Rattle.x_lex.specs.Tiling.{AreTokens};
 
+use crate::entry::Entry;
 use crate::scan::lex_one;
-use crate::tokens::{Entry, Tokens};
+use crate::tokens::Tokens;
 use std::alloc::Global;
 use x_text::{Meter, NoMemory, Source};
 
-/// The tokens of the text, each of which is counted. [`NoMemory`] where memory ran out; an empty text needs none.
+/// The tokens of the text, each of which is counted, with the seat behind the last of them. [`NoMemory`] where memory ran out;
+/// an empty text needs none.
 #[tactic(auto, using(crate::proofs::LexedLemmas::lexed_none))]
 pub fn lex(alloc: Global, source: &Source, meter: &mut Meter) -> Result<Tokens, NoMemory>
-    ensures tokens { IfOk result (λ tokens. AreTokens source.now tokens) }
-    ensures ticks { IfOk result (λ tokens. meter.new.lexed ≡ raised meter.old.lexed (length tokens)) }
+    ensures tokens { IfOk result (λ tokens. AreTokens source.now tokens.list) }
+    ensures seat { IfOk result (λ tokens. tokens.seat ≡ length tokens.list) }
+    ensures ticks { IfOk result (λ tokens. meter.new.lexed ≡ raised meter.old.lexed (length tokens.list)) }
     ensures no_memory { source.now ≡ [] → IsOk result }
     ensures others { meter.new ≡ record meter.old { lexed = meter.new.lexed } }
 {
@@ -28,5 +31,5 @@ pub fn lex(alloc: Global, source: &Source, meter: &mut Meter) -> Result<Tokens, 
         line_start = bytes[end - 1] == b'\n';
         at = end;
     }
-    Ok(Tokens::from_entries(entries))
+    Tokens::from_entries(alloc, entries)
 }

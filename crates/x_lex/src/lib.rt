@@ -1,11 +1,14 @@
 //! The tokens of the text of a `.x` file: [`lex`] cuts a text into tokens that follow one another without a gap, comments and
-//! white space among them, and [`lex_one`] finds the one token at a place.
+//! white space among them, [`lex_one`] finds the one token at a place, and [`relex`] finds what an edit does to the tokens.
 #![tactic(auto)]
 
 mod classes;
+mod entry;
 mod kind;
 mod laws;
 mod lexing;
+mod patch;
+mod relexing;
 mod scan;
 #[cfg(test)]
 mod tests;
@@ -14,8 +17,10 @@ mod tokens;
 mod words;
 
 pub use kind::Kind;
-pub use laws::{has_tokens, one_tiling, tokens_by_place};
+pub use laws::{has_tokens, one_meeting, one_tiling, tokens_by_place};
 pub use lexing::lex;
+pub use patch::Patch;
+pub use relexing::relex;
 pub use scan::lex_one;
 pub use token::Token;
 pub use tokens::{Tokens, Walk};

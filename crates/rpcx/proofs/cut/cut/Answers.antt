@@ -7,7 +7,7 @@ use Rattle.rpcx.proofs.cut.cut.Goals as goal
 
 pub loop-token-init : goal.loop-token-init
 loop-token-init c =
-    let all = lexemes c.args.source.now c.args.tokens.now in
+    let all = lexemes c.args.source.now c.args.tokens.now.list in
     let it = c.into_iter-token-iterator.result in
     let walk : it ≡ all = c.into_iter-token-iterator.ensures.into_iter_gives ∙ c.iter-token-items.ensures.tokens in
     let cut : HasCut all it (map lexeme c.new-part.result.items) c.new-cutter.result c.new-items.result.items =
@@ -20,11 +20,11 @@ loop-token-init c =
 pub ends-is_end-requires : goal.ends-is_end-requires
 ends-is_end-requires c =
     let l = length-map c.loop-token.part.items lexeme in
-    in_range (lexemes c.args.source.now c.args.tokens.now) c.loop-token.token-iterator (map lexeme c.loop-token.part.items) c.loop-token.cutter c.loop-token.items.items c.loop-token.invariant.cut (let small = c.loop-token.part.small in let ok = c.loop-token.part.ok in omega (arith, l, small, ok.0, ok.1))
+    in_range (lexemes c.args.source.now c.args.tokens.now.list) c.loop-token.token-iterator (map lexeme c.loop-token.part.items) c.loop-token.cutter c.loop-token.items.items c.loop-token.invariant.cut (let small = c.loop-token.part.small in let ok = c.loop-token.part.ok in omega (arith, l, small, ok.0, ok.1))
 
 pub loop-token-preserved-then-is_end : goal.loop-token-preserved-then-is_end
 loop-token-preserved-then-is_end c =
-    let all = lexemes c.args.source.now c.args.tokens.now in
+    let all = lexemes c.args.source.now c.args.tokens.now.list in
     let pushed = c.deref.ensures.value ∙ c.in_ok-push.ensures.items in
     let part : map lexeme c.deref.result.now ≡ map lexeme c.loop-token.part.items ++ lexeme c.in-Some.token ∷ [] = ap (map lexeme) pushed ∙ map-append lexeme c.loop-token.part.items (c.in-Some.token ∷ []) in
     let cut = has_end all c.loop-token.token-iterator c.next.new.self (map lexeme c.loop-token.part.items) (lexeme c.in-Some.token) c.loop-token.cutter c.loop-token.items.items c.ends-is_end.result c.ends-is_end.new.self c.in_ok-of.field-0
@@ -39,7 +39,7 @@ loop-token-preserved-then-is_end c =
 
 pub loop-token-preserved : goal.loop-token-preserved
 loop-token-preserved c =
-    let all = lexemes c.args.source.now c.args.tokens.now in
+    let all = lexemes c.args.source.now c.args.tokens.now.list in
     let pushed = ap (map lexeme) c.in_ok-push.ensures.items ∙ map-append lexeme c.loop-token.part.items (c.in-Some.token ∷ []) in
     record {
       cut = subst (λ part. HasCut all c.next.new.self part c.ends-is_end.new.self c.loop-token.items.items) (sym pushed)
@@ -50,7 +50,7 @@ loop-token-preserved c =
 
 pub returns-clause-cut : goal.returns-clause-cut
 returns-clause-cut c =
-    let all = lexemes c.args.source.now c.args.tokens.now in
+    let all = lexemes c.args.source.now c.args.tokens.now.list in
     subst (λ is. IsCut all is) (sym c.in_ok-push-3.ensures.items)
     (has_all all c.loop-token.token-iterator (map lexeme c.loop-token.part.items) c.loop-token.cutter c.loop-token.items.items c.in_ok-of-2.field-0 c.in-None.ensures.steps.0 c.loop-token.invariant.cut
     (subst (λ part. IsItem (map lexeme part) c.in_ok-of-2.field-0) c.deref-2.ensures.value c.in_ok-of-2.ensures.item))

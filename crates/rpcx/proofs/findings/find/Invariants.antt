@@ -10,8 +10,8 @@ use Rattle.rpcx.proofs.findings.find.Given as goal
 abbrev pub invariant-loop-index : goal.invariant-loop-index
 invariant-loop-index l = record {
   faults : l.faults.items ++ faults_from l.source (first_in l.names) l.index (parts l.walk (map view_item (drop l.index l.items)))
-      ≡ faults_from l.source (first_in l.names) 0 (parts (lexemes l.source l.fn.tokens) (map view_item l.items));
+      ≡ faults_from l.source (first_in l.names) 0 (parts (lexemes l.source l.fn.tokens.list) (map view_item l.items));
   body : l.body.items ++ body_from (first_in l.names) l.index (parts l.walk (map view_item (drop l.index l.items)))
-      ≡ body_from (first_in l.names) 0 (parts (lexemes l.source l.fn.tokens) (map view_item l.items));
+      ≡ body_from (first_in l.names) 0 (parts (lexemes l.source l.fn.tokens.list) (map view_item l.items));
   lines : l.lines ≡ l.source;
 }

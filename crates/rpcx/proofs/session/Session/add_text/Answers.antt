@@ -16,7 +16,7 @@ returns g c =
     let failed = g.S.Sink.has_failed c.args.sink.now in
     let end = g.S.Sink.contents c.add-3.new.sink in
     let fails = g.S.Sink.has_failed c.add-3.new.sink in
-    let items = parts (lexemes c.self.inside.source c.self.inside.tokens) (map view_item c.self.inside.items.items) in
+    let items = parts (lexemes c.self.inside.source c.self.inside.tokens.list) (map view_item c.self.inside.items.items) in
     let two = adds_trans c.args.pen.now c.add.new.self c.add-2.new.self start (g.S.Sink.contents c.add.new.sink) (g.S.Sink.contents c.add-2.new.sink) failed (g.S.Sink.has_failed c.add.new.sink) (g.S.Sink.has_failed c.add-2.new.sink)
     c.deref.result.now c.deref-2.result.now c.add.ensures c.add-2.ensures in
     let three = adds_trans c.args.pen.now c.add-2.new.self c.add-3.new.self start (g.S.Sink.contents c.add-2.new.sink) end failed (g.S.Sink.has_failed c.add-2.new.sink) fails
@@ -26,4 +26,4 @@ returns g c =
     let text : c.deref.result.now ++ c.deref-2.result.now ++ EPILOGUE.now ≡ header c.self.inside.base.items items = λ i. front i ++ body i ++ epilogue_is i in
     let told = subst (λ t. Adds c.args.pen.now start failed c.add-3.new.self end fails t) text three in
     subst (λ v. Compiles v.text (λ is. Adds c.args.pen.now start failed c.add-3.new.self end fails (header v.base is))) c.self.view_is
-    (c.self.inside.tokens, items, c.self.invariant.compiles, told)
+    (c.self.inside.tokens.list, items, c.self.invariant.compiles, told)

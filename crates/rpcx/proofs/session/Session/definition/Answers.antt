@@ -10,7 +10,7 @@ use Rattle.rpcx.proofs.session.Session.definition.Goals as goal
 
 pub returns : goal.returns
 returns c =
-    let tokens = lexemes c.self.inside.source c.self.inside.tokens in
+    let tokens = lexemes c.self.inside.source c.self.inside.tokens.list in
     let items = parts tokens (map view_item c.self.inside.items.items) in
     let found = c.definition_in.ensures ∙ ap (λ is. option_and_then kept_definition (slice_get is c.args.index)) c.deref.ensures.value ∙ definition_found tokens c.self.inside.items.items c.args.index in
-    subst (λ v. Compiles v.text (λ is. tree_at c.definition_in.result ≡ definition_at is c.args.index)) c.self.view_is (c.self.inside.tokens, items, c.self.invariant.compiles, found)
+    subst (λ v. Compiles v.text (λ is. tree_at c.definition_in.result ≡ definition_at is c.args.index)) c.self.view_is (c.self.inside.tokens.list, items, c.self.invariant.compiles, found)

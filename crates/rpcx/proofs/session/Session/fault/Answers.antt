@@ -8,6 +8,6 @@ use Rattle.rpcx.proofs.session.Session.fault.Goals as goal
 
 pub returns : goal.returns
 returns c =
-    let items = parts (lexemes c.self.inside.source c.self.inside.tokens) (map view_item c.self.inside.items.items) in
+    let items = parts (lexemes c.self.inside.source c.self.inside.tokens.list) (map view_item c.self.inside.items.items) in
     let found = c.fault_in.ensures ∙ ap (λ fs. slice_get fs c.args.index) (c.deref.ensures.value ∙ c.self.invariant.faults_are) in
-    subst (λ v. Compiles v.text (λ is. c.fault_in.result ≡ slice_get (faults_of v.text is) c.args.index)) c.self.view_is (c.self.inside.tokens, items, c.self.invariant.compiles, found)
+    subst (λ v. Compiles v.text (λ is. c.fault_in.result ≡ slice_get (faults_of v.text is) c.args.index)) c.self.view_is (c.self.inside.tokens.list, items, c.self.invariant.compiles, found)

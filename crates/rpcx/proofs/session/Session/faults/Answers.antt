@@ -7,6 +7,6 @@ use Rattle.rpcx.proofs.session.Session.faults.Goals as goal
 
 pub returns : goal.returns
 returns c =
-    let items = parts (lexemes c.self.inside.source c.self.inside.tokens) (map view_item c.self.inside.items.items) in
+    let items = parts (lexemes c.self.inside.source c.self.inside.tokens.list) (map view_item c.self.inside.items.items) in
     let found = c.deref.ensures.value ∙ c.self.invariant.faults_are in
-    subst (λ v. Compiles v.text (λ is. c.deref.result.now ≡ faults_of v.text is)) c.self.view_is (c.self.inside.tokens, items, c.self.invariant.compiles, found)
+    subst (λ v. Compiles v.text (λ is. c.deref.result.now ≡ faults_of v.text is)) c.self.view_is (c.self.inside.tokens.list, items, c.self.invariant.compiles, found)

@@ -9,7 +9,7 @@ use Rattle.rpcx.proofs.session.Session.item_count.Goals as goal
 
 pub returns : goal.returns
 returns c =
-    let tokens = lexemes c.self.inside.source c.self.inside.tokens in
+    let tokens = lexemes c.self.inside.source c.self.inside.tokens.list in
     let items = parts tokens (map view_item c.self.inside.items.items) in
     let count = c.len.ensures ∙ c.self.inside.items.ok.0 ∙ sym (length-parts tokens (map view_item c.self.inside.items.items) ∙ length-map c.self.inside.items.items view_item) in
-    subst (λ v. Compiles v.text (λ is. c.len.result ≡ length is)) c.self.view_is (c.self.inside.tokens, items, c.self.invariant.compiles, count)
+    subst (λ v. Compiles v.text (λ is. c.len.result ≡ length is)) c.self.view_is (c.self.inside.tokens.list, items, c.self.invariant.compiles, count)

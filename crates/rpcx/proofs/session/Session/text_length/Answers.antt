@@ -10,7 +10,7 @@ use Rattle.rpcx.proofs.session.Session.text_length.Goals as goal
 
 pub returns : goal.returns
 returns c =
-    let items = parts (lexemes c.self.inside.source c.self.inside.tokens) (map view_item c.self.inside.items.items) in
+    let items = parts (lexemes c.self.inside.source c.self.inside.tokens.list) (map view_item c.self.inside.items.items) in
     let front = c.self.inside.prologue.items in
     let body = c.self.inside.body.items in
     let front_is = c.self.invariant.front_is in
@@ -25,4 +25,4 @@ returns c =
     let parted = length-append front body in
     let size : c.len.result + c.len-2.result + 7 ≡ length (front ++ body ++ EPILOGUE.now) = omega (arith, seven, one, two, first.0, second.0, split, parted) in
     subst (λ v. Compiles v.text (λ is. c.len.result + c.len-2.result + 7 ≡ length (header v.base is))) c.self.view_is
-    (c.self.inside.tokens, items, c.self.invariant.compiles, size ∙ ap length text)
+    (c.self.inside.tokens.list, items, c.self.invariant.compiles, size ∙ ap length text)

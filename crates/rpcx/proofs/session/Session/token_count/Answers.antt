@@ -8,7 +8,7 @@ use Rattle.rpcx.proofs.session.Session.token_count.Goals as goal
 
 pub returns : goal.returns
 returns c =
-    let items = parts (lexemes c.self.inside.source c.self.inside.tokens) (map view_item c.self.inside.items.items) in
-    let all = tokens_are c.self.inside.source c.self.inside.tokens items c.self.invariant.compiles in
-    let count = c.len.ensures.count ∙ sym (length-lexemes c.self.inside.source 0 c.self.inside.tokens) ∙ ap length (sym all) in
-    subst (λ v. Compiles v.text (λ is. c.len.result ≡ length (tokens_of is))) c.self.view_is (c.self.inside.tokens, items, c.self.invariant.compiles, count)
+    let items = parts (lexemes c.self.inside.source c.self.inside.tokens.list) (map view_item c.self.inside.items.items) in
+    let all = tokens_are c.self.inside.source c.self.inside.tokens.list items c.self.invariant.compiles in
+    let count = c.len.ensures.count ∙ sym (length-lexemes c.self.inside.source 0 c.self.inside.tokens.list) ∙ ap length (sym all) in
+    subst (λ v. Compiles v.text (λ is. c.len.result ≡ length (tokens_of is))) c.self.view_is (c.self.inside.tokens.list, items, c.self.invariant.compiles, count)

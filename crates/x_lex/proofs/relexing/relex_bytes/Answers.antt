@@ -1,0 +1,110 @@
+use Rattle.std.proofs.Common.{◌≡◌, ℕ, ◌+◌, ◌-◌, ◌<◌, true, length, map, arith, sym, ap, subst, ◌∙◌, ⊎_elim}
+use Rattle.std.proofs.lemmas.Bool.{cases_lt}
+use Rattle.std.proofs.lemmas.List.{length_push}
+use Rattle.x_lex.specs.Tiling.{end_of}
+use Rattle.x_lex.specs.Places.{is_line_start}
+use Rattle.x_lex.specs.Relex.{old_place}
+use Rattle.x_lex.specs.Entries.{pair_of}
+use Rattle.x_lex.proofs.SpanLemmas.{span_tiles}
+use Rattle.x_lex.proofs.EndLemmas.{end_mono}
+use Rattle.x_lex.proofs.EntryLemmas.{pairs_pushed}
+use Rattle.x_lex.proofs.LexedLemmas.{counted_none, counted_more}
+use Rattle.x_lex.proofs.RelexLemmas.{boundary_reached}
+use Rattle.x_lex.proofs.RelexRun.{IsEdit, Relexing}
+use Rattle.x_lex.proofs.RelexEnds.{relexing_start, relexing_pushed, patch_agreed, patch_ended, patch_is, same_from_beq, differ_from_beq}
+use Rattle.x_lex.proofs.relexing.relex_bytes.Goals as goal
+use Rattle.x_lex.proofs.relexing.relex_bytes.Goals.{After-is_line_start-line_start, After-advance-index, else-shift-at-via-then-shift-at+then-end-target+else-is_line_start-line_start, else-shift-at-via-then-shift-at+else-end-target, else-shift-at-via-else-shift-at}
+
+is_edit : (c : After-is_line_start-line_start) → IsEdit c.args.old.now c.args.new.now c.args.edit.now.insert.now c.args.edit.now.start c.args.edit.now.end
+is_edit c = record { order = c.requires.within.0; within = c.requires.within.1; result = c.requires.edited }
+
+is_edit_at : (c : After-advance-index) → IsEdit c.args.old.now c.args.new.now c.args.edit.now.insert.now c.args.edit.now.start c.args.edit.now.end
+is_edit_at c = record { order = c.requires.within.0; within = c.requires.within.1; result = c.requires.edited }
+
+-- where the old place of `at` is
+abbrev place_of : (c : After-advance-index) → ℕ
+place_of c = old_place c.args.edit.now.start c.args.edit.now.end (length c.args.edit.now.insert.now) c.lexing.at
+
+target_is : (c : After-advance-index) → c.args.edit.now.end + c.saturating_sub.result ≡ old_place c.args.edit.now.start c.args.edit.now.end (length c.args.edit.now.insert.now) c.lexing.at
+target_is c = let e = c.saturating_sub.ensures in omega (arith, e)
+
+-- every boundary before the one that was walked to lies before the old place
+below : (c : After-advance-index) → (j : ℕ) → j < c.advance-index.result.0 → end_of c.args.tokens.now.list j < old_place c.args.edit.now.start c.args.edit.now.end (length c.args.edit.now.insert.now) c.lexing.at
+below c j lt =
+    ⊎_elim
+    (λ less. c.lexing.invariant.below j less)
+    (λ more. let b = c.advance-index.ensures.below j more lt in let e = target_is c in omega (arith, b, e))
+    (cases_lt j c.lexing.back)
+
+pub lexing-init : goal.lexing-init
+lexing-init c = record {
+  counted =
+      let f = c.lexed-counted.type_inv in
+      let e = c.lexed-counted.ensures in
+      counted_none c.args.meter.now (length c.new-fresh.result.items) (ap length c.new-fresh.ensures.items) (omega (arith, f, e));
+  relexing = relexing_start c.args.old.now c.args.new.now c.args.edit.now.insert.now c.args.edit.now.start c.args.edit.now.end (is_edit c) c.args.tokens.now.list c.requires.tokens c.front_before-kept.result.0 c.front_before-kept.ensures.front
+      (map pair_of c.new-fresh.result.items) c.is_line_start-line_start.result c.front_before-kept.result.1 (ap (map pair_of) c.new-fresh.ensures.items) c.is_line_start-line_start.ensures c.front_before-kept.ensures.place;
+  forward = omega arith;
+  within = c.front_before-kept.ensures.front.within;
+  place_is = c.front_before-kept.ensures.place;
+  below = λ j lt.
+      let f = c.front_before-kept.ensures.front.before (omega arith) in
+      let m = end_mono c.args.tokens.now.list j c.front_before-kept.result.0 (omega arith) in
+      let o = c.requires.within.0 in
+      omega (arith, f, m, o);
+}
+
+pub front_before-kept-requires : goal.front_before-kept-requires
+front_before-kept-requires c = sym (span_tiles true c.args.old.now c.args.tokens.now.list c.requires.tokens)
+
+pub new-requires-in-lexing : goal.new-requires-in-lexing
+new-requires-in-lexing c = let w = c.lex_one-kind.ensures.within in let s = c.requires.small in omega (arith, w, s)
+
+pub returns-then-is_line_start-line_start-clause-patch : goal.returns-then-is_line_start-line_start-clause-patch
+returns-then-is_line_start-line_start-clause-patch c =
+    let after = (goal.at.returns-then-is_line_start-line_start-clause-patch c).After-advance-index in
+    patch_is c.args.old.now c.args.new.now c.args.tokens.now.list c.args.edit.now.start c.args.edit.now.end (length c.args.edit.now.insert.now) c.front_before-kept.result.0 (c.advance-index.result.0 - c.front_before-kept.result.0) c.front_before-kept.result.1
+    (map pair_of c.lexing.fresh.items) c.new.result c.new.ensures c.front_before-kept.ensures.place
+    (patch_agreed c.args.old.now c.args.new.now c.args.edit.now.insert.now c.args.edit.now.start c.args.edit.now.end (is_edit_at after) c.args.tokens.now.list c.requires.tokens c.front_before-kept.result.0 c.front_before-kept.ensures.front
+    (map pair_of c.lexing.fresh.items) c.lexing.line_start c.lexing.at c.lexing.invariant.relexing c.advance-index.result.0 (omega arith) c.advance-index.ensures.within
+    c.if-shift-at.true
+    (sym c.advance-index.ensures.place ∙ c.if-end-target.true ∙ target_is after)
+    (ap (λ p. is_line_start c.args.old.now p) (sym (target_is after)) ∙ sym c.is_line_start.ensures ∙ same_from_beq c.is_line_start.result c.lexing.line_start c.if-is_line_start-line_start.true)
+    (below after))
+
+pub returns-then-at-new-clause-patch : goal.returns-then-at-new-clause-patch
+returns-then-at-new-clause-patch c =
+    let after = (goal.at.returns-then-at-new-clause-patch c).After-advance-index in
+    patch_is c.args.old.now c.args.new.now c.args.tokens.now.list c.args.edit.now.start c.args.edit.now.end (length c.args.edit.now.insert.now) c.front_before-kept.result.0 (length c.args.tokens.now.list - c.front_before-kept.result.0) c.front_before-kept.result.1
+    (map pair_of c.lexing.fresh.items) c.new-then-at-new.result
+    (c.new-then-at-new.ensures ∙ λ i. record { at = c.front_before-kept.result.0; removed = c.len.ensures.count i - c.front_before-kept.result.0; start = c.front_before-kept.result.1; fresh = map pair_of c.lexing.fresh.items })
+    c.front_before-kept.ensures.place
+    (patch_ended c.args.old.now c.args.new.now c.args.edit.now.insert.now c.args.edit.now.start c.args.edit.now.end (is_edit_at after) c.args.tokens.now.list c.requires.tokens c.front_before-kept.result.0 c.front_before-kept.ensures.front
+    (map pair_of c.lexing.fresh.items) c.lexing.line_start
+    (subst (λ p. Relexing c.args.old.now c.args.new.now c.args.tokens.now.list c.args.edit.now.start c.args.edit.now.end (length c.args.edit.now.insert.now) c.front_before-kept.result.0 (map pair_of c.lexing.fresh.items) c.lexing.line_start p) c.if-at-new.true c.lexing.invariant.relexing))
+
+pub lexing-preserved : goal.lexing-preserved
+lexing-preserved c =
+    let after = (goal.at.lexing-preserved c).After-advance-index in
+    let t = target_is after in
+    record {
+      counted =
+          let one = ap length c.in_ok-push.ensures.items ∙ length_push c.lexing.fresh.items c.new-in-lexing.result in
+          counted_more c.args.meter.now c.lexing.meter c.lex_one-kind.new.meter (length c.lexing.fresh.items) (length c.push.new.self.items) c.lexing.invariant.counted one c.lex_one-kind.ensures.meter;
+      relexing = relexing_pushed c.args.old.now c.args.new.now c.args.edit.now.insert.now c.args.edit.now.start c.args.edit.now.end (is_edit_at after) c.args.tokens.now.list c.requires.tokens c.front_before-kept.result.0 c.front_before-kept.ensures.front
+          (map pair_of c.lexing.fresh.items) (map pair_of c.push.new.self.items) c.lexing.line_start c.lexing.at c.lex_one-kind.result.1 c.lex_one-kind.result.0 c.lexing.invariant.relexing
+          (λ m.
+          elim c.else-shift-at.branch [
+            | else-shift-at-via-then-shift-at+then-end-target+else-is_line_start-line_start w ↦
+                differ_from_beq w.is_line_start.result c.lexing.line_start w.if-is_line_start-line_start.false (w.is_line_start.ensures ∙ ap (λ p. is_line_start c.args.old.now p) t ∙ m.starts ∙ sym c.lexing.invariant.relexing.bit)
+            | else-shift-at-via-then-shift-at+else-end-target w ↦
+                w.if-end-target.false (c.advance-index.ensures.place ∙ boundary_reached c.args.tokens.now.list c.advance-index.result.0 (place_of after) (below after) (λ lt. let r = c.advance-index.ensures.reached lt in let p = c.advance-index.ensures.place in omega (arith, r, p, t)) m.in_old ∙ sym t)
+            | else-shift-at-via-else-shift-at w ↦ let b = m.behind in absurd (omega (arith, b))
+          ])
+          c.lex_one-kind.ensures.after c.lex_one-kind.ensures.within c.lex_one-kind.ensures.token
+          (pairs_pushed c.lexing.fresh.items c.push.new.self.items c.new-in-lexing.result (c.lex_one-kind.result.0, c.lex_one-kind.result.1 - c.lexing.at) c.in_ok-push.ensures.items c.new-in-lexing.ensures);
+      forward = omega arith;
+      within = c.advance-index.ensures.within;
+      place_is = c.advance-index.ensures.place;
+      below = λ j lt. let b = below after j lt in let l = c.lex_one-kind.ensures.after in omega (arith, b, l);
+    }

@@ -1,0 +1,64 @@
+-- What an edit leaves of a text's tokens. It compares the tokens of two texts, each lexed from its start: `ts` of the old text
+-- and `us` of the new one. The bytes from a to before b of the old text went, and n bytes came in their place.
+use Rattle.std.specs.Prelude.{◌≡◌, ℕ, ◌+◌, ◌-◌, ◌<◌, ◌≤◌, ◌||◌, ◌⊎◌, nat_lt, nat_le, List, [], ◌∷◌, ◌++◌, length, take, drop, if◌then◌else◌}
+use Rattle.x_lex.specs.declared.kind.Kind.{Kind}
+use Rattle.x_lex.specs.Tiling.{AreTokens, end_of}
+use Rattle.x_lex.specs.Places.{is_line_start}
+use Rattle.x_lex.specs.TokenList.{TokenPatch, patched, LiesAmong}
+
+-- the place is 0 or the end of a token
+pub record IsBoundary (ts : List (Kind × ℕ)) (place : ℕ) : Type 0 where
+  pub index : ℕ
+  pub within : index ≤ length ts
+  pub ends : end_of ts index ≡ place
+
+-- where a place behind the new bytes was in the old text: as far behind the bytes that went
+abbrev pub old_place : ℕ → ℕ → ℕ → ℕ → ℕ
+old_place a b n place = b + (place - (a + n))
+
+-- the place is behind the new bytes, it is a boundary of both texts, and it is a line start in both or in neither
+pub record Agrees (old new : List ℕ) (ts us : List (Kind × ℕ)) (a b n place : ℕ) : Type 0 where
+  pub behind : a + n ≤ place
+  pub in_new : IsBoundary us place
+  pub in_old : IsBoundary ts (old_place a b n place)
+  pub starts : is_line_start old (old_place a b n place) ≡ is_line_start new place
+
+-- the place is the least that agrees, or the end of the new text where none does
+pub record IsMeeting (old new : List ℕ) (ts us : List (Kind × ℕ)) (a b n place : ℕ) : Type 0 where
+  pub meets : Agrees old new ts us a b n place ⊎ (place ≡ length new)
+  pub least : (other : ℕ) → other < place → Agrees old new ts us a b n other → ⊥
+
+-- those of the tokens, the first of which starts at `at`, that neither end before a nor start at q or behind it
+abbrev pub fresh_from : ℕ → ℕ → ℕ → List (Kind × ℕ) → List (Kind × ℕ)
+fresh_from a q at [] = []
+fresh_from a q at (t ∷ ts) = if nat_lt (at + t.1) a || nat_le q at then fresh_from a q (at + t.1) ts else t ∷ fresh_from a q (at + t.1) ts
+
+-- those of the tokens of the new text, where q is the meeting place
+abbrev pub fresh : ℕ → ℕ → List (Kind × ℕ) → List (Kind × ℕ)
+fresh a q us = fresh_from a q 0 us
+
+-- those of the tokens, the first of which starts at `at`, that end before a or start at q or behind it
+abbrev pub kept_from : ℕ → ℕ → ℕ → List (Kind × ℕ) → List (Kind × ℕ)
+kept_from a q at [] = []
+kept_from a q at (t ∷ ts) = if nat_lt (at + t.1) a || nat_le q at then t ∷ kept_from a q (at + t.1) ts else kept_from a q (at + t.1) ts
+
+-- those of the tokens of the old text, where q is the old place of the meeting place
+abbrev pub kept : ℕ → ℕ → List (Kind × ℕ) → List (Kind × ℕ)
+kept a q ts = kept_from a q 0 ts
+
+-- x is how many of the tokens end before a
+pub record IsFront (ts : List (Kind × ℕ)) (a x : ℕ) : Type 0 where
+  pub within : x ≤ length ts
+  pub before : 0 < x → end_of ts x < a
+  pub next : x < length ts → a ≤ end_of ts (x + 1)
+
+-- the patch puts the fresh tokens, and no others, in place of the old ones that are not kept, and leaves the tokens of the new text
+pub record IsPatch (old new : List ℕ) (ts : List (Kind × ℕ)) (a b n : ℕ) (patch : TokenPatch) : Type 0 where
+  pub front : IsFront ts a patch.at
+  pub start : patch.start ≡ end_of ts patch.at
+  pub among : LiesAmong ts patch
+  pub tokens : AreTokens new (patched ts patch)
+  pub place : ℕ
+  pub meeting : IsMeeting old new ts (patched ts patch) a b n place
+  pub fresh_are : patch.fresh ≡ fresh a place (patched ts patch)
+  pub kept_are : take patch.at ts ++ drop (patch.at + patch.removed) ts ≡ kept a (old_place a b n place) ts
