@@ -1,3 +1,4 @@
 pub mod Columns
 pub mod Edits
 pub mod Pens
+pub mod SeqLemmas

@@ -4,6 +4,8 @@
 
 mod edit;
 mod fault;
+mod gap_iter;
+mod gap_seq;
 mod input;
 mod lines;
 mod mem_sink;
@@ -12,12 +14,17 @@ mod meter;
 mod no_memory;
 mod out;
 mod pen;
+mod plain_seq;
+mod seq;
+mod shift;
 mod sink;
 mod source;
 mod tap;
 
 pub use edit::Edit;
 pub use fault::TextFault;
+pub use gap_iter::GapIter;
+pub use gap_seq::GapSeq;
 pub use input::In;
 pub use lines::Lines;
 pub use mem_sink::MemSink;
@@ -26,6 +33,8 @@ pub use meter::Meter;
 pub use no_memory::NoMemory;
 pub use out::Out;
 pub use pen::{Pen, WriteFault};
+pub use plain_seq::PlainSeq;
+pub use seq::Seq;
 pub use sink::{Broken, Sink};
 pub use source::{MAX_TEXT, Source};
 pub use tap::Tap;

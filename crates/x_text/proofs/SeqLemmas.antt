@@ -1,0 +1,39 @@
+-- Two stacks as one list, seen from the other end, and with a run replaced at the seat.
+use Rattle.std.proofs.Common.{◌≡◌, ℕ, zero, suc, ◌+◌, ◌-◌, ◌≤◌, List, [], ◌∷◌, ◌++◌, take, drop, length, reverse, sym, ap, ◌∙◌, arith, length-append, length-drop}
+use Rattle.std.specs.List.{splice}
+use Rattle.std.proofs.lemmas.List.{append_assoc, drop_at, reverse-append, reverse-reverse, length-reverse, take-append-drop, take-append-le}
+
+other_end : {X : Type 0} → (a b : List X) → reverse (a ++ reverse b) ≡ b ++ reverse a
+other_end a b = reverse-append a (reverse b) ∙ ap (λ t. t ++ reverse a) (reverse-reverse b)
+
+-- what two stacks hold from one end, they hold from the other
+pub turned : {X : Type 0} → (a b c d : List X) → a ++ reverse b ≡ c ++ reverse d → b ++ reverse a ≡ d ++ reverse c
+turned a b c d e = sym (other_end a b) ∙ ap reverse e ∙ other_end c d
+
+-- a stack's lowest entries are the last of the list that it stands for
+pub reverse-take : {X : Type 0} → (xs : List X) (n : ℕ) → n ≤ length xs → reverse (take n xs) ≡ drop (length xs - n) (reverse xs)
+reverse-take xs n l =
+    let e : reverse xs ≡ reverse (drop n xs) ++ reverse (take n xs) = ap reverse (sym (take-append-drop n xs)) ∙ reverse-append (take n xs) (drop n xs) in
+    let m : length (reverse (drop n xs)) ≡ length xs - n = length-reverse (drop n xs) ∙ length-drop n xs in
+    sym (ap (drop (length xs - n)) e ∙ drop_at (reverse (drop n xs)) (reverse (take n xs)) (length xs - n) m)
+
+drop_part : {X : Type 0} → (xs ys : List X) (m : ℕ) → drop (length xs + m) (xs ++ ys) ≡ drop m ys
+drop_part [] ys m =
+    let e : zero + m ≡ m = omega arith in
+    ap (λ n. drop n ys) e
+drop_part (x ∷ xs) ys m =
+    let e : suc (length xs) + m ≡ suc (length xs + m) = omega arith in
+    ap (λ n. drop n (x ∷ (xs ++ ys))) e ∙ drop_part xs ys m
+
+-- the seat stands within the removed range: its part before the seat goes from the top of one stack, the other from the top of the other
+pub spliced : {X : Type 0} → (front rear last cut new list : List X) (at end middle : ℕ) → front ++ reverse rear ≡ list → length front ≡ middle → at ≤ middle → middle ≤ end → end ≤ length list
+    → last ≡ take at front ++ new → cut ≡ take (length rear - (end - middle)) rear → last ++ reverse cut ≡ splice list at end new
+spliced front rear last cut new list at end middle e lf lo hi w el ec =
+    let total : length front + length rear ≡ length list = omega (arith, length-append front (reverse rear), length-reverse rear, ap length e) in
+    let n : end - middle ≤ length rear = omega arith in
+    let q : length rear - (length rear - (end - middle)) ≡ end - middle = omega arith in
+    let r : reverse cut ≡ drop (end - middle) (reverse rear) = ap reverse ec ∙ reverse-take rear (length rear - (end - middle)) (omega arith) ∙ ap (λ k. drop k (reverse rear)) q in
+    let t : take at list ≡ take at front = ap (take at) (sym e) ∙ take-append-le at front (reverse rear) (omega arith) in
+    let k : end ≡ length front + (end - middle) = omega arith in
+    let d : drop end list ≡ drop (end - middle) (reverse rear) = ap (drop end) (sym e) ∙ ap (λ i. drop i (front ++ reverse rear)) k ∙ drop_part front (reverse rear) (end - middle) in
+    rw (el, r, t, d) (append_assoc (take at front) new (drop (end - middle) (reverse rear)))

@@ -1,0 +1,17 @@
+-- Lists with room for more entries.
+use Rattle.std.specs.Prelude.{ℕ, ◌+◌, ◌-◌, List}
+
+-- a list, and how many more entries it has room for
+pub record Roomy (T : Type 0) : Type 0 where
+  pub list : List T
+  pub spare : ℕ
+
+-- the same for a list that is cut at a seat: the entries before it stand in one part, the others in another
+pub record Gapped (T : Type 0) : Type 0 where
+  pub list : List T
+  pub seat : ℕ
+  pub spare : ℕ
+
+-- how far a seat is from the range from `at` to before `end`: how many entries lie between them
+abbrev pub distance : ℕ → ℕ → ℕ → ℕ
+distance seat at end = (at - seat) + (seat - end)

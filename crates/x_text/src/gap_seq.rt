@@ -1,0 +1,129 @@
+ghost use Rattle.std.specs.Prelude.{◌≡◌, ◌↔◌, ◌+◌, ◌<◌, ◌≤◌, ◌^◌, ℕ, [], OnOk, OnErr, length, slice_get, option_copied};
+ghost use Rattle.std.specs.List.{splice};
+ghost use Rattle.x_text.specs.Seqs.{distance};
+
+use crate::shift::{append_in_room, seek};
+use crate::{GapIter, NoMemory, Seq};
+use std::alloc::Global;
+use std::marker::Model;
+
+/// A [`Seq`] as two stacks that meet at a seat: a change near the last one moves few entries.
+///
+/// Each stack has room for all entries.
+#[derive(Debug, Drop)]
+pub struct GapSeq<T> {
+    front: Vec<T>,
+    /// The entries behind the seat, the last of them first.
+    rear: Vec<T>,
+}
+
+impl<T> Model for GapSeq<T> {
+    ghost use Rattle.std.specs.Prelude.{◌+◌, ◌-◌, ◌≤◌, ◌++◌, min, reverse, length, vec_len, vec_capacity};
+    ghost use Rattle.x_text.specs.Seqs.{Gapped};
+
+    ghost Value = { Gapped T };
+
+    ghost view = { λ s. record {
+        list = s.front.items ++ reverse s.rear.items;
+        seat = vec_len s.front;
+        spare = min (vec_capacity s.front) (vec_capacity s.rear) - (vec_len s.front + vec_len s.rear)
+    } };
+
+    // So that entries can go from stack to stack.
+    ghost invariant = { λ s. (vec_len s.front + vec_len s.rear ≤ vec_capacity s.front) × (vec_len s.front + vec_len s.rear ≤ vec_capacity s.rear) };
+}
+
+impl<T> GapSeq<T> {
+    /// The empty list.
+    pub fn new(alloc: Global) -> GapSeq<T>
+        ensures list { result.list ≡ [] }
+        ensures seat { result.seat ≡ 0 }
+    {
+        GapSeq {
+            front: Vec::new(alloc),
+            rear: Vec::new(alloc),
+        }
+    }
+
+    /// How many entries stand before the seat.
+    pub fn seat(&self) -> usize
+        ensures seat { result ≡ self.now.seat }
+        ensures within { result ≤ length self.now.list }
+    {
+        self.front.len()
+    }
+
+    /// Goes over the entries.
+    pub fn iter(&self) -> GapIter<'_, T>
+        ensures list { result ≡ self.now.list }
+        ensures small { length result < 2 ^ 64 }
+    {
+        GapIter::new(&self.front, &self.rear)
+    }
+}
+
+impl<T: Drop> Seq<T> for GapSeq<T> {
+    ghost use Rattle.std.specs.Prelude.{◌+◌};
+    ghost use Rattle.x_text.specs.Seqs.{distance};
+
+    ghost list = { λ s. s.list };
+
+    ghost spare = { λ s. s.spare };
+
+    ghost moves = { λ s at remove. distance s.seat at (at + remove) };
+
+    fn len(&self) -> usize {
+        self.front.len() + self.rear.len()
+    }
+
+    fn get(&self, index: usize) -> Option<&T> {
+        let seat = self.front.len();
+        if index < seat {
+            return self.front.get(index);
+        }
+        let count = self.rear.len();
+        if index - seat < count {
+            return self.rear.get(count - 1 - (index - seat));
+        }
+        None
+    }
+
+    fn spare(&self) -> usize {
+        let room = self.front.capacity().min(self.rear.capacity());
+        room - (self.front.len() + self.rear.len())
+    }
+
+    fn reserve(&mut self, extra: usize) -> Result<(), NoMemory>
+        ensures list { self.new.list ≡ self.old.list }
+        ensures seat { self.new.seat ≡ self.old.seat }
+        ensures ok { OnOk result (extra ≤ self.new.spare) }
+        ensures full { OnErr result (self.old.spare < extra) }
+        ensures room { self.old.spare ≤ self.new.spare }
+        ensures moves { (at remove : ℕ) → distance self.new.seat at (at + remove) ≡ distance self.old.seat at (at + remove) }
+    {
+        let more_front = self.rear.len().checked_add(extra).ok_or(NoMemory)?;
+        let more_rear = self.front.len().checked_add(extra).ok_or(NoMemory)?;
+        self.front.reserve(more_front)?;
+        self.rear.reserve(more_rear)?;
+        Ok(())
+    }
+
+    fn splice(&mut self, at: usize, remove: usize, new: Vec<T>) -> u64
+        requires within { at + remove ≤ length self.old.list }
+        requires room { length new.items ≤ self.old.spare }
+        ensures list { self.new.list ≡ splice self.old.list at (at + remove) new.items }
+        ensures seat { self.new.seat ≡ at + length new.items }
+        ensures moved { result ≡ distance self.old.seat at (at + remove) }
+        ensures room { self.old.spare + remove ≤ self.new.spare + length new.items }
+    {
+        let seat = self.front.len();
+        let end = at + remove;
+        let middle = seat.clamp(at, end);
+        let moved = seek(&mut self.front, &mut self.rear, middle);
+        self.front.truncate(at);
+        let kept = self.rear.len() - (end - middle);
+        self.rear.truncate(kept);
+        append_in_room(&mut self.front, new);
+        moved as u64
+    }
+}
