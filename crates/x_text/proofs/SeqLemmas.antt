@@ -1,6 +1,7 @@
 -- Two stacks as one list, seen from the other end, and with a run replaced at the seat.
-use Rattle.std.proofs.Common.{◌≡◌, ℕ, zero, suc, ◌+◌, ◌-◌, ◌≤◌, List, [], ◌∷◌, ◌++◌, take, drop, length, reverse, sym, ap, ◌∙◌, arith, length-append, length-drop}
+use Rattle.std.proofs.Common.{◌≡◌, ℕ, zero, suc, ◌+◌, ◌-◌, ◌≤◌, List, [], ◌∷◌, ◌++◌, take, drop, length, reverse, sym, ap, ◌∙◌, arith, length-append, length-drop, length-take-le}
 use Rattle.std.specs.List.{splice}
+use Rattle.std.proofs.Math.Seq.{take-append_seam}
 use Rattle.std.proofs.lemmas.List.{append_assoc, drop_at, reverse-append, reverse-reverse, length-reverse, take-append-drop, take-append-le}
 
 other_end : {X : Type 0} → (a b : List X) → reverse (a ++ reverse b) ≡ b ++ reverse a
@@ -37,3 +38,23 @@ spliced front rear last cut new list at end middle e lf lo hi w el ec =
     let k : end ≡ length front + (end - middle) = omega arith in
     let d : drop end list ≡ drop (end - middle) (reverse rear) = ap (drop end) (sym e) ∙ ap (λ i. drop i (front ++ reverse rear)) k ∙ drop_part front (reverse rear) (end - middle) in
     rw (el, r, t, d) (append_assoc (take at front) new (drop (end - middle) (reverse rear)))
+
+-- in one list: the kept entries go before the removed ones, which are cut off, and then behind the new ones
+pub replaced : {X : Type 0} → (list turned kept whole last new : List X) (at remove moved : ℕ) → at + remove ≤ length list → moved ≡ length list - (at + remove)
+    → turned ≡ take at list ++ (drop (at + remove) list ++ take remove (drop at list)) → kept ≡ take (at + moved) turned → whole ≡ kept ++ new
+    → last ≡ take at whole ++ (drop (at + moved) whole ++ take moved (drop at whole)) → last ≡ splice list at (at + remove) new
+replaced list turned kept whole last new at remove moved within moved_is turned_is kept_is whole_is last_is =
+    let front = take at list in
+    let behind = drop (at + remove) list in
+    let gone = take remove (drop at list) in
+    let front_length : length front ≡ at = length-take-le at list (omega arith) in
+    let behind_length : length behind ≡ moved = length-drop (at + remove) list ∙ sym moved_is in
+    let both : length (front ++ behind) ≡ at + moved = omega (arith, length-append front behind) in
+    let left : kept ≡ front ++ behind = kept_is ∙ ap (take (at + moved)) (turned_is ∙ sym (append_assoc front behind gone)) ∙ ap (λ n. take n ((front ++ behind) ++ gone)) (sym both) ∙ take-append_seam (front ++ behind) gone in
+    let all : whole ≡ (front ++ behind) ++ new = whole_is ∙ ap (λ t. t ++ new) left in
+    let parts : whole ≡ front ++ (behind ++ new) = all ∙ append_assoc front behind new in
+    let first : take at whole ≡ front = ap (take at) parts ∙ ap (λ n. take n (front ++ (behind ++ new))) (sym front_length) ∙ take-append_seam front (behind ++ new) in
+    let rest : drop at whole ≡ behind ++ new = ap (drop at) parts ∙ drop_at front (behind ++ new) at front_length in
+    let middle : take moved (drop at whole) ≡ behind = ap (take moved) rest ∙ ap (λ n. take n (behind ++ new)) (sym behind_length) ∙ take-append_seam behind new in
+    let put : drop (at + moved) whole ≡ new = ap (drop (at + moved)) all ∙ drop_at (front ++ behind) new (at + moved) both in
+    last_is ∙ (λ i. first i ++ (put i ++ middle i))

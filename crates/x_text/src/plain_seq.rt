@@ -1,4 +1,4 @@
-ghost use Rattle.std.specs.Prelude.{◌≡◌, ◌+◌, ◌-◌, ◌≤◌, [], length};
+ghost use Rattle.std.specs.Prelude.{◌≡◌, ◌+◌, ◌-◌, ◌≤◌, ◌++◌, [], length, take, drop, vec_len, vec_capacity};
 ghost use Rattle.std.specs.List.{splice};
 
 use crate::shift::append_in_room;
@@ -58,6 +58,7 @@ impl<T: Drop> Seq<T> for PlainSeq<T> {
         Ok(())
     }
 
+    #[tactic(auto, using(crate::proofs::SeqLemmas::replaced))]
     fn splice(&mut self, at: usize, remove: usize, new: Vec<T>) -> u64
         requires within { at + remove ≤ length self.old.list }
         requires room { length new.items ≤ self.old.spare }
@@ -66,11 +67,21 @@ impl<T: Drop> Seq<T> for PlainSeq<T> {
         ensures room { self.old.spare + remove ≤ self.new.spare + length new.items }
     {
         let moved = self.entries.len() - (at + remove);
-        // The kept entries come to stand before the removed ones, and then before the new ones.
-        self.entries[at..].rotate_left(remove);
+        // The kept entries go before the removed ones, and then behind the new ones.
+        rotate_behind(&mut self.entries, at, remove);
         self.entries.truncate(at + moved);
         append_in_room(&mut self.entries, new);
-        self.entries[at..].rotate_left(moved);
+        rotate_behind(&mut self.entries, at, moved);
         moved as u64
     }
+}
+
+/// Moves `count` entries, from `at` on, behind all that follow them.
+fn rotate_behind<T>(entries: &mut Vec<T>, at: usize, count: usize)
+    requires { at + count ≤ vec_len entries.old }
+    ensures items { entries.new.items ≡ take at entries.old.items ++ (drop (at + count) entries.old.items ++ take count (drop at entries.old.items)) }
+    ensures len { vec_len entries.new ≡ vec_len entries.old }
+    ensures capacity { vec_capacity entries.new ≡ vec_capacity entries.old }
+{
+    entries[at..].rotate_left(count);
 }

@@ -1,4 +1,4 @@
-use Rattle.std.proofs.Common.{◌≡◌, ◌++◌, length, ap, ◌∙◌, arith}
+use Rattle.std.proofs.Common.{◌≡◌, ◌+◌, ◌++◌, length, ap, ◌∙◌, arith}
 use Rattle.x_text.proofs.SeqLemmas.{spliced}
 use Rattle.x_text.proofs.gap_seq.GapSeqSeq.splice.Goals as goal
 
