@@ -1,4 +1,4 @@
-ghost use Rattle.std.specs.Prelude.{◌≡◌, ◌↔◌, ◌+◌, ◌<◌, ◌≤◌, ◌^◌, ℕ, [], OnOk, OnErr, length, slice_get, option_copied};
+ghost use Rattle.std.specs.Prelude.{◌≡◌, ◌↔◌, ◌+◌, ◌<◌, ◌≤◌, ◌^◌, [], OnOk, OnErr, length, slice_get, option_copied};
 ghost use Rattle.std.specs.List.{splice};
 ghost use Rattle.x_text.specs.Seqs.{distance};
 
@@ -24,9 +24,9 @@ impl<T> Model for GapSeq<T> {
     ghost Value = { Gapped T };
 
     ghost view = { λ s. record {
-        list = s.front.items ++ reverse s.rear.items;
-        seat = vec_len s.front;
-        spare = min (vec_capacity s.front) (vec_capacity s.rear) - (vec_len s.front + vec_len s.rear)
+      list = s.front.items ++ reverse s.rear.items;
+      seat = vec_len s.front;
+      spare = min (vec_capacity s.front) (vec_capacity s.rear) - (vec_len s.front + vec_len s.rear);
     } };
 
     // So that entries can go from stack to stack.
@@ -34,10 +34,9 @@ impl<T> Model for GapSeq<T> {
 }
 
 impl<T> GapSeq<T> {
-    /// The empty list.
+    /// The empty list, which has no room yet.
     pub fn new(alloc: Global) -> GapSeq<T>
-        ensures list { result.list ≡ [] }
-        ensures seat { result.seat ≡ 0 }
+        ensures { result ≡ record { list = []; seat = 0; spare = 0 } }
     {
         GapSeq {
             front: Vec::new(alloc),
@@ -73,11 +72,11 @@ impl<T: Drop> Seq<T> for GapSeq<T> {
     ghost moves = { λ s at remove. distance s.seat at (at + remove) };
 
     fn len(&self) -> usize {
-        self.front.len() + self.rear.len()
+        self.seat() + self.rear.len()
     }
 
     fn get(&self, index: usize) -> Option<&T> {
-        let seat = self.front.len();
+        let seat = self.seat();
         if index < seat {
             return self.front.get(index);
         }
@@ -99,7 +98,6 @@ impl<T: Drop> Seq<T> for GapSeq<T> {
         ensures ok { OnOk result (extra ≤ self.new.spare) }
         ensures full { OnErr result (self.old.spare < extra) }
         ensures room { self.old.spare ≤ self.new.spare }
-        ensures moves { (at remove : ℕ) → distance self.new.seat at (at + remove) ≡ distance self.old.seat at (at + remove) }
     {
         let more_front = self.rear.len().checked_add(extra).ok_or(NoMemory)?;
         let more_rear = self.front.len().checked_add(extra).ok_or(NoMemory)?;
@@ -127,3 +125,6 @@ impl<T: Drop> Seq<T> for GapSeq<T> {
         moved as u64
     }
 }
+
+#[cfg(test)]
+mod tests;

@@ -22,9 +22,9 @@ impl<T> Model for PlainSeq<T> {
 }
 
 impl<T> PlainSeq<T> {
-    /// The empty list.
+    /// The empty list, which has no room yet.
     pub fn new(alloc: Global) -> PlainSeq<T>
-        ensures { result.list ≡ [] }
+        ensures { result ≡ record { list = []; spare = 0 } }
     {
         PlainSeq {
             entries: Vec::new(alloc),
