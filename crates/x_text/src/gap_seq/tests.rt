@@ -7,14 +7,8 @@ fn goes_to_changes(rt: HostRuntime) -> Result<(), Fail> {
     let mut seq = GapSeq::new(alloc);
     assert_eq!(rt; seq.seat(), 0);
     seq.reserve(11)?;
-    assert_eq!(rt;
-        seq.splice(
-            0,
-            0,
-            Vec::from_slice(alloc, &[0, 1, 2, 3, 4, 5, 6, 7, 8, 9])?
-        ),
-        0
-    );
+    let ten = Vec::from_slice(alloc, &[0, 1, 2, 3, 4, 5, 6, 7, 8, 9])?;
+    assert_eq!(rt; seq.splice(0, 0, ten), 0);
     assert_eq!(rt; seq.seat(), 10);
     assert_eq!(rt; seq.splice(3, 2, Vec::from_slice(alloc, &[30])?), 5);
     assert_eq!(rt; seq.seat(), 4);
