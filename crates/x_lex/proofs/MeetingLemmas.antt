@@ -1,11 +1,13 @@
--- There is one place where the old tokens hold again.
-use Rattle.std.proofs.Common.{◌≡◌, ℕ, ◌<◌, ◌⊎◌, inl, inr, ⊎_elim, true, List, length, arith}
+-- There is one place where the old tokens hold again, and so one patch.
+use Rattle.std.proofs.Common.{◌≡◌, ℕ, ◌+◌, ◌<◌, ◌≤◌, ◌⊎◌, inl, inr, ⊎_elim, true, List, ◌++◌, length, take, drop, arith, sym, ap, subst, ◌∙◌, length-append, length-take-le, length-drop}
 use Rattle.std.proofs.lemmas.Bool.{cases_order}
 use Rattle.x_lex.specs.declared.kind.Kind.{Kind}
-use Rattle.x_lex.specs.Tiling.{AreTokens}
-use Rattle.x_lex.specs.Relex.{Agrees, IsMeeting}
+use Rattle.x_lex.specs.Tiling.{AreTokens, end_of}
+use Rattle.x_lex.specs.TokenList.{TokenPatch, patched}
+use Rattle.x_lex.specs.Relex.{Agrees, IsMeeting, IsFront, IsPatch, old_place, fresh, kept}
+use Rattle.x_lex.proofs.TilingLemmas.{same_tiles}
 use Rattle.x_lex.proofs.SpanLemmas.{span_tiles}
-use Rattle.x_lex.proofs.EndLemmas.{end_le_span}
+use Rattle.x_lex.proofs.EndLemmas.{end_le_span, end_mono}
 
 module _ (old new : List ℕ) (ts us : List (Kind × ℕ)) (a b n : ℕ) (tiles : AreTokens new us) where
   -- no meeting lies behind another
@@ -27,3 +29,48 @@ module _ (old new : List ℕ) (ts us : List (Kind × ℕ)) (a b n : ℕ) (tiles 
   pub same_meeting : (q r : ℕ) → IsMeeting old new ts us a b n q → IsMeeting old new ts us a b n r → q ≡ r
   same_meeting q r h k =
       ⊎_elim (λ e. e) (λ o. ⊎_elim (λ lt. absurd (not_behind q r h k lt)) (λ gt. absurd (not_behind r q k h gt)) o) (cases_order q r)
+
+-- as many tokens end before a place
+same_front : (ts : List (Kind × ℕ)) (a x y : ℕ) → IsFront ts a x → IsFront ts a y → x ≡ y
+same_front ts a x y h k = ⊎_elim (λ e. e) (λ o. ⊎_elim (λ lt. absurd (not_less x y h k lt)) (λ gt. absurd (not_less y x k h gt)) o) (cases_order x y)
+  where
+    not_less : (i j : ℕ) → IsFront ts a i → IsFront ts a j → i < j → ⊥
+    not_less i j f g lt =
+        let w = g.within in
+        let next = f.next (omega (arith, w)) in
+        let before = g.before (omega arith) in
+        let mono = end_mono ts (i + 1) j (omega arith) in
+        omega (arith, next, before, mono)
+
+-- how many tokens a patch keeps
+kept_length : (ts : List (Kind × ℕ)) (at removed : ℕ) → at + removed ≤ length ts → length (take at ts ++ drop (at + removed) ts) + removed ≡ length ts
+kept_length ts at removed within =
+    let l = length-append (take at ts) (drop (at + removed) ts) in
+    let t = length-take-le at ts (omega arith) in
+    let d = length-drop (at + removed) ts in
+    omega (arith, l, t, d)
+
+pub same_patch : (old new : List ℕ) (ts : List (Kind × ℕ)) (a b n : ℕ) (p q : TokenPatch) → IsPatch old new ts a b n p → IsPatch old new ts a b n q → p ≡ q
+same_patch old new ts a b n p q h k = λ i. record { at = at i; removed = removed i; start = start i; fresh = news i }
+  where
+    at : p.at ≡ q.at
+    at = same_front ts a p.at q.at h.front k.front
+
+    start : p.start ≡ q.start
+    start = h.start ∙ ap (end_of ts) at ∙ sym k.start
+
+    tokens : patched ts p ≡ patched ts q
+    tokens = same_tiles true new (patched ts p) (patched ts q) h.tokens k.tokens
+
+    place : h.place ≡ k.place
+    place = same_meeting old new ts (patched ts p) a b n h.tokens h.place k.place h.meeting (subst (λ us. IsMeeting old new ts us a b n k.place) (sym tokens) k.meeting)
+
+    news : p.fresh ≡ q.fresh
+    news = h.fresh_are ∙ (λ i. fresh a (place i) (tokens i)) ∙ sym k.fresh_are
+
+    removed : p.removed ≡ q.removed
+    removed =
+        let same = ap length (h.kept_are ∙ ap (λ r. kept a (old_place a b n r) ts) place ∙ sym k.kept_are) in
+        let left = kept_length ts p.at p.removed h.among in
+        let right = kept_length ts q.at q.removed k.among in
+        omega (arith, same, left, right)

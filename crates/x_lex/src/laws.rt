@@ -2,7 +2,8 @@
 ghost use Rattle.std.specs.Prelude.{◌≡◌, ℕ, List, ◌↔◌};
 ghost use Rattle.x_lex.specs.declared.kind.Kind.{Kind};
 ghost use Rattle.x_lex.specs.Tiling.{AreTokens};
-ghost use Rattle.x_lex.specs.Relex.{IsMeeting};
+ghost use Rattle.x_lex.specs.TokenList.{TokenPatch};
+ghost use Rattle.x_lex.specs.Relex.{IsMeeting, IsPatch};
 ghost use Rattle.x_lex.specs.Places.{Lexeme, lexemes, TilesByPlace};
 
 /// A text has one list of tokens.
@@ -26,4 +27,9 @@ pub fn tokens_by_place()
 pub fn one_meeting()
     ensures { (old new : List ℕ) (ts vs us ws : List (Kind × ℕ)) (a b n p q : ℕ) → AreTokens old ts → AreTokens old vs → AreTokens new us → AreTokens new ws
         → IsMeeting old new ts us a b n p → IsMeeting old new vs ws a b n q → p ≡ q }
+{}
+
+/// What an edit does to the tokens of a text is determined by the tokens, the two texts and the edit.
+pub fn one_patch()
+    ensures { (old new : List ℕ) (ts : List (Kind × ℕ)) (a b n : ℕ) (p q : TokenPatch) → IsPatch old new ts a b n p → IsPatch old new ts a b n q → p ≡ q }
 {}

@@ -17,7 +17,7 @@ mod tokens;
 mod words;
 
 pub use kind::Kind;
-pub use laws::{has_tokens, one_meeting, one_tiling, tokens_by_place};
+pub use laws::{has_tokens, one_meeting, one_patch, one_tiling, tokens_by_place};
 pub use lexing::lex;
 pub use patch::Patch;
 pub use relexing::relex;

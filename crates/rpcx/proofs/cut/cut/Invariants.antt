@@ -5,6 +5,6 @@ use Rattle.rpcx.proofs.cut.cut.Given as goal
 
 abbrev pub invariant-loop-token : goal.invariant-loop-token
 invariant-loop-token l = record {
-  cut : HasCut (lexemes l.fn.source l.fn.tokens) l.token-iterator (map lexeme l.part.items) l.cutter l.items.items;
+  cut : HasCut (lexemes l.fn.source l.fn.tokens.list) l.token-iterator (map lexeme l.part.items) l.cutter l.items.items;
   counted : HasCounted l.fn.meter l.meter (length l.items.items);
 }
