@@ -10,7 +10,6 @@ ghost use Rattle.x_lex.specs.Entries.{pair_of};
 
 use crate::entry::{Entry, span_of};
 use crate::{Kind, Patch, Token};
-use std::alloc::Global;
 use std::marker::Model;
 use x_text::{GapIter, GapSeq, NoMemory, Seq, Source};
 
@@ -38,15 +37,16 @@ impl Model for Tokens {
 }
 
 impl Tokens {
-    /// The tokens with these entries.
-    pub(crate) fn from_entries(alloc: Global, entries: Vec<Entry>) -> Result<Tokens, NoMemory>
-        requires { IsOfText (map pair_of entries.items) }
+    /// The tokens with these entries, in a sequence that is empty.
+    pub(crate) fn from_entries(empty: GapSeq<Entry>, entries: Vec<Entry>) -> Result<Tokens, NoMemory>
+        requires empty { empty.list ≡ [] }
+        requires of_text { IsOfText (map pair_of entries.items) }
         ensures list { IfOk result (λ tokens. tokens.list ≡ map pair_of entries.items) }
         ensures seat { IfOk result (λ tokens. tokens.seat ≡ length entries.items) }
         ensures no_memory { entries.items ≡ [] → IsOk result }
     {
         let place = span_of(&entries);
-        let mut seq = GapSeq::new(alloc);
+        let mut seq = empty;
         seq.reserve(entries.len())?;
         let _moved = seq.splice(0, 0, entries);
         Ok(Tokens {
