@@ -50,14 +50,7 @@ type Row = (&'static [u8], usize, usize, &'static [u8], u64, u64);
 
 const ROWS: [Row; 9] = [
     (b"x;\n%y", 2, 3, b"", 3, 3),
-    (
-        b"struct s { int a; const B = 2;",
-        18,
-        18,
-        b"}; ",
-        4,
-        1,
-    ),
+    (b"struct s { int a; const B = 2;", 18, 18, b"}; ", 4, 1),
     (
         b"enum e {A=0,B=1}; union u switch (e d) {case B: int x; default: void;};",
         11,
@@ -102,7 +95,9 @@ fn expect_row(rt: &impl Abort, alloc: Global, row: Row) -> Result<(), Fail> {
     let again = new.edited(alloc, &back)?;
     assert_eq!(rt; again.bytes(), text);
     let mut meter = Meter::new();
-    follow(alloc, &mut tokens, &new, &back, &again, &mut meter)?;
+    let moved = follow(alloc, &mut tokens, &new, &back, &again, &mut meter)?;
+    // The seat is where the tokens were changed last.
+    assert_eq!(rt; moved, 0, "back, {start} to {end}");
     assert_eq!(rt; meter.lexed(), fresh_back, "back, {start} to {end}");
     expect_tokens_of(rt, alloc, &tokens, &again)
 }
