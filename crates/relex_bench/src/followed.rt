@@ -1,5 +1,4 @@
 //! A text and its tokens, which follow its edits.
-ghost use Rattle.std.specs.Prelude.{◌≡◌};
 ghost use Rattle.x_lex.specs.Tiling.{AreTokens};
 
 use std::io;
@@ -9,6 +8,7 @@ use x_lex::{Tokens, relex};
 use x_text::{Edit, Meter, Source};
 
 /// What one edit took.
+#[derive(Clone, Copy)]
 pub(crate) struct Step {
     pub nanoseconds: u64,
     pub lexed: u64,
@@ -66,7 +66,7 @@ impl Followed {
         let moved = self.tokens.put(patch);
         let taken = start.elapsed(rt);
         self.text = new;
-        let nanoseconds = taken?.as_nanos() as u64;
+        let nanoseconds = u64::try_from(taken?.as_nanos()).unwrap_or(u64::MAX);
         let lexed = meter.lexed();
         Ok(Some(Step {
             nanoseconds,

@@ -2,8 +2,6 @@
 //! arguments it does nothing.
 #![tactic(auto)]
 
-ghost use Rattle.std.specs.Prelude.{◌≡◌, ◌+◌, ◌≤◌, length};
-
 mod followed;
 
 use crate::followed::{Followed, Step};

@@ -1,0 +1,10 @@
+use Rattle.std.proofs.Common.{ℕ, List, ap, subst, ◌∙◌}
+use Rattle.std.specs.Prelude.{MatchOption}
+use Rattle.rpcx.specs.Session.{Opened}
+use Rattle.rpcx.specs.Script.{Answers}
+use Rattle.rpcx.proofs.editing.edit_run.Goals as goal
+
+pub returns-clause-answers : goal.returns-clause-answers
+returns-clause-answers g c =
+    subst (λ (s : Opened). MatchOption (g.I.Tap.remaining c.args.input.now) (Unit {0}) (λ script. Answers script s.base s.text (g.O.Sink.contents c.args.out.now) (g.O.Sink.contents c.answer_input.new.out) c.answer_input.result))
+    (c.in-Ok.ensures.opened ∙ (λ i. record { base = c.base.ensures i; text = c.args.bytes.now })) c.answer_input.ensures.answers
