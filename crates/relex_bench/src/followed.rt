@@ -57,7 +57,14 @@ impl Followed {
         };
         let mut meter = Meter::new();
         let start = Instant::now(rt)?;
-        let Ok(patch) = relex(rt.alloc(), &self.tokens, &self.text, &edit, &new, &mut meter) else {
+        let Ok(patch) = relex(
+            rt.alloc(),
+            &self.tokens,
+            &self.text,
+            &edit,
+            &new,
+            &mut meter,
+        ) else {
             return Ok(None);
         };
         if self.tokens.reserve(&patch).is_err() {

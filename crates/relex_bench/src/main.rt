@@ -17,6 +17,7 @@ const ROUNDS: u64 = 1000;
 
 /// The bytes of a line of the files that `bench/relex` makes, and the place of the digit in it that is typed over.
 const LINE: usize = 26;
+
 const DIGIT: usize = 17;
 
 /// Reads a file, but no more of it than a text can have.

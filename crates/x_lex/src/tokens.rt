@@ -38,7 +38,10 @@ impl Model for Tokens {
 
 impl Tokens {
     /// The tokens with these entries, in a sequence that is empty.
-    pub(crate) fn from_entries(empty: GapSeq<Entry>, entries: Vec<Entry>) -> Result<Tokens, NoMemory>
+    pub(crate) fn from_entries(
+        empty: GapSeq<Entry>,
+        entries: Vec<Entry>,
+    ) -> Result<Tokens, NoMemory>
         requires empty { empty.list ≡ [] }
         requires of_text { IsOfText (map pair_of entries.items) }
         ensures list { IfOk result (λ tokens. tokens.list ≡ map pair_of entries.items) }

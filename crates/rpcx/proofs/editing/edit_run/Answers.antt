@@ -1,4 +1,4 @@
-use Rattle.std.proofs.Common.{ℕ, List, ap, subst, ◌∙◌}
+use Rattle.std.proofs.Common.{subst, ◌∙◌}
 use Rattle.std.specs.Prelude.{MatchOption}
 use Rattle.rpcx.specs.Session.{Opened}
 use Rattle.rpcx.specs.Script.{Answers}
