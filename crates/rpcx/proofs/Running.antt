@@ -10,7 +10,7 @@ use Rattle.rpcx.specs.Lines.{Reading, IsUnread, script_lines}
 use Rattle.x_lex.specs.declared.kind.Kind.{Kind}
 use Rattle.rpcx.specs.Compile.{Item, IsCompilation}
 use Rattle.rpcx.specs.declared.lines.State.TheVariants.{Between}
-use Rattle.rpcx.specs.Script.{then_answer, AreAnswered, IsGiven, HasGiven, IsAsBefore, HasRun, HasStopped, HasFailed, IsFrontOf, Runs, Answers, is_refused, status_of}
+use Rattle.rpcx.specs.Script.{then_answer, AreAnswered, IsGiven, HasGiven, IsAsBefore, HasRun, HasStopped, HasFailed, IsFrontOf, Runs, Answers, is_refused, status_of, WorksOn, AddsIfFound}
 use Rattle.rpcx.specs.declared.script.Outcome.{Outcome}
 use Rattle.rpcx.proofs.Scripts.{answered_more}
 
@@ -184,3 +184,45 @@ pub answers_all : (tap : Option (List ℕ)) (left : Option (List ℕ)) (old new 
 answers_all None left old new before after failed outcome status is run = tt
 answers_all (Some script) left old new before after failed outcome status is run =
     λ refused e. (new, subst (λ r. HasRun (script_lines script) old new before after r) (one_status (is_refused outcome) refused (sym is ∙ e)) run)
+
+-- ---- what failed
+
+-- between two lines the pen works, and the sink and the tap have failed no more than at the start
+pub record IsWorking (start : Option (List ℕ)) (pen : Inked) (now : Option (List ℕ)) (tap tap' sink sink' : Bool) : Type 0 where
+  pub text : List ℕ
+  pub writes : Writes start text pen now sink'
+  pub goes : pen.stopped ≡ false
+  pub works : WorksOn sink sink'
+  pub tap_is : tap' ≡ tap
+
+pub works_at_start : (start : Option (List ℕ)) (pen : Inked) (tap sink : Bool) → pen ≡ record { pending = []; written = 0; stopped = false } → IsWorking start pen start tap tap sink sink
+works_at_start start pen tap sink is = record {
+  text = [];
+  writes = subst (λ (p : Inked). Writes start [] p start sink) (sym is) (writes_none start sink);
+  goes = ap (λ (p : Inked). p.stopped) is;
+  works = λ e. e;
+  tap_is = refl;
+}
+
+-- what was added and passed on
+passed : (start : Option (List ℕ)) (p q r : Inked) (now now' now'' : Option (List ℕ)) (tap tap' sink f g k : Bool) → (h : IsWorking start p now tap tap' sink f)
+    → (added : (told : List ℕ) × Adds p now f q now' g told) → Adds q now' g r now'' k [] → Writes start (h.text ++ added.0 ++ []) r now'' k
+passed start p q r now now' now'' tap tap' sink f g k h added flushed = flushed.goes_on start (h.text ++ added.0) (added.1.goes_on start h.text h.writes)
+
+pub works_on : (start : Option (List ℕ)) (p q r : Inked) (now now' now'' : Option (List ℕ)) (tap tap' tap'' sink f g k : Bool) → (h : IsWorking start p now tap tap' sink f)
+    → ((told : List ℕ) × Adds p now f q now' g told) → Adds q now' g r now'' k [] → r.stopped ≡ false → (r.stopped ≡ false → k ≡ false) → tap'' ≡ tap' → IsWorking start r now'' tap tap'' sink k
+works_on start p q r now now' now'' tap tap' tap'' sink f g k h added flushed goes works same = record {
+  text = h.text ++ added.0 ++ [];
+  writes = passed start p q r now now' now'' tap tap' sink f g k h added flushed;
+  goes = goes;
+  works = λ e. works goes;
+  tap_is = same ∙ h.tap_is;
+}
+
+pub fails_at_stop : (start : Option (List ℕ)) (p q r : Inked) (now now' now'' : Option (List ℕ)) (tap tap' sink f g k : Bool) → (h : IsWorking start p now tap tap' sink f)
+    → ((told : List ℕ) × Adds p now f q now' g told) → Adds q now' g r now'' k [] → r.stopped ≡ true → k ≡ true
+fails_at_stop start p q r now now' now'' tap tap' sink f g k h added flushed stops =
+    (front_written r start now'' (h.text ++ added.0 ++ []) k stops (passed start p q r now now' now'' tap tap' sink f g k h added flushed)).1
+
+pub added_some : {S : Type 0} (found : Option Bool) (refused : Bool) (s s' : S) (Added : Type 0) → found ≡ Some refused → AddsIfFound (Ok found) s s' Added → Added
+added_some found refused s s' Added is h = subst (λ f. AddsIfFound (Ok f) s s' Added) is h

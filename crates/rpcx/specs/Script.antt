@@ -101,6 +101,23 @@ Runs script left old new before after failed (Err (Read written)) = (read : List
 Runs script left old new before after failed (Err (NoMemory written)) = IsFrontOf script (λ lines. HasStopped lines old new before after written)
 Runs script left old new before after failed (Err (Write written)) = IsFrontOf script (λ lines. HasFailed lines old new before after written) × (failed ≡ true)
 
+-- a sink that worked still works
+abbrev pub WorksOn : Bool → Bool → Type 0
+WorksOn before after = before ≡ false → after ≡ false
+
+-- A run names its fault by what failed, and names one where something did: by whether the tap and the sink have failed, before and after.
+abbrev pub NamesCause : Result Outcome EngineFault → (tap tap' sink sink' : Bool) → Type 0
+NamesCause (Ok outcome) tap tap' sink sink' = (tap' ≡ tap) × WorksOn sink sink'
+NamesCause (Err (Read written)) tap tap' sink sink' = (tap' ≡ true) × WorksOn sink sink'
+NamesCause (Err (NoMemory written)) tap tap' sink sink' = (tap' ≡ tap) × WorksOn sink sink'
+NamesCause (Err (Write written)) tap tap' sink sink' = (tap' ≡ tap) × (sink' ≡ true)
+
+-- a step that finds no line leaves the sink alone, and one that finds a line adds to it
+abbrev pub AddsIfFound : {S : Type 0} → Result (Option Bool) LineFault → (sink sink' : S) → Type 0 → Type 0
+AddsIfFound (Ok (Some refused)) sink sink' Added = Added
+AddsIfFound (Ok None) sink sink' Added = sink' ≡ sink
+AddsIfFound (Err fault) sink sink' Added = sink' ≡ sink
+
 -- the status of a run that carried out each line, whether or not one was refused
 abbrev pub status_of : Bool → ℕ
 status_of refused = if refused then 1 else 0

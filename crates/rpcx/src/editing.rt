@@ -1,10 +1,10 @@
 //! What `rpcedit` does: its command line, and its run over a text that was read, a tap and sinks.
 
-ghost use Rattle.std.specs.Prelude.{◌≡◌, ◌⊎◌, ◌<◌, IfOk, MatchOption, codes, length, map};
+ghost use Rattle.std.specs.Prelude.{◌≡◌, ◌≢◌, ◌⊎◌, ◌<◌, IfOk, MatchOption, codes, length, map};
 ghost use Rattle.clap.specs.Words.{FailsBy, app_of, fault_of, matches_of};
 ghost use Rattle.x_text.specs.declared.source.TheConstants.{MAX_TEXT};
 ghost use Rattle.rpcx.specs.Generate.{base_of};
-ghost use Rattle.rpcx.specs.Script.{Answers};
+ghost use Rattle.rpcx.specs.Script.{Answers, WorksOn};
 ghost use Rattle.rpcx.specs.Args.{AlwaysHas, IsEditArgs, edit_app};
 
 use crate::generate::base;
@@ -60,6 +60,7 @@ pub fn edit_run<I: Tap, O: Sink, E: Sink>(
 ) -> u8
     ensures status { (result ≡ 0) ⊎ (result ≡ 1) ⊎ (result ≡ 2) }
     ensures too_large { MAX_TEXT < length bytes.now → result ≡ 2 }
+    ensures working { result ≢ 2 → WorksOn (O.has_failed out.old) (O.has_failed out.new) }
     ensures answers { MatchOption (I.remaining input.old) (Unit {0}) (λ script. Answers script (base_of args.now.file.now) bytes.now (O.contents out.old) (O.contents out.new) result) }
 {
     let mut session = match Session::open(alloc, base(args.file), bytes) {
@@ -85,6 +86,7 @@ fn answer_input<I: Tap, O: Sink, E: Sink>(
     err: &mut E,
 ) -> u8
     ensures status { (result ≡ 0) ⊎ (result ≡ 1) ⊎ (result ≡ 2) }
+    ensures working { result ≢ 2 → WorksOn (O.has_failed out.old) (O.has_failed out.new) }
     ensures answers { MatchOption (I.remaining input.old) (Unit {0}) (λ script. Answers script session.old.base session.old.text (O.contents out.old) (O.contents out.new) result) }
 {
     match run_script(alloc, session, input, out) {

@@ -6,7 +6,7 @@ ghost use Rattle.rpcx.specs.Session.{Compiles};
 ghost use Rattle.rpcx.specs.Commands.{asked};
 ghost use Rattle.rpcx.specs.Answers.{answer, edit_answer, line_answer};
 ghost use Rattle.rpcx.specs.declared.lines.TheConstants.{LONGEST};
-ghost use Rattle.rpcx.specs.Script.{IsGiven, HasGiven, GoesOn, Runs, is_refused};
+ghost use Rattle.rpcx.specs.Script.{AddsIfFound, IsGiven, HasGiven, GoesOn, NamesCause, Runs, is_refused};
 ghost use Rattle.rpcx.specs.Lines.{FailsBy};
 
 use crate::answer::{add_counted, add_faults, add_text, add_tokens};
@@ -59,7 +59,7 @@ pub fn run_script<R: Tap, S: Sink>(
     sink: &mut S,
 ) -> Result<Outcome, EngineFault>
     ensures runs { MatchOption (R.remaining tap.old) (Unit {0}) (λ script. Runs script (R.remaining tap.new) session.old session.new (S.contents sink.old) (S.contents sink.new) (S.has_failed sink.new) result) }
-    ensures read { IfErr result (λ fault. (written : ℕ) → fault ≡ EngineFault.Read written → IsTrue (R.has_failed tap.new)) }
+    ensures cause { NamesCause result (R.has_failed tap.old) (R.has_failed tap.new) (S.has_failed sink.old) (S.has_failed sink.new) }
 {
     let mut reader = LineReader::new(alloc);
     let mut pen = Pen::new();
@@ -103,6 +103,7 @@ fn next_answer<R: Tap, S: Sink>(
 ) -> Result<Option<bool>, LineFault>
     ensures given { (script : List ℕ) (given : List (List ℕ)) → HasGiven script reader.old (R.remaining tap.old) given →
         GoesOn session.old session.new script reader.new (R.remaining tap.new) given result pen.old (S.contents sink.old) (S.has_failed sink.old) pen.new (S.contents sink.new) (S.has_failed sink.new) }
+    ensures adds { AddsIfFound result sink.old sink.new ((told : List ℕ) × Adds pen.old (S.contents sink.old) (S.has_failed sink.old) pen.new (S.contents sink.new) (S.has_failed sink.new) told) }
     ensures failed { FailsBy result (R.has_failed tap.old) (R.has_failed tap.new) }
 {
     // So that the contract of `item_count` says that the text has items, of which a line that is too long asks nothing.

@@ -6,7 +6,7 @@ use std::alloc::{AllocError, Global};
 use std::process::Abort;
 use std::test::Fail;
 use x_lex::{Kind, Token};
-use x_text::{MAX_TEXT, MemSink, Meter, TextFault};
+use x_text::{Edit, MAX_TEXT, MemSink, Meter, TextFault};
 
 /// The faults of a text, one a line.
 fn faults(alloc: Global, text: &[u8]) -> Result<String, Fail> {
@@ -243,8 +243,21 @@ fn a_text_of_the_limit_opens(rt: HostRuntime) -> Result<(), Fail> {
     let mut text = vec![in rt.alloc(); b' '; MAX_TEXT + 1]?;
     let fault = Session::open(rt.alloc(), b"t", &text).err();
     assert_eq!(rt; fault, Some(TextFault::TooLarge));
-    text.truncate(MAX_TEXT);
-    assert_eq!(rt; Session::open(rt.alloc(), b"t", &text)?.token_count(), 1);
+    text.truncate(MAX_TEXT - 1);
+    let mut session = Session::open(rt.alloc(), b"t", &text)?;
+    let at_start = |insert| Edit {
+        start: 0,
+        end: 0,
+        insert,
+    };
+    let fault = session.apply(&at_start(b"  ")).err();
+    assert_eq!(rt; fault, Some(TextFault::TooLarge));
+    assert_eq!(rt; session.bytes().len(), MAX_TEXT - 1);
+    session.apply(&at_start(b" "))?;
+    assert_eq!(rt;
+        (session.bytes().len(), session.token_count()),
+        (MAX_TEXT, 1)
+    );
     Ok(())
 }
 

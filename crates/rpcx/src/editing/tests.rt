@@ -1,6 +1,6 @@
 use super::{EditArgs, edit_args, edit_run};
 use std::test::Fail;
-use x_text::{MemSink, MemTap};
+use x_text::{MAX_TEXT, MemSink, MemTap};
 
 #[test]
 fn words_of_edit_are_read(rt: HostRuntime) -> Result<(), Fail> {
@@ -38,5 +38,28 @@ fn a_run_answers_its_script(rt: HostRuntime) -> Result<(), Fail> {
         2
     );
     assert_eq!(rt; err.bytes(), b"rpcedit: -: cannot be read\n".as_slice());
+    Ok(())
+}
+
+#[test]
+fn a_run_tells_why_it_ends(rt: HostRuntime) -> Result<(), Fail> {
+    let args = EditArgs { file: "a/t.x" };
+    let mut told = [0u8; 64];
+    let mut err = MemSink::new(&mut told, 64, 64);
+    let mut full = MemSink::new(&mut [], 1, 0);
+    let mut input = MemTap::new(b"tokens\n", 64, usize::MAX);
+    let large = vec![in rt.alloc(); b' '; MAX_TEXT + 1]?;
+    assert_eq!(rt;
+        edit_run(rt.alloc(), &args, &large, &mut input, &mut full, &mut err),
+        2
+    );
+    assert_eq!(rt;
+        edit_run(rt.alloc(), &args, b"", &mut input, &mut full, &mut err),
+        2
+    );
+    assert_eq!(rt;
+        err.bytes(),
+        b"rpcedit: a/t.x: 2 TooLarge\nrpcedit: output cannot be written\n".as_slice()
+    );
     Ok(())
 }

@@ -2,9 +2,10 @@ use super::{EngineFault, Outcome, run_script};
 use crate::answer::{add_faults, add_text, add_tokens};
 use crate::{Session, Which};
 use std::alloc::Global;
+use std::io::{self, Write};
 use std::process::Abort;
 use std::test::Fail;
-use x_text::{Edit, MemSink, MemTap, Pen, TextFault};
+use x_text::{Edit, MemSink, MemTap, Out, Pen, TextFault};
 
 /// Runs a script on a text, and compares what it writes.
 fn check(
@@ -100,6 +101,31 @@ fn a_failure_is_told(rt: HostRuntime) -> Result<(), Fail> {
     assert_eq!(rt; fault, Some(EngineFault::Write { written: 3 }));
     assert_eq!(rt; full.bytes(), b"ok ".as_slice());
     assert_eq!(rt; session.bytes(), b"nts".as_slice());
+    Ok(())
+}
+
+/// A writer that takes all and can't pass it on.
+#[derive(Drop)]
+struct Blocked;
+
+impl Write for Blocked {
+    fn write(&mut self, bytes: &[u8]) -> io::Result<usize> {
+        Ok(bytes.len())
+    }
+
+    fn flush(&mut self) -> io::Result<()> {
+        Err(io::Error::other("the disk is gone"))
+    }
+}
+
+#[test]
+fn each_answer_is_passed_on(rt: HostRuntime) -> Result<(), Fail> {
+    let mut session = Session::open(rt.alloc(), b"t", b"int s")?;
+    let mut tap = MemTap::new(b"edit 3 4\nedit 0 1\n", 64, usize::MAX);
+    let mut out = Out::new(Blocked);
+    let fault = run_script(rt.alloc(), &mut session, &mut tap, &mut out).err();
+    assert_eq!(rt; fault, Some(EngineFault::Write { written: 5 }));
+    assert_eq!(rt; session.bytes(), b"ints".as_slice());
     Ok(())
 }
 
