@@ -243,17 +243,14 @@ fn a_text_of_the_limit_opens(rt: HostRuntime) -> Result<(), Fail> {
     let mut text = vec![in rt.alloc(); b' '; MAX_TEXT + 1]?;
     let fault = Session::open(rt.alloc(), b"t", &text).err();
     assert_eq!(rt; fault, Some(TextFault::TooLarge));
-    text.truncate(MAX_TEXT - 1);
+    text.truncate(MAX_TEXT);
     let mut session = Session::open(rt.alloc(), b"t", &text)?;
-    let at_start = |insert| Edit {
+    let edit = Edit {
         start: 0,
         end: 0,
-        insert,
+        insert: b" ",
     };
-    let fault = session.apply(&at_start(b"  ")).err();
-    assert_eq!(rt; fault, Some(TextFault::TooLarge));
-    assert_eq!(rt; session.bytes().len(), MAX_TEXT - 1);
-    session.apply(&at_start(b" "))?;
+    assert_eq!(rt; session.apply(&edit).err(), Some(TextFault::TooLarge));
     assert_eq!(rt;
         (session.bytes().len(), session.token_count()),
         (MAX_TEXT, 1)
