@@ -38,7 +38,7 @@ impl Patch {
         }
     }
 
-    /// The index of the first token that is changed, among the old ones as among the new.
+    /// How many tokens end before the edit: the index at which old ones go and fresh ones come.
     pub fn at(&self) -> usize
         ensures { result ≡ self.now.at }
     {
