@@ -57,6 +57,11 @@ pub data Symbol : Type 0 where
   Versions : Symbol
   MoreVersions : Symbol
 
+-- on with the symbols where there is a step, else a stop
+abbrev pub go : {S : Type 0} {X : Type 0} → Option (List S) → (List S → X) → X → X
+go None next stop = stop
+go (Some symbols) next stop = next symbols
+
 -- a number for each mark
 abbrev pub mark_code : Mark → ℕ
 mark_code marks.Bool = 0

@@ -1,5 +1,5 @@
 -- The tree of a definition of the program.
-use Rattle.std.specs.Prelude.{List, [], ◌∷◌, Option, Some, None, map, option_map}
+use Rattle.std.specs.Prelude.{List, [], ◌∷◌, Option, Some, None, map}
 use Rattle.x_item.specs.Tree as tree
 use Rattle.x_item.specs.declared.definition.Value.{Value}
 use Rattle.x_item.specs.declared.definition.Value.TheVariants as values

@@ -113,9 +113,15 @@ pub enum Declaration {
         shape: Shape,
     },
     /// `opaque x[12]` or `opaque x<12>`
-    Opaque { name: Vec<u8>, length: Length },
+    Opaque {
+        name: Vec<u8>,
+        length: Length,
+    },
     /// `string x<12>` or `string x<>`
-    String { name: Vec<u8>, most: Option<Value> },
+    String {
+        name: Vec<u8>,
+        most: Option<Value>,
+    },
 }
 
 /// The body of a union.
@@ -174,11 +180,17 @@ pub struct Version {
 #[derive(Drop)]
 pub enum Definition {
     /// `const LIMIT = 12;`
-    Const { name: Vec<u8>, value: Value },
+    Const {
+        name: Vec<u8>,
+        value: Value,
+    },
     /// `typedef int row<12>;`
     Typedef(Declaration),
     /// `enum colour { RED, GREEN };`, and structs and unions likewise
-    NewType { name: Vec<u8>, body: Body },
+    NewType {
+        name: Vec<u8>,
+        body: Body,
+    },
     /// `program P { version V { void NULL(void) = 0; } = 1; } = 2;`
     Program {
         name: Vec<u8>,

@@ -2,10 +2,12 @@
 #![tactic(auto)]
 
 mod definition;
+mod laws;
 mod mark;
 
 pub use definition::{
     Argument, Arm, Basic, Body, DataType, Declaration, Definition, Enumerator, Length, Procedure,
     Shape, Tag, UnionBody, Value, Version,
 };
+pub use laws::spell_law;
 pub use mark::Mark;
