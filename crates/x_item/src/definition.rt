@@ -70,7 +70,9 @@ pub enum Tag {
 /// A name of an enum, with its value where it is given.
 #[derive(Debug, Drop)]
 pub struct Enumerator {
+    /// Its name.
     pub name: Vec<u8>,
+    /// Its value, where it is given.
     pub value: Option<Value>,
 }
 
@@ -142,6 +144,7 @@ pub struct UnionBody {
 pub struct Arm {
     /// The values behind `case`, in order.
     pub cases: Vec<Value>,
+    /// What is declared behind them.
     pub declaration: Declaration,
 }
 
@@ -159,20 +162,24 @@ pub enum Argument {
 pub struct Procedure {
     /// `None` where it is `void`.
     pub result: Option<Argument>,
+    /// Its name.
     pub name: Vec<u8>,
     /// The first argument: `None` where it is `void`.
     pub first: Option<Argument>,
     /// The arguments behind the first, in order.
     pub others: Vec<Argument>,
+    /// Its number in the version.
     pub number: Vec<u8>,
 }
 
 /// A version of a program.
 #[derive(Drop)]
 pub struct Version {
+    /// Its name.
     pub name: Vec<u8>,
     /// The procedures, in order.
     pub procedures: Vec<Procedure>,
+    /// Its number in the program.
     pub number: Vec<u8>,
 }
 

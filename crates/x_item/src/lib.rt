@@ -1,4 +1,4 @@
-//! The definitions of a `.x` file: their trees, how they are spelled, and [`parse_item`], which reads one from the tokens of an item.
+//! The definitions of a `.x` file: their trees, how they are spelled, and [`spell_law`], by which no two have one spelling.
 #![tactic(auto)]
 
 mod definition;
