@@ -1,0 +1,5 @@
+pub mod Spell
+pub mod Symbols
+pub mod Tree
+pub mod View
+pub mod Words

@@ -1,0 +1,208 @@
+//! The trees of definitions. Each name and number is kept as it is spelled.
+
+/// A number, or the name of a constant.
+#[derive(Debug, Drop)]
+pub enum Value {
+    /// `12`
+    Number(Vec<u8>),
+    /// `LIMIT`
+    Named(Vec<u8>),
+}
+
+/// How many elements an array has.
+#[derive(Debug, Drop)]
+pub enum Length {
+    /// `[12]`: so many.
+    Fixed(Value),
+    /// `<12>` or `<>`: at most so many, or any number.
+    Variable(Option<Value>),
+}
+
+/// What stands around the name that a declaration gives to a value of a type.
+#[derive(Debug, Drop)]
+pub enum Shape {
+    /// `int x`
+    Plain,
+    /// `int *x`
+    Optional,
+    /// `int x[12]` or `int x<12>`
+    Array(Length),
+}
+
+/// A type that is spelled by keywords alone.
+#[derive(Clone, Copy, Debug, PartialEq, Eq)]
+pub enum Basic {
+    /// `int`
+    Int,
+    /// `unsigned int`
+    UnsignedInt,
+    /// `long`
+    Long,
+    /// `unsigned long`
+    UnsignedLong,
+    /// `hyper`
+    Hyper,
+    /// `unsigned hyper`
+    UnsignedHyper,
+    /// `unsigned`
+    Unsigned,
+    /// `float`
+    Float,
+    /// `double`
+    Double,
+    /// `quadruple`
+    Quadruple,
+    /// `bool`
+    Bool,
+}
+
+/// The keyword in front of a body, or of the name of a type that has one.
+#[derive(Clone, Copy, Debug, PartialEq, Eq)]
+pub enum Tag {
+    /// `enum`
+    Enum,
+    /// `struct`
+    Struct,
+    /// `union`
+    Union,
+}
+
+/// A name of an enum, with its value where it is given.
+#[derive(Debug, Drop)]
+pub struct Enumerator {
+    /// Its name.
+    pub name: Vec<u8>,
+    /// Its value, where it is given.
+    pub value: Option<Value>,
+}
+
+/// A type.
+#[derive(Drop)]
+#[cycle(tree)]
+pub enum DataType {
+    /// `int`, `unsigned hyper`, `bool` and the like
+    Basic(Basic),
+    /// `colour`
+    Named(Vec<u8>),
+    /// `enum colour`
+    Tagged { tag: Tag, name: Vec<u8> },
+    /// A type without a name: its keyword and its body.
+    Inline(Box<Body>),
+}
+
+/// What is written behind the keyword and the name of a type.
+#[derive(Drop)]
+#[cycle(tree)]
+pub enum Body {
+    /// `{ RED = 1, GREEN }`, of an enum
+    Enum(Vec<Enumerator>),
+    /// `{ int x; int y; }`, of a struct
+    Struct(Vec<Declaration>),
+    /// `switch (int kind) { case 1: int x; default: void; }`, of a union
+    Union(UnionBody),
+}
+
+/// A declaration.
+#[derive(Drop)]
+#[cycle(tree)]
+pub enum Declaration {
+    /// `void`
+    Void,
+    /// `int x`, `int *x`, `int x[12]` or `int x<12>`
+    Of {
+        data: DataType,
+        name: Vec<u8>,
+        shape: Shape,
+    },
+    /// `opaque x[12]` or `opaque x<12>`
+    Opaque {
+        name: Vec<u8>,
+        length: Length,
+    },
+    /// `string x<12>` or `string x<>`
+    String {
+        name: Vec<u8>,
+        most: Option<Value>,
+    },
+}
+
+/// The body of a union.
+#[derive(Drop)]
+#[cycle(tree)]
+pub struct UnionBody {
+    /// What is declared behind `switch`.
+    pub discriminant: Declaration,
+    /// The arms, in order.
+    pub arms: Vec<Arm>,
+    /// What is declared behind `default`.
+    pub default: Option<Declaration>,
+}
+
+/// An arm of a union.
+#[derive(Drop)]
+#[cycle(tree)]
+pub struct Arm {
+    /// The values behind `case`, in order.
+    pub cases: Vec<Value>,
+    /// What is declared behind them.
+    pub declaration: Declaration,
+}
+
+/// What is passed to a procedure, or comes back from it.
+#[derive(Drop)]
+pub enum Argument {
+    /// `string`
+    String,
+    /// Any type.
+    Of(DataType),
+}
+
+/// A procedure of a version.
+#[derive(Drop)]
+pub struct Procedure {
+    /// `None` where it is `void`.
+    pub result: Option<Argument>,
+    /// Its name.
+    pub name: Vec<u8>,
+    /// The first argument: `None` where it is `void`.
+    pub first: Option<Argument>,
+    /// The arguments behind the first, in order.
+    pub others: Vec<Argument>,
+    /// Its number in the version.
+    pub number: Vec<u8>,
+}
+
+/// A version of a program.
+#[derive(Drop)]
+pub struct Version {
+    /// Its name.
+    pub name: Vec<u8>,
+    /// The procedures, in order.
+    pub procedures: Vec<Procedure>,
+    /// Its number in the program.
+    pub number: Vec<u8>,
+}
+
+/// A definition of the language.
+#[derive(Drop)]
+pub enum Definition {
+    /// `const LIMIT = 12;`
+    Const {
+        name: Vec<u8>,
+        value: Value,
+    },
+    /// `typedef int row<12>;`
+    Typedef(Declaration),
+    /// `enum colour { RED, GREEN };`, and structs and unions likewise
+    NewType {
+        name: Vec<u8>,
+        body: Body,
+    },
+    /// `program P { version V { void NULL(void) = 0; } = 1; } = 2;`
+    Program {
+        name: Vec<u8>,
+        /// The versions, in order.
+        versions: Vec<Version>,
+        number: Vec<u8>,
+    },
+}

@@ -1,0 +1,13 @@
+//! The definitions of a `.x` file: their trees, how they are spelled, and [`spell_law`], by which no two have one spelling.
+#![tactic(auto)]
+
+mod definition;
+mod laws;
+mod mark;
+
+pub use definition::{
+    Argument, Arm, Basic, Body, DataType, Declaration, Definition, Enumerator, Length, Procedure,
+    Shape, Tag, UnionBody, Value, Version,
+};
+pub use laws::spell_law;
+pub use mark::Mark;
