@@ -1,3 +1,5 @@
+pub mod Parse
+pub mod Reading
 pub mod Spell
 pub mod Symbols
 pub mod Tree

@@ -1,4 +1,9 @@
 //! The trees of definitions. Each name and number is kept as it is spelled.
+ghost use Rattle.std.specs.Prelude.{◌≡◌, IfOk};
+ghost use Rattle.x_item.specs.Tree.{Inline, Struct, Union};
+ghost use Rattle.x_item.specs.View.{view_type, view_body, view_declaration, view_declarations, view_arms, view_default};
+
+use std::alloc::{AllocError, Global};
 
 /// A number, or the name of a constant.
 #[derive(Debug, Drop)]
@@ -205,4 +210,33 @@ pub enum Definition {
         versions: Vec<Version>,
         number: Vec<u8>,
     },
+}
+
+/// The type of a body without a name.
+pub(crate) fn inline(alloc: Global, body: Body) -> Result<DataType, AllocError>
+    ensures { IfOk result (λ t. view_type t ≡ Inline (view_body body)) }
+{
+    Ok(DataType::Inline(Box::new(alloc, body)?))
+}
+
+/// The body of a struct.
+pub(crate) fn struct_body(declarations: Vec<Declaration>) -> Body
+    ensures { view_body result ≡ Struct (view_declarations declarations.items) }
+{
+    Body::Struct(declarations)
+}
+
+/// The body of a union.
+pub(crate) fn union_body(
+    discriminant: Declaration,
+    arms: Vec<Arm>,
+    default: Option<Declaration>,
+) -> Body
+    ensures { view_body result ≡ Union (view_declaration discriminant) (view_arms arms.items) (view_default default) }
+{
+    Body::Union(UnionBody {
+        discriminant,
+        arms,
+        default,
+    })
 }

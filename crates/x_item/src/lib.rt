@@ -2,12 +2,16 @@
 #![tactic(auto)]
 
 mod definition;
+mod fault;
 mod laws;
 mod mark;
+mod parse;
+mod reading;
 
 pub use definition::{
     Argument, Arm, Basic, Body, DataType, Declaration, Definition, Enumerator, Length, Procedure,
     Shape, Tag, UnionBody, Value, Version,
 };
+pub use fault::FaultCode;
 pub use laws::spell_law;
 pub use mark::Mark;

@@ -1,0 +1,33 @@
+-- The lists of a tree as the program holds them, and as lists.
+use Rattle.std.proofs.Common.{◌≡◌, map, Option, Some, None, refl, ap, ◌∙◌}
+use Rattle.x_item.specs.Tree as tree
+use Rattle.x_item.specs.View.{view_body, view_declaration, view_row, view_declarations, view_arm_row, view_arms, view_value, view_union, view_held, view_default}
+use Rattle.x_item.specs.declared.definition.Body.{Row_of-Declaration, end_of-Declaration, more_of-Declaration, items-the_row-Declaration, items_hidden-the_row-Declaration-0}
+use Rattle.x_item.specs.declared.definition.Body.TheVariants.{Struct}
+use Rattle.x_item.specs.declared.definition.Body.TheBlock.{hidden-the_row-Declaration-0, hidden-the_row-Arm-1}
+use Rattle.x_item.specs.declared.definition.UnionBody.{Row_of-Arm, end_of-Arm, more_of-Arm, items-the_row-Arm, items_hidden-the_row-Arm-1, back-UnionBody-default, roll-UnionBody, rolls-UnionBody'}
+use Rattle.x_item.specs.declared.definition.Declaration.{Declaration}
+use Rattle.x_item.specs.declared.definition.Arm.{Arm}
+use Rattle.std.specs.declared.vec.Vec.{Vec}
+use Rattle.std.specs.declared.alloc.Global.{Global}
+
+row_view : {m : _} (row : Row_of-Declaration m) → view_row row ≡ view_declarations (items-the_row-Declaration _ row)
+row_view end_of-Declaration = refl
+row_view (more_of-Declaration d rest) = ap (tree.more (view_declaration d)) (row_view rest)
+
+arm_row_view : {m : _} (row : Row_of-Arm m) → view_arm_row row ≡ view_arms (items-the_row-Arm _ row)
+arm_row_view end_of-Arm = refl
+arm_row_view (more_of-Arm cases d rest) = ap (tree.arm (map view_value cases.items) (view_declaration d)) (arm_row_view rest)
+
+pub struct_view : (body : Vec Declaration Global) → view_body (Struct body) ≡ tree.Struct (view_declarations body.items)
+struct_view body = ap tree.Struct (row_view (hidden-the_row-Declaration-0 body) ∙ ap view_declarations (items_hidden-the_row-Declaration-0 body))
+
+held_view : (d : Option Declaration) → view_held (back-UnionBody-default d) ≡ view_default d
+held_view None = refl
+held_view (Some d) = refl
+
+pub union_view : (d : Declaration) (arms : Vec Arm Global) (default : Option Declaration) → view_union (roll-UnionBody record { discriminant = d; arms = arms; default = default }) ≡ tree.Union (view_declaration d) (view_arms arms.items) (view_default default)
+union_view d arms default =
+    ap view_union (rolls-UnionBody' record { discriminant = d; arms = arms; default = default })
+    ∙ ap (λ a. tree.Union (view_declaration d) a (view_held (back-UnionBody-default default))) (arm_row_view (hidden-the_row-Arm-1 arms) ∙ ap view_arms (items_hidden-the_row-Arm-1 arms))
+    ∙ ap (tree.Union (view_declaration d) (view_arms arms.items)) (held_view default)

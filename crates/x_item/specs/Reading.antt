@@ -1,0 +1,114 @@
+-- What the functions of the parser say.
+use Rattle.std.specs.Prelude.{◌≡◌, ◌≢◌, ℕ, suc, ◌+◌, ◌-◌, ◌≤◌, ◌<◌, List, [], ◌∷◌, ◌++◌, Option, Some, None, Result, Ok, Err, map, length, if◌then◌else◌}
+use Rattle.x_lex.specs.Places.{Lexeme, lexeme}
+use Rattle.x_lex.specs.declared.token.Token.{Token}
+use Rattle.x_item.specs.Words.{Word, Fixed, Name, Number, Other, word_of, words_of, is_significant}
+use Rattle.x_item.specs.Tree as tree
+use Rattle.x_item.specs.Tree.{Definition}
+use Rattle.x_item.specs.View.{view_length}
+use Rattle.x_item.specs.declared.definition.Length.{Length}
+use Rattle.x_item.specs.Spell.{spell, spell_length, KeepsLimits, Begins}
+use Rattle.x_item.specs.Parse.{code_of, IsStuck}
+use Rattle.x_item.specs.Symbols.{Symbol, go, step}
+use Rattle.x_item.specs.declared.fault.FaultCode.{FaultCode}
+use Rattle.x_item.specs.declared.fault.FaultCode.TheVariants as codes
+use Rattle.x_item.specs.declared.reading.Word as source
+use Rattle.x_item.specs.declared.reading.Word.TheVariants as words
+use Rattle.x_item.specs.declared.reading.ParseError.{ParseError}
+use Rattle.x_item.specs.declared.reading.ParseError.TheVariants as errors
+
+-- the word that the program tells a token for
+abbrev pub view_word : source.Word → Word
+view_word (words.Mark m) = Fixed m
+view_word (words.Name t) = Name t.now
+view_word (words.Number t) = Number t.now
+view_word words.Other = Other
+
+-- a word of an item, how many tokens there are from it on, and the code of a fault at it
+pub record Place : Type 0 where
+  pub word : Word
+  pub left : ℕ
+  pub code : FaultCode
+
+-- the place of a token in front of others
+abbrev pub place_of : Lexeme → List Lexeme → Place
+place_of t ts = record { word = word_of t; left = suc (length ts); code = code_of t.kind }
+
+-- the places of the words among the tokens
+abbrev pub places_of : List Lexeme → List Place
+places_of [] = []
+places_of (t ∷ ts) = if is_significant t.kind then place_of t ts ∷ places_of ts else places_of ts
+
+-- the places of the words that are ahead
+unfoldable pub ahead : List Token → List Place
+ahead tokens = places_of (map lexeme tokens)
+
+abbrev pub first_left : List Place → ℕ
+first_left [] = 0
+first_left (p ∷ ps) = p.left
+
+abbrev pub first_code : List Place → FaultCode
+first_code [] = codes.Syntax
+first_code (p ∷ ps) = p.code
+
+-- how many tokens there are from the first word on
+unfoldable pub left_in : List Token → ℕ
+left_in tokens = first_left (ahead tokens)
+
+-- the code of a fault at the first word
+unfoldable pub code_in : List Token → FaultCode
+code_in tokens = first_code (ahead tokens)
+
+-- the words of the places
+abbrev pub words_at : List Place → List Word
+words_at ps = map (λ p. p.word) ps
+
+-- what is left behind what the symbols take, or why reading stops
+abbrev pub read : List Symbol → List Place → Result (List Place) ParseError
+read [] ps = Ok ps
+read (s ∷ ss) [] = Err errors.AtEnd
+read (s ∷ ss) (p ∷ ps) = go (step s p.word) (λ symbols. read (symbols ++ ss) ps) (Err (errors.Stuck p.left p.code))
+
+-- reading stops where the error says
+abbrev pub IsAt : ParseError → Result (List Place) ParseError → Type 0
+IsAt errors.Memory r = Unit {0}
+IsAt errors.AtEnd r = r ≡ Err errors.AtEnd
+IsAt (errors.Stuck left code) r = r ≡ Err (errors.Stuck left code)
+
+-- so it does, whatever symbols follow
+pub record Fails (s : Symbol) (ps : List Place) (e : ParseError) : Type 0 where
+  pub by : (ss : List Symbol) → IsAt e (read (s ∷ ss) ps)
+
+-- so it does, whatever symbols follow these
+pub record FailsAll (from : List Symbol) (ps : List Place) (e : ParseError) : Type 0 where
+  pub by : (ss : List Symbol) → IsAt e (read (from ++ ss) ps)
+
+-- reading by the one list of symbols leads from the one list to reading by the other, whatever symbols follow
+pub record Goes (from : List Symbol) (ps : List Place) (to : List Symbol) (rest : List Place) : Type 0 where
+  pub by : (ss : List Symbol) → read (from ++ ss) ps ≡ read (to ++ ss) rest
+
+-- reading by the symbol leads from the one list to the other
+pub record Leads (s : Symbol) (ps rest : List Place) : Type 0 where
+  pub by : (ss : List Symbol) → read (s ∷ ss) ps ≡ read ss rest
+
+-- a word, and what stands behind it
+pub record IsSplit (tokens : List Token) (token : Token) (rest : List Token) : Type 0 where
+  pub all : ahead tokens ≡ record { word = word_of (lexeme token); left = left_in tokens; code = code_in tokens } ∷ ahead rest
+  pub left : left_in tokens ≡ length rest + 1
+  pub code : code_in tokens ≡ code_of token.kind
+  pub shorter : length rest < length tokens
+
+-- the length behind a name, if there is one
+abbrev pub view_suffix : Option Length → Option tree.Length
+view_suffix None = None
+view_suffix (Some length) = Some (view_length length)
+
+abbrev pub spell_suffix : Option tree.Length → List Word
+spell_suffix None = []
+spell_suffix (Some length) = spell_length length
+
+-- the item spells no definition, and the error says where it is stuck
+abbrev pub IsRefused : List Lexeme → ParseError → Type 0
+IsRefused item errors.Memory = Unit {0}
+IsRefused item errors.AtEnd = Begins (words_of item) × ((d : Definition) → KeepsLimits d → spell d ≢ words_of item)
+IsRefused item (errors.Stuck left code) = (left ≤ length item) × IsStuck item (length item - left) code
