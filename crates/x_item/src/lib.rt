@@ -7,6 +7,7 @@ mod laws;
 mod mark;
 mod parse;
 mod reading;
+mod types;
 
 pub use definition::{
     Argument, Arm, Basic, Body, DataType, Declaration, Definition, Enumerator, Length, Procedure,

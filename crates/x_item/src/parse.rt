@@ -15,7 +15,7 @@ use std::alloc::Global;
 use x_lex::Token;
 
 /// Reads what stands between `<` and `>`, and the `>`.
-fn most<'w, 't>(
+pub fn most<'w, 't>(
     alloc: Global,
     tokens: &'w [Token<'t>],
 ) -> Result<(Option<Value>, &'w [Token<'t>]), ParseError>
@@ -45,7 +45,7 @@ fn most<'w, 't>(
 }
 
 /// Reads the length of an array, with its brackets.
-fn array_length<'w, 't>(
+pub fn array_length<'w, 't>(
     alloc: Global,
     tokens: &'w [Token<'t>],
 ) -> Result<(Length, &'w [Token<'t>]), ParseError>
@@ -107,7 +107,7 @@ fn suffix<'w, 't>(
 }
 
 /// Reads the name of a declaration, with what stands around it and the ending.
-fn named<'w, 't>(
+pub fn named<'w, 't>(
     alloc: Global,
     ending: Ending,
     tokens: &'w [Token<'t>],
@@ -140,7 +140,7 @@ fn named<'w, 't>(
 }
 
 /// Reads what may stand behind `unsigned`.
-fn unsigned<'w, 't>(tokens: &'w [Token<'t>]) -> Result<(Basic, &'w [Token<'t>]), ParseError>
+pub fn unsigned<'w, 't>(tokens: &'w [Token<'t>]) -> Result<(Basic, &'w [Token<'t>]), ParseError>
     ensures found { IfOk result (λ x. Fixed Mark.Unsigned ∷ words_at (ahead tokens.now) ≡ spell_basic x.0 ++ words_at (ahead x.1.now)) }
     ensures leads { IfOk result (λ x. (c : Context) → Goes (AfterUnsigned c ∷ []) (ahead tokens.now) (AfterType c ∷ []) (ahead x.1.now)) }
     ensures stuck { IfErr result (λ e. (c : Context) → Fails (AfterUnsigned c) (ahead tokens.now) e) }
@@ -159,7 +159,7 @@ fn unsigned<'w, 't>(tokens: &'w [Token<'t>]) -> Result<(Basic, &'w [Token<'t>]),
 }
 
 /// Reads the enumerators of an enum, and its `}`.
-fn enumerators<'w, 't>(
+pub fn enumerators<'w, 't>(
     alloc: Global,
     tokens: &'w [Token<'t>],
 ) -> Result<(Vec<Enumerator>, &'w [Token<'t>]), ParseError>
@@ -234,7 +234,7 @@ fn given<'w, 't>(
 }
 
 /// Whether the word is the mark.
-fn is_mark(word: &Word, mark: Mark) -> bool
+pub fn is_mark(word: &Word, mark: Mark) -> bool
     ensures { IsTrue result ↔ (view_word word.now ≡ Fixed mark) }
 {
     match word {
