@@ -6,6 +6,7 @@ mod fault;
 mod laws;
 mod mark;
 mod parse;
+mod program;
 mod reading;
 mod types;
 
