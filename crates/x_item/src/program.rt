@@ -4,7 +4,7 @@ ghost use Rattle.std.specs.Prelude.{◌≡◌, List, [], ◌∷◌, ◌++◌, �
 ghost use Rattle.x_item.specs.Words.{Fixed, Number};
 ghost use Rattle.x_item.specs.View.{view_argument, view_passed, view_procedure, view_version};
 ghost use Rattle.x_item.specs.Spell.{spell_argument, spell_passed, spell_others, spell_procedure, spell_procedures, spell_version, spell_versions, HasOne, ArgumentFits, PassedFits, OthersFit, ProcedureFits, ProceduresFit, VersionFits, VersionsFit};
-ghost use Rattle.x_item.specs.Symbols.{InArguments, Token as OfMark, AnyName, AnyNumber, AfterType, Parameters, Arguments, Result as AnyResult, Procedures, MoreProcedures, Versions, MoreVersions};
+ghost use Rattle.x_item.specs.Symbols.{InArguments, Token as OfMark, AnyName, AnyNumber, AfterType, Parameters, Arguments, Result as AnyResult, Procedures, Versions};
 ghost use Rattle.x_item.specs.Reading.{ahead, words_at, Fails, FailsAll, Leads, Goes};
 
 use crate::definition::{Argument, Procedure, Version};
@@ -128,8 +128,8 @@ fn procedure<'w, 't>(
 ) -> Result<(Procedure, &'w [Token<'t>]), ParseError>
     ensures found { IfOk result (λ x. words_at (ahead tokens.now) ≡ spell_procedure (view_procedure x.0) ++ words_at (ahead x.1.now)) }
     ensures fits { IfOk result (λ x. ProcedureFits (view_procedure x.0)) }
-    ensures leads { IfOk result (λ x. Goes (Procedures ∷ []) (ahead tokens.now) (MoreProcedures ∷ []) (ahead x.1.now)) }
-    ensures stuck { IfErr result (λ e. Fails Procedures (ahead tokens.now) e) }
+    ensures leads { IfOk result (λ x. Goes (AnyResult ∷ OfMark Mark.OpenParenthesis ∷ Parameters ∷ OfMark Mark.Equals ∷ AnyNumber ∷ OfMark Mark.Semicolon ∷ []) (ahead tokens.now) [] (ahead x.1.now)) }
+    ensures stuck { IfErr result (λ e. FailsAll (AnyResult ∷ OfMark Mark.OpenParenthesis ∷ Parameters ∷ OfMark Mark.Equals ∷ AnyNumber ∷ OfMark Mark.Semicolon ∷ []) (ahead tokens.now) e) }
     ensures shorter { IfOk result (λ x. length x.1.now < length tokens.now) }
 {
     let (result, rest) = returned(alloc, tokens)?;
@@ -181,14 +181,11 @@ fn version<'w, 't>(
 ) -> Result<(Version, &'w [Token<'t>]), ParseError>
     ensures found { IfOk result (λ x. words_at (ahead tokens.now) ≡ spell_version (view_version x.0) ++ words_at (ahead x.1.now)) }
     ensures fits { IfOk result (λ x. VersionFits (view_version x.0)) }
-    ensures leads { IfOk result (λ x. Goes (Versions ∷ []) (ahead tokens.now) (MoreVersions ∷ []) (ahead x.1.now)) }
-    ensures stuck { IfErr result (λ e. Fails Versions (ahead tokens.now) e) }
+    ensures leads { IfOk result (λ x. Goes (OfMark Mark.Version ∷ AnyName ∷ OfMark Mark.OpenBrace ∷ Procedures ∷ OfMark Mark.Equals ∷ AnyNumber ∷ OfMark Mark.Semicolon ∷ []) (ahead tokens.now) [] (ahead x.1.now)) }
+    ensures stuck { IfErr result (λ e. FailsAll (OfMark Mark.Version ∷ AnyName ∷ OfMark Mark.OpenBrace ∷ Procedures ∷ OfMark Mark.Equals ∷ AnyNumber ∷ OfMark Mark.Semicolon ∷ []) (ahead tokens.now) e) }
     ensures shorter { IfOk result (λ x. length x.1.now < length tokens.now) }
 {
-    let (word, rest) = first(tokens)?;
-    if !is_mark(&word, Mark::Version) {
-        return Err(stuck_at(tokens));
-    }
+    let rest = expect(Mark::Version, tokens)?;
     let (name, rest) = name(alloc, rest)?;
     let rest = expect(Mark::OpenBrace, rest)?;
     let (procedures, rest) = procedures(alloc, rest)?;
