@@ -3,15 +3,17 @@ use Rattle.std.proofs.Common.{◌≡◌, ◌≢◌, ◌↔◌, ℕ, Bool, false,
 use Rattle.std.proofs.lemmas.List.{append-nil, map-append}
 use Rattle.x_item.specs.Words.{Word, Fixed}
 use Rattle.x_item.specs.Tree as tree
-use Rattle.x_item.specs.Spell.{spell_argument, spell_others, spell_procedure, spell_procedures, spell_version, spell_versions, ArgumentFits, OthersFit, ProcedureFits, ProceduresFit, VersionFits, VersionsFit}
+use Rattle.x_item.specs.Spell.{spell_argument, spell_passed, spell_others, spell_procedure, spell_procedures, spell_version, spell_versions, ArgumentFits, OthersFit, ProcedureFits, ProceduresFit, VersionFits, VersionsFit}
 use Rattle.x_item.specs.declared.mark.Mark.{Mark}
 use Rattle.x_item.specs.declared.mark.Mark.TheVariants as marks
+use Rattle.x_item.specs.View.{view_argument}
+use Rattle.x_item.specs.declared.definition.Argument.{Argument}
 use Rattle.x_item.specs.declared.fault.FaultCode.{FaultCode}
 use Rattle.x_item.specs.Symbols.{Symbol, Token, AnyName, AnyNumber, Typed, InArguments, InResult, AfterType, Arguments, Parameters, Result, Procedures, MoreProcedures, Versions, MoreVersions, go, followed, step_result}
-use Rattle.x_item.specs.Reading.{Place, Fails, Goes, read}
+use Rattle.x_item.specs.Reading.{Place, Fails, FailsAll, read}
 use Rattle.x_item.specs.declared.reading.ParseError.{ParseError}
 use Rattle.x_item.specs.declared.reading.ParseError.TheVariants as errors
-use Rattle.x_item.proofs.ReadLemmas.{fails_alike}
+use Rattle.x_item.proofs.ReadLemmas.{at_along}
 
 -- a word with tokens from it on, in front of others
 abbrev pub headed : Word → ℕ → FaultCode → List Place → List Place
@@ -133,3 +135,19 @@ versions_push (u ∷ vs) v =
 pub versions_fit : (vs : List tree.Version) (v : tree.Version) → VersionsFit vs → VersionFits v → VersionsFit (vs ++ v ∷ [])
 versions_fit [] v h f = (f, tt)
 versions_fit (u ∷ vs) v h f = (h.0, versions_fit vs v h.1 f)
+
+pub arguments_push : (first : Option tree.Argument) (vs : List tree.Argument) (v : tree.Argument) → spell_passed first ++ spell_others (vs ++ v ∷ []) ≡ (spell_passed first ++ spell_others vs) ++ spell_other v
+arguments_push first vs v =
+    ap (λ t. spell_passed first ++ t) (others_push vs v) ∙ sym (append_assoc (spell_passed first) (spell_others vs) (spell_other v))
+
+pub next_argument_at : (ss : List Symbol) (ps rest : List Place) (w : Word) (left : ℕ) (code : FaultCode) → ps ≡ headed w left code rest → w ≡ Fixed marks.Comma → read (AfterType InArguments ∷ ss) ps ≡ read (Arguments ∷ ss) rest
+next_argument_at ss ps rest w left code is comma =
+    ap (read (AfterType InArguments ∷ ss)) is ∙ ap (λ x. read (AfterType InArguments ∷ ss) (headed x left code rest)) comma
+
+pub found_argument : (first : Option tree.Argument) (xs : List Argument) (x : Argument) (ys : List Argument) (ws left rest : List Word) → ys ≡ xs ++ x ∷ [] → ws ≡ (spell_passed first ++ spell_others (map view_argument xs)) ++ left → left ≡ spell_other (view_argument x) ++ rest → ws ≡ (spell_passed first ++ spell_others (map view_argument ys)) ++ rest
+found_argument first xs x ys ws left rest =
+    found_more view_argument (λ vs. spell_passed first ++ spell_others vs) spell_other (arguments_push first) xs x ys ws left rest
+
+-- symbols that fail, in front of others
+pub fails_list : {s : Symbol} {from : List Symbol} {ps left : List Place} {e : ParseError} (tl : List Symbol) → ((ss : List Symbol) → read (s ∷ ss) ps ≡ read (from ++ (tl ++ ss)) left) → FailsAll from left e → Fails s ps e
+fails_list {e = e} tl is f = record { by = λ ss. at_along e _ _ (is ss) (f.by (tl ++ ss)) }

@@ -75,29 +75,30 @@ fn returned<'w, 't>(
     Ok((Some(Argument::Of(data)), rest))
 }
 
-/// Reads the arguments behind the first, and the `)`.
-fn others<'w, 't>(
+/// Reads the arguments, of which the first may be `void`, and the `)`.
+fn arguments<'w, 't>(
     alloc: Global,
     tokens: &'w [Token<'t>],
-) -> Result<(Vec<Argument>, &'w [Token<'t>]), ParseError>
-    ensures found { IfOk result (λ x. words_at (ahead tokens.now) ≡ (spell_others (map view_argument x.0.items) ++ Fixed Mark.CloseParenthesis ∷ []) ++ words_at (ahead x.1.now)) }
-    ensures fits { IfOk result (λ x. OthersFit (map view_argument x.0.items)) }
-    ensures leads { IfOk result (λ x. Leads (AfterType InArguments) (ahead tokens.now) (ahead x.1.now)) }
-    ensures stuck { IfErr result (λ e. Fails (AfterType InArguments) (ahead tokens.now) e) }
-    ensures shorter { IfOk result (λ x. length x.1.now < length tokens.now) }
+) -> Result<(Option<Argument>, Vec<Argument>, &'w [Token<'t>]), ParseError>
+    ensures found { IfOk result (λ x. words_at (ahead tokens.now) ≡ ((spell_passed (view_passed x.0) ++ spell_others (map view_argument x.1.items)) ++ Fixed Mark.CloseParenthesis ∷ []) ++ words_at (ahead x.2.now)) }
+    ensures first_fits { IfOk result (λ x. PassedFits (view_passed x.0)) }
+    ensures others_fit { IfOk result (λ x. OthersFit (map view_argument x.1.items)) }
+    ensures leads { IfOk result (λ x. Leads Parameters (ahead tokens.now) (ahead x.2.now)) }
+    ensures stuck { IfErr result (λ e. Fails Parameters (ahead tokens.now) e) }
+    ensures shorter { IfOk result (λ x. length x.2.now < length tokens.now) }
 {
-    let mut items = Vec::new(alloc);
-    let mut left = tokens;
+    let (head, mut left) = first_argument(alloc, tokens)?;
+    let mut others = Vec::new(alloc);
     loop {
         let (word, rest) = first(left)?;
         match word {
             Word::Mark(mark) => match mark {
                 Mark::Comma => {
                     let (next, after) = argument(alloc, rest)?;
-                    items.push(next)?;
+                    others.push(next)?;
                     left = after;
                 }
-                Mark::CloseParenthesis => return Ok((items, rest)),
+                Mark::CloseParenthesis => return Ok((head, others, rest)),
                 _ => return Err(stuck_at(left)),
             },
             _ => return Err(stuck_at(left)),
@@ -135,8 +136,7 @@ fn procedure<'w, 't>(
     let (result, rest) = returned(alloc, tokens)?;
     let (name, rest) = name(alloc, rest)?;
     let rest = expect(Mark::OpenParenthesis, rest)?;
-    let (first, rest) = first_argument(alloc, rest)?;
-    let (others, rest) = others(alloc, rest)?;
+    let (first, others, rest) = arguments(alloc, rest)?;
     let (number, rest) = numbered(alloc, rest)?;
     let procedure = Procedure {
         result,
