@@ -3,6 +3,7 @@
 
 mod definition;
 mod fault;
+mod item;
 mod laws;
 mod mark;
 mod parse;
@@ -15,5 +16,6 @@ pub use definition::{
     Shape, Tag, UnionBody, Value, Version,
 };
 pub use fault::FaultCode;
+pub use item::{Parsed, parse_item};
 pub use laws::spell_law;
 pub use mark::Mark;
