@@ -17,5 +17,5 @@ pub use definition::{
 };
 pub use fault::FaultCode;
 pub use item::{Parsed, parse_item};
-pub use laws::spell_law;
+pub use laws::{one_parse, spell_law};
 pub use mark::Mark;
