@@ -19,3 +19,6 @@ pub use fault::FaultCode;
 pub use item::{Parsed, parse_item};
 pub use laws::{one_parse, spell_law};
 pub use mark::Mark;
+
+#[cfg(test)]
+mod tests;
