@@ -1,4 +1,5 @@
 pub mod Parse
+pub mod Parsed
 pub mod Reading
 pub mod Spell
 pub mod Symbols

@@ -3,9 +3,11 @@
 
 mod definition;
 mod fault;
+mod item;
 mod laws;
 mod mark;
 mod parse;
+mod program;
 mod reading;
 mod types;
 
@@ -14,5 +16,9 @@ pub use definition::{
     Shape, Tag, UnionBody, Value, Version,
 };
 pub use fault::FaultCode;
-pub use laws::spell_law;
+pub use item::{Parsed, parse_item};
+pub use laws::{one_parse, spell_law};
 pub use mark::Mark;
+
+#[cfg(test)]
+mod tests;

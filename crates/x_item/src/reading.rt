@@ -98,7 +98,7 @@ pub fn is_significant(kind: Kind) -> bool
 }
 
 /// The first word, and the tokens behind it.
-fn split_word<'w, 't>(tokens: &'w [Token<'t>]) -> Option<(Token<'t>, &'w [Token<'t>])>
+pub fn split_word<'w, 't>(tokens: &'w [Token<'t>]) -> Option<(Token<'t>, &'w [Token<'t>])>
     ensures some { IfSome result (λ x. IsSplit tokens.now x.0 x.1.now) }
     ensures none { IfNone result (ahead tokens.now ≡ []) }
     ensures none_left { IfNone result (left_in tokens.now ≡ 0) }
