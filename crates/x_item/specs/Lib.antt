@@ -1,3 +1,5 @@
+pub mod Collected
+pub mod Mentions
 pub mod Parse
 pub mod Reading
 pub mod Spell

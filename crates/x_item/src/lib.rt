@@ -5,6 +5,7 @@ mod definition;
 mod fault;
 mod laws;
 mod mark;
+mod mention;
 mod parse;
 mod reading;
 mod types;
