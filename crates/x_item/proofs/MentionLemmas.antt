@@ -1,11 +1,11 @@
 -- The words and the mentions of a tree, from those of its parts.
-use Rattle.std.proofs.Common.{◌≡◌, ℕ, ◌+◌, List, [], ◌∷◌, ◌++◌, length, map, refl, ap, sym, ◌∙◌, append_assoc, length-append, arith}
+use Rattle.std.proofs.Common.{◌≡◌, ℕ, ◌+◌, List, [], ◌∷◌, ◌++◌, length, ap, sym, ◌∙◌, append_assoc, length-append, arith}
 use Rattle.std.proofs.lemmas.List.{append-nil}
 use Rattle.x_item.specs.Words.{Fixed, Name, Number}
 use Rattle.x_item.specs.declared.mark.Mark.TheVariants as marks
 use Rattle.x_item.specs.Tree as tree
-use Rattle.x_item.specs.Spell.{spell_enumerator, spell_other_enumerators, spell_cases, spell_type, spell_body, spell_declaration, spell_declarations, spell_arms, spell_default, spell_argument, spell_passed, spell_others, spell_procedure, spell_procedures, spell_version, spell_versions}
-use Rattle.x_item.specs.Mentions.{Mention, in_enumerator, in_other_enumerators, in_cases, in_body, in_declaration, in_declarations, in_arms, in_default, in_argument, in_passed, in_others, in_procedure, in_procedures, in_version, in_versions}
+use Rattle.x_item.specs.Spell.{spell_enumerator, spell_other_enumerators, spell_cases, spell_body, spell_declaration, spell_declarations, spell_arms, spell_default, spell_argument, spell_passed, spell_others, spell_procedure, spell_procedures, spell_version, spell_versions}
+use Rattle.x_item.specs.Mentions.{in_enumerator, in_other_enumerators, in_cases, in_body, in_declaration, in_declarations, in_arms, in_default, in_argument, in_passed, in_others, in_procedure}
 
 pub enumerator_count : (e : tree.Enumerator) (es : List tree.Enumerator) → (length (spell_enumerator e) + 1) + length (spell_other_enumerators es) ≡ length (spell_other_enumerators (e ∷ es))
 enumerator_count e es = omega (arith, length-append (spell_enumerator e) (spell_other_enumerators es))
@@ -62,10 +62,12 @@ other_parts a rest k =
 pub procedure_count : (p : tree.Procedure) → (((length (spell_passed p.result) + 2) + length (spell_passed p.first)) + length (spell_others p.others)) + 4 ≡ length (spell_procedure p)
 procedure_count p =
     let last = Fixed marks.CloseParenthesis ∷ Fixed marks.Equals ∷ Number p.number ∷ Fixed marks.Semicolon ∷ [] in
-    omega (arith,
-        length-append (spell_passed p.result) (Name p.name ∷ Fixed marks.OpenParenthesis ∷ ((spell_passed p.first ++ spell_others p.others) ++ last)),
-        length-append (spell_passed p.first ++ spell_others p.others) last,
-        length-append (spell_passed p.first) (spell_others p.others))
+    omega (
+      arith,
+      length-append (spell_passed p.result) (Name p.name ∷ Fixed marks.OpenParenthesis ∷ ((spell_passed p.first ++ spell_others p.others) ++ last)),
+      length-append (spell_passed p.first ++ spell_others p.others) last,
+      length-append (spell_passed p.first) (spell_others p.others),
+    )
 
 pub procedure_parts : (p : tree.Procedure) (k : ℕ) → (((in_passed k p.result ++ []) ++ in_passed (k + (length (spell_passed p.result) + 2)) p.first) ++ in_others (k + ((length (spell_passed p.result) + 2) + length (spell_passed p.first))) p.others) ++ [] ≡ in_procedure k p
 procedure_parts p k =

@@ -1,5 +1,7 @@
 pub mod Collected
 pub mod Mentions
+pub mod Named
+pub mod Names
 pub mod Parse
 pub mod Reading
 pub mod Spell

@@ -1,7 +1,7 @@
 -- The names that definitions use (RFC 4506, section 6.4). The word of each is counted from 0 among the words of its definition.
-use Rattle.std.specs.Prelude.{ℕ, ◌+◌, ◌-◌, ◌^◌, suc, min, List, [], ◌∷◌, ◌++◌, length, map, Option, Some, None}
+use Rattle.std.specs.Prelude.{ℕ, ◌+◌, ◌-◌, ◌^◌, min, List, [], ◌∷◌, ◌++◌, length, Option, Some, None}
 use Rattle.x_item.specs.Tree as tree
-use Rattle.x_item.specs.Spell.{spell_length, spell_enumerator, spell_cases, spell_type, spell_declaration, spell_arms, spell_passed, spell_argument, spell_procedure, spell_version}
+use Rattle.x_item.specs.Spell.{spell_enumerator, spell_cases, spell_type, spell_declaration, spell_arms, spell_passed, spell_argument, spell_procedure, spell_version}
 use Rattle.x_item.specs.declared.definition.Tag.{Tag}
 use Rattle.x_item.specs.declared.mention.Use.{Use}
 use Rattle.x_item.specs.declared.mention.Use.TheVariants.{Value, ByValue, Link}

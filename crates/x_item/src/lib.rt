@@ -6,6 +6,7 @@ mod fault;
 mod laws;
 mod mark;
 mod mention;
+mod names;
 mod parse;
 mod reading;
 mod types;
@@ -17,3 +18,5 @@ pub use definition::{
 pub use fault::FaultCode;
 pub use laws::spell_law;
 pub use mark::Mark;
+pub use mention::{Mention, Use, mentions};
+pub use names::{DeclaredName, NameKind, declares};

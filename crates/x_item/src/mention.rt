@@ -7,8 +7,8 @@ ghost use Rattle.x_item.specs.Mentions.{Mention as OfTree, in_value, in_most, in
 ghost use Rattle.x_item.specs.Collected.{view_mention, Finds};
 
 use crate::definition::{
-    Argument, Arm, Basic, Body, DataType, Declaration, Definition, Enumerator, Length, Procedure, Shape, Tag,
-    UnionBody, Value, Version,
+    Argument, Arm, Basic, Body, DataType, Declaration, Definition, Enumerator, Length, Procedure,
+    Shape, Tag, UnionBody, Value, Version,
 };
 use std::alloc::Global;
 use x_text::NoMemory;
@@ -50,7 +50,7 @@ pub struct Mention<'d> {
 }
 
 /// How many words spell the type.
-fn words_of(basic: Basic) -> usize
+pub fn words_of(basic: Basic) -> usize
     ensures { result ≡ length (spell_basic basic) }
 {
     match basic {

@@ -131,9 +131,9 @@ declared-returns-in_default-mark t c =
     let w = c.in_ok-word.word in
     let m = c.in-Mark.mark in
     let same = declared_at n e ps _ _ _ _ c.in_ok-word.ensures.found
-        (other_mark w m marks.Void c.in-Mark.is c.in_default-mark.not-Void)
-        (other_mark w m marks.Opaque c.in-Mark.is c.in_default-mark.not-Opaque)
-        (other_mark w m marks.String c.in-Mark.is c.in_default-mark.not-String) in
+    (other_mark w m marks.Void c.in-Mark.is c.in_default-mark.not-Void)
+    (other_mark w m marks.Opaque c.in-Mark.is c.in_default-mark.not-Opaque)
+    (other_mark w m marks.String c.in-Mark.is c.in_default-mark.not-String) in
     record {
       found = c.typed.ensures.found;
       fits = c.typed.ensures.fits;
@@ -149,7 +149,7 @@ declared-returns-in_default t c =
     let ps = ahead c.args.tokens.now in
     let w = c.in_ok-word.word in
     let same = declared_at n e ps _ _ _ _ c.in_ok-word.ensures.found
-        (no_mark w marks.Void c.in_default.not-Mark) (no_mark w marks.Opaque c.in_default.not-Mark) (no_mark w marks.String c.in_default.not-Mark) in
+    (no_mark w marks.Void c.in_default.not-Mark) (no_mark w marks.Opaque c.in_default.not-Mark) (no_mark w marks.String c.in_default.not-Mark) in
     let last = c.typed-in_default in
     record {
       found = last.ensures.found;

@@ -1,4 +1,4 @@
-use Rattle.std.proofs.Common.{length, drop, map}
+use Rattle.std.proofs.Common.{length, drop}
 use Rattle.x_item.specs.Spell.{spell_declarations, spell_arms}
 use Rattle.x_item.specs.View.{view_declarations, view_arms}
 use Rattle.x_item.specs.Mentions.{in_declarations, in_arms}
