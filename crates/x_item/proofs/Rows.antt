@@ -1,11 +1,11 @@
 -- The lists of a tree as the program holds them, and as lists.
-use Rattle.std.proofs.Common.{◌≡◌, map, Option, Some, None, refl, ap, ◌∙◌}
+use Rattle.std.proofs.Common.{◌≡◌, map, Option, Some, None, refl, ap, sym, ◌∙◌}
 use Rattle.x_item.specs.Tree as tree
 use Rattle.x_item.specs.View.{view_body, view_declaration, view_row, view_declarations, view_arm_row, view_arms, view_value, view_union, view_held, view_default}
 use Rattle.x_item.specs.declared.definition.Body.{Row_of-Declaration, end_of-Declaration, more_of-Declaration, items-the_row-Declaration, items_hidden-the_row-Declaration-0}
 use Rattle.x_item.specs.declared.definition.Body.TheVariants.{Struct}
 use Rattle.x_item.specs.declared.definition.Body.TheBlock.{hidden-the_row-Declaration-0, hidden-the_row-Arm-1}
-use Rattle.x_item.specs.declared.definition.UnionBody.{Row_of-Arm, end_of-Arm, more_of-Arm, items-the_row-Arm, items_hidden-the_row-Arm-1, back-UnionBody-default, roll-UnionBody, rolls-UnionBody'}
+use Rattle.x_item.specs.declared.definition.UnionBody.{Row_of-Arm, end_of-Arm, more_of-Arm, items-the_row-Arm, items_hidden-the_row-Arm-1, back-UnionBody-default, roll-UnionBody, rolls-UnionBody', UnionBody, out-UnionBody, roll-out-UnionBody}
 use Rattle.x_item.specs.declared.definition.Declaration.{Declaration}
 use Rattle.x_item.specs.declared.definition.Arm.{Arm}
 use Rattle.std.specs.declared.vec.Vec.{Vec}
@@ -31,3 +31,7 @@ union_view d arms default =
     ap view_union (rolls-UnionBody' record { discriminant = d; arms = arms; default = default })
     ∙ ap (λ a. tree.Union (view_declaration d) a (view_held (back-UnionBody-default default))) (arm_row_view (hidden-the_row-Arm-1 arms) ∙ ap view_arms (items_hidden-the_row-Arm-1 arms))
     ∙ ap (tree.Union (view_declaration d) (view_arms arms.items)) (held_view default)
+
+-- the parts of the body of a union
+pub union_parts : (u : UnionBody) → view_union u ≡ tree.Union (view_declaration (out-UnionBody u).discriminant) (view_arms (out-UnionBody u).arms.items) (view_default (out-UnionBody u).default)
+union_parts u = ap view_union (sym (roll-out-UnionBody u)) ∙ union_view (out-UnionBody u).discriminant (out-UnionBody u).arms (out-UnionBody u).default

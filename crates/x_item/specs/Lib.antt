@@ -1,3 +1,7 @@
+pub mod Collected
+pub mod Mentions
+pub mod Named
+pub mod Names
 pub mod Parse
 pub mod Parsed
 pub mod Reading

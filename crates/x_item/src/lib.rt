@@ -6,6 +6,8 @@ mod fault;
 mod item;
 mod laws;
 mod mark;
+mod mention;
+mod names;
 mod parse;
 mod program;
 mod reading;
@@ -19,6 +21,8 @@ pub use fault::FaultCode;
 pub use item::{Parsed, parse_item};
 pub use laws::{one_parse, spell_law};
 pub use mark::Mark;
+pub use mention::{Mention, Use, mentions};
+pub use names::{DeclaredName, NameKind, declares};
 
 #[cfg(test)]
 mod tests;
