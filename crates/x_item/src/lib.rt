@@ -25,4 +25,6 @@ pub use mention::{Mention, Use, mentions};
 pub use names::{DeclaredName, NameKind, declares};
 
 #[cfg(test)]
+mod name_tests;
+#[cfg(test)]
 mod tests;

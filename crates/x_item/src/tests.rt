@@ -9,7 +9,7 @@ use x_lex::lex;
 use x_text::{MAX_TEXT, Meter, NoMemory, Source};
 
 /// What a text that is one item parses to, and the place of its fault, if it has one.
-fn parse(rt: &impl Abort, alloc: Global, text: &[u8]) -> Result<(Parsed, Option<usize>), Fail> {
+pub fn parse(rt: &impl Abort, alloc: Global, text: &[u8]) -> Result<(Parsed, Option<usize>), Fail> {
     let mut meter = Meter::new();
     let source = Source::from_bytes(alloc, text)?;
     let tokens = lex(alloc, &source, &mut meter)?;
@@ -472,7 +472,7 @@ fn laws_cost_nothing(_rt: HostRuntime) {
 }
 
 /// Parses with whatever memory there is.
-fn parse_with_little_memory(alloc: Global, text: &[u8]) -> Result<Parsed, NoMemory> {
+pub fn parse_with_little_memory(alloc: Global, text: &[u8]) -> Result<Parsed, NoMemory> {
     let mut meter = Meter::new();
     let Ok(source) = Source::from_bytes(alloc, text) else {
         return Err(NoMemory);
