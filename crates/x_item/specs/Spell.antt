@@ -226,7 +226,7 @@ abbrev pub VersionsFit : List tree.Version → Type 0
 VersionsFit [] = Unit {0}
 VersionsFit (v ∷ vs) = VersionFits v × VersionsFit vs
 
--- at most 32 inline bodies inside one another, and no body is empty
+-- at most 32 inline bodies inside one another, and no body and no list of cases is empty
 abbrev pub KeepsLimits : tree.Definition → Type 0
 KeepsLimits (tree.Const name value) = Unit {0}
 KeepsLimits (tree.Typedef d) = DeclarationFits d 32
