@@ -169,7 +169,8 @@ fn parses_types(rt: HostRuntime) -> Result<(), Fail> {
     expect_answers(&rt, rt.alloc(), &TYPES)
 }
 
-const ENUMS: [Row; 11] = [
+const ENUMS: [Row; 12] = [
+    ("enum e { A, B = 5, C };", "definition"),
     ("enum e { A };", "definition"),
     ("enum e { A, B = 5, C = D };", "definition"),
     ("enum { A };", "6 Syntax"),
