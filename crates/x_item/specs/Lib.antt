@@ -1,5 +1,9 @@
+pub mod Cutting
+pub mod ItemList
+pub mod Items
 pub mod Parse
 pub mod Reading
+pub mod Recut
 pub mod Spell
 pub mod Symbols
 pub mod Tree

@@ -1,17 +1,26 @@
 //! The definitions of a `.x` file: their trees, how they are spelled, and [`spell_law`], by which no two have one spelling.
 #![tactic(auto)]
 
+mod cutter;
+mod cutting;
 mod definition;
+mod entry;
 mod fault;
+mod item_patch;
+mod items;
 mod laws;
 mod mark;
 mod parse;
 mod reading;
 
+pub use cutting::cut;
 pub use definition::{
     Argument, Arm, Basic, Body, DataType, Declaration, Definition, Enumerator, Length, Procedure,
     Shape, Tag, UnionBody, Value, Version,
 };
+pub use entry::Entry;
 pub use fault::FaultCode;
+pub use item_patch::ItemPatch;
+pub use items::Items;
 pub use laws::spell_law;
 pub use mark::Mark;
