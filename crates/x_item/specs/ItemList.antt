@@ -1,5 +1,5 @@
 -- Items as they are kept, and what takes the place of some of them.
-use Rattle.std.specs.Prelude.{◌≡◌, ℕ, ◌+◌, ◌<◌, ◌≤◌, List, length, map, sum, take}
+use Rattle.std.specs.Prelude.{◌≡◌, ℕ, ◌+◌, ◌<◌, ◌≤◌, List, [], ◌∷◌, length, map, take}
 use Rattle.std.specs.List.{splice}
 use Rattle.x_text.specs.Seqs.{Gapped}
 use Rattle.x_text.specs.declared.source.TheConstants.{MAX_TEXT}
@@ -9,15 +9,20 @@ use Rattle.x_item.specs.declared.entry.Entry.{Entry}
 abbrev pub counts : {K : Type 0} → List (Entry K) → List ℕ
 counts entries = map (λ entry. entry.tokens) entries
 
--- how many tokens stand before the item at an index, where each item has so many
+-- how many tokens items have together, where each has so many
+abbrev pub total : List ℕ → ℕ
+total [] = 0
+total (c ∷ cs) = c + total cs
+
+-- how many tokens stand before the item at an index
 abbrev pub tokens_before : List ℕ → ℕ → ℕ
-tokens_before cs i = sum (take i cs)
+tokens_before cs i = total (take i cs)
 
 -- there is an item, and there are no more items and tokens than a text can have
 pub record AreOfText (cs : List ℕ) : Type 0 where
   pub some : 0 < length cs
   pub few : length cs ≤ MAX_TEXT + 1
-  pub short : sum cs ≤ MAX_TEXT
+  pub short : total cs ≤ MAX_TEXT
 
 -- the items are of a text, and `token` is the index of the first token behind the seat
 pub record AreSeated (cs : List ℕ) (seat token : ℕ) : Type 0 where

@@ -1,8 +1,8 @@
 //! The items of a text as one value.
-ghost use Rattle.std.specs.Prelude.{◌≡◌, ◌+◌, ◌<◌, ◌≤◌, ◌↔◌, ℕ, [], IfOk, OnOk, OnErr, length, option_copied, slice_get, sum};
+ghost use Rattle.std.specs.Prelude.{◌≡◌, ◌+◌, ◌<◌, ◌≤◌, ◌↔◌, ℕ, [], IfOk, OnOk, OnErr, length, option_copied, slice_get};
 ghost use Rattle.x_text.specs.declared.source.TheConstants.{MAX_TEXT};
 ghost use Rattle.x_text.specs.Seqs.{distance};
-ghost use Rattle.x_item.specs.ItemList.{counts, tokens_before, patched, LiesAmong, HasRoom, AreOfText};
+ghost use Rattle.x_item.specs.ItemList.{counts, total, tokens_before, patched, LiesAmong, HasRoom, AreOfText};
 
 use crate::entry::Entry;
 use crate::item_patch::ItemPatch;
@@ -131,7 +131,7 @@ impl<K: Drop> Items<K> {
     /// How many items but the last have all their tokens among the first `limit` of the `end` that there are, and how many tokens
     /// those have.
     pub(crate) fn whole_within(&self, limit: usize, end: usize) -> (usize, usize)
-        requires { end ≡ sum (counts self.now.list) }
+        requires { end ≡ total (counts self.now.list) }
         ensures within { result.0 < length self.now.list }
         ensures tokens { result.1 ≡ tokens_before (counts self.now.list) result.0 }
         ensures before { result.1 ≤ limit }
@@ -144,7 +144,7 @@ impl<K: Drop> Items<K> {
 
     /// A count of items and of their tokens: of the start, the seat and the end, the nearest to the token at `limit`.
     fn nearest(&self, limit: usize, end: usize) -> (usize, usize)
-        requires { end ≡ sum (counts self.now.list) }
+        requires { end ≡ total (counts self.now.list) }
         ensures within { result.0 ≤ length self.now.list }
         ensures tokens { result.1 ≡ tokens_before (counts self.now.list) result.0 }
     {
@@ -168,9 +168,10 @@ impl<K: Drop> Items<K> {
         ensures tokens { result.1 ≡ tokens_before (counts self.now.list) result.0 }
         ensures before { result.1 ≤ limit }
     {
+        let last = self.len() - 1;
         let mut index = index;
         let mut token = token;
-        while index > 0 && (index == self.len() || token > limit) {
+        while index > 0 && (index > last || token > limit) {
             index -= 1;
             token -= self.tokens_at(index);
         }
@@ -188,9 +189,10 @@ impl<K: Drop> Items<K> {
         ensures before { result.1 ≤ limit }
         ensures next { result.0 + 1 < length self.now.list → limit < tokens_before (counts self.now.list) (result.0 + 1) }
     {
+        let last = self.len() - 1;
         let mut index = index;
         let mut token = token;
-        while index + 1 < self.len() {
+        while index < last {
             let next = token + self.tokens_at(index);
             if next > limit {
                 return (index, token);
@@ -212,9 +214,10 @@ impl<K: Drop> Items<K> {
         ensures below { (j : ℕ) → from ≤ j → j < result.0 → tokens_before (counts self.now.list) j < target }
         ensures reached { result.0 + 1 < length self.now.list → target ≤ result.1 }
     {
+        let last = self.len() - 1;
         let mut index = from;
         let mut token = token;
-        while index + 1 < self.len() && token < target {
+        while index < last && token < target {
             token += self.tokens_at(index);
             index += 1;
         }
@@ -251,9 +254,10 @@ impl<K: Drop> Items<K> {
 }
 
 /// How many tokens the items of these entries have.
+#[tactic(auto, using(crate::proofs::CountLemmas::total_take_le, crate::proofs::CountLemmas::total_take_more))]
 fn tokens_of<K>(entries: &[Entry<K>]) -> usize
-    requires { sum (counts entries.now) ≤ MAX_TEXT }
-    ensures { result ≡ sum (counts entries.now) }
+    requires { total (counts entries.now) ≤ MAX_TEXT }
+    ensures { result ≡ total (counts entries.now) }
 {
     let mut total = 0;
     for entry in entries {
