@@ -1,6 +1,6 @@
 -- Cutting as a function of a running depth, which the program computes. That it gives the items that the definition speaks of is
 -- proved; nothing but private functions cites it.
-use Rattle.std.specs.Prelude.{ℕ, ◌+◌, ◌-◌, Bool, false, List, [], ◌∷◌, map, cond, nat_le}
+use Rattle.std.specs.Prelude.{ℕ, ◌+◌, ◌-◌, Bool, false, List, [], ◌∷◌, map, cond, ◌==◌}
 use Rattle.x_lex.specs.declared.kind.Kind.{Kind}
 use Rattle.x_lex.specs.Places.{Lexeme, lexemes}
 use Rattle.x_item.specs.Items.{is_punct}
@@ -39,7 +39,7 @@ depth_after d plain = d
 
 -- whether the token ends the item, before it at this depth
 abbrev pub ends_at : ℕ → Role → Bool
-ends_at d semicolon = nat_le d 0
+ends_at d semicolon = d == 0
 ends_at d role = false
 
 -- how many tokens each item has, where at this depth n tokens of the first have gone by

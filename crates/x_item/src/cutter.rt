@@ -42,7 +42,10 @@ impl Cutter {
             self.depth = self.depth.saturating_sub(1);
             return false;
         }
-        self.depth == 0 && is_punct(kind, text, b';')
+        if is_punct(kind, text, b';') {
+            return self.depth == 0;
+        }
+        false
     }
 }
 

@@ -1,9 +1,17 @@
-ghost use Rattle.std.specs.Prelude.{◌≡◌};
+ghost use Rattle.std.specs.Prelude.{◌≡◌, ℕ, List};
+ghost use Rattle.x_lex.specs.Places.{Lexeme};
 ghost use Rattle.x_item.specs.Tree.{Definition};
+ghost use Rattle.x_item.specs.Items.{IsCut};
 ghost use Rattle.x_item.specs.Spell.{spell, KeepsLimits};
 
 /// No two definitions that keep the limits have one spelling: none of their bodies is empty, and at most 32 inline bodies stand
 /// inside one another.
 pub fn spell_law()
     ensures { (d e : Definition) → KeepsLimits d → KeepsLimits e → spell d ≡ spell e → d ≡ e }
+{}
+
+/// Tokens are written as items in one way.
+pub fn one_cut()
+    ensures only { (tokens : List Lexeme) (cs ds : List ℕ) → IsCut tokens cs → IsCut tokens ds → cs ≡ ds }
+    ensures some { (tokens : List Lexeme) → (cs : List ℕ) × IsCut tokens cs }
 {}

@@ -22,5 +22,5 @@ pub use entry::Entry;
 pub use fault::FaultCode;
 pub use item_patch::ItemPatch;
 pub use items::Items;
-pub use laws::spell_law;
+pub use laws::{one_cut, spell_law};
 pub use mark::Mark;
