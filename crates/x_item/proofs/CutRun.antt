@@ -1,7 +1,8 @@
 -- The loop of `cut`: what it keeps.
 use Rattle.std.proofs.Common.{◌≡◌, ℕ, suc, ◌+◌, ◌≤◌, ◌<◌, Bool, true, false, List, [], ◌∷◌, ◌++◌, length, map, refl, ap, sym, ◌∙◌, subst, append_assoc, arith, length-append}
 use Rattle.std.proofs.lemmas.Bool.{cond-true, cond-false}
-use Rattle.std.proofs.lemmas.List.{append-nil, map-append, length_push, length-map}
+use Rattle.std.proofs.lemmas.Bool.Decides.{nat_tests}
+use Rattle.std.proofs.lemmas.List.{map-append, length_push}
 use Rattle.x_text.specs.declared.source.TheConstants.{MAX_TEXT}
 use Rattle.x_lex.specs.Places.{Lexeme}
 use Rattle.x_item.specs.declared.entry.Entry.{Entry}
@@ -82,4 +83,4 @@ cutting_fits all left found more depth count none pushed h fits =
 
 -- an entry more
 pub counts_pushed : {K : Type 0} (entries more : List (Entry K)) (e : Entry K) (n : ℕ) → more ≡ entries ++ e ∷ [] → e.tokens ≡ n → counts more ≡ counts entries ++ n ∷ []
-counts_pushed entries more e n pushed is = let f = λ (x : Entry K). x.tokens in ap counts pushed ∙ map-append f entries (e ∷ []) ∙ ap (λ k. counts entries ++ k ∷ []) is
+counts_pushed {K} entries more e n pushed is = let f = λ (x : Entry K). x.tokens in ap counts pushed ∙ map-append f entries (e ∷ []) ∙ ap (λ k. counts entries ++ k ∷ []) is
