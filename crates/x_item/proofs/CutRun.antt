@@ -8,9 +8,10 @@ use Rattle.x_lex.specs.Places.{Lexeme}
 use Rattle.x_item.specs.declared.entry.Entry.{Entry}
 use Rattle.x_item.specs.Items.{IsCut}
 use Rattle.x_item.specs.ItemList.{total, counts, AreOfText}
-use Rattle.x_item.specs.Cutting.{Role, role_of, roles_of, depth_after, ends_at, counts_from}
+use Rattle.x_item.specs.Cutting.{Role, opening, closing, semicolon, plain, role_of, roles_of, depth_after, ends_at, counts_from}
 use Rattle.x_item.proofs.CountLemmas.{total-append}
 use Rattle.x_item.proofs.CuttingLemmas.{counts_cut}
+use Rattle.x_item.proofs.PatchedLemmas.{depth_after_le}
 
 -- the items that were found go before those of the tokens that are left
 pub record Cutting (all left : List Lexeme) (found : List ℕ) (depth count : ℕ) : Type 0 where
@@ -25,12 +26,6 @@ cutting_none all left found depth is none zero =
     (subst (λ f. Cutting all all f depth 0) (sym none)
     (subst (λ d. Cutting all all [] d 0) (sym zero) (record { goes_on = refl; sums = omega arith; few = omega arith; deep = omega arith })))
 
-after_le : (d : ℕ) (r : Role) → depth_after d r ≤ d + 1
-after_le d Rattle.x_item.specs.Cutting.opening = omega arith
-after_le d Rattle.x_item.specs.Cutting.closing = omega arith
-after_le d Rattle.x_item.specs.Cutting.semicolon = omega arith
-after_le d Rattle.x_item.specs.Cutting.plain = omega arith
-
 -- a token that ends no item
 pub cutting_on : (all left left' : List Lexeme) (found : List ℕ) (depth count next : ℕ) (t : Lexeme) (ends : Bool) → left ≡ t ∷ left' → ends ≡ ends_at depth (role_of t) → next ≡ depth_after depth (role_of t) → ends ≡ false → Cutting all left found depth count → Cutting all left' found next (count + 1)
 cutting_on all left left' found depth count next t ends is says moved no_end h = record {
@@ -41,7 +36,7 @@ cutting_on all left left' found depth count next t ends is says moved no_end h =
       ∙ ap (λ d. found ++ counts_from d (count + 1) (roles_of left')) (sym moved);
   sums = let l = ap length is in let s = h.sums in omega (arith, l, s);
   few = h.few;
-  deep = let a = after_le depth (role_of t) in let d = h.deep in omega (arith, a, d, moved);
+  deep = let a = depth_after_le depth (role_of t) in let d = h.deep in omega (arith, a, d, moved);
 }
 
 -- a token that ends one
@@ -60,10 +55,10 @@ cutting_end all left left' found more depth count next t ends is says moved an_e
 }
   where
     zero_next : (d : ℕ) (r : Role) → ends_at d r ≡ true → depth_after d r ≡ 0
-    zero_next d Rattle.x_item.specs.Cutting.opening e = (cc)
-    zero_next d Rattle.x_item.specs.Cutting.closing e = (cc)
-    zero_next d Rattle.x_item.specs.Cutting.semicolon e = grind (arith, nat_tests)
-    zero_next d Rattle.x_item.specs.Cutting.plain e = (cc)
+    zero_next d opening e = (cc)
+    zero_next d closing e = (cc)
+    zero_next d semicolon e = grind (arith, nat_tests)
+    zero_next d plain e = (cc)
 
     at_zero : next ≡ 0
     at_zero = moved ∙ zero_next depth (role_of t) (sym says ∙ an_end)

@@ -20,12 +20,12 @@ pub record Change : Type 0 where
   pub insert : List ℕ
 
 -- the old text has these tokens, they are cut so, and the patch is what the change, which makes `new` of it, does to them
-pub record IsRelexed (change : Change) (new : List ℕ) (ts : List (Kind × ℕ)) (cs : List ℕ) (patch : TokenPatch) : Type 0 where
+pub record IsRelexed (change : Change) (new : List ℕ) (ts : List (Kind × ℕ)) (cs : List ℕ) (fresh : TokenPatch) : Type 0 where
   pub within : LiesWithin change.old change.start change.end
   pub edited : new ≡ edited change.old change.start change.end change.insert
   pub tokens : AreTokens change.old ts
   pub items : IsCut (lexemes change.old ts) cs
-  pub patch : IsPatch change.old new ts change.start change.end (length change.insert) patch
+  pub patch : IsPatch change.old new ts change.start change.end (length change.insert) fresh
 
 -- the place where the item at an index starts
 abbrev pub start_of : List (Kind × ℕ) → List ℕ → ℕ → ℕ

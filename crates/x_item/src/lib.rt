@@ -12,6 +12,7 @@ mod laws;
 mod mark;
 mod parse;
 mod reading;
+mod recutting;
 
 pub use cutting::cut;
 pub use definition::{
@@ -24,3 +25,4 @@ pub use item_patch::ItemPatch;
 pub use items::Items;
 pub use laws::{one_cut, spell_law};
 pub use mark::Mark;
+pub use recutting::recut;
