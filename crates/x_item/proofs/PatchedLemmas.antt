@@ -28,7 +28,7 @@ module _ {A : Type 0} where
   get_take (suc n) (x ∷ xs) zero lt = refl
   get_take (suc n) (x ∷ xs) (suc i) lt = get_take n xs i (omega arith)
 
-  get_drop : (n : ℕ) (xs : List A) (i : ℕ) → slice_get (drop n xs) i ≡ slice_get xs (n + i)
+  pub get_drop : (n : ℕ) (xs : List A) (i : ℕ) → slice_get (drop n xs) i ≡ slice_get xs (n + i)
   get_drop zero xs i = let e : i ≡ 0 + i = omega arith in ap (λ n. slice_get xs n) e
   get_drop (suc n) [] i = refl
   get_drop (suc n) (x ∷ xs) i = let e : suc (n + i) ≡ suc n + i = omega arith in get_drop n xs i ∙ ap (λ k. slice_get (x ∷ xs) k) e
