@@ -76,7 +76,7 @@ pub record Split (k : ℕ) (rs : List Role) : Type 0 where
   pub within : tokens_before (cut_of rs) k ≤ length rs
   pub splits : (tail : List Role) → cut_of (take (tokens_before (cut_of rs) k) rs ++ tail) ≡ take k (cut_of rs) ++ cut_of tail
 
-take_more : (i j : ℕ) (rs : List Role) → take (i + j) rs ≡ take i rs ++ take j (drop i rs)
+pub take_more : (i j : ℕ) (rs : List Role) → take (i + j) rs ≡ take i rs ++ take j (drop i rs)
 take_more zero j rs = let e : 0 + j ≡ j = omega arith in ap (λ n. take n rs) e
 take_more (suc i) zero [] = let e : suc i + 0 ≡ suc (i + 0) = omega arith in ap (λ n. take n []) e
 take_more (suc i) (suc j) [] = let e : suc i + suc j ≡ suc (i + suc j) = omega arith in ap (λ n. take n []) e
