@@ -42,6 +42,32 @@ pub record Recutting (R S : List Role) (x f m k start : ℕ) (news : List ℕ) (
   pub below : (j : ℕ) → j < back → tokens_before (cut_of R) j < x + m + (index - (x + f))
   pub none : (j : ℕ) → j < k + length news → Joins (cut_of R) (x + f) (x + m) (tokens_before (cut_of S) j) → ⊥
 
+-- the old items have been gone over up to the first that has `target` tokens before it, or more
+pub record Advanced (R : List Role) (x f m index back back_index : ℕ) : Type 0 where
+  pub below : (j : ℕ) → j < back → tokens_before (cut_of R) j < x + m + (index - (x + f))
+  pub found : Joins (cut_of R) (x + f) (x + m) index → back_index ≡ x + m + (index - (x + f))
+
+-- the items that are put in place of those from k to before `end` make the items of the new tokens, and no item before joins
+pub record Recut (R S : List Role) (x f m k : ℕ) (news : List ℕ) (end : ℕ) : Type 0 where
+  pub order : k ≤ end
+  pub within : end ≤ length (cut_of R)
+  pub are : cut_of S ≡ take k (cut_of R) ++ (news ++ drop end (cut_of R))
+  pub none : (j : ℕ) → j < k + length news → Joins (cut_of R) (x + f) (x + m) (tokens_before (cut_of S) j) → ⊥
+
+-- the old items from `end` on stay
+pub record Stays (R S : List Role) (x f m k : ℕ) (news : List ℕ) (end : ℕ) : Type 0 where
+  pub recut : Recut R S x f m k news end
+  pub there : end < length (cut_of R)
+  pub far : x + f ≤ tokens_before (cut_of S) (k + length news)
+  pub ends : tokens_before (cut_of R) end ≡ x + m + (tokens_before (cut_of S) (k + length news) - (x + f))
+  pub both : (tokens_before (cut_of S) (k + length news) ≡ 0) ↔ (tokens_before (cut_of R) end ≡ 0)
+
+-- none of them does
+pub record Goes (R S : List Role) (x f m k : ℕ) (news : List ℕ) (end : ℕ) : Type 0 where
+  pub recut : Recut R S x f m k news end
+  pub there : end ≡ length (cut_of R)
+  pub last : length (cut_of S) ≡ k + length news
+
 -- all items but the last have tokens
 pub before_strict : (rs : List Role) (i j : ℕ) → i < j → j < length (cut_of rs) → tokens_before (cut_of rs) i < tokens_before (cut_of rs) j
 before_strict rs i j lt le =
@@ -129,13 +155,8 @@ module _ (R S : List Role) (x f m : ℕ) (meet : Meet R S x f m) (k start : ℕ)
         omega (arith, s, e, b, far);
   })
 
-  -- the old items have been gone over up to the first that has `target` tokens before it, or more
-  pub record Advanced (index back back_index : ℕ) : Type 0 where
-    pub below : (j : ℕ) → j < back → tokens_before (cut_of R) j < x + m + (index - (x + f))
-    pub found : Joins (cut_of R) (x + f) (x + m) index → back_index ≡ x + m + (index - (x + f))
-
   pub advanced : (news : List ℕ) (index back back_index to to_index target : ℕ) → Recutting R S x f m k start news index back back_index → target ≡ x + m + (index - (x + f)) → to < length (cut_of R) → to_index ≡ tokens_before (cut_of R) to
-      → ((j : ℕ) → back ≤ j → j < to → tokens_before (cut_of R) j < target) → (to + 1 < length (cut_of R) → target ≤ to_index) → Advanced index to to_index
+      → ((j : ℕ) → back ≤ j → j < to → tokens_before (cut_of R) j < target) → (to + 1 < length (cut_of R) → target ≤ to_index) → Advanced R x f m index to to_index
   advanced news index back back_index to to_index target h is within at below reached = record { below = all; found = found }
     where
       all : (j : ℕ) → j < to → tokens_before (cut_of R) j < x + m + (index - (x + f))
@@ -192,29 +213,8 @@ module _ (R S : List Role) (x f m : ℕ) (meet : Meet R S x f m) (k start : ℕ)
       let e : tokens_before (cut_of (drop index S)) 1 ≡ count + 0 = ap (λ l. tokens_before l 1) item in
       omega (arith, g, e)
 
-  -- the items that are put in place of those from k to before `end` make the items of the new tokens, and no item before joins
-  pub record Recut (news : List ℕ) (end : ℕ) : Type 0 where
-    pub order : k ≤ end
-    pub within : end ≤ length (cut_of R)
-    pub are : cut_of S ≡ take k (cut_of R) ++ (news ++ drop end (cut_of R))
-    pub none : (j : ℕ) → j < k + length news → Joins (cut_of R) (x + f) (x + m) (tokens_before (cut_of S) j) → ⊥
-
-  -- the old items from `end` on stay
-  pub record Stays (news : List ℕ) (end : ℕ) : Type 0 where
-    pub recut : Recut news end
-    pub there : end < length (cut_of R)
-    pub far : x + f ≤ tokens_before (cut_of S) (k + length news)
-    pub ends : tokens_before (cut_of R) end ≡ x + m + (tokens_before (cut_of S) (k + length news) - (x + f))
-    pub both : (tokens_before (cut_of S) (k + length news) ≡ 0) ↔ (tokens_before (cut_of R) end ≡ 0)
-
-  -- none of them does
-  pub record Goes (news : List ℕ) (end : ℕ) : Type 0 where
-    pub recut : Recut news end
-    pub there : end ≡ length (cut_of R)
-    pub last : length (cut_of S) ≡ k + length news
-
   pub recut_joined : (news : List ℕ) (index back back_index to to_index : ℕ) → Recutting R S x f m k start news index back back_index → back ≤ to → to < length (cut_of R) → to_index ≡ tokens_before (cut_of R) to
-      → x + f ≤ index → to_index ≡ x + m + (index - (x + f)) → ((index ≡ 0) ↔ (to_index ≡ 0)) → Stays news to
+      → x + f ≤ index → to_index ≡ x + m + (index - (x + f)) → ((index ≡ 0) ↔ (to_index ≡ 0)) → Stays R S x f m k news to
   recut_joined news index back back_index to to_index h forth within at far is both =
       let here : tokens_before (cut_of S) (k + length news) ≡ index = boundary news (cut_of (drop index S)) h.goes_on ∙ sym h.index_is in
       let split_index : index ≡ x + f + (index - (x + f)) = omega arith in
@@ -237,7 +237,7 @@ module _ (R S : List Role) (x f m : ℕ) (meet : Meet R S x f m) (k start : ℕ)
         both = subst (λ i. (i ≡ 0) ↔ (tokens_before (cut_of R) to ≡ 0)) (sym here) (subst (λ i. (index ≡ 0) ↔ (i ≡ 0)) at both);
       }
 
-  pub recut_ended : (news more : List ℕ) (index count back back_index end : ℕ) → Recutting R S x f m k start news index back back_index → (Joins (cut_of R) (x + f) (x + m) index → ⊥) → cut_of (drop index S) ≡ count ∷ [] → more ≡ news ++ count ∷ [] → end ≡ length (cut_of R) → Goes more end
+  pub recut_ended : (news more : List ℕ) (index count back back_index end : ℕ) → Recutting R S x f m k start news index back back_index → (Joins (cut_of R) (x + f) (x + m) index → ⊥) → cut_of (drop index S) ≡ count ∷ [] → more ≡ news ++ count ∷ [] → end ≡ length (cut_of R) → Goes R S x f m k more end
   recut_ended news more index count back back_index end h apart item pushed all =
       let g = front_length in
       let l = ap length pushed ∙ length_push news count in
