@@ -1,11 +1,13 @@
 -- The patch that `recut` makes is the one of the definition.
 use Rattle.std.proofs.Common.{◌≡◌, ℕ, zero, suc, ◌+◌, ◌-◌, ◌≤◌, ◌<◌, Bool, true, false, List, [], ◌∷◌, ◌++◌, length, take, drop, Option, None, Some, refl, ap, sym, ◌∙◌, subst, arith, length-append, length-drop, length-take-le}
-use Rattle.std.specs.Prelude.{◌↔◌, option_map}
+use Rattle.std.specs.Prelude.{◌↔◌, option_map, ◌==◌, cond}
+use Rattle.std.specs.Bool.{beq}
 use Rattle.std.specs.List.{splice}
 use Rattle.std.proofs.lemmas.Bool.{cond-true, cond-false}
 use Rattle.std.proofs.lemmas.List.{length-map}
 use Rattle.x_text.specs.declared.source.TheConstants.{MAX_TEXT}
 use Rattle.x_lex.specs.declared.kind.Kind.{Kind}
+use Rattle.x_lex.specs.Tiling.{end_of}
 use Rattle.x_lex.specs.TokenList.{TokenPatch}
 use Rattle.x_lex.specs.TokenList as tokens
 use Rattle.x_lex.specs.Places.{lexemes}
@@ -21,7 +23,9 @@ use Rattle.x_item.proofs.CountLemmas.{counts-splice}
 use Rattle.x_item.proofs.CuttingLemmas.{cut_counts, counts_cut}
 use Rattle.x_item.proofs.FirstLemmas.{cut_of, cut_some, total_counts}
 use Rattle.x_item.proofs.PatchedLemmas.{length-roles}
-use Rattle.x_item.proofs.RecutRun.{Meet, Keeps, Recut, Stays, Goes}
+use Rattle.x_item.proofs.CutRun.{counts_pushed}
+use Rattle.x_item.proofs.PatchEnds.{front_end}
+use Rattle.x_item.proofs.RecutRun.{Meet, Keeps, Recut, Stays, Goes, Recutting, Advanced, Moved, recutting_none, recutting_more, advanced, item_some, recut_joined, recut_ended, both_zero}
 use Rattle.x_item.proofs.RecutPlaces.{texts_meet, rejoins, rejoins_first, rejoins_none, recut_stays, recut_goes, rear_stays, front_items}
 
 -- there is at most one item more than there are tokens
@@ -48,6 +52,13 @@ module _ {K : Type 0} (change : Change) (new : List ℕ) (ts : List (Kind × ℕ
 
   pub item_count : length items ≡ length (cut_of (roles change.old ts))
   item_count = sym (length-map items (λ (e : Entry K). e.tokens)) ∙ ap length items_are
+
+  -- as many tokens as the items have
+  pub token_count : total (counts items) ≡ length ts
+  token_count = ap total items_are ∙ (let t = total_counts 0 0 (roles change.old ts) in let l = length-roles change.old ts in omega (arith, t, l))
+
+  pub new_count : length (roles new us) ≡ length us
+  new_count = length-roles new us
 
   pub keeps : (k start x : ℕ) → x ≡ patch.at → k < length items → start ≡ tokens_before (counts items) k → start ≤ x → (k + 1 < length items → x < tokens_before (counts items) (k + 1)) → Keeps (cut_of (roles change.old ts)) patch.at k start
   keeps k start x at within is before next = record {
@@ -162,3 +173,120 @@ module _ {K : Type 0} (change : Change) (new : List ℕ) (ts : List (Kind × ℕ
 
     pub goes_fits : Goes (roles change.old ts) (roles new us) patch.at (length patch.fresh) patch.removed k (counts fresh) end → length new ≤ MAX_TEXT → AreOfText (counts (patched items made))
     goes_fits h small = made_fits h.recut small
+
+-- what is known before the loop: what the edit did to the tokens of a text that isn't too long, and the items in front
+pub record Ready {K : Type 0} (change : Change) (text : List ℕ) (ts : List (Kind × ℕ)) (items : List (Entry K)) (patch : TokenPatch) (k start : ℕ) : Type 0 where
+  pub rel : IsRelexed change text ts (counts items) patch
+  pub small : length text ≤ MAX_TEXT
+  pub kept : Keeps (cut_of (roles change.old ts)) patch.at k start
+
+pub relexed_as : {K : Type 0} (change : Change) (text new : List ℕ) (ts : List (Kind × ℕ)) (items : List (Entry K)) (patch : TokenPatch) → text ≡ new → IsRelexed change new ts (counts items) patch → IsRelexed change text ts (counts items) patch
+relexed_as change text new ts items patch same rel = subst (λ t. IsRelexed change t ts (counts items) patch) (sym same) rel
+
+pub ready : {K : Type 0} (change : Change) (text new : List ℕ) (ts : List (Kind × ℕ)) (items : List (Entry K)) (patch : TokenPatch) (k start x : ℕ) → text ≡ new → length new ≤ MAX_TEXT → IsRelexed change new ts (counts items) patch
+    → x ≡ patch.at → k < length items → start ≡ tokens_before (counts items) k → start ≤ x → (k + 1 < length items → x < tokens_before (counts items) (k + 1)) → Ready change text ts items patch k start
+ready change text new ts items patch k start x same small rel at within is before next =
+    let r = relexed_as change text new ts items patch same rel in
+    record {
+      rel = r;
+      small = let l = ap length same in omega (arith, small, l);
+      kept = keeps change text ts items patch r k start x at within is before next;
+    }
+
+module _ {K : Type 0} (change : Change) (text : List ℕ) (ts : List (Kind × ℕ)) (items : List (Entry K)) (patch : TokenPatch) (k start : ℕ) (known : Ready change text ts items patch k start) where
+  abbrev all_meet : Meet (roles change.old ts) (roles text (tokens.patched ts patch)) patch.at (length patch.fresh) patch.removed
+  all_meet = meet change text ts items patch known.rel
+
+  -- the loop's state
+  abbrev pub State : List (Entry K) → ℕ → ℕ → ℕ → Type 0
+  State fresh index back back_index = Recutting (roles change.old ts) (roles text (tokens.patched ts patch)) patch.at (length patch.fresh) patch.removed k start (counts fresh) index back back_index
+
+  pub few_tokens : length (tokens.patched ts patch) ≤ MAX_TEXT
+  few_tokens = (tokens_fit text (tokens.patched ts patch) known.rel.patch.tokens known.small).few
+
+  pub fresh_within : patch.at + length patch.fresh ≤ length (tokens.patched ts patch)
+  fresh_within = let i = all_meet.in_new in let l = length-roles text (tokens.patched ts patch) in omega (arith, i, l)
+
+  pub gone_within : patch.at + patch.removed ≤ length ts
+  gone_within = let i = all_meet.in_old in let l = length-roles change.old ts in omega (arith, i, l)
+
+  pub index_within : (fresh : List (Entry K)) (index back back_index : ℕ) → State fresh index back back_index → index ≤ length (tokens.patched ts patch)
+  index_within fresh index back back_index h = let w = h.within in let l = length-roles text (tokens.patched ts patch) in omega (arith, w, l)
+
+  pub back_within : (fresh : List (Entry K)) (index back back_index : ℕ) → State fresh index back back_index → back < length items
+  back_within fresh index back back_index h = let w = h.back_within in let n = item_count change text ts items patch known.rel in omega (arith, w, n)
+
+  pub back_is : (fresh : List (Entry K)) (index back back_index : ℕ) → State fresh index back back_index → back_index ≡ tokens_before (counts items) back
+  back_is fresh index back back_index h = h.back_is ∙ ap (λ l. tokens_before l back) (sym (items_are change text ts items patch known.rel))
+
+  pub state_none : (fresh : List (Entry K)) → fresh ≡ [] → State fresh start k start
+  state_none fresh e = recutting_none (roles change.old ts) (roles text (tokens.patched ts patch)) patch.at (length patch.fresh) patch.removed all_meet k start known.kept (counts fresh) (ap counts e)
+
+  pub place_start : (place : ℕ) → place ≡ end_of ts start → place ≡ end_of (tokens.patched ts patch) start
+  place_start place e = e ∙ sym (front_end change.old text change.insert change.start change.end (edit change text ts items patch known.rel) ts known.rel.tokens patch known.rel.patch start known.kept.before)
+
+  -- an item of the old ones was reached
+  pub reached : (fresh : List (Entry K)) (index back back_index to to_index target : ℕ) → State fresh index back back_index → target ≡ patch.at + patch.removed + (index - (patch.at + length patch.fresh)) → to < length items → to_index ≡ tokens_before (counts items) to
+      → ((j : ℕ) → back ≤ j → j < to → tokens_before (counts items) j < target) → (to + 1 < length items → target ≤ to_index) → Advanced (roles change.old ts) patch.at (length patch.fresh) patch.removed index to to_index
+  reached fresh index back back_index to to_index target h is within at below far =
+      let n = item_count change text ts items patch known.rel in
+      let are = items_are change text ts items patch known.rel in
+      advanced (roles change.old ts) (roles text (tokens.patched ts patch)) patch.at (length patch.fresh) patch.removed all_meet k start known.kept (counts fresh) index back back_index to to_index target h is (omega (arith, within, n))
+      (at ∙ ap (λ l. tokens_before l to) are)
+      (λ j le lt. let b = below j le lt in let e = ap (λ l. tokens_before l j) are in omega (arith, b, e))
+      (λ more. far (omega (arith, more, n)))
+
+  pub there_is : (to to_index : ℕ) → to_index ≡ tokens_before (counts items) to → to_index ≡ tokens_before (cut_of (roles change.old ts)) to
+  there_is to to_index e = e ∙ ap (λ l. tokens_before l to) (items_are change text ts items patch known.rel)
+
+  pub there_within : (to : ℕ) → to < length items → to < length (cut_of (roles change.old ts))
+  there_within to lt = let n = item_count change text ts items patch known.rel in omega (arith, lt, n)
+
+  -- one item more
+  pub state_more : (fresh more : List (Entry K)) (entry : Entry K) (index count back back_index to to_index : ℕ) (whole : Bool) → State fresh index back back_index → Moved (roles change.old ts) patch.at (length patch.fresh) patch.removed index back to to_index
+      → index + count ≤ length (tokens.patched ts patch) → counts_from 0 0 (drop index (roles text (tokens.patched ts patch))) ≡ count ∷ cond whole (counts_from 0 0 (drop (index + count) (roles text (tokens.patched ts patch)))) []
+      → whole ≡ true → more ≡ fresh ++ entry ∷ [] → entry.tokens ≡ count → State more (index + count) to to_index
+  state_more fresh more entry index count back back_index to to_index whole h moved fit item is pushed as_many =
+      let S = roles text (tokens.patched ts patch) in
+      let l = length-roles text (tokens.patched ts patch) in
+      recutting_more (roles change.old ts) S patch.at (length patch.fresh) patch.removed all_meet k start known.kept (counts fresh) (counts more) index count back back_index to to_index h moved.forth moved.within moved.at moved.below moved.apart
+      (omega (arith, fit, l))
+      (item ∙ ap (λ b. count ∷ cond b (cut_of (drop (index + count) S)) []) is)
+      (counts_pushed fresh more entry count pushed as_many)
+
+  pub more_some : (index count : ℕ) (whole : Bool) → counts_from 0 0 (drop index (roles text (tokens.patched ts patch))) ≡ count ∷ cond whole (counts_from 0 0 (drop (index + count) (roles text (tokens.patched ts patch)))) [] → whole ≡ true → 0 < count
+  more_some index count whole item is =
+      let S = roles text (tokens.patched ts patch) in
+      item_some (roles change.old ts) S patch.at (length patch.fresh) patch.removed all_meet k start known.kept index count (item ∙ ap (λ b. count ∷ cond b (cut_of (drop (index + count) S)) []) is)
+
+  -- the patch that is made where old items hold again, and where none does
+  module _ (new : List ℕ) (same : text ≡ new) (made : ItemChange K) where
+    pub record IsMade : Type 0 where
+      pub patch_is : IsItemPatch change new ts (tokens.patched ts patch) items made
+      pub fits : AreOfText (counts (patched items made))
+
+    pub made_joined : (fresh : List (Entry K)) (index back back_index to to_index target : ℕ) → State fresh index back back_index → back ≤ to → to < length items → to_index ≡ tokens_before (counts items) to
+        → patch.at + length patch.fresh ≤ index → target ≡ patch.at + patch.removed + (index - (patch.at + length patch.fresh)) → to_index ≡ target → beq (index == 0) (target == 0) ≡ true → made ≡ record { at = k; removed = to - k; start = start; fresh = fresh } → IsMade
+    made_joined fresh index back back_index to to_index target h forth within at far is there nil made_is =
+        let stays = recut_joined (roles change.old ts) (roles text (tokens.patched ts patch)) patch.at (length patch.fresh) patch.removed all_meet k start known.kept (counts fresh) index back back_index to to_index h forth (there_within to within) (there_is to to_index at) far (there ∙ is)
+        (subst (λ n. (index ≡ 0) ↔ (n ≡ 0)) (sym there) (both_zero index target nil)) in
+        let item_patch : IsItemPatch change text ts (tokens.patched ts patch) items (record { at = k; removed = to - k; start = start; fresh = fresh }) = stays_made change text ts items patch known.rel k start known.kept fresh to stays in
+        record {
+          patch_is = subst (λ t. IsItemPatch change t ts (tokens.patched ts patch) items made) same (subst (λ p. IsItemPatch change text ts (tokens.patched ts patch) items p) (sym made_is) item_patch);
+          fits = subst (λ p. AreOfText (counts (patched items p))) (sym made_is) (stays_fits change text ts items patch known.rel k start known.kept fresh to stays known.small);
+        }
+
+    pub made_ended : (fresh more : List (Entry K)) (entry : Entry K) (index count back back_index to to_index end : ℕ) (whole : Bool) → State fresh index back back_index → Moved (roles change.old ts) patch.at (length patch.fresh) patch.removed index back to to_index
+        → counts_from 0 0 (drop index (roles text (tokens.patched ts patch))) ≡ count ∷ cond whole (counts_from 0 0 (drop (index + count) (roles text (tokens.patched ts patch)))) []
+        → whole ≡ false → more ≡ fresh ++ entry ∷ [] → entry.tokens ≡ count → end ≡ length items → made ≡ record { at = k; removed = end - k; start = start; fresh = more } → IsMade
+    made_ended fresh more entry index count back back_index to to_index end whole h moved item is pushed as_many all made_is =
+        let S = roles text (tokens.patched ts patch) in
+        let goes = recut_ended (roles change.old ts) S patch.at (length patch.fresh) patch.removed all_meet k start known.kept (counts fresh) (counts more) index count back back_index end h moved.apart
+        (item ∙ ap (λ b. count ∷ cond b (cut_of (drop (index + count) S)) []) is)
+        (counts_pushed fresh more entry count pushed as_many)
+        (all ∙ item_count change text ts items patch known.rel) in
+        let item_patch : IsItemPatch change text ts (tokens.patched ts patch) items (record { at = k; removed = end - k; start = start; fresh = more }) = goes_made change text ts items patch known.rel k start known.kept more end goes in
+        record {
+          patch_is = subst (λ t. IsItemPatch change t ts (tokens.patched ts patch) items made) same (subst (λ p. IsItemPatch change text ts (tokens.patched ts patch) items p) (sym made_is) item_patch);
+          fits = subst (λ p. AreOfText (counts (patched items p))) (sym made_is) (goes_fits change text ts items patch known.rel k start known.kept more end goes known.small);
+        }

@@ -1,7 +1,8 @@
 -- The loop of `recut`: what it keeps, one item more, and both ends. R are the roles of the old tokens, S those of the new ones: the
 -- first x are the same, and so are those behind f of the new ones and m of the old ones.
-use Rattle.std.proofs.Common.{◌≡◌, ℕ, zero, suc, ◌+◌, ◌-◌, ◌≤◌, ◌<◌, ◌⊎◌, inl, inr, ⊎_elim, List, [], ◌∷◌, ◌++◌, length, take, drop, refl, ap, sym, ◌∙◌, subst, arith, add-one, append_assoc, length-append, length-drop, length-take-le}
-use Rattle.std.specs.Prelude.{◌↔◌}
+use Rattle.std.proofs.Common.{◌≡◌, ℕ, zero, suc, ◌+◌, ◌-◌, ◌≤◌, ◌<◌, ◌⊎◌, inl, inr, ⊎_elim, true, false, true≢false, List, [], ◌∷◌, ◌++◌, length, take, drop, refl, ap, sym, ◌∙◌, subst, arith, add-one, append_assoc, length-append, length-drop, length-take-le}
+use Rattle.std.specs.Prelude.{◌↔◌, ◌==◌}
+use Rattle.std.specs.Bool.{beq}
 use Rattle.std.proofs.lemmas.Bool.{cases_lt}
 use Rattle.std.proofs.lemmas.List.{take-append-drop, take_at, drop_at, drop-drop, take-take, length_push}
 use Rattle.x_item.specs.ItemList.{total, tokens_before}
@@ -270,3 +271,45 @@ module _ (R S : List Role) (x f m : ℕ) (meet : Meet R S x f m) (k start : ℕ)
       append_none : (cs : List ℕ) → cs ++ [] ≡ cs
       append_none [] = refl
       append_none (c ∷ cs) = ap (λ l. c ∷ l) (append_none cs)
+
+-- the old items have been gone over as far as an item behind `index` tokens asks, and none of them joins
+pub record Moved (R : List Role) (x f m index back to to_index : ℕ) : Type 0 where
+  pub forth : back ≤ to
+  pub within : to < length (cut_of R)
+  pub at : to_index ≡ tokens_before (cut_of R) to
+  pub below : (j : ℕ) → j < to → tokens_before (cut_of R) j < x + m + (index - (x + f))
+  pub apart : Joins (cut_of R) (x + f) (x + m) index → ⊥
+
+-- the tokens are not behind the fresh ones yet
+pub moved_not : (R S : List Role) (x f m k start : ℕ) (news : List ℕ) (index back back_index to to_index : ℕ) → Recutting R S x f m k start news index back back_index → index < x + f → to ≡ back → to_index ≡ back_index → Moved R x f m index back to to_index
+moved_not R S x f m k start news index back back_index to to_index h near same same_index = record {
+  forth = omega (arith, same);
+  within = let w = h.back_within in omega (arith, w, same);
+  at = same_index ∙ h.back_is ∙ ap (tokens_before (cut_of R)) (sym same);
+  below = λ j lt. h.below j (omega (arith, lt, same));
+  apart = λ j. let f = j.far in omega (arith, f, near);
+}
+
+-- they are
+pub moved_on : (R : List Role) (x f m index back to to_index there there_index : ℕ) → Advanced R x f m index there there_index → back ≤ there → there < length (cut_of R) → there_index ≡ tokens_before (cut_of R) there → to ≡ there → to_index ≡ there_index
+    → (Joins (cut_of R) (x + f) (x + m) index → ⊥) → Moved R x f m index back to to_index
+moved_on R x f m index back to to_index there there_index h forth within at same same_index apart = record {
+  forth = omega (arith, forth, same);
+  within = omega (arith, within, same);
+  at = same_index ∙ at ∙ ap (tokens_before (cut_of R)) (sym same);
+  below = λ j lt. h.below j (omega (arith, lt, same));
+  apart = apart;
+}
+
+-- a test whether two numbers are 0
+pub both_zero : (i j : ℕ) → beq (i == 0) (j == 0) ≡ true → (i ≡ 0) ↔ (j ≡ 0)
+both_zero zero zero e = (λ h. h, λ h. h)
+both_zero zero (suc j) e = let t : beq true (suc j == 0) ≡ true = e in let z : (suc j == 0) ≡ false = grind arith in let d = ap (beq true) z in (cc)
+both_zero (suc i) zero e = let t : beq (suc i == 0) true ≡ true = e in let z : (suc i == 0) ≡ false = grind arith in let d = ap (λ b. beq b true) z in (cc)
+both_zero (suc i) (suc j) e = (λ h. absurd (omega (arith, h)), λ h. absurd (omega (arith, h)))
+
+pub not_both_zero : (i j : ℕ) → beq (i == 0) (j == 0) ≡ false → ((i ≡ 0) ↔ (j ≡ 0)) → ⊥
+not_both_zero zero zero e h = true≢false e
+not_both_zero zero (suc j) e h = let z = h.0 refl in omega (arith, z)
+not_both_zero (suc i) zero e h = let z = h.1 refl in omega (arith, z)
+not_both_zero (suc i) (suc j) e h = let z : (suc i == 0) ≡ false = grind arith in let w : (suc j == 0) ≡ false = grind arith in true≢false (ap (λ b. beq b false) (sym z) ∙ ap (beq (suc i == 0)) (sym w) ∙ e)
