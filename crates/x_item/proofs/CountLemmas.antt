@@ -1,5 +1,5 @@
 -- How many tokens items have together.
-use Rattle.std.proofs.Common.{◌≡◌, ℕ, zero, suc, ◌+◌, ◌≤◌, ◌<◌, List, [], ◌∷◌, ◌++◌, length, get_or, take, drop, map, None, Some, arith, refl, sym, ap, subst, ◌∙◌, add-one, length-append, length-take-le, append_assoc}
+use Rattle.std.proofs.Common.{◌≡◌, ℕ, zero, suc, ◌+◌, ◌≤◌, ◌<◌, List, [], ◌∷◌, ◌++◌, length, get_or, take, drop, None, Some, arith, refl, sym, ap, subst, ◌∙◌, add-one, length-append, length-take-le, append_assoc}
 use Rattle.std.specs.Prelude.{slice_get}
 use Rattle.std.specs.List.{splice}
 use Rattle.std.proofs.lemmas.List.{map-append, take-map, drop-map, length-map, take_at}

@@ -1,16 +1,16 @@
 -- The items that the definition speaks of are those that a running depth finds.
-use Rattle.std.proofs.Common.{◌≡◌, ℕ, zero, suc, ◌+◌, ◌-◌, ◌≤◌, ◌<◌, ◌↔◌, Bool, true, false, cond, List, [], ◌∷◌, ◌++◌, length, map, refl, ap, sym, ◌∙◌, subst, append_assoc, arith, length-append, IsTrue, true≢false}
+use Rattle.std.proofs.Common.{◌≡◌, ℕ, ◌+◌, Bool, true, false, List, [], ◌∷◌, ◌++◌, length, map, refl, ap, sym, ◌∙◌, subst, append_assoc, arith, true≢false}
 use Rattle.std.specs.Prelude.{◌==◌}
 use Rattle.std.specs.Str.{bytes_eq}
 use Rattle.std.proofs.lemmas.Bool.{cond-true, cond-false}
 use Rattle.std.proofs.lemmas.Bool.Decides.{nat_tests}
-use Rattle.std.proofs.lemmas.List.{append-nil, map-append, length_push}
+use Rattle.std.proofs.lemmas.List.{append-nil, length_push}
 use Rattle.std.proofs.lemmas.Slice.Eq.{bytes_eq-Decides}
 use Rattle.x_lex.specs.declared.kind.Kind.{Kind}
 use Rattle.x_lex.specs.declared.kind.Kind.TheVariants as kinds
 use Rattle.x_lex.specs.Places.{Lexeme}
-use Rattle.x_item.specs.Items.{is_punct, is_open, is_close, is_semicolon, depth, Ends, HasNoEnd, IsWhole, AreWhole, joined, AreItems, IsCut}
-use Rattle.x_item.specs.Cutting.{Role, semicolon, chosen, role_of, roles_of, depth_after, ends_at, counts_from}
+use Rattle.x_item.specs.Items.{is_punct, is_open, is_close, is_semicolon, depth, Ends, HasNoEnd, AreWhole, joined, AreItems, IsCut}
+use Rattle.x_item.specs.Cutting.{semicolon, chosen, role_of, roles_of, depth_after, ends_at, counts_from}
 use Rattle.x_item.proofs.RoleLemmas.{role_is}
 use Rattle.x_item.proofs.ItemLemmas.{depth-open, depth-close, depth-other, Cuts, cuts_none, cuts_on, cuts_end, cuts_all}
 

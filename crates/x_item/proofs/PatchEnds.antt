@@ -1,12 +1,12 @@
 -- Where the fresh tokens of a patch start and end, in both texts.
-use Rattle.std.proofs.Common.{◌≡◌, ℕ, zero, suc, ◌+◌, ◌-◌, ◌≤◌, ◌<◌, ◌⊎◌, inl, inr, ⊎_elim, Bool, true, false, List, [], ◌∷◌, ◌++◌, length, take, drop, refl, ap, sym, ◌∙◌, subst, arith, add-one, append_assoc, length-append, length-drop, length-take-le}
+use Rattle.std.proofs.Common.{◌≡◌, ℕ, zero, suc, ◌+◌, ◌-◌, ◌≤◌, ◌<◌, ◌⊎◌, inl, inr, ⊎_elim, Bool, true, false, List, [], ◌∷◌, ◌++◌, length, take, drop, refl, ap, sym, ◌∙◌, arith, append_assoc, length-append, length-drop, length-take-le}
 use Rattle.std.specs.Prelude.{◌||◌, nat_lt, nat_le}
-use Rattle.std.proofs.lemmas.Bool.{cases_lt, le-ltb, le-leb, lt-leb, cond-true, cond-false, or_from}
-use Rattle.std.proofs.lemmas.List.{take-append-drop, take_at, drop_at, take-append-le, drop-drop}
+use Rattle.std.proofs.lemmas.Bool.{cases_lt, le-ltb, lt-leb, cond-true, cond-false, or_from}
+use Rattle.std.proofs.lemmas.List.{take-append-drop, take_at, drop_at, take-append-le}
 use Rattle.x_lex.specs.declared.kind.Kind.{Kind}
 use Rattle.x_lex.specs.Tiling.{Tiles, AreTokens, starts_after, span, end_of}
-use Rattle.x_lex.specs.TokenList.{TokenPatch, patched, LiesAmong}
-use Rattle.x_lex.specs.Relex.{IsMeeting, IsPatch, Agrees, old_place, fresh_from, kept_from}
+use Rattle.x_lex.specs.TokenList.{TokenPatch, patched}
+use Rattle.x_lex.specs.Relex.{IsPatch, Agrees, old_place, fresh_from, kept_from}
 use Rattle.x_lex.proofs.TilingLemmas.{token_spans}
 use Rattle.x_lex.proofs.SpanLemmas.{span_tiles, span-append}
 use Rattle.x_lex.proofs.EndLemmas.{end_le_span, end_mono, end_all}

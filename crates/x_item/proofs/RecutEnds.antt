@@ -1,5 +1,5 @@
 -- The patch that `recut` makes is the one of the definition.
-use Rattle.std.proofs.Common.{◌≡◌, ℕ, zero, suc, ◌+◌, ◌-◌, ◌≤◌, ◌<◌, Bool, true, false, List, [], ◌∷◌, ◌++◌, length, take, drop, Option, None, Some, refl, ap, sym, ◌∙◌, subst, arith, length-append, length-drop, length-take-le}
+use Rattle.std.proofs.Common.{◌≡◌, ℕ, suc, ◌+◌, ◌-◌, ◌≤◌, ◌<◌, Bool, true, false, List, [], ◌∷◌, ◌++◌, length, take, drop, Option, None, Some, refl, ap, sym, ◌∙◌, subst, arith, length-append, length-drop, length-take-le}
 use Rattle.std.specs.Prelude.{◌↔◌, option_map, ◌==◌, cond}
 use Rattle.std.specs.Bool.{beq}
 use Rattle.std.specs.List.{splice}
@@ -15,7 +15,6 @@ use Rattle.x_lex.specs.Relex.{old_place}
 use Rattle.x_lex.proofs.RelexEnds.{tokens_fit}
 use Rattle.x_lex.proofs.RelexRun.{IsEdit}
 use Rattle.x_item.specs.declared.entry.Entry.{Entry}
-use Rattle.x_item.specs.Items.{IsCut}
 use Rattle.x_item.specs.ItemList.{total, counts, tokens_before, ItemChange, patched, AreOfText}
 use Rattle.x_item.specs.Cutting.{Role, roles, counts_from, ends_at, depth_after}
 use Rattle.x_item.specs.Recut.{Change, IsRelexed, IsItemPatch, start_of, EndsBefore, IsBehind, IsRejoining, IsRecut, IsAmong}

@@ -1,22 +1,22 @@
 -- What the loop of `recut` found is what the definition says of the places of items in the two texts.
-use Rattle.std.proofs.Common.{◌≡◌, ℕ, zero, suc, ◌+◌, ◌-◌, ◌≤◌, ◌<◌, ◌⊎◌, inl, inr, ⊎_elim, Bool, true, false, List, [], ◌∷◌, ◌++◌, length, take, drop, Option, None, Some, refl, ap, sym, ◌∙◌, subst, arith, append_assoc, length-append, length-drop, length-take-le, true≢false}
-use Rattle.std.specs.Prelude.{◌↔◌, option_map, ◌==◌}
+use Rattle.std.proofs.Common.{◌≡◌, ℕ, zero, suc, ◌+◌, ◌-◌, ◌≤◌, ◌<◌, ◌⊎◌, inl, inr, ⊎_elim, true, false, List, ◌++◌, length, take, drop, Option, None, Some, refl, ap, sym, ◌∙◌, subst, arith, append_assoc, length-append, length-take-le, true≢false}
+use Rattle.std.specs.Prelude.{◌↔◌}
 use Rattle.std.proofs.lemmas.Bool.{cases_lt}
-use Rattle.std.proofs.lemmas.List.{map-append, take-append-drop, take_at, drop_at}
+use Rattle.std.proofs.lemmas.List.{take-append-drop, take_at, drop_at}
 use Rattle.x_lex.specs.declared.kind.Kind.{Kind}
 use Rattle.x_lex.specs.Tiling.{AreTokens, span, end_of}
-use Rattle.x_lex.specs.TokenList.{TokenPatch, patched, LiesAmong}
-use Rattle.x_lex.specs.Places.{lexemes, lexemes_from, is_line_start}
-use Rattle.x_lex.specs.Relex.{IsPatch, Agrees, old_place}
-use Rattle.x_lex.proofs.EndLemmas.{Same, end_mono, end_le_span}
+use Rattle.x_lex.specs.TokenList.{TokenPatch, patched}
+use Rattle.x_lex.specs.Places.{lexemes_from, is_line_start}
+use Rattle.x_lex.specs.Relex.{IsPatch, old_place}
+use Rattle.x_lex.proofs.EndLemmas.{end_mono}
 use Rattle.x_lex.proofs.RelexRun.{IsEdit, same_front, drop_new}
 use Rattle.x_item.specs.ItemList.{tokens_before}
-use Rattle.x_item.specs.Cutting.{Role, roles_of, roles}
-use Rattle.x_item.specs.Recut.{start_of, EndsBefore, IsItemBoundary, Rejoins, IsRejoining, IsBehind, IsRecut, IsAmong}
+use Rattle.x_item.specs.Cutting.{roles_of, roles}
+use Rattle.x_item.specs.Recut.{start_of, EndsBefore, Rejoins, IsBehind, IsRecut, IsAmong}
 use Rattle.x_item.proofs.CountLemmas.{before_mono, before_le}
 use Rattle.x_item.proofs.FirstLemmas.{cut_of, total_counts}
 use Rattle.x_item.proofs.PatchedLemmas.{length-roles_from, length-roles, patched_length}
-use Rattle.x_item.proofs.PatchEnds.{end_strict, end_order, end_same, meeting_late, old_end, new_end, new_rest, shifted, front_end, late_new}
+use Rattle.x_item.proofs.PatchEnds.{end_strict, end_order, end_same, meeting_late, old_end, new_end, shifted, front_end, late_new}
 use Rattle.x_item.proofs.RecutRun.{Meet, Keeps, Joins, Recut, Stays, Goes, before_strict, keeps_new}
 use Rattle.x_item.proofs.TextLemmas.{roles-append, roles_front, roles_rear, item_start}
 

@@ -1,12 +1,12 @@
 -- The loop of `recut`: what it keeps, one item more, and both ends. R are the roles of the old tokens, S those of the new ones: the
 -- first x are the same, and so are those behind f of the new ones and m of the old ones.
-use Rattle.std.proofs.Common.{◌≡◌, ℕ, zero, suc, ◌+◌, ◌-◌, ◌≤◌, ◌<◌, ◌⊎◌, inl, inr, ⊎_elim, true, false, true≢false, List, [], ◌∷◌, ◌++◌, length, take, drop, refl, ap, sym, ◌∙◌, subst, arith, add-one, append_assoc, length-append, length-drop, length-take-le}
+use Rattle.std.proofs.Common.{◌≡◌, ℕ, zero, suc, ◌+◌, ◌-◌, ◌≤◌, ◌<◌, ⊎_elim, true, false, true≢false, List, [], ◌∷◌, ◌++◌, length, take, drop, refl, ap, sym, ◌∙◌, subst, arith, append_assoc, length-append, length-take-le}
 use Rattle.std.specs.Prelude.{◌↔◌, ◌==◌}
 use Rattle.std.specs.Bool.{beq}
 use Rattle.std.proofs.lemmas.Bool.{cases_lt}
-use Rattle.std.proofs.lemmas.List.{take-append-drop, take_at, drop_at, drop-drop, take-take, length_push}
+use Rattle.std.proofs.lemmas.List.{take-append-drop, take_at, drop-drop, take-take, length_push}
 use Rattle.x_item.specs.ItemList.{total, tokens_before}
-use Rattle.x_item.specs.Cutting.{Role, counts_from}
+use Rattle.x_item.specs.Cutting.{Role}
 use Rattle.x_item.proofs.CountLemmas.{total-append, before_mono}
 use Rattle.x_item.proofs.FirstLemmas.{cut_of, cut_some, split, cut_drop, behind}
 

@@ -1,8 +1,7 @@
 -- The roles of tokens where two texts are the same, and what stands before an item.
-use Rattle.std.proofs.Common.{◌≡◌, ℕ, zero, suc, ◌+◌, ◌-◌, ◌≤◌, ◌<◌, Bool, true, false, List, [], ◌∷◌, ◌++◌, length, get_or, take, drop, Option, None, Some, refl, ap, sym, ◌∙◌, subst, arith, length-append, length-drop, length-take-le, get_or-drop, get_or-take, true≢false}
+use Rattle.std.proofs.Common.{◌≡◌, ℕ, suc, ◌+◌, ◌-◌, ◌≤◌, ◌<◌, Bool, true, false, List, [], ◌∷◌, ◌++◌, length, get_or, take, drop, Option, None, Some, refl, ap, sym, ◌∙◌, arith, length-drop, length-take-le, get_or-drop, get_or-take, true≢false}
 use Rattle.std.specs.Prelude.{slice_get, slice_range, ◌==◌, ◌||◌}
-use Rattle.std.specs.Str.{bytes_eq}
-use Rattle.std.proofs.lemmas.List.{map-append, drop-drop, ext_get_or}
+use Rattle.std.proofs.lemmas.List.{drop-drop, ext_get_or}
 use Rattle.std.proofs.lemmas.Option.{slice_get_past}
 use Rattle.std.proofs.lemmas.Slice.Eq.{bytes_eq-Decides}
 use Rattle.x_lex.specs.declared.kind.Kind.{Kind}
@@ -13,7 +12,7 @@ use Rattle.x_lex.proofs.SpanLemmas.{span_tiles}
 use Rattle.x_lex.proofs.EndLemmas.{Same, end_le_span}
 use Rattle.x_item.specs.Items.{is_punct}
 use Rattle.x_item.specs.ItemList.{tokens_before}
-use Rattle.x_item.specs.Cutting.{Role, opening, closing, semicolon, plain, chosen, role_of, role_by, roles_of, roles}
+use Rattle.x_item.specs.Cutting.{semicolon, chosen, role_by, roles_of, roles}
 use Rattle.x_item.proofs.RoleLemmas.{role_is}
 use Rattle.x_item.proofs.FirstLemmas.{cut_of, behind}
 use Rattle.x_item.proofs.PatchedLemmas.{get_drop, roles_at, length-roles, none_past, end_get}

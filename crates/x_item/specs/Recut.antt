@@ -6,7 +6,6 @@ use Rattle.x_lex.specs.declared.kind.Kind.{Kind}
 use Rattle.x_lex.specs.Tiling.{AreTokens, end_of}
 use Rattle.x_lex.specs.Places.{lexemes}
 use Rattle.x_lex.specs.TokenList.{TokenPatch}
-use Rattle.x_lex.specs.TokenList as tokens
 use Rattle.x_lex.specs.Relex.{Agrees, IsMeeting, IsPatch, old_place}
 use Rattle.x_item.specs.Items.{IsCut}
 use Rattle.x_item.specs.ItemList.{ItemChange, patched, LiesAmong, tokens_before, counts}

@@ -1,4 +1,4 @@
-use Rattle.std.proofs.Common.{◌≡◌, ◌+◌, ◌≤◌, ◌<◌, [], ◌∷◌, length, drop, ap, sym, subst, ◌∙◌, arith}
+use Rattle.std.proofs.Common.{◌≡◌, ◌+◌, ◌≤◌, ◌∷◌, drop, ap, sym, ◌∙◌, arith}
 use Rattle.x_lex.specs.Tiling.{end_of}
 use Rattle.x_lex.specs.TokenList.{patched}
 use Rattle.x_lex.proofs.RelexEnds.{tokens_fit}

@@ -1,6 +1,6 @@
 use Rattle.std.proofs.Common.{◌≡◌, ◌+◌, ◌-◌, ◌≤◌, length, ap, sym, ◌∙◌, arith}
 use Rattle.std.specs.Prelude.{slice_get}
-use Rattle.x_item.proofs.PatchedLemmas.{patched_length, get_kept, get_fresh, get_behind}
+use Rattle.x_item.proofs.PatchedLemmas.{get_kept, get_fresh, get_behind}
 use Rattle.x_item.proofs.recutting.patched_get.Goals as goal
 
 pub overflow_add-at : goal.overflow_add-at

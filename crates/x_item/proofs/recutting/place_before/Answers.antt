@@ -1,5 +1,4 @@
-use Rattle.std.proofs.Common.{◌≡◌, ◌+◌, ◌≤◌, length, sym, ap, ◌∙◌, arith}
-use Rattle.x_lex.specs.Tiling.{end_of}
+use Rattle.std.proofs.Common.{◌+◌, ◌≤◌, length, sym, ◌∙◌, arith}
 use Rattle.x_lex.proofs.EndLemmas.{end_mono}
 use Rattle.x_item.proofs.PatchedLemmas.{end_get, none_past}
 use Rattle.x_item.proofs.recutting.place_before.Goals as goal

@@ -1,10 +1,9 @@
-use Rattle.std.proofs.Common.{◌≡◌, ℕ, ◌+◌, ◌-◌, ◌≤◌, ◌<◌, true, false, cond, [], ◌∷◌, ◌++◌, length, drop, sym, ap, subst, ◌∙◌, arith}
+use Rattle.std.proofs.Common.{◌≡◌, ◌+◌, ◌-◌, length, sym, ap, subst, ◌∙◌, arith}
 use Rattle.std.specs.Prelude.{All, ◌↔◌}
 use Rattle.x_lex.specs.TokenList.{patched}
 use Rattle.std.proofs.lemmas.List.Elements.{All-push}
-use Rattle.x_text.specs.declared.source.TheConstants.{MAX_TEXT}
 use Rattle.x_item.specs.declared.entry.Entry.{Entry}
-use Rattle.x_item.specs.ItemList.{counts, total}
+use Rattle.x_item.specs.ItemList.{counts}
 use Rattle.x_item.specs.Cutting.{roles}
 use Rattle.x_item.proofs.RecutRun.{Moved, moved_not, moved_on, not_both_zero}
 use Rattle.x_item.proofs.RecutEnds.{ready, relexed_as, token_count, few_tokens, fresh_within, gone_within, index_within, back_within, back_is, state_none, place_start, reached, there_is, there_within, state_more, more_some, made_joined, made_ended}

@@ -1,6 +1,6 @@
-use Rattle.std.proofs.Common.{◌≡◌, ◌+◌, ◌-◌, ap, sym, ◌∙◌, cond}
+use Rattle.std.proofs.Common.{◌+◌, ◌-◌, ap, sym, ◌∙◌}
 use Rattle.std.specs.Prelude.{◌==◌}
-use Rattle.x_item.specs.Cutting.{Role, semicolon, plain, role_by, depth_after, ends_at}
+use Rattle.x_item.specs.Cutting.{depth_after, ends_at}
 use Rattle.x_item.proofs.RoleLemmas.{is_opening, is_closing, is_semicolon, is_plain}
 use Rattle.x_item.proofs.cutter.Cutter.ends.Goals as goal
 

@@ -1,7 +1,5 @@
-use Rattle.std.proofs.Common.{◌≡◌, ◌+◌, ◌≤◌, length, subst, sym, ap, ◌∙◌, arith}
+use Rattle.std.proofs.Common.{◌+◌, sym, ap, ◌∙◌, arith}
 use Rattle.std.specs.Prelude.{option_copied, slice_get}
-use Rattle.x_text.specs.declared.source.TheConstants.{MAX_TEXT}
-use Rattle.x_item.specs.ItemList.{counts, total, tokens_before}
 use Rattle.x_item.proofs.CountLemmas.{count_read, entry_past, before_fits}
 use Rattle.x_item.proofs.items.Items.tokens_at.Goals as goal
 
