@@ -76,7 +76,7 @@ module _ {K : Type 0} (change : Change) (new : List ℕ) (ts : List (Kind × ℕ
     made = record { at = k; removed = end - k; start = start; fresh = fresh }
 
     abbrev TheRecut : Type 0
-    TheRecut = Recut (roles change.old ts) (roles new us) patch.at (length patch.fresh) patch.removed k (counts fresh) end
+    TheRecut = Recut (cut_of (roles change.old ts)) (roles new us) patch.at (length patch.fresh) patch.removed k (counts fresh) end
 
     left_are : TheRecut → counts (patched items made) ≡ cut_of (roles new us)
     left_are h =
@@ -136,7 +136,7 @@ module _ {K : Type 0} (change : Change) (new : List ℕ) (ts : List (Kind × ℕ
               (d.rear i (omega (arith, lt, n))));
         }
 
-    pub stays_made : Stays (roles change.old ts) (roles new us) patch.at (length patch.fresh) patch.removed k (counts fresh) end → IsItemPatch change new ts us items made
+    pub stays_made : Stays (cut_of (roles change.old ts)) (roles new us) patch.at (length patch.fresh) patch.removed k (counts fresh) end → IsItemPatch change new ts us items made
     stays_made h =
         let there = some_left h in
         decided (Some (start_of us (cut_of (roles new us)) (k + length (counts fresh)))) h.recut (record {
@@ -148,7 +148,7 @@ module _ {K : Type 0} (change : Change) (new : List ℕ) (ts : List (Kind × ℕ
           rear = λ i lt. rear_stays change.old new change.insert change.start change.end edit ts rel.tokens patch rel.patch k start kept (counts fresh) end i h lt;
         })
       where
-        some_left : Stays (roles change.old ts) (roles new us) patch.at (length patch.fresh) patch.removed k (counts fresh) end → k + length (counts fresh) < length (cut_of (roles new us))
+        some_left : Stays (cut_of (roles change.old ts)) (roles new us) patch.at (length patch.fresh) patch.removed k (counts fresh) end → k + length (counts fresh) < length (cut_of (roles new us))
         some_left h =
             let cs = cut_of (roles change.old ts) in
             let a = ap length h.recut.are in
@@ -160,17 +160,17 @@ module _ {K : Type 0} (change : Change) (new : List ℕ) (ts : List (Kind × ℕ
             let r = length-drop end cs in
             omega (arith, a, t, m, n, f, r)
 
-    pub goes_made : Goes (roles change.old ts) (roles new us) patch.at (length patch.fresh) patch.removed k (counts fresh) end → IsItemPatch change new ts us items made
+    pub goes_made : Goes (cut_of (roles change.old ts)) (roles new us) patch.at (length patch.fresh) patch.removed k (counts fresh) end → IsItemPatch change new ts us items made
     goes_made h = decided None h.recut (record {
       rejoining = λ other r. rejoins_none change.old new change.insert change.start change.end edit ts rel.tokens patch rel.patch k start kept (counts fresh) end other h r;
       recut = λ i lt. recut_goes change.old new change.insert change.start change.end edit ts rel.tokens patch rel.patch k start kept (counts fresh) i h.last lt;
       rear = λ i lt. (λ le. let t = h.there in omega (arith, le, lt, t), λ none. absurd none);
     })
 
-    pub stays_fits : Stays (roles change.old ts) (roles new us) patch.at (length patch.fresh) patch.removed k (counts fresh) end → length new ≤ MAX_TEXT → AreOfText (counts (patched items made))
+    pub stays_fits : Stays (cut_of (roles change.old ts)) (roles new us) patch.at (length patch.fresh) patch.removed k (counts fresh) end → length new ≤ MAX_TEXT → AreOfText (counts (patched items made))
     stays_fits h small = made_fits h.recut small
 
-    pub goes_fits : Goes (roles change.old ts) (roles new us) patch.at (length patch.fresh) patch.removed k (counts fresh) end → length new ≤ MAX_TEXT → AreOfText (counts (patched items made))
+    pub goes_fits : Goes (cut_of (roles change.old ts)) (roles new us) patch.at (length patch.fresh) patch.removed k (counts fresh) end → length new ≤ MAX_TEXT → AreOfText (counts (patched items made))
     goes_fits h small = made_fits h.recut small
 
 -- what is known before the loop: what the edit did to the tokens of a text that isn't too long, and the items in front
@@ -198,7 +198,23 @@ module _ {K : Type 0} (change : Change) (text : List ℕ) (ts : List (Kind × �
 
   -- the loop's state
   abbrev pub State : List (Entry K) → ℕ → ℕ → ℕ → Type 0
-  State fresh index back back_index = Recutting (roles change.old ts) (roles text (tokens.patched ts patch)) patch.at (length patch.fresh) patch.removed k start (counts fresh) index back back_index
+  State fresh index back back_index = Recutting (counts items) (roles text (tokens.patched ts patch)) patch.at (length patch.fresh) patch.removed k start (counts fresh) index back back_index
+
+  -- by what running depth finds
+  abbrev Run : List (Entry K) → ℕ → ℕ → ℕ → Type 0
+  Run fresh index back back_index = Recutting (cut_of (roles change.old ts)) (roles text (tokens.patched ts patch)) patch.at (length patch.fresh) patch.removed k start (counts fresh) index back back_index
+
+  are : counts items ≡ cut_of (roles change.old ts)
+  are = items_are change text ts items patch known.rel
+
+  run : (fresh : List (Entry K)) (index back back_index : ℕ) → State fresh index back back_index → Run fresh index back back_index
+  run fresh index back back_index h = subst (λ cs. Recutting cs (roles text (tokens.patched ts patch)) patch.at (length patch.fresh) patch.removed k start (counts fresh) index back back_index) are h
+
+  state : (fresh : List (Entry K)) (index back back_index : ℕ) → Run fresh index back back_index → State fresh index back back_index
+  state fresh index back back_index h = subst (λ cs. Recutting cs (roles text (tokens.patched ts patch)) patch.at (length patch.fresh) patch.removed k start (counts fresh) index back back_index) (sym are) h
+
+  run_moved : (index back to to_index : ℕ) → Moved (counts items) patch.at (length patch.fresh) patch.removed index back to to_index → Moved (cut_of (roles change.old ts)) patch.at (length patch.fresh) patch.removed index back to to_index
+  run_moved index back to to_index h = subst (λ cs. Moved cs patch.at (length patch.fresh) patch.removed index back to to_index) are h
 
   pub few_tokens : length (tokens.patched ts patch) ≤ MAX_TEXT
   few_tokens = (tokens_fit text (tokens.patched ts patch) known.rel.patch.tokens known.small).few
@@ -213,45 +229,50 @@ module _ {K : Type 0} (change : Change) (text : List ℕ) (ts : List (Kind × �
   index_within fresh index back back_index h = let w = h.within in let l = length-roles text (tokens.patched ts patch) in omega (arith, w, l)
 
   pub back_within : (fresh : List (Entry K)) (index back back_index : ℕ) → State fresh index back back_index → back < length items
-  back_within fresh index back back_index h = let w = h.back_within in let n = item_count change text ts items patch known.rel in omega (arith, w, n)
+  back_within fresh index back back_index h = let w = h.back_within in let n = length-map items (λ (e : Entry K). e.tokens) in omega (arith, w, n)
 
   pub back_is : (fresh : List (Entry K)) (index back back_index : ℕ) → State fresh index back back_index → back_index ≡ tokens_before (counts items) back
-  back_is fresh index back back_index h = h.back_is ∙ ap (λ l. tokens_before l back) (sym (items_are change text ts items patch known.rel))
+  back_is fresh index back back_index h = h.back_is
 
   pub state_none : (fresh : List (Entry K)) → fresh ≡ [] → State fresh start k start
-  state_none fresh e = recutting_none (roles change.old ts) (roles text (tokens.patched ts patch)) patch.at (length patch.fresh) patch.removed all_meet k start known.kept (counts fresh) (ap counts e)
+  state_none fresh e = state fresh start k start (recutting_none (roles change.old ts) (roles text (tokens.patched ts patch)) patch.at (length patch.fresh) patch.removed all_meet k start known.kept (counts fresh) (ap counts e))
 
   pub place_start : (place : ℕ) → place ≡ end_of ts start → place ≡ end_of (tokens.patched ts patch) start
   place_start place e = e ∙ sym (front_end change.old text change.insert change.start change.end (edit change text ts items patch known.rel) ts known.rel.tokens patch known.rel.patch start known.kept.before)
 
   -- an item of the old ones was reached
   pub reached : (fresh : List (Entry K)) (index back back_index to to_index target : ℕ) → State fresh index back back_index → target ≡ patch.at + patch.removed + (index - (patch.at + length patch.fresh)) → to < length items → to_index ≡ tokens_before (counts items) to
-      → ((j : ℕ) → back ≤ j → j < to → tokens_before (counts items) j < target) → (to + 1 < length items → target ≤ to_index) → Advanced (roles change.old ts) patch.at (length patch.fresh) patch.removed index to to_index
+      → ((j : ℕ) → back ≤ j → j < to → tokens_before (counts items) j < target) → (to + 1 < length items → target ≤ to_index) → Advanced (counts items) patch.at (length patch.fresh) patch.removed index to to_index
   reached fresh index back back_index to to_index target h is within at below far =
       let n = item_count change text ts items patch known.rel in
-      let are = items_are change text ts items patch known.rel in
-      advanced (roles change.old ts) (roles text (tokens.patched ts patch)) patch.at (length patch.fresh) patch.removed all_meet k start known.kept (counts fresh) index back back_index to to_index target h is (omega (arith, within, n))
+      subst (λ cs. Advanced cs patch.at (length patch.fresh) patch.removed index to to_index) (sym are)
+      (advanced (roles change.old ts) (roles text (tokens.patched ts patch)) patch.at (length patch.fresh) patch.removed all_meet k start known.kept (counts fresh) index back back_index to to_index target (run fresh index back back_index h) is (omega (arith, within, n))
       (at ∙ ap (λ l. tokens_before l to) are)
       (λ j le lt. let b = below j le lt in let e = ap (λ l. tokens_before l j) are in omega (arith, b, e))
-      (λ more. far (omega (arith, more, n)))
+      (λ more. far (omega (arith, more, n))))
 
   pub there_is : (to to_index : ℕ) → to_index ≡ tokens_before (counts items) to → to_index ≡ tokens_before (cut_of (roles change.old ts)) to
   there_is to to_index e = e ∙ ap (λ l. tokens_before l to) (items_are change text ts items patch known.rel)
+
+  pub counted_within : (to : ℕ) → to < length items → to < length (counts items)
+  counted_within to lt = let n = length-map items (λ (e : Entry K). e.tokens) in omega (arith, lt, n)
 
   pub there_within : (to : ℕ) → to < length items → to < length (cut_of (roles change.old ts))
   there_within to lt = let n = item_count change text ts items patch known.rel in omega (arith, lt, n)
 
   -- one item more
-  pub state_more : (fresh more : List (Entry K)) (entry : Entry K) (index count back back_index to to_index : ℕ) (whole : Bool) → State fresh index back back_index → Moved (roles change.old ts) patch.at (length patch.fresh) patch.removed index back to to_index
+  pub state_more : (fresh more : List (Entry K)) (entry : Entry K) (index count back back_index to to_index : ℕ) (whole : Bool) → State fresh index back back_index → Moved (counts items) patch.at (length patch.fresh) patch.removed index back to to_index
       → index + count ≤ length (tokens.patched ts patch) → counts_from 0 0 (drop index (roles text (tokens.patched ts patch))) ≡ count ∷ cond whole (counts_from 0 0 (drop (index + count) (roles text (tokens.patched ts patch)))) []
       → whole ≡ true → more ≡ fresh ++ entry ∷ [] → entry.tokens ≡ count → State more (index + count) to to_index
   state_more fresh more entry index count back back_index to to_index whole h moved fit item is pushed as_many =
       let S = roles text (tokens.patched ts patch) in
       let l = length-roles text (tokens.patched ts patch) in
-      recutting_more (roles change.old ts) S patch.at (length patch.fresh) patch.removed all_meet k start known.kept (counts fresh) (counts more) index count back back_index to to_index h moved.forth moved.within moved.at moved.below moved.apart
+      let m = run_moved index back to to_index moved in
+      state more (index + count) to to_index
+      (recutting_more (roles change.old ts) S patch.at (length patch.fresh) patch.removed all_meet k start known.kept (counts fresh) (counts more) index count back back_index to to_index (run fresh index back back_index h) m.forth m.within m.at m.below m.apart
       (omega (arith, fit, l))
       (item ∙ ap (λ b. count ∷ cond b (cut_of (drop (index + count) S)) []) is)
-      (counts_pushed fresh more entry count pushed as_many)
+      (counts_pushed fresh more entry count pushed as_many))
 
   pub more_some : (index count : ℕ) (whole : Bool) → counts_from 0 0 (drop index (roles text (tokens.patched ts patch))) ≡ count ∷ cond whole (counts_from 0 0 (drop (index + count) (roles text (tokens.patched ts patch)))) [] → whole ≡ true → 0 < count
   more_some index count whole item is =
@@ -267,7 +288,7 @@ module _ {K : Type 0} (change : Change) (text : List ℕ) (ts : List (Kind × �
     pub made_joined : (fresh : List (Entry K)) (index back back_index to to_index target : ℕ) → State fresh index back back_index → back ≤ to → to < length items → to_index ≡ tokens_before (counts items) to
         → patch.at + length patch.fresh ≤ index → target ≡ patch.at + patch.removed + (index - (patch.at + length patch.fresh)) → to_index ≡ target → beq (index == 0) (target == 0) ≡ true → made ≡ record { at = k; removed = to - k; start = start; fresh = fresh } → IsMade
     made_joined fresh index back back_index to to_index target h forth within at far is there nil made_is =
-        let stays = recut_joined (roles change.old ts) (roles text (tokens.patched ts patch)) patch.at (length patch.fresh) patch.removed all_meet k start known.kept (counts fresh) index back back_index to to_index h forth (there_within to within) (there_is to to_index at) far (there ∙ is)
+        let stays = recut_joined (roles change.old ts) (roles text (tokens.patched ts patch)) patch.at (length patch.fresh) patch.removed all_meet k start known.kept (counts fresh) index back back_index to to_index (run fresh index back back_index h) forth (there_within to within) (there_is to to_index at) far (there ∙ is)
         (subst (λ n. (index ≡ 0) ↔ (n ≡ 0)) (sym there) (both_zero index target nil)) in
         let item_patch : IsItemPatch change text ts (tokens.patched ts patch) items (record { at = k; removed = to - k; start = start; fresh = fresh }) = stays_made change text ts items patch known.rel k start known.kept fresh to stays in
         record {
@@ -275,12 +296,12 @@ module _ {K : Type 0} (change : Change) (text : List ℕ) (ts : List (Kind × �
           fits = subst (λ p. AreOfText (counts (patched items p))) (sym made_is) (stays_fits change text ts items patch known.rel k start known.kept fresh to stays known.small);
         }
 
-    pub made_ended : (fresh more : List (Entry K)) (entry : Entry K) (index count back back_index to to_index end : ℕ) (whole : Bool) → State fresh index back back_index → Moved (roles change.old ts) patch.at (length patch.fresh) patch.removed index back to to_index
+    pub made_ended : (fresh more : List (Entry K)) (entry : Entry K) (index count back back_index to to_index end : ℕ) (whole : Bool) → State fresh index back back_index → Moved (counts items) patch.at (length patch.fresh) patch.removed index back to to_index
         → counts_from 0 0 (drop index (roles text (tokens.patched ts patch))) ≡ count ∷ cond whole (counts_from 0 0 (drop (index + count) (roles text (tokens.patched ts patch)))) []
         → whole ≡ false → more ≡ fresh ++ entry ∷ [] → entry.tokens ≡ count → end ≡ length items → made ≡ record { at = k; removed = end - k; start = start; fresh = more } → IsMade
     made_ended fresh more entry index count back back_index to to_index end whole h moved item is pushed as_many all made_is =
         let S = roles text (tokens.patched ts patch) in
-        let goes = recut_ended (roles change.old ts) S patch.at (length patch.fresh) patch.removed all_meet k start known.kept (counts fresh) (counts more) index count back back_index end h moved.apart
+        let goes = recut_ended (roles change.old ts) S patch.at (length patch.fresh) patch.removed all_meet k start known.kept (counts fresh) (counts more) index count back back_index end (run fresh index back back_index h) (run_moved index back to to_index moved).apart
         (item ∙ ap (λ b. count ∷ cond b (cut_of (drop (index + count) S)) []) is)
         (counts_pushed fresh more entry count pushed as_many)
         (all ∙ item_count change text ts items patch known.rel) in

@@ -227,7 +227,7 @@ module _ (old new ins : List ℕ) (a b : ℕ) (change : IsEdit old new ins a b) 
     end_place news = start_of us (items_of new us) (k + length news)
 
     -- where the old items hold again
-    pub rejoins : (news : List ℕ) (end : ℕ) → k + length news < length (items_of new us) → Stays (roles old ts) (roles new us) patch.at (length patch.fresh) patch.removed k news end → Rejoins old new ts us (items_of old ts) (items_of new us) a b (length ins) is.place (start_of us (items_of new us) (k + length news))
+    pub rejoins : (news : List ℕ) (end : ℕ) → k + length news < length (items_of new us) → Stays (items_of old ts) (roles new us) patch.at (length patch.fresh) patch.removed k news end → Rejoins old new ts us (items_of old ts) (items_of new us) a b (length ins) is.place (start_of us (items_of new us) (k + length news))
     rejoins news end lt h = record {
       agrees = record {
         behind = let l = late in let m = meeting_late old new ins a b change ts tiles patch is in omega (arith, l, m);
@@ -262,7 +262,7 @@ module _ (old new ins : List ℕ) (a b : ℕ) (change : IsEdit old new ins a b) 
             zero_line old (old_place a b (length ins) (end_of us here)) (sym old_is ∙ ap (end_of ts) w) ∙ sym (zero_line new (end_of us here) (ap (end_of us) z))
 
     -- no place before it rejoins
-    pub rejoins_first : (news : List ℕ) (end other : ℕ) → Recut (roles old ts) (roles new us) patch.at (length patch.fresh) patch.removed k news end → k + length news < length (items_of new us)
+    pub rejoins_first : (news : List ℕ) (end other : ℕ) → Recut (items_of old ts) (roles new us) patch.at (length patch.fresh) patch.removed k news end → k + length news < length (items_of new us)
         → other < start_of us (items_of new us) (k + length news) → Rejoins old new ts us (items_of old ts) (items_of new us) a b (length ins) is.place other → ⊥
     rejoins_first news end other h there lt r =
         let p = place_joins other r in
@@ -274,7 +274,7 @@ module _ (old new ins : List ℕ) (a b : ℕ) (change : IsEdit old new ins a b) 
         (cases_lt p.index (k + length news))
 
     -- none at all does
-    pub rejoins_none : (news : List ℕ) (end other : ℕ) → Goes (roles old ts) (roles new us) patch.at (length patch.fresh) patch.removed k news end → Rejoins old new ts us (items_of old ts) (items_of new us) a b (length ins) is.place other → ⊥
+    pub rejoins_none : (news : List ℕ) (end other : ℕ) → Goes (items_of old ts) (roles new us) patch.at (length patch.fresh) patch.removed k news end → Rejoins old new ts us (items_of old ts) (items_of new us) a b (length ins) is.place other → ⊥
     rejoins_none news end other h r =
         let p = place_joins other r in
         let w = p.within in
@@ -317,7 +317,7 @@ module _ (old new ins : List ℕ) (a b : ℕ) (change : IsEdit old new ins a b) 
     pub recut_goes : (news : List ℕ) (i : ℕ) → length (items_of new us) ≡ k + length news → i < length (items_of new us) → IsAmong i k (k + length news) ↔ IsRecut us (items_of new us) a None i
     recut_goes news i all lt = recut_from (k + length news) i None lt (λ le. omega (arith, le, lt, all), λ none. absurd none)
 
-    pub rear_stays : (news : List ℕ) (end i : ℕ) → Stays (roles old ts) (roles new us) patch.at (length patch.fresh) patch.removed k news end → i < length (items_of old ts) → (end ≤ i) ↔ IsBehind (Some (old_place a b (length ins) (start_of us (items_of new us) (k + length news)))) (start_of ts (items_of old ts) i)
+    pub rear_stays : (news : List ℕ) (end i : ℕ) → Stays (items_of old ts) (roles new us) patch.at (length patch.fresh) patch.removed k news end → i < length (items_of old ts) → (end ≤ i) ↔ IsBehind (Some (old_place a b (length ins) (start_of us (items_of new us) (k + length news)))) (start_of ts (items_of old ts) i)
     rear_stays news end i h lt =
         let same : start_of ts (items_of old ts) end ≡ old_place a b (length ins) (start_of us (items_of new us) (k + length news)) = ap (end_of ts) h.ends ∙ sym (old_start (tokens_before (items_of new us) (k + length news)) h.far) in
         subst (λ p. (end ≤ i) ↔ (p ≤ start_of ts (items_of old ts) i)) same (old_order i end lt h.there)

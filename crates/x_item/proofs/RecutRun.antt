@@ -33,40 +33,40 @@ pub record Joins (cs : List ℕ) (late old_late i : ℕ) : Type 0 where
   pub both : (i ≡ 0) ↔ (old_late + (i - late) ≡ 0)
 
 -- behind the first k items `news` have been cut, up to the token `index`
-pub record Recutting (R S : List Role) (x f m k start : ℕ) (news : List ℕ) (index back back_index : ℕ) : Type 0 where
+pub record Recutting (cs : List ℕ) (S : List Role) (x f m k start : ℕ) (news : List ℕ) (index back back_index : ℕ) : Type 0 where
   pub index_is : index ≡ start + total news
   pub within : index ≤ length S
-  pub goes_on : cut_of S ≡ take k (cut_of R) ++ (news ++ cut_of (drop index S))
+  pub goes_on : cut_of S ≡ take k cs ++ (news ++ cut_of (drop index S))
   pub back_from : k ≤ back
-  pub back_within : back < length (cut_of R)
-  pub back_is : back_index ≡ tokens_before (cut_of R) back
-  pub below : (j : ℕ) → j < back → tokens_before (cut_of R) j < x + m + (index - (x + f))
-  pub none : (j : ℕ) → j < k + length news → Joins (cut_of R) (x + f) (x + m) (tokens_before (cut_of S) j) → ⊥
+  pub back_within : back < length cs
+  pub back_is : back_index ≡ tokens_before cs back
+  pub below : (j : ℕ) → j < back → tokens_before cs j < x + m + (index - (x + f))
+  pub none : (j : ℕ) → j < k + length news → Joins cs (x + f) (x + m) (tokens_before (cut_of S) j) → ⊥
 
 -- the old items have been gone over up to the first that has `target` tokens before it, or more
-pub record Advanced (R : List Role) (x f m index back back_index : ℕ) : Type 0 where
-  pub below : (j : ℕ) → j < back → tokens_before (cut_of R) j < x + m + (index - (x + f))
-  pub found : Joins (cut_of R) (x + f) (x + m) index → back_index ≡ x + m + (index - (x + f))
+pub record Advanced (cs : List ℕ) (x f m index back back_index : ℕ) : Type 0 where
+  pub below : (j : ℕ) → j < back → tokens_before cs j < x + m + (index - (x + f))
+  pub found : Joins cs (x + f) (x + m) index → back_index ≡ x + m + (index - (x + f))
 
 -- the items that are put in place of those from k to before `end` make the items of the new tokens, and no item before joins
-pub record Recut (R S : List Role) (x f m k : ℕ) (news : List ℕ) (end : ℕ) : Type 0 where
+pub record Recut (cs : List ℕ) (S : List Role) (x f m k : ℕ) (news : List ℕ) (end : ℕ) : Type 0 where
   pub order : k ≤ end
-  pub within : end ≤ length (cut_of R)
-  pub are : cut_of S ≡ take k (cut_of R) ++ (news ++ drop end (cut_of R))
-  pub none : (j : ℕ) → j < k + length news → Joins (cut_of R) (x + f) (x + m) (tokens_before (cut_of S) j) → ⊥
+  pub within : end ≤ length cs
+  pub are : cut_of S ≡ take k cs ++ (news ++ drop end cs)
+  pub none : (j : ℕ) → j < k + length news → Joins cs (x + f) (x + m) (tokens_before (cut_of S) j) → ⊥
 
 -- the old items from `end` on stay
-pub record Stays (R S : List Role) (x f m k : ℕ) (news : List ℕ) (end : ℕ) : Type 0 where
-  pub recut : Recut R S x f m k news end
-  pub there : end < length (cut_of R)
+pub record Stays (cs : List ℕ) (S : List Role) (x f m k : ℕ) (news : List ℕ) (end : ℕ) : Type 0 where
+  pub recut : Recut cs S x f m k news end
+  pub there : end < length cs
   pub far : x + f ≤ tokens_before (cut_of S) (k + length news)
-  pub ends : tokens_before (cut_of R) end ≡ x + m + (tokens_before (cut_of S) (k + length news) - (x + f))
-  pub both : (tokens_before (cut_of S) (k + length news) ≡ 0) ↔ (tokens_before (cut_of R) end ≡ 0)
+  pub ends : tokens_before cs end ≡ x + m + (tokens_before (cut_of S) (k + length news) - (x + f))
+  pub both : (tokens_before (cut_of S) (k + length news) ≡ 0) ↔ (tokens_before cs end ≡ 0)
 
 -- none of them does
-pub record Goes (R S : List Role) (x f m k : ℕ) (news : List ℕ) (end : ℕ) : Type 0 where
-  pub recut : Recut R S x f m k news end
-  pub there : end ≡ length (cut_of R)
+pub record Goes (cs : List ℕ) (S : List Role) (x f m k : ℕ) (news : List ℕ) (end : ℕ) : Type 0 where
+  pub recut : Recut cs S x f m k news end
+  pub there : end ≡ length cs
   pub last : length (cut_of S) ≡ k + length news
 
 -- all items but the last have tokens
@@ -139,8 +139,8 @@ module _ (R S : List Role) (x f m : ℕ) (meet : Meet R S x f m) (k start : ℕ)
           let same_before : tokens_before (cut_of R) (k + 1) ≡ b = ap (λ l. tokens_before l (k + 1)) is ∙ ap total (take_at (take (k + 1) (cut_of S)) (cut_of (drop b R)) (k + 1) l) in
           omega (arith, next, same_before)
 
-  pub recutting_none : (news : List ℕ) → news ≡ [] → Recutting R S x f m k start news start k start
-  recutting_none news e = subst (λ l. Recutting R S x f m k start l start k start) (sym e) (record {
+  pub recutting_none : (news : List ℕ) → news ≡ [] → Recutting (cut_of R) S x f m k start news start k start
+  recutting_none news e = subst (λ l. Recutting (cut_of R) S x f m k start l start k start) (sym e) (record {
     index_is = omega arith;
     within = start_le;
     goes_on = front_goes_on;
@@ -156,8 +156,8 @@ module _ (R S : List Role) (x f m : ℕ) (meet : Meet R S x f m) (k start : ℕ)
         omega (arith, s, e, b, far);
   })
 
-  pub advanced : (news : List ℕ) (index back back_index to to_index target : ℕ) → Recutting R S x f m k start news index back back_index → target ≡ x + m + (index - (x + f)) → to < length (cut_of R) → to_index ≡ tokens_before (cut_of R) to
-      → ((j : ℕ) → back ≤ j → j < to → tokens_before (cut_of R) j < target) → (to + 1 < length (cut_of R) → target ≤ to_index) → Advanced R x f m index to to_index
+  pub advanced : (news : List ℕ) (index back back_index to to_index target : ℕ) → Recutting (cut_of R) S x f m k start news index back back_index → target ≡ x + m + (index - (x + f)) → to < length (cut_of R) → to_index ≡ tokens_before (cut_of R) to
+      → ((j : ℕ) → back ≤ j → j < to → tokens_before (cut_of R) j < target) → (to + 1 < length (cut_of R) → target ≤ to_index) → Advanced (cut_of R) x f m index to to_index
   advanced news index back back_index to to_index target h is within at below reached = record { below = all; found = found }
     where
       all : (j : ℕ) → j < to → tokens_before (cut_of R) j < x + m + (index - (x + f))
@@ -178,10 +178,10 @@ module _ (R S : List Role) (x f m : ℕ) (meet : Meet R S x f m) (k start : ℕ)
           at ∙ ap (tokens_before (cut_of R)) (sym same) ∙ e
 
   -- one item more
-  pub recutting_more : (news more : List ℕ) (index count back back_index to to_index : ℕ) → Recutting R S x f m k start news index back back_index
+  pub recutting_more : (news more : List ℕ) (index count back back_index to to_index : ℕ) → Recutting (cut_of R) S x f m k start news index back back_index
       → back ≤ to → to < length (cut_of R) → to_index ≡ tokens_before (cut_of R) to → ((j : ℕ) → j < to → tokens_before (cut_of R) j < x + m + (index - (x + f)))
       → (Joins (cut_of R) (x + f) (x + m) index → ⊥) → index + count ≤ length S → cut_of (drop index S) ≡ count ∷ cut_of (drop (index + count) S) → more ≡ news ++ count ∷ []
-      → Recutting R S x f m k start more (index + count) to to_index
+      → Recutting (cut_of R) S x f m k start more (index + count) to to_index
   recutting_more news more index count back back_index to to_index h forth within at below apart fit item pushed = record {
     index_is = let i = h.index_is in let t = ap total pushed ∙ total-append news (count ∷ []) in omega (arith, i, t);
     within = fit;
@@ -214,8 +214,8 @@ module _ (R S : List Role) (x f m : ℕ) (meet : Meet R S x f m) (k start : ℕ)
       let e : tokens_before (cut_of (drop index S)) 1 ≡ count + 0 = ap (λ l. tokens_before l 1) item in
       omega (arith, g, e)
 
-  pub recut_joined : (news : List ℕ) (index back back_index to to_index : ℕ) → Recutting R S x f m k start news index back back_index → back ≤ to → to < length (cut_of R) → to_index ≡ tokens_before (cut_of R) to
-      → x + f ≤ index → to_index ≡ x + m + (index - (x + f)) → ((index ≡ 0) ↔ (to_index ≡ 0)) → Stays R S x f m k news to
+  pub recut_joined : (news : List ℕ) (index back back_index to to_index : ℕ) → Recutting (cut_of R) S x f m k start news index back back_index → back ≤ to → to < length (cut_of R) → to_index ≡ tokens_before (cut_of R) to
+      → x + f ≤ index → to_index ≡ x + m + (index - (x + f)) → ((index ≡ 0) ↔ (to_index ≡ 0)) → Stays (cut_of R) S x f m k news to
   recut_joined news index back back_index to to_index h forth within at far is both =
       let here : tokens_before (cut_of S) (k + length news) ≡ index = boundary news (cut_of (drop index S)) h.goes_on ∙ sym h.index_is in
       let split_index : index ≡ x + f + (index - (x + f)) = omega arith in
@@ -238,7 +238,7 @@ module _ (R S : List Role) (x f m : ℕ) (meet : Meet R S x f m) (k start : ℕ)
         both = subst (λ i. (i ≡ 0) ↔ (tokens_before (cut_of R) to ≡ 0)) (sym here) (subst (λ i. (index ≡ 0) ↔ (i ≡ 0)) at both);
       }
 
-  pub recut_ended : (news more : List ℕ) (index count back back_index end : ℕ) → Recutting R S x f m k start news index back back_index → (Joins (cut_of R) (x + f) (x + m) index → ⊥) → cut_of (drop index S) ≡ count ∷ [] → more ≡ news ++ count ∷ [] → end ≡ length (cut_of R) → Goes R S x f m k more end
+  pub recut_ended : (news more : List ℕ) (index count back back_index end : ℕ) → Recutting (cut_of R) S x f m k start news index back back_index → (Joins (cut_of R) (x + f) (x + m) index → ⊥) → cut_of (drop index S) ≡ count ∷ [] → more ≡ news ++ count ∷ [] → end ≡ length (cut_of R) → Goes (cut_of R) S x f m k more end
   recut_ended news more index count back back_index end h apart item pushed all =
       let g = front_length in
       let l = ap length pushed ∙ length_push news count in
@@ -273,30 +273,30 @@ module _ (R S : List Role) (x f m : ℕ) (meet : Meet R S x f m) (k start : ℕ)
       append_none (c ∷ cs) = ap (λ l. c ∷ l) (append_none cs)
 
 -- the old items have been gone over as far as an item behind `index` tokens asks, and none of them joins
-pub record Moved (R : List Role) (x f m index back to to_index : ℕ) : Type 0 where
+pub record Moved (cs : List ℕ) (x f m index back to to_index : ℕ) : Type 0 where
   pub forth : back ≤ to
-  pub within : to < length (cut_of R)
-  pub at : to_index ≡ tokens_before (cut_of R) to
-  pub below : (j : ℕ) → j < to → tokens_before (cut_of R) j < x + m + (index - (x + f))
-  pub apart : Joins (cut_of R) (x + f) (x + m) index → ⊥
+  pub within : to < length cs
+  pub at : to_index ≡ tokens_before cs to
+  pub below : (j : ℕ) → j < to → tokens_before cs j < x + m + (index - (x + f))
+  pub apart : Joins cs (x + f) (x + m) index → ⊥
 
 -- the tokens are not behind the fresh ones yet
-pub moved_not : (R S : List Role) (x f m k start : ℕ) (news : List ℕ) (index back back_index to to_index : ℕ) → Recutting R S x f m k start news index back back_index → index < x + f → to ≡ back → to_index ≡ back_index → Moved R x f m index back to to_index
-moved_not R S x f m k start news index back back_index to to_index h near same same_index = record {
+pub moved_not : (cs : List ℕ) (S : List Role) (x f m k start : ℕ) (news : List ℕ) (index back back_index to to_index : ℕ) → Recutting cs S x f m k start news index back back_index → index < x + f → to ≡ back → to_index ≡ back_index → Moved cs x f m index back to to_index
+moved_not cs S x f m k start news index back back_index to to_index h near same same_index = record {
   forth = omega (arith, same);
   within = let w = h.back_within in omega (arith, w, same);
-  at = same_index ∙ h.back_is ∙ ap (tokens_before (cut_of R)) (sym same);
+  at = same_index ∙ h.back_is ∙ ap (tokens_before cs) (sym same);
   below = λ j lt. h.below j (omega (arith, lt, same));
   apart = λ j. let f = j.far in omega (arith, f, near);
 }
 
 -- they are
-pub moved_on : (R : List Role) (x f m index back to to_index there there_index : ℕ) → Advanced R x f m index there there_index → back ≤ there → there < length (cut_of R) → there_index ≡ tokens_before (cut_of R) there → to ≡ there → to_index ≡ there_index
-    → (Joins (cut_of R) (x + f) (x + m) index → ⊥) → Moved R x f m index back to to_index
-moved_on R x f m index back to to_index there there_index h forth within at same same_index apart = record {
+pub moved_on : (cs : List ℕ) (x f m index back to to_index there there_index : ℕ) → Advanced cs x f m index there there_index → back ≤ there → there < length cs → there_index ≡ tokens_before cs there → to ≡ there → to_index ≡ there_index
+    → (Joins cs (x + f) (x + m) index → ⊥) → Moved cs x f m index back to to_index
+moved_on cs x f m index back to to_index there there_index h forth within at same same_index apart = record {
   forth = omega (arith, forth, same);
   within = omega (arith, within, same);
-  at = same_index ∙ at ∙ ap (tokens_before (cut_of R)) (sym same);
+  at = same_index ∙ at ∙ ap (tokens_before cs) (sym same);
   below = λ j lt. h.below j (omega (arith, lt, same));
   apart = apart;
 }

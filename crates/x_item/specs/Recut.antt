@@ -26,6 +26,11 @@ pub record IsRelexed (change : Change) (new : List ℕ) (ts : List (Kind × ℕ)
   pub items : IsCut (lexemes change.old ts) cs
   pub patch : IsPatch change.old new ts change.start change.end (length change.insert) fresh
 
+-- the tokens, items and patch are those of some change that makes `new` of another text
+pub record AreRelexed (new : List ℕ) (ts : List (Kind × ℕ)) (cs : List ℕ) (fresh : TokenPatch) : Type 0 where
+  pub change : Change
+  pub relexed : IsRelexed change new ts cs fresh
+
 -- the place where the item at an index starts
 abbrev pub start_of : List (Kind × ℕ) → List ℕ → ℕ → ℕ
 start_of ts cs i = end_of ts (tokens_before cs i)

@@ -6,7 +6,7 @@ ghost use Rattle.x_lex.specs.TokenList.{patched, LiesAmong, IsOfText};
 ghost use Rattle.x_item.specs.ItemList.{AreOfText, counts};
 ghost use Rattle.x_item.specs.ItemList as lists;
 ghost use Rattle.x_item.specs.Cutting.{roles, counts_from};
-ghost use Rattle.x_item.specs.Recut.{Change, IsRelexed, IsItemPatch};
+ghost use Rattle.x_item.specs.Recut.{Change, IsRelexed, AreRelexed, IsItemPatch};
 
 use crate::cutter::Cutter;
 use crate::entry::Entry;
@@ -27,9 +27,8 @@ pub fn recut<K: Default + Drop>(
     patch: &Patch,
     new: &Source,
 ) -> Result<ItemPatch<K>, NoMemory>
-    ghost change: { Change }
-    requires { IsRelexed change new.now tokens.now.list (counts items.now.list) patch.now }
-    ensures patch { IfOk result (λ fresh. IsItemPatch change new.now tokens.now.list (patched tokens.now.list patch.now) items.now.list fresh) }
+    requires { AreRelexed new.now tokens.now.list (counts items.now.list) patch.now }
+    ensures patch { IfOk result (λ fresh. (change : Change) → IsRelexed change new.now tokens.now.list (counts items.now.list) patch.now → IsItemPatch change new.now tokens.now.list (patched tokens.now.list patch.now) items.now.list fresh) }
     ensures of_text { IfOk result (λ fresh. AreOfText (counts (lists.patched items.now.list fresh))) }
     ensures blank { IfOk result (λ fresh. All (λ item. K.is_default item.kept) fresh.fresh) }
 {

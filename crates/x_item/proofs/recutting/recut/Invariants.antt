@@ -9,7 +9,7 @@ use Rattle.x_item.proofs.recutting.recut.Given as goal
 
 abbrev pub invariant-cutting : goal.invariant-cutting
 invariant-cutting g l = record {
-  recutting : Recutting (roles g.change.old l.tokens.list) (roles l.text (patched l.tokens.list l.patch)) l.patch.at (length l.patch.fresh) l.patch.removed l.kept l.start (counts l.fresh.items) l.index l.back l.back_index;
+  recutting : Recutting (counts l.items.list) (roles l.text (patched l.tokens.list l.patch)) l.patch.at (length l.patch.fresh) l.patch.removed l.kept l.start (counts l.fresh.items) l.index l.back l.back_index;
   place_is : l.place ≡ end_of (patched l.tokens.list l.patch) l.index;
   blank : All (λ item. g.K.Default.is_default item.kept) l.fresh.items;
 }
