@@ -1,10 +1,14 @@
 pub mod Collected
+pub mod Cutting
+pub mod ItemList
+pub mod Items
 pub mod Mentions
 pub mod Named
 pub mod Names
 pub mod Parse
 pub mod Parsed
 pub mod Reading
+pub mod Recut
 pub mod Spell
 pub mod Symbols
 pub mod Tree

@@ -1,6 +1,7 @@
-ghost use Rattle.std.specs.Prelude.{◌≡◌, List};
+ghost use Rattle.std.specs.Prelude.{◌≡◌, ℕ, List};
 ghost use Rattle.x_lex.specs.Places.{Lexeme};
 ghost use Rattle.x_item.specs.Tree.{Definition};
+ghost use Rattle.x_item.specs.Items.{IsCut};
 ghost use Rattle.x_item.specs.Spell.{spell, KeepsLimits};
 ghost use Rattle.x_item.specs.Parse.{Parse, IsParse};
 
@@ -13,4 +14,10 @@ pub fn spell_law()
 /// An item has one parse.
 pub fn one_parse()
     ensures { (item : List Lexeme) (parse other : Parse) → IsParse item parse → IsParse item other → parse ≡ other }
+{}
+
+/// Tokens are written as items in one way.
+pub fn one_cut()
+    ensures only { (tokens : List Lexeme) (cs ds : List ℕ) → IsCut tokens cs → IsCut tokens ds → cs ≡ ds }
+    ensures some { (tokens : List Lexeme) → (cs : List ℕ) × IsCut tokens cs }
 {}

@@ -84,6 +84,14 @@ impl Tokens {
         Some((entry.kind, start, start + entry.length as usize))
     }
 
+    /// The kind of the token at `index`, and how many bytes it has. Unlike [`Tokens::get`] it looks at no other token.
+    pub fn kind_and_length(&self, index: usize) -> Option<(Kind, usize)>
+        ensures { result ≡ slice_get self.now.list index }
+    {
+        let entry = self.entries.get(index)?;
+        Some((entry.kind, entry.length as usize))
+    }
+
     /// The token at `index` of the text that these are the tokens of.
     ///
     /// Looks at each token between it and the seat or the first one; to go over all, use [`Tokens::iter`].
