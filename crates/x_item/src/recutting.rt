@@ -29,6 +29,7 @@ pub fn recut<K: Default + Drop>(
 ) -> Result<ItemPatch<K>, NoMemory>
     requires { AreRelexed new.now tokens.now.list (counts items.now.list) patch.now }
     ensures patch { IfOk result (λ fresh. (change : Change) → IsRelexed change new.now tokens.now.list (counts items.now.list) patch.now → IsItemPatch change new.now tokens.now.list (patched tokens.now.list patch.now) items.now.list fresh) }
+    ensures among { IfOk result (λ fresh. lists.LiesAmong items.now.list fresh) }
     ensures of_text { IfOk result (λ fresh. AreOfText (counts (lists.patched items.now.list fresh))) }
     ensures blank { IfOk result (λ fresh. All (λ item. K.is_default item.kept) fresh.fresh) }
 {
@@ -127,3 +128,6 @@ fn item_from(
     }
     (count, place, false)
 }
+
+#[cfg(test)]
+mod tests;

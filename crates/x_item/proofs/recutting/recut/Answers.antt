@@ -117,6 +117,24 @@ returns-then-index-target-clause-patch g c =
     target c.if-back_index-target.true c.if-index-target.true c.new.ensures in
     made.patch_is
 
+pub returns-then-index-target-clause-among : goal.returns-then-index-target-clause-among
+returns-then-index-target-clause-among g c =
+    let text = c.bytes-text.result.now in
+    let ts = c.args.tokens.now.list in
+    let items = c.args.items.now.list in
+    let patch = c.args.patch.now in
+    let k = c.whole_within-kept.result.0 in
+    let start = c.whole_within-kept.result.1 in
+    let known = ready c.requires.change c.bytes-text.result.now c.args.new.now ts items patch k start c.at.result c.bytes-text.ensures.text c.bytes-text.ensures.small c.requires.relexed
+    c.at.ensures c.whole_within-kept.ensures.within c.whole_within-kept.ensures.tokens c.whole_within-kept.ensures.before c.whole_within-kept.ensures.next in
+    let target : c.at-3.result + c.removed.result + (c.cutting.index - (c.at-2.result + c.len-2.result)) ≡ patch.at + patch.removed + (c.cutting.index - (patch.at + length patch.fresh)) =
+    let x = c.at-2.ensures in let f = c.len-2.ensures in let y = c.at-3.ensures in let m = c.removed.ensures in omega (arith, x, f, y, m) in
+    let made = made_joined c.requires.change text ts items patch k start known c.args.new.now c.bytes-text.ensures.text c.new.result c.cutting.fresh.items c.cutting.index c.cutting.back c.cutting.back_index c.advance.result.0 c.advance.result.1 (c.at-3.result + c.removed.result + (c.cutting.index - (c.at-2.result + c.len-2.result))) c.cutting.invariant.recutting
+    c.advance.ensures.forward c.advance.ensures.within c.advance.ensures.tokens
+    (let far = c.if-behind-index.true in let x = c.at-2.ensures in let f = c.len-2.ensures in omega (arith, far, x, f))
+    target c.if-back_index-target.true c.if-index-target.true c.new.ensures in
+    made.patch_is.among
+
 pub returns-then-index-target-clause-of_text : goal.returns-then-index-target-clause-of_text
 returns-then-index-target-clause-of_text g c =
     let text = c.bytes-text.result.now in
@@ -203,6 +221,39 @@ returns-then-not-whole-clause-patch g c =
     let made = made_ended change text ts items patch k start known c.args.new.now c.bytes-text.ensures.text c.new-then-not-whole.result c.cutting.fresh.items c.push.new.self.items c.new-in-cutting.result c.cutting.index c.item_from-count.result.0 c.cutting.back c.cutting.back_index
     c.if-behind-index.back c.if-behind-index.back_index c.len-then-not-whole.result c.item_from-count.result.2 c.cutting.invariant.recutting moved c.item_from-count.ensures.counts c.if-not-whole.true c.in_ok-push.ensures.items c.new-in-cutting.ensures.tokens c.len-then-not-whole.ensures.count c.new-then-not-whole.ensures in
     made.patch_is
+
+pub returns-then-not-whole-clause-among : goal.returns-then-not-whole-clause-among
+returns-then-not-whole-clause-among g c =
+    let text = c.bytes-text.result.now in
+    let ts = c.args.tokens.now.list in
+    let items = c.args.items.now.list in
+    let patch = c.args.patch.now in
+    let k = c.whole_within-kept.result.0 in
+    let start = c.whole_within-kept.result.1 in
+    let known = ready c.requires.change c.bytes-text.result.now c.args.new.now ts items patch k start c.at.result c.bytes-text.ensures.text c.bytes-text.ensures.small c.requires.relexed
+    c.at.ensures c.whole_within-kept.ensures.within c.whole_within-kept.ensures.tokens c.whole_within-kept.ensures.before c.whole_within-kept.ensures.next in
+    let target : c.at-3.result + c.removed.result + (c.cutting.index - (c.at-2.result + c.len-2.result)) ≡ patch.at + patch.removed + (c.cutting.index - (patch.at + length patch.fresh)) =
+    let x = c.at-2.ensures in let f = c.len-2.ensures in let y = c.at-3.ensures in let m = c.removed.ensures in omega (arith, x, f, y, m) in
+    let moved : Moved (counts items) patch.at (length patch.fresh) patch.removed c.cutting.index c.cutting.back c.if-behind-index.back c.if-behind-index.back_index =
+    elim c.if-behind-index.branch [
+      | then-behind-index+else-back_index-target w ↦
+          let there = reached c.requires.change text ts items patch k start known c.cutting.fresh.items c.cutting.index c.cutting.back c.cutting.back_index w.advance.result.0 w.advance.result.1 (c.at-3.result + c.removed.result + (c.cutting.index - (c.at-2.result + c.len-2.result))) c.cutting.invariant.recutting
+          target w.advance.ensures.within w.advance.ensures.tokens w.advance.ensures.below w.advance.ensures.reached in
+          moved_on (counts items) patch.at (length patch.fresh) patch.removed c.cutting.index c.cutting.back c.if-behind-index.back c.if-behind-index.back_index w.advance.result.0 w.advance.result.1 there w.advance.ensures.forward
+          (counted_within c.requires.change text ts items patch k start known w.advance.result.0 w.advance.ensures.within) w.advance.ensures.tokens w.back-is w.back_index-is
+          (λ joins.
+          elim w.else-back_index-target.branch [
+            | else-back_index-target-via-then-back_index-target+else-index-target v ↦
+                not_both_zero c.cutting.index (c.at-3.result + c.removed.result + (c.cutting.index - (c.at-2.result + c.len-2.result))) v.if-index-target.false (subst (λ n. (c.cutting.index ≡ 0) ↔ (n ≡ 0)) (sym target) joins.both)
+            | else-back_index-target-via-else-back_index-target v ↦ v.if-back_index-target.false (there.found joins ∙ sym target)
+          ])
+      | else-behind-index w ↦
+          moved_not (counts items) (roles text (patched ts patch)) patch.at (length patch.fresh) patch.removed k start (counts c.cutting.fresh.items) c.cutting.index c.cutting.back c.cutting.back_index c.if-behind-index.back c.if-behind-index.back_index c.cutting.invariant.recutting
+          (let near = w.if-behind-index.false in let x = c.at-2.ensures in let f = c.len-2.ensures in omega (arith, near, x, f)) w.back-is w.back_index-is
+    ] in
+    let made = made_ended c.requires.change text ts items patch k start known c.args.new.now c.bytes-text.ensures.text c.new-then-not-whole.result c.cutting.fresh.items c.push.new.self.items c.new-in-cutting.result c.cutting.index c.item_from-count.result.0 c.cutting.back c.cutting.back_index
+    c.if-behind-index.back c.if-behind-index.back_index c.len-then-not-whole.result c.item_from-count.result.2 c.cutting.invariant.recutting moved c.item_from-count.ensures.counts c.if-not-whole.true c.in_ok-push.ensures.items c.new-in-cutting.ensures.tokens c.len-then-not-whole.ensures.count c.new-then-not-whole.ensures in
+    made.patch_is.among
 
 pub returns-then-not-whole-clause-of_text : goal.returns-then-not-whole-clause-of_text
 returns-then-not-whole-clause-of_text g c =
