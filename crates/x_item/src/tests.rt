@@ -169,8 +169,9 @@ fn parses_types(rt: HostRuntime) -> Result<(), Fail> {
     expect_answers(&rt, rt.alloc(), &TYPES)
 }
 
-const ENUMS: [Row; 11] = [
+const ENUMS: [Row; 12] = [
     ("enum e { A };", "definition"),
+    ("enum e { A, B = 5, C };", "definition"),
     ("enum e { A, B = 5, C = D };", "definition"),
     ("enum { A };", "6 Syntax"),
     ("enum e ;", "8 Syntax"),
@@ -188,8 +189,9 @@ fn parses_enums(rt: HostRuntime) -> Result<(), Fail> {
     expect_answers(&rt, rt.alloc(), &ENUMS)
 }
 
-const STRUCTS: [Row; 10] = [
+const STRUCTS: [Row; 11] = [
     ("struct s { int a; };", "definition"),
+    ("struct s { unsigned long x; };", "definition"),
     (
         "struct s { void; struct { opaque b[2]; } a; string c<>; };",
         "definition",
