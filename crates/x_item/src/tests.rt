@@ -170,8 +170,8 @@ fn parses_types(rt: HostRuntime) -> Result<(), Fail> {
 }
 
 const ENUMS: [Row; 12] = [
-    ("enum e { A, B = 5, C };", "definition"),
     ("enum e { A };", "definition"),
+    ("enum e { A, B = 5, C };", "definition"),
     ("enum e { A, B = 5, C = D };", "definition"),
     ("enum { A };", "6 Syntax"),
     ("enum e ;", "8 Syntax"),
@@ -189,8 +189,9 @@ fn parses_enums(rt: HostRuntime) -> Result<(), Fail> {
     expect_answers(&rt, rt.alloc(), &ENUMS)
 }
 
-const STRUCTS: [Row; 10] = [
+const STRUCTS: [Row; 11] = [
     ("struct s { int a; };", "definition"),
+    ("struct s { unsigned long x; };", "definition"),
     (
         "struct s { void; struct { opaque b[2]; } a; string c<>; };",
         "definition",
