@@ -23,6 +23,6 @@ pub use entry::Entry;
 pub use fault::FaultCode;
 pub use item_patch::ItemPatch;
 pub use items::Items;
-pub use laws::{one_cut, spell_law};
+pub use laws::{one_cut, one_recut, spell_law};
 pub use mark::Mark;
 pub use recutting::recut;
