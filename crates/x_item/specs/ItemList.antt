@@ -9,6 +9,10 @@ use Rattle.x_item.specs.declared.entry.Entry.{Entry}
 abbrev pub counts : {K : Type 0} → List (Entry K) → List ℕ
 counts entries = map (λ entry. entry.tokens) entries
 
+-- what is kept with each
+abbrev pub kept : {K : Type 0} → List (Entry K) → List K
+kept entries = map (λ entry. entry.kept) entries
+
 -- how many tokens items have together, where each has so many
 abbrev pub total : List ℕ → ℕ
 total [] = 0

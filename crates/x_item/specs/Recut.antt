@@ -86,3 +86,10 @@ pub record IsItemPatch {K : Type 0} (change : Change) (new : List ℕ) (ts us : 
   pub fresh : (i : ℕ) → i < length (patched items patch) → IsAmong i patch.at (patch.at + length patch.fresh) ↔ IsRecut us (counts (patched items patch)) change.start join i
   pub front : (i : ℕ) → i < length items → (i < patch.at) ↔ EndsBefore ts (counts items) change.start i
   pub rear : (i : ℕ) → i < length items → (patch.at + patch.removed ≤ i) ↔ IsBehind (option_map (old_place change.start change.end (length change.insert)) join) (start_of ts (counts items) i)
+
+-- the two patches take out and put in the same items, whatever is kept with them
+pub record AreOne {K : Type 0} (p q : ItemChange K) : Type 0 where
+  pub at : p.at ≡ q.at
+  pub removed : p.removed ≡ q.removed
+  pub start : p.start ≡ q.start
+  pub fresh : counts p.fresh ≡ counts q.fresh

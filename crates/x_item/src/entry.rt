@@ -10,6 +10,8 @@ pub struct Entry<K> {
     pub kept: K,
 }
 
+const _: () = prove!(size_of::<Entry<()>>() == 4);
+
 impl<K: Default> Entry<K> {
     /// The entry of an item of that many tokens, with which nothing is kept yet.
     pub(crate) fn new(tokens: usize) -> Entry<K>

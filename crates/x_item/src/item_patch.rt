@@ -1,5 +1,6 @@
 //! What an edit does to the items of a text.
-ghost use Rattle.std.specs.Prelude.{◌≡◌, ◌<◌, ◌↔◌, [], IsTrue, length, option_copied, slice_get};
+ghost use Rattle.std.specs.Prelude.{◌≡◌, ◌<◌, ◌↔◌, [], IsTrue, length, option_copied, slice_get, slice_set};
+ghost use Rattle.x_item.specs.ItemList.{counts, kept};
 
 use crate::entry::Entry;
 use std::marker::Model;
@@ -74,6 +75,18 @@ impl<K> ItemPatch<K> {
         ensures { option_copied result ≡ slice_get self.now.fresh index }
     {
         self.fresh.get(index)
+    }
+
+    /// Keeps this with the fresh item at `index`, counted from the first of them, in place of what was kept with it.
+    pub fn keep(&mut self, index: usize, new: K)
+    where
+        K: Drop,
+        requires { index < length self.old.fresh }
+        ensures counts { counts self.new.fresh ≡ counts self.old.fresh }
+        ensures kept { kept self.new.fresh ≡ slice_set (kept self.old.fresh) index new }
+        ensures others { self.new ≡ record self.old { fresh = self.new.fresh } }
+    {
+        self.fresh[index].kept = new;
     }
 
     /// The entries of the fresh items.

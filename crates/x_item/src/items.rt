@@ -7,7 +7,7 @@ ghost use Rattle.x_item.specs.ItemList.{counts, total, tokens_before, patched, L
 use crate::entry::Entry;
 use crate::item_patch::ItemPatch;
 use std::marker::Model;
-use x_text::{GapSeq, NoMemory, Seq};
+use x_text::{GapIter, GapSeq, NoMemory, Seq};
 
 /// The items of a text, in order, each with how many tokens it has and what is kept with it.
 ///
@@ -67,6 +67,14 @@ impl<K: Drop> Items<K> {
         ensures { option_copied result ≡ slice_get self.now.list index }
     {
         self.entries.get(index)
+    }
+
+    /// Goes over the items.
+    pub fn iter(&self) -> GapIter<'_, Entry<K>>
+        ensures list { result ≡ self.now.list }
+        ensures small { length result ≤ MAX_TEXT + 1 }
+    {
+        self.entries.iter()
     }
 
     /// The index of the first token of the item at `index`, or how many tokens there are.

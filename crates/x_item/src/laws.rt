@@ -1,7 +1,12 @@
 ghost use Rattle.std.specs.Prelude.{◌≡◌, ℕ, List};
+ghost use Rattle.x_lex.specs.declared.kind.Kind.{Kind};
 ghost use Rattle.x_lex.specs.Places.{Lexeme};
+ghost use Rattle.x_lex.specs.TokenList.{TokenPatch, patched};
 ghost use Rattle.x_item.specs.Tree.{Definition};
+ghost use Rattle.x_item.specs.declared.entry.Entry.{Entry};
 ghost use Rattle.x_item.specs.Items.{IsCut};
+ghost use Rattle.x_item.specs.ItemList.{ItemChange, counts};
+ghost use Rattle.x_item.specs.Recut.{Change, IsRelexed, IsItemPatch, AreOne};
 ghost use Rattle.x_item.specs.Spell.{spell, KeepsLimits};
 ghost use Rattle.x_item.specs.Parse.{Parse, IsParse};
 
@@ -20,4 +25,10 @@ pub fn one_parse()
 pub fn one_cut()
     ensures only { (tokens : List Lexeme) (cs ds : List ℕ) → IsCut tokens cs → IsCut tokens ds → cs ≡ ds }
     ensures some { (tokens : List Lexeme) → (cs : List ℕ) × IsCut tokens cs }
+{}
+
+/// What an edit does to the items of a text is determined by the items, the two texts and the edit.
+pub fn one_recut<K>()
+    ensures { (change : Change) (new : List ℕ) (ts : List (Kind × ℕ)) (items : List (Entry K)) (patch : TokenPatch) (p q : ItemChange K) → IsRelexed change new ts (counts items) patch
+        → IsItemPatch change new ts (patched ts patch) items p → IsItemPatch change new ts (patched ts patch) items q → AreOne p q }
 {}

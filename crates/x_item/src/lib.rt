@@ -30,7 +30,7 @@ pub use fault::FaultCode;
 pub use item::{Parsed, parse_item};
 pub use item_patch::ItemPatch;
 pub use items::Items;
-pub use laws::{one_cut, one_parse, spell_law};
+pub use laws::{one_cut, one_parse, one_recut, spell_law};
 pub use mark::Mark;
 pub use mention::{Mention, Use, mentions};
 pub use names::{DeclaredName, NameKind, declares};

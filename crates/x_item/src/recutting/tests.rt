@@ -121,3 +121,112 @@ fn recuts_texts(rt: HostRuntime) -> Result<(), Fail> {
     }
     Ok(())
 }
+
+/// How many tokens each item of a text has.
+type CutRow = (&'static [u8], &'static [u32]);
+
+const CUTS: [CutRow; 7] = [
+    (b"", &[0]),
+    (b"x", &[1]),
+    (b";;", &[1, 1, 0]),
+    (b"};x;", &[2, 2, 0]),
+    (b"struct s { int a; const B = 2;", &[19]),
+    (b"struct s { int a; }; const B = 2;", &[13, 9, 0]),
+    (b"{{;}{;}};x", &[9, 1]),
+];
+
+/// Cuts a text, and looks at each of its items.
+fn expect_cut(rt: &impl Abort, alloc: Global, row: CutRow) -> Result<(), Fail> {
+    let (text, counts) = row;
+    let source = Source::from_bytes(alloc, text)?;
+    let tokens = lex(alloc, &source, &mut Meter::new())?;
+    let items: Items<u8> = cut(alloc, &tokens, &source)?;
+    assert_eq!(rt; items.len(), counts.len());
+    let mut first = 0usize;
+    for index in 0..items.len() {
+        assert_eq!(rt; items.first_token(index), first, "item {index}");
+        let found = items.get(index).map(|item| (item.tokens, item.kept));
+        let count = counts.get(index).copied().unwrap_or_default();
+        assert_eq!(rt; found, Some((count, 0)), "item {index}");
+        first = first.saturating_add(count as usize);
+    }
+    assert_eq!(rt; items.first_token(items.len()), tokens.len());
+    assert_eq!(rt; items.iter().count(), items.len());
+    Ok(())
+}
+
+#[test]
+fn cuts_texts(rt: HostRuntime) -> Result<(), Fail> {
+    for row in CUTS {
+        expect_cut(&rt, rt.alloc(), row)?;
+    }
+    Ok(())
+}
+
+#[test]
+fn tells_an_item_patch(rt: HostRuntime) -> Result<(), Fail> {
+    let alloc = rt.alloc();
+    let old = Source::from_bytes(alloc, b"a;b;c;d;")?;
+    let tokens = lex(alloc, &old, &mut Meter::new())?;
+    let mut items: Items<u8> = cut(alloc, &tokens, &old)?;
+    let edit = Edit {
+        start: 3,
+        end: 3,
+        insert: b";x",
+    };
+    let new = old.edited(alloc, &edit)?;
+    let patch = relex(alloc, &tokens, &old, &edit, &new, &mut Meter::new())?;
+    let mut fresh: ItemPatch<u8> = recut(alloc, &items, &tokens, &patch, &new)?;
+    assert_eq!(rt; (fresh.at(), fresh.removed(), fresh.start()), (1, 1, 2));
+    assert_eq!(rt; (fresh.len(), fresh.is_empty()), (2, false));
+    fresh.keep(1, 7);
+    let kept = fresh.get(1).map(|item| (item.tokens, item.kept));
+    assert_eq!(rt; kept, Some((2, 7)));
+    assert_eq!(rt; fresh.get(2).is_none(), true);
+    items.reserve(&fresh)?;
+    // Three items stand between the one that goes and the seat, which is at the end.
+    assert_eq!(rt; items.put(fresh), 3);
+    let kept = items.get(2).map(|item| (item.tokens, item.kept));
+    assert_eq!(rt; kept, Some((2, 7)));
+    expect_items_of(&rt, alloc, &items, &new)
+}
+
+/// Whether the items are still those of the text `a;`.
+fn expect_as_before(rt: &impl Abort, items: &Items<u8>) {
+    assert_eq!(rt; items.len(), 2);
+    assert_eq!(rt; items.get(0).map(|item| item.tokens), Some(2));
+    assert_eq!(rt; items.get(1).map(|item| item.tokens), Some(0));
+}
+
+/// Follows an edit of the text `a;`, and looks after each refusal whether its items are as before.
+fn follow_with_little_memory(rt: &impl Abort, alloc: Global) -> Result<(), TextFault> {
+    let old = Source::from_bytes(alloc, b"a;")?;
+    let Ok(mut tokens) = lex(alloc, &old, &mut Meter::new()) else {
+        return Err(TextFault::NoMemory);
+    };
+    let Ok(mut items) = cut(alloc, &tokens, &old) else {
+        return Err(TextFault::NoMemory);
+    };
+    let edit = Edit {
+        start: 2,
+        end: 2,
+        insert: b" b;",
+    };
+    let new = old.edited(alloc, &edit)?;
+    let followed = follow(alloc, &mut items, &mut tokens, &old, &edit, &new);
+    if followed.is_err() {
+        expect_as_before(rt, &items);
+        return Err(TextFault::NoMemory);
+    }
+    assert_eq!(rt; items.len(), 3);
+    Ok(())
+}
+
+#[test]
+fn sweep_recut(rt: HostRuntime) -> Result<(), Fail> {
+    match follow_with_little_memory(&rt, rt.alloc()) {
+        Ok(()) => println!(rt; "nothing was refused")?,
+        Err(fault) => assert_eq!(rt; fault, TextFault::NoMemory),
+    }
+    Ok(())
+}
