@@ -378,7 +378,8 @@ impl NameWalk {
         self.skip(1);
         self.body(alloc, &lifted, body)?;
         self.own(alloc, words_before_name(shape), name)?;
-        self.add(lifted, NameKind::of_body(body), true)?;
+        let kind = NameKind::of_body(body);
+        self.add(lifted, kind, true)?;
         self.skip(words_from_name(shape));
         Ok(())
     }
