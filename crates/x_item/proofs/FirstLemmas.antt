@@ -10,8 +10,8 @@ use Rattle.x_item.specs.Cutting.{Role, opening, closing, semicolon, plain, depth
 pub total_counts : (d n : ℕ) (rs : List Role) → total (counts_from d n rs) ≡ n + length rs
 total_counts d n [] = refl
 total_counts d n (r ∷ rs) = by (ends_at d r) refl
-  (let t = total_counts 0 0 rs in omega (arith, t))
-  (let t = total_counts (depth_after d r) (n + 1) rs in omega (arith, t))
+    (let t = total_counts 0 0 rs in omega (arith, t))
+    (let t = total_counts (depth_after d r) (n + 1) rs in omega (arith, t))
   where
     by : (b : Bool) → ends_at d r ≡ b → total ((n + 1) ∷ counts_from 0 0 rs) ≡ n + suc (length rs) → total (counts_from (depth_after d r) (n + 1) rs) ≡ n + suc (length rs) → total (counts_from d n (r ∷ rs)) ≡ n + suc (length rs)
     by true e one other = ap total (cond-true (ends_at d r) ((n + 1) ∷ counts_from 0 0 rs) (counts_from (depth_after d r) (n + 1) rs) e) ∙ one

@@ -102,10 +102,10 @@ module _ (old new ins : List ℕ) (a b : ℕ) (change : IsEdit old new ins a b) 
   -- the tokens that go end where the old ones hold again
   rear : Rear a (old_place a b (length ins) is.place) (end_of ts patch.at) (drop patch.at ts)
   rear = rear_of a (old_place a b (length ins) is.place) (end_of ts patch.at) (drop patch.at ts) (λ some.
-    let d = length-drop patch.at ts in
-    let n = is.front.next (omega (arith, some, d)) in
-    let s = end_sum ts patch.at 1 in
-    omega (arith, n, s))
+      let d = length-drop patch.at ts in
+      let n = is.front.next (omega (arith, some, d)) in
+      let s = end_sum ts patch.at 1 in
+      omega (arith, n, s))
 
   gone_is : rear.gone ≡ patch.removed
   gone_is =
@@ -203,9 +203,9 @@ module _ (old new ins : List ℕ) (a b : ℕ) (change : IsEdit old new ins a b) 
     where
       place_le : is.place ≤ length new
       place_le = ⊎_elim
-        (λ h. let i = h.in_new.ends in let l = end_le_span us h.in_new.index in let t = span_tiles true new us is.tokens in omega (arith, i, l, t))
-        (λ e. omega (arith, e))
-        is.meeting.meets
+          (λ h. let i = h.in_new.ends in let l = end_le_span us h.in_new.index in let t = span_tiles true new us is.tokens in omega (arith, i, l, t))
+          (λ e. omega (arith, e))
+          is.meeting.meets
 
   -- the boundaries from there on
   pub shifted : (i : ℕ) → old_place a b (length ins) (end_of us (patch.at + length patch.fresh + i)) ≡ end_of ts (patch.at + patch.removed + i)

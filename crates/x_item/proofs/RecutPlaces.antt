@@ -94,46 +94,46 @@ module _ (old new ins : List ℕ) (a b : ℕ) (change : IsEdit old new ins a b) 
   old_before : (k start i : ℕ) → Keeps (items_of old ts) patch.at k start → i < length (items_of old ts) → (i < k) ↔ EndsBefore ts (items_of old ts) a i
   old_before k start i h lt = (
     λ less.
-      let w = h.within in
-      let s = before_strict (roles old ts) i (i + 1) (omega arith) (omega (arith, w)) in
-      let m = before_mono (items_of old ts) (i + 1) k (omega arith) in
-      let e = h.start_is in
-      let l = h.before in
-      let n = end_mono ts (tokens_before (items_of old ts) (i + 1)) patch.at (omega (arith, m, e, l)) in
-      let f = is.front.before (omega (arith, s, m, e, l)) in
-      record { whole = omega (arith, w); before = omega (arith, n, f) },
+        let w = h.within in
+        let s = before_strict (roles old ts) i (i + 1) (omega arith) (omega (arith, w)) in
+        let m = before_mono (items_of old ts) (i + 1) k (omega arith) in
+        let e = h.start_is in
+        let l = h.before in
+        let n = end_mono ts (tokens_before (items_of old ts) (i + 1)) patch.at (omega (arith, m, e, l)) in
+        let f = is.front.before (omega (arith, s, m, e, l)) in
+        record { whole = omega (arith, w); before = omega (arith, n, f) },
     λ ends. ⊎_elim (λ less. less) (λ le.
-      let w = ends.whole in
-      let n = h.next (omega (arith, w)) in
-      let m = before_mono (items_of old ts) (k + 1) (i + 1) (omega arith) in
-      let fits = before_fits old ts (i + 1) in
-      let f = is.front.next (omega (arith, n, m, fits)) in
-      let g = end_mono ts (patch.at + 1) (tokens_before (items_of old ts) (i + 1)) (omega (arith, n, m)) in
-      let d = ends.before in
-      absurd (omega (arith, f, g, d))) (cases_lt i k),
+        let w = ends.whole in
+        let n = h.next (omega (arith, w)) in
+        let m = before_mono (items_of old ts) (k + 1) (i + 1) (omega arith) in
+        let fits = before_fits old ts (i + 1) in
+        let f = is.front.next (omega (arith, n, m, fits)) in
+        let g = end_mono ts (patch.at + 1) (tokens_before (items_of old ts) (i + 1)) (omega (arith, n, m)) in
+        let d = ends.before in
+        absurd (omega (arith, f, g, d))) (cases_lt i k),
   )
 
   new_before : (k start i : ℕ) → Keeps (items_of new us) patch.at k start → i < length (items_of new us) → (i < k) ↔ EndsBefore us (items_of new us) a i
   new_before k start i h lt = (
     λ less.
-      let w = h.within in
-      let s = before_strict (roles new us) i (i + 1) (omega arith) (omega (arith, w)) in
-      let m = before_mono (items_of new us) (i + 1) k (omega arith) in
-      let e = h.start_is in
-      let l = h.before in
-      let n = end_mono us (tokens_before (items_of new us) (i + 1)) patch.at (omega (arith, m, e, l)) in
-      let same = front_end old new ins a b change ts tiles patch is patch.at (omega arith) in
-      let f = is.front.before (omega (arith, s, m, e, l)) in
-      record { whole = omega (arith, w); before = omega (arith, n, f, same) },
+        let w = h.within in
+        let s = before_strict (roles new us) i (i + 1) (omega arith) (omega (arith, w)) in
+        let m = before_mono (items_of new us) (i + 1) k (omega arith) in
+        let e = h.start_is in
+        let l = h.before in
+        let n = end_mono us (tokens_before (items_of new us) (i + 1)) patch.at (omega (arith, m, e, l)) in
+        let same = front_end old new ins a b change ts tiles patch is patch.at (omega arith) in
+        let f = is.front.before (omega (arith, s, m, e, l)) in
+        record { whole = omega (arith, w); before = omega (arith, n, f, same) },
     λ ends. ⊎_elim (λ less. less) (λ le.
-      let w = ends.whole in
-      let n = h.next (omega (arith, w)) in
-      let m = before_mono (items_of new us) (k + 1) (i + 1) (omega arith) in
-      let fits = before_fits new us (i + 1) in
-      let f = late_new old new ins a b change ts tiles patch is (omega (arith, n, m, fits)) in
-      let g = end_mono us (patch.at + 1) (tokens_before (items_of new us) (i + 1)) (omega (arith, n, m)) in
-      let d = ends.before in
-      absurd (omega (arith, f, g, d))) (cases_lt i k),
+        let w = ends.whole in
+        let n = h.next (omega (arith, w)) in
+        let m = before_mono (items_of new us) (k + 1) (i + 1) (omega arith) in
+        let fits = before_fits new us (i + 1) in
+        let f = late_new old new ins a b change ts tiles patch is (omega (arith, n, m, fits)) in
+        let g = end_mono us (patch.at + 1) (tokens_before (items_of new us) (i + 1)) (omega (arith, n, m)) in
+        let d = ends.before in
+        absurd (omega (arith, f, g, d))) (cases_lt i k),
   )
 
   -- the start of an item of the new text, behind the fresh tokens
@@ -180,16 +180,16 @@ module _ (old new ins : List ℕ) (a b : ℕ) (change : IsEdit old new ins a b) 
 
       far : patch.at + length patch.fresh ≤ here
       far = ⊎_elim
-        (λ lt.
-        let among : patch.at + patch.removed ≤ length ts = is.among in
-        let p = patched_length ts patch is.among in
-        let s = end_strict new us here (patch.at + length patch.fresh) is.tokens lt (omega (arith, p, among)) in
-        let e = h.in_new.starts in
-        let q = new_end old new ins a b change ts tiles patch is in
-        let late = h.late in
-        absurd (omega (arith, s, e, q, late)))
-        (λ le. le)
-        (cases_lt here (patch.at + length patch.fresh))
+          (λ lt.
+          let among : patch.at + patch.removed ≤ length ts = is.among in
+          let p = patched_length ts patch is.among in
+          let s = end_strict new us here (patch.at + length patch.fresh) is.tokens lt (omega (arith, p, among)) in
+          let e = h.in_new.starts in
+          let q = new_end old new ins a b change ts tiles patch is in
+          let late = h.late in
+          absurd (omega (arith, s, e, q, late)))
+          (λ le. le)
+          (cases_lt here (patch.at + length patch.fresh))
 
       ends : there ≡ patch.at + patch.removed + (here - (patch.at + length patch.fresh))
       ends =
@@ -207,20 +207,20 @@ module _ (old new ins : List ℕ) (a b : ℕ) (change : IsEdit old new ins a b) 
 
       there_none : is_line_start new place ≡ true → patch.at + patch.removed + (here - (patch.at + length patch.fresh)) ≡ 0
       there_none line = ⊎_elim
-        (λ some.
-        let e = ends in
-        let no = item_line old ts j tiles h.in_old.within (omega (arith, some, e)) in
-        absurd (true≢false (sym line ∙ sym h.agrees.starts ∙ ap (is_line_start old) (sym h.in_old.starts) ∙ no)))
-        (λ le. let r : patch.at + patch.removed + (here - (patch.at + length patch.fresh)) ≡ 0 = omega arith in r)
-        (cases_lt 0 (patch.at + patch.removed + (here - (patch.at + length patch.fresh))))
+          (λ some.
+          let e = ends in
+          let no = item_line old ts j tiles h.in_old.within (omega (arith, some, e)) in
+          absurd (true≢false (sym line ∙ sym h.agrees.starts ∙ ap (is_line_start old) (sym h.in_old.starts) ∙ no)))
+          (λ le. let r : patch.at + patch.removed + (here - (patch.at + length patch.fresh)) ≡ 0 = omega arith in r)
+          (cases_lt 0 (patch.at + patch.removed + (here - (patch.at + length patch.fresh))))
 
       here_none : is_line_start old (old_place a b (length ins) place) ≡ true → here ≡ 0
       here_none line = ⊎_elim
-        (λ some.
-        let no = item_line new us i is.tokens h.in_new.within some in
-        absurd (true≢false (sym line ∙ h.agrees.starts ∙ ap (is_line_start new) (sym h.in_new.starts) ∙ no)))
-        (λ le. let r : here ≡ 0 = omega arith in r)
-        (cases_lt 0 here)
+          (λ some.
+          let no = item_line new us i is.tokens h.in_new.within some in
+          absurd (true≢false (sym line ∙ h.agrees.starts ∙ ap (is_line_start new) (sym h.in_new.starts) ∙ no)))
+          (λ le. let r : here ≡ 0 = omega arith in r)
+          (cases_lt 0 here)
 
   module _ (k start : ℕ) (keeps : Keeps (items_of old ts) patch.at k start) where
     abbrev end_place : List ℕ → ℕ
@@ -286,18 +286,18 @@ module _ (old new ins : List ℕ) (a b : ℕ) (change : IsEdit old new ins a b) 
     new_order i j lt there = (
       λ le. end_mono us (tokens_before (items_of new us) j) (tokens_before (items_of new us) i) (before_mono (items_of new us) j i le),
       λ le. ⊎_elim (λ less.
-        let s = before_strict (roles new us) i j less there in
-        let e = end_strict new us (tokens_before (items_of new us) i) (tokens_before (items_of new us) j) is.tokens s (before_fits new us j) in
-        absurd (omega (arith, e, le))) (λ ge. ge) (cases_lt i j),
+          let s = before_strict (roles new us) i j less there in
+          let e = end_strict new us (tokens_before (items_of new us) i) (tokens_before (items_of new us) j) is.tokens s (before_fits new us j) in
+          absurd (omega (arith, e, le))) (λ ge. ge) (cases_lt i j),
     )
 
     old_order : (i j : ℕ) → i < length (items_of old ts) → j < length (items_of old ts) → (j ≤ i) ↔ (start_of ts (items_of old ts) j ≤ start_of ts (items_of old ts) i)
     old_order i j lt there = (
       λ le. end_mono ts (tokens_before (items_of old ts) j) (tokens_before (items_of old ts) i) (before_mono (items_of old ts) j i le),
       λ le. ⊎_elim (λ less.
-        let s = before_strict (roles old ts) i j less there in
-        let e = end_strict old ts (tokens_before (items_of old ts) i) (tokens_before (items_of old ts) j) tiles s (before_fits old ts j) in
-        absurd (omega (arith, e, le))) (λ ge. ge) (cases_lt i j),
+          let s = before_strict (roles old ts) i j less there in
+          let e = end_strict old ts (tokens_before (items_of old ts) i) (tokens_before (items_of old ts) j) tiles s (before_fits old ts j) in
+          absurd (omega (arith, e, le))) (λ ge. ge) (cases_lt i j),
     )
 
     -- the items that are recut
