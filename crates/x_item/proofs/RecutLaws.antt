@@ -1,8 +1,8 @@
 -- There is one patch for the items.
-use Rattle.std.proofs.Common.{◌≡◌, ℕ, ◌+◌, ◌-◌, ◌<◌, ◌≤◌, ◌⊎◌, ⊎_elim, List, ◌++◌, length, take, drop, Option, None, Some, refl, sym, ap, subst, ◌∙◌, arith}
+use Rattle.std.proofs.Common.{◌≡◌, ℕ, ◌+◌, ◌<◌, ◌≤◌, ⊎_elim, List, ◌++◌, length, take, drop, Option, None, Some, refl, sym, ap, subst, ◌∙◌, arith}
 use Rattle.std.specs.Prelude.{◌↔◌, option_map}
 use Rattle.std.specs.List.{splice}
-use Rattle.std.proofs.lemmas.Bool.{cases_lt, cases_order}
+use Rattle.std.proofs.lemmas.Bool.{cases_order}
 use Rattle.std.proofs.lemmas.List.{append_cancel_left, append_cancel_right}
 use Rattle.x_lex.specs.declared.kind.Kind.{Kind}
 use Rattle.x_lex.specs.TokenList.{TokenPatch}
@@ -12,7 +12,7 @@ use Rattle.x_lex.specs.Relex.{old_place}
 use Rattle.x_lex.proofs.MeetingLemmas.{same_meeting}
 use Rattle.x_item.specs.declared.entry.Entry.{Entry}
 use Rattle.x_item.specs.ItemList.{ItemChange, counts, patched, tokens_before}
-use Rattle.x_item.specs.Recut.{Change, IsRelexed, IsItemPatch, IsRejoining, IsBehind, EndsBefore, Rejoins, AreOne, start_of}
+use Rattle.x_item.specs.Recut.{Change, IsRelexed, IsItemPatch, IsRejoining, IsBehind, EndsBefore, AreOne, start_of}
 use Rattle.x_item.proofs.CountLemmas.{counts-splice}
 use Rattle.x_item.proofs.CuttingLemmas.{same_cut}
 

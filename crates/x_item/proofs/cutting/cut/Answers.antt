@@ -1,12 +1,11 @@
-use Rattle.std.proofs.Common.{◌≡◌, ◌+◌, ◌≤◌, [], ◌∷◌, ◌++◌, length, sym, ap, subst, ◌∙◌, arith}
+use Rattle.std.proofs.Common.{◌+◌, sym, subst}
 use Rattle.std.specs.Prelude.{All}
 use Rattle.std.proofs.lemmas.List.Elements.{All-push}
 use Rattle.std.proofs.lemmas.Result.{IfOk-weaker}
-use Rattle.x_text.specs.declared.source.TheConstants.{MAX_TEXT}
 use Rattle.x_lex.specs.Places.{lexeme, lexemes}
 use Rattle.x_item.specs.declared.entry.Entry.{Entry}
 use Rattle.x_item.specs.Items.{IsCut}
-use Rattle.x_item.specs.ItemList.{counts, AreOfText}
+use Rattle.x_item.specs.ItemList.{counts}
 use Rattle.x_item.proofs.CutRun.{cutting_end, cutting_all, cutting_fits, counts_pushed}
 use Rattle.x_item.proofs.cutting.cut.Goals as goal
 

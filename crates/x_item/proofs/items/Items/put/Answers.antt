@@ -1,6 +1,6 @@
 use Rattle.std.proofs.Common.{◌≡◌, ◌+◌, length, ap, ◌∙◌, arith}
 use Rattle.std.specs.List.{splice}
-use Rattle.x_item.specs.ItemList.{counts, total, tokens_before, patched, AreSeated}
+use Rattle.x_item.specs.ItemList.{counts, total, tokens_before, patched}
 use Rattle.x_item.proofs.CountLemmas.{total_put, seated_put}
 use Rattle.x_item.proofs.items.Items.put.Goals as goal
 
