@@ -15,7 +15,7 @@ fn definition_of(rt: &impl Abort, alloc: Global, text: &[u8]) -> Result<Definiti
 /// A declared name: its word, what it is declared as, and whether it is lifted.
 type Declared = (&'static str, usize, NameKind, bool);
 
-const DECLARED: [(&str, &[Declared]); 12] = [
+const DECLARED: [(&str, &[Declared]); 16] = [
     ("const A = B;", &[("A", 1, NameKind::Constant, false)]),
     ("typedef void;", &[]),
     (
@@ -79,6 +79,43 @@ const DECLARED: [(&str, &[Declared]); 12] = [
         "program P { version V { struct { int a; } F(enum { A }) = 1; } = 1; } = 2;",
         &[("P", 1, NameKind::Program, false)],
     ),
+    (
+        "struct s { string x<>; opaque y[2]; struct t *z; hyper h<>; unsigned long v[N]; struct { int a; } b[M]; };",
+        &[
+            ("s", 1, NameKind::Struct, false),
+            ("s_b", 37, NameKind::Struct, true),
+        ],
+    ),
+    (
+        "typedef enum { t = 1 } t;",
+        &[
+            ("t", 3, NameKind::Constant, false),
+            ("t", 7, NameKind::Typedef, false),
+            ("t_t", 7, NameKind::Enum, true),
+        ],
+    ),
+    (
+        "struct s { struct { struct { int a; } c; } b; struct { int a; } b_c; };",
+        &[
+            ("s", 1, NameKind::Struct, false),
+            ("s_b_c", 11, NameKind::Struct, true),
+            ("s_b", 14, NameKind::Struct, true),
+            ("s_b_c", 22, NameKind::Struct, true),
+        ],
+    ),
+    (
+        "typedef struct { union switch (enum { A } d) { case A: enum { B } x; default: struct { int i; } *y; } u; } t[3];",
+        &[
+            ("A", 8, NameKind::Constant, false),
+            ("t_t_u_d", 10, NameKind::Enum, true),
+            ("B", 18, NameKind::Constant, false),
+            ("t_t_u_x", 20, NameKind::Enum, true),
+            ("t_t_u_y", 31, NameKind::Struct, true),
+            ("t_t_u", 34, NameKind::Union, true),
+            ("t", 37, NameKind::Typedef, false),
+            ("t_t", 37, NameKind::Struct, true),
+        ],
+    ),
 ];
 
 #[test]
@@ -100,7 +137,7 @@ fn declares_names_in_the_order_of_words(rt: HostRuntime) -> Result<(), Fail> {
 /// A mention: its word, what the name is used as, and the keyword in front of it.
 type Mentioned = (&'static str, usize, Use, Option<Tag>);
 
-const MENTIONED: [(&str, &[Mentioned]); 12] = [
+const MENTIONED: [(&str, &[Mentioned]); 16] = [
     ("const A = 1;", &[]),
     ("const A = B;", &[("B", 3, Use::Value, None)]),
     ("typedef void;", &[]),
@@ -149,6 +186,46 @@ const MENTIONED: [(&str, &[Mentioned]); 12] = [
             ("b", 9, Use::ByValue, None),
             ("c", 12, Use::ByValue, Some(Tag::Struct)),
             ("f", 42, Use::ByValue, None),
+        ],
+    ),
+    (
+        "struct s { enum { A = N } x[M]; };",
+        &[("N", 7, Use::Value, None), ("M", 11, Use::Value, None)],
+    ),
+    (
+        "struct s { t *a; t b<>; t c<N>; t d[N]; t e; string f<N>; opaque g[N]; opaque h<>; };",
+        &[
+            ("t", 3, Use::Link, None),
+            ("t", 7, Use::Link, None),
+            ("t", 12, Use::Link, None),
+            ("N", 15, Use::Value, None),
+            ("t", 18, Use::ByValue, None),
+            ("N", 21, Use::Value, None),
+            ("t", 24, Use::ByValue, None),
+            ("N", 30, Use::Value, None),
+            ("N", 36, Use::Value, None),
+        ],
+    ),
+    (
+        "typedef union switch (struct t d) { case FALSE: void; case A: opaque q<K>; default: u *v; } w<N>;",
+        &[
+            ("t", 5, Use::ByValue, Some(Tag::Struct)),
+            ("FALSE", 10, Use::Value, None),
+            ("A", 15, Use::Value, None),
+            ("K", 20, Use::Value, None),
+            ("u", 25, Use::Link, None),
+            ("N", 32, Use::Value, None),
+        ],
+    ),
+    (
+        "program P { version V { t F(struct u, union v, enum w) = 1; void G(string) = 2; union switch (d e) { case C: f g; } H(h) = 3; } = 1; version W { i J(void) = 1; } = 2; } = 3;",
+        &[
+            ("t", 6, Use::ByValue, None),
+            ("u", 10, Use::ByValue, Some(Tag::Struct)),
+            ("v", 13, Use::ByValue, Some(Tag::Union)),
+            ("w", 16, Use::ByValue, Some(Tag::Enum)),
+            ("h", 45, Use::ByValue, None),
+            ("i", 57, Use::ByValue, None),
         ],
     ),
 ];

@@ -62,7 +62,7 @@ fn expect_items_of(
 /// is taken back.
 type Row = (&'static [u8], usize, usize, &'static [u8], usize, usize);
 
-const ROWS: [Row; 10] = [
+const ROWS: [Row; 23] = [
     (b"x;\n%y", 2, 3, b"", 2, 2),
     (b"struct s { int a; const B = 2;", 18, 18, b"}; ", 3, 1),
     (
@@ -87,6 +87,19 @@ const ROWS: [Row; 10] = [
     (b"x;y;z;", 3, 4, b"", 1, 2),
     (b"x;", 0, 2, b"", 1, 2),
     (b"", 0, 0, b"", 0, 0),
+    (b"x;y;", 0, 0, b"", 0, 0),
+    (b"x;y;", 4, 4, b"", 1, 1),
+    (b"x;y;", 0, 2, b"", 1, 2),
+    (b"x;\ny;", 0, 3, b"", 1, 2),
+    (b"x;y;", 2, 2, b"\n", 2, 2),
+    (b"x; y;", 3, 3, b"z", 1, 1),
+    (b"x;\n", 2, 3, b"", 2, 2),
+    (b"a{;b;}c;d;", 1, 2, b"", 3, 1),
+    (b"a;b;c", 0, 0, b"{", 1, 3),
+    (b"a;/*b;c;*/d;", 8, 10, b"", 1, 2),
+    (b"x;\n%y;\nz;", 2, 3, b"", 3, 2),
+    (b"x;y;", 4, 4, b"z", 2, 2),
+    (b"", 0, 0, b";;", 3, 1),
 ];
 
 /// Carries the edit of a row out and takes it back, each time comparing the items with those of the whole text.
