@@ -1,4 +1,5 @@
-//! The definitions of a `.x` file: their trees, how they are spelled, and [`spell_law`], by which no two have one spelling.
+//! The items and definitions of a `.x` file: [`cut`] finds the items that the tokens of a text are, [`recut`] what an edit does to
+//! them, and definitions have trees, spellings and [`spell_law`], by which no two have one spelling.
 #![tactic(auto)]
 
 mod cutter;
