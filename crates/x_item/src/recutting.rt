@@ -46,6 +46,7 @@ pub fn recut<K: Default + Drop>(
         if behind <= index {
             let target = old_behind + (index - behind);
             (back, back_index) = items.advance(back, back_index, target);
+            // The start of a text is a line start, and a place behind a `;` is none: they don't agree.
             if back_index == target && (index == 0) == (target == 0) {
                 return Ok(ItemPatch::new(kept, back - kept, start, fresh));
             }
