@@ -11,6 +11,6 @@ returns c =
     let body = view_body c.args.body.now in
     let lifted = c.in_ok-lifted.lifted.items in
     let inside : Names c.skip.new.self c.body.new.self (length (spell_body body)) (λ k. by_body lifted k body) = rw c.deref.ensures.value at c.in_ok-body.ensures in
-    covers_typedef c.args.name.now lifted body (view_shape c.args.shape.now) c.of_body.result c.words_before_name.result c.words_from_name.result
-    c.in_ok-lifted.ensures c.of_body.ensures c.words_before_name.ensures (c.words_from_name.ensures c.args.name.now)
+    covers_typedef c.args.name.now lifted body (view_shape c.args.shape.now) c.of_body-kind.result c.words_before_name.result c.words_from_name.result
+    c.in_ok-lifted.ensures c.of_body-kind.ensures c.words_before_name.ensures (c.words_from_name.ensures c.args.name.now)
     c.skip.ensures inside c.in_ok-own.ensures c.in_ok-add.ensures c.skip-2.ensures
