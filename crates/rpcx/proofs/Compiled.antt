@@ -6,13 +6,14 @@ use Rattle.x_lex.specs.declared.kind.Kind.{Kind}
 use Rattle.x_lex.specs.Places.{Lexeme, lexemes_from, lexemes}
 use Rattle.x_lex.specs.Tiling.{AreTokens}
 use Rattle.x_lex.proofs.TilingLemmas.{same_tiles}
-use Rattle.rpcx.proofs.OneLemmas.{one_cut, one_parse}
-use Rattle.rpcx.specs.Parse.{Parse, IsParse, view_parsed}
-use Rattle.rpcx.specs.Items.{AreItems, joined}
-use Rattle.rpcx.specs.Cut.{AreEach, IsCut}
-use Rattle.std.proofs.Math.Seq.{take-append_seam, drop-append_seam}
+use Rattle.x_item.specs.Parse.{Parse, IsParse}
+use Rattle.x_item.specs.Items.{AreItems, joined, IsCut}
+use Rattle.x_item.proofs.ParseLaws.{one_parse}
+use Rattle.x_item.proofs.CuttingLemmas.{same_cut}
+use Rattle.rpcx.specs.Cut.{AreEach, AreParsed}
+use Rattle.rpcx.proofs.ItemLemmas.{take_part, drop_part}
 use Rattle.rpcx.specs.Names.{first_declarer}
-use Rattle.rpcx.specs.Kept.{view_item, kept_definition}
+use Rattle.rpcx.specs.Kept.{view_item, view_parse, kept_definition}
 use Rattle.rpcx.specs.Compile.{Item, parts, definitions_of, definition_at, first_of, faults_from, faults_of, tokens_of, IsCompilation, AreParses}
 use Rattle.rpcx.specs.Header.{body_from, body_of}
 use Rattle.rpcx.specs.declared.item.Item as rust
@@ -54,12 +55,6 @@ definition_found tokens items index =
     by None = refl
     by (Some i) = refl
 
-take_part : (part rest : List Lexeme) (n : ℕ) → n ≡ length part → take n (part ++ rest) ≡ part
-take_part part rest n e = ap (λ k. take k (part ++ rest)) e ∙ take-append_seam part rest
-
-drop_part : (part rest : List Lexeme) (n : ℕ) → n ≡ length part → drop n (part ++ rest) ≡ rest
-drop_part part rest n e = ap (λ k. drop k (part ++ rest)) e ∙ drop-append_seam part rest
-
 -- the items by their numbers of tokens are those that were cut
 pub parts_are : (ps : List (List Lexeme)) (items : List rust.Item) (tokens : List Lexeme) → joined ps ≡ tokens → AreEach ps items → map (λ i. i.tokens) (parts tokens (map view_item items)) ≡ ps
 parts_are [] [] tokens e each = refl
@@ -78,15 +73,35 @@ parses_are (p ∷ ps) [] tokens e each = absurd each
 parses_are (p ∷ ps) (i ∷ is) tokens e each =
     let first : take i.tokens tokens ≡ p = ap (take i.tokens) (sym e) ∙ take_part p (joined ps) i.tokens each.0.count in
     let rest : drop i.tokens tokens ≡ joined ps = ap (drop i.tokens) (sym e) ∙ drop_part p (joined ps) i.tokens each.0.count in
-    (subst (λ part. IsParse part (view_parsed i.parsed)) (sym first) each.0.parsed, parses_are ps is (drop i.tokens tokens) (sym rest) each.1)
+    (subst (λ part. IsParse part (view_parse i.parse)) (sym first) each.0.parsed, parses_are ps is (drop i.tokens tokens) (sym rest) each.1)
 
-pub compiles : (text : List ℕ) (tokens : List (Kind × ℕ)) (items : List rust.Item) → AreTokens text tokens → IsCut (lexemes text tokens) items
+pub compiles : (text : List ℕ) (tokens : List (Kind × ℕ)) (items : List rust.Item) → AreTokens text tokens → AreParsed (lexemes text tokens) items
     → IsCompilation text tokens (parts (lexemes text tokens) (map view_item items))
 compiles text tokens items are cut = record {
   are_tokens = are;
   are_items = subst (λ ps. AreItems (lexemes text tokens) ps) (sym (parts_are cut.parts items (lexemes text tokens) cut.are.all cut.each)) cut.are;
   are_parses = parses_are cut.parts items (lexemes text tokens) cut.are.all cut.each;
 }
+
+-- lists of as many elements each, joined to one list, are the same
+same_parts : (xs ys : List (List Lexeme)) → map length xs ≡ map length ys → joined xs ≡ joined ys → xs ≡ ys
+same_parts [] [] e j = refl
+same_parts [] (y ∷ ys) e j = absurd (cc)
+same_parts (x ∷ xs) [] e j = absurd (cc)
+same_parts (x ∷ xs) (y ∷ ys) e j =
+    let count : length x ≡ length y = cc in
+    let counts : map length xs ≡ map length ys = cc in
+    let first : x ≡ y = sym (take_part x (joined xs) (length y) (sym count)) ∙ ap (take (length y)) j ∙ take_part y (joined ys) (length y) refl in
+    let rest : joined xs ≡ joined ys = sym (drop_part x (joined xs) (length y) (sym count)) ∙ ap (drop (length y)) j ∙ drop_part y (joined ys) (length y) refl in
+    let others = same_parts xs ys counts rest in
+    λ k. first k ∷ others k
+
+-- tokens have one list of items
+one_cut : (tokens : List Lexeme) (xs ys : List (List Lexeme)) → AreItems tokens xs → AreItems tokens ys → xs ≡ ys
+one_cut tokens xs ys h k =
+    let left : IsCut tokens (map length xs) = record { items = xs; are = h; lengths = refl } in
+    let right : IsCut tokens (map length ys) = record { items = ys; are = k; lengths = refl } in
+    same_parts xs ys (same_cut tokens (map length xs) (map length ys) left right) (h.all ∙ sym k.all)
 
 -- items with the same tokens have the same parses
 same_items : (is js : List Item) → map (λ i. i.tokens) is ≡ map (λ i. i.tokens) js → AreParses is → AreParses js → is ≡ js

@@ -1,169 +1,112 @@
--- Cutting tokens into items, token by token.
-use Rattle.std.proofs.Common.{◌≡◌, ℕ, ◌+◌, ◌-◌, ◌≤◌, Bool, true, false, cond, List, [], ◌∷◌, ◌++◌, length, count_by, refl, ap, sym, ◌∙◌, subst, append_assoc, arith, ◌⊎◌, inl, inr, ⊎_elim, true≢false}
-use Rattle.std.specs.Str.{bytes_eq}
-use Rattle.std.proofs.lemmas.List.{append-nil}
-use Rattle.std.proofs.lemmas.List.Sums.{sum_by-append, count_by-le-length}
-use Rattle.std.proofs.lemmas.Grind.{flat_map-append}
-use Rattle.std.proofs.lemmas.Slice.Eq.{bytes_eq-Decides}
-use Rattle.x_lex.specs.declared.kind.Kind.{Kind}
-use Rattle.x_lex.specs.declared.kind.Kind.TheVariants as kinds
+-- Items that are parsed one after another.
+use Rattle.std.proofs.Common.{◌≡◌, ℕ, zero, suc, ◌+◌, ◌<◌, ◌≤◌, inl, inr, List, [], ◌∷◌, ◌++◌, length, map, take, drop, refl, ap, sym, ◌∙◌, subst, append_assoc, arith}
+use Rattle.std.proofs.lemmas.List.{append-nil, length_push, length-append}
+use Rattle.std.proofs.Math.Seq.{take-append_seam, drop-append_seam}
+use Rattle.x_text.specs.Counts.{Counts, raised}
 use Rattle.x_lex.specs.Places.{Lexeme}
-use Rattle.rpcx.specs.Items.{is_punct, is_open, is_close, depth, Ends, HasNoEnd, IsWhole, AreWhole, joined, AreItems}
+use Rattle.x_item.specs.Parse.{Fault, IsParse}
+use Rattle.x_item.specs.Items.{AreItems, joined, IsCut}
+use Rattle.x_item.specs.declared.fault.FaultCode.{FaultCode}
+use Rattle.rpcx.specs.Cut.{IsItem, AreEach, AreParsed}
+use Rattle.rpcx.specs.declared.item.Item.{Item}
 
--- one mark of punctuation is no other
-no_other : (k : Kind) (t : List ℕ) → is_punct 123 k t ≡ true → is_punct 125 k t ≡ false
-no_other kinds.Punct t h =
-    let is : t ≡ 123 ∷ [] = (bytes_eq-Decides t (123 ∷ [])).0 h in
-    ap (λ x. bytes_eq x (125 ∷ [])) is
-no_other k t h = absurd (true≢false (sym h))
+-- these items are of the first parts of all tokens; parts with so many tokens are left, and the tokens of these
+pub record HasParsed (all left : List Lexeme) (counts : List ℕ) (items : List Item) : Type 0 where
+  pub parts : List (List Lexeme)
+  pub are : AreItems all parts
+  pub done : List (List Lexeme)
+  pub rest : List (List Lexeme)
+  pub split : done ++ rest ≡ parts
+  pub each : AreEach done items
+  pub left_is : left ≡ joined rest
+  pub counts_are : counts ≡ map length rest
 
-close_if_open : (t : Lexeme) → is_open t ≡ true → is_close t ≡ false
-close_if_open t h = no_other t.kind t.text h
+each_push : (parts : List (List Lexeme)) (items : List Item) (part : List Lexeme) (item : Item) → AreEach parts items → IsItem part item → AreEach (parts ++ part ∷ []) (items ++ item ∷ [])
+each_push [] [] part item each this = (this, tt)
+each_push [] (x ∷ items) part item each this = absurd each
+each_push (p ∷ parts) [] part item each this = absurd each
+each_push (p ∷ parts) (x ∷ items) part item each this = (each.0, each_push parts items part item each.1 this)
 
-open_if_close : (t : Lexeme) → is_close t ≡ true → is_open t ≡ false
-open_if_close t h = turned (is_open t) refl
+pub take_part : (part rest : List Lexeme) (n : ℕ) → n ≡ length part → take n (part ++ rest) ≡ part
+take_part part rest n e = ap (λ k. take k (part ++ rest)) e ∙ take-append_seam part rest
+
+pub drop_part : (part rest : List Lexeme) (n : ℕ) → n ≡ length part → drop n (part ++ rest) ≡ rest
+drop_part part rest n e = ap (λ k. drop k (part ++ rest)) e ∙ drop-append_seam part rest
+
+-- no item is parsed yet
+pub parsed_none : (all left : List Lexeme) (counts : List ℕ) → IsCut all counts → left ≡ all → HasParsed all left counts []
+parsed_none all left counts cut is = record {
+  parts = cut.items;
+  are = cut.are;
+  done = [];
+  rest = cut.items;
+  split = refl;
+  each = tt;
+  left_is = is ∙ sym cut.are.all;
+  counts_are = cut.lengths;
+}
+
+-- the parts that are left, by how many tokens they have
+data Front (left : List Lexeme) (n : ℕ) (counts : List ℕ) (rest : List (List Lexeme)) : Type 0 where
+  Some : (part : List Lexeme) (others : List (List Lexeme)) → rest ≡ part ∷ others → n ≡ length part → counts ≡ map length others
+      → take n left ≡ part → drop n left ≡ joined others → Front left n counts rest
+
+front : (left : List Lexeme) (n : ℕ) (counts : List ℕ) (rest : List (List Lexeme)) → left ≡ joined rest → n ∷ counts ≡ map length rest → Front left n counts rest
+front left n counts [] is e = absurd (cc)
+front left n counts (part ∷ others) is e =
+    let count : n ≡ length part = cc in
+    let more : counts ≡ map length others = cc in
+    Some part others refl count more (ap (take n) is ∙ take_part part (joined others) n count) (ap (drop n) is ∙ drop_part part (joined others) n count)
+
+-- one item more
+pub parsed_more : (all left : List Lexeme) (n : ℕ) (counts : List ℕ) (items : List Item) (item : Item) → HasParsed all left (n ∷ counts) items → IsItem (take n left) item
+    → HasParsed all (drop n left) counts (items ++ item ∷ [])
+parsed_more all left n counts items item h this = by (front left n counts h.rest h.left_is h.counts_are)
   where
-    turned : (b : Bool) → b ≡ is_open t → b ≡ false
-    turned true e = absurd (true≢false (sym h ∙ close_if_open t (sym e)))
-    turned false e = refl
+    by : Front left n counts h.rest → HasParsed all (drop n left) counts (items ++ item ∷ [])
+    by (Some part others rest_is count counts_are taken dropped) = record {
+      parts = h.parts;
+      are = h.are;
+      done = h.done ++ part ∷ [];
+      rest = others;
+      split = append_assoc h.done (part ∷ []) others ∙ ap (λ ps. h.done ++ ps) (sym rest_is) ∙ h.split;
+      each = each_push h.done items part item h.each (subst (λ ts. IsItem ts item) taken this);
+      left_is = dropped;
+      counts_are = counts_are;
+    }
 
-count_at : (b : Bool) → ℕ
-count_at b = cond b 1 0
+no_more : (rest : List (List Lexeme)) → [] ≡ map length rest → rest ≡ []
+no_more [] e = refl
+no_more (p ∷ ps) e = absurd (cc)
 
-count_push : (p : Lexeme → Bool) (ts : List Lexeme) (t : Lexeme) (b : Bool) → p t ≡ b → count_by p (ts ++ t ∷ []) ≡ count_by p ts + cond b 1 0
-count_push p ts t b is = sum_by-append (λ x. cond (p x) 1 0) ts (t ∷ []) ∙ ap (λ (x : Bool). count_by p ts + (0 + cond x 1 0)) is ∙ omega arith
-
--- the depth one token on
-pub depth-open : (ts : List Lexeme) (t : Lexeme) → is_open t ≡ true → depth (ts ++ t ∷ []) ≡ depth ts + 1
-depth-open [] t h =
-    let opens : count_by is_open (t ∷ []) ≡ 1 = count_push is_open [] t true h in
-    let closes : count_by is_close (t ∷ []) ≡ 0 = count_push is_close [] t false (close_if_open t h) in
-    omega arith
-depth-open (x ∷ ts) t h =
-    let opens : count_by is_open (x ∷ ts ++ t ∷ []) ≡ count_by is_open (x ∷ ts) + 1 = count_push is_open (x ∷ ts) t true h in
-    let closes : count_by is_close (x ∷ ts ++ t ∷ []) ≡ count_by is_close (x ∷ ts) + 0 = count_push is_close (x ∷ ts) t false (close_if_open t h) in
-    let rest : depth (ts ++ t ∷ []) ≡ depth ts + 1 = depth-open ts t h in
-    omega arith
-
-pub depth-close : (ts : List Lexeme) (t : Lexeme) → is_close t ≡ true → depth (ts ++ t ∷ []) ≡ depth ts - 1
-depth-close [] t h =
-    let opens : count_by is_open (t ∷ []) ≡ 0 = count_push is_open [] t false (open_if_close t h) in
-    omega arith
-depth-close (x ∷ ts) t h =
-    let opens : count_by is_open (x ∷ ts ++ t ∷ []) ≡ count_by is_open (x ∷ ts) + 0 = count_push is_open (x ∷ ts) t false (open_if_close t h) in
-    let closes : count_by is_close (x ∷ ts ++ t ∷ []) ≡ count_by is_close (x ∷ ts) + 1 = count_push is_close (x ∷ ts) t true h in
-    let rest : depth (ts ++ t ∷ []) ≡ depth ts - 1 = depth-close ts t h in
-    omega arith
-
-pub depth-other : (ts : List Lexeme) (t : Lexeme) → is_open t ≡ false → is_close t ≡ false → depth (ts ++ t ∷ []) ≡ depth ts
-depth-other [] t o h =
-    let opens : count_by is_open (t ∷ []) ≡ 0 = count_push is_open [] t false o in
-    omega arith
-depth-other (x ∷ ts) t o h =
-    let opens : count_by is_open (x ∷ ts ++ t ∷ []) ≡ count_by is_open (x ∷ ts) + 0 = count_push is_open (x ∷ ts) t false o in
-    let closes : count_by is_close (x ∷ ts ++ t ∷ []) ≡ count_by is_close (x ∷ ts) + 0 = count_push is_close (x ∷ ts) t false h in
-    let rest : depth (ts ++ t ∷ []) ≡ depth ts = depth-other ts t o h in
-    omega arith
-
--- the same, of a number that is the depth
-pub deeper : (n : ℕ) (ts : List Lexeme) (t : Lexeme) → n ≡ depth ts → is_open t ≡ true → n + 1 ≡ depth (ts ++ t ∷ [])
-deeper n ts t is h = ap (λ x. x + 1) is ∙ sym (depth-open ts t h)
-
-pub shallower : (n : ℕ) (ts : List Lexeme) (t : Lexeme) → n ≡ depth ts → is_close t ≡ true → n - 1 ≡ depth (ts ++ t ∷ [])
-shallower n ts t is h = ap (λ x. x - 1) is ∙ sym (depth-close ts t h)
-
-pub as_deep : (n : ℕ) (ts : List Lexeme) (t : Lexeme) → n ≡ depth ts → is_open t ≡ false → is_close t ≡ false → n ≡ depth (ts ++ t ∷ [])
-as_deep n ts t is o h = is ∙ sym (depth-other ts t o h)
-
-pub ruleset depths = (deeper, shallower, as_deep)
-
--- the depth is at most the number of tokens
-pub depth-le-length : (ts : List Lexeme) → depth ts ≤ length ts
-depth-le-length [] = omega arith
-depth-le-length (t ∷ ts) =
-    let opens : count_by is_open (t ∷ ts) ≤ length (t ∷ ts) = count_by-le-length is_open (t ∷ ts) in
-    let rest : depth ts ≤ length ts = depth-le-length ts in
-    omega arith
-
--- the tokens that were seen are whole items, and then a part that has no end
-pub record Cuts (seen : List Lexeme) (whole : List (List Lexeme)) (part : List Lexeme) : Type 0 where
-  pub all : joined whole ++ part ≡ seen
-  pub each : AreWhole whole
-  pub rest : HasNoEnd part
-
-same_cons : {x y : Lexeme} {xs ys : List Lexeme} → x ≡ y → xs ≡ ys → x ∷ xs ≡ y ∷ ys
-same_cons {x} {y} {xs} {ys} h t = ap (λ z. z ∷ xs) h ∙ ap (λ zs. y ∷ zs) t
-
-pub same_head : {x y : Lexeme} {xs ys : List Lexeme} → x ∷ xs ≡ y ∷ ys → x ≡ y
-same_head e = cc
-
-pub same_tail : {x y : Lexeme} {xs ys : List Lexeme} → x ∷ xs ≡ y ∷ ys → xs ≡ ys
-same_tail e = cc
-
--- where a list that ends with t is cut: at t, or before
-cut_before : (part : List Lexeme) (t : Lexeme) (front : List Lexeme) (x : Lexeme) (rear : List Lexeme) → part ++ t ∷ [] ≡ front ++ x ∷ rear → ((front ≡ part) × (x ≡ t)) ⊎ ((behind : List Lexeme) × (part ≡ front ++ x ∷ behind))
-cut_before [] t [] x rear e = inl (refl, sym (same_head e))
-cut_before [] t (y ∷ []) x rear e = cc
-cut_before [] t (y ∷ z ∷ front) x rear e = cc
-cut_before (p ∷ part) t [] x rear e = inr (part, same_cons (same_head e) refl)
-cut_before (p ∷ part) t (y ∷ front) x rear e =
-    ⊎_elim
-    (λ h. inl (same_cons (sym (same_head e)) h.0, h.1))
-    (λ h. inr (h.0, same_cons (same_head e) h.1))
-    (cut_before part t front x rear (same_tail e))
-
-no_end_on : (part : List Lexeme) (t : Lexeme) → HasNoEnd part → (Ends part t → ⊥) → HasNoEnd (part ++ t ∷ [])
-no_end_on part t none here = record {
-  never = λ front x rear e ends.
-      ⊎_elim
-      (λ h. here (subst (λ (y : Lexeme). Ends part y) h.1 (subst (λ (f : List Lexeme). Ends f x) h.0 ends)))
-      (λ h. none.never front x h.0 h.1 ends)
-      (cut_before part t front x rear e);
+-- no part is left
+pub parsed_all : (all left : List Lexeme) (counts : List ℕ) (items : List Item) → counts ≡ [] → HasParsed all left counts items → AreParsed all items
+parsed_all all left counts items none h = record {
+  parts = h.parts;
+  are = h.are;
+  each = subst (λ ps. AreEach ps items) (sym (append-nil h.done) ∙ ap (λ ps. h.done ++ ps) (sym (no_more h.rest (sym none ∙ h.counts_are))) ∙ h.split) h.each;
 }
 
-no_end_none : HasNoEnd []
-no_end_none = record { never = λ front x rear e ends. never front x rear e }
-  where
-    never : (front : List Lexeme) (x : Lexeme) (rear : List Lexeme) → [] ≡ front ++ x ∷ rear → ⊥
-    never [] x rear e = cc
-    never (y ∷ front) x rear e = cc
+-- a fault stands at a token of the item
+pub fault_within : (tokens : List Lexeme) (token : ℕ) (code : FaultCode) → IsParse tokens (Fault token code) → token ≤ length tokens
+fault_within tokens token code (inl h) = let at = h.place in let l = length-append h.front (h.token ∷ h.rear) in let all = ap length h.parts in omega (arith, at, l, all)
+fault_within tokens token code (inr h) = let at = h.last.place in let l = length-append h.last.front (h.last.token ∷ h.last.rear) in let all = ap length h.last.parts in omega (arith, at, l, all)
 
-whole_push : (whole : List (List Lexeme)) (item : List Lexeme) → AreWhole whole → IsWhole item → AreWhole (whole ++ item ∷ [])
-whole_push [] item each this = (this, tt)
-whole_push (x ∷ whole) item each this = (each.0, whole_push whole item each.1 this)
+-- a meter that has counted so many items
+abbrev pub HasCounted : Counts → Counts → ℕ → Type 0
+HasCounted old new zero = new ≡ old
+HasCounted old new (suc n) = new ≡ record old { parsed = raised old.parsed (suc n) }
 
-pub joined_push : (whole : List (List Lexeme)) (item : List Lexeme) → joined (whole ++ item ∷ []) ≡ joined whole ++ item
-joined_push whole item = flat_map-append (λ (part : List Lexeme). part) whole (item ∷ []) ∙ ap (λ x. joined whole ++ x) (append-nil item)
+-- the same, of one item more
+counted_on : (old new next : Counts) (n : ℕ) → HasCounted old new n → next ≡ record new { parsed = raised new.parsed 1 } → next ≡ record old { parsed = raised old.parsed (suc n) }
+counted_on old new next zero h is = is ∙ ap (λ (c : Counts). let d : Counts = record c { parsed = raised c.parsed 1 } in d) h
+counted_on old new next (suc n) h is =
+    let more : raised (raised old.parsed (suc n)) 1 ≡ raised old.parsed (suc (suc n)) = omega arith in
+    is ∙ ap (λ (c : Counts). let d : Counts = record c { parsed = raised c.parsed 1 } in d) h ∙ ap (λ k. let d : Counts = record old { parsed = k } in d) more
 
--- before the first token
-pub cuts_none : Cuts [] [] []
-cuts_none = record { all = refl; each = tt; rest = no_end_none }
+pub counted_push : (old new next : Counts) (items : List Item) (item : Item) → HasCounted old new (length items) → next ≡ record new { parsed = raised new.parsed 1 } → HasCounted old next (length (items ++ item ∷ []))
+counted_push old new next items item h is = subst (HasCounted old next) (sym (length_push items item)) (let n : length items + 1 ≡ suc (length items) = omega arith in subst (HasCounted old next) (sym n) (counted_on old new next (length items) h is))
 
--- a token that does not end the item
-pub cuts_on : (seen : List Lexeme) (whole : List (List Lexeme)) (part : List Lexeme) (t : Lexeme) → Cuts seen whole part → (Ends part t → ⊥) → Cuts (seen ++ t ∷ []) whole (part ++ t ∷ [])
-cuts_on seen whole part t h here = record {
-  all = sym (append_assoc (joined whole) part (t ∷ [])) ∙ ap (λ x. x ++ t ∷ []) h.all;
-  each = h.each;
-  rest = no_end_on part t h.rest here;
-}
-
--- a token that ends the item
-pub cuts_end : (seen : List Lexeme) (whole : List (List Lexeme)) (part : List Lexeme) (t : Lexeme) → Cuts seen whole part → Ends part t → Cuts (seen ++ t ∷ []) (whole ++ (part ++ t ∷ []) ∷ []) []
-cuts_end seen whole part t h here = record {
-  all =
-      append-nil (joined (whole ++ (part ++ t ∷ []) ∷ [])) ∙ joined_push whole (part ++ t ∷ [])
-      ∙ sym (append_assoc (joined whole) part (t ∷ [])) ∙ ap (λ x. x ++ t ∷ []) h.all;
-  each = whole_push whole (part ++ t ∷ []) h.each (record { front = part; token = t; parts = refl; ends = here; before = h.rest });
-  rest = no_end_none;
-}
-
--- behind the last token
-pub cuts_all : (tokens : List Lexeme) (whole : List (List Lexeme)) (part : List Lexeme) → Cuts tokens whole part → AreItems tokens (whole ++ part ∷ [])
-cuts_all tokens whole part h = record {
-  whole = whole;
-  last = part;
-  parts = refl;
-  all = joined_push whole part ∙ h.all;
-  each = h.each;
-  rest = h.rest;
-}
+pub counted_all : (old new : Counts) (n : ℕ) → 0 < n → HasCounted old new n → new ≡ record old { parsed = raised old.parsed n }
+counted_all old new zero some h = absurd (omega (arith, some))
+counted_all old new (suc n) some h = h

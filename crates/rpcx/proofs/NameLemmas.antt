@@ -1,10 +1,12 @@
 -- Looking names up in a table that grows.
-use Rattle.std.proofs.Common.{◌≡◌, ℕ, Bool, true, false, cond, List, [], ◌∷◌, ◌++◌, Option, None, Some, refl, sym, ap, ◌∙◌}
+use Rattle.std.proofs.Common.{◌≡◌, ℕ, suc, Bool, true, false, cond, List, [], ◌∷◌, ◌++◌, Option, None, Some, refl, sym, ap, ◌∙◌}
 use Rattle.std.specs.Prelude.{is_none, is_some}
 use Rattle.std.specs.Map.{lookup}
 use Rattle.std.specs.Str.{bytes_eq}
 use Rattle.std.proofs.lemmas.Slice.Eq.{bytes_eq-Decides}
-use Rattle.rpcx.specs.Names.{or_else}
+use Rattle.x_item.specs.Tree.{Definition}
+use Rattle.rpcx.specs.Names.{or_else, in_item, word_declaring, first_from}
+use Rattle.rpcx.specs.declared.names.Declarer.{Declarer}
 
 -- an entry more at the end
 pub lookup_more : {K X : Type 0} (test : K → Bool) (es : List (K × X)) (k : K) (x : X) → lookup test (es ++ (k, x) ∷ []) ≡ or_else (lookup test es) (cond (test k) (Some x) None)
@@ -33,3 +35,22 @@ stays find name (Some y) x is none other = by (bytes_eq other name) refl
 pub none_is : {X : Type 0} (r : Option X) → is_some r ≡ false → r ≡ None
 none_is None h = refl
 none_is (Some x) h = absurd (cc)
+
+or_else_after : {X : Type 0} (a b c : Option X) → or_else (or_else a b) c ≡ or_else a (or_else b c)
+or_else_after None b c = refl
+or_else_after (Some x) b c = refl
+
+-- the names of one item more are in the table
+pub item_more : (before after : List ℕ → Option Declarer) (n m : ℕ) (ds : List (Option Definition)) (d : Option Definition) (rest : List (Option Definition)) (first : List ℕ → Option Declarer)
+    → m ≡ suc n → ds ≡ d ∷ rest → ((name : List ℕ) → after name ≡ or_else (before name) (in_item n (word_declaring name d)))
+    → ((name : List ℕ) → or_else (before name) (first_from n ds name) ≡ first name) → (name : List ℕ) → or_else (after name) (first_from m rest name) ≡ first name
+item_more before after n m ds d rest first next is more h name =
+    ap (λ a. or_else a (first_from m rest name)) (more name)
+    ∙ or_else_after (before name) (in_item n (word_declaring name d)) (first_from m rest name)
+    ∙ ap (λ k. or_else (before name) (or_else (in_item n (word_declaring name d)) (first_from k rest name))) next
+    ∙ sym (ap (λ l. or_else (before name) (first_from n l name)) is)
+    ∙ h name
+
+-- an item without a definition changes nothing
+pub none_more : (find : List ℕ → Option Declarer) (n : ℕ) (name : List ℕ) → find name ≡ or_else (find name) (in_item n (word_declaring name None))
+none_more find n name = or_none (find name)

@@ -1,5 +1,5 @@
 -- What a script of edits and questions is answered, over a text and its items.
-use Rattle.std.specs.Prelude.{ℕ, Bool, true, false, ◌&&◌, nat_le, List, ◌++◌, length, codes, if◌then◌else◌}
+use Rattle.std.specs.Prelude.{ℕ, Bool, true, false, ◌&&◌, nat_le, List, ◌++◌, Option, length, codes, if◌then◌else◌}
 use Rattle.std.specs.List.{flat_map}
 use Rattle.std.specs.Fmt.{decimal}
 use Rattle.x_text.specs.Edits.{edited}
@@ -9,8 +9,10 @@ use Rattle.x_lex.specs.Names.{kind_name}
 use Rattle.rpcx.specs.declared.fault.Fault.{Fault}
 use Rattle.rpcx.specs.Faults.{fault_text}
 use Rattle.rpcx.specs.declared.lines.TheConstants.{LONGEST}
-use Rattle.rpcx.specs.Commands.{Asked, ToEdit, ForTokens, ForFaults, ForHeader, Nothing, command_of}
-use Rattle.rpcx.specs.Compile.{Item, tokens_of, faults_of}
+use Rattle.rpcx.specs.Commands.{Asked, ToEdit, ForTokens, ForDefinitions, ForFaults, ForHeader, Nothing, command_of}
+use Rattle.rpcx.specs.Compile.{Item, tokens_of, definitions_of, faults_of}
+use Rattle.rpcx.specs.Listings.{numbered, definition_line}
+use Rattle.x_item.specs.Tree.{Definition}
 use Rattle.rpcx.specs.Header.{header}
 
 -- what a line is answered, whether that refuses it, and the text that it leaves
@@ -37,6 +39,10 @@ fault_line f = decimal f.line ++ codes ":" ++ decimal f.col ++ codes " " ++ faul
 abbrev pub tokens_answer : List Lexeme → List ℕ
 tokens_answer ts = counted_line (codes "tokens") (length ts) ++ flat_map token_line ts
 
+-- each definition with the number of its item
+abbrev pub definitions_answer : List (Option Definition) → List ℕ
+definitions_answer ds = counted_line (codes "definitions") (length (numbered 0 ds)) ++ flat_map definition_line (numbered 0 ds)
+
 abbrev pub faults_answer : List Fault → List ℕ
 faults_answer fs = counted_line (codes "faults") (length fs) ++ flat_map fault_line fs
 
@@ -62,6 +68,7 @@ edit_answer text start end insert =
 abbrev pub answer : List ℕ → List ℕ → List Item → Asked → Answer
 answer base text items (ToEdit start end insert) = edit_answer text start end insert
 answer base text items ForTokens = answered text (tokens_answer (tokens_of items))
+answer base text items ForDefinitions = answered text (definitions_answer (definitions_of items))
 answer base text items ForFaults = answered text (faults_answer (faults_of text items))
 answer base text items ForHeader = answered text (text_answer (header base items))
 answer base text items Nothing = refused text (codes "refused 43 BadLine\n")

@@ -4,12 +4,13 @@ use Rattle.std.specs.List.{list_all, slice_split}
 use Rattle.std.specs.Char.{is_ascii_digit, is_ascii_hexdigit, digit_value}
 use Rattle.std.specs.Str.Parse.{digits_value}
 use Rattle.rpcx.specs.declared.command.Command.{Command}
-use Rattle.rpcx.specs.declared.command.Command.TheVariants.{Edit, Tokens, Faults, Header, Bad}
+use Rattle.rpcx.specs.declared.command.Command.TheVariants.{Edit, Tokens, Definitions, Faults, Header, Bad}
 
 -- what a line can ask for
 pub data Asked : Type 0 where
   ToEdit : (start end : ℕ) (insert : List ℕ) → Asked
   ForTokens : Asked
+  ForDefinitions : Asked
   ForFaults : Asked
   ForHeader : Asked
   Nothing : Asked
@@ -18,6 +19,7 @@ pub data Asked : Type 0 where
 abbrev pub asked : Command → Asked
 asked (Edit start end insert) = ToEdit start end insert.items
 asked Tokens = ForTokens
+asked Definitions = ForDefinitions
 asked Faults = ForFaults
 asked Header = ForHeader
 asked Bad = Nothing
@@ -47,6 +49,7 @@ edit_of start end insert = if is_number start && is_number end then ToEdit (digi
 abbrev pub one_word : List ℕ → Asked
 one_word name =
     if bytes_eq name (codes "tokens") then ForTokens
+    else if bytes_eq name (codes "definitions") then ForDefinitions
     else if bytes_eq name (codes "faults") then ForFaults
     else if bytes_eq name (codes "header") then ForHeader
     else Nothing

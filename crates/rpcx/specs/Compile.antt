@@ -5,10 +5,11 @@ use Rattle.x_text.specs.Text.{line_of, column_of}
 use Rattle.x_lex.specs.declared.kind.Kind.{Kind}
 use Rattle.x_lex.specs.Tiling.{AreTokens}
 use Rattle.x_lex.specs.Places.{Lexeme, lexemes}
-use Rattle.rpcx.specs.Words.{is_significant}
-use Rattle.rpcx.specs.Tree.{Tree}
-use Rattle.rpcx.specs.Parse.{Parse, Nothing, Def, Fault, IsParse}
-use Rattle.rpcx.specs.Items.{AreItems, joined}
+use Rattle.x_item.specs.Words.{is_significant}
+use Rattle.x_item.specs.Tree.{Definition}
+use Rattle.x_item.specs.Parse.{Parse, Nothing, Def, Fault, IsParse}
+use Rattle.x_item.specs.Items.{AreItems, joined}
+use Rattle.rpcx.specs.Faults.{of_syntax}
 use Rattle.rpcx.specs.Names.{first_declarer}
 use Rattle.rpcx.specs.Rules.{rules}
 use Rattle.rpcx.specs.declared.names.Declarer.{Declarer}
@@ -35,17 +36,17 @@ pub record IsCompilation (text : List ℕ) (tokens : List (Kind × ℕ)) (items 
 abbrev pub tokens_of : List Item → List Lexeme
 tokens_of items = joined (map (λ i. i.tokens) items)
 
-abbrev pub parsed_definition : Parse → Option Tree
+abbrev pub parsed_definition : Parse → Option Definition
 parsed_definition Nothing = None
 parsed_definition (Def d) = Some d
 parsed_definition (Fault token code) = None
 
 -- the definition of each item
-abbrev pub definitions_of : List Item → List (Option Tree)
+abbrev pub definitions_of : List Item → List (Option Definition)
 definitions_of items = map (λ i. parsed_definition i.parse) items
 
 -- the definition of the item at an index
-abbrev pub definition_at : List Item → ℕ → Option Tree
+abbrev pub definition_at : List Item → ℕ → Option Definition
 definition_at items index = option_and_then (λ d. d) (slice_get (definitions_of items) index)
 
 -- the first declarer of a name in the text
@@ -65,7 +66,7 @@ at_token tokens f = record { token = token_of_word tokens f.word; code = f.code 
 -- the faults of an item at its tokens: that of its parse, or those of its definition
 abbrev pub token_faults : (List ℕ → Option Declarer) → ℕ → List Lexeme → Parse → List TokenFault
 token_faults first index tokens Nothing = []
-token_faults first index tokens (Fault token code) = record { token = token; code = code } ∷ []
+token_faults first index tokens (Fault token code) = record { token = token; code = of_syntax code } ∷ []
 token_faults first index tokens (Def d) = map (at_token tokens) (rules first index d)
 
 -- where a token of an item starts

@@ -1,5 +1,7 @@
 -- The numbers and names of faults.
 use Rattle.std.specs.Prelude.{ℕ, List, codes}
+use Rattle.x_item.specs.declared.fault.FaultCode as syntax
+use Rattle.x_item.specs.declared.fault.FaultCode.TheVariants as item
 use Rattle.rpcx.specs.declared.fault.FaultCode.{FaultCode}
 use Rattle.rpcx.specs.declared.fault.FaultCode.TheVariants.{Syntax, BadByte, BadNumber, OpenComment, Directive, Unfinished, Duplicate, Range}
 
@@ -13,3 +15,12 @@ fault_text Directive = codes "14 Directive"
 fault_text Unfinished = codes "15 Unfinished"
 fault_text Duplicate = codes "20 Duplicate"
 fault_text Range = codes "25 Range"
+
+-- the code of an item that spells no definition
+abbrev pub of_syntax : syntax.FaultCode → FaultCode
+of_syntax item.Syntax = Syntax
+of_syntax item.BadByte = BadByte
+of_syntax item.BadNumber = BadNumber
+of_syntax item.OpenComment = OpenComment
+of_syntax item.Directive = Directive
+of_syntax item.Unfinished = Unfinished

@@ -4,8 +4,8 @@ use Rattle.std.specs.List.{filter, flat_map}
 use Rattle.x_lex.specs.declared.kind.Kind.{Kind}
 use Rattle.x_lex.specs.declared.kind.Kind.TheVariants as kinds
 use Rattle.x_lex.specs.Places.{Lexeme}
-use Rattle.rpcx.specs.Tree.{Tree, Const}
-use Rattle.rpcx.specs.Parse.{Parse, Nothing, Def, Fault}
+use Rattle.x_item.specs.Tree.{Definition, Const, Value, Number, Named}
+use Rattle.x_item.specs.Parse.{Parse, Nothing, Def, Fault}
 use Rattle.rpcx.specs.Compile.{Item, first_of, token_faults}
 use Rattle.rpcx.specs.declared.names.Declarer.{Declarer}
 use Rattle.rpcx.specs.declared.findings.TokenFault.{TokenFault}
@@ -39,9 +39,15 @@ is_percent kind = false
 abbrev pub lines_of : List Lexeme → List ℕ
 lines_of tokens = flat_map (λ t. drop 1 t.text ++ codes "\n") (filter (λ t. is_percent t.kind) tokens)
 
--- what is generated of a definition
-abbrev pub piece : Tree → List ℕ
-piece (Const name value) = codes "#define " ++ name ++ codes " " ++ value ++ codes "\n\n"
+-- how a value is spelled
+abbrev pub spelled : Value → List ℕ
+spelled (Number text) = text
+spelled (Named text) = text
+
+-- what is generated of a definition: so far of a constant alone
+abbrev pub piece : Definition → List ℕ
+piece (Const name value) = codes "#define " ++ name ++ codes " " ++ spelled value ++ codes "\n\n"
+piece d = []
 
 -- what is generated of an item with these faults: nothing where there is one, or no definition
 abbrev pub clean_piece : List TokenFault → Parse → List ℕ

@@ -1,14 +1,29 @@
 -- What the program keeps of items.
-use Rattle.std.specs.Prelude.{ℕ, Option}
-use Rattle.rpcx.specs.Tree.{Tree}
-use Rattle.rpcx.specs.Parse.{Parse, view_parsed}
+use Rattle.std.specs.Prelude.{ℕ, Option, option_map}
+use Rattle.std.specs.Borrow.{Bor}
+use Rattle.x_item.specs.Tree as tree
+use Rattle.x_item.specs.Parse as parse
+use Rattle.x_item.specs.View.{view_definition}
+use Rattle.x_item.specs.declared.definition.Definition.{Definition}
 use Rattle.rpcx.specs.Compile.{parsed_definition}
 use Rattle.rpcx.specs.declared.item.Item.{Item}
+use Rattle.rpcx.specs.declared.item.Parse.{Parse}
+use Rattle.rpcx.specs.declared.item.Parse.TheVariants as kept
+
+-- what an item parses to
+abbrev pub view_parse : Parse → parse.Parse
+view_parse kept.Nothing = parse.Nothing
+view_parse (kept.Def d) = parse.Def (view_definition d.value)
+view_parse (kept.Fault token code) = parse.Fault token code
 
 -- how many tokens an item has, and what they parse to
-abbrev pub view_item : Item → ℕ × Parse
-view_item i = (i.tokens, view_parsed i.parsed)
+abbrev pub view_item : Item → ℕ × parse.Parse
+view_item i = (i.tokens, view_parse i.parse)
 
 -- the definition of an item
-abbrev pub kept_definition : Item → Option Tree
-kept_definition i = parsed_definition (view_parsed i.parsed)
+abbrev pub kept_definition : Item → Option tree.Definition
+kept_definition i = parsed_definition (view_parse i.parse)
+
+-- the tree of a definition that is lent, if there is one
+abbrev pub tree_at : Option (Bor Definition) → Option tree.Definition
+tree_at definition = option_map (λ d. view_definition d.now) definition

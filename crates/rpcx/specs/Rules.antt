@@ -1,6 +1,6 @@
 -- What is wrong with definitions beyond their spelling (RFC 4506, section 6.4).
 use Rattle.std.specs.Prelude.{ℕ, Bool, false, not, ◌&&◌, ◌==◌, List, [], ◌∷◌, ◌++◌, Option, Some, None, if◌then◌else◌}
-use Rattle.rpcx.specs.Tree.{Tree, Const}
+use Rattle.x_item.specs.Tree.{Definition, Const, Number}
 use Rattle.rpcx.specs.Names.{Declared}
 use Rattle.rpcx.specs.Numbers.{in_range}
 use Rattle.rpcx.specs.declared.names.Declarer.{Declarer}
@@ -19,8 +19,9 @@ is_taken first item d = not (is_at item d.word (first d.name))
 abbrev pub broken : Bool → WordFault → List WordFault
 broken holds fault = if holds then fault ∷ [] else []
 
--- the faults of the item's definition by rules, by word and then by code
-abbrev pub rules : (List ℕ → Option Declarer) → ℕ → Tree → List WordFault
-rules first item (Const name value) =
+-- the faults of the item's definition by rules, by word and then by code: so far of a constant with a number alone
+abbrev pub rules : (List ℕ → Option Declarer) → ℕ → Definition → List WordFault
+rules first item (Const name (Number value)) =
     broken (is_taken first item (record { name = name; word = 1 })) (record { word = 1; code = faults.Duplicate })
     ++ broken (not (in_range value)) (record { word = 3; code = faults.Range })
+rules first item d = []

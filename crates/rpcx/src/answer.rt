@@ -4,12 +4,16 @@ ghost use Rattle.std.specs.Prelude.{◌≡◌};
 ghost use Rattle.x_text.specs.Writing.{Adds};
 ghost use Rattle.x_lex.specs.Places.{lexeme};
 ghost use Rattle.rpcx.specs.Session.{Compiles};
-ghost use Rattle.rpcx.specs.Compile.{tokens_of, faults_of};
+ghost use Rattle.x_item.specs.View.{view_definition};
+ghost use Rattle.rpcx.specs.Compile.{tokens_of, definitions_of, faults_of};
 ghost use Rattle.rpcx.specs.Header.{header};
-ghost use Rattle.rpcx.specs.Answers.{counted_by, token_line, fault_line, tokens_answer, faults_answer, text_answer};
+ghost use Rattle.rpcx.specs.Listings.{definition_line};
+ghost use Rattle.rpcx.specs.Answers.{counted_by, token_line, fault_line, tokens_answer, definitions_answer, faults_answer, text_answer};
 
+use crate::definition::{keyword, shown_name};
 use crate::{Fault, Session, Which};
 use itoa::{Buffer, Integer};
+use x_item::Definition;
 use x_lex::Token;
 use x_text::{Pen, Sink};
 
@@ -45,6 +49,19 @@ fn add_token<S: Sink>(token: &Token, pen: &mut Pen, sink: &mut S)
     pen.add(b"\n", sink);
 }
 
+/// Adds the line of a definition, which is that of the item with this number.
+#[tactic(auto, using(crate::proofs::Adding::six))]
+fn add_definition<S: Sink>(item: usize, definition: &Definition, pen: &mut Pen, sink: &mut S)
+    ensures { Adds pen.old (S.contents sink.old) (S.has_failed sink.old) pen.new (S.contents sink.new) (S.has_failed sink.new) (definition_line (item, view_definition definition.now)) }
+{
+    add_number(item, pen, sink);
+    pen.add(b" ", sink);
+    pen.add(keyword(definition).as_bytes(), sink);
+    pen.add(b" ", sink);
+    pen.add(shown_name(definition), sink);
+    pen.add(b"\n", sink);
+}
+
 /// Adds the line of a fault.
 #[tactic(auto, using(crate::proofs::Adding::six))]
 fn add_fault<S: Sink>(fault: &Fault, pen: &mut Pen, sink: &mut S)
@@ -65,6 +82,18 @@ pub(crate) fn add_tokens<S: Sink>(session: &Session, pen: &mut Pen, sink: &mut S
     add_counted("tokens", session.token_count(), pen, sink);
     for token in session.tokens() {
         add_token(&token, pen, sink);
+    }
+}
+
+/// Adds the definitions of a text.
+pub(crate) fn add_definitions<S: Sink>(session: &Session, pen: &mut Pen, sink: &mut S)
+    ensures { Compiles session.now.text (λ items. Adds pen.old (S.contents sink.old) (S.has_failed sink.old) pen.new (S.contents sink.new) (S.has_failed sink.new) (definitions_answer (definitions_of items))) }
+{
+    add_counted("definitions", session.definition_count(), pen, sink);
+    for item in 0..session.item_count() {
+        if let Some(definition) = session.definition(item) {
+            add_definition(item, definition, pen, sink);
+        }
     }
 }
 

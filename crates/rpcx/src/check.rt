@@ -2,12 +2,13 @@
 
 ghost use Rattle.std.specs.Prelude.{◌≡◌, IfOk};
 ghost use Rattle.x_text.specs.Counts.{raised};
-ghost use Rattle.rpcx.specs.Tree.{view_definition};
+ghost use Rattle.x_item.specs.View.{view_definition};
 ghost use Rattle.rpcx.specs.NamesTable.{first_in, view_declared};
 ghost use Rattle.rpcx.specs.Rules.{is_taken, is_at, rules};
 
-use crate::{Declared, Declarer, Definition, FaultCode, Names, is_in_range};
+use crate::{Declared, Declarer, FaultCode, Names, is_in_range};
 use std::alloc::Global;
+use x_item::{Definition, Value};
 use x_text::{Meter, NoMemory};
 
 /// A fault at a word of an item, counted from 0.
@@ -34,7 +35,8 @@ fn is_taken(names: &Names, item: usize, declared: &Declared) -> bool
     !is_at(item, declared.word, names.first(declared.name))
 }
 
-/// The faults of an item's definition by rules, in order of word and then of code. Counts one checked item.
+/// The faults of an item's definition by rules, in order of word and then of code: so far only a constant with a number has any.
+/// Counts one checked item.
 pub fn check_item(
     alloc: Global,
     item: usize,
@@ -48,7 +50,10 @@ pub fn check_item(
     meter.tick_checked();
     let mut faults = Vec::new(alloc);
     match definition {
-        Definition::Const { name, value } => {
+        Definition::Const {
+            name,
+            value: Value::Number(value),
+        } => {
             if is_taken(names, item, &Declared { name, word: 1 }) {
                 faults.push(WordFault {
                     word: 1,
@@ -62,6 +67,7 @@ pub fn check_item(
                 })?;
             }
         }
+        _ => {}
     }
     Ok(faults)
 }

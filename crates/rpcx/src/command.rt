@@ -22,6 +22,8 @@ pub enum Command {
     },
     /// `tokens`: the tokens of the text.
     Tokens,
+    /// `definitions`: the definitions of the text.
+    Definitions,
     /// `faults`: the faults of the text.
     Faults,
     /// `header`: the C header.
@@ -83,6 +85,8 @@ fn one_word(line: &[u8]) -> Command
 {
     if line == b"tokens".as_slice() {
         Command::Tokens
+    } else if line == b"definitions".as_slice() {
+        Command::Definitions
     } else if line == b"faults".as_slice() {
         Command::Faults
     } else if line == b"header".as_slice() {

@@ -9,15 +9,15 @@ ghost use Rattle.rpcx.specs.NamesTable.{first_in};
 ghost use Rattle.rpcx.specs.Compile.{IsCompilation, parts, faults_of};
 ghost use Rattle.rpcx.specs.Header.{body_of};
 
-use crate::cut::cut;
 use crate::findings::{Findings, find};
+use crate::items::items_of;
 use crate::{Item, Names};
 use std::alloc::Global;
 use x_lex::{Tokens, lex};
 use x_text::{Meter, NoMemory, Source};
 
 /// What compiling a text gives.
-#[derive(Debug, Drop)]
+#[derive(Drop)]
 pub struct Compiled {
     pub tokens: Tokens,
     pub items: Vec<Item>,
@@ -31,7 +31,7 @@ pub fn compile(alloc: Global, source: &Source, meter: &mut Meter) -> Result<Comp
     ensures body { IfOk result (λ c. c.findings.body.items ≡ body_of (parts (lexemes source.now c.tokens.list) (map view_item c.items.items))) }
 {
     let tokens = lex(alloc, source, meter)?;
-    let items = cut(alloc, &tokens, source, meter)?;
+    let items = items_of(alloc, &tokens, source, meter)?;
     let names = names_of(alloc, &items)?;
     let findings = find(alloc, &tokens, source, &items, &names, meter)?;
     Ok(Compiled {

@@ -1,9 +1,7 @@
 ghost use Rattle.std.specs.Prelude.{◌≡◌, Some};
-ghost use Rattle.rpcx.specs.Faults.{fault_text};
-ghost use Rattle.rpcx.specs.Parse.{code_of};
+ghost use Rattle.rpcx.specs.Faults.{fault_text, of_syntax};
 
 use std::fmt;
-use x_lex::Kind;
 
 /// What is wrong at a word of an item. The number of each is its code.
 #[derive(Clone, Copy, Debug, PartialEq, Eq)]
@@ -27,19 +25,6 @@ pub enum FaultCode {
 }
 
 impl FaultCode {
-    /// The code of a word, by its kind, where no definition goes on with it.
-    pub fn of_word(kind: Kind) -> FaultCode
-        ensures { result ≡ code_of kind }
-    {
-        match kind {
-            Kind::BadByte => FaultCode::BadByte,
-            Kind::BadNumber => FaultCode::BadNumber,
-            Kind::OpenComment => FaultCode::OpenComment,
-            Kind::Directive => FaultCode::Directive,
-            _ => FaultCode::Syntax,
-        }
-    }
-
     /// The number and the name that are printed for the code.
     pub fn text(self) -> &'static str
         ensures { result.now ≡ fault_text self }
@@ -57,6 +42,21 @@ impl FaultCode {
     }
 }
 
+impl From<x_item::FaultCode> for FaultCode {
+    ghost from_gives = { λ code result. result ≡ of_syntax code };
+
+    fn from(code: x_item::FaultCode) -> FaultCode {
+        match code {
+            x_item::FaultCode::Syntax => FaultCode::Syntax,
+            x_item::FaultCode::BadByte => FaultCode::BadByte,
+            x_item::FaultCode::BadNumber => FaultCode::BadNumber,
+            x_item::FaultCode::OpenComment => FaultCode::OpenComment,
+            x_item::FaultCode::Directive => FaultCode::Directive,
+            x_item::FaultCode::Unfinished => FaultCode::Unfinished,
+        }
+    }
+}
+
 impl fmt::Display for FaultCode {
     ghost output = { λ code. Some (fault_text code) };
 
@@ -69,9 +69,9 @@ impl fmt::Display for FaultCode {
 #[derive(Clone, Copy, Debug, PartialEq, Eq)]
 pub struct Fault {
     /// The number of the item that it stands in, from 0.
-    pub item: usize,
+    pub item: u32,
     /// The index of its token in the item, from 0.
-    pub token: usize,
+    pub token: u32,
     /// The line of the token's first byte, from 1.
     pub line: u32,
     /// The column of the token's first byte, from 1.
@@ -79,3 +79,5 @@ pub struct Fault {
     /// What is wrong.
     pub code: FaultCode,
 }
+
+const _: () = prove!(size_of::<Fault>() == 20);

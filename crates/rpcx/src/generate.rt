@@ -1,12 +1,13 @@
 //! What `rpcgen` does, over a text that was read and sinks.
 
-ghost use Rattle.std.specs.Prelude.{◌≡◌, ◌≢◌, ◌⊎◌, false, not, ◌<◌, ◌==◌, ◌++◌, codes, [], Some, None, IsTrue, IfOk, OnOk, IfErr, IsErrOf, length, if◌then◌else◌};
+ghost use Rattle.std.specs.Prelude.{◌≡◌, ◌≢◌, ◌⊎◌, true, false, not, ◌<◌, ◌==◌, ◌++◌, codes, [], Some, None, IsTrue, IfOk, OnOk, IfErr, IsErrOf, length, if◌then◌else◌};
 ghost use Rattle.std.specs.List.{after_last};
 ghost use Rattle.std.specs.Io.KnownBytes.{Appends};
 ghost use Rattle.x_text.specs.declared.source.TheConstants.{MAX_TEXT};
 ghost use Rattle.rpcx.specs.Generate.{base_of, without_x, Grows, IsTold};
 ghost use Rattle.rpcx.specs.Session.{Compiles};
-ghost use Rattle.rpcx.specs.Compile.{faults_of};
+ghost use Rattle.rpcx.specs.Compile.{definitions_of, faults_of};
+ghost use Rattle.rpcx.specs.Listings.{are_constants};
 ghost use Rattle.rpcx.specs.Header.{header};
 
 use crate::{GenArgs, Session, Which};
@@ -67,7 +68,7 @@ pub(crate) fn base(file: &str) -> &[u8]
 }
 
 /// Opens the text of a file for a run, or tells what is wrong with it and answers the status: 1 where the text has faults, which
-/// are written one a line, and 2 where it is too large or memory runs out.
+/// are written one a line, and 2 where it is too large, has a definition of which nothing is generated yet, or memory runs out.
 pub fn gen_open<E: Sink>(
     alloc: Global,
     file: &str,
@@ -76,16 +77,21 @@ pub fn gen_open<E: Sink>(
 ) -> Result<Session, u8>
     ensures opened { IfOk result (λ s. s ≡ record { base = base_of file.now; text = bytes.now }) }
     ensures clean { OnOk result (Compiles bytes.now (λ items. faults_of bytes.now items ≡ [])) }
+    ensures constants { OnOk result (Compiles bytes.now (λ items. are_constants (definitions_of items) ≡ true)) }
     ensures faulty { IsErrOf result 1 → Compiles bytes.now (λ items. 0 < length (faults_of bytes.now items)) }
     ensures too_large { MAX_TEXT < length bytes.now → IsErrOf result 2 }
     ensures others { IfErr result (λ status. (status ≡ 1) ⊎ (status ≡ 2)) }
 {
     match Session::open(alloc, base(file), bytes) {
         Ok(session) => {
-            if session.fault_count() == 0 {
-                return Ok(session);
+            if session.fault_count() > 0 {
+                return Err(tell_faults(alloc, file, &session, err));
             }
-            Err(tell_faults(alloc, file, &session, err))
+            if !session.has_constants_alone() {
+                tell_of_file("rpcgen", file, ": only const definitions yet\n", err);
+                return Err(FAILED);
+            }
+            Ok(session)
         }
         Err(TextFault::TooLarge) => {
             tell_of_file("rpcgen", file, ": 2 TooLarge\n", err);

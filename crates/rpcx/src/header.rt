@@ -2,12 +2,13 @@
 
 ghost use Rattle.std.specs.Prelude.{◌≡◌, ◌++◌, drop, map, IfOk, OnOk};
 ghost use Rattle.x_lex.specs.Places.{lexeme};
-ghost use Rattle.rpcx.specs.Tree.{view_definition};
-ghost use Rattle.rpcx.specs.Parse.{view_parsed};
-ghost use Rattle.rpcx.specs.Header.{guard_byte, guard, prologue, epilogue, lines_of, piece, clean_piece};
+ghost use Rattle.x_item.specs.View.{view_value, view_definition};
+ghost use Rattle.rpcx.specs.Kept.{view_parse};
+ghost use Rattle.rpcx.specs.Header.{guard_byte, guard, prologue, epilogue, lines_of, spelled, piece, clean_piece};
 
-use crate::{Definition, Parsed, TokenFault};
+use crate::{Parse, TokenFault};
 use std::alloc::Global;
+use x_item::{Definition, Value};
 use x_lex::{Kind, Token};
 use x_text::NoMemory;
 
@@ -76,7 +77,17 @@ fn behind_first(bytes: &[u8]) -> &[u8]
     }
 }
 
-/// Adds what is generated of a definition.
+/// How a value is spelled.
+fn spelled(value: &Value) -> &[u8]
+    ensures { result.now ≡ spelled (view_value value.now) }
+{
+    match value {
+        Value::Number(text) => text,
+        Value::Named(text) => text,
+    }
+}
+
+/// Adds what is generated of a definition: so far of a constant alone.
 fn add_piece(text: &mut Vec<u8>, definition: &Definition) -> Result<(), NoMemory>
     ensures { OnOk result (text.new.items ≡ text.old.items ++ piece (view_definition definition.now)) }
 {
@@ -85,9 +96,10 @@ fn add_piece(text: &mut Vec<u8>, definition: &Definition) -> Result<(), NoMemory
             text.extend_from_slice(b"#define ")?;
             text.extend_from_slice(name)?;
             text.extend_from_slice(b" ")?;
-            text.extend_from_slice(value)?;
+            text.extend_from_slice(spelled(value))?;
             text.extend_from_slice(b"\n\n")?;
         }
+        _ => {}
     }
     Ok(())
 }
@@ -96,16 +108,16 @@ fn add_piece(text: &mut Vec<u8>, definition: &Definition) -> Result<(), NoMemory
 pub fn add_item(
     text: &mut Vec<u8>,
     tokens: &[Token],
-    parsed: &Parsed,
+    parse: &Parse,
     faults: &[TokenFault],
 ) -> Result<(), NoMemory>
-    ensures { OnOk result (text.new.items ≡ text.old.items ++ (lines_of (map lexeme tokens.now) ++ clean_piece faults.now (view_parsed parsed.now))) }
+    ensures { OnOk result (text.new.items ≡ text.old.items ++ (lines_of (map lexeme tokens.now) ++ clean_piece faults.now (view_parse parse.now))) }
 {
     add_lines(text, tokens)?;
     if !faults.is_empty() {
         return Ok(());
     }
-    if let Parsed::Def(definition) = parsed {
+    if let Parse::Def(definition) = parse {
         add_piece(text, definition)?;
     }
     Ok(())

@@ -2,13 +2,14 @@
 
 ghost use Rattle.std.specs.Prelude.{◌≡◌, ℕ, List, map, IfOk, OnOk, Some, None, if◌then◌else◌};
 ghost use Rattle.std.specs.Str.{bytes_eq};
-ghost use Rattle.rpcx.specs.Tree.{view_definition, tree_at};
+ghost use Rattle.x_item.specs.View.{view_definition};
+ghost use Rattle.rpcx.specs.Kept.{tree_at};
 ghost use Rattle.rpcx.specs.Names.{declared, is_beforehand, first_declarer, or_else, in_item, word_of_name};
 ghost use Rattle.rpcx.specs.NamesTable.{entry_in, first_in, view_declared};
 
-use crate::Definition;
 use indexmap::IndexMap;
 use std::alloc::Global;
+use x_item::Definition;
 use x_text::NoMemory;
 
 /// A name that a definition declares, and the word that declares it, counted from 0 among the words of its item.
@@ -97,7 +98,8 @@ fn is_beforehand(name: &[u8]) -> bool
     matches!(name, b"TRUE" | b"FALSE")
 }
 
-/// The names that a definition declares, in the order of their words.
+/// The names that a definition declares, in the order of their words: so far a constant declares its own, and no other definition
+/// declares any.
 pub fn declares(alloc: Global, definition: &Definition) -> Result<Vec<Declared<'_>>, NoMemory>
     ensures { IfOk result (λ ds. map view_declared ds.items ≡ declared (view_definition definition.now)) }
 {
@@ -108,5 +110,6 @@ pub fn declares(alloc: Global, definition: &Definition) -> Result<Vec<Declared<'
                 word: 1
             },
         ]?),
+        _ => Ok(Vec::new(alloc)),
     }
 }

@@ -9,7 +9,7 @@ ghost use Rattle.rpcx.specs.declared.lines.TheConstants.{LONGEST};
 ghost use Rattle.rpcx.specs.Script.{AddsIfFound, IsGiven, HasGiven, GoesOn, NamesCause, Runs, is_refused};
 ghost use Rattle.rpcx.specs.Lines.{FailsBy};
 
-use crate::answer::{add_counted, add_faults, add_text, add_tokens};
+use crate::answer::{add_counted, add_definitions, add_faults, add_text, add_tokens};
 use crate::{Command, Found, LineFault, LineReader, Session, Which, parse_command};
 use std::alloc::Global;
 use thiserror::Error;
@@ -141,6 +141,7 @@ fn carry_out<S: Sink>(
             return carry_out_edit(session, &Edit { start, end, insert }, pen, sink);
         }
         Command::Tokens => add_tokens(session, pen, sink),
+        Command::Definitions => add_definitions(session, pen, sink),
         Command::Faults => add_faults(session, pen, sink),
         Command::Header => add_text(Which::Header, session, pen, sink),
         Command::Bad => {

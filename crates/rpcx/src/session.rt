@@ -6,17 +6,19 @@ ghost use Rattle.x_text.specs.Edits.{edited, LiesWithin};
 ghost use Rattle.x_text.specs.Writing.{Adds, IsWritten};
 ghost use Rattle.x_text.specs.declared.source.TheConstants.{MAX_TEXT};
 ghost use Rattle.x_lex.specs.Places.{lexeme};
-ghost use Rattle.rpcx.specs.Tree.{tree_at};
 ghost use Rattle.rpcx.specs.Session.{Opened, Compiles, edited_by_all, TakesAll, StopsAt};
-ghost use Rattle.rpcx.specs.Compile.{tokens_of, definition_at, faults_of};
-ghost use Rattle.rpcx.specs.Kept.{kept_definition};
+ghost use Rattle.rpcx.specs.Compile.{tokens_of, definitions_of, definition_at, faults_of};
+ghost use Rattle.rpcx.specs.Kept.{kept_definition, tree_at};
+ghost use Rattle.rpcx.specs.Listings.{numbered, are_constants};
 ghost use Rattle.rpcx.specs.Header.{header};
 
 use crate::compile::{Compiled, compile};
+use crate::definition::is_constant;
 use crate::header::{EPILOGUE, prologue};
-use crate::{Definition, Fault, Item};
+use crate::{Fault, Item};
 use std::alloc::Global;
 use std::marker::Model;
+use x_item::Definition;
 use x_lex::{Token, Tokens, Walk};
 use x_text::{Edit, Meter, NoMemory, Pen, Sink, Source, TextFault, WriteFault};
 
@@ -67,7 +69,7 @@ impl Work {
 }
 
 /// A text that stays open: its tokens, definitions and faults, and what is generated of it.
-#[derive(Debug, Drop)]
+#[derive(Drop)]
 pub struct Session {
     alloc: Global,
     base: Vec<u8>,
@@ -216,6 +218,20 @@ impl Session {
         definition_in(&self.items, index)
     }
 
+    /// How many items have a definition.
+    pub(crate) fn definition_count(&self) -> usize
+        ensures { Compiles self.now.text (λ items. result ≡ length (numbered 0 (definitions_of items))) }
+    {
+        count_definitions(&self.items)
+    }
+
+    /// Whether each definition is that of a constant.
+    pub(crate) fn has_constants_alone(&self) -> bool
+        ensures { Compiles self.now.text (λ items. result ≡ are_constants (definitions_of items)) }
+    {
+        are_constants(&self.items)
+    }
+
     /// How many faults the text has.
     pub fn fault_count(&self) -> usize
         ensures { Compiles self.now.text (λ items. result ≡ length (faults_of self.now.text items)) }
@@ -269,6 +285,33 @@ impl Session {
             }
         }
     }
+}
+
+/// How many of the items have a definition.
+fn count_definitions(items: &[Item]) -> usize
+    ensures { result ≡ length (numbered 0 (map kept_definition items.now)) }
+{
+    let mut count = 0;
+    for item in items {
+        if item.definition().is_some() {
+            count += 1;
+        }
+    }
+    count
+}
+
+/// Whether the definition of each item is that of a constant.
+fn are_constants(items: &[Item]) -> bool
+    ensures { result ≡ are_constants (map kept_definition items.now) }
+{
+    for item in items {
+        if let Some(definition) = item.definition()
+            && !is_constant(definition)
+        {
+            return false;
+        }
+    }
+    true
 }
 
 /// The definition of the item at an index, if it has one.

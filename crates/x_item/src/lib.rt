@@ -34,6 +34,7 @@ pub use laws::{one_cut, one_parse, one_recut, spell_law};
 pub use mark::Mark;
 pub use mention::{Mention, Use, mentions};
 pub use names::{DeclaredName, NameKind, declares};
+pub use reading::is_significant;
 pub use recutting::recut;
 
 #[cfg(test)]

@@ -29,4 +29,4 @@ returns-clause-body c =
     ∙ same_body (first_in c.in_ok-names.names) items (first_is c)
 
 pub returns-clause-items : goal.returns-clause-items
-returns-clause-items c = compiles c.args.source.now c.in_ok-tokens.tokens.list c.in_ok-items.items.items c.in_ok-tokens.ensures.tokens c.in_ok-items.ensures.cut
+returns-clause-items c = compiles c.args.source.now c.in_ok-tokens.tokens.list c.in_ok-items.items.items c.in_ok-tokens.ensures.tokens c.in_ok-items.ensures.parsed

@@ -1,7 +1,7 @@
 use Rattle.std.proofs.Common.{◌≡◌, ℕ, List, map, ap, subst, ◌∙◌, arith}
 use Rattle.std.specs.Prelude.{IfOk}
 use Rattle.std.proofs.lemmas.List.{take_all}
-use Rattle.rpcx.specs.Tree.{tree_at}
+use Rattle.rpcx.specs.Kept.{tree_at}
 use Rattle.rpcx.specs.Kept.{kept_definition}
 use Rattle.rpcx.specs.Names.{first_declarer}
 use Rattle.rpcx.specs.NamesTable.{first_in}

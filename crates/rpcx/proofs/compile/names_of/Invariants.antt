@@ -1,5 +1,5 @@
 use Rattle.std.proofs.Common.{◌≡◌, map, take}
-use Rattle.rpcx.specs.Tree.{tree_at}
+use Rattle.rpcx.specs.Kept.{tree_at}
 use Rattle.rpcx.specs.Kept.{kept_definition}
 use Rattle.rpcx.proofs.compile.names_of.Given as goal
 

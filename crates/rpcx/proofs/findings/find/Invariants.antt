@@ -1,4 +1,5 @@
-use Rattle.std.proofs.Common.{◌≡◌, ◌++◌, map, drop}
+use Rattle.std.proofs.Common.{◌≡◌, ◌≤◌, ◌++◌, length, map, drop}
+use Rattle.x_text.specs.declared.source.TheConstants.{MAX_TEXT}
 use Rattle.x_lex.specs.Places.{lexemes}
 use Rattle.rpcx.specs.NamesTable.{first_in}
 use Rattle.rpcx.specs.Compile.{parts, faults_from}
@@ -14,4 +15,5 @@ invariant-loop-index l = record {
   body : l.body.items ++ body_from (first_in l.names) l.index (parts l.walk (map view_item (drop l.index l.items)))
       ≡ body_from (first_in l.names) 0 (parts (lexemes l.source l.fn.tokens.list) (map view_item l.items));
   lines : l.lines ≡ l.source;
+  small : length l.walk ≤ MAX_TEXT;
 }

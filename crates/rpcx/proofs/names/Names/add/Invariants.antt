@@ -1,5 +1,5 @@
 use Rattle.std.proofs.Common.{◌≡◌, ℕ, List, map, drop}
-use Rattle.rpcx.specs.Tree.{view_definition}
+use Rattle.x_item.specs.View.{view_definition}
 use Rattle.rpcx.specs.Names.{declared, or_else, in_item, word_of_name}
 use Rattle.rpcx.specs.NamesTable.{entry_in, view_declared}
 use Rattle.rpcx.proofs.names.Names.add.Given as goal

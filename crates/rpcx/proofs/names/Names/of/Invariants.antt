@@ -1,5 +1,5 @@
 use Rattle.std.proofs.Common.{◌≡◌, ℕ, List, map, drop}
-use Rattle.rpcx.specs.Tree.{tree_at}
+use Rattle.rpcx.specs.Kept.{tree_at}
 use Rattle.rpcx.specs.Names.{first_from, or_else}
 use Rattle.rpcx.specs.NamesTable.{entry_in}
 use Rattle.rpcx.proofs.names.Names.of.Given as goal
