@@ -1,12 +1,10 @@
-use crate::{
-    Definition, FaultCode, GenArgs, Parsed, Session, Which, gen_mode, gen_open, gen_write,
-    is_in_range, parse_item,
-};
-use std::alloc::{AllocError, Global};
+use crate::{FaultCode, GenArgs, Session, Which, gen_mode, gen_open, gen_write, is_in_range};
+use std::alloc::Global;
 use std::process::Abort;
 use std::test::Fail;
-use x_lex::{Kind, Token};
-use x_text::{Edit, MAX_TEXT, MemSink, Meter, TextFault};
+use x_item::{Definition, Value};
+use x_lex::Kind;
+use x_text::{Edit, MAX_TEXT, MemSink, TextFault};
 
 /// The faults of a text, one a line.
 fn faults(alloc: Global, text: &[u8]) -> Result<String, Fail> {
@@ -43,7 +41,11 @@ fn faults_stand_where_they_are(rt: HostRuntime) -> Result<(), Fail> {
         ("const A = -9223372036854775809;", "1:11 25 Range\n"),
         ("const A = 0x10000000000000000;", "1:11 25 Range\n"),
         ("const A = 1", "1:11 15 Unfinished\n"),
-        ("const A = B;", "1:11 10 Syntax\n"),
+        ("const A = B;", ""),
+        ("const A = B; const A = 1;", "1:20 20 Duplicate\n"),
+        ("const A = 1; const A = B;", ""),
+        ("typedef int A; enum B { A }; const A = 1;", ""),
+        ("enum e { A = 99999999999999999999 };", ""),
         ("};x;", "1:1 10 Syntax\n1:3 10 Syntax\n"),
         ("int s", "1:1 10 Syntax\n"),
         ("# 1 \"t.x\"\nconst A = 1;", ""),
@@ -54,9 +56,18 @@ fn faults_stand_where_they_are(rt: HostRuntime) -> Result<(), Fail> {
         ("const FALSE = 099;", "1:15 12 BadNumber\n"),
         (
             "const A = 1;\nconst A = A;\n const A=2;",
-            "2:11 10 Syntax\n3:8 20 Duplicate\n",
+            "3:8 20 Duplicate\n",
         ),
-        ("struct s { int a; const B = 2;", "1:1 10 Syntax\n"),
+        ("struct s { int a; const B = 2;", "1:19 10 Syntax\n"),
+        ("struct s { };", "1:12 10 Syntax\n"),
+        (
+            "union u switch (int d) { default: void; };",
+            "1:26 10 Syntax\n",
+        ),
+        ("program P { version V { } = 1; } = 2;", "1:25 10 Syntax\n"),
+        ("typedef void;", ""),
+        ("typedef int long;", "1:13 10 Syntax\n"),
+        ("a / b * c", "1:1 10 Syntax\n"),
     ];
     for (text, wanted) in rows {
         let found = faults(rt.alloc(), text.as_bytes())?;
@@ -76,6 +87,10 @@ fn headers_are_written(rt: HostRuntime) -> Result<(), Fail> {
         (
             "const A = 0x1F; const A = 2;\n%z\r",
             "#define A 0x1F\n\nz\r\n",
+        ),
+        (
+            "const A = B;\n%y\ntypedef int t;\n%z\nconst C = A;",
+            "#define A B\n\ny\nz\n#define C A\n\n",
         ),
     ];
     for (text, body) in rows {
@@ -106,11 +121,16 @@ fn a_session_answers_each_query(rt: HostRuntime) -> Result<(), Fail> {
     assert!(rt; session.token(9).is_none());
     assert_eq!(rt; session.item_count(), 3);
     match session.definition(0) {
-        Some(Definition::Const { name, value }) => {
+        Some(
+            Definition::Const {
+                name,
+                value: Value::Number(value),
+            },
+        ) => {
             assert_eq!(rt; name.as_slice(), b"A".as_slice());
             assert_eq!(rt; value.as_slice(), b"12".as_slice());
         }
-        None => return Err("a definition".into()),
+        _ => return Err("a definition".into()),
     }
     assert!(rt; session.definition(1).is_none() && session.definition(3).is_none());
     assert_eq!(rt; session.fault_count(), 1);
@@ -118,45 +138,6 @@ fn a_session_answers_each_query(rt: HostRuntime) -> Result<(), Fail> {
     assert!(rt; fault.item == 1 && fault.token == 0 && fault.code == FaultCode::Syntax);
     assert!(rt; fault.line == 1 && fault.col == 14);
     Ok(())
-}
-
-#[test]
-fn a_parse_keeps_the_spelling(rt: HostRuntime) -> Result<(), Fail> {
-    let words: [(Kind, &[u8]); 5] = [
-        (Kind::Keyword, b"const"),
-        (Kind::Name, b"A"),
-        (Kind::Punct, b"="),
-        (Kind::Number, b"0x1F"),
-        (Kind::Punct, b";"),
-    ];
-    let tokens = tokens(rt.alloc(), &words)?;
-    let mut meter = Meter::new();
-    match parse_item(rt.alloc(), &tokens, &mut meter)? {
-        Parsed::Def(Definition::Const { name, value }) => {
-            assert_eq!(rt; name.as_slice(), b"A".as_slice());
-            assert_eq!(rt; value.as_slice(), b"0x1F".as_slice());
-        }
-        _ => return Err("a definition".into()),
-    }
-    assert_eq!(rt; meter.parsed(), 1);
-    Ok(())
-}
-
-/// Tokens of these kinds and bytes, one behind another.
-fn tokens<'a>(alloc: Global, parts: &[(Kind, &'a [u8])]) -> Result<Vec<Token<'a>>, AllocError> {
-    let mut tokens = Vec::new(alloc);
-    let mut start = 0usize;
-    for (kind, text) in parts {
-        let end = start.saturating_add(text.len());
-        tokens.push(Token {
-            kind: *kind,
-            start,
-            end,
-            text: *text,
-        })?;
-        start = end;
-    }
-    Ok(tokens)
 }
 
 #[test]
@@ -200,13 +181,17 @@ fn a_run_tells_what_is_wrong(rt: HostRuntime) -> Result<(), Fail> {
         gen_open(rt.alloc(), "a/t.x", text, &mut err).err(),
         Some(1)
     );
+    assert_eq!(rt;
+        gen_open(rt.alloc(), "t.x", b"typedef void;", &mut err).err(),
+        Some(2)
+    );
     let large = vec![in rt.alloc(); b' '; MAX_TEXT + 1]?;
     assert_eq!(rt;
         gen_open(rt.alloc(), "t.x", &large, &mut err).err(),
         Some(2)
     );
     let wanted =
-        "rpcgen: exactly one of -c, -h, -l, -t\na/t.x:1:20: 20 Duplicate\na/t.x:2:11: 15 Unfinished\nrpcgen: t.x: 2 TooLarge\n";
+        "rpcgen: exactly one of -c, -h, -l, -t\na/t.x:1:20: 20 Duplicate\na/t.x:2:11: 15 Unfinished\nrpcgen: t.x: only const definitions yet\nrpcgen: t.x: 2 TooLarge\n";
     assert_eq!(rt; err.bytes(), wanted.as_bytes());
     Ok(())
 }

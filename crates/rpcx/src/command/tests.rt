@@ -23,6 +23,7 @@ fn edit_of(alloc: Global, start: usize, end: usize, insert: &[u8]) -> Result<Com
 fn reads_commands(rt: HostRuntime) -> Result<(), Fail> {
     let alloc = rt.alloc();
     expect(&rt, alloc, "tokens", Command::Tokens)?;
+    expect(&rt, alloc, "definitions", Command::Definitions)?;
     expect(&rt, alloc, "faults", Command::Faults)?;
     expect(&rt, alloc, "header", Command::Header)
 }
@@ -42,7 +43,7 @@ fn reads_edits(rt: HostRuntime) -> Result<(), Fail> {
 }
 
 /// Lines that are no commands.
-const BAD: [&str; 22] = [
+const BAD: [&str; 23] = [
     "edit",
     "edit 1",
     "edit 5 4 2",
@@ -65,6 +66,7 @@ const BAD: [&str; 22] = [
     "Tokens",
     "tokens 1",
     "token",
+    "definition",
 ];
 
 #[test]

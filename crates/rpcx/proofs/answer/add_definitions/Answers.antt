@@ -27,14 +27,14 @@ loop-item-preserved g c =
     let fails = g.S.Sink.has_failed c.loop-item.sink in
     elim c.match-definition.branch [
       | in-Some w ↦
-        let listed = definitions_more text item (item + 1) (tree_at c.definition.result) (view_definition w.in-Some.definition.now) c.add_counted.new.pen c.loop-item.pen w.add_definition.new.pen
-        start mid (g.S.Sink.contents w.add_definition.new.sink) failed fails (g.S.Sink.has_failed w.add_definition.new.sink) refl (ap tree_at w.in-Some.is) c.definition.ensures c.loop-item.invariant w.add_definition.ensures in
-        subst (λ p. HasDefinitions text (item + 1) c.add_counted.new.pen start failed p (g.S.Sink.contents c.match-definition.sink) (g.S.Sink.has_failed c.match-definition.sink)) (sym w.pen-is)
-        (subst (λ s. HasDefinitions text (item + 1) c.add_counted.new.pen start failed w.add_definition.new.pen (g.S.Sink.contents s) (g.S.Sink.has_failed s)) (sym w.sink-is) listed)
+          let listed = definitions_more text item (item + 1) (tree_at c.definition.result) (view_definition w.in-Some.definition.now) c.add_counted.new.pen c.loop-item.pen w.add_definition.new.pen
+          start mid (g.S.Sink.contents w.add_definition.new.sink) failed fails (g.S.Sink.has_failed w.add_definition.new.sink) refl (ap tree_at w.in-Some.is) c.definition.ensures c.loop-item.invariant w.add_definition.ensures in
+          subst (λ p. HasDefinitions text (item + 1) c.add_counted.new.pen start failed p (g.S.Sink.contents c.match-definition.sink) (g.S.Sink.has_failed c.match-definition.sink)) (sym w.pen-is)
+          (subst (λ s. HasDefinitions text (item + 1) c.add_counted.new.pen start failed w.add_definition.new.pen (g.S.Sink.contents s) (g.S.Sink.has_failed s)) (sym w.sink-is) listed)
       | in_default w ↦
-        let listed = definitions_on text item (item + 1) (tree_at c.definition.result) c.add_counted.new.pen c.loop-item.pen start mid failed fails refl (ap tree_at w.in_default.is) c.definition.ensures c.loop-item.invariant in
-        subst (λ p. HasDefinitions text (item + 1) c.add_counted.new.pen start failed p (g.S.Sink.contents c.match-definition.sink) (g.S.Sink.has_failed c.match-definition.sink)) (sym w.pen-is)
-        (subst (λ s. HasDefinitions text (item + 1) c.add_counted.new.pen start failed c.loop-item.pen (g.S.Sink.contents s) (g.S.Sink.has_failed s)) (sym w.sink-is) listed)
+          let listed = definitions_on text item (item + 1) (tree_at c.definition.result) c.add_counted.new.pen c.loop-item.pen start mid failed fails refl (ap tree_at w.in_default.is) c.definition.ensures c.loop-item.invariant in
+          subst (λ p. HasDefinitions text (item + 1) c.add_counted.new.pen start failed p (g.S.Sink.contents c.match-definition.sink) (g.S.Sink.has_failed c.match-definition.sink)) (sym w.pen-is)
+          (subst (λ s. HasDefinitions text (item + 1) c.add_counted.new.pen start failed c.loop-item.pen (g.S.Sink.contents s) (g.S.Sink.has_failed s)) (sym w.sink-is) listed)
     ]
 
 pub returns : goal.returns

@@ -1,4 +1,4 @@
-use Rattle.std.proofs.Common.{◌≡◌, ℕ, ◌≤◌, List, [], ◌∷◌, length, ap, subst, sym, ◌∙◌, refl, arith}
+use Rattle.std.proofs.Common.{◌≡◌, ℕ, ◌≤◌, List, [], ◌∷◌, length, ap, subst, refl, arith}
 use Rattle.rpcx.specs.Session.{Compiles}
 use Rattle.rpcx.specs.Compile.{faults_of}
 use Rattle.rpcx.specs.declared.fault.Fault.{Fault}

@@ -1,9 +1,9 @@
-use Rattle.std.proofs.Common.{◌≡◌, ◌+◌, ◌≤◌, List, [], ◌∷◌, ◌++◌, map, take, drop, length, ap, sym, subst, ◌∙◌, arith}
+use Rattle.std.proofs.Common.{◌≤◌, [], ◌∷◌, ◌++◌, map, take, length, ap, sym, subst, ◌∙◌, arith}
 use Rattle.std.proofs.lemmas.List.{length_push}
 use Rattle.x_text.specs.declared.source.TheConstants.{MAX_TEXT}
 use Rattle.x_lex.specs.Places.{lexeme, lexemes}
 use Rattle.rpcx.specs.Cut.{IsItem}
-use Rattle.rpcx.proofs.ItemLemmas.{HasParsed, HasCounted, parsed_more, parsed_all, counted_push, counted_all}
+use Rattle.rpcx.proofs.ItemLemmas.{HasParsed, HasCounted, parsed_more, parsed_all, counted_push}
 use Rattle.rpcx.proofs.WalkLemmas.{few_taken, few_left}
 use Rattle.rpcx.proofs.items.items_of.Goals as goal
 

@@ -1,4 +1,4 @@
-use Rattle.std.proofs.Common.{◌≡◌, ◌+◌, ◌<◌, ◌≤◌, map, length}
+use Rattle.std.proofs.Common.{◌+◌, ◌<◌, ◌≤◌, map, length}
 use Rattle.x_text.specs.declared.source.TheConstants.{MAX_TEXT}
 use Rattle.x_lex.specs.Places.{lexemes}
 use Rattle.rpcx.proofs.ItemLemmas.{HasParsed, HasCounted}

@@ -1,5 +1,4 @@
-use Rattle.std.proofs.Common.{◌≡◌, ℕ, ◌+◌, suc, List, ◌∷◌, map, drop, ap, sym, subst, ◌∙◌, arith}
-use Rattle.x_item.specs.View.{view_definition}
+use Rattle.std.proofs.Common.{◌≡◌, ◌+◌, suc, ◌∷◌, map, drop, ap, sym, ◌∙◌, arith}
 use Rattle.rpcx.specs.Kept.{tree_at}
 use Rattle.rpcx.specs.Names.{or_else, in_item, word_declaring, first_from}
 use Rattle.rpcx.specs.NamesTable.{entry_in}
@@ -19,11 +18,11 @@ loop-item-preserved c =
     (first_from 0 (map tree_at all)) next (ap (map tree_at) is) in
     elim c.match-definition.branch [
       | in-Some+in_ok-add w ↦
-        more
-        (λ name. ap (λ t. entry_in t name) w.names-is ∙ w.in_ok-add.ensures name ∙ ap (λ d. or_else (entry_in c.loop-item.names name) (in_item item (word_declaring name (tree_at d)))) (sym w.in-Some.is))
-        c.loop-item.invariant
+          more
+          (λ name. ap (λ t. entry_in t name) w.names-is ∙ w.in_ok-add.ensures name ∙ ap (λ d. or_else (entry_in c.loop-item.names name) (in_item item (word_declaring name (tree_at d)))) (sym w.in-Some.is))
+          c.loop-item.invariant
       | in_default w ↦
-        more
-        (λ name. ap (λ t. entry_in t name) w.names-is ∙ none_more (entry_in c.loop-item.names) item name ∙ ap (λ d. or_else (entry_in c.loop-item.names name) (in_item item (word_declaring name (tree_at d)))) (sym w.in_default.is))
-        c.loop-item.invariant
+          more
+          (λ name. ap (λ t. entry_in t name) w.names-is ∙ none_more (entry_in c.loop-item.names) item name ∙ ap (λ d. or_else (entry_in c.loop-item.names name) (in_item item (word_declaring name (tree_at d)))) (sym w.in_default.is))
+          c.loop-item.invariant
     ]
