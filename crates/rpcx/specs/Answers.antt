@@ -32,9 +32,13 @@ counted_line name count = counted_by name (decimal count)
 abbrev pub token_line : Lexeme → List ℕ
 token_line t = decimal t.start ++ codes " " ++ decimal t.end ++ codes " " ++ kind_name t.kind ++ codes "\n"
 
+-- `LINE:COL`
+abbrev pub fault_place : Fault → List ℕ
+fault_place f = decimal f.line ++ codes ":" ++ decimal f.col
+
 -- `LINE:COL CODE NAME`
 abbrev pub fault_line : Fault → List ℕ
-fault_line f = decimal f.line ++ codes ":" ++ decimal f.col ++ codes " " ++ fault_text f.code ++ codes "\n"
+fault_line f = fault_place f ++ codes " " ++ fault_text f.code ++ codes "\n"
 
 abbrev pub tokens_answer : List Lexeme → List ℕ
 tokens_answer ts = counted_line (codes "tokens") (length ts) ++ flat_map token_line ts

@@ -1,8 +1,11 @@
 -- What a run of `rpcgen` does.
-use Rattle.std.specs.Prelude.{ℕ, Bool, MatchBool, ◌-◌, ◌≤◌, ◌==◌, List, Option, length, take, drop, codes, if◌then◌else◌}
-use Rattle.std.specs.List.{after_last}
+use Rattle.std.specs.Prelude.{ℕ, Bool, MatchBool, ◌-◌, ◌≤◌, ◌==◌, List, ◌++◌, Option, length, take, drop, codes, if◌then◌else◌}
+use Rattle.std.specs.List.{after_last, flat_map}
 use Rattle.std.specs.Io.KnownBytes.{Appends}
 use Rattle.std.specs.Str.{bytes_eq}
+use Rattle.rpcx.specs.declared.fault.Fault.{Fault}
+use Rattle.rpcx.specs.Faults.{fault_text}
+use Rattle.rpcx.specs.Answers.{fault_place}
 
 -- a name without a final `.x`
 abbrev pub without_x : List ℕ → List ℕ
@@ -19,3 +22,11 @@ Grows before after text = (count : ℕ) × (count ≤ length text) × Appends be
 -- a sink was told a text: it took all, or it has failed with a front
 abbrev pub IsTold : Option (List ℕ) → Option (List ℕ) → Bool → List ℕ → Type 0
 IsTold before after failed text = MatchBool failed (Grows before after text) (Appends before after text)
+
+-- `FILE:LINE:COL: CODE NAME`
+abbrev pub told_fault : List ℕ → Fault → List ℕ
+told_fault file f = file ++ codes ":" ++ fault_place f ++ codes ": " ++ fault_text f.code ++ codes "\n"
+
+-- the faults of a file's text, one a line
+abbrev pub told_faults : List ℕ → List Fault → List ℕ
+told_faults file fs = flat_map (told_fault file) fs

@@ -8,7 +8,7 @@ ghost use Rattle.x_item.specs.View.{view_definition};
 ghost use Rattle.rpcx.specs.Compile.{tokens_of, definitions_of, faults_of};
 ghost use Rattle.rpcx.specs.Header.{header};
 ghost use Rattle.rpcx.specs.Listings.{definition_line};
-ghost use Rattle.rpcx.specs.Answers.{counted_by, token_line, fault_line, tokens_answer, definitions_answer, faults_answer, text_answer};
+ghost use Rattle.rpcx.specs.Answers.{counted_by, token_line, fault_line, tokens_answer, definitions_answer, fault_place, faults_answer, text_answer};
 
 use crate::definition::{keyword, shown_name};
 use crate::{Fault, Session, Which};
@@ -62,14 +62,21 @@ fn add_definition<S: Sink>(item: usize, definition: &Definition, pen: &mut Pen, 
     pen.add(b"\n", sink);
 }
 
-/// Adds the line of a fault.
-#[tactic(auto, using(crate::proofs::Adding::six))]
-fn add_fault<S: Sink>(fault: &Fault, pen: &mut Pen, sink: &mut S)
-    ensures { Adds pen.old (S.contents sink.old) (S.has_failed sink.old) pen.new (S.contents sink.new) (S.has_failed sink.new) (fault_line fault.now) }
+/// Adds the place of a fault.
+pub(crate) fn add_place<S: Sink>(fault: &Fault, pen: &mut Pen, sink: &mut S)
+    ensures { Adds pen.old (S.contents sink.old) (S.has_failed sink.old) pen.new (S.contents sink.new) (S.has_failed sink.new) (fault_place fault.now) }
 {
     add_number(fault.line as usize, pen, sink);
     pen.add(b":", sink);
     add_number(fault.col as usize, pen, sink);
+}
+
+/// Adds the line of a fault.
+#[tactic(auto, using(crate::proofs::Adding::four))]
+fn add_fault<S: Sink>(fault: &Fault, pen: &mut Pen, sink: &mut S)
+    ensures { Adds pen.old (S.contents sink.old) (S.has_failed sink.old) pen.new (S.contents sink.new) (S.has_failed sink.new) (fault_line fault.now) }
+{
+    add_place(fault, pen, sink);
     pen.add(b" ", sink);
     pen.add(fault.code.text().as_bytes(), sink);
     pen.add(b"\n", sink);

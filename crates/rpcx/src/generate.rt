@@ -3,16 +3,18 @@
 ghost use Rattle.std.specs.Prelude.{◌≡◌, ◌≢◌, ◌⊎◌, true, false, not, ◌<◌, ◌==◌, ◌++◌, codes, [], Some, None, IsTrue, IfOk, OnOk, IfErr, IsErrOf, length, if◌then◌else◌};
 ghost use Rattle.std.specs.List.{after_last};
 ghost use Rattle.std.specs.Io.KnownBytes.{Appends};
+ghost use Rattle.x_text.specs.Writing.{Adds};
 ghost use Rattle.x_text.specs.declared.source.TheConstants.{MAX_TEXT};
-ghost use Rattle.rpcx.specs.Generate.{base_of, without_x, Grows, IsTold};
+ghost use Rattle.rpcx.specs.Generate.{base_of, without_x, told_fault, told_faults, Grows, IsTold};
 ghost use Rattle.rpcx.specs.Session.{Compiles};
 ghost use Rattle.rpcx.specs.Compile.{definitions_of, faults_of};
 ghost use Rattle.rpcx.specs.Listings.{are_constants};
 ghost use Rattle.rpcx.specs.Header.{header};
 
-use crate::{GenArgs, Session, Which};
+use crate::answer::add_place;
+use crate::{Fault, GenArgs, Session, Which};
 use memchr::memrchr;
-use std::alloc::{AllocError, Global};
+use std::alloc::Global;
 use x_text::{Pen, Sink, TextFault};
 
 /// The status of a run whose text has faults.
@@ -78,14 +80,16 @@ pub fn gen_open<E: Sink>(
     ensures opened { IfOk result (λ s. s ≡ record { base = base_of file.now; text = bytes.now }) }
     ensures clean { OnOk result (Compiles bytes.now (λ items. faults_of bytes.now items ≡ [])) }
     ensures constants { OnOk result (Compiles bytes.now (λ items. are_constants (definitions_of items) ≡ true)) }
-    ensures faulty { IsErrOf result 1 → Compiles bytes.now (λ items. 0 < length (faults_of bytes.now items)) }
+    ensures faulty { IsErrOf result 1 → Compiles bytes.now (λ items. (0 < length (faults_of bytes.now items))
+        × IsTold (E.contents err.old) (E.contents err.new) (E.has_failed err.new) (told_faults file.now (faults_of bytes.now items))) }
     ensures too_large { MAX_TEXT < length bytes.now → IsErrOf result 2 }
     ensures others { IfErr result (λ status. (status ≡ 1) ⊎ (status ≡ 2)) }
 {
     match Session::open(alloc, base(file), bytes) {
         Ok(session) => {
             if session.fault_count() > 0 {
-                return Err(tell_faults(alloc, file, &session, err));
+                tell_faults(file, session.faults(), err);
+                return Err(FAULTY);
             }
             if !session.has_constants_alone() {
                 tell_of_file("rpcgen", file, ": only const definitions yet\n", err);
@@ -116,36 +120,27 @@ pub fn tell_of_file<E: Sink>(program: &str, file: &str, wrong: &str, err: &mut E
     let _ = pen.finish(err);
 }
 
-/// Writes the faults of a text, one a line, and answers the status.
-fn tell_faults<E: Sink>(alloc: Global, file: &str, session: &Session, err: &mut E) -> u8
-    ensures { (result ≡ 1) ⊎ (result ≡ 2) }
+/// Writes the faults of a file's text, one a line.
+fn tell_faults<E: Sink>(file: &str, faults: &[Fault], err: &mut E)
+    ensures { IsTold (E.contents err.old) (E.contents err.new) (E.has_failed err.new) (told_faults file.now faults.now) }
 {
     let mut pen = Pen::new();
-    for index in 0..session.fault_count() {
-        if add_fault(alloc, file, session, index, &mut pen, err).is_err() {
-            pen.add(b"rpcgen: out of memory\n", err);
-            let _ = pen.finish(err);
-            return FAILED;
-        }
+    for fault in faults {
+        add_fault(file, fault, &mut pen, err);
     }
     let _ = pen.finish(err);
-    FAULTY
 }
 
-/// Writes one fault of a text.
-fn add_fault<E: Sink>(
-    alloc: Global,
-    file: &str,
-    session: &Session,
-    index: usize,
-    pen: &mut Pen,
-    err: &mut E,
-) -> Result<(), AllocError> {
-    if let Some(fault) = session.fault(index) {
-        let line = format!(in alloc; "{file}:{}:{}: {}\n", fault.line, fault.col, fault.code)?;
-        pen.add(line.as_bytes(), err);
-    }
-    Ok(())
+/// Adds the line that tells a fault of a file's text.
+fn add_fault<E: Sink>(file: &str, fault: &Fault, pen: &mut Pen, err: &mut E)
+    ensures { Adds pen.old (E.contents err.old) (E.has_failed err.old) pen.new (E.contents err.new) (E.has_failed err.new) (told_fault file.now fault.now) }
+{
+    pen.add(file.as_bytes(), err);
+    pen.add(b":", err);
+    add_place(fault, pen, err);
+    pen.add(b": ", err);
+    pen.add(fault.code.text().as_bytes(), err);
+    pen.add(b"\n", err);
 }
 
 /// Writes a generated text and flushes the output, and answers whether it took all.

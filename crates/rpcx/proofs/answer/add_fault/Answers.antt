@@ -1,19 +1,19 @@
 use Rattle.std.proofs.Common.{◌++◌, codes, subst, ◌∙◌}
-use Rattle.std.specs.Fmt.{decimal}
 use Rattle.x_text.specs.Writing.{Adds}
-use Rattle.rpcx.proofs.Adding.{six}
+use Rattle.rpcx.specs.Answers.{fault_place}
+use Rattle.rpcx.proofs.Adding.{four}
 use Rattle.rpcx.proofs.answer.add_fault.Goals as goal
 
 pub returns : goal.returns
 returns g c =
     let start = g.S.Sink.contents c.args.sink.now in
     let failed = g.S.Sink.has_failed c.args.sink.now in
-    let end = g.S.Sink.contents c.add-4.new.sink in
-    let fails = g.S.Sink.has_failed c.add-4.new.sink in
-    let told = six c.args.pen.now c.add_number.new.pen c.add.new.self c.add_number-2.new.pen c.add-2.new.self c.add-3.new.self c.add-4.new.self
-    start (g.S.Sink.contents c.add_number.new.sink) (g.S.Sink.contents c.add.new.sink) (g.S.Sink.contents c.add_number-2.new.sink) (g.S.Sink.contents c.add-2.new.sink) (g.S.Sink.contents c.add-3.new.sink) end
-    failed (g.S.Sink.has_failed c.add_number.new.sink) (g.S.Sink.has_failed c.add.new.sink) (g.S.Sink.has_failed c.add_number-2.new.sink) (g.S.Sink.has_failed c.add-2.new.sink) (g.S.Sink.has_failed c.add-3.new.sink) fails
-    (decimal c.args.fault.now.line) (codes ":") (decimal c.args.fault.now.col) (codes " ") c.as_bytes.result.now (codes "\n")
-    c.add_number.ensures c.add.ensures c.add_number-2.ensures c.add-2.ensures c.add-3.ensures c.add-4.ensures in
+    let end = g.S.Sink.contents c.add-3.new.sink in
+    let fails = g.S.Sink.has_failed c.add-3.new.sink in
+    let told = four c.args.pen.now c.add_place.new.pen c.add.new.self c.add-2.new.self c.add-3.new.self
+    start (g.S.Sink.contents c.add_place.new.sink) (g.S.Sink.contents c.add.new.sink) (g.S.Sink.contents c.add-2.new.sink) end
+    failed (g.S.Sink.has_failed c.add_place.new.sink) (g.S.Sink.has_failed c.add.new.sink) (g.S.Sink.has_failed c.add-2.new.sink) fails
+    (fault_place c.args.fault.now) (codes " ") c.as_bytes.result.now (codes "\n")
+    c.add_place.ensures c.add.ensures c.add-2.ensures c.add-3.ensures in
     let code = c.as_bytes.ensures.value ∙ c.text.ensures in
-    subst (λ k. Adds c.args.pen.now start failed c.add-4.new.self end fails (decimal c.args.fault.now.line ++ codes ":" ++ decimal c.args.fault.now.col ++ codes " " ++ k ++ codes "\n")) code told
+    subst (λ k. Adds c.args.pen.now start failed c.add-3.new.self end fails (fault_place c.args.fault.now ++ codes " " ++ k ++ codes "\n")) code told

@@ -1,7 +1,9 @@
-use Rattle.std.proofs.Common.{◌≡◌, ℕ, ◌≤◌, List, [], ◌∷◌, length, ap, subst, refl, arith}
+use Rattle.std.proofs.Common.{◌≡◌, ℕ, ◌<◌, ◌≤◌, List, [], ◌∷◌, length, ap, subst, ◌∙◌, refl, arith}
 use Rattle.rpcx.specs.Session.{Compiles}
 use Rattle.rpcx.specs.Compile.{faults_of}
 use Rattle.rpcx.specs.declared.fault.Fault.{Fault}
+use Rattle.rpcx.specs.Generate.{told_faults, IsTold}
+use Rattle.rpcx.proofs.Compiled.{one_compilation}
 use Rattle.rpcx.proofs.generate.gen_open.Goals as goal
 
 no_fault : (fs : List Fault) (n : ℕ) → n ≡ length fs → n ≤ 0 → fs ≡ []
@@ -13,3 +15,19 @@ returns-else-not-has_constants_alone-clause-clean g c =
     let h = c.fault_count.ensures in
     let text = ap (λ s. s.text) c.in-Ok.ensures.opened in
     subst (λ t. Compiles t (λ items. faults_of t items ≡ [])) text (h.0, h.1, h.2, no_fault (faults_of c.in-Ok.session.text h.1) c.fault_count.result h.3 c.if-fault_count-gt0.false)
+
+pub returns-then-fault_count-gt0-clause-faulty : goal.returns-then-fault_count-gt0-clause-faulty
+returns-then-fault_count-gt0-clause-faulty g c e =
+    let count = c.fault_count.ensures in
+    let all = c.faults.ensures in
+    let here = c.in-Ok.session.text in
+    let before = g.E.Sink.contents c.args.err.now in
+    let after = g.E.Sink.contents c.tell_faults.new.err in
+    let failed = g.E.Sink.has_failed c.tell_faults.new.err in
+    let same : count.1 ≡ all.1 = (one_compilation here count.0 all.0 count.1 all.1 count.2 all.2).1 in
+    let long : c.fault_count.result ≡ length (faults_of here all.1) = count.3 ∙ ap (λ is. length (faults_of here is)) same in
+    let some : 0 < length (faults_of here all.1) = let more = c.if-fault_count-gt0.true in omega (arith, long, more) in
+    let told : IsTold before after failed (told_faults c.args.file.now (faults_of here all.1)) =
+    subst (λ fs. IsTold before after failed (told_faults c.args.file.now fs)) all.3 c.tell_faults.ensures in
+    subst (λ t. Compiles t (λ items. (0 < length (faults_of t items)) × IsTold before after failed (told_faults c.args.file.now (faults_of t items)))) (ap (λ s. s.text) c.in-Ok.ensures.opened)
+    (all.0, all.1, all.2, (some, told))
