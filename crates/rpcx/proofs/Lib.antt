@@ -18,4 +18,5 @@ pub mod ReadingLemmas
 pub mod Running
 pub mod Scripts
 pub mod SearchLemmas
+pub mod Stopped
 pub mod WalkLemmas

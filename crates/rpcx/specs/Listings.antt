@@ -1,4 +1,4 @@
--- How the definitions of a text are listed.
+-- How the definitions of a text are listed, and which of them define constants.
 use Rattle.std.specs.Prelude.{ℕ, suc, Bool, true, false, ◌&&◌, List, [], ◌∷◌, ◌++◌, Option, Some, None, codes}
 use Rattle.std.specs.Fmt.{decimal}
 use Rattle.x_item.specs.Tree.{Body, Enum, Struct, Union, Declaration, Void, Of, Opaque, String, Definition, Const, Typedef, NewType, Program}

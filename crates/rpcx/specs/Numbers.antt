@@ -21,7 +21,7 @@ is_negative text = slice_index text 0 == 45
 abbrev pub is_hexadecimal : List ℕ → Bool
 is_hexadecimal text = slice_index text 0 == 48 && (slice_index text 1 == 120 || slice_index text 1 == 88)
 
--- the number without its sign: hexadecimal behind `0x`, octal behind `0`, else decimal
+-- the number without its sign: hexadecimal behind `0x` or `0X`, octal behind `0`, else decimal
 unfoldable pub magnitude : List ℕ → ℕ
 magnitude text =
     if is_hexadecimal text then value_in 16 (drop 2 text)

@@ -30,7 +30,7 @@ pub record IsGiven (a : Answer) (old new : Opened) (refused : Bool) (p : Inked) 
   pub session_is : new ≡ record old { text = a.text }
 
 -- Of the script, which the tap told at first, the reader has given these lines; what is left stands unread in the reader and in the tap.
--- But at the end, they and those of what is unread are also the lines that line feeds end, whatever comes behind what was read.
+-- Except at the end, they and those of what is unread are also the lines that line feeds end, whatever comes behind what was read.
 pub record HasGiven (script : List ℕ) (reader : Reading) (left : Option (List ℕ)) (given : List (List ℕ)) : Type 0 where
   pub read : List ℕ
   pub unread : List ℕ

@@ -25,7 +25,7 @@ fn add_number<I: Integer, S: Sink>(number: I, pen: &mut Pen, sink: &mut S)
     pen.add(buffer.format(number).as_bytes(), sink);
 }
 
-/// Adds how many things of a name there are.
+/// Adds a line with a name and a count.
 #[tactic(auto, using(crate::proofs::Adding::four))]
 pub(crate) fn add_counted<I: Integer, S: Sink>(name: &str, count: I, pen: &mut Pen, sink: &mut S)
     ensures { Adds pen.old (S.contents sink.old) (S.has_failed sink.old) pen.new (S.contents sink.new) (S.has_failed sink.new) (counted_by name.now (I.text count)) }

@@ -1,4 +1,4 @@
-//! How a definition is listed: by its keyword and its own name.
+//! How a definition is listed, by its keyword and its own name, and whether it is that of a constant.
 
 ghost use Rattle.std.specs.Prelude.{◌≡◌, option_map};
 ghost use Rattle.x_item.specs.View.{view_body, view_declaration, view_definition};

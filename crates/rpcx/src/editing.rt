@@ -3,16 +3,16 @@
 ghost use Rattle.std.specs.Prelude.{◌≡◌, ◌≢◌, ◌⊎◌, ◌<◌, IfOk, MatchOption, codes, length, map};
 ghost use Rattle.clap.specs.Words.{FailsBy, app_of, fault_of, matches_of};
 ghost use Rattle.x_text.specs.declared.source.TheConstants.{MAX_TEXT};
-ghost use Rattle.rpcx.specs.Generate.{base_of};
+ghost use Rattle.rpcx.specs.Generate.{base_of, stop_told, IsTold, NotRun, Stops};
 ghost use Rattle.rpcx.specs.Script.{Answers, WorksOn};
 ghost use Rattle.rpcx.specs.Args.{AlwaysHas, IsEditArgs, edit_app};
 
-use crate::generate::base;
-use crate::{EngineFault, Outcome, Session, complain, run_script, tell_of_file};
+use crate::generate::{base, tell_unopened};
+use crate::{EngineFault, Outcome, Session, complain, run_script};
 use clap::{Arg, ArgAction, Command, Error};
 use std::alloc::{AllocError, Global};
 use std::convert::AsStr;
-use x_text::{Sink, Tap, TextFault};
+use x_text::{Sink, Tap};
 
 /// What a command line of `rpcedit` asks for.
 #[derive(Clone, Copy, Debug, PartialEq, Eq)]
@@ -60,17 +60,15 @@ pub fn edit_run<I: Tap, O: Sink, E: Sink>(
 ) -> u8
     ensures status { (result ≡ 0) ⊎ (result ≡ 1) ⊎ (result ≡ 2) }
     ensures too_large { MAX_TEXT < length bytes.now → result ≡ 2 }
+    ensures failed { result ≡ 2 → NotRun args.now.file.now bytes.now (E.contents err.old) (E.contents err.new) (E.has_failed err.new) (I.has_failed input.new) (O.has_failed out.new) }
+    ensures quiet { result ≢ 2 → err.new ≡ err.old }
     ensures working { result ≢ 2 → WorksOn (O.has_failed out.old) (O.has_failed out.new) }
     ensures answers { MatchOption (I.remaining input.old) (Unit {0}) (λ script. Answers script (base_of args.now.file.now) bytes.now (O.contents out.old) (O.contents out.new) result) }
 {
     let mut session = match Session::open(alloc, base(args.file), bytes) {
         Ok(session) => session,
-        Err(TextFault::TooLarge) => {
-            tell_of_file("rpcedit", args.file, ": 2 TooLarge\n", err);
-            return 2;
-        }
-        Err(_) => {
-            complain("rpcedit: out of memory\n", err);
+        Err(fault) => {
+            tell_unopened("rpcedit", args.file, fault, err);
             return 2;
         }
     };
@@ -86,6 +84,8 @@ fn answer_input<I: Tap, O: Sink, E: Sink>(
     err: &mut E,
 ) -> u8
     ensures status { (result ≡ 0) ⊎ (result ≡ 1) ⊎ (result ≡ 2) }
+    ensures failed { result ≡ 2 → Stops (E.contents err.old) (E.contents err.new) (E.has_failed err.new) (I.has_failed input.new) (O.has_failed out.new) }
+    ensures quiet { result ≢ 2 → err.new ≡ err.old }
     ensures working { result ≢ 2 → WorksOn (O.has_failed out.old) (O.has_failed out.new) }
     ensures answers { MatchOption (I.remaining input.old) (Unit {0}) (λ script. Answers script session.old.base session.old.text (O.contents out.old) (O.contents out.new) result) }
 {
@@ -100,7 +100,9 @@ fn answer_input<I: Tap, O: Sink, E: Sink>(
 }
 
 /// Writes why a script stopped.
-fn tell_fault<E: Sink>(fault: EngineFault, err: &mut E) {
+fn tell_fault<E: Sink>(fault: EngineFault, err: &mut E)
+    ensures { IsTold (E.contents err.old) (E.contents err.new) (E.has_failed err.new) (stop_told fault) }
+{
     match fault {
         EngineFault::Read { .. } => complain("rpcedit: -: cannot be read\n", err),
         EngineFault::Write { .. } => complain("rpcedit: output cannot be written\n", err),

@@ -5,7 +5,7 @@ ghost use Rattle.std.specs.List.{after_last};
 ghost use Rattle.std.specs.Io.KnownBytes.{Appends};
 ghost use Rattle.x_text.specs.Writing.{Adds};
 ghost use Rattle.x_text.specs.declared.source.TheConstants.{MAX_TEXT};
-ghost use Rattle.rpcx.specs.Generate.{base_of, without_x, told_fault, told_faults, Grows, IsTold};
+ghost use Rattle.rpcx.specs.Generate.{base_of, without_x, unopened_told, told_fault, told_faults, Grows, IsTold, NotOpened};
 ghost use Rattle.rpcx.specs.Session.{Compiles};
 ghost use Rattle.rpcx.specs.Compile.{definitions_of, faults_of};
 ghost use Rattle.rpcx.specs.Listings.{are_constants};
@@ -36,6 +36,7 @@ pub fn complain<E: Sink>(text: &str, err: &mut E)
 pub fn gen_mode<E: Sink>(args: &GenArgs, err: &mut E) -> Option<Which>
     ensures mode { result ≡ (if args.now.header then Some Which.Header else None) }
     ensures told { result ≡ None → IsTold (E.contents err.old) (E.contents err.new) (E.has_failed err.new) (codes "rpcgen: exactly one of -c, -h, -l, -t\n") }
+    ensures quiet { result ≢ None → err.new ≡ err.old }
 {
     if args.header {
         return Some(Which::Header);
@@ -83,7 +84,9 @@ pub fn gen_open<E: Sink>(
     ensures faulty { IsErrOf result 1 → Compiles bytes.now (λ items. (0 < length (faults_of bytes.now items))
         × IsTold (E.contents err.old) (E.contents err.new) (E.has_failed err.new) (told_faults file.now (faults_of bytes.now items))) }
     ensures too_large { MAX_TEXT < length bytes.now → IsErrOf result 2 }
+    ensures failed { IsErrOf result 2 → NotOpened file.now bytes.now (E.contents err.old) (E.contents err.new) (E.has_failed err.new) }
     ensures others { IfErr result (λ status. (status ≡ 1) ⊎ (status ≡ 2)) }
+    ensures quiet { OnOk result (err.new ≡ err.old) }
 {
     match Session::open(alloc, base(file), bytes) {
         Ok(session) => {
@@ -97,12 +100,8 @@ pub fn gen_open<E: Sink>(
             }
             Ok(session)
         }
-        Err(TextFault::TooLarge) => {
-            tell_of_file("rpcgen", file, ": 2 TooLarge\n", err);
-            Err(FAILED)
-        }
-        Err(_) => {
-            complain("rpcgen: out of memory\n", err);
+        Err(fault) => {
+            tell_unopened("rpcgen", file, fault, err);
             Err(FAILED)
         }
     }
@@ -118,6 +117,18 @@ pub fn tell_of_file<E: Sink>(program: &str, file: &str, wrong: &str, err: &mut E
     pen.add(file.as_bytes(), err);
     pen.add(wrong.as_bytes(), err);
     let _ = pen.finish(err);
+}
+
+/// Writes why a file's text is not opened, behind the name of the program.
+pub(crate) fn tell_unopened<E: Sink>(program: &str, file: &str, fault: TextFault, err: &mut E)
+    ensures { IsTold (E.contents err.old) (E.contents err.new) (E.has_failed err.new) (unopened_told program.now file.now fault) }
+{
+    match fault {
+        TextFault::TooLarge => tell_of_file(program, file, ": 2 TooLarge\n", err),
+        TextFault::NoMemory => tell_of_file(program, "out of memory", "\n", err),
+        // No text is refused for a range.
+        TextFault::BadRange => tell_of_file(program, "out of memory", "\n", err),
+    }
 }
 
 /// Writes the faults of a file's text, one a line.
@@ -160,6 +171,8 @@ pub fn gen_write<O: Sink, E: Sink>(which: Which, session: &Session, out: &mut O,
     ensures written { result ≡ 0 → Compiles session.now.text (λ items. Appends (O.contents out.old) (O.contents out.new) (header session.now.base items)) }
     ensures front { result ≢ 0 → Compiles session.now.text (λ items. Grows (O.contents out.old) (O.contents out.new) (header session.now.base items)) }
     ensures status { result ≡ (if O.has_failed out.new then 2 else 0) }
+    ensures told { result ≢ 0 → IsTold (E.contents err.old) (E.contents err.new) (E.has_failed err.new) (codes "rpcgen: output cannot be written\n") }
+    ensures quiet { result ≡ 0 → err.new ≡ err.old }
 {
     if is_written(which, session, out) {
         return 0;

@@ -47,7 +47,7 @@ pub enum EngineFault {
     NoMemory { written: u64 },
 }
 
-/// Carries out the script that a tap gives, line by line, and writes their answers, each before the next line is carried out.
+/// Carries out the script that a tap gives, line by line, and writes the answer to each line before it carries out the next.
 ///
 /// # Errors
 /// The tap or the sink failed, or memory ran out: the lines before are answered and carried out. Where the sink failed, the line

@@ -185,13 +185,18 @@ fn a_run_tells_what_is_wrong(rt: HostRuntime) -> Result<(), Fail> {
         gen_open(rt.alloc(), "t.x", b"typedef void;", &mut err).err(),
         Some(2)
     );
+    let both = b"typedef void; const A = 99999999999999999999;";
+    assert_eq!(rt;
+        gen_open(rt.alloc(), "t.x", both, &mut err).err(),
+        Some(1)
+    );
     let large = vec![in rt.alloc(); b' '; MAX_TEXT + 1]?;
     assert_eq!(rt;
         gen_open(rt.alloc(), "t.x", &large, &mut err).err(),
         Some(2)
     );
     let wanted =
-        "rpcgen: exactly one of -c, -h, -l, -t\na/t.x:1:20: 20 Duplicate\na/t.x:2:11: 15 Unfinished\nrpcgen: t.x: only const definitions yet\nrpcgen: t.x: 2 TooLarge\n";
+        "rpcgen: exactly one of -c, -h, -l, -t\na/t.x:1:20: 20 Duplicate\na/t.x:2:11: 15 Unfinished\nrpcgen: t.x: only const definitions yet\nt.x:1:25: 25 Range\nrpcgen: t.x: 2 TooLarge\n";
     assert_eq!(rt; err.bytes(), wanted.as_bytes());
     Ok(())
 }
