@@ -186,10 +186,7 @@ fn a_run_tells_what_is_wrong(rt: HostRuntime) -> Result<(), Fail> {
         Some(2)
     );
     let both = b"typedef void; const A = 99999999999999999999;";
-    assert_eq!(rt;
-        gen_open(rt.alloc(), "t.x", both, &mut err).err(),
-        Some(1)
-    );
+    assert_eq!(rt; gen_open(rt.alloc(), "t.x", both, &mut err).err(), Some(1));
     let large = vec![in rt.alloc(); b' '; MAX_TEXT + 1]?;
     assert_eq!(rt;
         gen_open(rt.alloc(), "t.x", &large, &mut err).err(),
