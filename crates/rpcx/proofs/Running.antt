@@ -1,5 +1,5 @@
 -- How a run of a script goes on.
-use Rattle.std.proofs.Common.{◌≡◌, ◌≤◌, ℕ, arith, Bool, true, false, ◌||◌, List, [], ◌∷◌, ◌++◌, length, Option, Some, None, Ok, refl, sym, ap, subst, ◌∙◌, append-nil}
+use Rattle.std.proofs.Common.{◌≡◌, ◌≤◌, ℕ, arith, Bool, true, false, ◌||◌, List, [], ◌∷◌, ◌++◌, length, Option, Some, None, Ok, Err, refl, sym, ap, subst, ◌∙◌, append-nil, ◌⊎◌, inl, inr}
 use Rattle.std.specs.Prelude.{MatchOption}
 use Rattle.std.specs.Io.KnownBytes.{Appends}
 use Rattle.x_text.specs.Writing.{Inked, Writes, Adds, counted}
@@ -10,8 +10,9 @@ use Rattle.rpcx.specs.Lines.{Reading, IsUnread, script_lines}
 use Rattle.x_lex.specs.declared.kind.Kind.{Kind}
 use Rattle.rpcx.specs.Compile.{Item, IsCompilation}
 use Rattle.rpcx.specs.declared.lines.State.TheVariants.{Between}
-use Rattle.rpcx.specs.Script.{then_answer, AreAnswered, IsGiven, HasGiven, IsAsBefore, HasRun, HasStopped, HasFailed, IsFrontOf, Runs, Answers, is_refused, status_of, WorksOn, AddsIfFound}
+use Rattle.rpcx.specs.Script.{then_answer, AreAnswered, IsGiven, HasGiven, IsAsBefore, HasRun, HasStopped, HasFailed, IsFrontOf, Runs, Answers, is_refused, status_of, WorksOn, AddsIfFound, EndsEarly, IsUntouched}
 use Rattle.rpcx.specs.declared.script.Outcome.{Outcome}
+use Rattle.rpcx.specs.declared.script.EngineFault.{EngineFault}
 use Rattle.rpcx.proofs.Scripts.{answered_more}
 
 -- between two lines: the lines that were given are answered, and their answers are written
@@ -226,3 +227,21 @@ fails_at_stop start p q r now now' now'' tap tap' sink f g k h added flushed sto
 
 pub added_some : {S : Type 0} (found : Option Bool) (refused : Bool) (s s' : S) (Added : Type 0) → found ≡ Some refused → AddsIfFound (Ok found) s s' Added → Added
 added_some found refused s s' Added is h = subst (λ f. AddsIfFound (Ok f) s s' Added) is h
+
+-- what a run says where a fault ended it
+pub ends_early : (at left : Option (List ℕ)) (old new : Opened) (before after : Option (List ℕ)) (failed : Bool) (fault : EngineFault) → MatchOption at (Unit {0}) (λ script. Runs script left old new before after failed (Err fault))
+    → MatchOption at (Unit {0}) (λ script. EndsEarly script left old.base old.text before after failed)
+ends_early None left old new before after failed fault h = h
+ends_early (Some script) left old new before after failed fault h = (fault, new, h)
+
+-- a run that was not begun
+pub not_begun : (at : Option (List ℕ)) (base text : List ℕ) (contents : Option (List ℕ)) (failed : Bool)
+    → MatchOption at (Unit {0}) (λ script. IsUntouched script at contents contents ⊎ EndsEarly script at base text contents contents failed)
+not_begun None base text contents failed = tt
+not_begun (Some script) base text contents failed = inl (record { unread = refl; unwritten = refl })
+
+-- a run that was begun
+pub begun : (at left : Option (List ℕ)) (base text : List ℕ) (before after : Option (List ℕ)) (failed : Bool) → MatchOption at (Unit {0}) (λ script. EndsEarly script left base text before after failed)
+    → MatchOption at (Unit {0}) (λ script. IsUntouched script left before after ⊎ EndsEarly script left base text before after failed)
+begun None left base text before after failed h = h
+begun (Some script) left base text before after failed h = inr h

@@ -126,3 +126,13 @@ status_of refused = if refused then 1 else 0
 abbrev pub Answers : (script base text : List ℕ) (before after : Option (List ℕ)) (status : ℕ) → Type 0
 Answers script base text before after status =
     (refused : Bool) → status ≡ status_of refused → (new : Opened) × HasRun (script_lines script) (record { base = base; text = text }) new before after refused
+
+-- nothing of the script was read, and nothing was written
+pub record IsUntouched (script : List ℕ) (left before after : Option (List ℕ)) : Type 0 where
+  pub unread : left ≡ Some script
+  pub unwritten : after ≡ before
+
+-- A run over a text that a fault ends: the sink has what the run of the script says of that fault.
+abbrev pub EndsEarly : (script : List ℕ) (left : Option (List ℕ)) (base text : List ℕ) (before after : Option (List ℕ)) (failed : Bool) → Type 0
+EndsEarly script left base text before after failed =
+    (fault : EngineFault) × (new : Opened) × Runs script left (record { base = base; text = text }) new before after failed (Err fault)

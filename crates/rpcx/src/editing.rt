@@ -4,7 +4,7 @@ ghost use Rattle.std.specs.Prelude.{◌≡◌, ◌≢◌, ◌⊎◌, ◌<◌, If
 ghost use Rattle.clap.specs.Words.{FailsBy, app_of, fault_of, matches_of};
 ghost use Rattle.x_text.specs.declared.source.TheConstants.{MAX_TEXT};
 ghost use Rattle.rpcx.specs.Generate.{base_of, stop_told, IsTold, NotRun, Stops};
-ghost use Rattle.rpcx.specs.Script.{Answers, WorksOn};
+ghost use Rattle.rpcx.specs.Script.{Answers, EndsEarly, IsUntouched, WorksOn};
 ghost use Rattle.rpcx.specs.Args.{AlwaysHas, IsEditArgs, edit_app};
 
 use crate::generate::{base, tell_unopened};
@@ -64,6 +64,9 @@ pub fn edit_run<I: Tap, O: Sink, E: Sink>(
     ensures quiet { result ≢ 2 → err.new ≡ err.old }
     ensures working { result ≢ 2 → WorksOn (O.has_failed out.old) (O.has_failed out.new) }
     ensures answers { MatchOption (I.remaining input.old) (Unit {0}) (λ script. Answers script (base_of args.now.file.now) bytes.now (O.contents out.old) (O.contents out.new) result) }
+    ensures ended { result ≡ 2 → MatchOption (I.remaining input.old) (Unit {0}) (λ script.
+        IsUntouched script (I.remaining input.new) (O.contents out.old) (O.contents out.new)
+        ⊎ EndsEarly script (I.remaining input.new) (base_of args.now.file.now) bytes.now (O.contents out.old) (O.contents out.new) (O.has_failed out.new)) }
 {
     let mut session = match Session::open(alloc, base(args.file), bytes) {
         Ok(session) => session,
@@ -88,6 +91,8 @@ fn answer_input<I: Tap, O: Sink, E: Sink>(
     ensures quiet { result ≢ 2 → err.new ≡ err.old }
     ensures working { result ≢ 2 → WorksOn (O.has_failed out.old) (O.has_failed out.new) }
     ensures answers { MatchOption (I.remaining input.old) (Unit {0}) (λ script. Answers script session.old.base session.old.text (O.contents out.old) (O.contents out.new) result) }
+    ensures ended { result ≡ 2 → MatchOption (I.remaining input.old) (Unit {0}) (λ script.
+        EndsEarly script (I.remaining input.new) session.old.base session.old.text (O.contents out.old) (O.contents out.new) (O.has_failed out.new)) }
 {
     match run_script(alloc, session, input, out) {
         Ok(Outcome::Clean) => 0,

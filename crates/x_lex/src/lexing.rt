@@ -16,6 +16,7 @@ pub fn lex(alloc: Global, source: &Source, meter: &mut Meter) -> Result<Tokens, 
     ensures tokens { IfOk result (λ tokens. AreTokens source.now tokens.list) }
     ensures seat { IfOk result (λ tokens. tokens.seat ≡ length tokens.list) }
     ensures ticks { IfOk result (λ tokens. meter.new.lexed ≡ raised meter.old.lexed (length tokens.list)) }
+    ensures no_fewer { meter.old.lexed ≤ meter.new.lexed }
     ensures no_memory { source.now ≡ [] → IsOk result }
     ensures others { meter.new ≡ record meter.old { lexed = meter.new.lexed } }
 {

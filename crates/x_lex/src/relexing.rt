@@ -32,6 +32,7 @@ pub fn relex(
     ensures patch { IfOk result (λ patch. IsPatch old.now new.now tokens.now.list edit.now.start edit.now.end (length edit.now.insert.now) patch) }
     ensures of_text { IfOk result (λ patch. IsOfText (patched tokens.now.list patch)) }
     ensures ticks { IfOk result (λ patch. meter.new.lexed ≡ raised meter.old.lexed (length patch.fresh)) }
+    ensures no_fewer { meter.old.lexed ≤ meter.new.lexed }
     ensures no_memory { new.now ≡ [] → IsOk result }
     ensures others { meter.new ≡ record meter.old { lexed = meter.new.lexed } }
 {
@@ -53,6 +54,7 @@ fn relex_bytes(
     requires small { length new.now ≤ MAX_TEXT }
     ensures patch { IfOk result (λ patch. IsPatch old.now new.now tokens.now.list edit.now.start edit.now.end (length edit.now.insert.now) patch) }
     ensures ticks { IfOk result (λ patch. meter.new.lexed ≡ raised meter.old.lexed (length patch.fresh)) }
+    ensures no_fewer { meter.old.lexed ≤ meter.new.lexed }
     ensures no_memory { new.now ≡ [] → IsOk result }
     ensures others { meter.new ≡ record meter.old { lexed = meter.new.lexed } }
 {
