@@ -162,6 +162,3 @@ fn hex_digit(byte: u8) -> u8
         _ => byte - b'A' + 10,
     }
 }
-
-#[cfg(test)]
-mod tests;

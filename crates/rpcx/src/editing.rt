@@ -114,6 +114,3 @@ fn tell_fault<E: Sink>(fault: EngineFault, err: &mut E)
         EngineFault::NoMemory { .. } => complain("rpcedit: out of memory\n", err),
     }
 }
-
-#[cfg(test)]
-mod tests;

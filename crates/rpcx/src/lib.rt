@@ -36,6 +36,3 @@ pub use names::{Declared, Declarer, Names, declares};
 pub use number::is_in_range;
 pub use script::{EngineFault, Outcome, run_script};
 pub use session::{Session, Which, Work};
-
-#[cfg(test)]
-mod tests;

@@ -259,6 +259,3 @@ fn drop_feed(queue: &mut ByteQueue) -> bool
         }
     }
 }
-
-#[cfg(test)]
-mod tests;

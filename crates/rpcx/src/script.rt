@@ -196,6 +196,3 @@ fn carry_out_edit<S: Sink>(
         Err(TextFault::NoMemory) => Err(NoMemory),
     }
 }
-
-#[cfg(test)]
-mod tests;

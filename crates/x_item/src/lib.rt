@@ -36,8 +36,3 @@ pub use mention::{Mention, Use, mentions};
 pub use names::{DeclaredName, NameKind, declares};
 pub use reading::is_significant;
 pub use recutting::recut;
-
-#[cfg(test)]
-mod name_tests;
-#[cfg(test)]
-mod tests;

@@ -129,6 +129,3 @@ fn item_from(
     }
     (count, place, false)
 }
-
-#[cfg(test)]
-mod tests;

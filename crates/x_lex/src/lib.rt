@@ -10,8 +10,6 @@ mod lexing;
 mod patch;
 mod relexing;
 mod scan;
-#[cfg(test)]
-mod tests;
 mod token;
 mod tokens;
 mod words;

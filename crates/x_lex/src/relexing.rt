@@ -160,6 +160,3 @@ fn advance(tokens: &Tokens, from: usize, place: usize, target: usize) -> (usize,
     }
     (index, end)
 }
-
-#[cfg(test)]
-mod tests;

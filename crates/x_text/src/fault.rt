@@ -13,6 +13,3 @@ pub enum TextFault {
     #[error("3 NoMemory")]
     NoMemory = 3,
 }
-
-#[cfg(test)]
-mod tests;

@@ -125,6 +125,3 @@ impl<T: Drop> Seq<T> for GapSeq<T> {
         moved as u64
     }
 }
-
-#[cfg(test)]
-mod tests;

@@ -41,6 +41,3 @@ impl<R: Read> Tap for In<R> {
         }
     }
 }
-
-#[cfg(test)]
-mod tests;

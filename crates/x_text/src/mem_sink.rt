@@ -94,6 +94,3 @@ impl Sink for MemSink<'_> {
         if self.failed { Err(Broken) } else { Ok(()) }
     }
 }
-
-#[cfg(test)]
-mod tests;

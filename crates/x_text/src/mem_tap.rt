@@ -74,6 +74,3 @@ impl Tap for MemTap<'_> {
         Ok(count)
     }
 }
-
-#[cfg(test)]
-mod tests;

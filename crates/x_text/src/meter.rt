@@ -91,6 +91,3 @@ impl Meter {
         self.moved = self.moved.saturating_add(count);
     }
 }
-
-#[cfg(test)]
-mod tests;

@@ -56,6 +56,3 @@ impl<W: Write> Sink for Out<W> {
         }
     }
 }
-
-#[cfg(test)]
-mod tests;

@@ -174,6 +174,3 @@ fn put_all<S: Sink>(bytes: &[u8], sink: &mut S) -> Result<(), usize>
     }
     Ok(())
 }
-
-#[cfg(test)]
-mod tests;

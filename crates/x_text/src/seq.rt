@@ -56,6 +56,3 @@ pub trait Seq<T> {
         ensures moved { result ≡ moves self.old at remove }
         ensures room { spare self.old + remove ≤ spare self.new + length new.items };
 }
-
-#[cfg(test)]
-mod tests;

@@ -122,6 +122,3 @@ impl Source {
         Lines::of(self).line_col(at)
     }
 }
-
-#[cfg(test)]
-mod tests;

@@ -1,0 +1,81 @@
+ghost use Rattle.std.specs.Prelude.{◌≡◌, length, OnOk, OnErr};
+ghost use Rattle.x_text.specs.Edits.{edited, LiesWithin};
+ghost use Rattle.x_lex.specs.Tiling.{AreTokens};
+ghost use Rattle.x_lex.specs.Places.{lexemes};
+ghost use Rattle.x_item.specs.Items.{IsCut};
+ghost use Rattle.x_item.specs.ItemList.{counts};
+
+use std::alloc::Global;
+use std::process::Abort;
+use std::test::Fail;
+use x_item::{Items, cut, recut};
+use x_lex::{Tokens, lex, relex};
+use x_text::{Edit, Meter, NoMemory, Source, TextFault};
+
+/// Makes the tokens and items of `old` those of `new`, and answers how many items were recut.
+fn follow(
+    alloc: Global,
+    items: &mut Items<u8>,
+    tokens: &mut Tokens,
+    old: &Source,
+    edit: &Edit,
+    new: &Source,
+) -> Result<usize, NoMemory>
+    requires tokens { AreTokens old.now tokens.old.list }
+    requires items { IsCut (lexemes old.now tokens.old.list) (counts items.old.list) }
+    requires within { LiesWithin old.now edit.now.start edit.now.end }
+    requires edited { new.now ≡ edited old.now edit.now.start edit.now.end edit.now.insert.now }
+    ensures tokens { OnOk result (AreTokens new.now tokens.new.list) }
+    ensures items { OnOk result (IsCut (lexemes new.now tokens.new.list) (counts items.new.list)) }
+    ensures no_tokens { OnErr result (tokens.new.list ≡ tokens.old.list) }
+    ensures no_items { OnErr result (items.new.list ≡ items.old.list) }
+{
+    let patch = relex(alloc, tokens, old, edit, new, &mut Meter::new())?;
+    let fresh = recut(alloc, items, tokens, &patch, new)?;
+    tokens.reserve(&patch)?;
+    items.reserve(&fresh)?;
+    let count = fresh.len();
+    tokens.put(patch);
+    items.put(fresh);
+    Ok(count)
+}
+
+/// Checks that the items are still those of the text `a;`.
+fn expect_as_before(rt: &impl Abort, items: &Items<u8>) {
+    assert_eq!(rt; items.len(), 2);
+    assert_eq!(rt; items.get(0).map(|item| item.tokens), Some(2));
+    assert_eq!(rt; items.get(1).map(|item| item.tokens), Some(0));
+}
+
+/// Follows an edit of the text `a;`, and checks after each refusal that its items are as before.
+fn follow_with_little_memory(rt: &impl Abort, alloc: Global) -> Result<(), TextFault> {
+    let old = Source::from_bytes(alloc, b"a;")?;
+    let Ok(mut tokens) = lex(alloc, &old, &mut Meter::new()) else {
+        return Err(TextFault::NoMemory);
+    };
+    let Ok(mut items) = cut(alloc, &tokens, &old) else {
+        return Err(TextFault::NoMemory);
+    };
+    let edit = Edit {
+        start: 2,
+        end: 2,
+        insert: b" b;",
+    };
+    let new = old.edited(alloc, &edit)?;
+    let followed = follow(alloc, &mut items, &mut tokens, &old, &edit, &new);
+    if followed.is_err() {
+        expect_as_before(rt, &items);
+        return Err(TextFault::NoMemory);
+    }
+    assert_eq!(rt; items.len(), 3);
+    Ok(())
+}
+
+#[test]
+fn sweep_recut(rt: HostRuntime) -> Result<(), Fail> {
+    match follow_with_little_memory(&rt, rt.alloc()) {
+        Ok(()) => println!(rt; "nothing was refused")?,
+        Err(fault) => assert_eq!(rt; fault, TextFault::NoMemory),
+    }
+    Ok(())
+}

@@ -1,0 +1,20 @@
+use x_lex::{Kind, has_tokens, lex_one, one_meeting, one_patch, one_tiling, tokens_by_place};
+use x_text::Meter;
+
+#[test]
+fn laws_do_nothing(_rt: HostRuntime) {
+    has_tokens();
+    one_tiling();
+    tokens_by_place();
+    one_meeting();
+    one_patch();
+}
+
+#[test]
+fn one_token_depends_on_the_line_start(rt: HostRuntime) {
+    let mut meter = Meter::new();
+    let at_start = lex_one(b"a\n% b", 2, true, &mut meter);
+    assert_eq!(rt; at_start, (Kind::Percent, 5));
+    let elsewhere = lex_one(b"a\n% b", 2, false, &mut meter);
+    assert_eq!(rt; elsewhere, (Kind::BadByte, 3));
+}

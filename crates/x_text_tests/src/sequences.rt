@@ -1,0 +1,106 @@
+ghost use Rattle.std.specs.Prelude.{◌≡◌, ◌+◌, ◌≤◌, OnOk, OnErr, IfOk, length};
+ghost use Rattle.std.specs.List.{splice};
+
+use std::alloc::Global;
+use std::process::Abort;
+use std::test::Fail;
+use x_text::{GapSeq, NoMemory, PlainSeq, Seq};
+
+/// Makes room and carries a change out, by what every sequence promises.
+fn change<S: Seq<u32>>(
+    seq: &mut S,
+    at: usize,
+    remove: usize,
+    new: Vec<u32>,
+) -> Result<u64, NoMemory>
+    requires { at + remove ≤ length (S.list seq.old) }
+    ensures list { OnOk result (S.list seq.new ≡ splice (S.list seq.old) at (at + remove) new.items) }
+    ensures moved { IfOk result (λ count. count ≡ S.moves seq.old at remove) }
+    ensures err { OnErr result (S.list seq.new ≡ S.list seq.old) }
+{
+    seq.reserve(new.len())?;
+    Ok(seq.splice(at, remove, new))
+}
+
+/// Checks that the list has these entries.
+fn expect_entries<S: Seq<u32>>(rt: &impl Abort, seq: &S, expected: &[u32]) {
+    assert_eq!(rt; seq.len(), expected.len());
+    for (index, entry) in expected.iter().enumerate() {
+        assert!(rt; seq.get(index) == Some(entry));
+    }
+}
+
+/// Makes a list of ten entries and replaces two of them by one, and answers how many others that moved.
+fn replace_two<S: Seq<u32>>(rt: &impl Abort, alloc: Global, seq: &mut S) -> Result<u64, Fail> {
+    let ten = Vec::from_slice(alloc, &[0, 1, 2, 3, 4, 5, 6, 7, 8, 9])?;
+    assert_eq!(rt; seq.len(), 0);
+    change(seq, 0, 0, ten)?;
+    assert_eq!(rt; seq.len(), 10);
+    let moved = change(seq, 3, 2, Vec::from_slice(alloc, &[30])?)?;
+    expect_entries(rt, seq, &[0, 1, 2, 30, 5, 6, 7, 8, 9]);
+    Ok(moved)
+}
+
+#[test]
+fn carries_changes_out(rt: HostRuntime) -> Result<(), Fail> {
+    let mut plain = PlainSeq::new(rt.alloc());
+    assert_eq!(rt; replace_two(&rt, rt.alloc(), &mut plain)?, 5);
+    let mut gap = GapSeq::new(rt.alloc());
+    assert_eq!(rt; gap.seat(), 0);
+    assert_eq!(rt; replace_two(&rt, rt.alloc(), &mut gap)?, 5);
+    assert_eq!(rt; gap.seat(), 4);
+    assert_eq!(rt; gap.iter().count(), 9);
+    Ok(())
+}
+
+#[test]
+fn makes_room(rt: HostRuntime) -> Result<(), Fail> {
+    let mut plain: PlainSeq<u32> = PlainSeq::new(rt.alloc());
+    assert_eq!(rt; plain.spare(), 0);
+    plain.reserve(100)?;
+    assert!(rt; plain.spare() >= 100);
+    assert_eq!(rt; plain.reserve(usize::MAX), Err(NoMemory));
+    let mut gap: GapSeq<u32> = GapSeq::new(rt.alloc());
+    assert_eq!(rt; gap.spare(), 0);
+    gap.reserve(100)?;
+    assert!(rt; gap.spare() >= 100);
+    assert_eq!(rt; gap.reserve(usize::MAX), Err(NoMemory));
+    Ok(())
+}
+
+/// Makes a list of two entries, the seat of which lies between them, and makes room for more.
+fn reserve_with_little_memory<S: Seq<u32>>(
+    rt: &impl Abort,
+    alloc: Global,
+    seq: &mut S,
+) -> Result<(), NoMemory> {
+    change(seq, 0, 0, Vec::from_slice(alloc, &[1, 2, 3])?)?;
+    assert_eq!(rt; seq.len(), 3);
+    seq.splice(1, 1, Vec::new(alloc));
+    let answer = seq.reserve(1000);
+    expect_entries(rt, seq, &[1, 3]);
+    answer
+}
+
+#[test]
+fn sweep_reserve_of_a_plain_seq(rt: HostRuntime) -> Result<(), Fail> {
+    let alloc = rt.alloc();
+    let mut seq = PlainSeq::new(alloc);
+    if reserve_with_little_memory(&rt, alloc, &mut seq).is_ok() {
+        println!(rt; "nothing was refused")?;
+    }
+    Ok(())
+}
+
+#[test]
+fn sweep_reserve_of_a_gap_seq(rt: HostRuntime) -> Result<(), Fail> {
+    let alloc = rt.alloc();
+    let mut seq = GapSeq::new(alloc);
+    let answer = reserve_with_little_memory(&rt, alloc, &mut seq);
+    // Of two entries, or of none.
+    assert_eq!(rt; seq.seat(), seq.len() / 2);
+    if answer.is_ok() {
+        println!(rt; "nothing was refused")?;
+    }
+    Ok(())
+}
