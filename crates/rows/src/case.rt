@@ -134,7 +134,7 @@ impl<'c> Case<'c> {
     }
 }
 
-/// The byte that a letter behind a `\` stands for.
+/// The byte that a letter after a `\` stands for.
 fn escaped(letter: u8) -> Result<u8, Refusal> {
     match letter {
         b'n' => Ok(b'\n'),

@@ -1,5 +1,5 @@
 //! The items of a text, and what an edit does to them.
-ghost use Rattle.std.specs.Prelude.{◌≡◌, length, OnOk, OnErr};
+ghost use Rattle.std.specs.Prelude.{◌≡◌, IfOk, OnOk, OnErr};
 ghost use Rattle.x_text.specs.Edits.{edited, LiesWithin};
 ghost use Rattle.x_lex.specs.Tiling.{AreTokens};
 ghost use Rattle.x_lex.specs.Places.{lexemes};
@@ -155,6 +155,26 @@ pub(crate) fn changed(alloc: Global, mut case: Case) -> Result<String, Refusal> 
 /// What is kept with an item, to find it again.
 const KEPT: u8 = 7;
 
+/// What an edit does to the items.
+fn fresh_items(
+    alloc: Global,
+    items: &Items<u8>,
+    tokens: &Tokens,
+    old: &Source,
+    edit: &Edit,
+    new: &Source,
+) -> Result<ItemPatch<u8>, NoMemory>
+    requires tokens { AreTokens old.now tokens.now.list }
+    requires items { IsCut (lexemes old.now tokens.now.list) (counts items.now.list) }
+    requires within { LiesWithin old.now edit.now.start edit.now.end }
+    requires edited { new.now ≡ edited old.now edit.now.start edit.now.end edit.now.insert.now }
+    ensures among { IfOk result (λ fresh. LiesAmong items.now.list fresh) }
+    ensures of_text { IfOk result (λ fresh. AreOfText (counts (patched items.now.list fresh))) }
+{
+    let patch = relex(alloc, tokens, old, edit, new, &mut Meter::new())?;
+    recut(alloc, items, tokens, &patch, new)
+}
+
 /// The numbers of a patch, and its fresh items.
 fn told(alloc: Global, fresh: &ItemPatch<u8>) -> Result<String, Refusal> {
     let at = fresh.at();
@@ -205,8 +225,7 @@ pub(crate) fn patch(alloc: Global, mut case: Case) -> Result<String, Refusal> {
     } = Cut::of(alloc, &change.text)?;
     let edit = change.edit();
     let new = text.edited(alloc, &edit)?;
-    let patch = relex(alloc, &tokens, &text, &edit, &new, &mut Meter::new())?;
-    let fresh = recut(alloc, &items, &tokens, &patch, &new)?;
+    let fresh = fresh_items(alloc, &items, &tokens, &text, &edit, &new)?;
     let mut answer = told(alloc, &fresh)?;
     put(&mut items, fresh, &mut answer)?;
     expect_items_of(alloc, &items, &new)?;
