@@ -1,11 +1,11 @@
 ghost use Rattle.std.specs.Prelude.{◌≡◌, length, IfOk, IfSome};
 ghost use Rattle.rpcx.specs.Lines.{script_lines};
 
-use rpcx::{Found, LONGEST, LineFault, LineReader};
+use rpcx::{Found, LineFault, LineReader};
 use std::alloc::Global;
 use std::process::Abort;
 use std::test::Fail;
-use x_text::{Broken, MemTap, Tap};
+use x_text::{MemTap, Tap};
 
 /// Checks that the reader finds a line next.
 fn expect_line(rt: &impl Abort, reader: &mut LineReader, tap: &mut impl Tap, line: &[u8]) {
@@ -31,53 +31,6 @@ fn a_tap_that_fails_in_mid_line_is_told(rt: HostRuntime) {
     expect_line(&rt, &mut reader, &mut tap, b"ab");
     assert_eq!(rt; reader.next(&mut tap), Err(LineFault::Read));
     assert_eq!(rt; reader.next(&mut tap), Err(LineFault::Read));
-}
-
-/// A tap that gives so many bytes `x`, then a line feed and `ok`.
-#[derive(Drop)]
-struct LongTap {
-    left: usize,
-    done: bool,
-}
-
-impl Tap for LongTap {
-    ghost use Rattle.std.specs.Prelude.{None, false};
-
-    ghost remaining = { λ _. None };
-
-    ghost has_failed = { λ _. false };
-
-    fn take(&mut self, buffer: &mut [u8]) -> Result<usize, Broken> {
-        if self.left > 0 {
-            let count = self.left.min(buffer.len());
-            buffer[..count].fill(b'x');
-            self.left -= count;
-            return Ok(count);
-        }
-        if self.done || buffer.len() < 3 {
-            return Ok(0);
-        }
-        self.done = true;
-        buffer[..3].copy_from_slice(b"\nok");
-        Ok(3)
-    }
-}
-
-/// Checks what a line of so many bytes is found to be, and that the next line is found.
-fn expect_found(rt: &impl Abort, alloc: Global, len: usize, found: Found) {
-    let mut tap = LongTap {
-        left: len,
-        done: false,
-    };
-    let mut reader = LineReader::new(alloc);
-    assert_eq!(rt; reader.next(&mut tap), Ok(found));
-    expect_line(rt, &mut reader, &mut tap, b"ok");
-}
-
-#[test]
-fn the_longest_line_is_found(rt: HostRuntime) {
-    expect_found(&rt, rt.alloc(), LONGEST, Found::Line);
-    expect_found(&rt, rt.alloc(), LONGEST + 1, Found::TooLong);
 }
 
 /// Counts the lines of a script: what the contract of [`LineReader::next`] says to a loop.

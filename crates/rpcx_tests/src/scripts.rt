@@ -109,7 +109,8 @@ const SCRIPT: &[u8] = b"faults\nedit 0 0 78\nfaults\n";
 
 const ANSWERS: &[u8] = b"faults 0\nok 1\nfaults 1\n1:1 10 Syntax\n";
 
-/// Where a run of the script stands that wrote so many bytes: how many bytes its lines and their answers have, and its text.
+/// Where a run of the script stands that wrote so many bytes: how many bytes the lines and their answers have, and the
+/// text then.
 fn stand(written: usize) -> (usize, usize, &'static [u8]) {
     match written {
         0 => (0, 0, b""),
@@ -119,8 +120,8 @@ fn stand(written: usize) -> (usize, usize, &'static [u8]) {
     }
 }
 
-/// The same of a script: what is written is whole answers, the session is as their lines left it, and with memory the other lines
-/// are answered.
+/// The same of a script: what is written is whole answers, the session is as their lines left it, and with memory the
+/// other lines are answered.
 #[test]
 fn sweep_script(rt: HostRuntime) -> Result<(), Fail> {
     let Ok(mut session) = Session::open(rt.alloc(), b"t", b"") else {

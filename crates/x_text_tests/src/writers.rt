@@ -43,7 +43,7 @@ impl Write for Turns<'_> {
     }
 }
 
-/// Checks that the sink over a writer takes two bytes and is then broken, though the writer would take more at its third turn.
+/// Checks that the sink over a writer takes two bytes and is then broken, though the writer would take more.
 fn expect_broken(rt: &impl Abort, turns: &[Turn]) {
     let mut out = Out::new(Turns { turns });
     assert_eq!(rt; out.put(b"abc"), Ok(2));
