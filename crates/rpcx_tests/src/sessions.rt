@@ -1,7 +1,28 @@
 use rpcx::{FaultCode, Session};
+use std::process::Abort;
 use std::test::Fail;
 use x_lex::Kind;
 use x_text::{Edit, TextFault};
+
+/// Checks the token and the definition of a session of the text `const A = 12;;`.
+fn expect_parts(rt: &impl Abort, session: &Session) {
+    let token = session
+        .token(6)
+        .map(|token| (token.kind, token.start, token.end));
+    assert_eq!(rt; token, Some((Kind::Number, 10, 12)));
+    let bytes = session.token(6).map(|token| token.text);
+    assert_eq!(rt; bytes, Some(b"12".as_slice()));
+    assert!(rt; session.definition(0).is_some() && session.definition(1).is_none());
+}
+
+/// Checks its fault.
+fn expect_fault(rt: &impl Abort, session: &Session) {
+    let fault = session.fault(0);
+    let place = fault.map(|fault| (fault.item, fault.token));
+    assert_eq!(rt; place, Some((1, 0)));
+    let told = fault.map(|fault| (fault.line, fault.col, fault.code));
+    assert_eq!(rt; told, Some((1, 14, FaultCode::Syntax)));
+}
 
 #[test]
 fn a_session_answers_each_query(rt: HostRuntime) -> Result<(), Fail> {
@@ -12,19 +33,8 @@ fn a_session_answers_each_query(rt: HostRuntime) -> Result<(), Fail> {
         session.fault_count(),
     );
     assert_eq!(rt; counts, (9, 3, 1));
-    let token = session.token(6).ok_or("a token")?;
-    assert_eq!(rt; token.text, b"12".as_slice());
-    assert_eq!(rt;
-        (token.kind, token.start, token.end),
-        (Kind::Number, 10, 12)
-    );
-    assert!(rt; session.definition(0).is_some() && session.definition(1).is_none());
-    let fault = session.fault(0).ok_or("a fault")?;
-    assert_eq!(rt; (fault.item, fault.token), (1, 0));
-    assert_eq!(rt;
-        (fault.line, fault.col, fault.code),
-        (1, 14, FaultCode::Syntax)
-    );
+    expect_parts(&rt, &session);
+    expect_fault(&rt, &session);
     Ok(())
 }
 
