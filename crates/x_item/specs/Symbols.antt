@@ -300,3 +300,25 @@ step Procedures = step_procedures
 step MoreProcedures = step_more_procedures
 step Versions = step_versions
 step MoreVersions = step_more_versions
+
+-- a number after `=`, and the `;`
+abbrev pub of_number : List Symbol
+of_number = Token marks.Equals ∷ AnyNumber ∷ Token marks.Semicolon ∷ []
+
+-- a procedure
+abbrev pub of_procedure : List Symbol
+of_procedure = Result ∷ Token marks.OpenParenthesis ∷ Parameters ∷ of_number
+
+-- a version
+abbrev pub of_version : List Symbol
+of_version = Token marks.Version ∷ AnyName ∷ Token marks.OpenBrace ∷ Procedures ∷ of_number
+
+-- what follows the keyword of a constant, of a new type and of a program
+abbrev pub of_constant : List Symbol
+of_constant = AnyName ∷ Token marks.Equals ∷ AnyValue ∷ Token marks.Semicolon ∷ []
+
+abbrev pub of_new_type : Tag → List Symbol
+of_new_type tag = AnyName ∷ AnyBody tag 32 ∷ Token marks.Semicolon ∷ []
+
+abbrev pub of_program : List Symbol
+of_program = AnyName ∷ Token marks.OpenBrace ∷ Versions ∷ of_number
