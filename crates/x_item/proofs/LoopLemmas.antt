@@ -4,7 +4,7 @@ use Rattle.std.proofs.lemmas.List.{append-nil, map-append}
 use Rattle.std.specs.Result.{IfOk, IfErr}
 use Rattle.std.proofs.lemmas.Result.{IfOk-weaker, IfErr-weaker}
 use Rattle.x_lex.specs.declared.token.Token.{Token as LexToken}
-use Rattle.x_item.specs.Words.{Word, Fixed, Name, Number, Other}
+use Rattle.x_item.specs.Words.{Word, Fixed, Name}
 use Rattle.x_item.specs.Tree as tree
 use Rattle.x_item.specs.Spell.{tag_mark, spell_value, spell_enumerator, spell_other_enumerators, spell_enumerators, spell_cases, spell_declaration, spell_declarations, spell_arms, spell_type, spell_body, body_mark, HasOne, HasDeclaration, HasArm, DeclarationFits, DeclarationsFit, ArmsFit, BodyFits, TypeFits}
 use Rattle.x_item.specs.View.{view_value, view_enumerator, view_declaration, view_declarations, view_arms}
@@ -23,7 +23,7 @@ use Rattle.x_item.specs.declared.reading.Word as source
 use Rattle.x_item.specs.declared.reading.Word.TheVariants as words
 use Rattle.x_item.specs.declared.reading.ParseError.{ParseError}
 use Rattle.x_item.specs.declared.reading.ParseError.TheVariants as errors
-use Rattle.x_item.specs.Symbols.{Symbol, Context, InDeclaration, Token, AnyName, AnyValue, AnyLength, AfterLess, AfterName, AfterType, AfterUnsigned, Typed, AfterTag, AnyBody, Enumerators, AfterEnumerator, MoreEnumerators, Declared, Declarations, MoreDeclarations, Arms, AfterCase, MoreArms, ending_mark, followed, go, step_declared, step_arms}
+use Rattle.x_item.specs.Symbols.{Symbol, Context, InDeclaration, Token, AnyName, AnyValue, AnyLength, AfterLess, AfterName, AfterType, AfterUnsigned, Typed, AfterTag, AnyBody, Enumerators, AfterEnumerator, MoreEnumerators, Declared, Declarations, MoreDeclarations, Arms, AfterCase, MoreArms, ending_mark, followed, go, step_declared}
 use Rattle.x_item.specs.Reading.{view_word, Place, HasFirst, IsRead, Fails, read, spell_ended, spell_arm}
 use Rattle.x_item.proofs.ReadLemmas.{Alike, alike, alike_first, headed, read_first, read_after, fails_then}
 

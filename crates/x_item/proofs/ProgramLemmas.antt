@@ -1,5 +1,5 @@
 -- Reading what programs are made of.
-use Rattle.std.proofs.Common.{◌≡◌, ◌≢◌, ℕ, Option, Some, None, Err, List, [], ◌∷◌, ◌++◌, Result, map, refl, ap, sym, ◌∙◌, subst, append_assoc}
+use Rattle.std.proofs.Common.{◌≡◌, ◌≢◌, ℕ, Option, Some, None, Err, List, [], ◌∷◌, ◌++◌, map, refl, ap, sym, ◌∙◌, subst, append_assoc}
 use Rattle.std.proofs.lemmas.List.{append-nil, map-append}
 use Rattle.x_lex.specs.declared.token.Token.{Token as LexToken}
 use Rattle.x_item.specs.Words.{Word, Fixed}

@@ -102,7 +102,8 @@ fn definition<'w, 't>(
     alloc: Global,
     tokens: &'w [Token<'t>],
 ) -> Result<(Definition, &'w [Token<'t>]), ParseError>
-    ensures read { IfOk result (λ x. IsRead [] (Item ∷ []) tokens.now (spell (view_definition x.0)) [] x.1.now) }
+    ensures read { IfOk result (λ x. IsRead [] (Item ∷ []) tokens.now
+        (spell (view_definition x.0)) [] x.1.now) }
     ensures fits { IfOk result (λ x. KeepsLimits (view_definition x.0)) }
     ensures stuck { IfErr result (λ e. Fails (Item ∷ []) tokens.now e) }
 {
@@ -129,7 +130,8 @@ fn constant<'w, 't>(
     alloc: Global,
     tokens: &'w [Token<'t>],
 ) -> Result<(Definition, &'w [Token<'t>]), ParseError>
-    ensures read { IfOk result (λ x. IsRead (Fixed Mark.Const ∷ []) of_constant tokens.now (spell (view_definition x.0)) [] x.1.now) }
+    ensures read { IfOk result (λ x. IsRead (Fixed Mark.Const ∷ []) of_constant tokens.now
+        (spell (view_definition x.0)) [] x.1.now) }
     ensures fits { IfOk result (λ x. KeepsLimits (view_definition x.0)) }
     ensures stuck { IfErr result (λ e. Fails of_constant tokens.now e) }
 {
@@ -146,7 +148,8 @@ fn new_type<'w, 't>(
     tag: Tag,
     tokens: &'w [Token<'t>],
 ) -> Result<(Definition, &'w [Token<'t>]), ParseError>
-    ensures read { IfOk result (λ x. IsRead (Fixed (tag_mark tag) ∷ []) (of_new_type tag) tokens.now (spell (view_definition x.0)) [] x.1.now) }
+    ensures read { IfOk result (λ x. IsRead (Fixed (tag_mark tag) ∷ []) (of_new_type tag) tokens.now
+        (spell (view_definition x.0)) [] x.1.now) }
     ensures fits { IfOk result (λ x. KeepsLimits (view_definition x.0)) }
     ensures stuck { IfErr result (λ e. Fails (of_new_type tag) tokens.now e) }
 {
@@ -161,7 +164,8 @@ fn program<'w, 't>(
     alloc: Global,
     tokens: &'w [Token<'t>],
 ) -> Result<(Definition, &'w [Token<'t>]), ParseError>
-    ensures read { IfOk result (λ x. IsRead (Fixed Mark.Program ∷ []) of_program tokens.now (spell (view_definition x.0)) [] x.1.now) }
+    ensures read { IfOk result (λ x. IsRead (Fixed Mark.Program ∷ []) of_program tokens.now
+        (spell (view_definition x.0)) [] x.1.now) }
     ensures fits { IfOk result (λ x. KeepsLimits (view_definition x.0)) }
     ensures stuck { IfErr result (λ e. Fails of_program tokens.now e) }
 {

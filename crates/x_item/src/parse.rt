@@ -2,10 +2,13 @@
 //! and gives back those after what it read.
 ghost use Rattle.std.specs.Prelude.{◌≡◌, ℕ, List, [], ◌∷◌, ◌++◌, map, IfOk, IfErr, IsTrue, ◌↔◌};
 ghost use Rattle.x_item.specs.Words.{Fixed, Name};
-ghost use Rattle.x_item.specs.View.{view_value, view_most, view_length, view_shape, view_enumerator, view_type};
+ghost use Rattle.x_item.specs.View.{view_value, view_most, view_length, view_shape, view_enumerator};
+ghost use Rattle.x_item.specs.View.{view_type};
 ghost use Rattle.x_item.specs.Spell.{spell_value, spell_most, spell_length, spell_named, spell_type};
-ghost use Rattle.x_item.specs.Spell.{spell_given, spell_enumerator, spell_enumerators, spell_cases, HasOne, TypeFits};
-ghost use Rattle.x_item.specs.Symbols.{Context, InDeclaration, Token as OfMark, AnyValue, AnyLength, AfterLess};
+ghost use Rattle.x_item.specs.Spell.{spell_given, spell_enumerator, spell_enumerators, spell_cases, HasOne};
+ghost use Rattle.x_item.specs.Spell.{TypeFits};
+ghost use Rattle.x_item.specs.Symbols.{Context, InDeclaration, Token as OfMark, AnyValue, AnyLength};
+ghost use Rattle.x_item.specs.Symbols.{AfterLess};
 ghost use Rattle.x_item.specs.Symbols.{AfterName, AfterUnsigned, AfterType, Enumerators, AfterEnumerator};
 ghost use Rattle.x_item.specs.Symbols.{MoreEnumerators, Declared, AfterCase, ending_mark};
 ghost use Rattle.x_item.specs.Reading.{view_word, IsRead, IsPart, Fails};
@@ -21,7 +24,8 @@ pub fn most<'w, 't>(
     alloc: Global,
     tokens: &'w [Token<'t>],
 ) -> Result<(Option<Value>, &'w [Token<'t>]), ParseError>
-    ensures read { IfOk result (λ x. IsPart AfterLess tokens.now (spell_most (view_most x.0) ++ Fixed Mark.Greater ∷ []) x.1.now) }
+    ensures read { IfOk result (λ x. IsPart AfterLess tokens.now
+        (spell_most (view_most x.0) ++ Fixed Mark.Greater ∷ []) x.1.now) }
     ensures stuck { IfErr result (λ e. Fails (AfterLess ∷ []) tokens.now e) }
 {
     let (word, rest) = first(tokens)?;
@@ -58,8 +62,8 @@ fn suffix<'w, 't>(
     ending: Ending,
     tokens: &'w [Token<'t>],
 ) -> Result<(Shape, &'w [Token<'t>]), ParseError>
-    ensures read { IfOk result (λ x. (name : List ℕ) → IsRead (Name name ∷ []) (AfterName ending ∷ []) tokens.now
-        (spell_named name (view_shape x.0) ++ Fixed (ending_mark ending) ∷ []) [] x.1.now) }
+    ensures read { IfOk result (λ x. (name : List ℕ) → IsRead (Name name ∷ []) (AfterName ending ∷ [])
+        tokens.now (spell_named name (view_shape x.0) ++ Fixed (ending_mark ending) ∷ []) [] x.1.now) }
     ensures stuck { IfErr result (λ e. Fails (AfterName ending ∷ []) tokens.now e) }
 {
     let (word, _) = first(tokens)?;
@@ -95,8 +99,8 @@ pub fn named<'w, 't>(
 
 /// Reads what may stand after `unsigned`: the type.
 pub fn unsigned<'w, 't>(tokens: &'w [Token<'t>]) -> Result<(DataType, &'w [Token<'t>]), ParseError>
-    ensures read { IfOk result (λ x. (c : Context) → IsRead (Fixed Mark.Unsigned ∷ []) (AfterUnsigned c ∷ []) tokens.now
-        (spell_type (view_type x.0)) (AfterType c ∷ []) x.1.now) }
+    ensures read { IfOk result (λ x. (c : Context) → IsRead (Fixed Mark.Unsigned ∷ []) (AfterUnsigned c ∷ [])
+        tokens.now (spell_type (view_type x.0)) (AfterType c ∷ []) x.1.now) }
     ensures fits { IfOk result (λ x. (n : ℕ) → TypeFits (view_type x.0) n) }
     ensures stuck { IfErr result (λ e. (c : Context) → Fails (AfterUnsigned c ∷ []) tokens.now e) }
 {
@@ -142,8 +146,8 @@ fn enumerator<'w, 't>(
     alloc: Global,
     tokens: &'w [Token<'t>],
 ) -> Result<(Enumerator, &'w [Token<'t>]), ParseError>
-    ensures read { IfOk result (λ x. IsRead [] (Enumerators ∷ []) tokens.now (spell_enumerator (view_enumerator x.0))
-        (MoreEnumerators ∷ []) x.1.now) }
+    ensures read { IfOk result (λ x. IsRead [] (Enumerators ∷ []) tokens.now
+        (spell_enumerator (view_enumerator x.0)) (MoreEnumerators ∷ []) x.1.now) }
     ensures stuck { IfErr result (λ e. Fails (Enumerators ∷ []) tokens.now e) }
 {
     let (name, rest) = name(alloc, tokens)?;
@@ -156,8 +160,8 @@ fn given<'w, 't>(
     alloc: Global,
     tokens: &'w [Token<'t>],
 ) -> Result<(Option<Value>, &'w [Token<'t>]), ParseError>
-    ensures read { IfOk result (λ x. (name : List ℕ) → IsRead (Name name ∷ []) (AfterEnumerator ∷ []) tokens.now
-        (Name name ∷ spell_given (view_most x.0)) (MoreEnumerators ∷ []) x.1.now) }
+    ensures read { IfOk result (λ x. (name : List ℕ) → IsRead (Name name ∷ []) (AfterEnumerator ∷ [])
+        tokens.now (Name name ∷ spell_given (view_most x.0)) (MoreEnumerators ∷ []) x.1.now) }
     ensures stuck { IfErr result (λ e. Fails (AfterEnumerator ∷ []) tokens.now e) }
 {
     let (word, rest) = first(tokens)?;
@@ -177,7 +181,8 @@ pub fn cases<'w, 't>(
         (AnyValue ∷ OfMark Mark.Colon ∷ AfterCase n ∷ []) tokens.now
         (spell_cases (map view_value x.0.items)) (Declared n Ending.Semicolon ∷ []) x.1.now) }
     ensures some { IfOk result (λ x. HasOne (map view_value x.0.items)) }
-    ensures stuck { IfErr result (λ e. (n : ℕ) → Fails (AnyValue ∷ OfMark Mark.Colon ∷ AfterCase n ∷ []) tokens.now e) }
+    ensures stuck { IfErr result
+        (λ e. (n : ℕ) → Fails (AnyValue ∷ OfMark Mark.Colon ∷ AfterCase n ∷ []) tokens.now e) }
 {
     let (first_case, mut left) = case(alloc, tokens)?;
     let mut cases = Vec::new(alloc);

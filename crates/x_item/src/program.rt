@@ -3,8 +3,10 @@
 ghost use Rattle.std.specs.Prelude.{List, [], ◌∷◌, ◌++◌, map, IfOk, IfErr};
 ghost use Rattle.x_item.specs.Words.{Fixed, Number};
 ghost use Rattle.x_item.specs.View.{view_argument, view_passed, view_procedure, view_version};
-ghost use Rattle.x_item.specs.Spell.{spell_argument, spell_passed, spell_others, spell_procedure, spell_procedures};
-ghost use Rattle.x_item.specs.Spell.{spell_version, spell_versions, HasOne, ArgumentFits, PassedFits, OthersFit};
+ghost use Rattle.x_item.specs.Spell.{spell_argument, spell_passed, spell_others, spell_procedure};
+ghost use Rattle.x_item.specs.Spell.{spell_procedures};
+ghost use Rattle.x_item.specs.Spell.{spell_version, spell_versions, HasOne, ArgumentFits, PassedFits};
+ghost use Rattle.x_item.specs.Spell.{OthersFit};
 ghost use Rattle.x_item.specs.Spell.{ProcedureFits, ProceduresFit, VersionFits, VersionsFit};
 ghost use Rattle.x_item.specs.Symbols.{InArguments, AnyName, AfterType, Parameters, Arguments};
 ghost use Rattle.x_item.specs.Symbols.{Result as AnyResult, Procedures, Versions};
@@ -24,7 +26,8 @@ fn argument<'w, 't>(
     alloc: Global,
     tokens: &'w [Token<'t>],
 ) -> Result<(Argument, &'w [Token<'t>]), ParseError>
-    ensures read { IfOk result (λ x. IsRead [] (Arguments ∷ []) tokens.now (spell_argument (view_argument x.0)) (AfterType InArguments ∷ []) x.1.now) }
+    ensures read { IfOk result (λ x. IsRead [] (Arguments ∷ []) tokens.now
+        (spell_argument (view_argument x.0)) (AfterType InArguments ∷ []) x.1.now) }
     ensures fits { IfOk result (λ x. ArgumentFits (view_argument x.0)) }
     ensures stuck { IfErr result (λ e. Fails (Arguments ∷ []) tokens.now e) }
 {
@@ -41,7 +44,8 @@ fn first_argument<'w, 't>(
     alloc: Global,
     tokens: &'w [Token<'t>],
 ) -> Result<(Option<Argument>, &'w [Token<'t>]), ParseError>
-    ensures read { IfOk result (λ x. IsRead [] (Parameters ∷ []) tokens.now (spell_passed (view_passed x.0)) (AfterType InArguments ∷ []) x.1.now) }
+    ensures read { IfOk result (λ x. IsRead [] (Parameters ∷ []) tokens.now (spell_passed (view_passed x.0))
+        (AfterType InArguments ∷ []) x.1.now) }
     ensures fits { IfOk result (λ x. PassedFits (view_passed x.0)) }
     ensures stuck { IfErr result (λ e. Fails (Parameters ∷ []) tokens.now e) }
 {
@@ -58,7 +62,8 @@ fn returned<'w, 't>(
     alloc: Global,
     tokens: &'w [Token<'t>],
 ) -> Result<(Option<Argument>, &'w [Token<'t>]), ParseError>
-    ensures read { IfOk result (λ x. IsRead [] (AnyResult ∷ []) tokens.now (spell_passed (view_passed x.0)) (AnyName ∷ []) x.1.now) }
+    ensures read { IfOk result (λ x. IsRead [] (AnyResult ∷ []) tokens.now (spell_passed (view_passed x.0))
+        (AnyName ∷ []) x.1.now) }
     ensures fits { IfOk result (λ x. PassedFits (view_passed x.0)) }
     ensures stuck { IfErr result (λ e. Fails (AnyResult ∷ []) tokens.now e) }
 {
@@ -123,7 +128,8 @@ fn procedure<'w, 't>(
     alloc: Global,
     tokens: &'w [Token<'t>],
 ) -> Result<(Procedure, &'w [Token<'t>]), ParseError>
-    ensures read { IfOk result (λ x. IsRead [] of_procedure tokens.now (spell_procedure (view_procedure x.0)) [] x.1.now) }
+    ensures read { IfOk result (λ x. IsRead [] of_procedure tokens.now
+        (spell_procedure (view_procedure x.0)) [] x.1.now) }
     ensures fits { IfOk result (λ x. ProcedureFits (view_procedure x.0)) }
     ensures stuck { IfErr result (λ e. Fails of_procedure tokens.now e) }
 {
@@ -172,7 +178,8 @@ fn version<'w, 't>(
     alloc: Global,
     tokens: &'w [Token<'t>],
 ) -> Result<(Version, &'w [Token<'t>]), ParseError>
-    ensures read { IfOk result (λ x. IsRead [] of_version tokens.now (spell_version (view_version x.0)) [] x.1.now) }
+    ensures read { IfOk result (λ x. IsRead [] of_version tokens.now
+        (spell_version (view_version x.0)) [] x.1.now) }
     ensures fits { IfOk result (λ x. VersionFits (view_version x.0)) }
     ensures stuck { IfErr result (λ e. Fails of_version tokens.now e) }
 {

@@ -2,12 +2,14 @@
 //! behind what it read.
 ghost use Rattle.std.specs.Prelude.{◌≡◌, ◌∷◌, [], ◌<◌, IfOk, IfErr, IfSome, IfNone, length, ◌+◌, map};
 ghost use Rattle.x_lex.specs.Places.{lexeme};
-ghost use Rattle.x_item.specs.Words.{Fixed, Name, Number, word_of, mark_among, keywords, puncts, is_significant};
+ghost use Rattle.x_item.specs.Words.{Fixed, Name, Number, word_of, mark_among, keywords, puncts};
+ghost use Rattle.x_item.specs.Words.{is_significant};
 ghost use Rattle.x_item.specs.Spell.{spell_value};
 ghost use Rattle.x_item.specs.View.{view_value};
 ghost use Rattle.x_item.specs.Parse.{code_of};
 ghost use Rattle.x_item.specs.Symbols.{Symbol, Token as OfMark, AnyName, AnyNumber, AnyValue};
-ghost use Rattle.x_item.specs.Reading.{view_word, ahead, words_at, left_in, code_in, IsSplit, HasFirst, Fails, IsPart};
+ghost use Rattle.x_item.specs.Reading.{view_word, ahead, words_at, left_in, code_in, IsSplit, HasFirst};
+ghost use Rattle.x_item.specs.Reading.{Fails, IsPart};
 
 use crate::mark::{KEYWORDS, Mark, PUNCTS};
 use crate::{FaultCode, Value};

@@ -5,11 +5,13 @@ ghost use Rattle.x_item.specs.Words.{Fixed};
 ghost use Rattle.x_item.specs.Tree.{default as one_default};
 ghost use Rattle.x_item.specs.View.{view_value, view_type, view_body, view_declaration, view_declarations};
 ghost use Rattle.x_item.specs.View.{view_arms, view_default};
-ghost use Rattle.x_item.specs.Spell.{tag_mark, body_mark, spell_type, spell_body, spell_declarations, spell_arms};
+ghost use Rattle.x_item.specs.Spell.{tag_mark, body_mark, spell_type, spell_body, spell_declarations};
+ghost use Rattle.x_item.specs.Spell.{spell_arms};
 ghost use Rattle.x_item.specs.Spell.{spell_default, HasOne, HasDeclaration, HasArm, TypeFits, BodyFits};
 ghost use Rattle.x_item.specs.Spell.{DeclarationFits, DeclarationsFit, ArmsFit, DefaultFits};
 ghost use Rattle.x_item.specs.Symbols.{Context, InDeclaration, Token as OfMark, AnyName, AnyValue, AnyLength};
-ghost use Rattle.x_item.specs.Symbols.{AfterLess, Typed, AfterType, AfterTag, AnyBody, Declared, Declarations};
+ghost use Rattle.x_item.specs.Symbols.{AfterLess, Typed, AfterType, AfterTag, AnyBody, Declared};
+ghost use Rattle.x_item.specs.Symbols.{Declarations};
 ghost use Rattle.x_item.specs.Symbols.{Arms, AfterCase, ending_mark};
 ghost use Rattle.x_item.specs.Reading.{IsRead, IsPart, Fails, spell_ended, spell_arm};
 
@@ -108,7 +110,8 @@ pub fn body<'w, 't>(
     depth: u32,
     tokens: &'w [Token<'t>],
 ) -> Result<(Body, &'w [Token<'t>]), ParseError>
-    ensures read { IfOk result (λ x. IsPart (AnyBody tag depth) tokens.now (spell_body (view_body x.0)) x.1.now) }
+    ensures read { IfOk result (λ x. IsPart (AnyBody tag depth) tokens.now
+        (spell_body (view_body x.0)) x.1.now) }
     ensures of { IfOk result (λ x. body_mark (view_body x.0) ≡ tag_mark tag) }
     ensures fits { IfOk result (λ x. BodyFits (view_body x.0) depth) }
     ensures stuck { IfErr result (λ e. Fails (AnyBody tag depth ∷ []) tokens.now e) }
@@ -126,7 +129,8 @@ fn body_of_enum<'w, 't>(
     depth: u32,
     tokens: &'w [Token<'t>],
 ) -> Result<(Body, &'w [Token<'t>]), ParseError>
-    ensures read { IfOk result (λ x. IsPart (AnyBody Tag.Enum depth) tokens.now (spell_body (view_body x.0)) x.1.now) }
+    ensures read { IfOk result (λ x. IsPart (AnyBody Tag.Enum depth) tokens.now
+        (spell_body (view_body x.0)) x.1.now) }
     ensures of { IfOk result (λ x. body_mark (view_body x.0) ≡ Mark.Enum) }
     ensures fits { IfOk result (λ x. BodyFits (view_body x.0) depth) }
     ensures stuck { IfErr result (λ e. Fails (AnyBody Tag.Enum depth ∷ []) tokens.now e) }
@@ -143,7 +147,8 @@ fn body_of_struct<'w, 't>(
     depth: u32,
     tokens: &'w [Token<'t>],
 ) -> Result<(Body, &'w [Token<'t>]), ParseError>
-    ensures read { IfOk result (λ x. IsPart (AnyBody Tag.Struct depth) tokens.now (spell_body (view_body x.0)) x.1.now) }
+    ensures read { IfOk result (λ x. IsPart (AnyBody Tag.Struct depth) tokens.now
+        (spell_body (view_body x.0)) x.1.now) }
     ensures of { IfOk result (λ x. body_mark (view_body x.0) ≡ Mark.Struct) }
     ensures fits { IfOk result (λ x. BodyFits (view_body x.0) depth) }
     ensures stuck { IfErr result (λ e. Fails (AnyBody Tag.Struct depth ∷ []) tokens.now e) }
@@ -160,7 +165,8 @@ fn body_of_union<'w, 't>(
     depth: u32,
     tokens: &'w [Token<'t>],
 ) -> Result<(Body, &'w [Token<'t>]), ParseError>
-    ensures read { IfOk result (λ x. IsPart (AnyBody Tag.Union depth) tokens.now (spell_body (view_body x.0)) x.1.now) }
+    ensures read { IfOk result (λ x. IsPart (AnyBody Tag.Union depth) tokens.now
+        (spell_body (view_body x.0)) x.1.now) }
     ensures of { IfOk result (λ x. body_mark (view_body x.0) ≡ Mark.Union) }
     ensures fits { IfOk result (λ x. BodyFits (view_body x.0) depth) }
     ensures stuck { IfErr result (λ e. Fails (AnyBody Tag.Union depth ∷ []) tokens.now e) }
@@ -181,7 +187,8 @@ pub fn declared<'w, 't>(
     ending: Ending,
     tokens: &'w [Token<'t>],
 ) -> Result<(Declaration, &'w [Token<'t>]), ParseError>
-    ensures read { IfOk result (λ x. IsPart (Declared depth ending) tokens.now (spell_ended (view_declaration x.0) ending) x.1.now) }
+    ensures read { IfOk result (λ x. IsPart (Declared depth ending) tokens.now
+        (spell_ended (view_declaration x.0) ending) x.1.now) }
     ensures fits { IfOk result (λ x. DeclarationFits (view_declaration x.0) depth) }
     ensures stuck { IfErr result (λ e. Fails (Declared depth ending ∷ []) tokens.now e) }
 {
@@ -217,10 +224,12 @@ fn opaque<'w, 't>(
     ending: Ending,
     tokens: &'w [Token<'t>],
 ) -> Result<(Declaration, &'w [Token<'t>]), ParseError>
-    ensures read { IfOk result (λ x. IsRead (Fixed Mark.Opaque ∷ []) (AnyName ∷ AnyLength ∷ OfMark (ending_mark ending) ∷ [])
-        tokens.now (spell_ended (view_declaration x.0) ending) [] x.1.now) }
+    ensures read { IfOk result (λ x. IsRead (Fixed Mark.Opaque ∷ [])
+        (AnyName ∷ AnyLength ∷ OfMark (ending_mark ending) ∷ []) tokens.now
+        (spell_ended (view_declaration x.0) ending) [] x.1.now) }
     ensures fits { IfOk result (λ x. (n : ℕ) → DeclarationFits (view_declaration x.0) n) }
-    ensures stuck { IfErr result (λ e. Fails (AnyName ∷ AnyLength ∷ OfMark (ending_mark ending) ∷ []) tokens.now e) }
+    ensures stuck { IfErr result
+        (λ e. Fails (AnyName ∷ AnyLength ∷ OfMark (ending_mark ending) ∷ []) tokens.now e) }
 {
     let (name, rest) = name(alloc, tokens)?;
     let (length, rest) = array_length(alloc, rest)?;
@@ -234,10 +243,13 @@ fn string<'w, 't>(
     ending: Ending,
     tokens: &'w [Token<'t>],
 ) -> Result<(Declaration, &'w [Token<'t>]), ParseError>
-    ensures read { IfOk result (λ x. IsRead (Fixed Mark.String ∷ []) (AnyName ∷ OfMark Mark.Less ∷ AfterLess ∷ OfMark (ending_mark ending) ∷ [])
-        tokens.now (spell_ended (view_declaration x.0) ending) [] x.1.now) }
+    ensures read { IfOk result (λ x. IsRead (Fixed Mark.String ∷ [])
+        (AnyName ∷ OfMark Mark.Less ∷ AfterLess ∷ OfMark (ending_mark ending) ∷ []) tokens.now
+        (spell_ended (view_declaration x.0) ending) [] x.1.now) }
     ensures fits { IfOk result (λ x. (n : ℕ) → DeclarationFits (view_declaration x.0) n) }
-    ensures stuck { IfErr result (λ e. Fails (AnyName ∷ OfMark Mark.Less ∷ AfterLess ∷ OfMark (ending_mark ending) ∷ []) tokens.now e) }
+    ensures stuck { IfErr result
+        (λ e. Fails (AnyName ∷ OfMark Mark.Less ∷ AfterLess ∷ OfMark (ending_mark ending) ∷ [])
+        tokens.now e) }
 {
     let (name, rest) = name(alloc, tokens)?;
     let rest = expect(Mark::Less, rest)?;
@@ -357,7 +369,8 @@ fn arm<'w, 't>(
         (spell_arm (map view_value x.0.cases.items) (view_declaration x.0.declaration)) [] x.1.now) }
     ensures some { IfOk result (λ x. HasOne (map view_value x.0.cases.items)) }
     ensures fits { IfOk result (λ x. DeclarationFits (view_declaration x.0.declaration) depth) }
-    ensures stuck { IfErr result (λ e. Fails (AnyValue ∷ OfMark Mark.Colon ∷ AfterCase depth ∷ []) tokens.now e) }
+    ensures stuck { IfErr result
+        (λ e. Fails (AnyValue ∷ OfMark Mark.Colon ∷ AfterCase depth ∷ []) tokens.now e) }
 {
     let (cases, rest) = cases(alloc, tokens)?;
     let (declaration, rest) = declared(alloc, depth, Ending::Semicolon, rest)?;

@@ -2,7 +2,7 @@ use Rattle.std.proofs.Common.{[], ◌∷◌}
 use Rattle.x_item.specs.declared.mark.Mark.TheVariants as marks
 use Rattle.x_item.specs.Symbols.{Enumerators, MoreEnumerators, Token}
 use Rattle.x_item.specs.View.{view_enumerator}
-use Rattle.x_item.proofs.ReadLemmas.{exit, not_mark, fails_more, fails_then, read_as, read_on, read_then}
+use Rattle.x_item.proofs.ReadLemmas.{exit, not_mark, fails_then, read_as, read_on, read_then}
 use Rattle.x_item.proofs.LoopLemmas.{one_only, has_pushed, enumerators_one, enumerators_more, more_enumerators}
 use Rattle.x_item.proofs.parse.enumerators.Goals as goal
 
