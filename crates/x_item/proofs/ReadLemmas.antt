@@ -110,8 +110,8 @@ pub fails_along : {m k : Mark} {tokens : List Token} {e : ParseError} → m ≡ 
 fails_along {tokens = tokens} {e} is f = subst (λ m. Fails (OfMark m ∷ []) tokens e) is f
 
 -- a part after a word
-pub read_behind : (x : Word) {words : List Word} {from to : List Symbol} {tokens rest : List Token} → IsRead [] from tokens words to rest → IsRead (x ∷ []) from tokens (x ∷ words) to rest
-read_behind x r = record { found = ap (λ t. x ∷ t) r.found; leads = r.leads; shorter = let s = r.shorter in omega (arith, s) }
+pub read_after_word : (x : Word) {words : List Word} {from to : List Symbol} {tokens rest : List Token} → IsRead [] from tokens words to rest → IsRead (x ∷ []) from tokens (x ∷ words) to rest
+read_after_word x r = record { found = ap (λ t. x ∷ t) r.found; leads = r.leads; shorter = let s = r.shorter in omega (arith, s) }
 
 -- what a test for a mark says
 pub not_mark : {r : Bool} {w : Word} {m : Mark} → IsTrue r ↔ (w ≡ Fixed m) → r ≡ false → w ≢ Fixed m

@@ -30,7 +30,7 @@ pub record Place : Type 0 where
   pub left : ℕ
   pub code : FaultCode
 
--- the place of a token in front of others
+-- the place of a token before others
 abbrev pub place_of : Lexeme → List Lexeme → Place
 place_of t ts = record { word = word_of t; left = suc (length ts); code = code_of t.kind }
 
@@ -63,7 +63,7 @@ code_in tokens = first_code (ahead tokens)
 abbrev pub words_at : List Place → List Word
 words_at ps = map (λ p. p.word) ps
 
--- what is left behind what the symbols take, or why reading stops
+-- what is left after what the symbols take, or why reading stops
 abbrev pub read : List Symbol → List Place → Result (List Place) ParseError
 read [] ps = Ok ps
 read (s ∷ ss) [] = Err errors.AtEnd
@@ -91,14 +91,14 @@ pub record IsRead (before : List Word) (from : List Symbol) (tokens : List Token
 abbrev pub IsPart : Symbol → List Token → List Word → List Token → Type 0
 IsPart symbol tokens words rest = IsRead [] (symbol ∷ []) tokens words [] rest
 
--- a word, and what stands behind it
+-- a word, and what stands after it
 pub record IsSplit (tokens : List Token) (token : Token) (rest : List Token) : Type 0 where
   pub all : ahead tokens ≡ record { word = word_of (lexeme token); left = left_in tokens; code = code_in tokens } ∷ ahead rest
   pub left : left_in tokens ≡ length rest + 1
   pub code : code_in tokens ≡ code_of token.kind
   pub shorter : length rest < length tokens
 
--- the first word, and what stands behind it
+-- the first word, and what stands after it
 pub record HasFirst (tokens : List Token) (word : Word) (rest : List Token) : Type 0 where
   pub found : ahead tokens ≡ record { word = word; left = left_in tokens; code = code_in tokens } ∷ ahead rest
   pub shorter : length rest < length tokens

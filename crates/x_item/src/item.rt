@@ -69,7 +69,7 @@ fn whole(alloc: Global, tokens: &[Token]) -> Result<Definition, ParseError>
     }
 }
 
-/// What an item is whose words are a front of a spelling: nothing, or a fault at the last of them.
+/// What an item is whose words are a prefix of a spelling: nothing, or a fault at the last of them.
 fn unfinished(tokens: &[Token]) -> Parsed
     requires begins { Begins (words_of (map lexeme tokens.now)) }
     requires no_whole { (d : Tree) → KeepsLimits d → spell d ≢ words_of (map lexeme tokens.now) }

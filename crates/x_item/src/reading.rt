@@ -1,5 +1,5 @@
 //! Reading of single words. Each function takes the tokens that are ahead, of which some may be no words, and gives back those
-//! behind what it read.
+//! after what it read.
 ghost use Rattle.std.specs.Prelude.{◌≡◌, ◌∷◌, [], ◌<◌, IfOk, IfErr, IfSome, IfNone, length, ◌+◌, map};
 ghost use Rattle.x_lex.specs.Places.{lexeme};
 ghost use Rattle.x_item.specs.Words.{Fixed, Name, Number, word_of, mark_among, keywords, puncts};
@@ -99,7 +99,7 @@ pub fn is_significant(kind: Kind) -> bool
     )
 }
 
-/// The first word, and the tokens behind it.
+/// The first word, and the tokens after it.
 pub fn split_word<'w, 't>(tokens: &'w [Token<'t>]) -> Option<(Token<'t>, &'w [Token<'t>])>
     ensures some { IfSome result (λ x. IsSplit tokens.now x.0 x.1.now) }
     ensures none { IfNone result (ahead tokens.now ≡ []) }
@@ -115,7 +115,7 @@ pub fn split_word<'w, 't>(tokens: &'w [Token<'t>]) -> Option<(Token<'t>, &'w [To
     None
 }
 
-/// The first word, and the tokens behind it.
+/// The first word, and the tokens after it.
 pub fn first<'w, 't>(tokens: &'w [Token<'t>]) -> Result<(Word<'t>, &'w [Token<'t>]), ParseError>
     ensures word { IfOk result (λ x. HasFirst tokens.now (view_word x.0) x.1.now) }
     ensures stuck { IfErr result (λ e. (s : Symbol) → Fails (s ∷ []) tokens.now e) }

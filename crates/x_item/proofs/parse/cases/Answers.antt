@@ -4,7 +4,7 @@ use Rattle.x_item.specs.declared.mark.Mark.TheVariants as marks
 use Rattle.x_item.specs.Symbols.{AnyValue, Token, AfterCase}
 use Rattle.x_item.specs.View.{view_value}
 use Rattle.x_item.specs.Reading.{Fails}
-use Rattle.x_item.proofs.ReadLemmas.{exit_at, not_mark, fails_more, fails_then, read_as, read_on, read_then, read_more, read_behind, read_first}
+use Rattle.x_item.proofs.ReadLemmas.{exit_at, not_mark, fails_more, fails_then, read_as, read_on, read_then, read_more, read_after_word, read_first}
 use Rattle.x_item.proofs.LoopLemmas.{one_only, has_pushed, cases_one, cases_more, no_case}
 use Rattle.x_item.proofs.parse.cases.Goals as goal
 
@@ -18,7 +18,7 @@ loop-cases-init c =
     let case = c.in_ok-first_case in
     let one = one_only _ _ _ c.new-cases.ensures.items c.in_ok-push.ensures.items in
     record {
-      read = λ n. read_as (cases_one case.first_case _ one) (read_behind (Fixed marks.Case) (read_more (AnyValue ∷ Token marks.Colon ∷ []) (AfterCase n ∷ []) case.ensures.read));
+      read = λ n. read_as (cases_one case.first_case _ one) (read_after_word (Fixed marks.Case) (read_more (AnyValue ∷ Token marks.Colon ∷ []) (AfterCase n ∷ []) case.ensures.read));
       some = has_pushed view_value [] case.first_case _ one;
     }
 

@@ -27,8 +27,8 @@ returns-in_err-rest-clause-stuck c =
 pub returns-in_err-next-clause-stuck : goal.returns-in_err-next-clause-stuck
 returns-in_err-next-clause-stuck c =
     let on = read_on c.loop-members.invariant.read (more_enumerators c.in_ok-word.ensures.word (not_mark c.is_mark.ensures c.if-is_mark.false)) in
-    let behind = read_then (Token marks.Comma ∷ []) (Enumerators ∷ []) on c.in_ok-rest.ensures.read in
-    exit _ _ c.from_residual-in_err-next.ensures.1 (fails_then (Enumerators ∷ []) [] behind c.in_err-next.ensures.stuck)
+    let past = read_then (Token marks.Comma ∷ []) (Enumerators ∷ []) on c.in_ok-rest.ensures.read in
+    exit _ _ c.from_residual-in_err-next.ensures.1 (fails_then (Enumerators ∷ []) [] past c.in_err-next.ensures.stuck)
 
 pub loop-members-preserved : goal.loop-members-preserved
 loop-members-preserved c =
@@ -36,8 +36,8 @@ loop-members-preserved c =
     let next = c.in_ok-next in
     let pushed = c.in_ok-push-2.ensures.items in
     let on = read_on h.read (more_enumerators c.in_ok-word.ensures.word (not_mark c.is_mark.ensures c.if-is_mark.false)) in
-    let behind = read_then (Token marks.Comma ∷ []) (Enumerators ∷ []) on c.in_ok-rest.ensures.read in
+    let past = read_then (Token marks.Comma ∷ []) (Enumerators ∷ []) on c.in_ok-rest.ensures.read in
     record {
-      read = read_as (enumerators_more c.loop-members.members.items next.next _ pushed h.some) (read_then (Enumerators ∷ []) [] behind next.ensures.read);
+      read = read_as (enumerators_more c.loop-members.members.items next.next _ pushed h.some) (read_then (Enumerators ∷ []) [] past next.ensures.read);
       some = has_pushed view_enumerator c.loop-members.members.items next.next _ pushed;
     }

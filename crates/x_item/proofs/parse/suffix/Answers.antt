@@ -1,7 +1,7 @@
 use Rattle.std.proofs.Common.{[], ◌∷◌}
 use Rattle.x_item.specs.Words.{Name}
 use Rattle.x_item.specs.Symbols.{AnyLength, AfterName, Token, ending_mark}
-use Rattle.x_item.proofs.ReadLemmas.{Alike, exit, not_mark, fails_alike, fails_more, fails_then, fails_along, part_along, read_alike, read_more, read_then, read_behind}
+use Rattle.x_item.proofs.ReadLemmas.{Alike, exit, not_mark, fails_alike, fails_more, fails_then, fails_along, part_along, read_alike, read_more, read_then, read_after_word}
 use Rattle.x_item.proofs.LoopLemmas.{length_after_less, length_after_bracket, after_name}
 use Rattle.x_item.proofs.parse.suffix.Goals as goal
 use Rattle.x_item.proofs.parse.suffix.Goals.{then-is_mark-via-then-is_mark, then-is_mark-via-else-is_mark+then-is_mark-2}
@@ -30,7 +30,7 @@ returns-then-is_mark-clause-read c =
     let same : Alike (AfterName e ∷ []) (AnyLength ∷ Token (ending_mark e) ∷ []) c.args.tokens.now =
     elim c.then-is_mark.branch [ then-is_mark-via-then-is_mark w ↦ length_after_less e first (c.is_mark.ensures.0 w.if-is_mark.true) | then-is_mark-via-else-is_mark+then-is_mark-2 w ↦ length_after_bracket e first (w.is_mark-else-is_mark.ensures.0 w.if-is_mark-2.true) ] in
     let start = read_alike same (read_more (AnyLength ∷ []) (Token (ending_mark e) ∷ []) c.in_ok-length.ensures.read) in
-    λ name. read_behind (Name name) (read_then (Token (ending_mark e) ∷ []) [] start (part_along c.mark.ensures c.in_ok-rest.ensures.read))
+    λ name. read_after_word (Name name) (read_then (Token (ending_mark e) ∷ []) [] start (part_along c.mark.ensures c.in_ok-rest.ensures.read))
 
 pub returns-in_err-rest-2-clause-stuck : goal.returns-in_err-rest-2-clause-stuck
 returns-in_err-rest-2-clause-stuck c =

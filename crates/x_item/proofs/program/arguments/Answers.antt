@@ -24,8 +24,8 @@ pub returns-in_err-next-in-Comma-clause-stuck : goal.returns-in_err-next-in-Comm
 returns-in_err-next-in-Comma-clause-stuck c =
     let here : view_word c.in_ok-word.word ≡ Fixed marks.Comma = search rules in
     let comma = read_first {from = AfterType InArguments ∷ []} {to = Arguments ∷ []} (Fixed marks.Comma) c.in_ok-word.ensures.word here (λ left code ps ss. refl) in
-    let behind = read_then (AfterType InArguments ∷ []) [] c.loop-others.invariant.read comma in
-    exit _ _ c.from_residual-in_err-next-in-Comma.ensures.1 (fails_then (Arguments ∷ []) [] behind c.in_err-next-in-Comma.ensures.stuck)
+    let past = read_then (AfterType InArguments ∷ []) [] c.loop-others.invariant.read comma in
+    exit _ _ c.from_residual-in_err-next-in-Comma.ensures.1 (fails_then (Arguments ∷ []) [] past c.in_err-next-in-Comma.ensures.stuck)
 
 pub loop-others-preserved : goal.loop-others-preserved
 loop-others-preserved c =
@@ -34,9 +34,9 @@ loop-others-preserved c =
     let next = c.in_ok-next-in-Comma in
     let pushed = c.in_ok-push-in-Comma.ensures.items in
     let comma = read_first {from = AfterType InArguments ∷ []} {to = Arguments ∷ []} (Fixed marks.Comma) c.in_ok-word.ensures.word here (λ left code ps ss. refl) in
-    let behind = read_then (AfterType InArguments ∷ []) [] h.read comma in
+    let past = read_then (AfterType InArguments ∷ []) [] h.read comma in
     record {
-      read = read_as (argument_more _ c.loop-others.others.items next.next _ pushed) (read_then (Arguments ∷ []) [] behind next.ensures.read);
+      read = read_as (argument_more _ c.loop-others.others.items next.next _ pushed) (read_then (Arguments ∷ []) [] past next.ensures.read);
       first_fits = h.first_fits;
       fits = fits_more view_argument OthersFit ArgumentFits others_fit c.loop-others.others.items next.next _ pushed h.fits next.ensures.fits;
     }

@@ -104,8 +104,8 @@ pub arms-returns-in_err-next-clause-stuck : goal.arms-returns-in_err-next-clause
 arms-returns-in_err-next-clause-stuck t c =
     let n = c.args.depth in
     let on = read_on c.loop-arms.invariant.read (more_arms n c.in_ok-word.ensures.word (not_mark c.is_mark.ensures c.if-is_mark.false) (not_mark c.is_mark-in-loop-arms.ensures c.if-is_mark-2.false)) in
-    let behind = read_then (Token marks.Case ∷ []) (AnyValue ∷ Token marks.Colon ∷ AfterCase n ∷ MoreArms n ∷ []) on c.in_ok-rest-2.ensures.read in
-    exit _ _ c.from_residual-in_err-next.ensures.1 (fails_then (AnyValue ∷ Token marks.Colon ∷ AfterCase n ∷ []) (MoreArms n ∷ []) behind c.in_err-next.ensures.stuck)
+    let past = read_then (Token marks.Case ∷ []) (AnyValue ∷ Token marks.Colon ∷ AfterCase n ∷ MoreArms n ∷ []) on c.in_ok-rest-2.ensures.read in
+    exit _ _ c.from_residual-in_err-next.ensures.1 (fails_then (AnyValue ∷ Token marks.Colon ∷ AfterCase n ∷ []) (MoreArms n ∷ []) past c.in_err-next.ensures.stuck)
 
 pub arms-loop-arms-preserved : goal.arms-loop-arms-preserved
 arms-loop-arms-preserved t c =
@@ -114,9 +114,9 @@ arms-loop-arms-preserved t c =
     let next = c.in_ok-next in
     let pushed = c.in_ok-push-2.ensures.items in
     let on = read_on h.read (more_arms n c.in_ok-word.ensures.word (not_mark c.is_mark.ensures c.if-is_mark.false) (not_mark c.is_mark-in-loop-arms.ensures c.if-is_mark-2.false)) in
-    let behind = read_then (Token marks.Case ∷ []) (AnyValue ∷ Token marks.Colon ∷ AfterCase n ∷ MoreArms n ∷ []) on c.in_ok-rest-2.ensures.read in
+    let past = read_then (Token marks.Case ∷ []) (AnyValue ∷ Token marks.Colon ∷ AfterCase n ∷ MoreArms n ∷ []) on c.in_ok-rest-2.ensures.read in
     record {
-      read = read_as (arms_more c.loop-arms.arms.items next.next _ pushed) (read_after (AnyValue ∷ Token marks.Colon ∷ AfterCase n ∷ []) (MoreArms n ∷ []) _ (Fixed marks.Case) behind next.ensures.read);
+      read = read_as (arms_more c.loop-arms.arms.items next.next _ pushed) (read_after (AnyValue ∷ Token marks.Colon ∷ AfterCase n ∷ []) (MoreArms n ∷ []) _ (Fixed marks.Case) past next.ensures.read);
       some = has_arm c.loop-arms.arms.items next.next _ pushed;
       fits = fits_arm _ c.loop-arms.arms.items next.next _ pushed h.fits next.ensures.some next.ensures.fits;
     }
