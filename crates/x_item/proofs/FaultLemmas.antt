@@ -9,7 +9,7 @@ use Rattle.x_item.specs.Tree as tree
 use Rattle.x_item.specs.Spell.{spell, KeepsLimits, Begins}
 use Rattle.x_item.specs.Parse.{code_of, IsStuck}
 use Rattle.x_item.specs.Symbols.{Symbol, Item, step, go}
-use Rattle.x_item.specs.Reading.{Place, place_of, places_of, words_at, read, IsRefused, Fails, Leads}
+use Rattle.x_item.specs.Reading.{Place, place_of, places_of, words_at, read, IsAt, IsRefused}
 use Rattle.x_item.specs.declared.fault.FaultCode.{FaultCode}
 use Rattle.x_item.specs.declared.reading.ParseError.{ParseError}
 use Rattle.x_item.specs.declared.reading.ParseError.TheVariants as errors
@@ -237,15 +237,15 @@ ended item e =
     (subst Begins (sym all) (begins (words_at (places_of item)) 0 s), λ d p same. s.short none_left ((d, p), tt) (append-nil (spell d) ∙ same ∙ all))
 
 -- an item at which reading fails
-pub refused : (item : List Lexeme) (e : ParseError) → Fails Item (places_of item) e → IsRefused item e
+pub refused : (item : List Lexeme) (e : ParseError) → IsAt e (read (Item ∷ []) (places_of item)) → IsRefused item e
 refused item errors.Memory f = tt
-refused item errors.AtEnd f = ended item (ends_words (places_of item) (Item ∷ []) (f.by []))
-refused item (errors.Stuck left code) f = stuck_cut item left code (halts (places_of item) (Item ∷ []) left code (f.by []))
+refused item errors.AtEnd f = ended item (ends_words (places_of item) (Item ∷ []) f)
+refused item (errors.Stuck left code) f = stuck_cut item left code (halts (places_of item) (Item ∷ []) left code f)
 
--- an item with a word behind a definition
-pub behind : (d : tree.Definition) (item : List Lexeme) (at : Place) (rest : List Place) → KeepsLimits d → words_at (places_of item) ≡ spell d ++ words_at (at ∷ rest) → Leads Item (places_of item) (at ∷ rest) → IsRefused item (errors.Stuck at.left at.code)
+-- an item with a word after a definition
+pub behind : (d : tree.Definition) (item : List Lexeme) (at : Place) (rest : List Place) → KeepsLimits d → words_at (places_of item) ≡ spell d ++ words_at (at ∷ rest) → read (Item ∷ []) (places_of item) ≡ read [] (at ∷ rest) → IsRefused item (errors.Stuck at.left at.code)
 behind d item at rest p spelled leads =
-    let r = rear_of (places_of item) (Item ∷ []) (at ∷ rest) (leads.by []) in
+    let r = rear_of (places_of item) (Item ∷ []) (at ∷ rest) leads in
     let gone : words_at r.gone ≡ spell d = append_cancel_right (words_at r.gone) (spell d) (words_at (at ∷ rest)) (sym (words_cut (places_of item) r.gone at rest r.parts) ∙ spelled) in
     fault_at item r.gone at at.left at.code (placed item r.gone at rest r.parts) refl refl
     (d, p, [], sym gone ∙ sym (append-nil (words_at r.gone)))

@@ -1,29 +1,118 @@
--- One more element of a list that a loop reads.
-use Rattle.std.proofs.Common.{◌≡◌, ◌≢◌, ℕ, zero, suc, ◌-◌, Option, Some, None, Err, List, [], ◌∷◌, ◌++◌, map, refl, ap, sym, ◌∙◌, subst, append_assoc, arith}
+-- What the functions that read types, declarations and their lists rest on.
+use Rattle.std.proofs.Common.{◌≡◌, ◌≢◌, ℕ, zero, suc, ◌+◌, ◌-◌, List, [], ◌∷◌, ◌++◌, Option, Some, None, Result, Err, map, refl, ap, sym, ◌∙◌, subst, append_assoc, arith}
 use Rattle.std.proofs.lemmas.List.{append-nil, map-append}
+use Rattle.std.specs.Result.{IfOk, IfErr}
+use Rattle.std.proofs.lemmas.Result.{IfOk-weaker, IfErr-weaker}
+use Rattle.x_lex.specs.declared.token.Token.{Token as LexToken}
 use Rattle.x_item.specs.Words.{Word, Fixed, Name}
 use Rattle.x_item.specs.Tree as tree
-use Rattle.x_item.specs.Spell.{spell_value, spell_enumerator, spell_other_enumerators, spell_enumerators, spell_cases, spell_declaration, spell_declarations, spell_arms, HasOne, HasDeclaration, HasArm, DeclarationFits, DeclarationsFit, ArmsFit, BodyFits, TypeFits}
+use Rattle.x_item.specs.Spell.{tag_mark, spell_value, spell_enumerator, spell_other_enumerators, spell_enumerators, spell_cases, spell_declaration, spell_declarations, spell_arms, spell_type, spell_body, body_mark, HasOne, HasDeclaration, HasArm, DeclarationFits, DeclarationsFit, ArmsFit, BodyFits, TypeFits}
 use Rattle.x_item.specs.View.{view_value, view_enumerator, view_declaration, view_declarations, view_arms}
+use Rattle.x_item.specs.declared.mark.Mark.{Mark}
 use Rattle.x_item.specs.declared.mark.Mark.TheVariants as marks
-use Rattle.x_item.specs.declared.fault.FaultCode.{FaultCode}
+use Rattle.x_item.specs.declared.mark.Ending.{Ending}
 use Rattle.x_item.specs.declared.mark.Ending.TheVariants as endings
 use Rattle.x_item.specs.declared.definition.Enumerator.{Enumerator}
 use Rattle.x_item.specs.declared.definition.Value.{Value}
 use Rattle.x_item.specs.declared.definition.Tag.{Tag}
+use Rattle.x_item.specs.declared.definition.Tag.TheVariants as tags
 use Rattle.x_item.specs.declared.definition.Declaration.{Declaration}
 use Rattle.x_item.specs.declared.definition.Arm.{Arm}
+use Rattle.x_item.specs.declared.fault.FaultCode.{FaultCode}
 use Rattle.x_item.specs.declared.reading.Word as source
 use Rattle.x_item.specs.declared.reading.Word.TheVariants as words
-use Rattle.x_item.specs.declared.reading.ParseError.TheVariants as errors
-use Rattle.x_item.specs.Symbols.{Symbol, Token, AnyValue, AfterTag, AnyBody, Enumerators, MoreEnumerators, Declared, Declarations, MoreDeclarations, AfterCase, MoreArms, followed, go, step_declared}
-use Rattle.x_item.specs.Reading.{view_word, Place, Fails, Goes, words_at, read}
 use Rattle.x_item.specs.declared.reading.ParseError.{ParseError}
-use Rattle.x_item.proofs.ReadLemmas.{fails_alike}
+use Rattle.x_item.specs.declared.reading.ParseError.TheVariants as errors
+use Rattle.x_item.specs.Symbols.{Symbol, Context, InDeclaration, Token, AnyName, AnyValue, AnyLength, AfterLess, AfterName, AfterType, AfterUnsigned, Typed, AfterTag, AnyBody, Enumerators, AfterEnumerator, MoreEnumerators, Declared, Declarations, MoreDeclarations, Arms, AfterCase, MoreArms, ending_mark, followed, go, step_declared}
+use Rattle.x_item.specs.Reading.{view_word, Place, HasFirst, IsRead, Fails, read, spell_ended, spell_arm}
+use Rattle.x_item.proofs.ReadLemmas.{Alike, alike, alike_first, headed, read_first, read_after, fails_then}
 
--- where reading went on to other symbols and failed there
-pub fails_on : {s t : Symbol} {tl : List Symbol} {ps left : List Place} {e : ParseError} → Goes (s ∷ []) ps (t ∷ tl) left → Fails t left e → Fails s ps e
-fails_on {s} {t} {tl} {ps} {left} h f = fails_alike {s = s} {t = t} tl {ps = ps} {left = left} (λ ss. h.by ss) f
+-- no mark is another, and no word that is no mark is one
+pub other_mark : (w : source.Word) (m k : Mark) → w ≡ words.Mark m → m ≢ k → view_word w ≢ Fixed k
+other_mark w m k is h e = let same : Fixed m ≡ Fixed k = sym (ap view_word is) ∙ e in h cc
+
+pub no_mark : (w : source.Word) (k : Mark) → ((m : Mark) → w ≢ words.Mark m) → view_word w ≢ Fixed k
+no_mark (words.Mark m) k h e = h m refl
+no_mark (words.Name t) k h e = cc
+no_mark (words.Number t) k h e = cc
+no_mark words.Other k h e = cc
+
+not_name : (w : source.Word) → ((t : _) → w ≢ words.Name t) → (u : List ℕ) → view_word w ≢ Name u
+not_name (words.Name t) h u e = h t refl
+not_name (words.Mark t) h u e = cc
+not_name (words.Number t) h u e = cc
+not_name words.Other h u e = cc
+
+-- a list of one
+pub one_only : {A : Type 0} (none xs : List A) (x : A) → none ≡ [] → xs ≡ none ++ x ∷ [] → xs ≡ [] ++ x ∷ []
+one_only none xs x is pushed = pushed ∙ ap (λ ys. ys ++ x ∷ []) is
+
+-- what stands between `<` and `>`
+after_less_is : (w : Word) (left : ℕ) (code : FaultCode) (ps : List Place) (ss : List Symbol) → w ≢ Fixed marks.Greater → read (AfterLess ∷ ss) (headed w left code ps) ≡ read (AnyValue ∷ Token marks.Greater ∷ ss) (headed w left code ps)
+after_less_is (Fixed marks.Greater) left code ps ss h = absurd (h refl)
+after_less_is w left code ps ss h = refl
+
+pub after_less : {tokens rest : List LexToken} {w : Word} → HasFirst tokens w rest → w ≢ Fixed marks.Greater → Alike (AfterLess ∷ []) (AnyValue ∷ Token marks.Greater ∷ []) tokens
+after_less {w = w} first h = alike_first first (λ left code ps ss. after_less_is w left code ps ss h)
+
+-- a length that is no `<`
+any_length_is : (w : Word) (left : ℕ) (code : FaultCode) (ps : List Place) (ss : List Symbol) → w ≢ Fixed marks.Less → read (AnyLength ∷ ss) (headed w left code ps) ≡ read (Token marks.OpenBracket ∷ AnyValue ∷ Token marks.CloseBracket ∷ ss) (headed w left code ps)
+any_length_is (Fixed marks.Less) left code ps ss h = absurd (h refl)
+any_length_is (Fixed m) left code ps ss h = refl
+any_length_is w left code ps ss h = refl
+
+pub any_length : {tokens rest : List LexToken} {w : Word} → HasFirst tokens w rest → w ≢ Fixed marks.Less → Alike (AnyLength ∷ []) (Token marks.OpenBracket ∷ AnyValue ∷ Token marks.CloseBracket ∷ []) tokens
+any_length {w = w} first h = alike_first first (λ left code ps ss. any_length_is w left code ps ss h)
+
+-- after a name, at a bracket and at none
+pub length_after_less : (e : Ending) {tokens rest : List LexToken} {w : Word} → HasFirst tokens w rest → w ≡ Fixed marks.Less → Alike (AfterName e ∷ []) (AnyLength ∷ Token (ending_mark e) ∷ []) tokens
+length_after_less e {w = w} first is = alike_first first (λ left code ps ss. subst (λ x. read (AfterName e ∷ ss) (headed x left code ps) ≡ read (AnyLength ∷ Token (ending_mark e) ∷ ss) (headed x left code ps)) (sym is) refl)
+
+pub length_after_bracket : (e : Ending) {tokens rest : List LexToken} {w : Word} → HasFirst tokens w rest → w ≡ Fixed marks.OpenBracket → Alike (AfterName e ∷ []) (AnyLength ∷ Token (ending_mark e) ∷ []) tokens
+length_after_bracket e {w = w} first is = alike_first first (λ left code ps ss. subst (λ x. read (AfterName e ∷ ss) (headed x left code ps) ≡ read (AnyLength ∷ Token (ending_mark e) ∷ ss) (headed x left code ps)) (sym is) refl)
+
+after_name_is : (e : Ending) (w : Word) (left : ℕ) (code : FaultCode) (ps : List Place) (ss : List Symbol) → w ≢ Fixed marks.Less → w ≢ Fixed marks.OpenBracket → read (AfterName e ∷ ss) (headed w left code ps) ≡ read (Token (ending_mark e) ∷ ss) (headed w left code ps)
+after_name_is e (Fixed marks.Less) left code ps ss a b = absurd (a refl)
+after_name_is e (Fixed marks.OpenBracket) left code ps ss a b = absurd (b refl)
+after_name_is e w left code ps ss a b = refl
+
+pub after_name : (e : Ending) {tokens rest : List LexToken} {w : Word} → HasFirst tokens w rest → w ≢ Fixed marks.Less → w ≢ Fixed marks.OpenBracket → Alike (AfterName e ∷ []) (Token (ending_mark e) ∷ []) tokens
+after_name e {w = w} first a b = alike_first first (λ left code ps ss. after_name_is e w left code ps ss a b)
+
+-- a declaration's name, with no star
+named_is : (e : Ending) (w : Word) (left : ℕ) (code : FaultCode) (ps : List Place) (ss : List Symbol) → w ≢ Fixed marks.Star → read (AfterType (InDeclaration e) ∷ ss) (headed w left code ps) ≡ read (AnyName ∷ AfterName e ∷ ss) (headed w left code ps)
+named_is e (Fixed marks.Star) left code ps ss h = absurd (h refl)
+named_is e w left code ps ss h = refl
+
+pub no_star : (e : Ending) {tokens rest : List LexToken} {w : Word} → HasFirst tokens w rest → w ≢ Fixed marks.Star → Alike (AfterType (InDeclaration e) ∷ []) (AnyName ∷ AfterName e ∷ []) tokens
+no_star e {w = w} first h = alike_first first (λ left code ps ss. named_is e w left code ps ss h)
+
+-- enumerators
+enumerators_is : (ps : List Place) (ss : List Symbol) → read (Enumerators ∷ ss) ps ≡ read (AnyName ∷ AfterEnumerator ∷ ss) ps
+enumerators_is [] ss = refl
+enumerators_is (p ∷ ps) ss = by p.word p.left p.code
+  where
+    by : (w : Word) (left : ℕ) (code : FaultCode) → read (Enumerators ∷ ss) (headed w left code ps) ≡ read (AnyName ∷ AfterEnumerator ∷ ss) (headed w left code ps)
+    by (Name t) left code = refl
+    by w left code = refl
+
+pub of_enumerator : (tokens : List LexToken) → Alike (Enumerators ∷ []) (AnyName ∷ AfterEnumerator ∷ []) tokens
+of_enumerator tokens = alike tokens enumerators_is
+
+no_value_is : (w : Word) (left : ℕ) (code : FaultCode) (ps : List Place) (ss : List Symbol) → w ≢ Fixed marks.Equals → read (AfterEnumerator ∷ ss) (headed w left code ps) ≡ read (MoreEnumerators ∷ ss) (headed w left code ps)
+no_value_is (Fixed marks.Equals) left code ps ss h = absurd (h refl)
+no_value_is w left code ps ss h = refl
+
+pub no_value : {tokens rest : List LexToken} {w : Word} → HasFirst tokens w rest → w ≢ Fixed marks.Equals → Alike (AfterEnumerator ∷ []) (MoreEnumerators ∷ []) tokens
+no_value {w = w} first h = alike_first first (λ left code ps ss. no_value_is w left code ps ss h)
+
+more_enumerators_is : (w : Word) (left : ℕ) (code : FaultCode) (ps : List Place) (ss : List Symbol) → w ≢ Fixed marks.CloseBrace → read (MoreEnumerators ∷ ss) (headed w left code ps) ≡ read (Token marks.Comma ∷ Enumerators ∷ ss) (headed w left code ps)
+more_enumerators_is (Fixed marks.CloseBrace) left code ps ss h = absurd (h refl)
+more_enumerators_is (Fixed m) left code ps ss h = refl
+more_enumerators_is w left code ps ss h = refl
+
+pub more_enumerators : {tokens rest : List LexToken} {w : Word} → HasFirst tokens w rest → w ≢ Fixed marks.CloseBrace → Alike (MoreEnumerators ∷ []) (Token marks.Comma ∷ Enumerators ∷ []) tokens
+more_enumerators {w = w} first h = alike_first first (λ left code ps ss. more_enumerators_is w left code ps ss h)
 
 has_push : {A : Type 0} (xs : List A) (x : A) → HasOne (xs ++ x ∷ [])
 has_push [] x = tt
@@ -38,50 +127,50 @@ others_push (x ∷ es) e =
     ap (λ t. Fixed marks.Comma ∷ (spell_enumerator x ++ t)) (others_push es e)
     ∙ ap (λ t. Fixed marks.Comma ∷ t) (sym (append_assoc (spell_enumerator x) (spell_other_enumerators es) (Fixed marks.Comma ∷ spell_enumerator e)))
 
-enumerators_push : (es : List tree.Enumerator) (e : tree.Enumerator) → HasOne es → spell_enumerators (es ++ e ∷ []) ≡ spell_enumerators es ++ Fixed marks.Comma ∷ spell_enumerator e
+enumerators_push : (es : List tree.Enumerator) (e : tree.Enumerator) → HasOne es → spell_enumerators (es ++ e ∷ []) ≡ (spell_enumerators es ++ Fixed marks.Comma ∷ []) ++ spell_enumerator e
 enumerators_push [] e some = absurd some
 enumerators_push (x ∷ es) e some =
     ap (λ t. spell_enumerator x ++ t) (others_push es e)
     ∙ sym (append_assoc (spell_enumerator x) (spell_other_enumerators es) (Fixed marks.Comma ∷ spell_enumerator e))
+    ∙ sym (append_assoc (spell_enumerators (x ∷ es)) (Fixed marks.Comma ∷ []) (spell_enumerator e))
 
-pub found_enumerator : (xs : List Enumerator) (x : Enumerator) (ys : List Enumerator) (ws left mid rest : List Word) → ys ≡ xs ++ x ∷ [] → HasOne (map view_enumerator xs) → ws ≡ spell_enumerators (map view_enumerator xs) ++ left → left ≡ Fixed marks.Comma ∷ mid → mid ≡ spell_enumerator (view_enumerator x) ++ rest → ws ≡ spell_enumerators (map view_enumerator ys) ++ rest
-found_enumerator xs x ys ws left mid rest is some a b c =
-    let es = map view_enumerator xs in
-    let e = view_enumerator x in
-    a ∙ ap (λ t. spell_enumerators es ++ t) (b ∙ ap (λ t. Fixed marks.Comma ∷ t) c)
-    ∙ sym (append_assoc (spell_enumerators es) (Fixed marks.Comma ∷ spell_enumerator e) rest)
-    ∙ ap (λ t. t ++ rest) (sym (enumerators_push es e some) ∙ ap spell_enumerators (sym (ap (map view_enumerator) is ∙ map-append view_enumerator xs (x ∷ []))))
+-- one more enumerator
+pub enumerators_more : (xs : List Enumerator) (x : Enumerator) (ys : List Enumerator) → ys ≡ xs ++ x ∷ [] → HasOne (map view_enumerator xs) → (spell_enumerators (map view_enumerator xs) ++ Fixed marks.Comma ∷ []) ++ spell_enumerator (view_enumerator x) ≡ spell_enumerators (map view_enumerator ys)
+enumerators_more xs x ys is some =
+    sym (enumerators_push (map view_enumerator xs) (view_enumerator x) some)
+    ∙ ap spell_enumerators (sym (ap (map view_enumerator) is ∙ map-append view_enumerator xs (x ∷ [])))
 
-pub comma_at : (ss : List Symbol) (ps rest : List Place) (w : Word) (left : ℕ) (code : FaultCode) → ps ≡ record { word = w; left = left; code = code } ∷ rest → w ≡ Fixed marks.Comma → read (MoreEnumerators ∷ ss) ps ≡ read (Enumerators ∷ ss) rest
-comma_at ss ps rest w left code is comma =
-    ap (read (MoreEnumerators ∷ ss)) is ∙ ap (λ x. read (MoreEnumerators ∷ ss) (record { word = x; left = left; code = code } ∷ rest)) comma
-
-pub words_first : (ps rest : List Place) (w x : Word) (left : ℕ) (code : FaultCode) → ps ≡ record { word = w; left = left; code = code } ∷ rest → w ≡ x → words_at ps ≡ x ∷ words_at rest
-words_first ps rest w x left code is same = ap words_at is ∙ ap (λ y. y ∷ words_at rest) same
+pub enumerators_one : (x : Enumerator) (ys : List Enumerator) → ys ≡ [] ++ x ∷ [] → spell_enumerator (view_enumerator x) ≡ spell_enumerators (map view_enumerator ys)
+enumerators_one x ys is = sym (append-nil (spell_enumerator (view_enumerator x))) ∙ ap (λ zs. spell_enumerators (map view_enumerator zs)) (sym is)
 
 -- a body of declarations is a declaration and the rest
 go_followed : (o : Option (List Symbol)) (m ss : List Symbol) (ps : List Place) (stop : ParseError) → go (followed m o) (λ rhs. read (rhs ++ ss) ps) (Err stop) ≡ go o (λ rhs. read (rhs ++ (m ++ ss)) ps) (Err stop)
 go_followed None m ss ps stop = refl
 go_followed (Some rhs) m ss ps stop = ap (λ c. read c ps) (append_assoc rhs m ss)
 
-pub declarations_is : (n : ℕ) (ss : List Symbol) (ps : List Place) → read (Declarations n ∷ ss) ps ≡ read (Declared n endings.Semicolon ∷ MoreDeclarations n ∷ ss) ps
-declarations_is n ss [] = refl
-declarations_is n ss (p ∷ ps) = go_followed (step_declared n endings.Semicolon p.word) (MoreDeclarations n ∷ []) ss ps (errors.Stuck p.left p.code)
+declarations_is : (n : ℕ) (ps : List Place) (ss : List Symbol) → read (Declarations n ∷ ss) ps ≡ read (Declared n endings.Semicolon ∷ MoreDeclarations n ∷ ss) ps
+declarations_is n [] ss = refl
+declarations_is n (p ∷ ps) ss = go_followed (step_declared n endings.Semicolon p.word) (MoreDeclarations n ∷ []) ss ps (errors.Stuck p.left p.code)
 
-more_is : (n : ℕ) (ss : List Symbol) (w : Word) (left : ℕ) (code : FaultCode) (ps : List Place) → w ≢ Fixed marks.CloseBrace → read (MoreDeclarations n ∷ ss) (record { word = w; left = left; code = code } ∷ ps) ≡ read (Declared n endings.Semicolon ∷ MoreDeclarations n ∷ ss) (record { word = w; left = left; code = code } ∷ ps)
-more_is n ss (Fixed marks.CloseBrace) left code ps h = absurd (h refl)
-more_is n ss w left code ps h = go_followed (step_declared n endings.Semicolon w) (MoreDeclarations n ∷ []) ss ps (errors.Stuck left code)
+pub of_declarations : (n : ℕ) (tokens : List LexToken) → Alike (Declarations n ∷ []) (Declared n endings.Semicolon ∷ MoreDeclarations n ∷ []) tokens
+of_declarations n tokens = alike tokens (declarations_is n)
 
-pub more_at : (n : ℕ) (ss : List Symbol) (ps rest : List Place) (w : Word) (left : ℕ) (code : FaultCode) → ps ≡ record { word = w; left = left; code = code } ∷ rest → w ≢ Fixed marks.CloseBrace → read (MoreDeclarations n ∷ ss) ps ≡ read (Declared n endings.Semicolon ∷ MoreDeclarations n ∷ ss) ps
-more_at n ss ps rest w left code is h =
-    ap (read (MoreDeclarations n ∷ ss)) is ∙ more_is n ss w left code rest h ∙ ap (read (Declared n endings.Semicolon ∷ MoreDeclarations n ∷ ss)) (sym is)
+more_is : (n : ℕ) (w : Word) (left : ℕ) (code : FaultCode) (ps : List Place) (ss : List Symbol) → w ≢ Fixed marks.CloseBrace → read (MoreDeclarations n ∷ ss) (headed w left code ps) ≡ read (Declared n endings.Semicolon ∷ MoreDeclarations n ∷ ss) (headed w left code ps)
+more_is n (Fixed marks.CloseBrace) left code ps ss h = absurd (h refl)
+more_is n w left code ps ss h = go_followed (step_declared n endings.Semicolon w) (MoreDeclarations n ∷ []) ss ps (errors.Stuck left code)
+
+pub more_declarations : (n : ℕ) {tokens rest : List LexToken} {w : Word} → HasFirst tokens w rest → w ≢ Fixed marks.CloseBrace → Alike (MoreDeclarations n ∷ []) (Declared n endings.Semicolon ∷ MoreDeclarations n ∷ []) tokens
+more_declarations n {w = w} first h = alike_first first (λ left code ps ss. more_is n w left code ps ss h)
 
 -- one more declaration
-declarations_push : (xs : List Declaration) (x : Declaration) → spell_declarations (view_declarations (xs ++ x ∷ [])) ≡ spell_declarations (view_declarations xs) ++ (spell_declaration (view_declaration x) ++ Fixed marks.Semicolon ∷ [])
+declarations_push : (xs : List Declaration) (x : Declaration) → spell_declarations (view_declarations (xs ++ x ∷ [])) ≡ spell_declarations (view_declarations xs) ++ spell_ended (view_declaration x) endings.Semicolon
 declarations_push [] x = refl
 declarations_push (y ∷ xs) x =
     ap (λ t. spell_declaration (view_declaration y) ++ Fixed marks.Semicolon ∷ t) (declarations_push xs x)
-    ∙ sym (append_assoc (spell_declaration (view_declaration y)) (Fixed marks.Semicolon ∷ spell_declarations (view_declarations xs)) (spell_declaration (view_declaration x) ++ Fixed marks.Semicolon ∷ []))
+    ∙ sym (append_assoc (spell_declaration (view_declaration y)) (Fixed marks.Semicolon ∷ spell_declarations (view_declarations xs)) (spell_ended (view_declaration x) endings.Semicolon))
+
+pub declarations_more : (xs : List Declaration) (x : Declaration) (ys : List Declaration) → ys ≡ xs ++ x ∷ [] → spell_declarations (view_declarations xs) ++ spell_ended (view_declaration x) endings.Semicolon ≡ spell_declarations (view_declarations ys)
+declarations_more xs x ys is = sym (declarations_push xs x) ∙ ap (λ zs. spell_declarations (view_declarations zs)) (sym is)
 
 fits_snoc : (n : ℕ) (xs : List Declaration) (x : Declaration) → DeclarationsFit (view_declarations xs) n → DeclarationFits (view_declaration x) n → DeclarationsFit (view_declarations (xs ++ x ∷ [])) n
 fits_snoc n [] x h f = (f, tt)
@@ -97,49 +186,58 @@ fits_declaration n xs x ys is h f = subst (λ zs. DeclarationsFit (view_declarat
 pub has_declaration : (xs : List Declaration) (x : Declaration) (ys : List Declaration) → ys ≡ xs ++ x ∷ [] → HasDeclaration (view_declarations ys)
 has_declaration xs x ys is = subst (λ zs. HasDeclaration (view_declarations zs)) (sym is) (has_snoc xs x)
 
-pub found_declaration : (xs : List Declaration) (x : Declaration) (ys : List Declaration) (ws left rest : List Word) → ys ≡ xs ++ x ∷ [] → ws ≡ spell_declarations (view_declarations xs) ++ left → left ≡ (spell_declaration (view_declaration x) ++ Fixed marks.Semicolon ∷ []) ++ rest → ws ≡ spell_declarations (view_declarations ys) ++ rest
-found_declaration xs x ys ws left rest is front back =
-    front ∙ ap (λ t. spell_declarations (view_declarations xs) ++ t) back
-    ∙ sym (append_assoc (spell_declarations (view_declarations xs)) (spell_declaration (view_declaration x) ++ Fixed marks.Semicolon ∷ []) rest)
-    ∙ ap (λ t. t ++ rest) (sym (declarations_push xs x))
-    ∙ ap (λ zs. spell_declarations (view_declarations zs) ++ rest) (sym is)
-
 -- one more case
 cases_push : (vs : List tree.Value) (v : tree.Value) → spell_cases (vs ++ v ∷ []) ≡ spell_cases vs ++ (Fixed marks.Case ∷ spell_value v ∷ Fixed marks.Colon ∷ [])
 cases_push [] v = refl
 cases_push (u ∷ vs) v = ap (λ t. Fixed marks.Case ∷ spell_value u ∷ Fixed marks.Colon ∷ t) (cases_push vs v)
 
-pub found_case : (vs : List Value) (v : Value) (us : List Value) (front left mid rest : List Word) → us ≡ vs ++ v ∷ [] → front ≡ spell_cases (map view_value vs) ++ left → left ≡ Fixed marks.Case ∷ mid → mid ≡ spell_value (view_value v) ∷ Fixed marks.Colon ∷ rest → front ≡ spell_cases (map view_value us) ++ rest
-found_case vs v us front left mid rest is a b c =
-    a ∙ ap (λ t. spell_cases (map view_value vs) ++ t) (b ∙ ap (λ t. Fixed marks.Case ∷ t) c)
-    ∙ sym (append_assoc (spell_cases (map view_value vs)) (Fixed marks.Case ∷ spell_value (view_value v) ∷ Fixed marks.Colon ∷ []) rest)
-    ∙ ap (λ t. t ++ rest) (sym (cases_push (map view_value vs) (view_value v)) ∙ ap spell_cases (sym (ap (map view_value) is ∙ map-append view_value vs (v ∷ []))))
+pub cases_one : (v : Value) (us : List Value) → us ≡ [] ++ v ∷ [] → Fixed marks.Case ∷ spell_value (view_value v) ∷ Fixed marks.Colon ∷ [] ≡ spell_cases (map view_value us)
+cases_one v us is = ap (λ vs. spell_cases (map view_value vs)) (sym is)
 
-pub case_at : (n : ℕ) (ss : List Symbol) (ps rest : List Place) (w : Word) (left : ℕ) (code : FaultCode) → ps ≡ record { word = w; left = left; code = code } ∷ rest → w ≡ Fixed marks.Case → read (AfterCase n ∷ ss) ps ≡ read (AnyValue ∷ Token marks.Colon ∷ AfterCase n ∷ ss) rest
-case_at n ss ps rest w left code is h =
-    ap (read (AfterCase n ∷ ss)) is ∙ ap (λ x. read (AfterCase n ∷ ss) (record { word = x; left = left; code = code } ∷ rest)) h
+pub cases_more : (vs : List Value) (v : Value) (us : List Value) → us ≡ vs ++ v ∷ [] → (spell_cases (map view_value vs) ++ Fixed marks.Case ∷ []) ++ (spell_value (view_value v) ∷ Fixed marks.Colon ∷ []) ≡ spell_cases (map view_value us)
+cases_more vs v us is =
+    append_assoc (spell_cases (map view_value vs)) (Fixed marks.Case ∷ []) (spell_value (view_value v) ∷ Fixed marks.Colon ∷ [])
+    ∙ sym (cases_push (map view_value vs) (view_value v)) ∙ ap spell_cases (sym (ap (map view_value) is ∙ map-append view_value vs (v ∷ [])))
 
-after_case_is : (n : ℕ) (ss : List Symbol) (w : Word) (left : ℕ) (code : FaultCode) (ps : List Place) → w ≢ Fixed marks.Case → read (AfterCase n ∷ ss) (record { word = w; left = left; code = code } ∷ ps) ≡ read (Declared n endings.Semicolon ∷ ss) (record { word = w; left = left; code = code } ∷ ps)
-after_case_is n ss (Fixed marks.Case) left code ps h = absurd (h refl)
-after_case_is n ss w left code ps h = refl
+no_case_is : (n : ℕ) (w : Word) (left : ℕ) (code : FaultCode) (ps : List Place) (ss : List Symbol) → w ≢ Fixed marks.Case → read (AfterCase n ∷ ss) (headed w left code ps) ≡ read (Declared n endings.Semicolon ∷ ss) (headed w left code ps)
+no_case_is n (Fixed marks.Case) left code ps ss h = absurd (h refl)
+no_case_is n w left code ps ss h = refl
 
-pub after_case_at : (n : ℕ) (ss : List Symbol) (ps rest : List Place) (w : Word) (left : ℕ) (code : FaultCode) → ps ≡ record { word = w; left = left; code = code } ∷ rest → w ≢ Fixed marks.Case → read (AfterCase n ∷ ss) ps ≡ read (Declared n endings.Semicolon ∷ ss) ps
-after_case_at n ss ps rest w left code is h =
-    ap (read (AfterCase n ∷ ss)) is ∙ after_case_is n ss w left code rest h ∙ ap (read (Declared n endings.Semicolon ∷ ss)) (sym is)
+pub no_case : (n : ℕ) {tokens rest : List LexToken} {w : Word} → HasFirst tokens w rest → w ≢ Fixed marks.Case → Alike (AfterCase n ∷ []) (Declared n endings.Semicolon ∷ []) tokens
+no_case n {w = w} first h = alike_first first (λ left code ps ss. no_case_is n w left code ps ss h)
+
+-- the body of a union is an arm and the rest
+arms_is : (n : ℕ) (ps : List Place) (ss : List Symbol) → read (Arms n ∷ ss) ps ≡ read (Token marks.Case ∷ AnyValue ∷ Token marks.Colon ∷ AfterCase n ∷ MoreArms n ∷ ss) ps
+arms_is n [] ss = refl
+arms_is n (p ∷ ps) ss = by p.word p.left p.code
+  where
+    by : (w : Word) (left : ℕ) (code : FaultCode) → read (Arms n ∷ ss) (headed w left code ps) ≡ read (Token marks.Case ∷ AnyValue ∷ Token marks.Colon ∷ AfterCase n ∷ MoreArms n ∷ ss) (headed w left code ps)
+    by (Fixed marks.Case) left code = refl
+    by (Fixed m) left code = refl
+    by w left code = refl
+
+pub of_arms : (n : ℕ) (tokens : List LexToken) → Alike (Arms n ∷ []) (Token marks.Case ∷ AnyValue ∷ Token marks.Colon ∷ AfterCase n ∷ MoreArms n ∷ []) tokens
+of_arms n tokens = alike tokens (arms_is n)
+
+more_arms_is : (n : ℕ) (w : Word) (left : ℕ) (code : FaultCode) (ps : List Place) (ss : List Symbol) → w ≢ Fixed marks.CloseBrace → w ≢ Fixed marks.Default → read (MoreArms n ∷ ss) (headed w left code ps) ≡ read (Token marks.Case ∷ AnyValue ∷ Token marks.Colon ∷ AfterCase n ∷ MoreArms n ∷ ss) (headed w left code ps)
+more_arms_is n (Fixed marks.CloseBrace) left code ps ss a b = absurd (a refl)
+more_arms_is n (Fixed marks.Default) left code ps ss a b = absurd (b refl)
+more_arms_is n (Fixed m) left code ps ss a b = refl
+more_arms_is n w left code ps ss a b = refl
+
+pub more_arms : (n : ℕ) {tokens rest : List LexToken} {w : Word} → HasFirst tokens w rest → w ≢ Fixed marks.CloseBrace → w ≢ Fixed marks.Default → Alike (MoreArms n ∷ []) (Token marks.Case ∷ AnyValue ∷ Token marks.Colon ∷ AfterCase n ∷ MoreArms n ∷ []) tokens
+more_arms n {w = w} first a b = alike_first first (λ left code ps ss. more_arms_is n w left code ps ss a b)
 
 -- one more arm
 abbrev pub arm_words : Arm → List Word
-arm_words a = spell_cases (map view_value a.cases.items) ++ (spell_declaration (view_declaration a.declaration) ++ Fixed marks.Semicolon ∷ [])
+arm_words a = spell_arm (map view_value a.cases.items) (view_declaration a.declaration)
 
 arms_push : (xs : List Arm) (x : Arm) → spell_arms (view_arms (xs ++ x ∷ [])) ≡ spell_arms (view_arms xs) ++ arm_words x
 arms_push [] x = refl
 arms_push (y ∷ xs) x = ap (λ t. spell_cases (map view_value y.cases.items) ++ (spell_declaration (view_declaration y.declaration) ++ Fixed marks.Semicolon ∷ t)) (arms_push xs x) ∙ simp append_assoc
 
-pub found_arm : (xs : List Arm) (x : Arm) (ys : List Arm) (ws left mid rest : List Word) → ys ≡ xs ++ x ∷ [] → ws ≡ spell_arms (view_arms xs) ++ left → left ≡ Fixed marks.Case ∷ mid → Fixed marks.Case ∷ mid ≡ arm_words x ++ rest → ws ≡ spell_arms (view_arms ys) ++ rest
-found_arm xs x ys ws left mid rest is a b c =
-    a ∙ ap (λ t. spell_arms (view_arms xs) ++ t) (b ∙ c)
-    ∙ sym (append_assoc (spell_arms (view_arms xs)) (arm_words x) rest)
-    ∙ ap (λ t. t ++ rest) (sym (arms_push xs x)) ∙ ap (λ zs. spell_arms (view_arms zs) ++ rest) (sym is)
+pub arms_more : (xs : List Arm) (x : Arm) (ys : List Arm) → ys ≡ xs ++ x ∷ [] → spell_arms (view_arms xs) ++ arm_words x ≡ spell_arms (view_arms ys)
+arms_more xs x ys is = sym (arms_push xs x) ∙ ap (λ zs. spell_arms (view_arms zs)) (sym is)
 
 has_arm_snoc : (xs : List Arm) (x : Arm) → HasArm (view_arms (xs ++ x ∷ []))
 has_arm_snoc [] x = tt
@@ -155,28 +253,96 @@ has_arm xs x ys is = subst (λ z. HasArm (view_arms z)) (sym is) (has_arm_snoc x
 pub fits_arm : (n : ℕ) (xs : List Arm) (x : Arm) (ys : List Arm) → ys ≡ xs ++ x ∷ [] → ArmsFit (view_arms xs) n → HasOne (map view_value x.cases.items) → DeclarationFits (view_declaration x.declaration) n → ArmsFit (view_arms ys) n
 fits_arm n xs x ys is h c d = subst (λ z. ArmsFit (view_arms z) n) (sym is) (arms_snoc n xs x h c d)
 
-pub more_case_at : (n : ℕ) (ss : List Symbol) (ps rest : List Place) (w : Word) (left : ℕ) (code : FaultCode) → ps ≡ record { word = w; left = left; code = code } ∷ rest → w ≡ Fixed marks.Case → read (MoreArms n ∷ ss) ps ≡ read (AnyValue ∷ Token marks.Colon ∷ AfterCase n ∷ MoreArms n ∷ ss) rest
-more_case_at n ss ps rest w left code is h =
-    ap (read (MoreArms n ∷ ss)) is ∙ ap (λ x. read (MoreArms n ∷ ss) (record { word = x; left = left; code = code } ∷ rest)) h
+-- bodies
+enum_is : (n : ℕ) (ps : List Place) (ss : List Symbol) → read (AnyBody tags.Enum n ∷ ss) ps ≡ read (Token marks.OpenBrace ∷ Enumerators ∷ ss) ps
+enum_is n [] ss = refl
+enum_is n (p ∷ ps) ss = by p.word p.left p.code
+  where
+    by : (w : Word) (left : ℕ) (code : FaultCode) → read (AnyBody tags.Enum n ∷ ss) (headed w left code ps) ≡ read (Token marks.OpenBrace ∷ Enumerators ∷ ss) (headed w left code ps)
+    by (Fixed marks.OpenBrace) left code = refl
+    by (Fixed m) left code = refl
+    by w left code = refl
 
--- a body behind a keyword
-tagged_is : (tag : Tag) (n : ℕ) (ss : List Symbol) (w : Word) (left : ℕ) (code : FaultCode) (ps : List Place) → ((t : List ℕ) → w ≢ Name t) → n ≢ 0 → read (AfterTag tag n ∷ ss) (record { word = w; left = left; code = code } ∷ ps) ≡ read (AnyBody tag (n - 1) ∷ ss) (record { word = w; left = left; code = code } ∷ ps)
-tagged_is tag zero ss w left code ps h some = absurd (some refl)
-tagged_is tag (suc n) ss (Name t) left code ps h some = absurd (h t refl)
-tagged_is tag (suc n) ss w left code ps h some =
+pub of_enum : (n : ℕ) (tokens : List LexToken) → Alike (AnyBody tags.Enum n ∷ []) (Token marks.OpenBrace ∷ Enumerators ∷ []) tokens
+of_enum n tokens = alike tokens (enum_is n)
+
+struct_is : (n : ℕ) (ps : List Place) (ss : List Symbol) → read (AnyBody tags.Struct n ∷ ss) ps ≡ read (Token marks.OpenBrace ∷ Declarations n ∷ ss) ps
+struct_is n [] ss = refl
+struct_is n (p ∷ ps) ss = by p.word p.left p.code
+  where
+    by : (w : Word) (left : ℕ) (code : FaultCode) → read (AnyBody tags.Struct n ∷ ss) (headed w left code ps) ≡ read (Token marks.OpenBrace ∷ Declarations n ∷ ss) (headed w left code ps)
+    by (Fixed marks.OpenBrace) left code = refl
+    by (Fixed m) left code = refl
+    by w left code = refl
+
+pub of_struct : (n : ℕ) (tokens : List LexToken) → Alike (AnyBody tags.Struct n ∷ []) (Token marks.OpenBrace ∷ Declarations n ∷ []) tokens
+of_struct n tokens = alike tokens (struct_is n)
+
+abbrev pub union_symbols : ℕ → List Symbol
+union_symbols n = Token marks.Switch ∷ Token marks.OpenParenthesis ∷ Declared n endings.Parenthesis ∷ Token marks.OpenBrace ∷ Arms n ∷ []
+
+union_is : (n : ℕ) (ps : List Place) (ss : List Symbol) → read (AnyBody tags.Union n ∷ ss) ps ≡ read (union_symbols n ++ ss) ps
+union_is n [] ss = refl
+union_is n (p ∷ ps) ss = by p.word p.left p.code
+  where
+    by : (w : Word) (left : ℕ) (code : FaultCode) → read (AnyBody tags.Union n ∷ ss) (headed w left code ps) ≡ read (union_symbols n ++ ss) (headed w left code ps)
+    by (Fixed marks.Switch) left code = refl
+    by (Fixed m) left code = refl
+    by w left code = refl
+
+pub of_union : (n : ℕ) (tokens : List LexToken) → Alike (AnyBody tags.Union n ∷ []) (union_symbols n) tokens
+of_union n tokens = alike tokens (union_is n)
+
+-- a body after a keyword
+tagged_is : (tag : Tag) (n : ℕ) (w : Word) (left : ℕ) (code : FaultCode) (ps : List Place) (ss : List Symbol) → ((t : List ℕ) → w ≢ Name t) → n ≢ 0 → read (AfterTag tag n ∷ ss) (headed w left code ps) ≡ read (AnyBody tag (n - 1) ∷ ss) (headed w left code ps)
+tagged_is tag zero w left code ps ss h some = absurd (some refl)
+tagged_is tag (suc n) (Name t) left code ps ss h some = absurd (h t refl)
+tagged_is tag (suc n) w left code ps ss h some =
     let e : n ≡ suc n - 1 = omega arith in
-    ap (λ k. read (AnyBody tag k ∷ ss) (record { word = w; left = left; code = code } ∷ ps)) e
+    ap (λ k. read (AnyBody tag k ∷ ss) (headed w left code ps)) e
 
-not_name : (w : source.Word) → ((t : _) → w ≢ words.Name t) → (u : List ℕ) → view_word w ≢ Name u
-not_name (words.Name t) h u e = h t refl
-not_name (words.Mark t) h u e = cc
-not_name (words.Number t) h u e = cc
-not_name words.Other h u e = cc
+pub no_tag_name : (tag : Tag) (n : ℕ) {tokens rest : List LexToken} (w : source.Word) → HasFirst tokens (view_word w) rest → ((t : _) → w ≢ words.Name t) → n ≢ 0 → Alike (AfterTag tag n ∷ []) (AnyBody tag (n - 1) ∷ []) tokens
+no_tag_name tag n w first h some = alike_first first (λ left code ps ss. tagged_is tag n (view_word w) left code ps ss (not_name w h) some)
 
-pub tagged_at : (tag : Tag) (n : ℕ) (ss : List Symbol) (ps rest : List Place) (w : source.Word) (left : ℕ) (code : FaultCode) → ps ≡ record { word = view_word w; left = left; code = code } ∷ rest → ((t : _) → w ≢ words.Name t) → n ≢ 0 → read (AfterTag tag n ∷ ss) ps ≡ read (AnyBody tag (n - 1) ∷ ss) ps
-tagged_at tag n ss ps rest w left code is h some =
-    ap (read (AfterTag tag n ∷ ss)) is ∙ tagged_is tag n ss (view_word w) left code rest (not_name w h) some ∙ ap (read (AnyBody tag (n - 1) ∷ ss)) (sym is)
+pub fits_one_more : (t : tree.DataType) (n : ℕ) → n ≢ 0 → TypeFits t (n - 1 + 1) → TypeFits t n
+fits_one_more t n some h = let e : n - 1 + 1 ≡ n = omega arith in subst (TypeFits t) e h
 
-pub fits_inline : (body : tree.Body) (n : ℕ) → n ≢ 0 → BodyFits body (n - 1) → TypeFits (tree.Inline body) n
-fits_inline body zero h fits = absurd (h refl)
-fits_inline body (suc n) h fits = let e : suc n - 1 ≡ n = omega arith in subst (BodyFits body) e fits
+-- an inline type
+pub found_inline : (t : tree.DataType) (b : tree.Body) (tag : Tag) (ws rest : List Word) → t ≡ tree.Inline b → body_mark b ≡ tag_mark tag → ws ≡ spell_body b ++ rest → Fixed (tag_mark tag) ∷ ws ≡ spell_type t ++ rest
+found_inline t b tag ws rest is of found =
+    ap (λ m. Fixed m ∷ ws) (sym of) ∙ ap (λ x. Fixed (body_mark b) ∷ x) found ∙ ap (λ y. spell_type y ++ rest) (sym is)
+
+pub fits_inline : (t : tree.DataType) (b : tree.Body) (n : ℕ) → t ≡ tree.Inline b → BodyFits b n → TypeFits t (n + 1)
+fits_inline t b n is fits =
+    let e : suc n ≡ n + 1 = omega arith in
+    subst (λ k. TypeFits t k) e (subst (λ y. TypeFits y (suc n)) (sym is) fits)
+
+-- a declaration that begins with a type
+declared_is : (n : ℕ) (e : Ending) (w : Word) (left : ℕ) (code : FaultCode) (ps : List Place) (ss : List Symbol) → w ≢ Fixed marks.Void → w ≢ Fixed marks.Opaque → w ≢ Fixed marks.String → read (Declared n e ∷ ss) (headed w left code ps) ≡ read (Typed n (InDeclaration e) ∷ ss) (headed w left code ps)
+declared_is n e (Fixed marks.Void) left code ps ss a b c = absurd (a refl)
+declared_is n e (Fixed marks.Opaque) left code ps ss a b c = absurd (b refl)
+declared_is n e (Fixed marks.String) left code ps ss a b c = absurd (c refl)
+declared_is n e w left code ps ss a b c = refl
+
+pub no_keyword : (n : ℕ) (e : Ending) {tokens rest : List LexToken} {w : Word} → HasFirst tokens w rest → w ≢ Fixed marks.Void → w ≢ Fixed marks.Opaque → w ≢ Fixed marks.String → Alike (Declared n e ∷ []) (Typed n (InDeclaration e) ∷ []) tokens
+no_keyword n e {w = w} first a b c = alike_first first (λ left code ps ss. declared_is n e w left code ps ss a b c)
+
+pub union_words : (d rest : List Word) → ((Fixed marks.Switch ∷ Fixed marks.OpenParenthesis ∷ (d ++ Fixed marks.CloseParenthesis ∷ [])) ++ Fixed marks.OpenBrace ∷ []) ++ rest ≡ Fixed marks.Switch ∷ Fixed marks.OpenParenthesis ∷ (d ++ Fixed marks.CloseParenthesis ∷ Fixed marks.OpenBrace ∷ rest)
+union_words d rest =
+    ap (λ t. Fixed marks.Switch ∷ Fixed marks.OpenParenthesis ∷ t)
+    (append_assoc (d ++ Fixed marks.CloseParenthesis ∷ []) (Fixed marks.OpenBrace ∷ []) rest ∙ append_assoc d (Fixed marks.CloseParenthesis ∷ []) (Fixed marks.OpenBrace ∷ rest))
+
+-- what follows `unsigned`
+module _ {T : Type 0} (n : ℕ) {tokens left : List LexToken} {w : Word} (first : HasFirst tokens w left) (is : w ≡ Fixed marks.Unsigned) (r : Result T ParseError) where
+  start : (c : Context) → IsRead [] (Typed n c ∷ []) tokens (Fixed marks.Unsigned ∷ []) (AfterUnsigned c ∷ []) left
+  start c = read_first (Fixed marks.Unsigned) first is (λ l code ps ss. refl)
+
+  pub read_unsigned : (spelled : T → List Word) (rest : T → List LexToken) → IfOk r (λ x. (c : Context) → IsRead (Fixed marks.Unsigned ∷ []) (AfterUnsigned c ∷ []) left (spelled x) (AfterType c ∷ []) (rest x)) → IfOk r (λ x. (c : Context) → IsRead [] (Typed n c ∷ []) tokens (spelled x) (AfterType c ∷ []) (rest x))
+  read_unsigned spelled rest h =
+      IfOk-weaker r (λ x. (c : Context) → IsRead (Fixed marks.Unsigned ∷ []) (AfterUnsigned c ∷ []) left (spelled x) (AfterType c ∷ []) (rest x)) (λ x. (c : Context) → IsRead [] (Typed n c ∷ []) tokens (spelled x) (AfterType c ∷ []) (rest x))
+      (λ x p c. read_after (AfterUnsigned c ∷ []) [] [] (Fixed marks.Unsigned) (start c) (p c)) h
+
+  pub stuck_unsigned : IfErr r (λ e. (c : Context) → Fails (AfterUnsigned c ∷ []) left e) → IfErr r (λ e. (c : Context) → Fails (Typed n c ∷ []) tokens e)
+  stuck_unsigned h =
+      IfErr-weaker r (λ e. (c : Context) → Fails (AfterUnsigned c ∷ []) left e) (λ e. (c : Context) → Fails (Typed n c ∷ []) tokens e)
+      (λ e f c. fails_then (AfterUnsigned c ∷ []) [] (start c) (f c)) h

@@ -1,16 +1,14 @@
--- Reading places by symbols.
-use Rattle.std.proofs.Common.{◌≡◌, ◌≢◌, ℕ, List, [], ◌∷◌, ◌++◌, Result, refl, ap, sym, ◌∙◌}
-use Rattle.std.specs.Result.{IsErrAnd, IfErr}
-use Rattle.std.proofs.lemmas.Result.{err_from_is_err_and}
-use Rattle.x_item.specs.Words.{Fixed}
+-- Reading of parts, one after another.
+use Rattle.std.proofs.Common.{◌≡◌, ◌≢◌, ◌↔◌, ℕ, Bool, false, IsTrue, List, [], ◌∷◌, ◌++◌, cond, Some, None, Result, Err, refl, ap, sym, ◌∙◌, subst, append_assoc, arith}
+use Rattle.std.specs.Result.{IsErrAnd, IfOk, IfErr}
+use Rattle.std.proofs.lemmas.Bool.{eq-eqb}
+use Rattle.std.proofs.lemmas.Result.{err_from_is_err_and, IfOk-weaker, IfErr-weaker}
+use Rattle.x_lex.specs.declared.token.Token.{Token}
+use Rattle.x_item.specs.Words.{Word, Fixed}
 use Rattle.x_item.specs.declared.mark.Mark.{Mark}
-use Rattle.x_item.specs.declared.mark.Mark.TheVariants as marks
-use Rattle.x_item.specs.declared.mark.Ending.{Ending}
-use Rattle.x_item.specs.Symbols.{Symbol, Token, AfterName, ending_mark}
-use Rattle.x_item.specs.declared.reading.Word as source
-use Rattle.x_item.specs.declared.reading.Word.TheVariants as words
+use Rattle.x_item.specs.Symbols.{Symbol, Token as OfMark, mark_code, go}
 use Rattle.x_item.specs.declared.fault.FaultCode.{FaultCode}
-use Rattle.x_item.specs.Reading.{view_word, Place, IsAt, Fails, read}
+use Rattle.x_item.specs.Reading.{Place, IsAt, Fails, IsRead, IsPart, HasFirst, ahead, words_at, left_in, code_in, read}
 use Rattle.x_item.specs.declared.reading.ParseError.{ParseError}
 use Rattle.x_item.specs.declared.reading.ParseError.TheVariants as errors
 
@@ -24,26 +22,105 @@ at_along (errors.Stuck left code) r q is f = is ∙ f
 pub exit_at : {T : Type 0} (P : ParseError → Type 0) (r : Result T ParseError) (x : ParseError) → IsErrAnd r (λ y. y ≡ x) → P x → IfErr r P
 exit_at P r x is p = let h = err_from_is_err_and r is in rw (h.1, h.2) p
 
-pub exit : {s : Symbol} {ps : List Place} {T : Type 0} (r : Result T ParseError) (x : ParseError) → IsErrAnd r (λ y. y ≡ x) → Fails s ps x → IfErr r (λ e. Fails s ps e)
-exit {s} {ps} r x is p = exit_at (λ e. Fails s ps e) r x is p
+pub exit : {from : List Symbol} {tokens : List Token} {T : Type 0} (r : Result T ParseError) (x : ParseError) → IsErrAnd r (λ y. y ≡ x) → Fails from tokens x → IfErr r (λ e. Fails from tokens e)
+exit {from} {tokens} r x is p = exit_at (λ e. Fails from tokens e) r x is p
 
--- symbols read alike fail alike
-pub fails_alike : {s t : Symbol} (tl : List Symbol) {ps left : List Place} {e : ParseError} → ((ss : List Symbol) → read (s ∷ ss) ps ≡ read (t ∷ (tl ++ ss)) left) → Fails t left e → Fails s ps e
-fails_alike tl {e = e} is f = record { by = λ ss. at_along e _ _ (is ss) (f.by (tl ++ ss)) }
+-- two lists of symbols by which the tokens are read alike
+pub record Alike (from to : List Symbol) (tokens : List Token) : Type 0 where
+  pub by : (ss : List Symbol) → read (from ++ ss) (ahead tokens) ≡ read (to ++ ss) (ahead tokens)
 
--- behind a name, at no bracket
-pub after_name_is : (e : Ending) (ss : List Symbol) (ps rest : List Place) (p : Place) (m : Mark) → ps ≡ p ∷ rest → p.word ≡ Fixed m → m ≢ marks.OpenBracket → m ≢ marks.Less → read (AfterName e ∷ ss) ps ≡ read (Token (ending_mark e) ∷ ss) ps
-after_name_is e ss ps rest p m is word a b =
-    ap (read (AfterName e ∷ ss)) at ∙ by_mark m a b ∙ ap (read (Token (ending_mark e) ∷ ss)) (sym at)
-  where
-    at : ps ≡ record { word = Fixed m; left = p.left; code = p.code } ∷ rest
-    at = is ∙ ap (λ w. record { word = w; left = p.left; code = p.code } ∷ rest) word
+-- so are any tokens
+pub alike : {from to : List Symbol} (tokens : List Token) → ((ps : List Place) (ss : List Symbol) → read (from ++ ss) ps ≡ read (to ++ ss) ps) → Alike from to tokens
+alike tokens is = record { by = λ ss. is (ahead tokens) ss }
 
-    by_mark : (m : Mark) → m ≢ marks.OpenBracket → m ≢ marks.Less → read (AfterName e ∷ ss) (record { word = Fixed m; left = p.left; code = p.code } ∷ rest) ≡ read (Token (ending_mark e) ∷ ss) (record { word = Fixed m; left = p.left; code = p.code } ∷ rest)
-    by_mark marks.OpenBracket a b = absurd (a refl)
-    by_mark marks.Less a b = absurd (b refl)
-    by_mark m a b = refl
+-- a word with tokens from it on, before others
+abbrev pub headed : Word → ℕ → FaultCode → List Place → List Place
+headed w left code ps = record { word = w; left = left; code = code } ∷ ps
 
-pub fails_after_name : {e : Ending} {ps rest : List Place} {w : source.Word} {left : ℕ} {code : FaultCode} {m end : Mark} {x : ParseError} → ps ≡ record { word = view_word w; left = left; code = code } ∷ rest → w ≡ words.Mark m → m ≢ marks.OpenBracket → m ≢ marks.Less → end ≡ ending_mark e → Fails (Token end) ps x → Fails (AfterName e) ps x
-fails_after_name {e} {ps} {rest} {w} {left} {code} {m} {end} is mark a b same f =
-    fails_alike [] (λ ss. after_name_is e ss ps rest (record { word = view_word w; left = left; code = code }) m is (ap view_word mark) a b ∙ ap (λ t. read (Token t ∷ ss) ps) (sym same)) f
+-- so are tokens that begin with this word
+pub alike_first : {from to : List Symbol} {tokens rest : List Token} {w : Word} → HasFirst tokens w rest → ((left : ℕ) (code : FaultCode) (ps : List Place) (ss : List Symbol) → read (from ++ ss) (headed w left code ps) ≡ read (to ++ ss) (headed w left code ps)) → Alike from to tokens
+alike_first {from} {to} {tokens} {rest} h is = record {
+  by = λ ss. ap (read (from ++ ss)) h.found ∙ is (left_in tokens) (code_in tokens) (ahead rest) ss ∙ ap (read (to ++ ss)) (sym h.found);
+}
+
+pub fails_alike : {from to : List Symbol} {tokens : List Token} {e : ParseError} → Alike from to tokens → Fails to tokens e → Fails from tokens e
+fails_alike {e = e} is f = record { by = λ ss. at_along e _ _ (is.by ss) (f.by ss) }
+
+pub read_alike : {before words : List Word} {from by to : List Symbol} {tokens rest : List Token} → Alike from by tokens → IsRead before by tokens words to rest → IsRead before from tokens words to rest
+read_alike is r = record { found = r.found; leads = λ ss. is.by ss ∙ r.leads ss; shorter = r.shorter }
+
+pub read_on : {before words : List Word} {from by to : List Symbol} {tokens rest : List Token} → IsRead before from tokens words by rest → Alike by to rest → IsRead before from tokens words to rest
+read_on r is = record { found = r.found; leads = λ ss. r.leads ss ∙ is.by ss; shorter = r.shorter }
+
+-- the words may be told in another way
+pub read_as : {before words others : List Word} {from to : List Symbol} {tokens rest : List Token} → words ≡ others → IsRead before from tokens words to rest → IsRead before from tokens others to rest
+read_as {rest = rest} is r = record { found = r.found ∙ ap (λ t. t ++ words_at (ahead rest)) is; leads = r.leads; shorter = r.shorter }
+
+-- the first word is read
+pub read_first : {from to : List Symbol} {tokens rest : List Token} {w : Word} (x : Word) → HasFirst tokens w rest → w ≡ x → ((left : ℕ) (code : FaultCode) (ps : List Place) (ss : List Symbol) → read (from ++ ss) (headed x left code ps) ≡ read (to ++ ss) ps) → IsRead [] from tokens (x ∷ []) to rest
+read_first {from} {to} {tokens} {rest} {w} x h same is = record {
+  found = ap words_at h.found ∙ ap (λ y. y ∷ words_at (ahead rest)) same;
+  leads = λ ss. ap (read (from ++ ss)) h.found ∙ ap (λ y. read (from ++ ss) (headed y (left_in tokens) (code_in tokens) (ahead rest))) same ∙ is (left_in tokens) (code_in tokens) (ahead rest) ss;
+  shorter = let s = h.shorter in omega (arith, s);
+}
+
+-- a part and the part after it
+pub read_then : (b c : List Symbol) {before words more : List Word} {from to : List Symbol} {tokens middle rest : List Token} → IsRead before from tokens words (b ++ c) middle → IsRead [] b middle more to rest → IsRead before from tokens (words ++ more) (to ++ c) rest
+read_then b c {before} {words} {more} {from} {to} {tokens} {middle} {rest} p q = record {
+  found = p.found ∙ ap (λ t. words ++ t) q.found ∙ sym (append_assoc words more (words_at (ahead rest)));
+  leads = λ ss. p.leads ss ∙ ap (λ l. read l (ahead middle)) (append_assoc b c ss) ∙ q.leads (c ++ ss) ∙ ap (λ l. read l (ahead rest)) (sym (append_assoc to c ss));
+  shorter = let s = p.shorter in let t = q.shorter in omega (arith, s, t);
+}
+
+-- a part before other symbols
+pub read_more : (b c : List Symbol) {before words : List Word} {to : List Symbol} {tokens rest : List Token} → IsRead before b tokens words to rest → IsRead before (b ++ c) tokens words (to ++ c) rest
+read_more b c {to = to} {tokens} {rest} r = record {
+  found = r.found;
+  leads = λ ss. ap (λ l. read l (ahead tokens)) (append_assoc b c ss) ∙ r.leads (c ++ ss) ∙ ap (λ l. read l (ahead rest)) (sym (append_assoc to c ss));
+  shorter = r.shorter;
+}
+
+pub fails_more : (b c : List Symbol) {tokens : List Token} {e : ParseError} → Fails b tokens e → Fails (b ++ c) tokens e
+fails_more b c {tokens} {e} f = record { by = λ ss. at_along e _ _ (ap (λ l. read l (ahead tokens)) (append_assoc b c ss)) (f.by (c ++ ss)) }
+
+-- a part that is spelled with the word before it
+pub read_after : (b c : List Symbol) (words : List Word) (x : Word) {before more : List Word} {from to : List Symbol} {tokens middle rest : List Token} → IsRead before from tokens (words ++ x ∷ []) (b ++ c) middle → IsRead (x ∷ []) b middle more to rest → IsRead before from tokens (words ++ more) (to ++ c) rest
+read_after b c words x {before} {more} {from} {to} {tokens} {middle} {rest} p q = record {
+  found = p.found ∙ append_assoc words (x ∷ []) (words_at (ahead middle)) ∙ ap (λ t. words ++ t) q.found ∙ sym (append_assoc words more (words_at (ahead rest)));
+  leads = λ ss. p.leads ss ∙ ap (λ l. read l (ahead middle)) (append_assoc b c ss) ∙ q.leads (c ++ ss) ∙ ap (λ l. read l (ahead rest)) (sym (append_assoc to c ss));
+  shorter = let s = p.shorter in let t = q.shorter in omega (arith, s, t);
+}
+
+-- where reading went on to other symbols and failed there
+pub fails_then : (b c : List Symbol) {before words : List Word} {from : List Symbol} {tokens rest : List Token} {e : ParseError} → IsRead before from tokens words (b ++ c) rest → Fails b rest e → Fails from tokens e
+fails_then b c {rest = rest} {e = e} r f = record {
+  by = λ ss. at_along e _ _ (r.leads ss ∙ ap (λ l. read l (ahead rest)) (append_assoc b c ss)) (f.by (c ++ ss));
+}
+
+-- the symbol of a mark takes it
+pub takes_mark : (m : Mark) (left : ℕ) (code : FaultCode) (ps : List Place) (ss : List Symbol) → read (OfMark m ∷ ss) (headed (Fixed m) left code ps) ≡ read ss ps
+takes_mark m left code ps ss =
+    ap (λ b. go (cond b (Some []) None) (λ symbols. read (symbols ++ ss) ps) (Err (errors.Stuck left code))) (eq-eqb (mark_code m) (mark_code m) refl)
+
+-- a mark told by another name
+pub part_along : {m k : Mark} {tokens rest : List Token} → m ≡ k → IsPart (OfMark m) tokens (Fixed m ∷ []) rest → IsPart (OfMark k) tokens (Fixed k ∷ []) rest
+part_along {tokens = tokens} {rest} is r = subst (λ m. IsPart (OfMark m) tokens (Fixed m ∷ []) rest) is r
+
+pub fails_along : {m k : Mark} {tokens : List Token} {e : ParseError} → m ≡ k → Fails (OfMark m ∷ []) tokens e → Fails (OfMark k ∷ []) tokens e
+fails_along {tokens = tokens} {e} is f = subst (λ m. Fails (OfMark m ∷ []) tokens e) is f
+
+-- a part after a word
+pub read_after_word : (x : Word) {words : List Word} {from to : List Symbol} {tokens rest : List Token} → IsRead [] from tokens words to rest → IsRead (x ∷ []) from tokens (x ∷ words) to rest
+read_after_word x r = record { found = ap (λ t. x ∷ t) r.found; leads = r.leads; shorter = let s = r.shorter in omega (arith, s) }
+
+-- what a test for a mark says
+pub not_mark : {r : Bool} {w : Word} {m : Mark} → IsTrue r ↔ (w ≡ Fixed m) → r ≡ false → w ≢ Fixed m
+not_mark both off is = let on = both.1 is in cc
+
+-- what a last call says, of symbols by which the tokens are read alike
+pub ok_alike : (before : List Word) (from by to : List Symbol) (tokens : List Token) {T : Type 0} (words : T → List Word) (rest : T → List Token) (r : Result T ParseError) → Alike from by tokens → IfOk r (λ x. IsRead before by tokens (words x) to (rest x)) → IfOk r (λ x. IsRead before from tokens (words x) to (rest x))
+ok_alike before from by to tokens words rest r same h =
+    IfOk-weaker r (λ x. IsRead before by tokens (words x) to (rest x)) (λ x. IsRead before from tokens (words x) to (rest x)) (λ x p. read_alike same p) h
+
+pub err_alike : (from by : List Symbol) (tokens : List Token) {T : Type 0} (r : Result T ParseError) → Alike from by tokens → IfErr r (λ e. Fails by tokens e) → IfErr r (λ e. Fails from tokens e)
+err_alike from by tokens r same h = IfErr-weaker r (λ e. Fails by tokens e) (λ e. Fails from tokens e) (λ e f. fails_alike same f) h

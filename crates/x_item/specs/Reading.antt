@@ -1,15 +1,15 @@
 -- What the functions of the parser say.
-use Rattle.std.specs.Prelude.{◌≡◌, ◌≢◌, ℕ, suc, ◌+◌, ◌-◌, ◌≤◌, ◌<◌, List, [], ◌∷◌, ◌++◌, Option, Some, None, Result, Ok, Err, map, length, if◌then◌else◌}
+use Rattle.std.specs.Prelude.{◌≡◌, ◌≢◌, ℕ, suc, ◌+◌, ◌-◌, ◌≤◌, ◌<◌, List, [], ◌∷◌, ◌++◌, Result, Ok, Err, map, length, if◌then◌else◌}
 use Rattle.x_lex.specs.Places.{Lexeme, lexeme}
 use Rattle.x_lex.specs.declared.token.Token.{Token}
 use Rattle.x_item.specs.Words.{Word, Fixed, Name, Number, Other, word_of, words_of, is_significant}
 use Rattle.x_item.specs.Tree as tree
 use Rattle.x_item.specs.Tree.{Definition}
-use Rattle.x_item.specs.View.{view_length}
-use Rattle.x_item.specs.declared.definition.Length.{Length}
-use Rattle.x_item.specs.Spell.{spell, spell_length, KeepsLimits, Begins}
+use Rattle.x_item.specs.Spell.{spell, spell_cases, spell_declaration, KeepsLimits, Begins}
 use Rattle.x_item.specs.Parse.{code_of, IsStuck}
-use Rattle.x_item.specs.Symbols.{Symbol, go, step}
+use Rattle.x_item.specs.Symbols.{Symbol, ending_mark, go, step}
+use Rattle.x_item.specs.declared.mark.Mark.TheVariants as marks
+use Rattle.x_item.specs.declared.mark.Ending.{Ending}
 use Rattle.x_item.specs.declared.fault.FaultCode.{FaultCode}
 use Rattle.x_item.specs.declared.fault.FaultCode.TheVariants as codes
 use Rattle.x_item.specs.declared.reading.Word as source
@@ -30,7 +30,7 @@ pub record Place : Type 0 where
   pub left : ℕ
   pub code : FaultCode
 
--- the place of a token in front of others
+-- the place of a token before others
 abbrev pub place_of : Lexeme → List Lexeme → Place
 place_of t ts = record { word = word_of t; left = suc (length ts); code = code_of t.kind }
 
@@ -63,7 +63,7 @@ code_in tokens = first_code (ahead tokens)
 abbrev pub words_at : List Place → List Word
 words_at ps = map (λ p. p.word) ps
 
--- what is left behind what the symbols take, or why reading stops
+-- what is left after what the symbols take, or why reading stops
 abbrev pub read : List Symbol → List Place → Result (List Place) ParseError
 read [] ps = Ok ps
 read (s ∷ ss) [] = Err errors.AtEnd
@@ -75,37 +75,41 @@ IsAt errors.Memory r = Unit {0}
 IsAt errors.AtEnd r = r ≡ Err errors.AtEnd
 IsAt (errors.Stuck left code) r = r ≡ Err (errors.Stuck left code)
 
--- so it does, whatever symbols follow
-pub record Fails (s : Symbol) (ps : List Place) (e : ParseError) : Type 0 where
-  pub by : (ss : List Symbol) → IsAt e (read (s ∷ ss) ps)
+-- by these symbols reading stops where the error says, whatever symbols follow them
+pub record Fails (from : List Symbol) (tokens : List Token) (e : ParseError) : Type 0 where
+  pub by : (ss : List Symbol) → IsAt e (read (from ++ ss) (ahead tokens))
 
--- so it does, whatever symbols follow these
-pub record FailsAll (from : List Symbol) (ps : List Place) (e : ParseError) : Type 0 where
-  pub by : (ss : List Symbol) → IsAt e (read (from ++ ss) ps)
+-- A part was read after the words `before`: with them it is spelled by `words`, reading by the symbols `from` comes to the symbols
+-- `to` at the rest, whatever symbols follow, and the rest is shorter.
+pub record IsRead (before : List Word) (from : List Symbol) (tokens : List Token) (words : List Word) (to : List Symbol)
+    (rest : List Token) : Type 0 where
+  pub found : before ++ words_at (ahead tokens) ≡ words ++ words_at (ahead rest)
+  pub leads : (ss : List Symbol) → read (from ++ ss) (ahead tokens) ≡ read (to ++ ss) (ahead rest)
+  pub shorter : length rest < length before + length tokens
 
--- reading by the one list of symbols leads from the one list to reading by the other, whatever symbols follow
-pub record Goes (from : List Symbol) (ps : List Place) (to : List Symbol) (rest : List Place) : Type 0 where
-  pub by : (ss : List Symbol) → read (from ++ ss) ps ≡ read (to ++ ss) rest
+-- a part that one symbol stands for
+abbrev pub IsPart : Symbol → List Token → List Word → List Token → Type 0
+IsPart symbol tokens words rest = IsRead [] (symbol ∷ []) tokens words [] rest
 
--- reading by the symbol leads from the one list to the other
-pub record Leads (s : Symbol) (ps rest : List Place) : Type 0 where
-  pub by : (ss : List Symbol) → read (s ∷ ss) ps ≡ read ss rest
-
--- a word, and what stands behind it
+-- a word, and what stands after it
 pub record IsSplit (tokens : List Token) (token : Token) (rest : List Token) : Type 0 where
   pub all : ahead tokens ≡ record { word = word_of (lexeme token); left = left_in tokens; code = code_in tokens } ∷ ahead rest
   pub left : left_in tokens ≡ length rest + 1
   pub code : code_in tokens ≡ code_of token.kind
   pub shorter : length rest < length tokens
 
--- the length behind a name, if there is one
-abbrev pub view_suffix : Option Length → Option tree.Length
-view_suffix None = None
-view_suffix (Some length) = Some (view_length length)
+-- the first word, and what stands after it
+pub record HasFirst (tokens : List Token) (word : Word) (rest : List Token) : Type 0 where
+  pub found : ahead tokens ≡ record { word = word; left = left_in tokens; code = code_in tokens } ∷ ahead rest
+  pub shorter : length rest < length tokens
 
-abbrev pub spell_suffix : Option tree.Length → List Word
-spell_suffix None = []
-spell_suffix (Some length) = spell_length length
+-- a declaration and its ending
+abbrev pub spell_ended : tree.Declaration → Ending → List Word
+spell_ended d ending = spell_declaration d ++ Fixed (ending_mark ending) ∷ []
+
+-- an arm of a union
+abbrev pub spell_arm : List tree.Value → tree.Declaration → List Word
+spell_arm cases d = spell_cases cases ++ (spell_declaration d ++ Fixed marks.Semicolon ∷ [])
 
 -- the item spells no definition, and the error says where it is stuck
 abbrev pub IsRefused : List Lexeme → ParseError → Type 0

@@ -8,7 +8,7 @@ use Rattle.x_item.specs.declared.mark.Ending.TheVariants as endings
 use Rattle.x_item.specs.declared.definition.Tag.{Tag}
 use Rattle.x_item.specs.declared.definition.Tag.TheVariants as tags
 
--- where a type stands, and so what may stand behind it
+-- where a type stands, and so what may stand after it
 pub data Context : Type 0 where
   InDeclaration : (ending : Ending) → Context
   InArguments : Context
@@ -23,18 +23,18 @@ pub data Symbol : Type 0 where
   AnyName : Symbol
   AnyNumber : Symbol
   AnyValue : Symbol
-  -- `[value]`, `<>` or `<value>`; what stands behind the `<`; either of them or nothing, and the ending
+  -- `[value]`, `<>` or `<value>`; what stands after the `<`; either of them or nothing, and the ending
   AnyLength : Symbol
   AfterLess : Symbol
   AfterName : (ending : Ending) → Symbol
-  -- a type and what stands behind it; behind `unsigned`; behind the type
+  -- a type and what stands after it; after `unsigned`; after the type
   Typed : (n : ℕ) (context : Context) → Symbol
   AfterUnsigned : (context : Context) → Symbol
   AfterType : (context : Context) → Symbol
-  -- behind `enum`, `struct` or `union`: a name or a body; a body
+  -- after `enum`, `struct` or `union`: a name or a body; a body
   AfterTag : (tag : Tag) (n : ℕ) → Symbol
   AnyBody : (tag : Tag) (n : ℕ) → Symbol
-  -- enumerators and the `}`; behind an enumerator's name; behind an enumerator
+  -- enumerators and the `}`; after an enumerator's name; after an enumerator
   Enumerators : Symbol
   AfterEnumerator : Symbol
   MoreEnumerators : Symbol
@@ -42,7 +42,7 @@ pub data Symbol : Type 0 where
   Declared : (n : ℕ) (ending : Ending) → Symbol
   Declarations : (n : ℕ) → Symbol
   MoreDeclarations : (n : ℕ) → Symbol
-  -- arms, the default arm and the `}`; behind a case of an arm; more arms or none
+  -- arms, the default arm and the `}`; after a case of an arm; more arms or none
   Arms : (n : ℕ) → Symbol
   AfterCase : (n : ℕ) → Symbol
   MoreArms : (n : ℕ) → Symbol
@@ -103,7 +103,7 @@ abbrev pub ending_mark : Ending → Mark
 ending_mark endings.Semicolon = marks.Semicolon
 ending_mark endings.Parenthesis = marks.CloseParenthesis
 
--- these symbols behind those of a step
+-- these symbols after those of a step
 abbrev pub followed : List Symbol → Option (List Symbol) → Option (List Symbol)
 followed after None = None
 followed after (Some symbols) = Some (symbols ++ after)
@@ -269,7 +269,7 @@ abbrev pub step_more_versions : Word → Option (List Symbol)
 step_more_versions (Fixed marks.CloseBrace) = Some []
 step_more_versions w = step_versions w
 
--- the symbols behind a word that the symbol takes, and nothing for one that it does not take
+-- the symbols after a word that the symbol takes, and nothing for one that it does not take
 abbrev pub step : Symbol → Word → Option (List Symbol)
 step Item = step_item
 step (Token mark) = step_token mark
@@ -300,3 +300,25 @@ step Procedures = step_procedures
 step MoreProcedures = step_more_procedures
 step Versions = step_versions
 step MoreVersions = step_more_versions
+
+-- a number after `=`, and the `;`
+abbrev pub of_number : List Symbol
+of_number = Token marks.Equals ∷ AnyNumber ∷ Token marks.Semicolon ∷ []
+
+-- a procedure
+abbrev pub of_procedure : List Symbol
+of_procedure = Result ∷ Token marks.OpenParenthesis ∷ Parameters ∷ of_number
+
+-- a version
+abbrev pub of_version : List Symbol
+of_version = Token marks.Version ∷ AnyName ∷ Token marks.OpenBrace ∷ Procedures ∷ of_number
+
+-- what follows the keyword of a constant, of a new type and of a program
+abbrev pub of_constant : List Symbol
+of_constant = AnyName ∷ Token marks.Equals ∷ AnyValue ∷ Token marks.Semicolon ∷ []
+
+abbrev pub of_new_type : Tag → List Symbol
+of_new_type tag = AnyName ∷ AnyBody tag 32 ∷ Token marks.Semicolon ∷ []
+
+abbrev pub of_program : List Symbol
+of_program = AnyName ∷ Token marks.OpenBrace ∷ Versions ∷ of_number

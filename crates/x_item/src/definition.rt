@@ -1,7 +1,8 @@
 //! The trees of definitions. Each name and number is kept as it is spelled.
 ghost use Rattle.std.specs.Prelude.{◌≡◌, IfOk};
 ghost use Rattle.x_item.specs.Tree.{Inline, Struct, Union};
-ghost use Rattle.x_item.specs.View.{view_type, view_body, view_declaration, view_declarations, view_arms, view_default};
+ghost use Rattle.x_item.specs.View.{view_type, view_body, view_declaration, view_declarations, view_arms};
+ghost use Rattle.x_item.specs.View.{view_default};
 
 use std::alloc::{AllocError, Global};
 
@@ -232,7 +233,8 @@ pub(crate) fn union_body(
     arms: Vec<Arm>,
     default: Option<Declaration>,
 ) -> Body
-    ensures { view_body result ≡ Union (view_declaration discriminant) (view_arms arms.items) (view_default default) }
+    ensures { view_body result ≡ Union (view_declaration discriminant) (view_arms arms.items)
+        (view_default default) }
 {
     Body::Union(UnionBody {
         discriminant,

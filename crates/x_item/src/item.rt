@@ -6,10 +6,10 @@ ghost use Rattle.x_item.specs.Words.{Fixed, words_of};
 ghost use Rattle.x_item.specs.Tree.{Definition as Tree};
 ghost use Rattle.x_item.specs.View.{view_definition};
 ghost use Rattle.x_item.specs.Spell.{spell, tag_mark, KeepsLimits, Begins};
-ghost use Rattle.x_item.specs.Symbols.{Item, Token as OfMark, AnyName, AnyNumber, AnyValue, AnyBody, Versions};
+ghost use Rattle.x_item.specs.Symbols.{Item, of_constant, of_new_type, of_program};
 ghost use Rattle.x_item.specs.Parse.{IsParse, IsLastWord};
 ghost use Rattle.x_item.specs.Parsed.{view_parsed};
-ghost use Rattle.x_item.specs.Reading.{ahead, words_at, Fails, FailsAll, Leads, Goes, IsRefused};
+ghost use Rattle.x_item.specs.Reading.{IsRead, Fails, IsRefused};
 
 use crate::definition::{Definition, Tag};
 use crate::fault::FaultCode;
@@ -69,7 +69,7 @@ fn whole(alloc: Global, tokens: &[Token]) -> Result<Definition, ParseError>
     }
 }
 
-/// What an item is whose words are a front of a spelling: nothing, or a fault at the last of them.
+/// What an item is whose words are a prefix of a spelling: nothing, or a fault at the last of them.
 fn unfinished(tokens: &[Token]) -> Parsed
     requires begins { Begins (words_of (map lexeme tokens.now)) }
     requires no_whole { (d : Tree) → KeepsLimits d → spell d ≢ words_of (map lexeme tokens.now) }
@@ -102,10 +102,10 @@ fn definition<'w, 't>(
     alloc: Global,
     tokens: &'w [Token<'t>],
 ) -> Result<(Definition, &'w [Token<'t>]), ParseError>
-    ensures found { IfOk result (λ x. words_at (ahead tokens.now) ≡ spell (view_definition x.0) ++ words_at (ahead x.1.now)) }
+    ensures read { IfOk result (λ x. IsRead [] (Item ∷ []) tokens.now
+        (spell (view_definition x.0)) [] x.1.now) }
     ensures fits { IfOk result (λ x. KeepsLimits (view_definition x.0)) }
-    ensures leads { IfOk result (λ x. Leads Item (ahead tokens.now) (ahead x.1.now)) }
-    ensures stuck { IfErr result (λ e. Fails Item (ahead tokens.now) e) }
+    ensures stuck { IfErr result (λ e. Fails (Item ∷ []) tokens.now e) }
 {
     let (word, rest) = first(tokens)?;
     match word {
@@ -125,15 +125,15 @@ fn definition<'w, 't>(
     }
 }
 
-/// Reads what stands behind `const`.
+/// Reads what stands after `const`.
 fn constant<'w, 't>(
     alloc: Global,
     tokens: &'w [Token<'t>],
 ) -> Result<(Definition, &'w [Token<'t>]), ParseError>
-    ensures found { IfOk result (λ x. Fixed Mark.Const ∷ words_at (ahead tokens.now) ≡ spell (view_definition x.0) ++ words_at (ahead x.1.now)) }
+    ensures read { IfOk result (λ x. IsRead (Fixed Mark.Const ∷ []) of_constant tokens.now
+        (spell (view_definition x.0)) [] x.1.now) }
     ensures fits { IfOk result (λ x. KeepsLimits (view_definition x.0)) }
-    ensures leads { IfOk result (λ x. Goes (AnyName ∷ OfMark Mark.Equals ∷ AnyValue ∷ OfMark Mark.Semicolon ∷ []) (ahead tokens.now) [] (ahead x.1.now)) }
-    ensures stuck { IfErr result (λ e. FailsAll (AnyName ∷ OfMark Mark.Equals ∷ AnyValue ∷ OfMark Mark.Semicolon ∷ []) (ahead tokens.now) e) }
+    ensures stuck { IfErr result (λ e. Fails of_constant tokens.now e) }
 {
     let (name, rest) = name(alloc, tokens)?;
     let rest = expect(Mark::Equals, rest)?;
@@ -142,16 +142,16 @@ fn constant<'w, 't>(
     Ok((Definition::Const { name, value }, rest))
 }
 
-/// Reads what stands behind the `enum`, `struct` or `union` of a definition.
+/// Reads what stands after the `enum`, `struct` or `union` of a definition.
 fn new_type<'w, 't>(
     alloc: Global,
     tag: Tag,
     tokens: &'w [Token<'t>],
 ) -> Result<(Definition, &'w [Token<'t>]), ParseError>
-    ensures found { IfOk result (λ x. Fixed (tag_mark tag) ∷ words_at (ahead tokens.now) ≡ spell (view_definition x.0) ++ words_at (ahead x.1.now)) }
+    ensures read { IfOk result (λ x. IsRead (Fixed (tag_mark tag) ∷ []) (of_new_type tag) tokens.now
+        (spell (view_definition x.0)) [] x.1.now) }
     ensures fits { IfOk result (λ x. KeepsLimits (view_definition x.0)) }
-    ensures leads { IfOk result (λ x. Goes (AnyName ∷ AnyBody tag 32 ∷ OfMark Mark.Semicolon ∷ []) (ahead tokens.now) [] (ahead x.1.now)) }
-    ensures stuck { IfErr result (λ e. FailsAll (AnyName ∷ AnyBody tag 32 ∷ OfMark Mark.Semicolon ∷ []) (ahead tokens.now) e) }
+    ensures stuck { IfErr result (λ e. Fails (of_new_type tag) tokens.now e) }
 {
     let (name, rest) = name(alloc, tokens)?;
     let (body, rest) = body(alloc, tag, 32, rest)?;
@@ -159,15 +159,15 @@ fn new_type<'w, 't>(
     Ok((Definition::NewType { name, body }, rest))
 }
 
-/// Reads what stands behind `program`.
+/// Reads what stands after `program`.
 fn program<'w, 't>(
     alloc: Global,
     tokens: &'w [Token<'t>],
 ) -> Result<(Definition, &'w [Token<'t>]), ParseError>
-    ensures found { IfOk result (λ x. Fixed Mark.Program ∷ words_at (ahead tokens.now) ≡ spell (view_definition x.0) ++ words_at (ahead x.1.now)) }
+    ensures read { IfOk result (λ x. IsRead (Fixed Mark.Program ∷ []) of_program tokens.now
+        (spell (view_definition x.0)) [] x.1.now) }
     ensures fits { IfOk result (λ x. KeepsLimits (view_definition x.0)) }
-    ensures leads { IfOk result (λ x. Goes (AnyName ∷ OfMark Mark.OpenBrace ∷ Versions ∷ OfMark Mark.Equals ∷ AnyNumber ∷ OfMark Mark.Semicolon ∷ []) (ahead tokens.now) [] (ahead x.1.now)) }
-    ensures stuck { IfErr result (λ e. FailsAll (AnyName ∷ OfMark Mark.OpenBrace ∷ Versions ∷ OfMark Mark.Equals ∷ AnyNumber ∷ OfMark Mark.Semicolon ∷ []) (ahead tokens.now) e) }
+    ensures stuck { IfErr result (λ e. Fails of_program tokens.now e) }
 {
     let (name, rest) = name(alloc, tokens)?;
     let rest = expect(Mark::OpenBrace, rest)?;

@@ -19,7 +19,12 @@ impl<K> Model for ItemPatch<K> {
 
     ghost Value = { ItemChange K };
 
-    ghost view = { λ patch. record { at = patch.at; removed = patch.removed; start = patch.start; fresh = patch.fresh.items } };
+    ghost view = { λ patch. record {
+      at = patch.at;
+      removed = patch.removed;
+      start = patch.start;
+      fresh = patch.fresh.items;
+    } };
 }
 
 impl<K> ItemPatch<K> {

@@ -1,5 +1,6 @@
 //! The items of a text as one value.
-ghost use Rattle.std.specs.Prelude.{◌≡◌, ◌+◌, ◌<◌, ◌≤◌, ◌↔◌, ℕ, [], IfOk, OnOk, OnErr, length, option_copied, slice_get};
+ghost use Rattle.std.specs.Prelude.{◌≡◌, ◌+◌, ◌<◌, ◌≤◌, ◌↔◌, ℕ, [], IfOk, OnOk, OnErr, length};
+ghost use Rattle.std.specs.Prelude.{option_copied, slice_get};
 ghost use Rattle.x_text.specs.declared.source.TheConstants.{MAX_TEXT};
 ghost use Rattle.x_text.specs.Seqs.{distance};
 ghost use Rattle.x_item.specs.ItemList.{counts, total, tokens_before, patched, LiesAmong, HasRoom, AreOfText};
@@ -127,7 +128,8 @@ impl<K: Drop> Items<K> {
     /// How many tokens the item at `index` has.
     pub(crate) fn tokens_at(&self, index: usize) -> usize
         requires { index < length self.now.list }
-        ensures next { tokens_before (counts self.now.list) (index + 1) ≡ tokens_before (counts self.now.list) index + result }
+        ensures next { tokens_before (counts self.now.list) (index + 1)
+            ≡ tokens_before (counts self.now.list) index + result }
         ensures fits { tokens_before (counts self.now.list) (index + 1) ≤ MAX_TEXT }
     {
         match self.entries.get(index) {
@@ -143,7 +145,8 @@ impl<K: Drop> Items<K> {
         ensures within { result.0 < length self.now.list }
         ensures tokens { result.1 ≡ tokens_before (counts self.now.list) result.0 }
         ensures before { result.1 ≤ limit }
-        ensures next { result.0 + 1 < length self.now.list → limit < tokens_before (counts self.now.list) (result.0 + 1) }
+        ensures next { result.0 + 1 < length self.now.list
+            → limit < tokens_before (counts self.now.list) (result.0 + 1) }
     {
         let (index, token) = self.nearest(limit, end);
         let (index, token) = self.go_back(index, token, limit);
@@ -195,7 +198,8 @@ impl<K: Drop> Items<K> {
         ensures within { result.0 < length self.now.list }
         ensures tokens { result.1 ≡ tokens_before (counts self.now.list) result.0 }
         ensures before { result.1 ≤ limit }
-        ensures next { result.0 + 1 < length self.now.list → limit < tokens_before (counts self.now.list) (result.0 + 1) }
+        ensures next { result.0 + 1 < length self.now.list
+            → limit < tokens_before (counts self.now.list) (result.0 + 1) }
     {
         let last = self.len() - 1;
         let mut index = index;

@@ -18,7 +18,8 @@ pub fn spell_law()
 
 /// An item has one parse.
 pub fn one_parse()
-    ensures { (item : List Lexeme) (parse other : Parse) → IsParse item parse → IsParse item other → parse ≡ other }
+    ensures { (item : List Lexeme) (parse other : Parse)
+        → IsParse item parse → IsParse item other → parse ≡ other }
 {}
 
 /// Tokens are written as items in one way.
@@ -29,6 +30,9 @@ pub fn one_cut()
 
 /// What an edit does to the items of a text is determined by the items, the two texts and the edit.
 pub fn one_recut<K>()
-    ensures { (change : Change) (new : List ℕ) (ts : List (Kind × ℕ)) (items : List (Entry K)) (patch : TokenPatch) (p q : ItemChange K) → IsRelexed change new ts (counts items) patch
-        → IsItemPatch change new ts (patched ts patch) items p → IsItemPatch change new ts (patched ts patch) items q → AreOne p q }
+    ensures { (change : Change) (new : List ℕ) (ts : List (Kind × ℕ)) (items : List (Entry K))
+        (patch : TokenPatch) (p q : ItemChange K)
+        → IsRelexed change new ts (counts items) patch
+        → IsItemPatch change new ts (patched ts patch) items p
+        → IsItemPatch change new ts (patched ts patch) items q → AreOne p q }
 {}

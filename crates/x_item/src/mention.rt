@@ -1,9 +1,21 @@
 //! The names that a definition uses.
 ghost use Rattle.std.specs.Prelude.{◌≡◌, ℕ, List, [], ◌∷◌, ◌++◌, length, map, Option, Some, None, OnOk, IfOk};
 ghost use Rattle.x_item.specs.Tree.{Inline};
-ghost use Rattle.x_item.specs.View.{view_value, view_most, view_length, view_shape, view_enumerator, view_type, view_body, view_declaration, view_declarations, view_arms, view_default, view_argument, view_passed, view_procedure, view_version, view_definition};
-ghost use Rattle.x_item.specs.Spell.{spell, spell_value, spell_most, spell_length, spell_named, spell_basic, spell_enumerator, spell_other_enumerators, spell_enumerators, spell_cases, spell_type, spell_body, spell_declaration, spell_declarations, spell_arms, spell_default, spell_argument, spell_passed, spell_others, spell_procedure, spell_procedures, spell_version, spell_versions};
-ghost use Rattle.x_item.specs.Mentions.{Mention as OfTree, in_value, in_most, in_length, in_shape, use_by, in_enumerator, in_other_enumerators, in_enumerators, in_cases, in_type, in_body, in_declaration, in_declarations, in_arms, in_default, in_argument, in_passed, in_others, in_procedure, in_procedures, in_version, in_versions, mentioned, kept};
+ghost use Rattle.x_item.specs.View.{view_value, view_most, view_length, view_shape, view_enumerator};
+ghost use Rattle.x_item.specs.View.{view_type, view_body, view_declaration, view_declarations, view_arms};
+ghost use Rattle.x_item.specs.View.{view_default, view_argument, view_passed, view_procedure, view_version};
+ghost use Rattle.x_item.specs.View.{view_definition};
+ghost use Rattle.x_item.specs.Spell.{spell, spell_value, spell_most, spell_length, spell_named};
+ghost use Rattle.x_item.specs.Spell.{spell_basic, spell_enumerator, spell_other_enumerators};
+ghost use Rattle.x_item.specs.Spell.{spell_enumerators, spell_cases, spell_type, spell_body};
+ghost use Rattle.x_item.specs.Spell.{spell_declaration, spell_declarations, spell_arms, spell_default};
+ghost use Rattle.x_item.specs.Spell.{spell_argument, spell_passed, spell_others, spell_procedure};
+ghost use Rattle.x_item.specs.Spell.{spell_procedures, spell_version, spell_versions};
+ghost use Rattle.x_item.specs.Mentions.{Mention as OfTree, in_value, in_most, in_length, in_shape, use_by};
+ghost use Rattle.x_item.specs.Mentions.{in_enumerator, in_other_enumerators, in_enumerators, in_cases};
+ghost use Rattle.x_item.specs.Mentions.{in_type, in_body, in_declaration, in_declarations, in_arms};
+ghost use Rattle.x_item.specs.Mentions.{in_default, in_argument, in_passed, in_others, in_procedure};
+ghost use Rattle.x_item.specs.Mentions.{in_procedures, in_version, in_versions, mentioned, kept};
 ghost use Rattle.x_item.specs.Collected.{view_mention, Finds};
 
 use crate::definition::{
@@ -76,7 +88,8 @@ impl<'d> Walk<'d> {
 
     /// Takes in a mention, and goes over its word.
     fn add(&mut self, name: &'d [u8], usage: Use, tag: Option<Tag>) -> Result<(), NoMemory>
-        ensures { OnOk result (Finds self.old self.new 1 (λ k. record { name = name.now; word = k; usage = usage; tag = tag } ∷ [])) }
+        ensures { OnOk result (Finds self.old self.new 1
+            (λ k. record { name = name.now; word = k; usage = usage; tag = tag } ∷ [])) }
     {
         self.list.push(Mention {
             name,
@@ -101,7 +114,8 @@ impl<'d> Walk<'d> {
     }
 
     fn most(&mut self, most: &'d Option<Value>) -> Result<(), NoMemory>
-        ensures { OnOk result (Finds self.old self.new (length (spell_most (view_most most.now))) (λ k. in_most k (view_most most.now))) }
+        ensures { OnOk result (Finds self.old self.new (length (spell_most (view_most most.now)))
+            (λ k. in_most k (view_most most.now))) }
     {
         match most {
             Some(value) => self.value(value),
@@ -110,7 +124,8 @@ impl<'d> Walk<'d> {
     }
 
     fn brackets(&mut self, size: &'d Length) -> Result<(), NoMemory>
-        ensures { OnOk result (Finds self.old self.new (length (spell_length (view_length size.now))) (λ k. in_length k (view_length size.now))) }
+        ensures { OnOk result (Finds self.old self.new (length (spell_length (view_length size.now)))
+            (λ k. in_length k (view_length size.now))) }
     {
         self.skip(1);
         match size {
@@ -123,7 +138,8 @@ impl<'d> Walk<'d> {
 
     /// Goes over the name of a declaration and what stands around it.
     fn shape(&mut self, name: &'d [u8], shape: &'d Shape) -> Result<(), NoMemory>
-        ensures { OnOk result (Finds self.old self.new (length (spell_named name.now (view_shape shape.now))) (λ k. in_shape k (view_shape shape.now))) }
+        ensures { OnOk result (Finds self.old self.new (length (spell_named name.now (view_shape shape.now)))
+            (λ k. in_shape k (view_shape shape.now))) }
     {
         match shape {
             Shape::Plain => {
@@ -142,7 +158,9 @@ impl<'d> Walk<'d> {
     }
 
     fn enumerator(&mut self, enumerator: &'d Enumerator) -> Result<(), NoMemory>
-        ensures { OnOk result (Finds self.old self.new (length (spell_enumerator (view_enumerator enumerator.now))) (λ k. in_enumerator k (view_enumerator enumerator.now))) }
+        ensures { OnOk result (Finds self.old self.new
+            (length (spell_enumerator (view_enumerator enumerator.now)))
+            (λ k. in_enumerator k (view_enumerator enumerator.now))) }
     {
         self.skip(1);
         match &enumerator.value {
@@ -155,7 +173,9 @@ impl<'d> Walk<'d> {
     }
 
     fn enumerators(&mut self, enumerators: &'d [Enumerator]) -> Result<(), NoMemory>
-        ensures { OnOk result (Finds self.old self.new (length (spell_enumerators (map view_enumerator enumerators.now))) (λ k. in_enumerators k (map view_enumerator enumerators.now))) }
+        ensures { OnOk result (Finds self.old self.new
+            (length (spell_enumerators (map view_enumerator enumerators.now)))
+            (λ k. in_enumerators k (map view_enumerator enumerators.now))) }
     {
         match enumerators.split_first() {
             Some((first, others)) => {
@@ -167,7 +187,9 @@ impl<'d> Walk<'d> {
     }
 
     fn other_enumerators(&mut self, enumerators: &'d [Enumerator]) -> Result<(), NoMemory>
-        ensures { OnOk result (Finds self.old self.new (length (spell_other_enumerators (map view_enumerator enumerators.now))) (λ k. in_other_enumerators k (map view_enumerator enumerators.now))) }
+        ensures { OnOk result (Finds self.old self.new
+            (length (spell_other_enumerators (map view_enumerator enumerators.now)))
+            (λ k. in_other_enumerators k (map view_enumerator enumerators.now))) }
     {
         for enumerator in enumerators {
             self.skip(1);
@@ -177,7 +199,8 @@ impl<'d> Walk<'d> {
     }
 
     fn cases(&mut self, cases: &'d [Value]) -> Result<(), NoMemory>
-        ensures { OnOk result (Finds self.old self.new (length (spell_cases (map view_value cases.now))) (λ k. in_cases k (map view_value cases.now))) }
+        ensures { OnOk result (Finds self.old self.new (length (spell_cases (map view_value cases.now)))
+            (λ k. in_cases k (map view_value cases.now))) }
     {
         for case in cases {
             self.skip(1);
@@ -189,7 +212,8 @@ impl<'d> Walk<'d> {
 
     #[cycle(walk)]
     fn data_type(&mut self, usage: Use, tree: &'d DataType) -> Result<(), NoMemory>
-        ensures { OnOk result (Finds self.old self.new (length (spell_type (view_type tree.now))) (λ k. in_type k usage (view_type tree.now))) }
+        ensures { OnOk result (Finds self.old self.new (length (spell_type (view_type tree.now)))
+            (λ k. in_type k usage (view_type tree.now))) }
     {
         match tree {
             DataType::Basic(basic) => {
@@ -210,7 +234,8 @@ impl<'d> Walk<'d> {
 
     #[cycle(walk)]
     fn body(&mut self, body: &'d Body) -> Result<(), NoMemory>
-        ensures { OnOk result (Finds self.old self.new (length (spell_body (view_body body.now))) (λ k. in_body k (view_body body.now))) }
+        ensures { OnOk result (Finds self.old self.new (length (spell_body (view_body body.now)))
+            (λ k. in_body k (view_body body.now))) }
     {
         match body {
             Body::Enum(enumerators) => {
@@ -237,7 +262,9 @@ impl<'d> Walk<'d> {
 
     #[cycle(walk)]
     fn declaration(&mut self, declaration: &'d Declaration) -> Result<(), NoMemory>
-        ensures { OnOk result (Finds self.old self.new (length (spell_declaration (view_declaration declaration.now))) (λ k. in_declaration k (view_declaration declaration.now))) }
+        ensures { OnOk result (Finds self.old self.new
+            (length (spell_declaration (view_declaration declaration.now)))
+            (λ k. in_declaration k (view_declaration declaration.now))) }
     {
         match declaration {
             Declaration::Void => {
@@ -264,7 +291,9 @@ impl<'d> Walk<'d> {
     /// Goes over declarations, each with its `;`.
     #[cycle(walk)]
     fn declarations(&mut self, declarations: &'d [Declaration]) -> Result<(), NoMemory>
-        ensures { OnOk result (Finds self.old self.new (length (spell_declarations (view_declarations declarations.now))) (λ k. in_declarations k (view_declarations declarations.now))) }
+        ensures { OnOk result (Finds self.old self.new
+            (length (spell_declarations (view_declarations declarations.now)))
+            (λ k. in_declarations k (view_declarations declarations.now))) }
     {
         for declaration in declarations {
             self.declaration(declaration)?;
@@ -275,7 +304,8 @@ impl<'d> Walk<'d> {
 
     #[cycle(walk)]
     fn arms(&mut self, arms: &'d [Arm]) -> Result<(), NoMemory>
-        ensures { OnOk result (Finds self.old self.new (length (spell_arms (view_arms arms.now))) (λ k. in_arms k (view_arms arms.now))) }
+        ensures { OnOk result (Finds self.old self.new (length (spell_arms (view_arms arms.now)))
+            (λ k. in_arms k (view_arms arms.now))) }
     {
         for arm in arms {
             self.cases(&arm.cases)?;
@@ -288,7 +318,8 @@ impl<'d> Walk<'d> {
     /// Goes over the default arm, if there is one, and the `}` of a union.
     #[cycle(walk)]
     fn default(&mut self, default: &'d Option<Declaration>) -> Result<(), NoMemory>
-        ensures { OnOk result (Finds self.old self.new (length (spell_default (view_default default.now))) (λ k. in_default k (view_default default.now))) }
+        ensures { OnOk result (Finds self.old self.new (length (spell_default (view_default default.now)))
+            (λ k. in_default k (view_default default.now))) }
     {
         if let Some(declaration) = default {
             self.skip(2);
@@ -301,7 +332,8 @@ impl<'d> Walk<'d> {
 
     /// Goes over an inline type without a mention.
     fn inline_argument(&mut self, body: &'d Body) -> Result<(), NoMemory>
-        ensures { OnOk result (Finds self.old self.new (length (spell_type (Inline (view_body body.now)))) (λ k. [])) }
+        ensures { OnOk result (Finds self.old self.new (length (spell_type (Inline (view_body body.now))))
+            (λ k. [])) }
     {
         let mentions = self.list.len();
         self.skip(1);
@@ -311,7 +343,8 @@ impl<'d> Walk<'d> {
     }
 
     fn argument(&mut self, argument: &'d Argument) -> Result<(), NoMemory>
-        ensures { OnOk result (Finds self.old self.new (length (spell_argument (view_argument argument.now))) (λ k. in_argument k (view_argument argument.now))) }
+        ensures { OnOk result (Finds self.old self.new (length (spell_argument (view_argument argument.now)))
+            (λ k. in_argument k (view_argument argument.now))) }
     {
         match argument {
             Argument::String => {
@@ -324,7 +357,8 @@ impl<'d> Walk<'d> {
     }
 
     fn passed(&mut self, passed: &'d Option<Argument>) -> Result<(), NoMemory>
-        ensures { OnOk result (Finds self.old self.new (length (spell_passed (view_passed passed.now))) (λ k. in_passed k (view_passed passed.now))) }
+        ensures { OnOk result (Finds self.old self.new (length (spell_passed (view_passed passed.now)))
+            (λ k. in_passed k (view_passed passed.now))) }
     {
         match passed {
             Some(argument) => self.argument(argument),
@@ -336,7 +370,8 @@ impl<'d> Walk<'d> {
     }
 
     fn others(&mut self, others: &'d [Argument]) -> Result<(), NoMemory>
-        ensures { OnOk result (Finds self.old self.new (length (spell_others (map view_argument others.now))) (λ k. in_others k (map view_argument others.now))) }
+        ensures { OnOk result (Finds self.old self.new (length (spell_others (map view_argument others.now)))
+            (λ k. in_others k (map view_argument others.now))) }
     {
         for argument in others {
             self.skip(1);
@@ -346,7 +381,9 @@ impl<'d> Walk<'d> {
     }
 
     fn procedure(&mut self, procedure: &'d Procedure) -> Result<(), NoMemory>
-        ensures { OnOk result (Finds self.old self.new (length (spell_procedure (view_procedure procedure.now))) (λ k. in_procedure k (view_procedure procedure.now))) }
+        ensures { OnOk result (Finds self.old self.new
+            (length (spell_procedure (view_procedure procedure.now)))
+            (λ k. in_procedure k (view_procedure procedure.now))) }
     {
         self.passed(&procedure.result)?;
         self.skip(2);
@@ -357,7 +394,9 @@ impl<'d> Walk<'d> {
     }
 
     fn procedures(&mut self, procedures: &'d [Procedure]) -> Result<(), NoMemory>
-        ensures { OnOk result (Finds self.old self.new (length (spell_procedures (map view_procedure procedures.now))) (λ k. in_procedures k (map view_procedure procedures.now))) }
+        ensures { OnOk result (Finds self.old self.new
+            (length (spell_procedures (map view_procedure procedures.now)))
+            (λ k. in_procedures k (map view_procedure procedures.now))) }
     {
         for procedure in procedures {
             self.procedure(procedure)?;
@@ -366,7 +405,9 @@ impl<'d> Walk<'d> {
     }
 
     fn versions(&mut self, versions: &'d [Version]) -> Result<(), NoMemory>
-        ensures { OnOk result (Finds self.old self.new (length (spell_versions (map view_version versions.now))) (λ k. in_versions k (map view_version versions.now))) }
+        ensures { OnOk result (Finds self.old self.new
+            (length (spell_versions (map view_version versions.now)))
+            (λ k. in_versions k (map view_version versions.now))) }
     {
         for version in versions {
             self.skip(3);
@@ -384,7 +425,8 @@ impl<'d> Walk<'d> {
 ///
 /// [`NoMemory`] where the list could not grow.
 pub fn mentions(alloc: Global, definition: &Definition) -> Result<Vec<Mention<'_>>, NoMemory>
-    ensures { IfOk result (λ found. map view_mention found.items ≡ map kept (mentioned (view_definition definition.now))) }
+    ensures { IfOk result (λ found. map view_mention found.items
+        ≡ map kept (mentioned (view_definition definition.now))) }
 {
     let mut walk = Walk {
         list: Vec::new(alloc),

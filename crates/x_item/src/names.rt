@@ -1,9 +1,15 @@
 //! The names that a definition declares.
 ghost use Rattle.std.specs.Prelude.{◌≡◌, ◌+◌, ℕ, List, [], ◌∷◌, ◌++◌, length, map, true, false, OnOk, IfOk};
 ghost use Rattle.x_item.specs.Tree.{Of, Inline};
-ghost use Rattle.x_item.specs.View.{view_most, view_length, view_shape, view_value, view_enumerator, view_type, view_body, view_declaration, view_declarations, view_arms, view_default, view_definition};
-ghost use Rattle.x_item.specs.Spell.{spell_most, spell_length, spell_named, spell_cases, spell_enumerator, spell_other_enumerators, spell_enumerators, spell_body, spell_declaration, spell_declarations, spell_arms, spell_default};
-ghost use Rattle.x_item.specs.Names.{Declared, lifted_name, body_kind, star, by_other_enumerators, by_enumerators, by_body, by_declaration, by_declarations, by_arms, by_default, by_typedef, declared, kept};
+ghost use Rattle.x_item.specs.View.{view_most, view_length, view_shape, view_value, view_enumerator};
+ghost use Rattle.x_item.specs.View.{view_type, view_body, view_declaration, view_declarations, view_arms};
+ghost use Rattle.x_item.specs.View.{view_default, view_definition};
+ghost use Rattle.x_item.specs.Spell.{spell_most, spell_length, spell_named, spell_cases, spell_enumerator};
+ghost use Rattle.x_item.specs.Spell.{spell_other_enumerators, spell_enumerators, spell_body};
+ghost use Rattle.x_item.specs.Spell.{spell_declaration, spell_declarations, spell_arms, spell_default};
+ghost use Rattle.x_item.specs.Names.{Declared, lifted_name, body_kind, star, by_other_enumerators};
+ghost use Rattle.x_item.specs.Names.{by_enumerators, by_body, by_declaration, by_declarations, by_arms};
+ghost use Rattle.x_item.specs.Names.{by_default, by_typedef, declared, kept};
 ghost use Rattle.x_item.specs.Named.{view_name, Names};
 
 use crate::definition::{
@@ -78,7 +84,8 @@ fn words_before_name(shape: &Shape) -> usize
 
 /// How many words the name of a declaration and those behind it are.
 fn words_from_name(shape: &Shape) -> usize
-    ensures { (name : List ℕ) → star (view_shape shape.now) + result ≡ length (spell_named name (view_shape shape.now)) }
+    ensures { (name : List ℕ) → star (view_shape shape.now) + result
+        ≡ length (spell_named name (view_shape shape.now)) }
 {
     match shape {
         Shape::Plain | Shape::Optional => 1,
@@ -114,7 +121,8 @@ impl NameWalk {
 
     /// Takes in a name that the word declares which is next.
     fn add(&mut self, name: Vec<u8>, kind: NameKind, lifted: bool) -> Result<(), NoMemory>
-        ensures { OnOk result (Names self.old self.new 0 (λ k. record { name = name.items; word = k; kind = kind; lifted = lifted } ∷ [])) }
+        ensures { OnOk result (Names self.old self.new 0
+            (λ k. record { name = name.items; word = k; kind = kind; lifted = lifted } ∷ [])) }
     {
         self.list.push(DeclaredName {
             name,
@@ -126,7 +134,14 @@ impl NameWalk {
     }
 
     fn enumerator(&mut self, alloc: Global, enumerator: &Enumerator) -> Result<(), NoMemory>
-        ensures { OnOk result (Names self.old self.new (length (spell_enumerator (view_enumerator enumerator.now))) (λ k. record { name = enumerator.now.name.items; word = k; kind = NameKind.Constant; lifted = false } ∷ [])) }
+        ensures { OnOk result (Names self.old self.new
+            (length (spell_enumerator (view_enumerator enumerator.now)))
+            (λ k. record {
+              name = enumerator.now.name.items;
+              word = k;
+              kind = NameKind.Constant;
+              lifted = false;
+            } ∷ [])) }
     {
         let name = Vec::from_slice(alloc, &enumerator.name)?;
         self.add(name, NameKind::Constant, false)?;
@@ -138,7 +153,9 @@ impl NameWalk {
     }
 
     fn enumerators(&mut self, alloc: Global, enumerators: &[Enumerator]) -> Result<(), NoMemory>
-        ensures { OnOk result (Names self.old self.new (length (spell_enumerators (map view_enumerator enumerators.now))) (λ k. by_enumerators k (map view_enumerator enumerators.now))) }
+        ensures { OnOk result (Names self.old self.new
+            (length (spell_enumerators (map view_enumerator enumerators.now)))
+            (λ k. by_enumerators k (map view_enumerator enumerators.now))) }
     {
         match enumerators.split_first() {
             Some((first, others)) => {
@@ -154,7 +171,9 @@ impl NameWalk {
         alloc: Global,
         enumerators: &[Enumerator],
     ) -> Result<(), NoMemory>
-        ensures { OnOk result (Names self.old self.new (length (spell_other_enumerators (map view_enumerator enumerators.now))) (λ k. by_other_enumerators k (map view_enumerator enumerators.now))) }
+        ensures { OnOk result (Names self.old self.new
+            (length (spell_other_enumerators (map view_enumerator enumerators.now)))
+            (λ k. by_other_enumerators k (map view_enumerator enumerators.now))) }
     {
         for enumerator in enumerators {
             self.skip(1);
@@ -166,7 +185,8 @@ impl NameWalk {
     /// Goes over the body of the type that `around` names.
     #[cycle(walk)]
     fn body(&mut self, alloc: Global, around: &[u8], body: &Body) -> Result<(), NoMemory>
-        ensures { OnOk result (Names self.old self.new (length (spell_body (view_body body.now))) (λ k. by_body around.now k (view_body body.now))) }
+        ensures { OnOk result (Names self.old self.new (length (spell_body (view_body body.now)))
+            (λ k. by_body around.now k (view_body body.now))) }
     {
         match body {
             Body::Enum(enumerators) => {
@@ -198,7 +218,9 @@ impl NameWalk {
         around: &[u8],
         declaration: &Declaration,
     ) -> Result<(), NoMemory>
-        ensures { OnOk result (Names self.old self.new (length (spell_declaration (view_declaration declaration.now))) (λ k. by_declaration around.now k (view_declaration declaration.now))) }
+        ensures { OnOk result (Names self.old self.new
+            (length (spell_declaration (view_declaration declaration.now)))
+            (λ k. by_declaration around.now k (view_declaration declaration.now))) }
     {
         match declaration {
             Declaration::Void => self.skip(1),
@@ -222,7 +244,8 @@ impl NameWalk {
 
     /// Goes over a declaration of a type of so many words.
     fn plain(&mut self, words: usize, shape: &Shape)
-        ensures { (name : List ℕ) → Names self.old self.new (words + length (spell_named name (view_shape shape.now))) (λ k. []) }
+        ensures { (name : List ℕ) → Names self.old self.new
+            (words + length (spell_named name (view_shape shape.now))) (λ k. []) }
     {
         self.skip(words);
         self.skip(words_before_name(shape));
@@ -239,7 +262,11 @@ impl NameWalk {
         name: &[u8],
         shape: &Shape,
     ) -> Result<(), NoMemory>
-        ensures { OnOk result (Names self.old self.new (length (spell_declaration (Of (Inline (view_body body.now)) name.now (view_shape shape.now)))) (λ k. by_declaration around.now k (Of (Inline (view_body body.now)) name.now (view_shape shape.now)))) }
+        ensures { OnOk result (Names self.old self.new
+            (length (spell_declaration
+            (Of (Inline (view_body body.now)) name.now (view_shape shape.now))))
+            (λ k. by_declaration around.now k
+            (Of (Inline (view_body body.now)) name.now (view_shape shape.now)))) }
     {
         let lifted = lifted_name(alloc, around, name)?;
         self.skip(1);
@@ -258,7 +285,9 @@ impl NameWalk {
         around: &[u8],
         declarations: &[Declaration],
     ) -> Result<(), NoMemory>
-        ensures { OnOk result (Names self.old self.new (length (spell_declarations (view_declarations declarations.now))) (λ k. by_declarations around.now k (view_declarations declarations.now))) }
+        ensures { OnOk result (Names self.old self.new
+            (length (spell_declarations (view_declarations declarations.now)))
+            (λ k. by_declarations around.now k (view_declarations declarations.now))) }
     {
         for declaration in declarations {
             self.declaration(alloc, around, declaration)?;
@@ -269,7 +298,8 @@ impl NameWalk {
 
     #[cycle(walk)]
     fn arms(&mut self, alloc: Global, around: &[u8], arms: &[Arm]) -> Result<(), NoMemory>
-        ensures { OnOk result (Names self.old self.new (length (spell_arms (view_arms arms.now))) (λ k. by_arms around.now k (view_arms arms.now))) }
+        ensures { OnOk result (Names self.old self.new (length (spell_arms (view_arms arms.now)))
+            (λ k. by_arms around.now k (view_arms arms.now))) }
     {
         for arm in arms {
             self.cases(arm.cases.len());
@@ -296,7 +326,8 @@ impl NameWalk {
         around: &[u8],
         default: &Option<Declaration>,
     ) -> Result<(), NoMemory>
-        ensures { OnOk result (Names self.old self.new (length (spell_default (view_default default.now))) (λ k. by_default around.now k (view_default default.now))) }
+        ensures { OnOk result (Names self.old self.new (length (spell_default (view_default default.now)))
+            (λ k. by_default around.now k (view_default default.now))) }
     {
         if let Some(declaration) = default {
             self.skip(2);
@@ -309,7 +340,9 @@ impl NameWalk {
 
     /// Goes over the declaration of a `typedef`.
     fn typedef(&mut self, alloc: Global, declaration: &Declaration) -> Result<(), NoMemory>
-        ensures { OnOk result (Names self.old self.new (length (spell_declaration (view_declaration declaration.now))) (λ k. by_typedef k (view_declaration declaration.now))) }
+        ensures { OnOk result (Names self.old self.new
+            (length (spell_declaration (view_declaration declaration.now)))
+            (λ k. by_typedef k (view_declaration declaration.now))) }
     {
         match declaration {
             Declaration::Void => {
@@ -341,7 +374,13 @@ impl NameWalk {
 
     /// Goes over so many words, and takes in the own name of a `typedef` behind them.
     fn own(&mut self, alloc: Global, words: usize, name: &[u8]) -> Result<(), NoMemory>
-        ensures { OnOk result (Names self.old self.new words (λ k. record { name = name.now; word = k + words; kind = NameKind.Typedef; lifted = false } ∷ [])) }
+        ensures { OnOk result (Names self.old self.new words
+            (λ k. record {
+              name = name.now;
+              word = k + words;
+              kind = NameKind.Typedef;
+              lifted = false;
+            } ∷ [])) }
     {
         self.skip(words);
         let name = Vec::from_slice(alloc, name)?;
@@ -356,7 +395,14 @@ impl NameWalk {
         name: &[u8],
         shape: &Shape,
     ) -> Result<(), NoMemory>
-        ensures { OnOk result (Names self.old self.new (words + length (spell_named name.now (view_shape shape.now))) (λ k. record { name = name.now; word = k + words + star (view_shape shape.now); kind = NameKind.Typedef; lifted = false } ∷ [])) }
+        ensures { OnOk result (Names self.old self.new
+            (words + length (spell_named name.now (view_shape shape.now)))
+            (λ k. record {
+              name = name.now;
+              word = k + words + star (view_shape shape.now);
+              kind = NameKind.Typedef;
+              lifted = false;
+            } ∷ [])) }
     {
         self.skip(words);
         self.own(alloc, words_before_name(shape), name)?;
@@ -372,7 +418,11 @@ impl NameWalk {
         name: &[u8],
         shape: &Shape,
     ) -> Result<(), NoMemory>
-        ensures { OnOk result (Names self.old self.new (length (spell_declaration (Of (Inline (view_body body.now)) name.now (view_shape shape.now)))) (λ k. by_typedef k (Of (Inline (view_body body.now)) name.now (view_shape shape.now)))) }
+        ensures { OnOk result (Names self.old self.new
+            (length (spell_declaration
+            (Of (Inline (view_body body.now)) name.now (view_shape shape.now))))
+            (λ k. by_typedef k
+            (Of (Inline (view_body body.now)) name.now (view_shape shape.now)))) }
     {
         let lifted = lifted_name(alloc, name, name)?;
         self.skip(1);
@@ -392,7 +442,8 @@ impl NameWalk {
 ///
 /// [`NoMemory`] where the list, or a name in it, could not grow.
 pub fn declares(alloc: Global, definition: &Definition) -> Result<Vec<DeclaredName>, NoMemory>
-    ensures { IfOk result (λ found. map view_name found.items ≡ map kept (declared (view_definition definition.now))) }
+    ensures { IfOk result (λ found. map view_name found.items
+        ≡ map kept (declared (view_definition definition.now))) }
 {
     let mut walk = NameWalk {
         list: Vec::new(alloc),

@@ -1,16 +1,21 @@
-ghost use Rattle.std.specs.Prelude.{◌≡◌, ℕ, List, [], ◌∷◌, ◌++◌, ◌<◌, ◌≤◌, map, IfOk, IfErr, IfSome, IfNone, IsTrue, ◌↔◌, length};
-ghost use Rattle.x_item.specs.Words.{Fixed, Name, Number};
-ghost use Rattle.x_item.specs.View.{view_value, view_most, view_length, view_shape, view_enumerator, view_type, view_body, view_declaration, view_declarations, view_arms, view_default, view_argument, view_passed, view_procedure, view_version, view_definition};
-ghost use Rattle.x_item.specs.Spell.{spell, spell_value, spell_most, spell_length, spell_named, spell_basic, tag_mark, body_mark, spell_given, spell_enumerator, spell_other_enumerators, spell_enumerators, spell_cases, spell_type, spell_body, spell_declaration, spell_declarations, spell_arms, spell_default, spell_argument, spell_passed, spell_others, spell_procedure, spell_procedures, spell_version, spell_versions, HasOne, HasDeclaration, HasArm, TypeFits, BodyFits, DeclarationFits, DeclarationsFit, ArmsFit, DefaultFits, ArgumentFits, PassedFits, OthersFit, ProcedureFits, ProceduresFit, VersionFits, VersionsFit, KeepsLimits};
-ghost use Rattle.x_item.specs.Symbols.{Context, InDeclaration, InArguments, Symbol, Item, Token as OfMark, AnyName, AnyValue, AnyLength, AfterLess, AfterName, Typed, AfterUnsigned, AfterType, AfterTag, AnyBody, Enumerators, AfterEnumerator, MoreEnumerators, Declared, Declarations, Arms, AfterCase, MoreArms, Parameters, Arguments, Result as AnyResult, Procedures, MoreProcedures, Versions, MoreVersions, ending_mark};
-ghost use Rattle.x_item.specs.Reading.{view_word, ahead, words_at, Fails, Leads, Goes, FailsAll, view_suffix, spell_suffix};
+//! Reading of what types and declarations are made of. Each function takes the tokens that are ahead, of which some may be no words,
+//! and gives back those after what it read.
+ghost use Rattle.std.specs.Prelude.{◌≡◌, ℕ, List, [], ◌∷◌, ◌++◌, map, IfOk, IfErr, IsTrue, ◌↔◌};
+ghost use Rattle.x_item.specs.Words.{Fixed, Name};
+ghost use Rattle.x_item.specs.View.{view_value, view_most, view_length, view_shape, view_enumerator};
+ghost use Rattle.x_item.specs.View.{view_type};
+ghost use Rattle.x_item.specs.Spell.{spell_value, spell_most, spell_length, spell_named, spell_type};
+ghost use Rattle.x_item.specs.Spell.{spell_given, spell_enumerator, spell_enumerators, spell_cases, HasOne};
+ghost use Rattle.x_item.specs.Spell.{TypeFits};
+ghost use Rattle.x_item.specs.Symbols.{Context, InDeclaration, Token as OfMark, AnyValue, AnyLength};
+ghost use Rattle.x_item.specs.Symbols.{AfterLess};
+ghost use Rattle.x_item.specs.Symbols.{AfterName, AfterUnsigned, AfterType, Enumerators, AfterEnumerator};
+ghost use Rattle.x_item.specs.Symbols.{MoreEnumerators, Declared, AfterCase, ending_mark};
+ghost use Rattle.x_item.specs.Reading.{view_word, IsRead, IsPart, Fails};
 
-use crate::definition::{
-    Arm, Basic, Body, DataType, Declaration, Enumerator, Length, Shape, Tag, Value, inline,
-    struct_body, union_body,
-};
+use crate::definition::{Basic, DataType, Enumerator, Length, Shape, Value};
 use crate::mark::{Ending, Mark};
-use crate::reading::{ParseError, Word, expect, first, name, stuck_at, value};
+use crate::reading::{ParseError, Word, expect, first, name, value};
 use std::alloc::Global;
 use x_lex::Token;
 
@@ -19,29 +24,17 @@ pub fn most<'w, 't>(
     alloc: Global,
     tokens: &'w [Token<'t>],
 ) -> Result<(Option<Value>, &'w [Token<'t>]), ParseError>
-    ensures found { IfOk result (λ x. words_at (ahead tokens.now) ≡ (spell_most (view_most x.0) ++ Fixed Mark.Greater ∷ []) ++ words_at (ahead x.1.now)) }
-    ensures leads { IfOk result (λ x. Leads AfterLess (ahead tokens.now) (ahead x.1.now)) }
-    ensures stuck { IfErr result (λ e. Fails AfterLess (ahead tokens.now) e) }
-    ensures shorter { IfOk result (λ x. length x.1.now < length tokens.now) }
+    ensures read { IfOk result (λ x. IsPart AfterLess tokens.now
+        (spell_most (view_most x.0) ++ Fixed Mark.Greater ∷ []) x.1.now) }
+    ensures stuck { IfErr result (λ e. Fails (AfterLess ∷ []) tokens.now e) }
 {
     let (word, rest) = first(tokens)?;
-    match word {
-        Word::Mark(mark) => match mark {
-            Mark::Greater => Ok((None, rest)),
-            _ => Err(stuck_at(tokens)),
-        },
-        Word::Name(text) => {
-            let size = Value::Named(text.to_vec(alloc)?);
-            let rest = expect(Mark::Greater, rest)?;
-            Ok((Some(size), rest))
-        }
-        Word::Number(text) => {
-            let size = Value::Number(text.to_vec(alloc)?);
-            let rest = expect(Mark::Greater, rest)?;
-            Ok((Some(size), rest))
-        }
-        _ => Err(stuck_at(tokens)),
+    if is_mark(&word, Mark::Greater) {
+        return Ok((None, rest));
     }
+    let (size, rest) = value(alloc, tokens)?;
+    let rest = expect(Mark::Greater, rest)?;
+    Ok((Some(size), rest))
 }
 
 /// Reads the length of an array, with its brackets.
@@ -49,61 +42,38 @@ pub fn array_length<'w, 't>(
     alloc: Global,
     tokens: &'w [Token<'t>],
 ) -> Result<(Length, &'w [Token<'t>]), ParseError>
-    ensures found { IfOk result (λ x. words_at (ahead tokens.now) ≡ spell_length (view_length x.0) ++ words_at (ahead x.1.now)) }
-    ensures leads { IfOk result (λ x. Leads AnyLength (ahead tokens.now) (ahead x.1.now)) }
-    ensures stuck { IfErr result (λ e. Fails AnyLength (ahead tokens.now) e) }
-    ensures shorter { IfOk result (λ x. length x.1.now < length tokens.now) }
+    ensures read { IfOk result (λ x. IsPart AnyLength tokens.now (spell_length (view_length x.0)) x.1.now) }
+    ensures stuck { IfErr result (λ e. Fails (AnyLength ∷ []) tokens.now e) }
 {
     let (word, rest) = first(tokens)?;
-    match word {
-        Word::Mark(mark) => match mark {
-            Mark::OpenBracket => {
-                let (size, rest) = value(alloc, rest)?;
-                let rest = expect(Mark::CloseBracket, rest)?;
-                Ok((Length::Fixed(size), rest))
-            }
-            Mark::Less => {
-                let (size, rest) = most(alloc, rest)?;
-                Ok((Length::Variable(size), rest))
-            }
-            _ => Err(stuck_at(tokens)),
-        },
-        _ => Err(stuck_at(tokens)),
+    if is_mark(&word, Mark::Less) {
+        let (size, rest) = most(alloc, rest)?;
+        return Ok((Length::Variable(size), rest));
     }
+    let rest = expect(Mark::OpenBracket, tokens)?;
+    let (size, rest) = value(alloc, rest)?;
+    let rest = expect(Mark::CloseBracket, rest)?;
+    Ok((Length::Fixed(size), rest))
 }
 
-/// Reads what stands behind the name of a declaration, and its ending.
+/// Reads what stands after the name of a declaration, and its ending.
 fn suffix<'w, 't>(
     alloc: Global,
     ending: Ending,
     tokens: &'w [Token<'t>],
-) -> Result<(Option<Length>, &'w [Token<'t>]), ParseError>
-    ensures found { IfOk result (λ x. words_at (ahead tokens.now) ≡ (spell_suffix (view_suffix x.0) ++ Fixed (ending_mark ending) ∷ []) ++ words_at (ahead x.1.now)) }
-    ensures leads { IfOk result (λ x. Leads (AfterName ending) (ahead tokens.now) (ahead x.1.now)) }
-    ensures stuck { IfErr result (λ e. Fails (AfterName ending) (ahead tokens.now) e) }
-    ensures shorter { IfOk result (λ x. length x.1.now < length tokens.now) }
+) -> Result<(Shape, &'w [Token<'t>]), ParseError>
+    ensures read { IfOk result (λ x. (name : List ℕ) → IsRead (Name name ∷ []) (AfterName ending ∷ [])
+        tokens.now (spell_named name (view_shape x.0) ++ Fixed (ending_mark ending) ∷ []) [] x.1.now) }
+    ensures stuck { IfErr result (λ e. Fails (AfterName ending ∷ []) tokens.now e) }
 {
-    let (word, rest) = first(tokens)?;
-    match word {
-        Word::Mark(mark) => match mark {
-            Mark::OpenBracket => {
-                let (size, rest) = value(alloc, rest)?;
-                let rest = expect(Mark::CloseBracket, rest)?;
-                let rest = expect(ending.mark(), rest)?;
-                Ok((Some(Length::Fixed(size)), rest))
-            }
-            Mark::Less => {
-                let (size, rest) = most(alloc, rest)?;
-                let rest = expect(ending.mark(), rest)?;
-                Ok((Some(Length::Variable(size)), rest))
-            }
-            _ => {
-                let rest = expect(ending.mark(), tokens)?;
-                Ok((None, rest))
-            }
-        },
-        _ => Err(stuck_at(tokens)),
+    let (word, _) = first(tokens)?;
+    if is_mark(&word, Mark::Less) || is_mark(&word, Mark::OpenBracket) {
+        let (length, rest) = array_length(alloc, tokens)?;
+        let rest = expect(ending.mark(), rest)?;
+        return Ok((Shape::Array(length), rest));
     }
+    let rest = expect(ending.mark(), tokens)?;
+    Ok((Shape::Plain, rest))
 }
 
 /// Reads the name of a declaration, with what stands around it and the ending.
@@ -112,49 +82,37 @@ pub fn named<'w, 't>(
     ending: Ending,
     tokens: &'w [Token<'t>],
 ) -> Result<(Vec<u8>, Shape, &'w [Token<'t>]), ParseError>
-    ensures found { IfOk result (λ x. words_at (ahead tokens.now) ≡ (spell_named x.0.items (view_shape x.1) ++ Fixed (ending_mark ending) ∷ []) ++ words_at (ahead x.2.now)) }
-    ensures leads { IfOk result (λ x. Leads (AfterType (InDeclaration ending)) (ahead tokens.now) (ahead x.2.now)) }
-    ensures stuck { IfErr result (λ e. Fails (AfterType (InDeclaration ending)) (ahead tokens.now) e) }
-    ensures shorter { IfOk result (λ x. length x.2.now < length tokens.now) }
+    ensures read { IfOk result (λ x. IsPart (AfterType (InDeclaration ending)) tokens.now
+        (spell_named x.0.items (view_shape x.1) ++ Fixed (ending_mark ending) ∷ []) x.2.now) }
+    ensures stuck { IfErr result (λ e. Fails (AfterType (InDeclaration ending) ∷ []) tokens.now e) }
 {
     let (word, rest) = first(tokens)?;
-    match word {
-        Word::Mark(mark) => match mark {
-            Mark::Star => {
-                let (text, rest) = name(alloc, rest)?;
-                let rest = expect(ending.mark(), rest)?;
-                Ok((text, Shape::Optional, rest))
-            }
-            _ => Err(stuck_at(tokens)),
-        },
-        Word::Name(text) => {
-            let text = text.to_vec(alloc)?;
-            let (length, rest) = suffix(alloc, ending, rest)?;
-            match length {
-                Some(length) => Ok((text, Shape::Array(length), rest)),
-                None => Ok((text, Shape::Plain, rest)),
-            }
-        }
-        _ => Err(stuck_at(tokens)),
+    if is_mark(&word, Mark::Star) {
+        let (text, rest) = name(alloc, rest)?;
+        let rest = expect(ending.mark(), rest)?;
+        return Ok((text, Shape::Optional, rest));
     }
+    let (text, rest) = name(alloc, tokens)?;
+    let (shape, rest) = suffix(alloc, ending, rest)?;
+    Ok((text, shape, rest))
 }
 
-/// Reads what may stand behind `unsigned`.
-pub fn unsigned<'w, 't>(tokens: &'w [Token<'t>]) -> Result<(Basic, &'w [Token<'t>]), ParseError>
-    ensures found { IfOk result (λ x. Fixed Mark.Unsigned ∷ words_at (ahead tokens.now) ≡ spell_basic x.0 ++ words_at (ahead x.1.now)) }
-    ensures leads { IfOk result (λ x. (c : Context) → Goes (AfterUnsigned c ∷ []) (ahead tokens.now) (AfterType c ∷ []) (ahead x.1.now)) }
-    ensures stuck { IfErr result (λ e. (c : Context) → Fails (AfterUnsigned c) (ahead tokens.now) e) }
-    ensures shorter { IfOk result (λ x. length x.1.now ≤ length tokens.now) }
+/// Reads what may stand after `unsigned`: the type.
+pub fn unsigned<'w, 't>(tokens: &'w [Token<'t>]) -> Result<(DataType, &'w [Token<'t>]), ParseError>
+    ensures read { IfOk result (λ x. (c : Context) → IsRead (Fixed Mark.Unsigned ∷ []) (AfterUnsigned c ∷ [])
+        tokens.now (spell_type (view_type x.0)) (AfterType c ∷ []) x.1.now) }
+    ensures fits { IfOk result (λ x. (n : ℕ) → TypeFits (view_type x.0) n) }
+    ensures stuck { IfErr result (λ e. (c : Context) → Fails (AfterUnsigned c ∷ []) tokens.now e) }
 {
     let (word, rest) = first(tokens)?;
     match word {
         Word::Mark(mark) => match mark {
-            Mark::Int => Ok((Basic::UnsignedInt, rest)),
-            Mark::Long => Ok((Basic::UnsignedLong, rest)),
-            Mark::Hyper => Ok((Basic::UnsignedHyper, rest)),
-            _ => Ok((Basic::Unsigned, tokens)),
+            Mark::Int => Ok((DataType::Basic(Basic::UnsignedInt), rest)),
+            Mark::Long => Ok((DataType::Basic(Basic::UnsignedLong), rest)),
+            Mark::Hyper => Ok((DataType::Basic(Basic::UnsignedHyper), rest)),
+            _ => Ok((DataType::Basic(Basic::Unsigned), tokens)),
         },
-        _ => Ok((Basic::Unsigned, tokens)),
+        _ => Ok((DataType::Basic(Basic::Unsigned), tokens)),
     }
 }
 
@@ -163,29 +121,23 @@ pub fn enumerators<'w, 't>(
     alloc: Global,
     tokens: &'w [Token<'t>],
 ) -> Result<(Vec<Enumerator>, &'w [Token<'t>]), ParseError>
-    ensures found { IfOk result (λ x. words_at (ahead tokens.now) ≡ (spell_enumerators (map view_enumerator x.0.items) ++ Fixed Mark.CloseBrace ∷ []) ++ words_at (ahead x.1.now)) }
+    ensures read { IfOk result (λ x. IsPart Enumerators tokens.now
+        (spell_enumerators (map view_enumerator x.0.items) ++ Fixed Mark.CloseBrace ∷ []) x.1.now) }
     ensures some { IfOk result (λ x. HasOne (map view_enumerator x.0.items)) }
-    ensures leads { IfOk result (λ x. Leads Enumerators (ahead tokens.now) (ahead x.1.now)) }
-    ensures stuck { IfErr result (λ e. Fails Enumerators (ahead tokens.now) e) }
-    ensures shorter { IfOk result (λ x. length x.1.now < length tokens.now) }
+    ensures stuck { IfErr result (λ e. Fails (Enumerators ∷ []) tokens.now e) }
 {
     let (member, mut left) = enumerator(alloc, tokens)?;
     let mut members = Vec::new(alloc);
     members.push(member)?;
     loop {
         let (word, rest) = first(left)?;
-        match word {
-            Word::Mark(mark) => match mark {
-                Mark::Comma => {
-                    let (next, after) = enumerator(alloc, rest)?;
-                    members.push(next)?;
-                    left = after;
-                }
-                Mark::CloseBrace => return Ok((members, rest)),
-                _ => return Err(stuck_at(left)),
-            },
-            _ => return Err(stuck_at(left)),
+        if is_mark(&word, Mark::CloseBrace) {
+            return Ok((members, rest));
         }
+        let rest = expect(Mark::Comma, left)?;
+        let (next, after) = enumerator(alloc, rest)?;
+        members.push(next)?;
+        left = after;
     }
 }
 
@@ -194,20 +146,13 @@ fn enumerator<'w, 't>(
     alloc: Global,
     tokens: &'w [Token<'t>],
 ) -> Result<(Enumerator, &'w [Token<'t>]), ParseError>
-    ensures found { IfOk result (λ x. words_at (ahead tokens.now) ≡ spell_enumerator (view_enumerator x.0) ++ words_at (ahead x.1.now)) }
-    ensures leads { IfOk result (λ x. Goes (Enumerators ∷ []) (ahead tokens.now) (MoreEnumerators ∷ []) (ahead x.1.now)) }
-    ensures stuck { IfErr result (λ e. Fails Enumerators (ahead tokens.now) e) }
-    ensures shorter { IfOk result (λ x. length x.1.now < length tokens.now) }
+    ensures read { IfOk result (λ x. IsRead [] (Enumerators ∷ []) tokens.now
+        (spell_enumerator (view_enumerator x.0)) (MoreEnumerators ∷ []) x.1.now) }
+    ensures stuck { IfErr result (λ e. Fails (Enumerators ∷ []) tokens.now e) }
 {
-    let (word, rest) = first(tokens)?;
-    match word {
-        Word::Name(text) => {
-            let name = text.to_vec(alloc)?;
-            let (value, rest) = given(alloc, rest)?;
-            Ok((Enumerator { name, value }, rest))
-        }
-        _ => Err(stuck_at(tokens)),
-    }
+    let (name, rest) = name(alloc, tokens)?;
+    let (value, rest) = given(alloc, rest)?;
+    Ok((Enumerator { name, value }, rest))
 }
 
 /// Reads the value of an enumerator, if it is given.
@@ -215,22 +160,57 @@ fn given<'w, 't>(
     alloc: Global,
     tokens: &'w [Token<'t>],
 ) -> Result<(Option<Value>, &'w [Token<'t>]), ParseError>
-    ensures found { IfOk result (λ x. words_at (ahead tokens.now) ≡ spell_given (view_most x.0) ++ words_at (ahead x.1.now)) }
-    ensures leads { IfOk result (λ x. Goes (AfterEnumerator ∷ []) (ahead tokens.now) (MoreEnumerators ∷ []) (ahead x.1.now)) }
-    ensures stuck { IfErr result (λ e. Fails AfterEnumerator (ahead tokens.now) e) }
-    ensures shorter { IfOk result (λ x. length x.1.now ≤ length tokens.now) }
+    ensures read { IfOk result (λ x. (name : List ℕ) → IsRead (Name name ∷ []) (AfterEnumerator ∷ [])
+        tokens.now (Name name ∷ spell_given (view_most x.0)) (MoreEnumerators ∷ []) x.1.now) }
+    ensures stuck { IfErr result (λ e. Fails (AfterEnumerator ∷ []) tokens.now e) }
 {
     let (word, rest) = first(tokens)?;
-    match word {
-        Word::Mark(mark) => match mark {
-            Mark::Equals => {
-                let (value, rest) = value(alloc, rest)?;
-                Ok((Some(value), rest))
-            }
-            _ => Ok((None, tokens)),
-        },
-        _ => Ok((None, tokens)),
+    if is_mark(&word, Mark::Equals) {
+        let (value, rest) = value(alloc, rest)?;
+        return Ok((Some(value), rest));
     }
+    Ok((None, tokens))
+}
+
+/// Reads the values of an arm after its first `case`, each with its `:`.
+pub fn cases<'w, 't>(
+    alloc: Global,
+    tokens: &'w [Token<'t>],
+) -> Result<(Vec<Value>, &'w [Token<'t>]), ParseError>
+    ensures read { IfOk result (λ x. (n : ℕ) → IsRead (Fixed Mark.Case ∷ [])
+        (AnyValue ∷ OfMark Mark.Colon ∷ AfterCase n ∷ []) tokens.now
+        (spell_cases (map view_value x.0.items)) (Declared n Ending.Semicolon ∷ []) x.1.now) }
+    ensures some { IfOk result (λ x. HasOne (map view_value x.0.items)) }
+    ensures stuck { IfErr result
+        (λ e. (n : ℕ) → Fails (AnyValue ∷ OfMark Mark.Colon ∷ AfterCase n ∷ []) tokens.now e) }
+{
+    let (first_case, mut left) = case(alloc, tokens)?;
+    let mut cases = Vec::new(alloc);
+    cases.push(first_case)?;
+    loop {
+        let (word, rest) = first(left)?;
+        if is_mark(&word, Mark::Case) {
+            let (next, after) = case(alloc, rest)?;
+            cases.push(next)?;
+            left = after;
+        } else {
+            return Ok((cases, left));
+        }
+    }
+}
+
+/// Reads a value and its `:`.
+fn case<'w, 't>(
+    alloc: Global,
+    tokens: &'w [Token<'t>],
+) -> Result<(Value, &'w [Token<'t>]), ParseError>
+    ensures read { IfOk result (λ x. IsRead [] (AnyValue ∷ OfMark Mark.Colon ∷ []) tokens.now
+        (spell_value (view_value x.0) ∷ Fixed Mark.Colon ∷ []) [] x.1.now) }
+    ensures stuck { IfErr result (λ e. Fails (AnyValue ∷ OfMark Mark.Colon ∷ []) tokens.now e) }
+{
+    let (value, rest) = value(alloc, tokens)?;
+    let rest = expect(Mark::Colon, rest)?;
+    Ok((value, rest))
 }
 
 /// Whether the word is the mark.

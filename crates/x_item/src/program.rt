@@ -1,11 +1,17 @@
 //! Reading of programs: RFC 5531, section 12. Each function takes the tokens that are ahead, of which some may be no words, and
-//! gives back those behind what it read.
-ghost use Rattle.std.specs.Prelude.{◌≡◌, List, [], ◌∷◌, ◌++◌, ◌<◌, map, IfOk, IfErr, length};
+//! gives back those after what it read.
+ghost use Rattle.std.specs.Prelude.{List, [], ◌∷◌, ◌++◌, map, IfOk, IfErr};
 ghost use Rattle.x_item.specs.Words.{Fixed, Number};
 ghost use Rattle.x_item.specs.View.{view_argument, view_passed, view_procedure, view_version};
-ghost use Rattle.x_item.specs.Spell.{spell_argument, spell_passed, spell_others, spell_procedure, spell_procedures, spell_version, spell_versions, HasOne, ArgumentFits, PassedFits, OthersFit, ProcedureFits, ProceduresFit, VersionFits, VersionsFit};
-ghost use Rattle.x_item.specs.Symbols.{InArguments, Token as OfMark, AnyName, AnyNumber, AfterType, Parameters, Arguments, Result as AnyResult, Procedures, Versions};
-ghost use Rattle.x_item.specs.Reading.{ahead, words_at, Fails, FailsAll, Leads, Goes};
+ghost use Rattle.x_item.specs.Spell.{spell_argument, spell_passed, spell_others, spell_procedure};
+ghost use Rattle.x_item.specs.Spell.{spell_procedures};
+ghost use Rattle.x_item.specs.Spell.{spell_version, spell_versions, HasOne, ArgumentFits, PassedFits};
+ghost use Rattle.x_item.specs.Spell.{OthersFit};
+ghost use Rattle.x_item.specs.Spell.{ProcedureFits, ProceduresFit, VersionFits, VersionsFit};
+ghost use Rattle.x_item.specs.Symbols.{InArguments, AnyName, AfterType, Parameters, Arguments};
+ghost use Rattle.x_item.specs.Symbols.{Result as AnyResult, Procedures, Versions};
+ghost use Rattle.x_item.specs.Symbols.{of_number, of_procedure, of_version};
+ghost use Rattle.x_item.specs.Reading.{IsRead, IsPart, Fails};
 
 use crate::definition::{Argument, Procedure, Version};
 use crate::mark::Mark;
@@ -20,11 +26,10 @@ fn argument<'w, 't>(
     alloc: Global,
     tokens: &'w [Token<'t>],
 ) -> Result<(Argument, &'w [Token<'t>]), ParseError>
-    ensures found { IfOk result (λ x. words_at (ahead tokens.now) ≡ spell_argument (view_argument x.0) ++ words_at (ahead x.1.now)) }
+    ensures read { IfOk result (λ x. IsRead [] (Arguments ∷ []) tokens.now
+        (spell_argument (view_argument x.0)) (AfterType InArguments ∷ []) x.1.now) }
     ensures fits { IfOk result (λ x. ArgumentFits (view_argument x.0)) }
-    ensures leads { IfOk result (λ x. Goes (Arguments ∷ []) (ahead tokens.now) (AfterType InArguments ∷ []) (ahead x.1.now)) }
-    ensures stuck { IfErr result (λ e. Fails Arguments (ahead tokens.now) e) }
-    ensures shorter { IfOk result (λ x. length x.1.now < length tokens.now) }
+    ensures stuck { IfErr result (λ e. Fails (Arguments ∷ []) tokens.now e) }
 {
     let (word, rest) = first(tokens)?;
     if is_mark(&word, Mark::String) {
@@ -39,11 +44,10 @@ fn first_argument<'w, 't>(
     alloc: Global,
     tokens: &'w [Token<'t>],
 ) -> Result<(Option<Argument>, &'w [Token<'t>]), ParseError>
-    ensures found { IfOk result (λ x. words_at (ahead tokens.now) ≡ spell_passed (view_passed x.0) ++ words_at (ahead x.1.now)) }
+    ensures read { IfOk result (λ x. IsRead [] (Parameters ∷ []) tokens.now (spell_passed (view_passed x.0))
+        (AfterType InArguments ∷ []) x.1.now) }
     ensures fits { IfOk result (λ x. PassedFits (view_passed x.0)) }
-    ensures leads { IfOk result (λ x. Goes (Parameters ∷ []) (ahead tokens.now) (AfterType InArguments ∷ []) (ahead x.1.now)) }
-    ensures stuck { IfErr result (λ e. Fails Parameters (ahead tokens.now) e) }
-    ensures shorter { IfOk result (λ x. length x.1.now < length tokens.now) }
+    ensures stuck { IfErr result (λ e. Fails (Parameters ∷ []) tokens.now e) }
 {
     let (word, rest) = first(tokens)?;
     if is_mark(&word, Mark::Void) {
@@ -58,11 +62,10 @@ fn returned<'w, 't>(
     alloc: Global,
     tokens: &'w [Token<'t>],
 ) -> Result<(Option<Argument>, &'w [Token<'t>]), ParseError>
-    ensures found { IfOk result (λ x. words_at (ahead tokens.now) ≡ spell_passed (view_passed x.0) ++ words_at (ahead x.1.now)) }
+    ensures read { IfOk result (λ x. IsRead [] (AnyResult ∷ []) tokens.now (spell_passed (view_passed x.0))
+        (AnyName ∷ []) x.1.now) }
     ensures fits { IfOk result (λ x. PassedFits (view_passed x.0)) }
-    ensures leads { IfOk result (λ x. Goes (AnyResult ∷ []) (ahead tokens.now) (AnyName ∷ []) (ahead x.1.now)) }
-    ensures stuck { IfErr result (λ e. Fails AnyResult (ahead tokens.now) e) }
-    ensures shorter { IfOk result (λ x. length x.1.now < length tokens.now) }
+    ensures stuck { IfErr result (λ e. Fails (AnyResult ∷ []) tokens.now e) }
 {
     let (word, rest) = first(tokens)?;
     if is_mark(&word, Mark::Void) {
@@ -80,12 +83,11 @@ fn arguments<'w, 't>(
     alloc: Global,
     tokens: &'w [Token<'t>],
 ) -> Result<(Option<Argument>, Vec<Argument>, &'w [Token<'t>]), ParseError>
-    ensures found { IfOk result (λ x. words_at (ahead tokens.now) ≡ ((spell_passed (view_passed x.0) ++ spell_others (map view_argument x.1.items)) ++ Fixed Mark.CloseParenthesis ∷ []) ++ words_at (ahead x.2.now)) }
+    ensures read { IfOk result (λ x. IsPart Parameters tokens.now ((spell_passed (view_passed x.0)
+        ++ spell_others (map view_argument x.1.items)) ++ Fixed Mark.CloseParenthesis ∷ []) x.2.now) }
     ensures first_fits { IfOk result (λ x. PassedFits (view_passed x.0)) }
     ensures others_fit { IfOk result (λ x. OthersFit (map view_argument x.1.items)) }
-    ensures leads { IfOk result (λ x. Leads Parameters (ahead tokens.now) (ahead x.2.now)) }
-    ensures stuck { IfErr result (λ e. Fails Parameters (ahead tokens.now) e) }
-    ensures shorter { IfOk result (λ x. length x.2.now < length tokens.now) }
+    ensures stuck { IfErr result (λ e. Fails (Parameters ∷ []) tokens.now e) }
 {
     let (head, mut left) = first_argument(alloc, tokens)?;
     let mut others = Vec::new(alloc);
@@ -111,10 +113,9 @@ pub fn numbered<'w, 't>(
     alloc: Global,
     tokens: &'w [Token<'t>],
 ) -> Result<(Vec<u8>, &'w [Token<'t>]), ParseError>
-    ensures found { IfOk result (λ x. words_at (ahead tokens.now) ≡ Fixed Mark.Equals ∷ Number x.0.items ∷ Fixed Mark.Semicolon ∷ words_at (ahead x.1.now)) }
-    ensures leads { IfOk result (λ x. Goes (OfMark Mark.Equals ∷ AnyNumber ∷ OfMark Mark.Semicolon ∷ []) (ahead tokens.now) [] (ahead x.1.now)) }
-    ensures stuck { IfErr result (λ e. FailsAll (OfMark Mark.Equals ∷ AnyNumber ∷ OfMark Mark.Semicolon ∷ []) (ahead tokens.now) e) }
-    ensures shorter { IfOk result (λ x. length x.1.now < length tokens.now) }
+    ensures read { IfOk result (λ x. IsRead [] of_number tokens.now
+        (Fixed Mark.Equals ∷ Number x.0.items ∷ Fixed Mark.Semicolon ∷ []) [] x.1.now) }
+    ensures stuck { IfErr result (λ e. Fails of_number tokens.now e) }
 {
     let rest = expect(Mark::Equals, tokens)?;
     let (number, rest) = number(alloc, rest)?;
@@ -127,11 +128,10 @@ fn procedure<'w, 't>(
     alloc: Global,
     tokens: &'w [Token<'t>],
 ) -> Result<(Procedure, &'w [Token<'t>]), ParseError>
-    ensures found { IfOk result (λ x. words_at (ahead tokens.now) ≡ spell_procedure (view_procedure x.0) ++ words_at (ahead x.1.now)) }
+    ensures read { IfOk result (λ x. IsRead [] of_procedure tokens.now
+        (spell_procedure (view_procedure x.0)) [] x.1.now) }
     ensures fits { IfOk result (λ x. ProcedureFits (view_procedure x.0)) }
-    ensures leads { IfOk result (λ x. Goes (AnyResult ∷ OfMark Mark.OpenParenthesis ∷ Parameters ∷ OfMark Mark.Equals ∷ AnyNumber ∷ OfMark Mark.Semicolon ∷ []) (ahead tokens.now) [] (ahead x.1.now)) }
-    ensures stuck { IfErr result (λ e. FailsAll (AnyResult ∷ OfMark Mark.OpenParenthesis ∷ Parameters ∷ OfMark Mark.Equals ∷ AnyNumber ∷ OfMark Mark.Semicolon ∷ []) (ahead tokens.now) e) }
-    ensures shorter { IfOk result (λ x. length x.1.now < length tokens.now) }
+    ensures stuck { IfErr result (λ e. Fails of_procedure tokens.now e) }
 {
     let (result, rest) = returned(alloc, tokens)?;
     let (name, rest) = name(alloc, rest)?;
@@ -153,12 +153,11 @@ fn procedures<'w, 't>(
     alloc: Global,
     tokens: &'w [Token<'t>],
 ) -> Result<(Vec<Procedure>, &'w [Token<'t>]), ParseError>
-    ensures found { IfOk result (λ x. words_at (ahead tokens.now) ≡ (spell_procedures (map view_procedure x.0.items) ++ Fixed Mark.CloseBrace ∷ []) ++ words_at (ahead x.1.now)) }
+    ensures read { IfOk result (λ x. IsPart Procedures tokens.now
+        (spell_procedures (map view_procedure x.0.items) ++ Fixed Mark.CloseBrace ∷ []) x.1.now) }
     ensures some { IfOk result (λ x. HasOne (map view_procedure x.0.items)) }
     ensures fits { IfOk result (λ x. ProceduresFit (map view_procedure x.0.items)) }
-    ensures leads { IfOk result (λ x. Leads Procedures (ahead tokens.now) (ahead x.1.now)) }
-    ensures stuck { IfErr result (λ e. Fails Procedures (ahead tokens.now) e) }
-    ensures shorter { IfOk result (λ x. length x.1.now < length tokens.now) }
+    ensures stuck { IfErr result (λ e. Fails (Procedures ∷ []) tokens.now e) }
 {
     let (member, mut left) = procedure(alloc, tokens)?;
     let mut members = Vec::new(alloc);
@@ -179,11 +178,10 @@ fn version<'w, 't>(
     alloc: Global,
     tokens: &'w [Token<'t>],
 ) -> Result<(Version, &'w [Token<'t>]), ParseError>
-    ensures found { IfOk result (λ x. words_at (ahead tokens.now) ≡ spell_version (view_version x.0) ++ words_at (ahead x.1.now)) }
+    ensures read { IfOk result (λ x. IsRead [] of_version tokens.now
+        (spell_version (view_version x.0)) [] x.1.now) }
     ensures fits { IfOk result (λ x. VersionFits (view_version x.0)) }
-    ensures leads { IfOk result (λ x. Goes (OfMark Mark.Version ∷ AnyName ∷ OfMark Mark.OpenBrace ∷ Procedures ∷ OfMark Mark.Equals ∷ AnyNumber ∷ OfMark Mark.Semicolon ∷ []) (ahead tokens.now) [] (ahead x.1.now)) }
-    ensures stuck { IfErr result (λ e. FailsAll (OfMark Mark.Version ∷ AnyName ∷ OfMark Mark.OpenBrace ∷ Procedures ∷ OfMark Mark.Equals ∷ AnyNumber ∷ OfMark Mark.Semicolon ∷ []) (ahead tokens.now) e) }
-    ensures shorter { IfOk result (λ x. length x.1.now < length tokens.now) }
+    ensures stuck { IfErr result (λ e. Fails of_version tokens.now e) }
 {
     let rest = expect(Mark::Version, tokens)?;
     let (name, rest) = name(alloc, rest)?;
@@ -203,12 +201,11 @@ pub fn versions<'w, 't>(
     alloc: Global,
     tokens: &'w [Token<'t>],
 ) -> Result<(Vec<Version>, &'w [Token<'t>]), ParseError>
-    ensures found { IfOk result (λ x. words_at (ahead tokens.now) ≡ (spell_versions (map view_version x.0.items) ++ Fixed Mark.CloseBrace ∷ []) ++ words_at (ahead x.1.now)) }
+    ensures read { IfOk result (λ x. IsPart Versions tokens.now
+        (spell_versions (map view_version x.0.items) ++ Fixed Mark.CloseBrace ∷ []) x.1.now) }
     ensures some { IfOk result (λ x. HasOne (map view_version x.0.items)) }
     ensures fits { IfOk result (λ x. VersionsFit (map view_version x.0.items)) }
-    ensures leads { IfOk result (λ x. Leads Versions (ahead tokens.now) (ahead x.1.now)) }
-    ensures stuck { IfErr result (λ e. Fails Versions (ahead tokens.now) e) }
-    ensures shorter { IfOk result (λ x. length x.1.now < length tokens.now) }
+    ensures stuck { IfErr result (λ e. Fails (Versions ∷ []) tokens.now e) }
 {
     let (member, mut left) = version(alloc, tokens)?;
     let mut members = Vec::new(alloc);

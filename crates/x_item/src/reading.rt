@@ -1,13 +1,15 @@
 //! Reading of single words. Each function takes the tokens that are ahead, of which some may be no words, and gives back those
-//! behind what it read.
+//! after what it read.
 ghost use Rattle.std.specs.Prelude.{◌≡◌, ◌∷◌, [], ◌<◌, IfOk, IfErr, IfSome, IfNone, length, ◌+◌, map};
 ghost use Rattle.x_lex.specs.Places.{lexeme};
-ghost use Rattle.x_item.specs.Words.{Fixed, Name, Number, word_of, mark_among, keywords, puncts, is_significant};
+ghost use Rattle.x_item.specs.Words.{Fixed, Name, Number, word_of, mark_among, keywords, puncts};
+ghost use Rattle.x_item.specs.Words.{is_significant};
 ghost use Rattle.x_item.specs.Spell.{spell_value};
 ghost use Rattle.x_item.specs.View.{view_value};
 ghost use Rattle.x_item.specs.Parse.{code_of};
 ghost use Rattle.x_item.specs.Symbols.{Symbol, Token as OfMark, AnyName, AnyNumber, AnyValue};
-ghost use Rattle.x_item.specs.Reading.{view_word, ahead, words_at, left_in, code_in, IsSplit, Fails, Leads};
+ghost use Rattle.x_item.specs.Reading.{view_word, ahead, words_at, left_in, code_in, IsSplit, HasFirst};
+ghost use Rattle.x_item.specs.Reading.{Fails, IsPart};
 
 use crate::mark::{KEYWORDS, Mark, PUNCTS};
 use crate::{FaultCode, Value};
@@ -97,7 +99,7 @@ pub fn is_significant(kind: Kind) -> bool
     )
 }
 
-/// The first word, and the tokens behind it.
+/// The first word, and the tokens after it.
 pub fn split_word<'w, 't>(tokens: &'w [Token<'t>]) -> Option<(Token<'t>, &'w [Token<'t>])>
     ensures some { IfSome result (λ x. IsSplit tokens.now x.0 x.1.now) }
     ensures none { IfNone result (ahead tokens.now ≡ []) }
@@ -113,11 +115,10 @@ pub fn split_word<'w, 't>(tokens: &'w [Token<'t>]) -> Option<(Token<'t>, &'w [To
     None
 }
 
-/// The first word, and the tokens behind it.
+/// The first word, and the tokens after it.
 pub fn first<'w, 't>(tokens: &'w [Token<'t>]) -> Result<(Word<'t>, &'w [Token<'t>]), ParseError>
-    ensures found { IfOk result (λ x. ahead tokens.now ≡ record { word = view_word x.0; left = left_in tokens.now; code = code_in tokens.now } ∷ ahead x.1.now) }
-    ensures shorter { IfOk result (λ x. length x.1.now < length tokens.now) }
-    ensures stuck { IfErr result (λ e. (s : Symbol) → Fails s (ahead tokens.now) e) }
+    ensures word { IfOk result (λ x. HasFirst tokens.now (view_word x.0) x.1.now) }
+    ensures stuck { IfErr result (λ e. (s : Symbol) → Fails (s ∷ []) tokens.now e) }
 {
     match split_word(tokens) {
         Some((token, rest)) => Ok((Word::of(&token), rest)),
@@ -143,10 +144,8 @@ pub fn stuck_at(tokens: &[Token]) -> ParseError
 
 /// Reads a mark.
 pub fn expect<'w, 't>(mark: Mark, tokens: &'w [Token<'t>]) -> Result<&'w [Token<'t>], ParseError>
-    ensures found { IfOk result (λ rest. words_at (ahead tokens.now) ≡ Fixed mark ∷ words_at (ahead rest.now)) }
-    ensures leads { IfOk result (λ rest. Leads (OfMark mark) (ahead tokens.now) (ahead rest.now)) }
-    ensures stuck { IfErr result (λ e. Fails (OfMark mark) (ahead tokens.now) e) }
-    ensures shorter { IfOk result (λ rest. length rest.now < length tokens.now) }
+    ensures read { IfOk result (λ rest. IsPart (OfMark mark) tokens.now (Fixed mark ∷ []) rest.now) }
+    ensures stuck { IfErr result (λ e. Fails (OfMark mark ∷ []) tokens.now e) }
 {
     let (word, rest) = first(tokens)?;
     match word {
@@ -166,10 +165,8 @@ pub fn name<'w, 't>(
     alloc: Global,
     tokens: &'w [Token<'t>],
 ) -> Result<(Vec<u8>, &'w [Token<'t>]), ParseError>
-    ensures found { IfOk result (λ x. words_at (ahead tokens.now) ≡ Name x.0.items ∷ words_at (ahead x.1.now)) }
-    ensures leads { IfOk result (λ x. Leads AnyName (ahead tokens.now) (ahead x.1.now)) }
-    ensures stuck { IfErr result (λ e. Fails AnyName (ahead tokens.now) e) }
-    ensures shorter { IfOk result (λ x. length x.1.now < length tokens.now) }
+    ensures read { IfOk result (λ x. IsPart AnyName tokens.now (Name x.0.items ∷ []) x.1.now) }
+    ensures stuck { IfErr result (λ e. Fails (AnyName ∷ []) tokens.now e) }
 {
     let (word, rest) = first(tokens)?;
     match word {
@@ -183,10 +180,8 @@ pub fn number<'w, 't>(
     alloc: Global,
     tokens: &'w [Token<'t>],
 ) -> Result<(Vec<u8>, &'w [Token<'t>]), ParseError>
-    ensures found { IfOk result (λ x. words_at (ahead tokens.now) ≡ Number x.0.items ∷ words_at (ahead x.1.now)) }
-    ensures leads { IfOk result (λ x. Leads AnyNumber (ahead tokens.now) (ahead x.1.now)) }
-    ensures stuck { IfErr result (λ e. Fails AnyNumber (ahead tokens.now) e) }
-    ensures shorter { IfOk result (λ x. length x.1.now < length tokens.now) }
+    ensures read { IfOk result (λ x. IsPart AnyNumber tokens.now (Number x.0.items ∷ []) x.1.now) }
+    ensures stuck { IfErr result (λ e. Fails (AnyNumber ∷ []) tokens.now e) }
 {
     let (word, rest) = first(tokens)?;
     match word {
@@ -200,10 +195,8 @@ pub fn value<'w, 't>(
     alloc: Global,
     tokens: &'w [Token<'t>],
 ) -> Result<(Value, &'w [Token<'t>]), ParseError>
-    ensures found { IfOk result (λ x. words_at (ahead tokens.now) ≡ spell_value (view_value x.0) ∷ words_at (ahead x.1.now)) }
-    ensures leads { IfOk result (λ x. Leads AnyValue (ahead tokens.now) (ahead x.1.now)) }
-    ensures stuck { IfErr result (λ e. Fails AnyValue (ahead tokens.now) e) }
-    ensures shorter { IfOk result (λ x. length x.1.now < length tokens.now) }
+    ensures read { IfOk result (λ x. IsPart AnyValue tokens.now (spell_value (view_value x.0) ∷ []) x.1.now) }
+    ensures stuck { IfErr result (λ e. Fails (AnyValue ∷ []) tokens.now e) }
 {
     let (word, rest) = first(tokens)?;
     match word {

@@ -1,5 +1,6 @@
 //! What an edit does to the items of a text.
-ghost use Rattle.std.specs.Prelude.{◌≡◌, ◌+◌, ◌-◌, ◌<◌, ◌≤◌, ◌∷◌, ◌↔◌, [], All, IfOk, cond, length, drop, slice_get};
+ghost use Rattle.std.specs.Prelude.{◌≡◌, ◌+◌, ◌-◌, ◌<◌, ◌≤◌, ◌∷◌, ◌↔◌, [], All, IfOk, cond, length, drop};
+ghost use Rattle.std.specs.Prelude.{slice_get};
 ghost use Rattle.x_text.specs.declared.source.TheConstants.{MAX_TEXT};
 ghost use Rattle.x_lex.specs.Tiling.{AreTokens, end_of};
 ghost use Rattle.x_lex.specs.TokenList.{patched, LiesAmong, IsOfText};
@@ -28,7 +29,9 @@ pub fn recut<K: Default + Drop>(
     new: &Source,
 ) -> Result<ItemPatch<K>, NoMemory>
     requires { AreRelexed new.now tokens.now.list (counts items.now.list) patch.now }
-    ensures patch { IfOk result (λ fresh. (change : Change) → IsRelexed change new.now tokens.now.list (counts items.now.list) patch.now → IsItemPatch change new.now tokens.now.list (patched tokens.now.list patch.now) items.now.list fresh) }
+    ensures patch { IfOk result (λ fresh. (change : Change) → IsRelexed change new.now tokens.now.list
+        (counts items.now.list) patch.now → IsItemPatch change new.now tokens.now.list
+        (patched tokens.now.list patch.now) items.now.list fresh) }
     ensures among { IfOk result (λ fresh. lists.LiesAmong items.now.list fresh) }
     ensures of_text { IfOk result (λ fresh. AreOfText (counts (lists.patched items.now.list fresh))) }
     ensures blank { IfOk result (λ fresh. All (λ item. K.is_default item.kept) fresh.fresh) }
@@ -113,7 +116,11 @@ fn item_from(
     requires place { place ≡ end_of (patched tokens.now.list patch.now) index }
     ensures within { index + result.0 ≤ length (patched tokens.now.list patch.now) }
     ensures place { result.1 ≡ end_of (patched tokens.now.list patch.now) (index + result.0) }
-    ensures counts { counts_from 0 0 (drop index (roles text.now (patched tokens.now.list patch.now))) ≡ result.0 ∷ cond result.2 (counts_from 0 0 (drop (index + result.0) (roles text.now (patched tokens.now.list patch.now)))) [] }
+    ensures counts { counts_from 0 0 (drop index (roles text.now (patched tokens.now.list patch.now)))
+        ≡ result.0 ∷ cond result.2
+        (counts_from 0 0
+        (drop (index + result.0) (roles text.now (patched tokens.now.list patch.now))))
+        [] }
 {
     let mut cutter = Cutter::new();
     let mut count = 0;

@@ -13,9 +13,9 @@ pub returns-in-Some-clause-stuck : goal.returns-in-Some-clause-stuck
 returns-in-Some-clause-stuck c =
     let read = c.in_ok-definition in
     rw c.stuck_at.ensures
-    (refused_behind c.args.tokens.now read.rest.now _ _ (view_definition read.definition) read.ensures.fits read.ensures.found read.ensures.leads c.in-Some.ensures.some)
+    (refused_behind c.args.tokens.now read.rest.now _ _ (view_definition read.definition) read.ensures.fits read.ensures.read c.in-Some.ensures.some)
 
 pub returns-in-None-clause-found : goal.returns-in-None-clause-found
 returns-in-None-clause-found c =
     let read = c.in_ok-definition in
-    found_whole c.args.tokens.now read.rest.now (view_definition read.definition) read.ensures.found c.in-None.ensures.none
+    found_whole c.args.tokens.now read.rest.now (view_definition read.definition) read.ensures.read.found c.in-None.ensures.none

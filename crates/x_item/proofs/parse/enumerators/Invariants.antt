@@ -1,16 +1,14 @@
-use Rattle.std.proofs.Common.{◌≡◌, ◌<◌, [], ◌++◌, ◌∷◌, length, map}
+use Rattle.std.proofs.Common.{[], ◌∷◌, length, map}
 use Rattle.x_item.specs.Spell.{spell_enumerators, HasOne}
 use Rattle.x_item.specs.View.{view_enumerator}
 use Rattle.x_item.specs.Symbols.{Enumerators, MoreEnumerators}
-use Rattle.x_item.specs.Reading.{ahead, words_at, Goes}
+use Rattle.x_item.specs.Reading.{IsRead}
 use Rattle.x_item.proofs.parse.enumerators.Given as goal
 
 abbrev pub invariant-loop-members : goal.invariant-loop-members
 invariant-loop-members l = record {
-  found : words_at (ahead l.tokens) ≡ spell_enumerators (map view_enumerator l.members.items) ++ words_at (ahead l.left);
+  read : IsRead [] (Enumerators ∷ []) l.tokens (spell_enumerators (map view_enumerator l.members.items)) (MoreEnumerators ∷ []) l.left;
   some : HasOne (map view_enumerator l.members.items);
-  leads : Goes (Enumerators ∷ []) (ahead l.tokens) (MoreEnumerators ∷ []) (ahead l.left);
-  shorter : length l.left < length l.tokens;
 }
 
 abbrev pub decreases-loop-members : goal.decreases-loop-members

@@ -1,17 +1,15 @@
-use Rattle.std.proofs.Common.{◌≡◌, ◌<◌, [], ◌++◌, ◌∷◌, length, map}
+use Rattle.std.proofs.Common.{[], ◌∷◌, length, map}
 use Rattle.x_item.specs.Spell.{spell_versions, HasOne, VersionsFit}
 use Rattle.x_item.specs.View.{view_version}
 use Rattle.x_item.specs.Symbols.{Versions, MoreVersions}
-use Rattle.x_item.specs.Reading.{ahead, words_at, Goes}
+use Rattle.x_item.specs.Reading.{IsRead}
 use Rattle.x_item.proofs.program.versions.Given as goal
 
 abbrev pub invariant-loop-members : goal.invariant-loop-members
 invariant-loop-members l = record {
-  found : words_at (ahead l.tokens) ≡ spell_versions (map view_version l.members.items) ++ words_at (ahead l.left);
+  read : IsRead [] (Versions ∷ []) l.tokens (spell_versions (map view_version l.members.items)) (MoreVersions ∷ []) l.left;
   some : HasOne (map view_version l.members.items);
   fits : VersionsFit (map view_version l.members.items);
-  leads : Goes (Versions ∷ []) (ahead l.tokens) (MoreVersions ∷ []) (ahead l.left);
-  shorter : length l.left < length l.tokens;
 }
 
 abbrev pub decreases-loop-members : goal.decreases-loop-members
