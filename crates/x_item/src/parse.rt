@@ -1,5 +1,5 @@
-//! Reading of what types and declarations are made of. Each function takes the tokens that are ahead, of which some may be no words,
-//! and gives back those after what it read.
+//! Reading of what types and declarations are made of. Each function takes the tokens that are ahead, of
+//! which some may be no words, and gives back those after what it read.
 ghost use Rattle.std.specs.Prelude.{◌≡◌, ℕ, List, [], ◌∷◌, ◌++◌, map, IfOk, IfErr, IsTrue, ◌↔◌};
 ghost use Rattle.x_item.specs.Words.{Fixed, Name};
 ghost use Rattle.x_item.specs.View.{view_value, view_most, view_length, view_shape, view_enumerator};

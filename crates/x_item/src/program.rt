@@ -1,5 +1,5 @@
-//! Reading of programs: RFC 5531, section 12. Each function takes the tokens that are ahead, of which some may be no words, and
-//! gives back those after what it read.
+//! Reading of programs: RFC 5531, section 12. Each function takes the tokens that are ahead, of which some
+//! may be no words, and gives back those after what it read.
 ghost use Rattle.std.specs.Prelude.{List, [], ◌∷◌, ◌++◌, map, IfOk, IfErr};
 ghost use Rattle.x_item.specs.Words.{Fixed, Number};
 ghost use Rattle.x_item.specs.View.{view_argument, view_passed, view_procedure, view_version};

@@ -1,5 +1,5 @@
-//! Reading of single words. Each function takes the tokens that are ahead, of which some may be no words, and gives back those
-//! after what it read.
+//! Reading of single words. Each function takes the tokens that are ahead, of which some may be no words,
+//! and gives back those after what it read.
 ghost use Rattle.std.specs.Prelude.{◌≡◌, ◌∷◌, [], ◌<◌, IfOk, IfErr, IfSome, IfNone, length, ◌+◌, map};
 ghost use Rattle.x_lex.specs.Places.{lexeme};
 ghost use Rattle.x_item.specs.Words.{Fixed, Name, Number, word_of, mark_among, keywords, puncts};
