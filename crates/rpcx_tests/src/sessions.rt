@@ -1,4 +1,4 @@
-use rpcx::{FaultCode, Session};
+use rpcx::{FaultCode, Session, Work};
 use std::process::Abort;
 use std::test::Fail;
 use x_lex::Kind;
@@ -54,6 +54,31 @@ fn edits_stop_at_the_first_that_is_refused(rt: HostRuntime) -> Result<(), Fail> 
     let answer = session.apply_all(&[longer, outside]);
     assert_eq!(rt; answer.err(), Some((1, TextFault::BadRange)));
     assert_eq!(rt; session.bytes(), b"const A = 12;".as_slice());
+    Ok(())
+}
+
+/// For now an edit compiles the whole text, and this is the work of that.
+#[test]
+fn an_edit_tells_its_work(rt: HostRuntime) -> Result<(), Fail> {
+    let mut session = Session::open(rt.alloc(), b"t", b"const A = 1;")?;
+    let longer = Edit {
+        start: 11,
+        end: 11,
+        insert: b"2",
+    };
+    let wanted = Work {
+        lexed: 8,
+        parsed: 2,
+        checked: 1,
+        moved: 0,
+    };
+    assert_eq!(rt; session.apply(&longer)?, wanted);
+    assert_eq!(rt; session.faults().len(), 0);
+    let mut last = 0;
+    for token in session.tokens() {
+        last = token.end;
+    }
+    assert_eq!(rt; last, 13);
     Ok(())
 }
 
