@@ -25,7 +25,7 @@ const FAILED: u8 = 2;
 
 /// Writes text that says why a run does not go on. Where that fails there is nobody to tell.
 pub fn complain<E: Sink>(text: &str, err: &mut E)
-    ensures { IsTold (E.contents err.old) (E.contents err.new) (E.has_failed err.new) text.now }
+    ensures { IsTold (E.state err.old) (E.state err.new) text.now }
 {
     let mut pen = Pen::new();
     pen.add(text.as_bytes(), err);
@@ -35,7 +35,7 @@ pub fn complain<E: Sink>(text: &str, err: &mut E)
 /// The text that a command line asks for: exactly one letter tells it.
 pub fn gen_mode<E: Sink>(args: &GenArgs, err: &mut E) -> Option<Which>
     ensures mode { result ≡ (if args.now.header then Some Which.Header else None) }
-    ensures told { result ≡ None → IsTold (E.contents err.old) (E.contents err.new) (E.has_failed err.new) (codes "rpcgen: exactly one of -c, -h, -l, -t\n") }
+    ensures told { result ≡ None → IsTold (E.state err.old) (E.state err.new) (codes "rpcgen: exactly one of -c, -h, -l, -t\n") }
     ensures quiet { result ≢ None → err.new ≡ err.old }
 {
     if args.header {
@@ -82,9 +82,9 @@ pub fn gen_open<E: Sink>(
     ensures clean { OnOk result (Compiles bytes.now (λ items. faults_of bytes.now items ≡ [])) }
     ensures constants { OnOk result (Compiles bytes.now (λ items. are_constants (definitions_of items) ≡ true)) }
     ensures faulty { IsErrOf result 1 → Compiles bytes.now (λ items. (0 < length (faults_of bytes.now items))
-        × IsTold (E.contents err.old) (E.contents err.new) (E.has_failed err.new) (told_faults file.now (faults_of bytes.now items))) }
+        × IsTold (E.state err.old) (E.state err.new) (told_faults file.now (faults_of bytes.now items))) }
     ensures too_large { MAX_TEXT < length bytes.now → IsErrOf result 2 }
-    ensures failed { IsErrOf result 2 → NotOpened file.now bytes.now (E.contents err.old) (E.contents err.new) (E.has_failed err.new) }
+    ensures failed { IsErrOf result 2 → NotOpened file.now bytes.now (E.state err.old) (E.state err.new) }
     ensures others { IfErr result (λ status. (status ≡ 1) ⊎ (status ≡ 2)) }
     ensures quiet { OnOk result (err.new ≡ err.old) }
 {
@@ -109,7 +109,7 @@ pub fn gen_open<E: Sink>(
 
 /// Writes what is wrong with a file, behind the name of the program.
 pub fn tell_of_file<E: Sink>(program: &str, file: &str, wrong: &str, err: &mut E)
-    ensures { IsTold (E.contents err.old) (E.contents err.new) (E.has_failed err.new) (program.now ++ codes ": " ++ file.now ++ wrong.now) }
+    ensures { IsTold (E.state err.old) (E.state err.new) (program.now ++ codes ": " ++ file.now ++ wrong.now) }
 {
     let mut pen = Pen::new();
     pen.add(program.as_bytes(), err);
@@ -121,7 +121,7 @@ pub fn tell_of_file<E: Sink>(program: &str, file: &str, wrong: &str, err: &mut E
 
 /// Writes why a file's text is not opened, behind the name of the program.
 pub(crate) fn tell_unopened<E: Sink>(program: &str, file: &str, fault: TextFault, err: &mut E)
-    ensures { IsTold (E.contents err.old) (E.contents err.new) (E.has_failed err.new) (unopened_told program.now file.now fault) }
+    ensures { IsTold (E.state err.old) (E.state err.new) (unopened_told program.now file.now fault) }
 {
     match fault {
         TextFault::TooLarge => tell_of_file(program, file, ": 2 TooLarge\n", err),
@@ -133,7 +133,7 @@ pub(crate) fn tell_unopened<E: Sink>(program: &str, file: &str, fault: TextFault
 
 /// Writes the faults of a file's text, one a line.
 fn tell_faults<E: Sink>(file: &str, faults: &[Fault], err: &mut E)
-    ensures { IsTold (E.contents err.old) (E.contents err.new) (E.has_failed err.new) (told_faults file.now faults.now) }
+    ensures { IsTold (E.state err.old) (E.state err.new) (told_faults file.now faults.now) }
 {
     let mut pen = Pen::new();
     for fault in faults {
@@ -144,7 +144,7 @@ fn tell_faults<E: Sink>(file: &str, faults: &[Fault], err: &mut E)
 
 /// Adds the line that tells a fault of a file's text.
 fn add_fault<E: Sink>(file: &str, fault: &Fault, pen: &mut Pen, err: &mut E)
-    ensures { Adds pen.old (E.contents err.old) (E.has_failed err.old) pen.new (E.contents err.new) (E.has_failed err.new) (told_fault file.now fault.now) }
+    ensures { Adds pen.old (E.state err.old) pen.new (E.state err.new) (told_fault file.now fault.now) }
 {
     pen.add(file.as_bytes(), err);
     pen.add(b":", err);
@@ -156,9 +156,9 @@ fn add_fault<E: Sink>(file: &str, fault: &Fault, pen: &mut Pen, err: &mut E)
 
 /// Writes a generated text and flushes the output, and answers whether it took all.
 fn is_written<O: Sink>(which: Which, session: &Session, out: &mut O) -> bool
-    ensures written { IsTrue result → Compiles session.now.text (λ items. Appends (O.contents out.old) (O.contents out.new) (header session.now.base items)) }
-    ensures front { result ≡ false → Compiles session.now.text (λ items. Grows (O.contents out.old) (O.contents out.new) (header session.now.base items)) }
-    ensures working { result ≡ not (O.has_failed out.new) }
+    ensures written { IsTrue result → Compiles session.now.text (λ items. Appends (O.state out.old).bytes (O.state out.new).bytes (header session.now.base items)) }
+    ensures front { result ≡ false → Compiles session.now.text (λ items. Grows (O.state out.old) (O.state out.new) (header session.now.base items)) }
+    ensures working { result ≡ not (O.state out.new).failed }
 {
     if session.write_text(which, out).is_err() {
         return false;
@@ -168,10 +168,10 @@ fn is_written<O: Sink>(which: Which, session: &Session, out: &mut O) -> bool
 
 /// Writes a generated text, and answers the status: 0, or 2 where the output fails, which it tells.
 pub fn gen_write<O: Sink, E: Sink>(which: Which, session: &Session, out: &mut O, err: &mut E) -> u8
-    ensures written { result ≡ 0 → Compiles session.now.text (λ items. Appends (O.contents out.old) (O.contents out.new) (header session.now.base items)) }
-    ensures front { result ≢ 0 → Compiles session.now.text (λ items. Grows (O.contents out.old) (O.contents out.new) (header session.now.base items)) }
-    ensures status { result ≡ (if O.has_failed out.new then 2 else 0) }
-    ensures told { result ≢ 0 → IsTold (E.contents err.old) (E.contents err.new) (E.has_failed err.new) (codes "rpcgen: output cannot be written\n") }
+    ensures written { result ≡ 0 → Compiles session.now.text (λ items. Appends (O.state out.old).bytes (O.state out.new).bytes (header session.now.base items)) }
+    ensures front { result ≢ 0 → Compiles session.now.text (λ items. Grows (O.state out.old) (O.state out.new) (header session.now.base items)) }
+    ensures status { result ≡ (if (O.state out.new).failed then 2 else 0) }
+    ensures told { result ≢ 0 → IsTold (E.state err.old) (E.state err.new) (codes "rpcgen: output cannot be written\n") }
     ensures quiet { result ≡ 0 → err.new ≡ err.old }
 {
     if is_written(which, session, out) {
