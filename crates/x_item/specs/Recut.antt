@@ -9,7 +9,7 @@ use Rattle.x_lex.specs.TokenList.{TokenPatch}
 use Rattle.x_lex.specs.Relex.{Agrees, IsMeeting, IsPatch, old_place}
 use Rattle.x_item.specs.Items.{IsCut}
 use Rattle.x_item.specs.ItemList.{ItemChange, patched, LiesAmong, tokens_before, counts}
-use Rattle.x_item.specs.declared.entry.Entry.{Entry}
+use Rattle.x_item.specs.declared.cutting.entry.Entry.{Entry}
 
 -- the old text has these tokens, they are cut so, and the patch is what the change, which makes `new` of it, does to them
 pub record IsRelexed (change : Change) (new : List ℕ) (ts : List (Kind × ℕ)) (cs : List ℕ) (fresh : TokenPatch) : Type 0 where
