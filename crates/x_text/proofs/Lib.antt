@@ -1,4 +1,5 @@
 pub mod Columns
 pub mod Edits
+pub mod LengthLemmas
 pub mod Pens
 pub mod SeqLemmas

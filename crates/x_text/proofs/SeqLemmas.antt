@@ -1,8 +1,10 @@
 -- Two stacks as one list, seen from the other end, and with a run replaced at the seat.
-use Rattle.std.proofs.Common.{◌≡◌, ℕ, zero, suc, ◌+◌, ◌-◌, ◌≤◌, List, [], ◌∷◌, ◌++◌, take, drop, length, reverse, sym, ap, ◌∙◌, arith, length-append, length-drop, length-take-le}
+use Rattle.std.proofs.Common.{◌≡◌, ℕ, zero, suc, ◌+◌, ◌-◌, ◌<◌, ◌≤◌, min, ⊎_elim, List, [], ◌∷◌, ◌++◌, take, drop, length, reverse, refl, sym, ap, ◌∙◌, arith, length-append, length-drop, length-take-le}
+use Rattle.std.specs.Prelude.{slice_set}
 use Rattle.std.specs.List.{splice}
+use Rattle.std.proofs.lemmas.Bool.{cases_lt}
 use Rattle.std.proofs.Math.Seq.{take-append_seam}
-use Rattle.std.proofs.lemmas.List.{append_assoc, drop_at, reverse-append, reverse-reverse, length-reverse, take-append-drop, take-append-le}
+use Rattle.std.proofs.lemmas.List.{append_assoc, drop_all, take_all, drop_at, reverse-append, reverse-reverse, length-reverse, take-append-drop, take-append-le}
 
 other_end : {X : Type 0} → (a b : List X) → reverse (a ++ reverse b) ≡ b ++ reverse a
 other_end a b = reverse-append a (reverse b) ∙ ap (λ t. t ++ reverse a) (reverse-reverse b)
@@ -38,6 +40,36 @@ spliced front rear last cut new list at end middle e lf lo hi w el ec =
     let k : end ≡ length front + (end - middle) = omega arith in
     let d : drop end list ≡ drop (end - middle) (reverse rear) = ap (drop end) (sym e) ∙ ap (λ i. drop i (front ++ reverse rear)) k ∙ drop_part front (reverse rear) (end - middle) in
     rw (el, r, t, d) (append_assoc (take at front) new (drop (end - middle) (reverse rear)))
+
+drop_front : {X : Type 0} → (xs ys : List X) (m : ℕ) → m ≤ length xs → drop m (xs ++ ys) ≡ drop m xs ++ ys
+drop_front xs ys zero le = refl
+drop_front [] ys (suc m) le = absurd (omega arith)
+drop_front (x ∷ xs) ys (suc m) le = drop_front xs ys m (omega arith)
+
+-- two stacks from an index on: what is left of each
+pub walked : {X : Type 0} → (front rear : List X) (index seat k m : ℕ) → index ≤ length front + length rear → seat ≡ length front → m ≡ min index seat → k ≡ length rear - (index - seat)
+    → drop m front ++ reverse (take k rear) ≡ drop index (front ++ reverse rear)
+walked front rear index seat k m within seat_is m_is k_is =
+    ⊎_elim
+    (λ less.
+    let all : k ≡ length rear = omega (arith, less, k_is) in
+    let at : m ≡ index = omega (arith, less, m_is) in
+    (λ i. drop (at i) front ++ reverse ((ap (λ n. take n rear) all ∙ take_all (length rear) rear (omega arith)) i)) ∙ sym (drop_front front (reverse rear) index (omega (arith, less, seat_is))))
+    (λ more.
+    let at : m ≡ length front = omega (arith, more, m_is, seat_is) in
+    let same : k ≡ length rear - (index - length front) = omega (arith, k_is, seat_is) in
+    let back : length rear - (length rear - (index - length front)) ≡ index - length front = omega (arith, within, more, seat_is) in
+    let whole : index ≡ length front + (index - length front) = omega (arith, more, seat_is) in
+    let empty : drop m front ≡ [] = drop_all m front (omega (arith, at)) in
+    let rest : reverse (take k rear) ≡ drop (index - length front) (reverse rear) = ap (λ n. reverse (take n rear)) same ∙ reverse-take rear (length rear - (index - length front)) (omega arith) ∙ ap (λ n. drop n (reverse rear)) back in
+    (λ i. empty i ++ rest i) ∙ sym (ap (λ n. drop n (front ++ reverse rear)) whole ∙ drop_part front (reverse rear) (index - length front)))
+    (cases_lt index seat)
+
+-- an entry of the first of two lists
+pub set_front : {X : Type 0} → (xs ys : List X) (i : ℕ) (x : X) → i < length xs → slice_set (xs ++ ys) i x ≡ slice_set xs i x ++ ys
+set_front [] ys i x lt = absurd (omega arith)
+set_front (y ∷ xs) ys zero x lt = refl
+set_front (y ∷ xs) ys (suc i) x lt = ap (λ l. y ∷ l) (set_front xs ys i x (omega arith))
 
 -- in one list: the kept entries go before the removed ones, which are cut off, and then behind the new ones
 pub replaced : {X : Type 0} → (list turned kept whole last new : List X) (at remove moved : ℕ) → at + remove ≤ length list → moved ≡ length list - (at + remove)

@@ -1,5 +1,6 @@
 pub mod Counts
 pub mod Edits
+pub mod Lengths
 pub mod Memory
 pub mod Seqs
 pub mod Streams

@@ -1,4 +1,4 @@
-ghost use Rattle.std.specs.Prelude.{◌≡◌, ◌↔◌, ◌+◌, ◌<◌, ◌≤◌, ◌^◌, [], OnOk, OnErr, length, slice_get, option_copied};
+ghost use Rattle.std.specs.Prelude.{◌≡◌, ◌↔◌, ◌+◌, ◌<◌, ◌≤◌, ◌^◌, [], Some, OnOk, OnErr, length, drop, slice_get, slice_set, option_copied};
 ghost use Rattle.std.specs.List.{splice};
 ghost use Rattle.x_text.specs.Seqs.{distance};
 
@@ -6,6 +6,7 @@ use crate::shift::{append_in_room, seek};
 use crate::{GapIter, NoMemory, Seq};
 use std::alloc::Global;
 use std::marker::Model;
+use std::mem;
 
 /// A [`Seq`] as two stacks that meet at a seat: a change near the last one moves few entries.
 ///
@@ -58,6 +59,37 @@ impl<T> GapSeq<T> {
         ensures small { length result < 2 ^ 64 }
     {
         GapIter::new(&self.front, &self.rear)
+    }
+
+    /// Goes over the entries from that at `index` on.
+    pub fn iter_from(&self, index: usize) -> GapIter<'_, T>
+        requires { index ≤ length self.now.list }
+        ensures list { result ≡ drop index self.now.list }
+        ensures small { length result < 2 ^ 64 }
+    {
+        let seat = self.front.len();
+        let front = &self.front[index.min(seat)..];
+        let rear = &self.rear[..self.rear.len() - index.saturating_sub(seat)];
+        GapIter::new(front, rear)
+    }
+}
+
+impl<T: Drop> GapSeq<T> {
+    /// Puts an entry in the place of the one at `at`, and gives that one back, with how many others moved. It takes no memory.
+    pub fn exchange(&mut self, at: usize, new: T) -> (T, u64)
+        requires { at < length self.old.list }
+        ensures out { slice_get self.old.list at ≡ Some result.0 }
+        ensures list { self.new.list ≡ slice_set self.old.list at new }
+        ensures seat { self.new.seat ≡ at + 1 }
+        ensures moved { result.1 ≡ distance self.old.seat at (at + 1) }
+        ensures room { self.old.spare ≤ self.new.spare }
+    {
+        let seat = self.front.len();
+        let moved = seek(&mut self.front, &mut self.rear, at + 1);
+        // The entry that goes is none of those that are kept.
+        let kept = if seat <= at { moved - 1 } else { moved };
+        let out = mem::replace(&mut self.front[at], new);
+        (out, kept as u64)
     }
 }
 
