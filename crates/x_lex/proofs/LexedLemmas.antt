@@ -4,13 +4,10 @@ use Rattle.std.specs.Prelude.{◌==◌}
 use Rattle.std.proofs.lemmas.List.{length_push}
 use Rattle.x_text.specs.Counts.{Counts, raised}
 use Rattle.x_lex.specs.declared.kind.Kind.{Kind}
-use Rattle.x_lex.specs.declared.entry.Entry.{Entry}
 use Rattle.x_lex.specs.Word.{IsToken}
 use Rattle.x_lex.specs.Tiling.{AreTokens, span}
-use Rattle.x_lex.specs.Entries.{pair_of}
 use Rattle.x_lex.proofs.TilingLemmas.{Leads, leads_none, leads_more, leads_all}
 use Rattle.x_lex.proofs.SpanLemmas.{span-append}
-use Rattle.x_lex.proofs.EntryLemmas.{pairs_pushed}
 
 -- n tokens were counted, and nothing else
 pub record Counted (old now : Counts) (n : ℕ) : Type 0 where
@@ -29,29 +26,29 @@ counted_more old now then n more h one counted =
     }
 
 -- the entries are those of the first tokens, up to `at`, and each of them was counted
-pub record Lexed (text : List ℕ) (old now : Counts) (entries : List Entry) (start : Bool) (at : ℕ) : Type 0 where
-  pub leads : Leads text (map pair_of entries) start at
-  pub spans : span (map pair_of entries) ≡ at
+pub record Lexed (text : List ℕ) (old now : Counts) (entries : List (Kind × ℕ)) (start : Bool) (at : ℕ) : Type 0 where
+  pub leads : Leads text entries start at
+  pub spans : span entries ≡ at
   pub few : length entries ≤ at
   pub counted : Counted old now (length entries)
 
-pub lexed_none : (text : List ℕ) (old : Counts) (entries : List Entry) → entries ≡ [] → old.lexed ≡ raised old.lexed 0 → Lexed text old old entries true 0
+pub lexed_none : (text : List ℕ) (old : Counts) (entries : List (Kind × ℕ)) → entries ≡ [] → old.lexed ≡ raised old.lexed 0 → Lexed text old old entries true 0
 lexed_none text old entries e r = subst (λ es. Lexed text old old es true 0) (sym e) (record { leads = leads_none text; spans = refl; few = omega arith; counted = counted_none old 0 refl r })
 
-pub lexed_more : (text : List ℕ) (old now then : Counts) (entries more : List Entry) (entry : Entry) (start : Bool) (at end : ℕ) (kind : Kind) →
+pub lexed_more : (text : List ℕ) (old now then : Counts) (entries more : List (Kind × ℕ)) (entry : Kind × ℕ) (start : Bool) (at end : ℕ) (kind : Kind) →
     Lexed text old now entries start at → at < end → end ≤ length text → IsToken kind start (drop at text) (end - at) →
-    pair_of entry ≡ (kind, end - at) → more ≡ entries ++ entry ∷ [] → then ≡ record now { lexed = raised now.lexed 1 } →
+    entry ≡ (kind, end - at) → more ≡ entries ++ entry ∷ [] → then ≡ record now { lexed = raised now.lexed 1 } →
     Lexed text old then more (get_or text (end - 1) 0 == 10) end
 lexed_more text old now then entries more entry start at end kind h lt fit token is pushed counted =
-    let pairs = pairs_pushed entries more entry (kind, end - at) pushed is in
+    let pairs : more ≡ entries ++ (kind, end - at) ∷ [] = pushed ∙ ap (λ t. entries ++ t ∷ []) is in
     let len : length more ≡ length entries + 1 = ap length pushed ∙ length_push entries entry in
     record {
-      leads = subst (λ ts. Leads text ts (get_or text (end - 1) 0 == 10) end) (sym pairs) (leads_more text (map pair_of entries) start at end kind h.leads lt fit token);
-      spans = let e = ap span pairs ∙ span-append (map pair_of entries) ((kind, end - at) ∷ []) in let before = h.spans in omega (arith, e, before);
+      leads = subst (λ ts. Leads text ts (get_or text (end - 1) 0 == 10) end) (sym pairs) (leads_more text entries start at end kind h.leads lt fit token);
+      spans = let e = ap span pairs ∙ span-append entries ((kind, end - at) ∷ []) in let before = h.spans in omega (arith, e, before);
       few = let before = h.few in omega (arith, before, len);
       counted = counted_more old now then (length entries) (length more) h.counted len counted;
     }
 
 -- at the end of the text they are all
-pub lexed_all : (text : List ℕ) (old now : Counts) (entries : List Entry) (start : Bool) (at : ℕ) → Lexed text old now entries start at → length text ≤ at → AreTokens text (map pair_of entries)
-lexed_all text old now entries start at h le = leads_all text (map pair_of entries) start at h.leads le
+pub lexed_all : (text : List ℕ) (old now : Counts) (entries : List (Kind × ℕ)) (start : Bool) (at : ℕ) → Lexed text old now entries start at → length text ≤ at → AreTokens text entries
+lexed_all text old now entries start at h le = leads_all text entries start at h.leads le

@@ -6,7 +6,6 @@ pub mod TilingLemmas
 pub mod SpanLemmas
 pub mod PlaceLemmas
 pub mod LexedLemmas
-pub mod EntryLemmas
 pub mod LocalLemmas
 pub mod EndLemmas
 pub mod MeetingLemmas

@@ -1,12 +1,10 @@
 -- How many bytes tokens have together, and where each of them stands.
 use Rattle.std.proofs.Common.{◌≡◌, ℕ, zero, suc, ◌+◌, ◌≤◌, ◌<◌, Bool, true, List, [], ◌∷◌, ◌++◌, length, get_or, take, drop, map, None, Some, arith, refl, sym, ap, ◌∙◌, length-drop, add-one}
 use Rattle.std.specs.Prelude.{option_map, slice_get}
-use Rattle.std.proofs.lemmas.List.{take-map}
+use Rattle.std.proofs.lemmas.List.{take-append-drop}
 use Rattle.x_lex.specs.declared.kind.Kind.{Kind}
-use Rattle.x_lex.specs.declared.entry.Entry.{Entry}
 use Rattle.x_lex.specs.Tiling.{Tiles, AreTokens, starts_after, span, end_of}
 use Rattle.x_lex.specs.Places.{places_from, lexeme_at, lexemes_from}
-use Rattle.x_lex.specs.Entries.{pair_of}
 use Rattle.x_lex.proofs.TilingLemmas.{token_spans}
 
 pub span-append : (ts us : List (Kind × ℕ)) → span (ts ++ us) ≡ span ts + span us
@@ -27,45 +25,22 @@ pub length-lexemes_from : (text : List ℕ) (at : ℕ) (ts : List (Kind × ℕ))
 length-lexemes_from text at [] = refl
 length-lexemes_from text at (t ∷ ts) = ap suc (length-lexemes_from text (at + t.1) ts)
 
--- the first entries have no more bytes than all
-pub span_take_le : (xs : List Entry) (i : ℕ) → span (map pair_of (take i xs)) ≤ span (map pair_of xs)
-span_take_le xs zero = omega arith
-span_take_le [] (suc i) = omega arith
-span_take_le (x ∷ xs) (suc i) = let r = span_take_le xs i in omega (arith, r)
+-- the kind and place of a token, which stands behind `before` bytes
+abbrev pub place_of : ℕ → Kind × ℕ → Kind × ℕ × ℕ
+place_of before t = (t.0, before, before + t.1)
 
-span_take_suc : (xs : List Entry) (i : ℕ) (d : Entry) → i < length xs → span (map pair_of (take (suc i) xs)) ≡ span (map pair_of (take i xs)) + (get_or xs i d).length
-span_take_suc [] i d lt = absurd (omega arith)
-span_take_suc (x ∷ xs) zero d lt = omega arith
-span_take_suc (x ∷ xs) (suc i) d lt = let r = span_take_suc xs i d (omega arith) in omega (arith, r)
-
--- one more entry
-pub span_take_more : (xs : List Entry) (i : ℕ) (d : Entry) → i < length xs → span (map pair_of (take (i + 1) xs)) ≡ span (map pair_of (take i xs)) + (get_or xs i d).length
-span_take_more xs i d lt = rw add-one (span_take_suc xs i d lt)
-
--- the kind and place of an entry's token, which stands behind `before` bytes
-abbrev pub place_of : ℕ → Entry → Kind × ℕ × ℕ
-place_of before x = (x.kind, before, before + x.length)
-
-places_get_from : (at : ℕ) (xs : List Entry) (i : ℕ) → slice_get (places_from at (map pair_of xs)) i ≡ option_map (place_of (at + span (map pair_of (take i xs)))) (slice_get xs i)
+places_get_from : (at : ℕ) (ts : List (Kind × ℕ)) (i : ℕ) → slice_get (places_from at ts) i ≡ option_map (place_of (at + end_of ts i)) (slice_get ts i)
 places_get_from at [] i = refl
-places_get_from at (x ∷ xs) zero = let e : at ≡ at + 0 = omega arith in ap (λ n. Some (place_of n x)) e
-places_get_from at (x ∷ xs) (suc i) =
-    let e : at + x.length + span (map pair_of (take i xs)) ≡ at + (x.length + span (map pair_of (take i xs))) = omega arith in
-    places_get_from (at + x.length) xs i ∙ ap (λ n. option_map (place_of n) (slice_get xs i)) e
+places_get_from at (t ∷ ts) zero = let e : at ≡ at + 0 = omega arith in ap (λ n. Some (place_of n t)) e
+places_get_from at (t ∷ ts) (suc i) =
+    let e : at + t.1 + end_of ts i ≡ at + (t.1 + end_of ts i) = omega arith in
+    places_get_from (at + t.1) ts i ∙ ap (λ n. option_map (place_of n) (slice_get ts i)) e
 
--- the place of the token of an entry
-places_get : (xs : List Entry) (i : ℕ) → slice_get (places_from 0 (map pair_of xs)) i ≡ option_map (place_of (span (map pair_of (take i xs)))) (slice_get xs i)
-places_get xs i = let e : 0 + span (map pair_of (take i xs)) ≡ span (map pair_of (take i xs)) = omega arith in places_get_from 0 xs i ∙ ap (λ n. option_map (place_of n) (slice_get xs i)) e
-
--- the place of the token of an entry, as it is read
-pub place_found : (xs : List Entry) (ts : List (Kind × ℕ)) (i start : ℕ) (x : Entry) → map pair_of xs ≡ ts → slice_get xs i ≡ Some x → start ≡ end_of ts i →
-    slice_get (places_from 0 ts) i ≡ Some (x.kind, start, start + x.length)
-place_found xs ts i start x same found e =
-    let before : span (map pair_of (take i xs)) ≡ start = ap span (sym (take-map pair_of i xs)) ∙ ap (λ l. end_of l i) same ∙ sym e in
-    ap (λ l. slice_get (places_from 0 l) i) (sym same)
-    ∙ places_get xs i
-    ∙ ap (option_map (place_of (span (map pair_of (take i xs))))) found
-    ∙ ap (λ n. Some (place_of n x)) before
+-- the place of a token, as it is read
+pub place_found : (ts : List (Kind × ℕ)) (i start : ℕ) (t : Kind × ℕ) → slice_get ts i ≡ Some t → start ≡ end_of ts i → slice_get (places_from 0 ts) i ≡ Some (t.0, start, start + t.1)
+place_found ts i start t found e =
+    let before : 0 + end_of ts i ≡ start = omega (arith, e) in
+    places_get_from 0 ts i ∙ ap (option_map (place_of (0 + end_of ts i))) found ∙ ap (λ n. Some (place_of n t)) before
 
 -- no place past the end
 pub place_past : (ts : List (Kind × ℕ)) (at i : ℕ) → length ts ≤ i → slice_get (places_from at ts) i ≡ None
@@ -87,3 +62,18 @@ places_fit at (t ∷ ts) (suc i) p e = let r = places_fit (at + t.1) ts i p e in
 
 pub place_fits : (text : List ℕ) (ts : List (Kind × ℕ)) (i : ℕ) (p : Kind × ℕ × ℕ) → AreTokens text ts → slice_get (places_from 0 ts) i ≡ Some p → (p.1 ≤ p.2) × (p.2 ≤ length text)
 place_fits text ts i p h e = let r = places_fit 0 ts i p e in let s = span_tiles true text ts h in (r.0, (let b = r.1 in omega (arith, b, s)))
+
+-- the tokens from an index on stand behind those before it
+lexemes_drop : (text : List ℕ) (at : ℕ) (ts : List (Kind × ℕ)) (i : ℕ) → drop i (lexemes_from text at ts) ≡ lexemes_from text (at + end_of ts i) (drop i ts)
+lexemes_drop text at ts zero = let e : at ≡ at + 0 = omega arith in ap (λ n. lexemes_from text n ts) e
+lexemes_drop text at [] (suc i) = refl
+lexemes_drop text at (t ∷ ts) (suc i) =
+    let e : at + t.1 + end_of ts i ≡ at + (t.1 + end_of ts i) = omega arith in
+    lexemes_drop text (at + t.1) ts i ∙ ap (λ n. lexemes_from text n (drop i ts)) e
+
+pub lexemes_behind : (text : List ℕ) (ts : List (Kind × ℕ)) (i at : ℕ) → at ≡ end_of ts i → lexemes_from text at (drop i ts) ≡ drop i (lexemes_from text 0 ts)
+lexemes_behind text ts i at e = let z : at ≡ 0 + end_of ts i = omega (arith, e) in ap (λ n. lexemes_from text n (drop i ts)) z ∙ sym (lexemes_drop text 0 ts i)
+
+-- the bytes of the tokens before an index and of those from it on
+pub span-drop : (ts : List (Kind × ℕ)) (i : ℕ) → end_of ts i + span (drop i ts) ≡ span ts
+span-drop ts i = sym (span-append (take i ts) (drop i ts)) ∙ ap span (take-append-drop i ts)

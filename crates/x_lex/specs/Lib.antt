@@ -4,6 +4,5 @@ pub mod Word
 pub mod Scan
 pub mod Tiling
 pub mod Places
-pub mod Entries
 pub mod TokenList
 pub mod Relex

@@ -2,8 +2,9 @@
 -- text and `us` of the one that the change leaves.
 use Rattle.std.specs.Prelude.{◌≡◌, ℕ, ◌+◌, ◌-◌, ◌<◌, ◌≤◌, ◌||◌, ◌⊎◌, nat_lt, nat_le, List, [], ◌∷◌, ◌++◌, length, take, drop, if◌then◌else◌}
 use Rattle.x_text.specs.Edits.{Change, edited_by}
+use Rattle.x_text.specs.Lengths.{IsCountBefore}
 use Rattle.x_lex.specs.declared.kind.Kind.{Kind}
-use Rattle.x_lex.specs.Tiling.{AreTokens, end_of}
+use Rattle.x_lex.specs.Tiling.{AreTokens, bytes_of, end_of}
 use Rattle.x_lex.specs.Places.{is_line_start}
 use Rattle.x_lex.specs.TokenList.{TokenPatch, patched, LiesAmong}
 
@@ -48,10 +49,8 @@ abbrev pub kept : ℕ → ℕ → List (Kind × ℕ) → List (Kind × ℕ)
 kept a q ts = kept_from a q 0 ts
 
 -- x is how many of the tokens end before a
-pub record IsFront (ts : List (Kind × ℕ)) (a x : ℕ) : Type 0 where
-  pub within : x ≤ length ts
-  pub before : 0 < x → end_of ts x < a
-  pub next : x < length ts → a ≤ end_of ts (x + 1)
+abbrev pub IsFront : List (Kind × ℕ) → ℕ → ℕ → Type 0
+IsFront ts a x = IsCountBefore bytes_of ts (length ts) a x
 
 -- the patch puts the fresh tokens, and no others, in place of the old ones that are not kept, and leaves the tokens of the new text
 pub record IsPatch (change : Change) (ts : List (Kind × ℕ)) (patch : TokenPatch) : Type 0 where

@@ -1,5 +1,6 @@
 -- The tokens of a text, each with its kind and length, one after another.
-use Rattle.std.specs.Prelude.{◌≡◌, ℕ, ◌+◌, ◌-◌, ◌==◌, Bool, true, List, [], ◌∷◌, take, drop, slice_index}
+use Rattle.std.specs.Prelude.{◌≡◌, ℕ, ◌-◌, ◌==◌, Bool, true, List, [], ◌∷◌, drop, slice_index}
+use Rattle.x_text.specs.Lengths.{total_length, length_before}
 use Rattle.x_lex.specs.declared.kind.Kind.{Kind}
 use Rattle.x_lex.specs.Word.{IsToken}
 
@@ -16,11 +17,14 @@ Tiles start rest (t ∷ ts) = IsToken t.0 start rest t.1 × Tiles (starts_after 
 abbrev pub AreTokens : List ℕ → List (Kind × ℕ) → Type 0
 AreTokens text ts = Tiles true text ts
 
+-- how many bytes a token has
+abbrev pub bytes_of : Kind × ℕ → ℕ
+bytes_of token = token.1
+
 -- how many bytes the tokens have together
 abbrev pub span : List (Kind × ℕ) → ℕ
-span [] = 0
-span (t ∷ ts) = t.1 + span ts
+span ts = total_length bytes_of ts
 
 -- the place behind the first i tokens
 abbrev pub end_of : List (Kind × ℕ) → ℕ → ℕ
-end_of ts i = span (take i ts)
+end_of ts i = length_before bytes_of ts i

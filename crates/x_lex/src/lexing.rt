@@ -7,7 +7,7 @@ use crate::entry::Entry;
 use crate::scan::lex_one;
 use crate::tokens::Tokens;
 use std::alloc::Global;
-use x_text::{GapSeq, Meter, NoMemory, Source};
+use x_text::{Meter, NoMemory, Source};
 
 /// The tokens of the text, each of which is counted, with the seat behind the last of them. [`NoMemory`] where memory ran out;
 /// an empty text needs none.
@@ -32,5 +32,5 @@ pub fn lex(alloc: Global, source: &Source, meter: &mut Meter) -> Result<Tokens, 
         line_start = bytes[end - 1] == b'\n';
         at = end;
     }
-    Tokens::from_entries(GapSeq::new(alloc), entries)
+    Tokens::from_entries(alloc, entries)
 }

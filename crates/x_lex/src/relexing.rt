@@ -1,18 +1,18 @@
 //! What an edit does to the tokens of a text.
-ghost use Rattle.std.specs.Prelude.{◌≡◌, ℕ, ◌+◌, ◌<◌, ◌≤◌, [], length, IfOk, IsOk};
+ghost use Rattle.std.specs.Prelude.{◌≡◌, ◌-◌, ◌≤◌, [], length, IfOk, IsOk};
 ghost use Rattle.x_text.specs.declared.source.TheConstants.{MAX_TEXT};
 ghost use Rattle.x_text.specs.Counts.{raised};
 ghost use Rattle.x_text.specs.Edits.{change_of, edited_by, LiesWithin};
-ghost use Rattle.x_lex.specs.Tiling.{AreTokens, span, end_of};
+ghost use Rattle.x_lex.specs.Tiling.{AreTokens};
 ghost use Rattle.x_lex.specs.Places.{is_line_start};
 ghost use Rattle.x_lex.specs.TokenList.{patched, IsOfText};
-ghost use Rattle.x_lex.specs.Relex.{IsFront, IsPatch};
+ghost use Rattle.x_lex.specs.Relex.{IsPatch};
 
 use crate::entry::Entry;
 use crate::scan::lex_one;
 use crate::{Patch, Tokens};
 use std::alloc::Global;
-use x_text::{Edit, Meter, NoMemory, Source};
+use x_text::{Edit, Meter, NoMemory, SeqPatch, Source};
 
 /// What the edit, which makes `new` of the text `old`, does to the tokens of `old`: those that end before it stay, then come
 /// fresh ones, each of which is counted, up to the first place from which the old ones hold again.
@@ -60,7 +60,7 @@ fn relex_bytes(
 {
     // A read of the count shows that it fits its type.
     let _counted = meter.lexed();
-    let (kept, start) = front_before(tokens, old.len(), edit.start);
+    let (kept, start) = tokens.front_before(old.len(), edit.start);
     let shift = edit.start + edit.insert.len();
     let mut fresh = Vec::new(alloc);
     let mut at = start;
@@ -69,12 +69,12 @@ fn relex_bytes(
     let mut back_place = start;
     'lexing: loop {
         let target = edit.end + at.saturating_sub(shift);
-        let (index, end) = advance(tokens, back, back_place, target);
+        let (index, end) = tokens.advance(back, back_place, target);
         if shift <= at && end == target && is_line_start(old, target) == line_start {
-            return Ok(Patch::new(kept, index - kept, start, fresh));
+            return Ok(patch(kept, index, start, fresh));
         }
         if at == new.len() {
-            return Ok(Patch::new(kept, tokens.len() - kept, start, fresh));
+            return Ok(patch(kept, tokens.len(), start, fresh));
         }
         back = index;
         back_place = end;
@@ -85,78 +85,18 @@ fn relex_bytes(
     }
 }
 
+/// The patch that puts fresh tokens, the first of which starts at `start`, in the place of those from index `at` to before `end`.
+fn patch(at: usize, end: usize, start: usize, fresh: Vec<Entry>) -> Patch
+    requires { at ≤ end }
+    ensures { result ≡ record { at = at; removed = end - at; start = start; fresh = fresh.items } }
+{
+    Patch::new(SeqPatch::new(at, end - at, start, fresh))
+}
+
 /// Whether the place is 0 or stands behind a line feed.
 fn is_line_start(text: &[u8], at: usize) -> bool
     requires { at ≤ length text.now }
     ensures { result ≡ is_line_start text.now at }
 {
     at == 0 || text[at - 1] == b'\n'
-}
-
-/// How many of the tokens, which end at the place `end`, end before `limit`, and where the last of them ends.
-fn front_before(tokens: &Tokens, end: usize, limit: usize) -> (usize, usize)
-    requires { end ≡ span tokens.now.list }
-    ensures front { IsFront tokens.now.list limit result.0 }
-    ensures place { result.1 ≡ end_of tokens.now.list result.0 }
-{
-    let (index, place) = tokens.nearest(limit, end);
-    let (index, place) = go_back(tokens, index, place, limit);
-    go_forth(tokens, index, place, limit)
-}
-
-/// Goes back from the boundary behind `index` tokens, which is `place`, to the last that is before `limit`, or to the start.
-fn go_back(tokens: &Tokens, index: usize, place: usize, limit: usize) -> (usize, usize)
-    requires within { index ≤ length tokens.now.list }
-    requires place { place ≡ end_of tokens.now.list index }
-    ensures within { result.0 ≤ length tokens.now.list }
-    ensures place { result.1 ≡ end_of tokens.now.list result.0 }
-    ensures before { 0 < result.0 → result.1 < limit }
-{
-    let mut index = index;
-    let mut place = place;
-    while index > 0 && place >= limit {
-        index -= 1;
-        place -= tokens.length_at(index);
-    }
-    (index, place)
-}
-
-/// Goes on from the boundary behind `index` tokens, which is `place`, to the last that is before `limit`, if there is another.
-fn go_forth(tokens: &Tokens, index: usize, place: usize, limit: usize) -> (usize, usize)
-    requires within { index ≤ length tokens.now.list }
-    requires place { place ≡ end_of tokens.now.list index }
-    requires before { 0 < index → place < limit }
-    ensures front { IsFront tokens.now.list limit result.0 }
-    ensures place { result.1 ≡ end_of tokens.now.list result.0 }
-{
-    let mut index = index;
-    let mut place = place;
-    while index < tokens.len() {
-        let next = place + tokens.length_at(index);
-        if next >= limit {
-            return (index, place);
-        }
-        index += 1;
-        place = next;
-    }
-    (index, place)
-}
-
-/// Goes on from the boundary behind `from` tokens, which is `place`, to the first that is `target` or behind it.
-fn advance(tokens: &Tokens, from: usize, place: usize, target: usize) -> (usize, usize)
-    requires within { from ≤ length tokens.now.list }
-    requires place { place ≡ end_of tokens.now.list from }
-    ensures forward { from ≤ result.0 }
-    ensures within { result.0 ≤ length tokens.now.list }
-    ensures place { result.1 ≡ end_of tokens.now.list result.0 }
-    ensures below { (j : ℕ) → from ≤ j → j < result.0 → end_of tokens.now.list j < target }
-    ensures reached { result.0 < length tokens.now.list → target ≤ result.1 }
-{
-    let mut index = from;
-    let mut end = place;
-    while index < tokens.len() && end < target {
-        end += tokens.length_at(index);
-        index += 1;
-    }
-    (index, end)
 }

@@ -1,61 +1,48 @@
 //! The tokens of a text as one value.
-ghost use Rattle.std.specs.Prelude.{◌≡◌, ◌+◌, ◌<◌, ◌≤◌, ◌↔◌, [], IsTrue, IfOk, IsOk, OnOk, OnErr, length, map, option_map, slice_get};
+ghost use Rattle.std.specs.Prelude.{◌≡◌, ◌+◌, ◌<◌, ◌≤◌, ◌↔◌, ℕ, [], IsTrue, IfOk, IsOk, OnOk, OnErr, length, drop, option_map, slice_get};
 ghost use Rattle.std.specs.Iterator.{YieldsFirstBy, item_count};
 ghost use Rattle.x_text.specs.declared.source.TheConstants.{MAX_TEXT};
 ghost use Rattle.x_text.specs.Seqs.{distance};
 ghost use Rattle.x_lex.specs.Tiling.{AreTokens, span, end_of};
 ghost use Rattle.x_lex.specs.TokenList.{patched, LiesAmong, HasRoom, IsOfText};
 ghost use Rattle.x_lex.specs.Places.{places, lexeme, lexeme_at, lexemes};
-ghost use Rattle.x_lex.specs.Entries.{pair_of};
+ghost use Rattle.x_lex.specs.Relex.{IsFront};
 
-use crate::entry::{Entry, span_of};
+use crate::entry::Entry;
 use crate::{Kind, Patch, Token};
+use std::alloc::Global;
 use std::marker::Model;
-use x_text::{GapIter, GapSeq, NoMemory, Seq, Source};
+use x_text::{GapIter, MeasuredSeq, NoMemory, Source};
 
 /// The tokens of a text, in order, each with its kind and length.
 ///
 /// They have a seat, the index behind those that were put in last: what is done near it takes few steps, however long the text is.
 #[derive(Debug, Drop)]
 pub struct Tokens {
-    entries: GapSeq<Entry>,
-    /// The place in the text of the entries' seat.
-    place: usize,
+    entries: MeasuredSeq<Entry>,
 }
 
 impl Model for Tokens {
-    ghost use Rattle.std.specs.Prelude.{map};
-    ghost use Rattle.x_lex.specs.TokenList.{TokenList};
-    ghost use Rattle.x_lex.specs.Entries.{pair_of, AreEntries};
+    ghost use Rattle.x_lex.specs.TokenList.{TokenList, IsOfText};
 
     ghost Value = { TokenList };
 
-    ghost view = { λ tokens. record { list = map pair_of tokens.entries.list; seat = tokens.entries.seat; spare = tokens.entries.spare } };
+    ghost view = { λ tokens. tokens.entries };
 
     // So that each number and place fits.
-    ghost invariant = { λ tokens. AreEntries tokens.entries tokens.place };
+    ghost invariant = { λ tokens. IsOfText tokens.entries.list };
 }
 
 impl Tokens {
-    /// The tokens with these entries, in a sequence that is empty.
-    pub(crate) fn from_entries(
-        empty: GapSeq<Entry>,
-        entries: Vec<Entry>,
-    ) -> Result<Tokens, NoMemory>
-        requires empty { empty.list ≡ [] }
-        requires of_text { IsOfText (map pair_of entries.items) }
-        ensures list { IfOk result (λ tokens. tokens.list ≡ map pair_of entries.items) }
+    /// The tokens with these entries.
+    pub(crate) fn from_entries(alloc: Global, entries: Vec<Entry>) -> Result<Tokens, NoMemory>
+        requires of_text { IsOfText entries.items }
+        ensures list { IfOk result (λ tokens. tokens.list ≡ entries.items) }
         ensures seat { IfOk result (λ tokens. tokens.seat ≡ length entries.items) }
         ensures no_memory { entries.items ≡ [] → IsOk result }
     {
-        let place = span_of(&entries);
-        let mut seq = empty;
-        seq.reserve(entries.len())?;
-        let _moved = seq.splice(0, 0, entries);
-        Ok(Tokens {
-            entries: seq,
-            place,
-        })
+        let entries = MeasuredSeq::from_entries(alloc, entries)?;
+        Ok(Tokens { entries })
     }
 
     /// How many tokens there are.
@@ -79,9 +66,9 @@ impl Tokens {
     pub fn get(&self, index: usize) -> Option<(Kind, usize, usize)>
         ensures { result ≡ slice_get (places self.now.list) index }
     {
-        let entry = self.entries.get(index)?;
-        let start = self.place_behind(index);
-        Some((entry.kind, start, start + entry.length as usize))
+        let (kind, length) = self.kind_and_length(index)?;
+        let start = self.entries.start_of(index);
+        Some((kind, start, start + length))
     }
 
     /// The kind of the token at `index`, and how many bytes it has. Unlike [`Tokens::get`] it looks at no other token.
@@ -89,7 +76,7 @@ impl Tokens {
         ensures { result ≡ slice_get self.now.list index }
     {
         let entry = self.entries.get(index)?;
-        Some((entry.kind, entry.length as usize))
+        Some(entry.kind_and_length())
     }
 
     /// The token at `index` of the text that these are the tokens of.
@@ -116,6 +103,22 @@ impl Tokens {
         }
     }
 
+    /// Goes over the tokens of the text that these are the tokens of, from that at `index` on.
+    ///
+    /// Looks first at each token between it and the seat or the first one.
+    pub fn iter_from<'a>(&'a self, index: usize, source: &'a Source) -> Walk<'a>
+        requires tokens { AreTokens source.now self.now.list }
+        requires within { index ≤ length self.now.list }
+        ensures tokens { result ≡ drop index (lexemes source.now self.now.list) }
+        ensures small { length result ≤ MAX_TEXT }
+    {
+        Walk {
+            entries: self.entries.iter_from(index),
+            text: source.bytes(),
+            at: self.entries.start_of(index),
+        }
+    }
+
     /// Makes room for the fresh tokens of the patch. After [`NoMemory`], too, all is as before but the room, which never shrinks.
     pub fn reserve(&mut self, patch: &Patch) -> Result<(), NoMemory>
         ensures list { self.new.list ≡ self.old.list }
@@ -137,86 +140,30 @@ impl Tokens {
         ensures moved { result ≡ distance self.old.seat patch.at (patch.at + patch.removed) }
         ensures room { self.old.spare + patch.removed ≤ self.new.spare + length patch.fresh }
     {
-        let at = patch.at();
-        let removed = patch.removed();
-        let fresh = patch.into_entries();
-        let place = self.place_behind(at) + span_of(&fresh);
-        let moved = self.entries.splice(at, removed, fresh);
-        self.place = place;
-        moved
+        self.entries.put(patch.into_entries())
     }
 
-    /// How many bytes the token at `index` has.
-    pub(crate) fn length_at(&self, index: usize) -> usize
-        requires { index < length self.now.list }
-        ensures next { end_of self.now.list (index + 1) ≡ end_of self.now.list index + result }
-        ensures fits { end_of self.now.list (index + 1) ≤ MAX_TEXT }
-    {
-        match self.entries.get(index) {
-            Some(entry) => entry.length as usize,
-            None => 0,
-        }
-    }
-
-    /// A count of tokens and the place behind so many: of the start, the seat and the end, which is at the place `end`, the nearest to `at`.
-    pub(crate) fn nearest(&self, at: usize, end: usize) -> (usize, usize)
+    /// How many of the tokens, which end at the place `end`, end before `limit`, and where the last of them ends.
+    pub(crate) fn front_before(&self, end: usize, limit: usize) -> (usize, usize)
         requires { end ≡ span self.now.list }
-        ensures within { result.0 ≤ length self.now.list }
+        ensures front { IsFront self.now.list limit result.0 }
         ensures place { result.1 ≡ end_of self.now.list result.0 }
     {
-        let from_start = at;
-        let from_seat = at.abs_diff(self.place);
-        let from_end = at.abs_diff(end);
-        if from_start <= from_seat && from_start <= from_end {
-            (0, 0)
-        } else if from_seat <= from_end {
-            (self.entries.seat(), self.place)
-        } else {
-            (self.entries.len(), end)
-        }
+        self.entries.count_before(self.entries.len(), limit, end)
     }
 
-    /// The place behind the first `count` tokens.
-    fn place_behind(&self, count: usize) -> usize
-        requires { count ≤ length self.now.list }
-        ensures { result ≡ end_of self.now.list count }
-    {
-        let seat = self.entries.seat();
-        if seat <= count {
-            self.forward(seat, self.place, count)
-        } else if count <= seat - count {
-            self.forward(0, 0, count)
-        } else {
-            self.backward(seat, self.place, count)
-        }
-    }
-
-    /// The place behind the first `to` tokens, where `place` is that behind the first `from`, which are fewer.
-    fn forward(&self, from: usize, place: usize, to: usize) -> usize
-        requires order { from ≤ to }
-        requires within { to ≤ length self.now.list }
-        requires place { place ≡ end_of self.now.list from }
-        ensures { result ≡ end_of self.now.list to }
-    {
-        let mut end = place;
-        for index in from..to {
-            end += self.length_at(index);
-        }
-        end
-    }
-
-    /// The place behind the first `to` tokens, where `place` is that behind the first `from`, which are more.
-    fn backward(&self, from: usize, place: usize, to: usize) -> usize
-        requires order { to ≤ from }
+    /// Goes on from the boundary behind `from` tokens, which is `place`, to the first that is `target` or behind it.
+    pub(crate) fn advance(&self, from: usize, place: usize, target: usize) -> (usize, usize)
         requires within { from ≤ length self.now.list }
         requires place { place ≡ end_of self.now.list from }
-        ensures { result ≡ end_of self.now.list to }
+        ensures forward { from ≤ result.0 }
+        ensures within { result.0 ≤ length self.now.list }
+        ensures place { result.1 ≡ end_of self.now.list result.0 }
+        ensures below { (j : ℕ) → from ≤ j → j < result.0 → end_of self.now.list j < target }
+        ensures reached { result.0 < length self.now.list → target ≤ result.1 }
     {
-        let mut taken = 0;
-        for index in to..from {
-            taken += self.length_at(index);
-        }
-        place - taken
+        self.entries
+            .advance(from, place, self.entries.len(), target)
     }
 }
 
@@ -244,16 +191,15 @@ pub struct Walk<'a> {
 }
 
 impl<'a> Model for Walk<'a> {
-    ghost use Rattle.std.specs.Prelude.{◌+◌, ◌≤◌, List, length, map};
+    ghost use Rattle.std.specs.Prelude.{◌+◌, ◌≤◌, List, length};
     ghost use Rattle.x_lex.specs.Tiling.{span};
     ghost use Rattle.x_lex.specs.Places.{Lexeme, lexemes_from};
-    ghost use Rattle.x_lex.specs.Entries.{pair_of};
 
     ghost Value = { List Lexeme };
 
-    ghost view = { λ walk. lexemes_from walk.text.now walk.at (map pair_of walk.entries) };
+    ghost view = { λ walk. lexemes_from walk.text.now walk.at walk.entries };
 
-    ghost invariant = { λ walk. walk.at + span (map pair_of walk.entries) ≤ length walk.text.now };
+    ghost invariant = { λ walk. walk.at + span walk.entries ≤ length walk.text.now };
 }
 
 impl<'a> Iterator for Walk<'a> {
@@ -264,12 +210,12 @@ impl<'a> Iterator for Walk<'a> {
     ghost remaining = { item_count (λ left. left) };
 
     fn next(&mut self) -> Option<Token<'a>> {
-        let entry = self.entries.next()?;
+        let (kind, length) = self.entries.next()?.kind_and_length();
         let start = self.at;
-        let end = start + entry.length as usize;
+        let end = start + length;
         self.at = end;
         Some(Token {
-            kind: entry.kind,
+            kind,
             start,
             end,
             text: &self.text[start..end],

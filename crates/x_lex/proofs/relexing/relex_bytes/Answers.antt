@@ -1,14 +1,12 @@
-use Rattle.std.proofs.Common.{◌≡◌, ℕ, ◌+◌, ◌-◌, ◌<◌, true, length, map, arith, sym, ap, subst, ◌∙◌, ⊎_elim}
+use Rattle.std.proofs.Common.{◌≡◌, ℕ, ◌+◌, ◌-◌, ◌<◌, true, [], ◌∷◌, ◌++◌, length, arith, sym, ap, subst, ◌∙◌, ⊎_elim}
 use Rattle.std.proofs.lemmas.Bool.{cases_lt}
 use Rattle.std.proofs.lemmas.List.{length_push}
 use Rattle.x_text.specs.Edits.{change_of}
 use Rattle.x_lex.specs.Tiling.{end_of}
 use Rattle.x_lex.specs.Places.{is_line_start}
 use Rattle.x_lex.specs.Relex.{old_place}
-use Rattle.x_lex.specs.Entries.{pair_of}
 use Rattle.x_lex.proofs.SpanLemmas.{span_tiles}
 use Rattle.x_lex.proofs.EndLemmas.{end_mono}
-use Rattle.x_lex.proofs.EntryLemmas.{pairs_pushed}
 use Rattle.x_lex.proofs.LexedLemmas.{counted_none, counted_more}
 use Rattle.x_lex.proofs.RelexLemmas.{boundary_reached}
 use Rattle.x_lex.proofs.RelexRun.{IsEdit, Relexing}
@@ -44,7 +42,7 @@ lexing-init c = record {
       let e = c.lexed-counted.ensures in
       counted_none c.args.meter.now (length c.new-fresh.result.items) (ap length c.new-fresh.ensures.items) (omega (arith, f, e));
   relexing = relexing_start (change_of c.args.old.now c.args.edit.now) c.args.new.now (is_edit c) c.args.tokens.now.list c.requires.tokens c.front_before-kept.result.0 c.front_before-kept.ensures.front
-      (map pair_of c.new-fresh.result.items) c.is_line_start-line_start.result c.front_before-kept.result.1 (ap (map pair_of) c.new-fresh.ensures.items) c.is_line_start-line_start.ensures c.front_before-kept.ensures.place;
+      c.new-fresh.result.items c.is_line_start-line_start.result c.front_before-kept.result.1 c.new-fresh.ensures.items c.is_line_start-line_start.ensures c.front_before-kept.ensures.place;
   forward = omega arith;
   within = c.front_before-kept.ensures.front.within;
   place_is = c.front_before-kept.ensures.place;
@@ -58,16 +56,16 @@ lexing-init c = record {
 pub front_before-kept-requires : goal.front_before-kept-requires
 front_before-kept-requires c = sym (span_tiles true c.args.old.now c.args.tokens.now.list c.requires.tokens)
 
-pub new-requires-in-lexing : goal.new-requires-in-lexing
-new-requires-in-lexing c = let w = c.lex_one-kind.ensures.within in let s = c.requires.small in omega (arith, w, s)
+pub new-requires : goal.new-requires
+new-requires c = let w = c.lex_one-kind.ensures.within in let s = c.requires.small in omega (arith, w, s)
 
 pub returns-then-is_line_start-line_start-clause-patch : goal.returns-then-is_line_start-line_start-clause-patch
 returns-then-is_line_start-line_start-clause-patch c =
     let after = (goal.at.returns-then-is_line_start-line_start-clause-patch c).After-advance-index in
     patch_is (change_of c.args.old.now c.args.edit.now) c.args.tokens.now.list c.front_before-kept.result.0 (c.advance-index.result.0 - c.front_before-kept.result.0) c.front_before-kept.result.1
-    (map pair_of c.lexing.fresh.items) c.new.result c.new.ensures c.front_before-kept.ensures.place
+    c.lexing.fresh.items c.patch.result c.patch.ensures c.front_before-kept.ensures.place
     (patch_agreed (change_of c.args.old.now c.args.edit.now) c.args.new.now (is_edit_at after) c.args.tokens.now.list c.requires.tokens c.front_before-kept.result.0 c.front_before-kept.ensures.front
-    (map pair_of c.lexing.fresh.items) c.lexing.line_start c.lexing.at c.lexing.invariant.relexing c.advance-index.result.0 (omega arith) c.advance-index.ensures.within
+    c.lexing.fresh.items c.lexing.line_start c.lexing.at c.lexing.invariant.relexing c.advance-index.result.0 (omega arith) c.advance-index.ensures.within
     c.if-shift-at.true
     (sym c.advance-index.ensures.place ∙ c.if-end-target.true ∙ target_is after)
     (ap (λ p. is_line_start c.args.old.now p) (sym (target_is after)) ∙ sym c.is_line_start.ensures ∙ same_from_beq c.is_line_start.result c.lexing.line_start c.if-is_line_start-line_start.true)
@@ -77,12 +75,12 @@ pub returns-then-at-new-clause-patch : goal.returns-then-at-new-clause-patch
 returns-then-at-new-clause-patch c =
     let after = (goal.at.returns-then-at-new-clause-patch c).After-advance-index in
     patch_is (change_of c.args.old.now c.args.edit.now) c.args.tokens.now.list c.front_before-kept.result.0 (length c.args.tokens.now.list - c.front_before-kept.result.0) c.front_before-kept.result.1
-    (map pair_of c.lexing.fresh.items) c.new-then-at-new.result
-    (c.new-then-at-new.ensures ∙ λ i. record { at = c.front_before-kept.result.0; removed = c.len.ensures.count i - c.front_before-kept.result.0; start = c.front_before-kept.result.1; fresh = map pair_of c.lexing.fresh.items })
+    c.lexing.fresh.items c.patch-then-at-new.result
+    (c.patch-then-at-new.ensures ∙ λ i. record { at = c.front_before-kept.result.0; removed = c.len.ensures.count i - c.front_before-kept.result.0; start = c.front_before-kept.result.1; fresh = c.lexing.fresh.items })
     c.front_before-kept.ensures.place
     (patch_ended (change_of c.args.old.now c.args.edit.now) c.args.new.now (is_edit_at after) c.args.tokens.now.list c.requires.tokens c.front_before-kept.result.0 c.front_before-kept.ensures.front
-    (map pair_of c.lexing.fresh.items) c.lexing.line_start
-    (subst (λ p. Relexing (change_of c.args.old.now c.args.edit.now) c.args.new.now c.args.tokens.now.list c.front_before-kept.result.0 (map pair_of c.lexing.fresh.items) c.lexing.line_start p) c.if-at-new.true c.lexing.invariant.relexing))
+    c.lexing.fresh.items c.lexing.line_start
+    (subst (λ p. Relexing (change_of c.args.old.now c.args.edit.now) c.args.new.now c.args.tokens.now.list c.front_before-kept.result.0 c.lexing.fresh.items c.lexing.line_start p) c.if-at-new.true c.lexing.invariant.relexing))
 
 pub lexing-preserved : goal.lexing-preserved
 lexing-preserved c =
@@ -90,10 +88,10 @@ lexing-preserved c =
     let t = target_is after in
     record {
       counted =
-          let one = ap length c.in_ok-push.ensures.items ∙ length_push c.lexing.fresh.items c.new-in-lexing.result in
+          let one = ap length c.in_ok-push.ensures.items ∙ length_push c.lexing.fresh.items c.new.result in
           counted_more c.args.meter.now c.lexing.meter c.lex_one-kind.new.meter (length c.lexing.fresh.items) (length c.push.new.self.items) c.lexing.invariant.counted one c.lex_one-kind.ensures.meter;
       relexing = relexing_pushed (change_of c.args.old.now c.args.edit.now) c.args.new.now (is_edit_at after) c.args.tokens.now.list c.requires.tokens c.front_before-kept.result.0 c.front_before-kept.ensures.front
-          (map pair_of c.lexing.fresh.items) (map pair_of c.push.new.self.items) c.lexing.line_start c.lexing.at c.lex_one-kind.result.1 c.lex_one-kind.result.0 c.lexing.invariant.relexing
+          c.lexing.fresh.items c.push.new.self.items c.lexing.line_start c.lexing.at c.lex_one-kind.result.1 c.lex_one-kind.result.0 c.lexing.invariant.relexing
           (λ m.
           elim c.else-shift-at.branch [
             | else-shift-at-via-then-shift-at+then-end-target+else-is_line_start-line_start w ↦
@@ -103,7 +101,7 @@ lexing-preserved c =
             | else-shift-at-via-else-shift-at w ↦ let b = m.behind in absurd (omega (arith, b))
           ])
           c.lex_one-kind.ensures.after c.lex_one-kind.ensures.within c.lex_one-kind.ensures.token
-          (pairs_pushed c.lexing.fresh.items c.push.new.self.items c.new-in-lexing.result (c.lex_one-kind.result.0, c.lex_one-kind.result.1 - c.lexing.at) c.in_ok-push.ensures.items c.new-in-lexing.ensures);
+          (c.in_ok-push.ensures.items ∙ ap (λ t. c.lexing.fresh.items ++ t ∷ []) c.new.ensures);
       forward = omega arith;
       within = c.advance-index.ensures.within;
       place_is = c.advance-index.ensures.place;

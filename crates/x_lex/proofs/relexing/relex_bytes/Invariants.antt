@@ -2,14 +2,13 @@ use Rattle.std.proofs.Common.{◌≡◌, ℕ, ◌-◌, ◌<◌, ◌≤◌, lengt
 use Rattle.x_text.specs.Edits.{change_of}
 use Rattle.x_lex.specs.Tiling.{end_of}
 use Rattle.x_lex.specs.Relex.{old_place}
-use Rattle.x_lex.specs.Entries.{pair_of}
 use Rattle.x_lex.proofs.LexedLemmas.{Counted}
 use Rattle.x_lex.proofs.RelexRun.{Relexing}
 use Rattle.x_lex.proofs.relexing.relex_bytes.Given as goal
 
 abbrev pub invariant-lexing : goal.invariant-lexing
 invariant-lexing l = record {
-  relexing : Relexing (change_of l.old l.edit) l.new l.tokens.list l.kept (map pair_of l.fresh.items) l.line_start l.at;
+  relexing : Relexing (change_of l.old l.edit) l.new l.tokens.list l.kept l.fresh.items l.line_start l.at;
   counted : Counted l.fn.meter l.meter (length l.fresh.items);
   forward : l.kept ≤ l.back;
   within : l.back ≤ length l.tokens.list;
