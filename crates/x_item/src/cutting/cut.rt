@@ -9,7 +9,7 @@ use super::cutter::Cutter;
 use super::{Entry, Items};
 use std::alloc::Global;
 use x_lex::Tokens;
-use x_text::{GapSeq, NoMemory, Source};
+use x_text::{NoMemory, Source};
 
 /// The items of the text, with which nothing is kept yet, and with the seat behind the last of them. [`NoMemory`] where memory ran out.
 pub fn cut<K: Default + Drop>(
@@ -33,5 +33,5 @@ pub fn cut<K: Default + Drop>(
         }
     }
     entries.push(Entry::new(count))?;
-    Items::from_entries(GapSeq::new(alloc), entries)
+    Items::from_entries(alloc, entries)
 }

@@ -4,14 +4,12 @@ ghost use Rattle.x_item.specs.ItemList.{counts, kept};
 
 use super::Entry;
 use std::marker::Model;
+use x_text::SeqPatch;
 
 /// Fresh items that take the place of some old ones, as [`crate::recut`] finds them.
 #[derive(Debug, Drop)]
 pub struct ItemPatch<K> {
-    at: usize,
-    removed: usize,
-    start: usize,
-    fresh: Vec<Entry<K>>,
+    entries: SeqPatch<Entry<K>>,
 }
 
 impl<K> Model for ItemPatch<K> {
@@ -19,12 +17,7 @@ impl<K> Model for ItemPatch<K> {
 
     ghost Value = { ItemChange K };
 
-    ghost view = { λ patch. record {
-      at = patch.at;
-      removed = patch.removed;
-      start = patch.start;
-      fresh = patch.fresh.items;
-    } };
+    ghost view = { λ patch. patch.entries };
 }
 
 impl<K> ItemPatch<K> {
@@ -33,10 +26,7 @@ impl<K> ItemPatch<K> {
         ensures { result ≡ record { at = at; removed = removed; start = start; fresh = fresh.items } }
     {
         ItemPatch {
-            at,
-            removed,
-            start,
-            fresh,
+            entries: SeqPatch::new(at, removed, start, fresh),
         }
     }
 
@@ -44,42 +34,42 @@ impl<K> ItemPatch<K> {
     pub fn at(&self) -> usize
         ensures { result ≡ self.now.at }
     {
-        self.at
+        self.entries.at()
     }
 
     /// How many old items go.
     pub fn removed(&self) -> usize
         ensures { result ≡ self.now.removed }
     {
-        self.removed
+        self.entries.removed()
     }
 
     /// The index of the first token of the first fresh item, each of the others starting where the one before it ends.
     pub fn start(&self) -> usize
         ensures { result ≡ self.now.start }
     {
-        self.start
+        self.entries.start()
     }
 
     /// How many fresh items there are.
     pub fn len(&self) -> usize
         ensures { result ≡ length self.now.fresh }
     {
-        self.fresh.len()
+        self.entries.len()
     }
 
     /// Whether there is no fresh item.
     pub fn is_empty(&self) -> bool
         ensures { IsTrue result ↔ (self.now.fresh ≡ []) }
     {
-        self.fresh.is_empty()
+        self.entries.is_empty()
     }
 
     /// The fresh item at `index`, counted from the first of them.
     pub fn get(&self, index: usize) -> Option<&Entry<K>>
         ensures { option_copied result ≡ slice_get self.now.fresh index }
     {
-        self.fresh.get(index)
+        self.entries.get(index)
     }
 
     /// Keeps this with the fresh item at `index`, counted from the first of them, in place of what was kept with it.
@@ -91,13 +81,14 @@ impl<K> ItemPatch<K> {
         ensures kept { kept self.new.fresh ≡ slice_set (kept self.old.fresh) index new }
         ensures others { self.new ≡ record self.old { fresh = self.new.fresh } }
     {
-        self.fresh[index].kept = new;
+        let entry = Entry::in_place_of(self.entries.get(index), new);
+        self.entries.replace(index, entry);
     }
 
-    /// The entries of the fresh items.
-    pub(crate) fn into_entries(self) -> Vec<Entry<K>>
-        ensures { result.items ≡ self.fresh }
+    /// The entries of the fresh items, and what they take the place of.
+    pub(crate) fn into_entries(self) -> SeqPatch<Entry<K>>
+        ensures { result ≡ self }
     {
-        self.fresh
+        self.entries
     }
 }

@@ -1,4 +1,4 @@
-use Rattle.std.proofs.Common.{◌≡◌, ℕ, ◌-◌, ◌<◌, ◌≤◌, length, map}
+use Rattle.std.proofs.Common.{◌≡◌, ℕ, ◌-◌, ◌<◌, ◌≤◌, length}
 use Rattle.x_text.specs.Edits.{change_of}
 use Rattle.x_lex.specs.Tiling.{end_of}
 use Rattle.x_lex.specs.Relex.{old_place}

@@ -22,12 +22,14 @@ loop-token-preserved-then-ends g c =
           (All-push (λ (item : Entry g.row.K.Denot). g.K.Default.is_default item.kept) c.loop-token.entries.items c.new.result c.loop-token.invariant.blank c.new.ensures.blank);
     }
 
-pub from_entries-requires-clause-of_text : goal.from_entries-requires-clause-of_text
-from_entries-requires-clause-of_text g c =
+pub from_entries-requires : goal.from_entries-requires
+from_entries-requires g c =
     let all = lexemes c.args.source.now c.args.tokens.now.list in
-    cutting_fits all c.loop-token.token-iterator (counts c.loop-token.entries.items) (counts c.push-2.new.self.items) c.loop-token.cutter c.loop-token.count c.in-None.ensures.steps.0
-    (counts_pushed c.loop-token.entries.items c.push-2.new.self.items c.new-2.result c.loop-token.count c.in_ok-push-2.ensures.items c.new-2.ensures.tokens)
-    c.loop-token.invariant.cutting c.loop-token.invariant.small
+    record {
+      of_text = cutting_fits all c.loop-token.token-iterator (counts c.loop-token.entries.items) (counts c.push-2.new.self.items) c.loop-token.cutter c.loop-token.count c.in-None.ensures.steps.0
+          (counts_pushed c.loop-token.entries.items c.push-2.new.self.items c.new-2.result c.loop-token.count c.in_ok-push-2.ensures.items c.new-2.ensures.tokens)
+          c.loop-token.invariant.cutting c.loop-token.invariant.small;
+    }
 
 pub returns-clause-cut : goal.returns-clause-cut
 returns-clause-cut g c =

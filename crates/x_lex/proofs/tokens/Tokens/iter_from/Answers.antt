@@ -1,6 +1,6 @@
-use Rattle.std.proofs.Common.{◌≡◌, ◌≤◌, true, List, ap, arith, drop, length, length-drop, ◌∙◌}
+use Rattle.std.proofs.Common.{true, ap, arith, drop, length, length-drop, ◌∙◌}
 use Rattle.x_lex.specs.Tiling.{span, end_of}
-use Rattle.x_lex.specs.Places.{lexemes_from, lexemes}
+use Rattle.x_lex.specs.Places.{lexemes_from}
 use Rattle.x_lex.proofs.SpanLemmas.{span_tiles, span-drop, lexemes_behind, length-lexemes_from}
 use Rattle.x_lex.proofs.tokens.Tokens.iter_from.Goals as goal
 
