@@ -1,7 +1,9 @@
 //! `rpcgen`: writes the header of a `.x` file.
 #![tactic(auto)]
 
-use rpcx::{GenArgs, Which, complain, gen_args, gen_mode, gen_open, gen_write, tell_of_file};
+use rpcx::{
+    GenArgs, GeneratedText, complain, gen_args, gen_mode, gen_open, gen_write, tell_of_file,
+};
 use std::io::{ErrorKind, Read};
 use std::process::ExitCode;
 use std::{env, fs, io};
@@ -20,7 +22,7 @@ fn read(rt: &HostRuntime, file: &str) -> io::Result<Vec<u8>> {
 }
 
 /// Generates a text of the file, and answers the status.
-fn generate<E: Sink>(rt: &HostRuntime, args: &GenArgs, which: Which, err: &mut E) -> u8 {
+fn generate<E: Sink>(rt: &HostRuntime, args: &GenArgs, which: GeneratedText, err: &mut E) -> u8 {
     let bytes = match read(rt, args.file) {
         Ok(bytes) => bytes,
         Err(error) if error.kind() == ErrorKind::OutOfMemory => {

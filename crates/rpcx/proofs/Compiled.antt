@@ -10,14 +10,14 @@ use Rattle.x_item.specs.Parse.{Parse, IsParse}
 use Rattle.x_item.specs.Items.{AreItems, joined, IsCut}
 use Rattle.x_item.proofs.ParseLaws.{one_parse}
 use Rattle.x_item.proofs.CuttingLemmas.{same_cut}
-use Rattle.rpcx.specs.Cut.{AreEach, AreParsed}
+use Rattle.rpcx.specs.ItemView.{AreEach, AreParsed}
 use Rattle.rpcx.proofs.ItemLemmas.{take_part, drop_part}
-use Rattle.rpcx.specs.Names.{first_declarer}
-use Rattle.rpcx.specs.Kept.{view_item, view_parse, kept_definition}
+use Rattle.rpcx.specs.Declarers.{first_declarer}
+use Rattle.rpcx.specs.ItemView.{view_item, view_parse, kept_definition}
 use Rattle.rpcx.specs.Compile.{Item, parts, definitions_of, definition_at, first_of, faults_from, faults_of, tokens_of, IsCompilation, AreParses}
 use Rattle.rpcx.specs.Header.{body_from, body_of}
-use Rattle.rpcx.specs.declared.item.Item as rust
-use Rattle.rpcx.specs.declared.names.Declarer.{Declarer}
+use Rattle.rpcx.specs.declared.compile.item.Item as rust
+use Rattle.rpcx.specs.declared.compile.names.Declarer.{Declarer}
 
 pub length-lexemes : (text : List ℕ) (at : ℕ) (ts : List (Kind × ℕ)) → length (lexemes_from text at ts) ≡ length ts
 length-lexemes text at [] = refl

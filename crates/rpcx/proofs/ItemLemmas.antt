@@ -7,8 +7,8 @@ use Rattle.x_lex.specs.Places.{Lexeme}
 use Rattle.x_item.specs.Parse.{Fault, IsParse}
 use Rattle.x_item.specs.Items.{AreItems, joined, IsCut}
 use Rattle.x_item.specs.declared.fault.FaultCode.{FaultCode}
-use Rattle.rpcx.specs.Cut.{IsItem, AreEach, AreParsed}
-use Rattle.rpcx.specs.declared.item.Item.{Item}
+use Rattle.rpcx.specs.ItemView.{IsItem, AreEach, AreParsed}
+use Rattle.rpcx.specs.declared.compile.item.Item.{Item}
 
 -- these items are of the first parts of all tokens; parts with so many tokens are left, and the tokens of these
 pub record HasParsed (all left : List Lexeme) (counts : List ℕ) (items : List Item) : Type 0 where

@@ -5,11 +5,11 @@ use Rattle.std.proofs.lemmas.List.{take-append-drop, take-take}
 use Rattle.std.proofs.lemmas.List.Elements.{All-append, All-take, All-nil}
 use Rattle.std.proofs.lemmas.Result.{MatchResult-from_err, MatchResult-weaker}
 use Rattle.std.proofs.KnownBytes.{Consumes-trans}
-use Rattle.rpcx.specs.declared.lines.LineFault.{LineFault}
-use Rattle.rpcx.specs.declared.lines.Found.{Found}
-use Rattle.rpcx.specs.declared.lines.Found.TheVariants.{Line, TooLong, End}
-use Rattle.rpcx.specs.declared.lines.State.{State}
-use Rattle.rpcx.specs.declared.lines.State.TheVariants.{Between, WithinLong, Ended}
+use Rattle.rpcx.specs.declared.script.lines.LineFault.{LineFault}
+use Rattle.rpcx.specs.declared.script.lines.Found.{Found}
+use Rattle.rpcx.specs.declared.script.lines.Found.TheVariants.{Line, TooLong, End}
+use Rattle.rpcx.specs.declared.script.lines.State.{State}
+use Rattle.rpcx.specs.declared.script.lines.State.TheVariants.{Between, WithinLong, Ended}
 use Rattle.rpcx.specs.Lines.{is_feed, AreFeeds, HasNoFeed, EndsAt, HasSearched, HasPassed, Reading, InState, IsUnread, IsNextLine, Tells, HasNoLine, ReadsOn, Advances}
 
 -- the unread text, where the reader's state and bytes are known

@@ -4,19 +4,19 @@ use Rattle.std.specs.Prelude.{MatchOption}
 use Rattle.std.specs.Io.KnownBytes.{Appends}
 use Rattle.x_text.specs.Writing.{Inked, Writes, Adds, counted}
 use Rattle.x_text.proofs.Pens.{writes_none, all_written, front_written}
-use Rattle.rpcx.specs.Session.{Opened, Compiles}
+use Rattle.rpcx.specs.Session.{Document, Compiles}
 use Rattle.rpcx.specs.Answers.{Answer, line_answer}
 use Rattle.rpcx.specs.Lines.{Reading, IsUnread, script_lines}
 use Rattle.x_lex.specs.declared.kind.Kind.{Kind}
 use Rattle.rpcx.specs.Compile.{Item, IsCompilation}
-use Rattle.rpcx.specs.declared.lines.State.TheVariants.{Between}
+use Rattle.rpcx.specs.declared.script.lines.State.TheVariants.{Between}
 use Rattle.rpcx.specs.Script.{then_answer, AreAnswered, IsGiven, HasGiven, IsAsBefore, HasRun, HasStopped, HasFailed, IsFrontOf, Runs, Answers, is_refused, status_of, WorksOn, AddsIfFound, EndsEarly, IsUntouched}
 use Rattle.rpcx.specs.declared.script.Outcome.{Outcome}
 use Rattle.rpcx.specs.declared.script.EngineFault.{EngineFault}
 use Rattle.rpcx.proofs.Scripts.{answered_more}
 
 -- between two lines: the lines that were given are answered, and their answers are written
-pub record IsBetween (script : List ℕ) (old : Opened) (start : Option (List ℕ)) (session : Opened) (reader : Reading) (left : Option (List ℕ)) (refused : Bool) (pen : Inked) (now : Option (List ℕ)) (failed : Bool) : Type 0 where
+pub record IsBetween (script : List ℕ) (old : Document) (start : Option (List ℕ)) (session : Document) (reader : Reading) (left : Option (List ℕ)) (refused : Bool) (pen : Inked) (now : Option (List ℕ)) (failed : Bool) : Type 0 where
   pub given : List (List ℕ)
   pub all : Answer
   pub reads : HasGiven script reader left given
@@ -27,7 +27,7 @@ pub record IsBetween (script : List ℕ) (old : Opened) (start : Option (List �
   pub goes : pen.stopped ≡ false
   pub empty : pen.pending ≡ []
 
-pub at_start : (script : List ℕ) (old : Opened) (start : Option (List ℕ)) (reader : Reading) (left : Option (List ℕ)) (pen : Inked) (failed : Bool)
+pub at_start : (script : List ℕ) (old : Document) (start : Option (List ℕ)) (reader : Reading) (left : Option (List ℕ)) (pen : Inked) (failed : Bool)
     → left ≡ Some script → reader ≡ record { line = []; bytes = []; state = Between } → pen ≡ record { pending = []; written = 0; stopped = false }
     → IsBetween script old start old reader left false pen start failed
 at_start script old start reader left pen failed left_is reader_is pen_is = record {
@@ -52,7 +52,7 @@ at_start script old start reader left pen failed left_is reader_is pen_is = reco
 }
 
 -- a line is answered behind the others, and its answer is passed on, or the sink has failed
-pub record IsBehind (script : List ℕ) (old : Opened) (start : Option (List ℕ)) (session : Opened) (reader : Reading) (left : Option (List ℕ)) (refused : Bool) (pen : Inked) (now : Option (List ℕ)) (failed : Bool) : Type 0 where
+pub record IsBehind (script : List ℕ) (old : Document) (start : Option (List ℕ)) (session : Document) (reader : Reading) (left : Option (List ℕ)) (refused : Bool) (pen : Inked) (now : Option (List ℕ)) (failed : Bool) : Type 0 where
   pub earlier : List (List ℕ)
   pub last : List ℕ
   pub all : Answer
@@ -77,7 +77,7 @@ counted_all p start now text failed e empty w = on (p.stopped) e w
 no_fewer_then : (a b c d : ℕ) → b ≡ a → b ≤ c → c ≤ d → a ≤ d
 no_fewer_then a b c d is first second = omega (arith, is, first, second)
 
-pub behind : (script : List ℕ) (old : Opened) (start : Option (List ℕ)) (session new : Opened) (reader reader' : Reading) (left left' : Option (List ℕ)) (refused refuses : Bool)
+pub behind : (script : List ℕ) (old : Document) (start : Option (List ℕ)) (session new : Document) (reader reader' : Reading) (left left' : Option (List ℕ)) (refused refuses : Bool)
     (p q r : Inked) (now now' now'' : Option (List ℕ)) (failed failed' failed'' : Bool) → (h : IsBetween script old start session reader left refused p now failed)
     → ((line : List ℕ) × HasGiven script reader' left' (h.given ++ line ∷ []) × Compiles session.text (λ items. IsGiven (line_answer session.base session.text items line) session new refuses p now failed q now' failed'))
     → Adds q now' failed' r now'' failed'' []
@@ -106,7 +106,7 @@ behind script old start session new reader reader' left left' refused refuses p 
       whole = no_fewer_then (counted (length h.all.told)) p.written q.written r.written (counted_all p start now h.all.told failed h.goes h.empty h.writes) given.added.no_fewer flushed.no_fewer;
     }
 
-pub between : (script : List ℕ) (old : Opened) (start : Option (List ℕ)) (session : Opened) (reader : Reading) (left : Option (List ℕ)) (refused : Bool) (pen : Inked) (now : Option (List ℕ)) (failed : Bool)
+pub between : (script : List ℕ) (old : Document) (start : Option (List ℕ)) (session : Document) (reader : Reading) (left : Option (List ℕ)) (refused : Bool) (pen : Inked) (now : Option (List ℕ)) (failed : Bool)
     → IsBehind script old start session reader left refused pen now failed → pen.stopped ≡ false → pen.pending ≡ [] → IsBetween script old start session reader left refused pen now failed
 between script old start session reader left refused pen now failed h goes empty = record {
   given = h.earlier ++ h.last ∷ [];
@@ -121,7 +121,7 @@ between script old start session reader left refused pen now failed h goes empty
 }
 
 -- the sink failed
-pub at_stop : (script : List ℕ) (old : Opened) (start : Option (List ℕ)) (session : Opened) (reader : Reading) (left : Option (List ℕ)) (refused : Bool) (pen : Inked) (now : Option (List ℕ)) (failed : Bool)
+pub at_stop : (script : List ℕ) (old : Document) (start : Option (List ℕ)) (session : Document) (reader : Reading) (left : Option (List ℕ)) (refused : Bool) (pen : Inked) (now : Option (List ℕ)) (failed : Bool)
     → IsBehind script old start session reader left refused pen now failed → pen.stopped ≡ true → IsFrontOf script (λ lines. HasFailed lines old session start now pen.written) × (failed ≡ true)
 at_stop script old start session reader left refused pen now failed h stops =
     let last = line_answer old.base h.all.text h.items h.last in
@@ -137,7 +137,7 @@ at_stop script old start session reader left refused pen now failed h stops =
     ((h.earlier ++ h.last ∷ [], script_lines (h.reads.unread ++ h.reads.later), h.reads.lines_are, fails), front.1)
 
 -- all lines that were given are answered
-pub so_far : (script : List ℕ) (old : Opened) (start : Option (List ℕ)) (session : Opened) (reader : Reading) (left : Option (List ℕ)) (refused : Bool) (pen : Inked) (now : Option (List ℕ)) (failed : Bool)
+pub so_far : (script : List ℕ) (old : Document) (start : Option (List ℕ)) (session : Document) (reader : Reading) (left : Option (List ℕ)) (refused : Bool) (pen : Inked) (now : Option (List ℕ)) (failed : Bool)
     → (h : IsBetween script old start session reader left refused pen now failed) → HasRun h.given old session start now refused
 so_far script old start session reader left refused pen now failed h = record {
   all = h.all;
@@ -148,7 +148,7 @@ so_far script old start session reader left refused pen now failed h = record {
 }
 
 -- nothing more was done, so all lines that were given are still answered
-pub so_still : (script : List ℕ) (old : Opened) (start : Option (List ℕ)) (session new : Opened) (reader : Reading) (left : Option (List ℕ)) (refused : Bool) (p q : Inked) (now now' : Option (List ℕ)) (failed failed' : Bool)
+pub so_still : (script : List ℕ) (old : Document) (start : Option (List ℕ)) (session new : Document) (reader : Reading) (left : Option (List ℕ)) (refused : Bool) (p q : Inked) (now now' : Option (List ℕ)) (failed failed' : Bool)
     → (h : IsBetween script old start session reader left refused p now failed) → IsAsBefore session new p now failed q now' failed' → HasRun h.given old new start now' refused
 so_still script old start session new reader left refused p q now now' failed failed' h same =
     subst (λ s. HasRun h.given old s start now' refused) (sym same.session_same)
@@ -159,7 +159,7 @@ match_some None P h = tt
 match_some (Some x) P h = h x refl
 
 -- a fault that is not the sink's
-pub at_fault : (script : List ℕ) (old : Opened) (start : Option (List ℕ)) (session new : Opened) (reader : Reading) (left : Option (List ℕ)) (refused : Bool) (p q : Inked) (now now' : Option (List ℕ)) (failed failed' : Bool)
+pub at_fault : (script : List ℕ) (old : Document) (start : Option (List ℕ)) (session new : Document) (reader : Reading) (left : Option (List ℕ)) (refused : Bool) (p q : Inked) (now now' : Option (List ℕ)) (failed failed' : Bool)
     (written : ℕ) → (h : IsBetween script old start session reader left refused p now failed) → IsAsBefore session new p now failed q now' failed' → written ≡ q.written → HasStopped h.given old new start now' written
 at_fault script old start session new reader left refused p q now now' failed failed' written h same is = record {
   refused = refused;
@@ -180,7 +180,7 @@ one_status false true e = absurd (omega (arith, e))
 one_status false false e = refl
 
 -- a run without a fault answers its script
-pub answers_all : (tap : Option (List ℕ)) (left : Option (List ℕ)) (old new : Opened) (before after : Option (List ℕ)) (failed : Bool) (outcome : Outcome) (status : ℕ) → status ≡ status_of (is_refused outcome)
+pub answers_all : (tap : Option (List ℕ)) (left : Option (List ℕ)) (old new : Document) (before after : Option (List ℕ)) (failed : Bool) (outcome : Outcome) (status : ℕ) → status ≡ status_of (is_refused outcome)
     → MatchOption tap (Unit {0}) (λ script. Runs script left old new before after failed (Ok outcome)) → MatchOption tap (Unit {0}) (λ script. Answers script old.base old.text before after status)
 answers_all None left old new before after failed outcome status is run = tt
 answers_all (Some script) left old new before after failed outcome status is run =
@@ -229,7 +229,7 @@ pub added_some : {S : Type 0} (found : Option Bool) (refused : Bool) (s s' : S) 
 added_some found refused s s' Added is h = subst (λ f. AddsIfFound (Ok f) s s' Added) is h
 
 -- what a run says where a fault ended it
-pub ends_early : (at left : Option (List ℕ)) (old new : Opened) (before after : Option (List ℕ)) (failed : Bool) (fault : EngineFault) → MatchOption at (Unit {0}) (λ script. Runs script left old new before after failed (Err fault))
+pub ends_early : (at left : Option (List ℕ)) (old new : Document) (before after : Option (List ℕ)) (failed : Bool) (fault : EngineFault) → MatchOption at (Unit {0}) (λ script. Runs script left old new before after failed (Err fault))
     → MatchOption at (Unit {0}) (λ script. EndsEarly script left old.base old.text before after failed)
 ends_early None left old new before after failed fault h = h
 ends_early (Some script) left old new before after failed fault h = (fault, new, h)

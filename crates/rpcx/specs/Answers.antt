@@ -6,9 +6,9 @@ use Rattle.x_text.specs.Edits.{edited}
 use Rattle.x_text.specs.declared.source.TheConstants.{MAX_TEXT}
 use Rattle.x_lex.specs.Places.{Lexeme}
 use Rattle.x_lex.specs.Names.{kind_name}
-use Rattle.rpcx.specs.declared.fault.Fault.{Fault}
+use Rattle.rpcx.specs.declared.compile.fault.Fault.{Fault}
 use Rattle.rpcx.specs.Faults.{fault_text}
-use Rattle.rpcx.specs.declared.lines.TheConstants.{LONGEST}
+use Rattle.rpcx.specs.declared.script.lines.TheConstants.{LONGEST}
 use Rattle.rpcx.specs.Commands.{Asked, ToEdit, ForTokens, ForDefinitions, ForFaults, ForHeader, Nothing, command_of}
 use Rattle.rpcx.specs.Compile.{Item, tokens_of, definitions_of, faults_of}
 use Rattle.rpcx.specs.Listings.{numbered, definition_line}

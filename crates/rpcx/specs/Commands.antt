@@ -3,8 +3,8 @@ use Rattle.std.specs.Prelude.{ℕ, ◌+◌, ◌*◌, ◌%◌, Bool, ◌&&◌, �
 use Rattle.std.specs.List.{list_all, slice_split}
 use Rattle.std.specs.Char.{is_ascii_digit, is_ascii_hexdigit, digit_value}
 use Rattle.std.specs.Str.Parse.{digits_value}
-use Rattle.rpcx.specs.declared.command.Command.{Command}
-use Rattle.rpcx.specs.declared.command.Command.TheVariants.{Edit, Tokens, Definitions, Faults, Header, Bad}
+use Rattle.rpcx.specs.declared.script.command.Command.{Command}
+use Rattle.rpcx.specs.declared.script.command.Command.TheVariants.{Edit, Tokens, Definitions, Faults, Header, Bad}
 
 -- what a line can ask for
 pub data Asked : Type 0 where

@@ -10,12 +10,12 @@ use Rattle.x_item.specs.Tree.{Definition}
 use Rattle.x_item.specs.Parse.{Parse, Nothing, Def, Fault, IsParse}
 use Rattle.x_item.specs.Items.{AreItems, joined}
 use Rattle.rpcx.specs.Faults.{of_syntax}
-use Rattle.rpcx.specs.Names.{first_declarer}
+use Rattle.rpcx.specs.Declarers.{first_declarer}
 use Rattle.rpcx.specs.Rules.{rules}
-use Rattle.rpcx.specs.declared.names.Declarer.{Declarer}
-use Rattle.rpcx.specs.declared.check.WordFault.{WordFault}
-use Rattle.rpcx.specs.declared.findings.TokenFault.{TokenFault}
-use Rattle.rpcx.specs.declared.fault as rust
+use Rattle.rpcx.specs.declared.compile.names.Declarer.{Declarer}
+use Rattle.rpcx.specs.declared.compile.fault.WordFault.{WordFault}
+use Rattle.rpcx.specs.declared.compile.fault.TokenFault.{TokenFault}
+use Rattle.rpcx.specs.declared.compile.fault as rust
 
 pub record Item : Type 0 where
   pub tokens : List Lexeme

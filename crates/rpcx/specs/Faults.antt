@@ -2,8 +2,8 @@
 use Rattle.std.specs.Prelude.{ℕ, List, codes}
 use Rattle.x_item.specs.declared.fault.FaultCode as syntax
 use Rattle.x_item.specs.declared.fault.FaultCode.TheVariants as item
-use Rattle.rpcx.specs.declared.fault.FaultCode.{FaultCode}
-use Rattle.rpcx.specs.declared.fault.FaultCode.TheVariants.{Syntax, BadByte, BadNumber, OpenComment, Directive, Unfinished, Duplicate, Range}
+use Rattle.rpcx.specs.declared.compile.fault.FaultCode.{FaultCode}
+use Rattle.rpcx.specs.declared.compile.fault.FaultCode.TheVariants.{Syntax, BadByte, BadNumber, OpenComment, Directive, Unfinished, Duplicate, Range}
 
 -- what is printed for the code
 abbrev pub fault_text : FaultCode → List ℕ

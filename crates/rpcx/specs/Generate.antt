@@ -3,7 +3,7 @@ use Rattle.std.specs.Prelude.{◌≡◌, ℕ, Bool, true, false, MatchBool, ◌-
 use Rattle.std.specs.List.{after_last, flat_map}
 use Rattle.std.specs.Io.KnownBytes.{Appends}
 use Rattle.std.specs.Str.{bytes_eq}
-use Rattle.rpcx.specs.declared.fault.Fault.{Fault}
+use Rattle.rpcx.specs.declared.compile.fault.Fault.{Fault}
 use Rattle.rpcx.specs.Faults.{fault_text}
 use Rattle.rpcx.specs.declared.script.EngineFault.{EngineFault}
 use Rattle.rpcx.specs.declared.script.EngineFault.TheVariants.{Read, Write, NoMemory}

@@ -7,8 +7,8 @@ use Rattle.x_lex.specs.Places.{Lexeme}
 use Rattle.x_item.specs.Tree.{Definition, Const, Value, Number, Named}
 use Rattle.x_item.specs.Parse.{Parse, Nothing, Def, Fault}
 use Rattle.rpcx.specs.Compile.{Item, first_of, token_faults}
-use Rattle.rpcx.specs.declared.names.Declarer.{Declarer}
-use Rattle.rpcx.specs.declared.findings.TokenFault.{TokenFault}
+use Rattle.rpcx.specs.declared.compile.names.Declarer.{Declarer}
+use Rattle.rpcx.specs.declared.compile.fault.TokenFault.{TokenFault}
 
 abbrev pub is_between : ℕ → ℕ → ℕ → Bool
 is_between low high b = nat_le low b && nat_le b high

@@ -1,14 +1,14 @@
 -- The lines of a script, and what a reader of them has read and not given.
 use Rattle.std.specs.Prelude.{◌≡◌, ℕ, ◌+◌, ◌<◌, ◌≤◌, ◌⊎◌, Bool, true, false, nat_lt, ◌==◌, List, [], ◌∷◌, ◌++◌, length, take, drop, filter, Option, Some, Result, Ok, Err, MatchResult, MatchBool}
 use Rattle.std.specs.List.{slice_split, All}
-use Rattle.rpcx.specs.declared.lines.LineFault.{LineFault}
-use Rattle.rpcx.specs.declared.lines.LineFault.TheVariants.{Read, NoMemory}
-use Rattle.rpcx.specs.declared.lines.LineEnd.{LineEnd}
-use Rattle.rpcx.specs.declared.lines.LineEnd.TheVariants.{Feed, Text, Far}
-use Rattle.rpcx.specs.declared.lines.State.{State}
-use Rattle.rpcx.specs.declared.lines.State.TheVariants.{Between, WithinLong, Ended}
-use Rattle.rpcx.specs.declared.lines.Found.{Found}
-use Rattle.rpcx.specs.declared.lines.Found.TheVariants.{Line, TooLong, End}
+use Rattle.rpcx.specs.declared.script.lines.LineFault.{LineFault}
+use Rattle.rpcx.specs.declared.script.lines.LineFault.TheVariants.{Read, NoMemory}
+use Rattle.rpcx.specs.declared.script.lines.LineEnd.{LineEnd}
+use Rattle.rpcx.specs.declared.script.lines.LineEnd.TheVariants.{Feed, Text, Far}
+use Rattle.rpcx.specs.declared.script.lines.State.{State}
+use Rattle.rpcx.specs.declared.script.lines.State.TheVariants.{Between, WithinLong, Ended}
+use Rattle.rpcx.specs.declared.script.lines.Found.{Found}
+use Rattle.rpcx.specs.declared.script.lines.Found.TheVariants.{Line, TooLong, End}
 use Rattle.std.specs.Io.KnownBytes.{Consumes, IsAtEnd}
 
 -- a line feed

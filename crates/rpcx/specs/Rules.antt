@@ -1,11 +1,11 @@
 -- What is wrong with definitions beyond their spelling (RFC 4506, section 6.4).
 use Rattle.std.specs.Prelude.{ℕ, Bool, false, not, ◌&&◌, ◌==◌, List, [], ◌∷◌, ◌++◌, Option, Some, None, if◌then◌else◌}
 use Rattle.x_item.specs.Tree.{Definition, Const, Number}
-use Rattle.rpcx.specs.Names.{Declared}
+use Rattle.rpcx.specs.Declarers.{Declared}
 use Rattle.rpcx.specs.Numbers.{in_range}
-use Rattle.rpcx.specs.declared.names.Declarer.{Declarer}
-use Rattle.rpcx.specs.declared.fault.FaultCode.TheVariants as faults
-use Rattle.rpcx.specs.declared.check.WordFault.{WordFault}
+use Rattle.rpcx.specs.declared.compile.names.Declarer.{Declarer}
+use Rattle.rpcx.specs.declared.compile.fault.FaultCode.TheVariants as faults
+use Rattle.rpcx.specs.declared.compile.fault.WordFault.{WordFault}
 
 abbrev pub is_at : ℕ → ℕ → Option Declarer → Bool
 is_at item word None = false

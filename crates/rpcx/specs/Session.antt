@@ -8,7 +8,7 @@ use Rattle.x_text.specs.declared.source.TheConstants.{MAX_TEXT}
 use Rattle.x_lex.specs.declared.kind.Kind.{Kind}
 use Rattle.rpcx.specs.Compile.{Item, IsCompilation}
 
-pub record Opened : Type 0 where
+pub record Document : Type 0 where
   pub base : List ℕ
   pub text : List ℕ
 

@@ -5,12 +5,21 @@ ghost use Rattle.x_text.specs.Writing.{Adds};
 ghost use Rattle.rpcx.specs.Session.{Compiles};
 ghost use Rattle.rpcx.specs.Commands.{asked};
 ghost use Rattle.rpcx.specs.Answers.{answer, edit_answer, line_answer};
-ghost use Rattle.rpcx.specs.declared.lines.TheConstants.{LONGEST};
+ghost use Rattle.rpcx.specs.declared.script.lines.TheConstants.{LONGEST};
 ghost use Rattle.rpcx.specs.Script.{AddsIfFound, IsGiven, HasGiven, GoesOn, NamesCause, Runs, is_refused};
 ghost use Rattle.rpcx.specs.Lines.{FailsBy};
 
-use crate::answer::{add_counted, add_definitions, add_faults, add_text, add_tokens};
-use crate::{Command, Found, LineFault, LineReader, Session, Which, parse_command};
+mod answer;
+mod byte_queue;
+mod command;
+mod lines;
+mod listing;
+
+use crate::{GeneratedText, Session};
+pub(crate) use answer::add_place;
+use answer::{add_counted, add_definitions, add_faults, add_text, add_tokens};
+pub use command::{Command, parse_command};
+pub use lines::{Found, LONGEST, LineFault, LineReader};
 use std::alloc::Global;
 use thiserror::Error;
 use x_text::{Edit, NoMemory, Pen, Sink, Tap, TextFault};
@@ -143,7 +152,7 @@ fn carry_out<S: Sink>(
         Command::Tokens => add_tokens(session, pen, sink),
         Command::Definitions => add_definitions(session, pen, sink),
         Command::Faults => add_faults(session, pen, sink),
-        Command::Header => add_text(Which::Header, session, pen, sink),
+        Command::Header => add_text(GeneratedText::Header, session, pen, sink),
         Command::Bad => {
             pen.add(b"refused 43 BadLine\n", sink);
             return Ok(true);

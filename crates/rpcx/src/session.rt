@@ -6,67 +6,23 @@ ghost use Rattle.x_text.specs.Edits.{edited, LiesWithin};
 ghost use Rattle.x_text.specs.Writing.{Adds, IsWritten};
 ghost use Rattle.x_text.specs.declared.source.TheConstants.{MAX_TEXT};
 ghost use Rattle.x_lex.specs.Places.{lexeme};
-ghost use Rattle.rpcx.specs.Session.{Opened, Compiles, edited_by_all, TakesAll, StopsAt};
+ghost use Rattle.rpcx.specs.Session.{Document, Compiles, edited_by_all, TakesAll, StopsAt};
 ghost use Rattle.rpcx.specs.Compile.{tokens_of, definitions_of, definition_at, faults_of};
-ghost use Rattle.rpcx.specs.Kept.{kept_definition, tree_at};
+ghost use Rattle.rpcx.specs.ItemView.{kept_definition, tree_at};
 ghost use Rattle.rpcx.specs.Listings.{numbered, are_constants};
 ghost use Rattle.rpcx.specs.Header.{header};
 
-use crate::compile::{Compiled, compile};
-use crate::definition::is_constant;
-use crate::header::{EPILOGUE, prologue};
-use crate::{Fault, Item};
+mod generated_text;
+mod work;
+
+use crate::compile::{Compilation, EPILOGUE, Fault, Item, compile, is_constant, prologue};
+pub use generated_text::GeneratedText;
 use std::alloc::Global;
 use std::marker::Model;
+pub use work::Work;
 use x_item::Definition;
 use x_lex::{Token, Tokens, Walk};
 use x_text::{Edit, Meter, NoMemory, Pen, Sink, Source, TextFault, WriteFault};
-
-/// A text that is generated.
-#[derive(Clone, Copy, Debug, PartialEq, Eq)]
-pub enum Which {
-    /// The header, `BASE.h`.
-    Header,
-}
-
-/// What work an edit took.
-#[derive(Clone, Copy, Debug, Default, PartialEq, Eq)]
-pub struct Work {
-    /// How many tokens were lexed.
-    pub lexed: u64,
-    /// How many items were parsed.
-    pub parsed: u64,
-    /// How many items were checked.
-    pub checked: u64,
-    /// How many kept entries were moved.
-    pub moved: u64,
-}
-
-impl Work {
-    /// What a meter counted.
-    fn of(meter: &Meter) -> Work
-        ensures { result ≡ record { lexed = meter.now.lexed; parsed = meter.now.parsed; checked = meter.now.checked; moved = meter.now.moved } }
-    {
-        Work {
-            lexed: meter.lexed(),
-            parsed: meter.parsed(),
-            checked: meter.checked(),
-            moved: meter.moved(),
-        }
-    }
-
-    /// This work and other work. Each count stays at the greatest number.
-    fn with(self, other: &Work) -> Work
-        ensures { result ≡ record { lexed = raised self.lexed other.now.lexed; parsed = raised self.parsed other.now.parsed; checked = raised self.checked other.now.checked; moved = raised self.moved other.now.moved } }
-    {
-        Work {
-            lexed: self.lexed.saturating_add(other.lexed),
-            parsed: self.parsed.saturating_add(other.parsed),
-            checked: self.checked.saturating_add(other.checked),
-            moved: self.moved.saturating_add(other.moved),
-        }
-    }
-}
 
 /// A text that stays open: its tokens, definitions and faults, and what is generated of it.
 #[derive(Drop)]
@@ -82,14 +38,14 @@ pub struct Session {
 }
 
 impl Model for Session {
-    ghost use Rattle.rpcx.specs.Session.{Opened};
-    ghost use Rattle.rpcx.specs.Keeps.{AreKept};
+    ghost use Rattle.rpcx.specs.Session.{Document};
+    ghost use Rattle.rpcx.specs.SessionState.{IsUpToDate};
 
-    ghost Value = { Opened };
+    ghost Value = { Document };
 
     ghost view = { λ s. record { base = s.base.items; text = s.source } };
 
-    ghost invariant = { λ s. AreKept s.base.items s.source s.tokens.list s.items.items s.faults.items s.prologue.items s.body.items };
+    ghost invariant = { λ s. IsUpToDate s.base.items s.source s.tokens.list s.items.items s.faults.items s.prologue.items s.body.items };
 }
 
 impl Session {
@@ -113,10 +69,10 @@ impl Session {
         let mut meter = Meter::new();
         let base = Vec::from_slice(alloc, base)?;
         let prologue = prologue(alloc, &base)?;
-        let Compiled {
+        let Compilation {
             tokens,
             items,
-            findings,
+            output,
         } = compile(alloc, &source, &mut meter)?;
         Ok(Session {
             alloc,
@@ -124,9 +80,9 @@ impl Session {
             source,
             tokens,
             items,
-            faults: findings.faults,
+            faults: output.faults,
             prologue,
-            body: findings.body,
+            body: output.body,
         })
     }
 
@@ -142,10 +98,10 @@ impl Session {
     {
         let source = self.source.edited(self.alloc, edit)?;
         let mut meter = Meter::new();
-        let Compiled {
+        let Compilation {
             tokens,
             items,
-            findings,
+            output,
         } = match compile(self.alloc, &source, &mut meter) {
             Ok(compiled) => compiled,
             Err(NoMemory) => return Err(TextFault::NoMemory),
@@ -153,8 +109,8 @@ impl Session {
         self.source = source;
         self.tokens = tokens;
         self.items = items;
-        self.faults = findings.faults;
-        self.body = findings.body;
+        self.faults = output.faults;
+        self.body = output.body;
         Ok(Work::of(&meter))
     }
 
@@ -254,7 +210,7 @@ impl Session {
     }
 
     /// Writes a generated text. After a fault the sink has exactly its first `written` bytes.
-    pub fn write_text<S: Sink>(&self, which: Which, sink: &mut S) -> Result<(), WriteFault>
+    pub fn write_text<S: Sink>(&self, which: GeneratedText, sink: &mut S) -> Result<(), WriteFault>
         ensures { Compiles self.now.text (λ items. IsWritten result (S.contents sink.old) (S.contents sink.new) (S.has_failed sink.new) (header self.now.base items)) }
     {
         let mut pen = Pen::new();
@@ -263,11 +219,11 @@ impl Session {
     }
 
     /// Adds a generated text.
-    pub(crate) fn add_text<S: Sink>(&self, which: Which, pen: &mut Pen, sink: &mut S)
+    pub(crate) fn add_text<S: Sink>(&self, which: GeneratedText, pen: &mut Pen, sink: &mut S)
         ensures { Compiles self.now.text (λ items. Adds pen.old (S.contents sink.old) (S.has_failed sink.old) pen.new (S.contents sink.new) (S.has_failed sink.new) (header self.now.base items)) }
     {
         match which {
-            Which::Header => {
+            GeneratedText::Header => {
                 pen.add(&self.prologue, sink);
                 pen.add(&self.body, sink);
                 pen.add(EPILOGUE, sink);
@@ -276,11 +232,11 @@ impl Session {
     }
 
     /// How many bytes a generated text has.
-    pub(crate) fn text_length(&self, which: Which) -> u128
+    pub(crate) fn text_length(&self, which: GeneratedText) -> u128
         ensures { Compiles self.now.text (λ items. result ≡ length (header self.now.base items)) }
     {
         match which {
-            Which::Header => {
+            GeneratedText::Header => {
                 self.prologue.len() as u128 + self.body.len() as u128 + EPILOGUE.len() as u128
             }
         }

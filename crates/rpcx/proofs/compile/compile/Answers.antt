@@ -1,8 +1,8 @@
 use Rattle.std.proofs.Common.{◌≡◌, map, ap, ◌∙◌}
 use Rattle.x_lex.specs.Places.{lexemes}
-use Rattle.rpcx.specs.Kept.{view_item, kept_definition}
-use Rattle.rpcx.specs.Names.{first_declarer}
-use Rattle.rpcx.specs.NamesTable.{first_in}
+use Rattle.rpcx.specs.ItemView.{view_item, kept_definition}
+use Rattle.rpcx.specs.Declarers.{first_declarer}
+use Rattle.rpcx.specs.DeclarerTable.{first_in}
 use Rattle.rpcx.specs.Compile.{parts, first_of, faults_from}
 use Rattle.rpcx.specs.Header.{body_from}
 use Rattle.rpcx.proofs.Compiled.{same_first, same_faults, same_body, compiles}
@@ -18,14 +18,14 @@ pub returns-clause-faults : goal.returns-clause-faults
 returns-clause-faults c =
     let tokens = lexemes c.args.source.now c.in_ok-tokens.tokens.list in
     let items = parts tokens (map view_item c.in_ok-items.items.items) in
-    c.in_ok-findings.ensures.faults ∙ ap (λ is. faults_from c.args.source.now (first_in c.in_ok-names.names) 0 (parts tokens (map view_item is))) c.deref-2.ensures.value
+    c.in_ok-output.ensures.faults ∙ ap (λ is. faults_from c.args.source.now (first_in c.in_ok-names.names) 0 (parts tokens (map view_item is))) c.deref-2.ensures.value
     ∙ same_faults c.args.source.now (first_in c.in_ok-names.names) items (first_is c)
 
 pub returns-clause-body : goal.returns-clause-body
 returns-clause-body c =
     let tokens = lexemes c.args.source.now c.in_ok-tokens.tokens.list in
     let items = parts tokens (map view_item c.in_ok-items.items.items) in
-    c.in_ok-findings.ensures.body ∙ ap (λ is. body_from (first_in c.in_ok-names.names) 0 (parts tokens (map view_item is))) c.deref-2.ensures.value
+    c.in_ok-output.ensures.body ∙ ap (λ is. body_from (first_in c.in_ok-names.names) 0 (parts tokens (map view_item is))) c.deref-2.ensures.value
     ∙ same_body (first_in c.in_ok-names.names) items (first_is c)
 
 pub returns-clause-items : goal.returns-clause-items

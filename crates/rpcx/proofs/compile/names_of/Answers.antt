@@ -1,10 +1,10 @@
 use Rattle.std.proofs.Common.{◌≡◌, ℕ, List, map, ap, subst, ◌∙◌, arith}
 use Rattle.std.specs.Prelude.{IfOk}
 use Rattle.std.proofs.lemmas.List.{take_all}
-use Rattle.rpcx.specs.Kept.{tree_at}
-use Rattle.rpcx.specs.Kept.{kept_definition}
-use Rattle.rpcx.specs.Names.{first_declarer}
-use Rattle.rpcx.specs.NamesTable.{first_in}
+use Rattle.rpcx.specs.ItemView.{tree_at}
+use Rattle.rpcx.specs.ItemView.{kept_definition}
+use Rattle.rpcx.specs.Declarers.{first_declarer}
+use Rattle.rpcx.specs.DeclarerTable.{first_in}
 use Rattle.rpcx.proofs.compile.names_of.Goals as goal
 
 pub returns : goal.returns

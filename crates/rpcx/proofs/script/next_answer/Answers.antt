@@ -1,8 +1,8 @@
 use Rattle.std.proofs.Common.{ℕ, Bool, Option, Result, Err, true, List, Ok, refl, sym, ap, subst, ◌∙◌}
 use Rattle.rpcx.specs.Session.{Compiles}
 use Rattle.rpcx.specs.Answers.{Answer, line_answer}
-use Rattle.rpcx.specs.declared.lines.LineFault.{LineFault}
-use Rattle.rpcx.specs.declared.lines.Found.TheVariants.{Line, TooLong, End}
+use Rattle.rpcx.specs.declared.script.lines.LineFault.{LineFault}
+use Rattle.rpcx.specs.declared.script.lines.Found.TheVariants.{Line, TooLong, End}
 use Rattle.rpcx.specs.Script.{IsGiven, GoesOn}
 use Rattle.std.proofs.lemmas.Result.{err_from_is_err_and}
 use Rattle.rpcx.proofs.Scripts.{has_read, line_given, all_given, found_as, stops_behind, before_line, before_long, before_fault, too_long}

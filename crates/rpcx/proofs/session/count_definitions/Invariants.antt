@@ -1,5 +1,5 @@
 use Rattle.std.proofs.Common.{◌≡◌, ◌+◌, ◌≤◌, map, drop, length}
-use Rattle.rpcx.specs.Kept.{kept_definition}
+use Rattle.rpcx.specs.ItemView.{kept_definition}
 use Rattle.rpcx.specs.Listings.{numbered}
 use Rattle.rpcx.proofs.session.count_definitions.Given as goal
 

@@ -2,11 +2,11 @@ use Rattle.std.proofs.Common.{◌≡◌, ◌++◌, map, subst, ◌∙◌}
 use Rattle.x_text.specs.Writing.{Adds}
 use Rattle.x_text.proofs.Pens.{adds_trans}
 use Rattle.x_lex.specs.Places.{lexemes}
-use Rattle.rpcx.specs.Kept.{view_item}
+use Rattle.rpcx.specs.ItemView.{view_item}
 use Rattle.rpcx.specs.Session.{Compiles}
 use Rattle.rpcx.specs.Compile.{parts}
 use Rattle.rpcx.specs.Header.{header}
-use Rattle.rpcx.specs.declared.header.TheConstants.{EPILOGUE}
+use Rattle.rpcx.specs.declared.compile.header.TheConstants.{EPILOGUE}
 use Rattle.rpcx.proofs.Ends.{epilogue_is}
 use Rattle.rpcx.proofs.session.Session.add_text.Goals as goal
 

@@ -1,6 +1,6 @@
 use Rattle.std.proofs.Common.{◌≡◌, map, ap, sym, subst, ◌∙◌}
 use Rattle.x_lex.specs.Places.{lexemes}
-use Rattle.rpcx.specs.Kept.{view_item, kept_definition}
+use Rattle.rpcx.specs.ItemView.{view_item, kept_definition}
 use Rattle.rpcx.specs.Session.{Compiles}
 use Rattle.rpcx.specs.Compile.{parts, definitions_of}
 use Rattle.rpcx.specs.Listings.{are_constants}

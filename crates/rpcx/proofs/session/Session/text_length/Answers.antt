@@ -1,10 +1,10 @@
 use Rattle.std.proofs.Common.{◌≡◌, ◌+◌, ◌++◌, map, length, length-append, arith, refl, ap, subst, ◌∙◌}
 use Rattle.x_lex.specs.Places.{lexemes}
-use Rattle.rpcx.specs.Kept.{view_item}
+use Rattle.rpcx.specs.ItemView.{view_item}
 use Rattle.rpcx.specs.Session.{Compiles}
 use Rattle.rpcx.specs.Compile.{parts}
 use Rattle.rpcx.specs.Header.{header}
-use Rattle.rpcx.specs.declared.header.TheConstants.{EPILOGUE}
+use Rattle.rpcx.specs.declared.compile.header.TheConstants.{EPILOGUE}
 use Rattle.rpcx.proofs.Ends.{epilogue_is}
 use Rattle.rpcx.proofs.session.Session.text_length.Goals as goal
 

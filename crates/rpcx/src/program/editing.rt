@@ -1,0 +1,80 @@
+//! What `rpcedit` does over a text that was read, a tap and sinks.
+
+ghost use Rattle.std.specs.Prelude.{◌≡◌, ◌≢◌, ◌⊎◌, ◌<◌, MatchOption, length};
+ghost use Rattle.x_text.specs.declared.source.TheConstants.{MAX_TEXT};
+ghost use Rattle.rpcx.specs.Generate.{base_of, stop_told, IsTold, NotRun, Stops};
+ghost use Rattle.rpcx.specs.Script.{Answers, EndsEarly, IsUntouched, WorksOn};
+
+use crate::program::base::base_of_file;
+use crate::program::complaint::{complain, tell_unopened};
+use crate::program::editing_args::EditArgs;
+use crate::{EngineFault, Outcome, Session, run_script};
+use std::alloc::Global;
+use x_text::{Sink, Tap};
+
+/// Opens the text of a file, carries out the script of the input, and answers the status: 0 where each line was carried out, 1
+/// where one was refused, and 2 where the run could not be carried out, which it tells.
+pub fn edit_run<I: Tap, O: Sink, E: Sink>(
+    alloc: Global,
+    args: &EditArgs,
+    bytes: &[u8],
+    input: &mut I,
+    out: &mut O,
+    err: &mut E,
+) -> u8
+    ensures status { (result ≡ 0) ⊎ (result ≡ 1) ⊎ (result ≡ 2) }
+    ensures too_large { MAX_TEXT < length bytes.now → result ≡ 2 }
+    ensures failed { result ≡ 2 → NotRun args.now.file.now bytes.now (E.contents err.old) (E.contents err.new) (E.has_failed err.new) (I.has_failed input.new) (O.has_failed out.new) }
+    ensures quiet { result ≢ 2 → err.new ≡ err.old }
+    ensures working { result ≢ 2 → WorksOn (O.has_failed out.old) (O.has_failed out.new) }
+    ensures answers { MatchOption (I.remaining input.old) (Unit {0}) (λ script. Answers script (base_of args.now.file.now) bytes.now (O.contents out.old) (O.contents out.new) result) }
+    ensures ended { result ≡ 2 → MatchOption (I.remaining input.old) (Unit {0}) (λ script.
+        IsUntouched script (I.remaining input.new) (O.contents out.old) (O.contents out.new)
+        ⊎ EndsEarly script (I.remaining input.new) (base_of args.now.file.now) bytes.now (O.contents out.old) (O.contents out.new) (O.has_failed out.new)) }
+{
+    let mut session = match Session::open(alloc, base_of_file(args.file), bytes) {
+        Ok(session) => session,
+        Err(fault) => {
+            tell_unopened("rpcedit", args.file, fault, err);
+            return 2;
+        }
+    };
+    answer_input(alloc, &mut session, input, out, err)
+}
+
+/// Carries out the script of the input, and answers the status.
+fn answer_input<I: Tap, O: Sink, E: Sink>(
+    alloc: Global,
+    session: &mut Session,
+    input: &mut I,
+    out: &mut O,
+    err: &mut E,
+) -> u8
+    ensures status { (result ≡ 0) ⊎ (result ≡ 1) ⊎ (result ≡ 2) }
+    ensures failed { result ≡ 2 → Stops (E.contents err.old) (E.contents err.new) (E.has_failed err.new) (I.has_failed input.new) (O.has_failed out.new) }
+    ensures quiet { result ≢ 2 → err.new ≡ err.old }
+    ensures working { result ≢ 2 → WorksOn (O.has_failed out.old) (O.has_failed out.new) }
+    ensures answers { MatchOption (I.remaining input.old) (Unit {0}) (λ script. Answers script session.old.base session.old.text (O.contents out.old) (O.contents out.new) result) }
+    ensures ended { result ≡ 2 → MatchOption (I.remaining input.old) (Unit {0}) (λ script.
+        EndsEarly script (I.remaining input.new) session.old.base session.old.text (O.contents out.old) (O.contents out.new) (O.has_failed out.new)) }
+{
+    match run_script(alloc, session, input, out) {
+        Ok(Outcome::Clean) => 0,
+        Ok(Outcome::Refused) => 1,
+        Err(fault) => {
+            tell_fault(fault, err);
+            2
+        }
+    }
+}
+
+/// Writes why a script stopped.
+fn tell_fault<E: Sink>(fault: EngineFault, err: &mut E)
+    ensures { IsTold (E.contents err.old) (E.contents err.new) (E.has_failed err.new) (stop_told fault) }
+{
+    match fault {
+        EngineFault::Read { .. } => complain("rpcedit: -: cannot be read\n", err),
+        EngineFault::Write { .. } => complain("rpcedit: output cannot be written\n", err),
+        EngineFault::NoMemory { .. } => complain("rpcedit: out of memory\n", err),
+    }
+}

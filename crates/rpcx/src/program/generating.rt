@@ -1,0 +1,130 @@
+//! What `rpcgen` does, over a text that was read and sinks.
+
+ghost use Rattle.std.specs.Prelude.{◌≡◌, ◌≢◌, ◌⊎◌, true, false, not, ◌<◌, ◌==◌, ◌++◌, codes, [], Some, None, IsTrue, IfOk, OnOk, IfErr, IsErrOf, length, if◌then◌else◌};
+ghost use Rattle.std.specs.Io.KnownBytes.{Appends};
+ghost use Rattle.x_text.specs.Writing.{Adds};
+ghost use Rattle.x_text.specs.declared.source.TheConstants.{MAX_TEXT};
+ghost use Rattle.rpcx.specs.Generate.{base_of, told_fault, told_faults, Grows, IsTold, NotOpened};
+ghost use Rattle.rpcx.specs.Session.{Compiles};
+ghost use Rattle.rpcx.specs.Compile.{definitions_of, faults_of};
+ghost use Rattle.rpcx.specs.Listings.{are_constants};
+ghost use Rattle.rpcx.specs.Header.{header};
+
+use crate::program::base::base_of_file;
+use crate::program::complaint::{complain, tell_of_file, tell_unopened};
+use crate::program::generating_args::GenArgs;
+use crate::script::add_place;
+use crate::{Fault, GeneratedText, Session};
+use std::alloc::Global;
+use x_text::{Pen, Sink};
+
+/// The status of a run whose text has faults.
+const FAULTY: u8 = 1;
+
+/// The status of a run that could not be carried out.
+const FAILED: u8 = 2;
+
+/// The text that a command line asks for: exactly one letter tells it.
+pub fn gen_mode<E: Sink>(args: &GenArgs, err: &mut E) -> Option<GeneratedText>
+    ensures mode { result ≡ (if args.now.header then Some GeneratedText.Header else None) }
+    ensures told { result ≡ None → IsTold (E.contents err.old) (E.contents err.new) (E.has_failed err.new) (codes "rpcgen: exactly one of -c, -h, -l, -t\n") }
+    ensures quiet { result ≢ None → err.new ≡ err.old }
+{
+    if args.header {
+        return Some(GeneratedText::Header);
+    }
+    complain("rpcgen: exactly one of -c, -h, -l, -t\n", err);
+    None
+}
+
+/// Opens the text of a file for a run, or tells what is wrong with it and answers the status: 1 where the text has faults, which
+/// are written one a line, and 2 where it is too large, has a definition of which nothing is generated yet, or memory runs out.
+pub fn gen_open<E: Sink>(
+    alloc: Global,
+    file: &str,
+    bytes: &[u8],
+    err: &mut E,
+) -> Result<Session, u8>
+    ensures opened { IfOk result (λ s. s ≡ record { base = base_of file.now; text = bytes.now }) }
+    ensures clean { OnOk result (Compiles bytes.now (λ items. faults_of bytes.now items ≡ [])) }
+    ensures constants { OnOk result (Compiles bytes.now (λ items. are_constants (definitions_of items) ≡ true)) }
+    ensures faulty { IsErrOf result 1 → Compiles bytes.now (λ items. (0 < length (faults_of bytes.now items))
+        × IsTold (E.contents err.old) (E.contents err.new) (E.has_failed err.new) (told_faults file.now (faults_of bytes.now items))) }
+    ensures too_large { MAX_TEXT < length bytes.now → IsErrOf result 2 }
+    ensures failed { IsErrOf result 2 → NotOpened file.now bytes.now (E.contents err.old) (E.contents err.new) (E.has_failed err.new) }
+    ensures others { IfErr result (λ status. (status ≡ 1) ⊎ (status ≡ 2)) }
+    ensures quiet { OnOk result (err.new ≡ err.old) }
+{
+    match Session::open(alloc, base_of_file(file), bytes) {
+        Ok(session) => {
+            if session.fault_count() > 0 {
+                tell_faults(file, session.faults(), err);
+                return Err(FAULTY);
+            }
+            if !session.has_constants_alone() {
+                tell_of_file("rpcgen", file, ": only const definitions yet\n", err);
+                return Err(FAILED);
+            }
+            Ok(session)
+        }
+        Err(fault) => {
+            tell_unopened("rpcgen", file, fault, err);
+            Err(FAILED)
+        }
+    }
+}
+
+/// Writes the faults of a file's text, one a line.
+fn tell_faults<E: Sink>(file: &str, faults: &[Fault], err: &mut E)
+    ensures { IsTold (E.contents err.old) (E.contents err.new) (E.has_failed err.new) (told_faults file.now faults.now) }
+{
+    let mut pen = Pen::new();
+    for fault in faults {
+        add_fault(file, fault, &mut pen, err);
+    }
+    let _ = pen.finish(err);
+}
+
+/// Adds the line that tells a fault of a file's text.
+fn add_fault<E: Sink>(file: &str, fault: &Fault, pen: &mut Pen, err: &mut E)
+    ensures { Adds pen.old (E.contents err.old) (E.has_failed err.old) pen.new (E.contents err.new) (E.has_failed err.new) (told_fault file.now fault.now) }
+{
+    pen.add(file.as_bytes(), err);
+    pen.add(b":", err);
+    add_place(fault, pen, err);
+    pen.add(b": ", err);
+    pen.add(fault.code.text().as_bytes(), err);
+    pen.add(b"\n", err);
+}
+
+/// Writes a generated text and flushes the output, and answers whether it took all.
+fn is_written<O: Sink>(which: GeneratedText, session: &Session, out: &mut O) -> bool
+    ensures written { IsTrue result → Compiles session.now.text (λ items. Appends (O.contents out.old) (O.contents out.new) (header session.now.base items)) }
+    ensures front { result ≡ false → Compiles session.now.text (λ items. Grows (O.contents out.old) (O.contents out.new) (header session.now.base items)) }
+    ensures working { result ≡ not (O.has_failed out.new) }
+{
+    if session.write_text(which, out).is_err() {
+        return false;
+    }
+    out.flush().is_ok()
+}
+
+/// Writes a generated text, and answers the status: 0, or 2 where the output fails, which it tells.
+pub fn gen_write<O: Sink, E: Sink>(
+    which: GeneratedText,
+    session: &Session,
+    out: &mut O,
+    err: &mut E,
+) -> u8
+    ensures written { result ≡ 0 → Compiles session.now.text (λ items. Appends (O.contents out.old) (O.contents out.new) (header session.now.base items)) }
+    ensures front { result ≢ 0 → Compiles session.now.text (λ items. Grows (O.contents out.old) (O.contents out.new) (header session.now.base items)) }
+    ensures status { result ≡ (if O.has_failed out.new then 2 else 0) }
+    ensures told { result ≢ 0 → IsTold (E.contents err.old) (E.contents err.new) (E.has_failed err.new) (codes "rpcgen: output cannot be written\n") }
+    ensures quiet { result ≡ 0 → err.new ≡ err.old }
+{
+    if is_written(which, session, out) {
+        return 0;
+    }
+    complain("rpcgen: output cannot be written\n", err);
+    FAILED
+}
