@@ -12,9 +12,13 @@ use Rattle.x_lex.specs.declared.mark.TheConstants.{MARKS}
 unfoldable pub mark_of : List ℕ → Option Mark
 mark_of word = option_map (λ entry. entry.1) (find (λ entry. bytes_eq entry.0.now word) MARKS)
 
--- how the mark is written: the table has the order of the marks
+-- the place of a mark in the table, which has the order of the marks
+abbrev pub place_of : Mark → ℕ
+place_of mark = tag_of the_type mark
+
+-- how the mark is written
 unfoldable pub text_of : Mark → List ℕ
-text_of mark = slice_index_or (map (λ entry. entry.0.now) MARKS) (tag_of the_type mark) []
+text_of mark = slice_index_or (map (λ entry. entry.0.now) MARKS) (place_of mark) []
 
 -- What follows is for the search alone, and no public clause rests on it.
 

@@ -1,8 +1,6 @@
 //! The marks: the words that have one spelling each.
 ghost use Rattle.std.specs.Prelude.{◌≡◌, ◌<◌, [], map, length, slice_index_or};
-ghost use denote.Enum.Declared.{tag_of};
-ghost use Rattle.x_lex.specs.contracts.mark.Mark.{the_type};
-ghost use Rattle.x_lex.specs.Marks.{mark_of, text_of, candidate};
+ghost use Rattle.x_lex.specs.Marks.{mark_of, text_of, place_of, candidate};
 
 /// A word with one spelling: a keyword (RFC 4506, section 6.2, and RFC 5531, section 12; `long` is one of this project) or a
 /// punctuation mark of the grammar.
@@ -130,8 +128,8 @@ fn candidate(word: &[u8]) -> Option<Mark>
 
 /// How the mark is written, by a table in the order of the marks.
 fn text_in(table: &[(&'static [u8], Mark)], mark: Mark) -> &'static [u8]
-    requires { tag_of the_type mark < length table.now }
-    ensures { result.now ≡ slice_index_or (map (λ entry. entry.0.now) table.now) (tag_of the_type mark) [] }
+    requires { place_of mark < length table.now }
+    ensures { result.now ≡ slice_index_or (map (λ entry. entry.0.now) table.now) (place_of mark) [] }
 {
     table[mark as usize].0
 }
