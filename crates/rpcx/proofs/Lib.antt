@@ -3,6 +3,7 @@ pub mod Bases
 pub mod CommandLemmas
 pub mod Commands
 pub mod Compiled
+pub mod DeclarerLaws
 pub mod DefinitionLemmas
 pub mod Digits
 pub mod EditLists

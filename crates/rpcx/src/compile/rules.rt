@@ -8,7 +8,7 @@ ghost use Rattle.rpcx.specs.Rules.{is_taken, is_at, rules};
 
 use crate::compile::fault::{FaultCode, WordFault};
 use crate::compile::names::{Declared, Declarer, Names};
-use crate::compile::number::is_in_range;
+use crate::compile::number::number_value;
 use std::alloc::Global;
 use x_item::{Definition, Value};
 use x_text::{Meter, NoMemory};
@@ -55,7 +55,7 @@ pub fn check_item(
                     code: FaultCode::Duplicate,
                 })?;
             }
-            if !is_in_range(value) {
+            if number_value(value).is_none() {
                 faults.push(WordFault {
                     word: 3,
                     code: FaultCode::Range,
