@@ -6,7 +6,7 @@ use Rattle.x_text.specs.Counts.{Counts, raised}
 use Rattle.x_lex.specs.Places.{Lexeme}
 use Rattle.x_item.specs.Parse.{Fault, IsParse}
 use Rattle.x_item.specs.Items.{AreItems, joined, IsCut}
-use Rattle.x_item.specs.declared.fault.FaultCode.{FaultCode}
+use Rattle.x_item.specs.declared.parsing.fault_code.FaultCode.{FaultCode}
 use Rattle.rpcx.specs.ItemView.{IsItem, AreEach, AreParsed}
 use Rattle.rpcx.specs.declared.compile.item.Item.{Item}
 

@@ -1,7 +1,7 @@
 -- The numbers and names of faults.
 use Rattle.std.specs.Prelude.{ℕ, List, codes}
-use Rattle.x_item.specs.declared.fault.FaultCode as syntax
-use Rattle.x_item.specs.declared.fault.FaultCode.TheVariants as item
+use Rattle.x_item.specs.declared.parsing.fault_code.FaultCode as syntax
+use Rattle.x_item.specs.declared.parsing.fault_code.FaultCode.TheVariants as item
 use Rattle.rpcx.specs.declared.compile.fault.FaultCode.{FaultCode}
 use Rattle.rpcx.specs.declared.compile.fault.FaultCode.TheVariants.{Syntax, BadByte, BadNumber, OpenComment, Directive, Unfinished, Duplicate, Range}
 

@@ -7,7 +7,7 @@ use Rattle.x_item.specs.Tree as tree
 use Rattle.x_item.specs.Parse.{IsParse}
 use Rattle.x_item.specs.Parse as parse
 use Rattle.x_item.specs.View.{view_definition}
-use Rattle.x_item.specs.declared.definition.Definition.{Definition}
+use Rattle.x_item.specs.declared.trees.definition.Definition.{Definition}
 use Rattle.rpcx.specs.Compile.{parsed_definition}
 use Rattle.rpcx.specs.declared.compile.item.Item.{Item}
 use Rattle.rpcx.specs.declared.compile.item.Parse.{Parse}

@@ -67,8 +67,8 @@ pub fn run_script<R: Tap, S: Sink>(
     tap: &mut R,
     sink: &mut S,
 ) -> Result<Outcome, EngineFault>
-    ensures runs { MatchOption (R.remaining tap.old) (Unit {0}) (λ script. Runs script (R.remaining tap.new) session.old session.new (S.contents sink.old) (S.contents sink.new) (S.has_failed sink.new) result) }
-    ensures cause { NamesCause result (R.has_failed tap.old) (R.has_failed tap.new) (S.has_failed sink.old) (S.has_failed sink.new) }
+    ensures runs { MatchOption (R.state tap.old).bytes (Unit {0}) (λ script. Runs script (R.state tap.new).bytes session.old session.new (S.state sink.old) (S.state sink.new) result) }
+    ensures cause { NamesCause result (R.state tap.old).failed (R.state tap.new).failed (S.state sink.old).failed (S.state sink.new).failed }
 {
     let mut reader = LineReader::new(alloc);
     let mut pen = Pen::new();
@@ -110,10 +110,10 @@ fn next_answer<R: Tap, S: Sink>(
     pen: &mut Pen,
     sink: &mut S,
 ) -> Result<Option<bool>, LineFault>
-    ensures given { (script : List ℕ) (given : List (List ℕ)) → HasGiven script reader.old (R.remaining tap.old) given →
-        GoesOn session.old session.new script reader.new (R.remaining tap.new) given result pen.old (S.contents sink.old) (S.has_failed sink.old) pen.new (S.contents sink.new) (S.has_failed sink.new) }
-    ensures adds { AddsIfFound result sink.old sink.new ((told : List ℕ) × Adds pen.old (S.contents sink.old) (S.has_failed sink.old) pen.new (S.contents sink.new) (S.has_failed sink.new) told) }
-    ensures failed { FailsBy result (R.has_failed tap.old) (R.has_failed tap.new) }
+    ensures given { (script : List ℕ) (given : List (List ℕ)) → HasGiven script reader.old (R.state tap.old).bytes given →
+        GoesOn session.old session.new script reader.new (R.state tap.new).bytes given result pen.old (S.state sink.old) pen.new (S.state sink.new) }
+    ensures adds { AddsIfFound result sink.old sink.new ((told : List ℕ) × Adds pen.old (S.state sink.old) pen.new (S.state sink.new) told) }
+    ensures failed { FailsBy result (R.state tap.old).failed (R.state tap.new).failed }
 {
     // So that the contract of `item_count` says that the text has items, of which a line that is too long asks nothing.
     let _items = session.item_count();
@@ -139,7 +139,7 @@ fn carry_out<S: Sink>(
     sink: &mut S,
 ) -> Result<bool, NoMemory>
     ensures given { IfOk result (λ refused. Compiles session.old.text (λ items. IsGiven (answer session.old.base session.old.text items (asked command.now)) session.old session.new refused
-        pen.old (S.contents sink.old) (S.has_failed sink.old) pen.new (S.contents sink.new) (S.has_failed sink.new))) }
+        pen.old (S.state sink.old) pen.new (S.state sink.new))) }
     ensures same { OnErr result ((session.new ≡ session.old) × (pen.new ≡ pen.old) × (sink.new ≡ sink.old)) }
 {
     // So that the contract of `item_count` says that the text has items, of which an edit asks nothing.
@@ -171,7 +171,7 @@ fn answer_line<S: Sink>(
 ) -> Result<bool, NoMemory>
     requires { length line.now ≤ LONGEST }
     ensures given { IfOk result (λ refused. Compiles session.old.text (λ items. IsGiven (line_answer session.old.base session.old.text items line.now) session.old session.new refused
-        pen.old (S.contents sink.old) (S.has_failed sink.old) pen.new (S.contents sink.new) (S.has_failed sink.new))) }
+        pen.old (S.state sink.old) pen.new (S.state sink.new))) }
     ensures same { OnErr result ((session.new ≡ session.old) × (pen.new ≡ pen.old) × (sink.new ≡ sink.old)) }
 {
     let command = parse_command(alloc, line)?;
@@ -186,7 +186,7 @@ fn carry_out_edit<S: Sink>(
     sink: &mut S,
 ) -> Result<bool, NoMemory>
     ensures given { IfOk result (λ refused. IsGiven (edit_answer session.old.text edit.now.start edit.now.end edit.now.insert.now) session.old session.new refused
-        pen.old (S.contents sink.old) (S.has_failed sink.old) pen.new (S.contents sink.new) (S.has_failed sink.new)) }
+        pen.old (S.state sink.old) pen.new (S.state sink.new)) }
     ensures same { OnErr result ((session.new ≡ session.old) × (pen.new ≡ pen.old) × (sink.new ≡ sink.old)) }
 {
     match session.apply(edit) {

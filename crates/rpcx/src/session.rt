@@ -211,7 +211,7 @@ impl Session {
 
     /// Writes a generated text. After a fault the sink has exactly its first `written` bytes.
     pub fn write_text<S: Sink>(&self, which: GeneratedText, sink: &mut S) -> Result<(), WriteFault>
-        ensures { Compiles self.now.text (λ items. IsWritten result (S.contents sink.old) (S.contents sink.new) (S.has_failed sink.new) (header self.now.base items)) }
+        ensures { Compiles self.now.text (λ items. IsWritten result (S.state sink.old) (S.state sink.new) (header self.now.base items)) }
     {
         let mut pen = Pen::new();
         self.add_text(which, &mut pen, sink);
@@ -220,7 +220,7 @@ impl Session {
 
     /// Adds a generated text.
     pub(crate) fn add_text<S: Sink>(&self, which: GeneratedText, pen: &mut Pen, sink: &mut S)
-        ensures { Compiles self.now.text (λ items. Adds pen.old (S.contents sink.old) (S.has_failed sink.old) pen.new (S.contents sink.new) (S.has_failed sink.new) (header self.now.base items)) }
+        ensures { Compiles self.now.text (λ items. Adds pen.old (S.state sink.old) pen.new (S.state sink.new) (header self.now.base items)) }
     {
         match which {
             GeneratedText::Header => {

@@ -5,7 +5,7 @@ use Rattle.std.specs.List.{splice}
 use Rattle.std.proofs.lemmas.List.{map-append, take-map, drop-map, length-map, take_at}
 use Rattle.x_text.specs.Seqs.{Gapped}
 use Rattle.x_text.specs.declared.source.TheConstants.{MAX_TEXT}
-use Rattle.x_item.specs.declared.entry.Entry.{Entry}
+use Rattle.x_item.specs.declared.cutting.entry.Entry.{Entry}
 use Rattle.x_item.specs.ItemList.{total, counts, tokens_before, ItemChange, patched, LiesAmong, AreOfText, AreSeated}
 
 pub total-append : (cs ds : List ℕ) → total (cs ++ ds) ≡ total cs + total ds

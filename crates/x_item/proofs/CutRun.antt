@@ -5,7 +5,7 @@ use Rattle.std.proofs.lemmas.Bool.Decides.{nat_tests}
 use Rattle.std.proofs.lemmas.List.{map-append, length_push}
 use Rattle.x_text.specs.declared.source.TheConstants.{MAX_TEXT}
 use Rattle.x_lex.specs.Places.{Lexeme}
-use Rattle.x_item.specs.declared.entry.Entry.{Entry}
+use Rattle.x_item.specs.declared.cutting.entry.Entry.{Entry}
 use Rattle.x_item.specs.Items.{IsCut}
 use Rattle.x_item.specs.ItemList.{total, counts, AreOfText}
 use Rattle.x_item.specs.Cutting.{Role, opening, closing, semicolon, plain, role_of, roles_of, depth_after, ends_at, counts_from}

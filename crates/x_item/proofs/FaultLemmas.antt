@@ -10,9 +10,9 @@ use Rattle.x_item.specs.Spell.{spell, KeepsLimits, Begins}
 use Rattle.x_item.specs.Parse.{code_of, IsStuck}
 use Rattle.x_item.specs.Symbols.{Symbol, Item, step, go}
 use Rattle.x_item.specs.Reading.{Place, place_of, places_of, words_at, read, IsAt, IsRefused}
-use Rattle.x_item.specs.declared.fault.FaultCode.{FaultCode}
-use Rattle.x_item.specs.declared.reading.ParseError.{ParseError}
-use Rattle.x_item.specs.declared.reading.ParseError.TheVariants as errors
+use Rattle.x_item.specs.declared.parsing.fault_code.FaultCode.{FaultCode}
+use Rattle.x_item.specs.declared.parsing.parse_error.ParseError.{ParseError}
+use Rattle.x_item.specs.declared.parsing.parse_error.ParseError.TheVariants as errors
 use Rattle.x_item.proofs.Machine.{drive, Stuck, past, stuck}
 use Rattle.x_item.proofs.Grammar.{Value, text, build, built, split, least}
 use Rattle.x_item.proofs.PlaceLemmas.{places_word, places_other}

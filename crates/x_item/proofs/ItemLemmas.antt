@@ -8,8 +8,8 @@ use Rattle.x_item.specs.Tree.{Definition}
 use Rattle.x_item.specs.Spell.{spell, KeepsLimits}
 use Rattle.x_item.specs.Symbols.{Item}
 use Rattle.x_item.specs.Reading.{Place, ahead, words_at, left_in, code_in, read, Fails, IsPart, IsSplit, IsRefused}
-use Rattle.x_item.specs.declared.reading.ParseError.{ParseError}
-use Rattle.x_item.specs.declared.reading.ParseError.TheVariants as errors
+use Rattle.x_item.specs.declared.parsing.parse_error.ParseError.{ParseError}
+use Rattle.x_item.specs.declared.parsing.parse_error.ParseError.TheVariants as errors
 use Rattle.x_item.proofs.FaultLemmas.{words_places, refused, behind}
 
 pub found_whole : (tokens rest : List Token) (d : Definition) → words_at (ahead tokens) ≡ spell d ++ words_at (ahead rest) → ahead rest ≡ [] → spell d ≡ words_of (map lexeme tokens)

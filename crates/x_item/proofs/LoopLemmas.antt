@@ -12,17 +12,17 @@ use Rattle.x_item.specs.declared.mark.Mark.{Mark}
 use Rattle.x_item.specs.declared.mark.Mark.TheVariants as marks
 use Rattle.x_item.specs.declared.mark.Ending.{Ending}
 use Rattle.x_item.specs.declared.mark.Ending.TheVariants as endings
-use Rattle.x_item.specs.declared.definition.Enumerator.{Enumerator}
-use Rattle.x_item.specs.declared.definition.Value.{Value}
-use Rattle.x_item.specs.declared.definition.Tag.{Tag}
-use Rattle.x_item.specs.declared.definition.Tag.TheVariants as tags
-use Rattle.x_item.specs.declared.definition.Declaration.{Declaration}
-use Rattle.x_item.specs.declared.definition.Arm.{Arm}
-use Rattle.x_item.specs.declared.fault.FaultCode.{FaultCode}
-use Rattle.x_item.specs.declared.reading.Word as source
-use Rattle.x_item.specs.declared.reading.Word.TheVariants as words
-use Rattle.x_item.specs.declared.reading.ParseError.{ParseError}
-use Rattle.x_item.specs.declared.reading.ParseError.TheVariants as errors
+use Rattle.x_item.specs.declared.trees.declaration.Enumerator.{Enumerator}
+use Rattle.x_item.specs.declared.trees.value.Value.{Value}
+use Rattle.x_item.specs.declared.trees.declaration.Tag.{Tag}
+use Rattle.x_item.specs.declared.trees.declaration.Tag.TheVariants as tags
+use Rattle.x_item.specs.declared.trees.declaration.Declaration.{Declaration}
+use Rattle.x_item.specs.declared.trees.declaration.Arm.{Arm}
+use Rattle.x_item.specs.declared.parsing.fault_code.FaultCode.{FaultCode}
+use Rattle.x_item.specs.declared.parsing.words.Word as source
+use Rattle.x_item.specs.declared.parsing.words.Word.TheVariants as words
+use Rattle.x_item.specs.declared.parsing.parse_error.ParseError.{ParseError}
+use Rattle.x_item.specs.declared.parsing.parse_error.ParseError.TheVariants as errors
 use Rattle.x_item.specs.Symbols.{Symbol, Context, InDeclaration, Token, AnyName, AnyValue, AnyLength, AfterLess, AfterName, AfterType, AfterUnsigned, Typed, AfterTag, AnyBody, Enumerators, AfterEnumerator, MoreEnumerators, Declared, Declarations, MoreDeclarations, Arms, AfterCase, MoreArms, ending_mark, followed, go, step_declared}
 use Rattle.x_item.specs.Reading.{view_word, Place, HasFirst, IsRead, Fails, read, spell_ended, spell_arm}
 use Rattle.x_item.proofs.ReadLemmas.{Alike, alike, alike_first, headed, read_first, read_after, fails_then}

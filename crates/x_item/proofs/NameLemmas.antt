@@ -5,8 +5,8 @@ use Rattle.x_item.specs.Tree as tree
 use Rattle.x_item.specs.Spell.{spell_enumerator, spell_cases, spell_type, spell_named, spell_body, spell_declaration, spell_arms}
 use Rattle.x_item.specs.Names.{Declared, kept, lifted_name, body_kind, star, by_other_enumerators, by_body, by_declaration, by_declarations, by_arms, by_default, by_typedef}
 use Rattle.x_item.specs.Collected.{Walked, Covers}
-use Rattle.x_item.specs.declared.names.NameKind.{NameKind}
-use Rattle.x_item.specs.declared.names.NameKind.TheVariants as kinds
+use Rattle.x_item.specs.declared.names.declared_name.NameKind.{NameKind}
+use Rattle.x_item.specs.declared.names.declared_name.NameKind.TheVariants as kinds
 use Rattle.x_item.proofs.CollectLemmas.{finds_then, finds_as}
 
 pub other_parts : (e : tree.Enumerator) (es : List tree.Enumerator) (k : ℕ) → (record { name = e.name; word = k + 1; kind = kinds.Constant; lifted = false } ∷ []) ++ by_other_enumerators (k + (length (spell_enumerator e) + 1)) es ≡ by_other_enumerators k (e ∷ es)

@@ -7,7 +7,7 @@ use Rattle.x_item.specs.Tree as tree
 use Rattle.x_item.specs.Tree.{Definition}
 use Rattle.x_item.specs.Spell.{spell, KeepsLimits, Begins}
 use Rattle.x_item.specs.Parse.{Parse, Nothing, Def, Fault, IsParse, IsStuck, IsLastWord, code_of}
-use Rattle.x_item.specs.declared.fault.FaultCode.{FaultCode}
+use Rattle.x_item.specs.declared.parsing.fault_code.FaultCode.{FaultCode}
 use Rattle.x_item.proofs.WordLemmas.{words_of-append, words_of-word}
 use Rattle.x_item.proofs.SpellingLaws.{one_spelling}
 

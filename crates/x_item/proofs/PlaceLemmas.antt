@@ -6,7 +6,7 @@ use Rattle.x_lex.specs.Places.{Lexeme, lexeme}
 use Rattle.x_lex.specs.declared.token.Token.{Token}
 use Rattle.x_item.specs.Words.{word_of, is_significant}
 use Rattle.x_item.specs.Parse.{code_of}
-use Rattle.x_item.specs.declared.fault.FaultCode.TheVariants as codes
+use Rattle.x_item.specs.declared.parsing.fault_code.FaultCode.TheVariants as codes
 use Rattle.x_item.specs.Reading.{place_of, places_of, ahead, first_left, first_code, left_in, code_in, IsSplit}
 
 pub places_word : (t : Lexeme) (ts : List Lexeme) → is_significant t.kind ≡ true → places_of (t ∷ ts) ≡ place_of t ts ∷ places_of ts

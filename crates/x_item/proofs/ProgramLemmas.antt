@@ -7,13 +7,13 @@ use Rattle.x_item.specs.Tree as tree
 use Rattle.x_item.specs.Spell.{spell_argument, spell_passed, spell_others, spell_procedure, spell_procedures, spell_version, spell_versions, ArgumentFits, OthersFit, ProcedureFits, ProceduresFit, VersionFits, VersionsFit}
 use Rattle.x_item.specs.declared.mark.Mark.TheVariants as marks
 use Rattle.x_item.specs.View.{view_argument}
-use Rattle.x_item.specs.declared.definition.Argument.{Argument}
-use Rattle.x_item.specs.declared.fault.FaultCode.{FaultCode}
+use Rattle.x_item.specs.declared.trees.program.Argument.{Argument}
+use Rattle.x_item.specs.declared.parsing.fault_code.FaultCode.{FaultCode}
 use Rattle.x_item.specs.Symbols.{Symbol, Token, AnyName, Typed, InArguments, InResult, AfterType, Arguments, Parameters, Procedures, MoreProcedures, Versions, MoreVersions, go, followed, step_result, of_number, of_procedure, of_version}
 use Rattle.x_item.specs.Symbols.{Result as AnyResult}
 use Rattle.x_item.specs.Reading.{Place, HasFirst, read}
-use Rattle.x_item.specs.declared.reading.ParseError.{ParseError}
-use Rattle.x_item.specs.declared.reading.ParseError.TheVariants as errors
+use Rattle.x_item.specs.declared.parsing.parse_error.ParseError.{ParseError}
+use Rattle.x_item.specs.declared.parsing.parse_error.ParseError.TheVariants as errors
 use Rattle.x_item.proofs.ReadLemmas.{Alike, alike, alike_first, headed}
 
 -- an argument that is no `string`

@@ -7,10 +7,10 @@ use Rattle.x_lex.specs.declared.token.Token.{Token}
 use Rattle.x_item.specs.Words.{Word, Fixed}
 use Rattle.x_item.specs.declared.mark.Mark.{Mark}
 use Rattle.x_item.specs.Symbols.{Symbol, Token as OfMark, mark_code, go}
-use Rattle.x_item.specs.declared.fault.FaultCode.{FaultCode}
+use Rattle.x_item.specs.declared.parsing.fault_code.FaultCode.{FaultCode}
 use Rattle.x_item.specs.Reading.{Place, IsAt, Fails, IsRead, IsPart, HasFirst, ahead, words_at, left_in, code_in, read}
-use Rattle.x_item.specs.declared.reading.ParseError.{ParseError}
-use Rattle.x_item.specs.declared.reading.ParseError.TheVariants as errors
+use Rattle.x_item.specs.declared.parsing.parse_error.ParseError.{ParseError}
+use Rattle.x_item.specs.declared.parsing.parse_error.ParseError.TheVariants as errors
 
 -- an error is where reading stops
 pub at_along : (e : ParseError) (r q : Result (List Place) ParseError) → r ≡ q → IsAt e q → IsAt e r

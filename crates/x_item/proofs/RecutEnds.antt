@@ -14,7 +14,7 @@ use Rattle.x_lex.specs.Places.{lexemes}
 use Rattle.x_lex.specs.Relex.{old_place}
 use Rattle.x_lex.proofs.RelexEnds.{tokens_fit}
 use Rattle.x_lex.proofs.RelexRun.{IsEdit}
-use Rattle.x_item.specs.declared.entry.Entry.{Entry}
+use Rattle.x_item.specs.declared.cutting.entry.Entry.{Entry}
 use Rattle.x_item.specs.ItemList.{total, counts, tokens_before, ItemChange, patched, AreOfText}
 use Rattle.x_item.specs.Cutting.{Role, roles, counts_from, ends_at, depth_after}
 use Rattle.x_item.specs.Recut.{Change, IsRelexed, IsItemPatch, start_of, EndsBefore, IsBehind, IsRejoining, IsRecut, IsAmong}

@@ -10,7 +10,7 @@ use Rattle.x_lex.specs.TokenList as tokens
 use Rattle.x_lex.specs.Places.{lexemes}
 use Rattle.x_lex.specs.Relex.{old_place}
 use Rattle.x_lex.proofs.MeetingLemmas.{same_meeting}
-use Rattle.x_item.specs.declared.entry.Entry.{Entry}
+use Rattle.x_item.specs.declared.cutting.entry.Entry.{Entry}
 use Rattle.x_item.specs.ItemList.{ItemChange, counts, patched, tokens_before}
 use Rattle.x_item.specs.Recut.{Change, IsRelexed, IsItemPatch, IsRejoining, IsBehind, EndsBefore, AreOne, start_of}
 use Rattle.x_item.proofs.CountLemmas.{counts-splice}

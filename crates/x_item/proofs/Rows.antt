@@ -2,12 +2,12 @@
 use Rattle.std.proofs.Common.{◌≡◌, map, Option, Some, None, refl, ap, sym, ◌∙◌}
 use Rattle.x_item.specs.Tree as tree
 use Rattle.x_item.specs.View.{view_body, view_declaration, view_row, view_declarations, view_arm_row, view_arms, view_value, view_union, view_held, view_default}
-use Rattle.x_item.specs.declared.definition.Body.{Row_of-Declaration, end_of-Declaration, more_of-Declaration, items-the_row-Declaration, items_hidden-the_row-Declaration-0}
-use Rattle.x_item.specs.declared.definition.Body.TheVariants.{Struct}
-use Rattle.x_item.specs.declared.definition.Body.TheBlock.{hidden-the_row-Declaration-0, hidden-the_row-Arm-1}
-use Rattle.x_item.specs.declared.definition.UnionBody.{Row_of-Arm, end_of-Arm, more_of-Arm, items-the_row-Arm, items_hidden-the_row-Arm-1, back-UnionBody-default, roll-UnionBody, rolls-UnionBody', UnionBody, out-UnionBody, roll-out-UnionBody}
-use Rattle.x_item.specs.declared.definition.Declaration.{Declaration}
-use Rattle.x_item.specs.declared.definition.Arm.{Arm}
+use Rattle.x_item.specs.declared.trees.declaration.Body.{Row_of-Declaration, end_of-Declaration, more_of-Declaration, items-the_row-Declaration, items_hidden-the_row-Declaration-0}
+use Rattle.x_item.specs.declared.trees.declaration.Body.TheVariants.{Struct}
+use Rattle.x_item.specs.declared.trees.declaration.Body.TheBlock.{hidden-the_row-Declaration-0, hidden-the_row-Arm-1}
+use Rattle.x_item.specs.declared.trees.declaration.UnionBody.{Row_of-Arm, end_of-Arm, more_of-Arm, items-the_row-Arm, items_hidden-the_row-Arm-1, back-UnionBody-default, roll-UnionBody, rolls-UnionBody', UnionBody, out-UnionBody, roll-out-UnionBody}
+use Rattle.x_item.specs.declared.trees.declaration.Declaration.{Declaration}
+use Rattle.x_item.specs.declared.trees.declaration.Arm.{Arm}
 use Rattle.std.specs.declared.vec.Vec.{Vec}
 use Rattle.std.specs.declared.alloc.Global.{Global}
 

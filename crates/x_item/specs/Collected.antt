@@ -2,8 +2,8 @@
 use Rattle.std.specs.Prelude.{◌≡◌, ℕ, ◌+◌, ◌-◌, ◌^◌, min, List, ◌++◌, map}
 use Rattle.x_item.specs.Mentions as tree
 use Rattle.x_item.specs.Mentions.{kept}
-use Rattle.x_item.specs.declared.mention.Mention.{Mention}
-use Rattle.x_item.specs.declared.mention.Walk.{Walk}
+use Rattle.x_item.specs.declared.names.mention.Mention.{Mention}
+use Rattle.x_item.specs.declared.names.mentions.Walk.{Walk}
 
 -- the word to which a walk has come, and what it has found on its way
 pub record Walked (A : Type 0) : Type 0 where

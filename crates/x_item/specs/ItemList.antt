@@ -3,7 +3,7 @@ use Rattle.std.specs.Prelude.{◌≡◌, ℕ, ◌+◌, ◌<◌, ◌≤◌, List,
 use Rattle.std.specs.List.{splice}
 use Rattle.x_text.specs.Seqs.{Gapped}
 use Rattle.x_text.specs.declared.source.TheConstants.{MAX_TEXT}
-use Rattle.x_item.specs.declared.entry.Entry.{Entry}
+use Rattle.x_item.specs.declared.cutting.entry.Entry.{Entry}
 
 -- how many tokens each item has
 abbrev pub counts : {K : Type 0} → List (Entry K) → List ℕ

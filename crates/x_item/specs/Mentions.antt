@@ -2,9 +2,9 @@
 use Rattle.std.specs.Prelude.{ℕ, ◌+◌, ◌-◌, ◌^◌, min, List, [], ◌∷◌, ◌++◌, length, Option, Some, None}
 use Rattle.x_item.specs.Tree as tree
 use Rattle.x_item.specs.Spell.{spell_enumerator, spell_cases, spell_type, spell_declaration, spell_arms, spell_passed, spell_argument, spell_procedure, spell_version}
-use Rattle.x_item.specs.declared.definition.Tag.{Tag}
-use Rattle.x_item.specs.declared.mention.Use.{Use}
-use Rattle.x_item.specs.declared.mention.Use.TheVariants.{Value, ByValue, Link}
+use Rattle.x_item.specs.declared.trees.declaration.Tag.{Tag}
+use Rattle.x_item.specs.declared.names.mention.Use.{Use}
+use Rattle.x_item.specs.declared.names.mention.Use.TheVariants.{Value, ByValue, Link}
 
 -- a name, the word where it stands, what it is used as, and the keyword in front of it
 pub record Mention : Type 0 where

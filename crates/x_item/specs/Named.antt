@@ -2,8 +2,8 @@
 use Rattle.std.specs.Prelude.{ℕ, List, map}
 use Rattle.x_item.specs.Names.{Declared, kept}
 use Rattle.x_item.specs.Collected.{Walked, Covers, CoversOn}
-use Rattle.x_item.specs.declared.names.DeclaredName.{DeclaredName}
-use Rattle.x_item.specs.declared.names.NameWalk.{NameWalk}
+use Rattle.x_item.specs.declared.names.declared_name.DeclaredName.{DeclaredName}
+use Rattle.x_item.specs.declared.names.declares.NameWalk.{NameWalk}
 
 abbrev pub view_name : DeclaredName → Declared
 view_name d = record { name = d.name.items; word = d.word; kind = d.kind; lifted = d.lifted }

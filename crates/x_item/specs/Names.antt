@@ -2,8 +2,8 @@
 use Rattle.std.specs.Prelude.{ℕ, ◌+◌, ◌-◌, ◌^◌, min, Bool, true, false, List, [], ◌∷◌, ◌++◌, length, codes}
 use Rattle.x_item.specs.Tree as tree
 use Rattle.x_item.specs.Spell.{spell_enumerator, spell_cases, spell_type, spell_declaration, spell_arms}
-use Rattle.x_item.specs.declared.names.NameKind.{NameKind}
-use Rattle.x_item.specs.declared.names.NameKind.TheVariants as kinds
+use Rattle.x_item.specs.declared.names.declared_name.NameKind.{NameKind}
+use Rattle.x_item.specs.declared.names.declared_name.NameKind.TheVariants as kinds
 
 -- a name, the word that declares it, what it is declared as, and whether it is lifted: the name of an inline type
 pub record Declared : Type 0 where

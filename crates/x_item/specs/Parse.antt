@@ -6,8 +6,8 @@ use Rattle.x_lex.specs.declared.kind.Kind.TheVariants as kinds
 use Rattle.x_item.specs.Words.{word_of, words_of, is_significant}
 use Rattle.x_item.specs.Tree.{Definition}
 use Rattle.x_item.specs.Spell.{spell, KeepsLimits, Begins}
-use Rattle.x_item.specs.declared.fault.FaultCode.{FaultCode}
-use Rattle.x_item.specs.declared.fault.FaultCode.TheVariants as codes
+use Rattle.x_item.specs.declared.parsing.fault_code.FaultCode.{FaultCode}
+use Rattle.x_item.specs.declared.parsing.fault_code.FaultCode.TheVariants as codes
 
 -- a definition, or the fault at a token of the item, counted from 0
 pub data Parse : Type 0 where

@@ -10,12 +10,12 @@ use Rattle.x_item.specs.Parse.{code_of, IsStuck}
 use Rattle.x_item.specs.Symbols.{Symbol, ending_mark, go, step}
 use Rattle.x_item.specs.declared.mark.Mark.TheVariants as marks
 use Rattle.x_item.specs.declared.mark.Ending.{Ending}
-use Rattle.x_item.specs.declared.fault.FaultCode.{FaultCode}
-use Rattle.x_item.specs.declared.fault.FaultCode.TheVariants as codes
-use Rattle.x_item.specs.declared.reading.Word as source
-use Rattle.x_item.specs.declared.reading.Word.TheVariants as words
-use Rattle.x_item.specs.declared.reading.ParseError.{ParseError}
-use Rattle.x_item.specs.declared.reading.ParseError.TheVariants as errors
+use Rattle.x_item.specs.declared.parsing.fault_code.FaultCode.{FaultCode}
+use Rattle.x_item.specs.declared.parsing.fault_code.FaultCode.TheVariants as codes
+use Rattle.x_item.specs.declared.parsing.words.Word as source
+use Rattle.x_item.specs.declared.parsing.words.Word.TheVariants as words
+use Rattle.x_item.specs.declared.parsing.parse_error.ParseError.{ParseError}
+use Rattle.x_item.specs.declared.parsing.parse_error.ParseError.TheVariants as errors
 
 -- the word that the program tells a token for
 abbrev pub view_word : source.Word → Word

@@ -9,7 +9,7 @@ use Rattle.x_lex.specs.TokenList.{TokenPatch}
 use Rattle.x_lex.specs.Relex.{Agrees, IsMeeting, IsPatch, old_place}
 use Rattle.x_item.specs.Items.{IsCut}
 use Rattle.x_item.specs.ItemList.{ItemChange, patched, LiesAmong, tokens_before, counts}
-use Rattle.x_item.specs.declared.entry.Entry.{Entry}
+use Rattle.x_item.specs.declared.cutting.entry.Entry.{Entry}
 
 -- the bytes from `start` to before `end` of the text `old` went, and those of `insert` came in their place
 pub record Change : Type 0 where

@@ -6,10 +6,10 @@ use Rattle.x_item.specs.Tree as tree
 use Rattle.x_item.specs.Words.{Word, Fixed, Name, Number}
 use Rattle.x_item.specs.declared.mark.Mark.{Mark}
 use Rattle.x_item.specs.declared.mark.Mark.TheVariants as marks
-use Rattle.x_item.specs.declared.definition.Basic.{Basic}
-use Rattle.x_item.specs.declared.definition.Basic.TheVariants as basics
-use Rattle.x_item.specs.declared.definition.Tag.{Tag}
-use Rattle.x_item.specs.declared.definition.Tag.TheVariants as tags
+use Rattle.x_item.specs.declared.trees.declaration.Basic.{Basic}
+use Rattle.x_item.specs.declared.trees.declaration.Basic.TheVariants as basics
+use Rattle.x_item.specs.declared.trees.declaration.Tag.{Tag}
+use Rattle.x_item.specs.declared.trees.declaration.Tag.TheVariants as tags
 
 -- value: NUMBER | NAME
 abbrev pub spell_value : tree.Value → Word

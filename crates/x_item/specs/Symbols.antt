@@ -5,8 +5,8 @@ use Rattle.x_item.specs.declared.mark.Mark.{Mark}
 use Rattle.x_item.specs.declared.mark.Mark.TheVariants as marks
 use Rattle.x_item.specs.declared.mark.Ending.{Ending}
 use Rattle.x_item.specs.declared.mark.Ending.TheVariants as endings
-use Rattle.x_item.specs.declared.definition.Tag.{Tag}
-use Rattle.x_item.specs.declared.definition.Tag.TheVariants as tags
+use Rattle.x_item.specs.declared.trees.declaration.Tag.{Tag}
+use Rattle.x_item.specs.declared.trees.declaration.Tag.TheVariants as tags
 
 -- where a type stands, and so what may stand after it
 pub data Context : Type 0 where

@@ -1,7 +1,7 @@
 -- The trees of definitions, apart from where they lie in memory. Each name and number is kept as it is spelled.
 use Rattle.std.specs.Prelude.{ℕ, List, Option}
-use Rattle.x_item.specs.declared.definition.Basic.{Basic}
-use Rattle.x_item.specs.declared.definition.Tag.{Tag}
+use Rattle.x_item.specs.declared.trees.declaration.Basic.{Basic}
+use Rattle.x_item.specs.declared.trees.declaration.Tag.{Tag}
 
 -- a number, or the name of a constant
 pub data Value : Type 0 where

@@ -1,27 +1,27 @@
 -- The tree of a definition of the program.
 use Rattle.std.specs.Prelude.{List, [], ◌∷◌, Option, Some, None, map}
 use Rattle.x_item.specs.Tree as tree
-use Rattle.x_item.specs.declared.definition.Value.{Value}
-use Rattle.x_item.specs.declared.definition.Value.TheVariants as values
-use Rattle.x_item.specs.declared.definition.Length.{Length}
-use Rattle.x_item.specs.declared.definition.Length.TheVariants as lengths
-use Rattle.x_item.specs.declared.definition.Shape.{Shape}
-use Rattle.x_item.specs.declared.definition.Shape.TheVariants as shapes
-use Rattle.x_item.specs.declared.definition.Enumerator.{Enumerator}
-use Rattle.x_item.specs.declared.definition.DataType.{DataType}
-use Rattle.x_item.specs.declared.definition.DataType.TheVariants.{Basic, Named, Tagged, Inline'}
-use Rattle.x_item.specs.declared.definition.Body.{Body, Row_of-Declaration, end_of-Declaration, more_of-Declaration}
-use Rattle.x_item.specs.declared.definition.Body.TheVariants.{Enum, Struct', Union}
-use Rattle.x_item.specs.declared.definition.Declaration.{Declaration}
-use Rattle.x_item.specs.declared.definition.Declaration.TheVariants.{Void, Of, Opaque, String}
-use Rattle.x_item.specs.declared.definition.UnionBody.{UnionBody, UnionBody', Row_of-Arm, end_of-Arm, more_of-Arm, Held-UnionBody-default, None', Some'}
-use Rattle.x_item.specs.declared.definition.Arm.{Arm}
-use Rattle.x_item.specs.declared.definition.Argument.{Argument}
-use Rattle.x_item.specs.declared.definition.Argument.TheVariants as arguments
-use Rattle.x_item.specs.declared.definition.Procedure.{Procedure}
-use Rattle.x_item.specs.declared.definition.Version.{Version}
-use Rattle.x_item.specs.declared.definition.Definition.{Definition}
-use Rattle.x_item.specs.declared.definition.Definition.TheVariants as definitions
+use Rattle.x_item.specs.declared.trees.value.Value.{Value}
+use Rattle.x_item.specs.declared.trees.value.Value.TheVariants as values
+use Rattle.x_item.specs.declared.trees.declaration.Length.{Length}
+use Rattle.x_item.specs.declared.trees.declaration.Length.TheVariants as lengths
+use Rattle.x_item.specs.declared.trees.declaration.Shape.{Shape}
+use Rattle.x_item.specs.declared.trees.declaration.Shape.TheVariants as shapes
+use Rattle.x_item.specs.declared.trees.declaration.Enumerator.{Enumerator}
+use Rattle.x_item.specs.declared.trees.declaration.DataType.{DataType}
+use Rattle.x_item.specs.declared.trees.declaration.DataType.TheVariants.{Basic, Named, Tagged, Inline'}
+use Rattle.x_item.specs.declared.trees.declaration.Body.{Body, Row_of-Declaration, end_of-Declaration, more_of-Declaration}
+use Rattle.x_item.specs.declared.trees.declaration.Body.TheVariants.{Enum, Struct', Union}
+use Rattle.x_item.specs.declared.trees.declaration.Declaration.{Declaration}
+use Rattle.x_item.specs.declared.trees.declaration.Declaration.TheVariants.{Void, Of, Opaque, String}
+use Rattle.x_item.specs.declared.trees.declaration.UnionBody.{UnionBody, UnionBody', Row_of-Arm, end_of-Arm, more_of-Arm, Held-UnionBody-default, None', Some'}
+use Rattle.x_item.specs.declared.trees.declaration.Arm.{Arm}
+use Rattle.x_item.specs.declared.trees.program.Argument.{Argument}
+use Rattle.x_item.specs.declared.trees.program.Argument.TheVariants as arguments
+use Rattle.x_item.specs.declared.trees.program.Procedure.{Procedure}
+use Rattle.x_item.specs.declared.trees.program.Version.{Version}
+use Rattle.x_item.specs.declared.trees.definition.Definition.{Definition}
+use Rattle.x_item.specs.declared.trees.definition.Definition.TheVariants as definitions
 
 abbrev pub view_value : Value → tree.Value
 view_value (values.Number t) = tree.Number t.items

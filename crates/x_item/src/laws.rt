@@ -3,7 +3,7 @@ ghost use Rattle.x_lex.specs.declared.kind.Kind.{Kind};
 ghost use Rattle.x_lex.specs.Places.{Lexeme};
 ghost use Rattle.x_lex.specs.TokenList.{TokenPatch, patched};
 ghost use Rattle.x_item.specs.Tree.{Definition};
-ghost use Rattle.x_item.specs.declared.entry.Entry.{Entry};
+ghost use Rattle.x_item.specs.declared.cutting.entry.Entry.{Entry};
 ghost use Rattle.x_item.specs.Items.{IsCut};
 ghost use Rattle.x_item.specs.ItemList.{ItemChange, counts};
 ghost use Rattle.x_item.specs.Recut.{Change, IsRelexed, IsItemPatch, AreOne};

@@ -2,37 +2,24 @@
 //! definitions, how they are spelled, and how an item is parsed ([`parse_item`]); and the names that a definition declares and uses.
 #![tactic(auto)]
 
-mod cutter;
 mod cutting;
-mod definition;
-mod entry;
-mod fault;
-mod item;
-mod item_patch;
-mod items;
 mod laws;
 mod mark;
-mod mention;
 mod names;
-mod parse;
-mod program;
-mod reading;
-mod recutting;
-mod types;
+mod parsing;
+mod trees;
 
-pub use cutting::cut;
-pub use definition::{
+pub use cutting::cut::cut;
+pub use cutting::recut::recut;
+pub use cutting::{Entry, ItemPatch, Items};
+pub use laws::{one_cut, one_parse, one_recut, spell_law};
+pub use mark::Mark;
+pub use names::declares::declares;
+pub use names::mentions::mentions;
+pub use names::{DeclaredName, Mention, NameKind, Use};
+pub use parsing::parse_item::{Parsed, parse_item};
+pub use parsing::{FaultCode, is_significant};
+pub use trees::{
     Argument, Arm, Basic, Body, DataType, Declaration, Definition, Enumerator, Length, Procedure,
     Shape, Tag, UnionBody, Value, Version,
 };
-pub use entry::Entry;
-pub use fault::FaultCode;
-pub use item::{Parsed, parse_item};
-pub use item_patch::ItemPatch;
-pub use items::Items;
-pub use laws::{one_cut, one_parse, one_recut, spell_law};
-pub use mark::Mark;
-pub use mention::{Mention, Use, mentions};
-pub use names::{DeclaredName, NameKind, declares};
-pub use reading::is_significant;
-pub use recutting::recut;

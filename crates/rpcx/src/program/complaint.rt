@@ -7,7 +7,7 @@ use x_text::{Pen, Sink, TextFault};
 
 /// Writes text that says why a run does not go on. Where that fails there is nobody to tell.
 pub fn complain<E: Sink>(text: &str, err: &mut E)
-    ensures { IsTold (E.contents err.old) (E.contents err.new) (E.has_failed err.new) text.now }
+    ensures { IsTold (E.state err.old) (E.state err.new) text.now }
 {
     let mut pen = Pen::new();
     pen.add(text.as_bytes(), err);
@@ -16,7 +16,7 @@ pub fn complain<E: Sink>(text: &str, err: &mut E)
 
 /// Writes what is wrong with a file, behind the name of the program.
 pub fn tell_of_file<E: Sink>(program: &str, file: &str, wrong: &str, err: &mut E)
-    ensures { IsTold (E.contents err.old) (E.contents err.new) (E.has_failed err.new) (program.now ++ codes ": " ++ file.now ++ wrong.now) }
+    ensures { IsTold (E.state err.old) (E.state err.new) (program.now ++ codes ": " ++ file.now ++ wrong.now) }
 {
     let mut pen = Pen::new();
     pen.add(program.as_bytes(), err);
@@ -28,7 +28,7 @@ pub fn tell_of_file<E: Sink>(program: &str, file: &str, wrong: &str, err: &mut E
 
 /// Writes why a file's text is not opened, behind the name of the program.
 pub(crate) fn tell_unopened<E: Sink>(program: &str, file: &str, fault: TextFault, err: &mut E)
-    ensures { IsTold (E.contents err.old) (E.contents err.new) (E.has_failed err.new) (unopened_told program.now file.now fault) }
+    ensures { IsTold (E.state err.old) (E.state err.new) (unopened_told program.now file.now fault) }
 {
     match fault {
         TextFault::TooLarge => tell_of_file(program, file, ": 2 TooLarge\n", err),

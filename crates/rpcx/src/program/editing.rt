@@ -24,13 +24,13 @@ pub fn edit_run<I: Tap, O: Sink, E: Sink>(
 ) -> u8
     ensures status { (result ≡ 0) ⊎ (result ≡ 1) ⊎ (result ≡ 2) }
     ensures too_large { MAX_TEXT < length bytes.now → result ≡ 2 }
-    ensures failed { result ≡ 2 → NotRun args.now.file.now bytes.now (E.contents err.old) (E.contents err.new) (E.has_failed err.new) (I.has_failed input.new) (O.has_failed out.new) }
+    ensures failed { result ≡ 2 → NotRun args.now.file.now bytes.now (E.state err.old) (E.state err.new) (I.state input.new).failed (O.state out.new).failed }
     ensures quiet { result ≢ 2 → err.new ≡ err.old }
-    ensures working { result ≢ 2 → WorksOn (O.has_failed out.old) (O.has_failed out.new) }
-    ensures answers { MatchOption (I.remaining input.old) (Unit {0}) (λ script. Answers script (base_of args.now.file.now) bytes.now (O.contents out.old) (O.contents out.new) result) }
-    ensures ended { result ≡ 2 → MatchOption (I.remaining input.old) (Unit {0}) (λ script.
-        IsUntouched script (I.remaining input.new) (O.contents out.old) (O.contents out.new)
-        ⊎ EndsEarly script (I.remaining input.new) (base_of args.now.file.now) bytes.now (O.contents out.old) (O.contents out.new) (O.has_failed out.new)) }
+    ensures working { result ≢ 2 → WorksOn (O.state out.old).failed (O.state out.new).failed }
+    ensures answers { MatchOption (I.state input.old).bytes (Unit {0}) (λ script. Answers script (base_of args.now.file.now) bytes.now (O.state out.old) (O.state out.new) result) }
+    ensures ended { result ≡ 2 → MatchOption (I.state input.old).bytes (Unit {0}) (λ script.
+        IsUntouched script (I.state input.new).bytes (O.state out.old) (O.state out.new)
+        ⊎ EndsEarly script (I.state input.new).bytes (base_of args.now.file.now) bytes.now (O.state out.old) (O.state out.new)) }
 {
     let mut session = match Session::open(alloc, base_of_file(args.file), bytes) {
         Ok(session) => session,
@@ -51,12 +51,12 @@ fn answer_input<I: Tap, O: Sink, E: Sink>(
     err: &mut E,
 ) -> u8
     ensures status { (result ≡ 0) ⊎ (result ≡ 1) ⊎ (result ≡ 2) }
-    ensures failed { result ≡ 2 → Stops (E.contents err.old) (E.contents err.new) (E.has_failed err.new) (I.has_failed input.new) (O.has_failed out.new) }
+    ensures failed { result ≡ 2 → Stops (E.state err.old) (E.state err.new) (I.state input.new).failed (O.state out.new).failed }
     ensures quiet { result ≢ 2 → err.new ≡ err.old }
-    ensures working { result ≢ 2 → WorksOn (O.has_failed out.old) (O.has_failed out.new) }
-    ensures answers { MatchOption (I.remaining input.old) (Unit {0}) (λ script. Answers script session.old.base session.old.text (O.contents out.old) (O.contents out.new) result) }
-    ensures ended { result ≡ 2 → MatchOption (I.remaining input.old) (Unit {0}) (λ script.
-        EndsEarly script (I.remaining input.new) session.old.base session.old.text (O.contents out.old) (O.contents out.new) (O.has_failed out.new)) }
+    ensures working { result ≢ 2 → WorksOn (O.state out.old).failed (O.state out.new).failed }
+    ensures answers { MatchOption (I.state input.old).bytes (Unit {0}) (λ script. Answers script session.old.base session.old.text (O.state out.old) (O.state out.new) result) }
+    ensures ended { result ≡ 2 → MatchOption (I.state input.old).bytes (Unit {0}) (λ script.
+        EndsEarly script (I.state input.new).bytes session.old.base session.old.text (O.state out.old) (O.state out.new)) }
 {
     match run_script(alloc, session, input, out) {
         Ok(Outcome::Clean) => 0,
@@ -70,7 +70,7 @@ fn answer_input<I: Tap, O: Sink, E: Sink>(
 
 /// Writes why a script stopped.
 fn tell_fault<E: Sink>(fault: EngineFault, err: &mut E)
-    ensures { IsTold (E.contents err.old) (E.contents err.new) (E.has_failed err.new) (stop_told fault) }
+    ensures { IsTold (E.state err.old) (E.state err.new) (stop_told fault) }
 {
     match fault {
         EngineFault::Read { .. } => complain("rpcedit: -: cannot be read\n", err),

@@ -27,7 +27,7 @@ const FAILED: u8 = 2;
 /// The text that a command line asks for: exactly one letter tells it.
 pub fn gen_mode<E: Sink>(args: &GenArgs, err: &mut E) -> Option<GeneratedText>
     ensures mode { result ≡ (if args.now.header then Some GeneratedText.Header else None) }
-    ensures told { result ≡ None → IsTold (E.contents err.old) (E.contents err.new) (E.has_failed err.new) (codes "rpcgen: exactly one of -c, -h, -l, -t\n") }
+    ensures told { result ≡ None → IsTold (E.state err.old) (E.state err.new) (codes "rpcgen: exactly one of -c, -h, -l, -t\n") }
     ensures quiet { result ≢ None → err.new ≡ err.old }
 {
     if args.header {
@@ -49,9 +49,9 @@ pub fn gen_open<E: Sink>(
     ensures clean { OnOk result (Compiles bytes.now (λ items. faults_of bytes.now items ≡ [])) }
     ensures constants { OnOk result (Compiles bytes.now (λ items. are_constants (definitions_of items) ≡ true)) }
     ensures faulty { IsErrOf result 1 → Compiles bytes.now (λ items. (0 < length (faults_of bytes.now items))
-        × IsTold (E.contents err.old) (E.contents err.new) (E.has_failed err.new) (told_faults file.now (faults_of bytes.now items))) }
+        × IsTold (E.state err.old) (E.state err.new) (told_faults file.now (faults_of bytes.now items))) }
     ensures too_large { MAX_TEXT < length bytes.now → IsErrOf result 2 }
-    ensures failed { IsErrOf result 2 → NotOpened file.now bytes.now (E.contents err.old) (E.contents err.new) (E.has_failed err.new) }
+    ensures failed { IsErrOf result 2 → NotOpened file.now bytes.now (E.state err.old) (E.state err.new) }
     ensures others { IfErr result (λ status. (status ≡ 1) ⊎ (status ≡ 2)) }
     ensures quiet { OnOk result (err.new ≡ err.old) }
 {
@@ -76,7 +76,7 @@ pub fn gen_open<E: Sink>(
 
 /// Writes the faults of a file's text, one a line.
 fn tell_faults<E: Sink>(file: &str, faults: &[Fault], err: &mut E)
-    ensures { IsTold (E.contents err.old) (E.contents err.new) (E.has_failed err.new) (told_faults file.now faults.now) }
+    ensures { IsTold (E.state err.old) (E.state err.new) (told_faults file.now faults.now) }
 {
     let mut pen = Pen::new();
     for fault in faults {
@@ -87,7 +87,7 @@ fn tell_faults<E: Sink>(file: &str, faults: &[Fault], err: &mut E)
 
 /// Adds the line that tells a fault of a file's text.
 fn add_fault<E: Sink>(file: &str, fault: &Fault, pen: &mut Pen, err: &mut E)
-    ensures { Adds pen.old (E.contents err.old) (E.has_failed err.old) pen.new (E.contents err.new) (E.has_failed err.new) (told_fault file.now fault.now) }
+    ensures { Adds pen.old (E.state err.old) pen.new (E.state err.new) (told_fault file.now fault.now) }
 {
     pen.add(file.as_bytes(), err);
     pen.add(b":", err);
@@ -99,9 +99,9 @@ fn add_fault<E: Sink>(file: &str, fault: &Fault, pen: &mut Pen, err: &mut E)
 
 /// Writes a generated text and flushes the output, and answers whether it took all.
 fn is_written<O: Sink>(which: GeneratedText, session: &Session, out: &mut O) -> bool
-    ensures written { IsTrue result → Compiles session.now.text (λ items. Appends (O.contents out.old) (O.contents out.new) (header session.now.base items)) }
-    ensures front { result ≡ false → Compiles session.now.text (λ items. Grows (O.contents out.old) (O.contents out.new) (header session.now.base items)) }
-    ensures working { result ≡ not (O.has_failed out.new) }
+    ensures written { IsTrue result → Compiles session.now.text (λ items. Appends (O.state out.old).bytes (O.state out.new).bytes (header session.now.base items)) }
+    ensures front { result ≡ false → Compiles session.now.text (λ items. Grows (O.state out.old) (O.state out.new) (header session.now.base items)) }
+    ensures working { result ≡ not (O.state out.new).failed }
 {
     if session.write_text(which, out).is_err() {
         return false;
@@ -116,10 +116,10 @@ pub fn gen_write<O: Sink, E: Sink>(
     out: &mut O,
     err: &mut E,
 ) -> u8
-    ensures written { result ≡ 0 → Compiles session.now.text (λ items. Appends (O.contents out.old) (O.contents out.new) (header session.now.base items)) }
-    ensures front { result ≢ 0 → Compiles session.now.text (λ items. Grows (O.contents out.old) (O.contents out.new) (header session.now.base items)) }
-    ensures status { result ≡ (if O.has_failed out.new then 2 else 0) }
-    ensures told { result ≢ 0 → IsTold (E.contents err.old) (E.contents err.new) (E.has_failed err.new) (codes "rpcgen: output cannot be written\n") }
+    ensures written { result ≡ 0 → Compiles session.now.text (λ items. Appends (O.state out.old).bytes (O.state out.new).bytes (header session.now.base items)) }
+    ensures front { result ≢ 0 → Compiles session.now.text (λ items. Grows (O.state out.old) (O.state out.new) (header session.now.base items)) }
+    ensures status { result ≡ (if (O.state out.new).failed then 2 else 0) }
+    ensures told { result ≢ 0 → IsTold (E.state err.old) (E.state err.new) (codes "rpcgen: output cannot be written\n") }
     ensures quiet { result ≡ 0 → err.new ≡ err.old }
 {
     if is_written(which, session, out) {

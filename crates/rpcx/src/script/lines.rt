@@ -99,8 +99,8 @@ impl LineReader {
     /// # Errors
     /// The tap failed, or memory ran out. The line that it is in stays unread.
     pub fn next<R: Tap>(&mut self, tap: &mut R) -> Result<Found, LineFault>
-        ensures lines { Advances self.old self.new (R.remaining tap.old) (R.remaining tap.new) result }
-        ensures failed { FailsBy result (R.has_failed tap.old) (R.has_failed tap.new) }
+        ensures lines { Advances self.old self.new (R.state tap.old).bytes (R.state tap.new).bytes result }
+        ensures failed { FailsBy result (R.state tap.old).failed (R.state tap.new).failed }
         ensures ended { self.old.state ≡ Ended → result ≡ Ok End }
     {
         match self.state {
@@ -113,8 +113,8 @@ impl LineReader {
     /// Finds the next line, where the reader stands between two.
     fn next_line<R: Tap>(&mut self, tap: &mut R) -> Result<Found, LineFault>
         requires { self.old.state ≡ Between }
-        ensures lines { Advances self.old self.new (R.remaining tap.old) (R.remaining tap.new) result }
-        ensures failed { FailsBy result (R.has_failed tap.old) (R.has_failed tap.new) }
+        ensures lines { Advances self.old self.new (R.state tap.old).bytes (R.state tap.new).bytes result }
+        ensures failed { FailsBy result (R.state tap.old).failed (R.state tap.new).failed }
     {
         self.queue.drop_front(self.given);
         self.line = 0;
@@ -142,8 +142,8 @@ impl LineReader {
     /// Passes over what is left of a line that is too long.
     fn end_of_long<R: Tap>(&mut self, tap: &mut R) -> Result<Found, LineFault>
         requires { self.old.state ≡ WithinLong }
-        ensures lines { Advances self.old self.new (R.remaining tap.old) (R.remaining tap.new) result }
-        ensures failed { FailsBy result (R.has_failed tap.old) (R.has_failed tap.new) }
+        ensures lines { Advances self.old self.new (R.state tap.old).bytes (R.state tap.new).bytes result }
+        ensures failed { FailsBy result (R.state tap.old).failed (R.state tap.new).failed }
     {
         self.queue.drop_front(self.given);
         self.line = 0;
@@ -169,9 +169,9 @@ pub(crate) enum LineEnd {
 
 /// Drops line feeds at the front, and finds where the line behind them ends; more bytes are read as they are needed.
 fn find_end<R: Tap>(queue: &mut ByteQueue, tap: &mut R) -> Result<LineEnd, LineFault>
-    ensures come { HasSearched queue.old queue.new (R.remaining tap.old) (R.remaining tap.new) }
-    ensures found { MatchResult result (λ end. EndIs end queue.new (R.remaining tap.new)) (λ _. HasNoFeed queue.new) }
-    ensures failed { FailsBy result (R.has_failed tap.old) (R.has_failed tap.new) }
+    ensures come { HasSearched queue.old queue.new (R.state tap.old).bytes (R.state tap.new).bytes }
+    ensures found { MatchResult result (λ end. EndIs end queue.new (R.state tap.new).bytes) (λ _. HasNoFeed queue.new) }
+    ensures failed { FailsBy result (R.state tap.old).failed (R.state tap.new).failed }
 {
     if let Some(len) = search(queue, 0) {
         return Ok(line_end(len));
@@ -224,8 +224,8 @@ fn leading_feeds(bytes: &[u8]) -> usize
 
 /// Drops all bytes up to the first line feed and it, and answers whether there was one before the tap's end.
 fn pass_feed<R: Tap>(queue: &mut ByteQueue, tap: &mut R) -> Result<bool, LineFault>
-    ensures passed { HasPassed queue.old queue.new (R.remaining tap.old) (R.remaining tap.new) result }
-    ensures failed { FailsBy result (R.has_failed tap.old) (R.has_failed tap.new) }
+    ensures passed { HasPassed queue.old queue.new (R.state tap.old).bytes (R.state tap.new).bytes result }
+    ensures failed { FailsBy result (R.state tap.old).failed (R.state tap.new).failed }
 {
     if drop_feed(queue) {
         return Ok(true);

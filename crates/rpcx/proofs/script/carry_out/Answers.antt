@@ -18,8 +18,8 @@ pub returns-in-Edit-clause-given : goal.returns-in-Edit-clause-given
 returns-in-Edit-clause-given g c =
     let text = c.args.session.now.text in
     let base = c.args.session.now.base in
-    let given : Answer → Bool → Type 0 = λ a refused. IsGiven a c.args.session.now c.carry_out_edit.new.session refused c.args.pen.now (g.S.Sink.contents c.args.sink.now) (g.S.Sink.has_failed c.args.sink.now)
-    c.carry_out_edit.new.pen (g.S.Sink.contents c.carry_out_edit.new.sink) (g.S.Sink.has_failed c.carry_out_edit.new.sink) in
+    let given : Answer → Bool → Type 0 = λ a refused. IsGiven a c.args.session.now c.carry_out_edit.new.session refused c.args.pen.now (g.S.Sink.state c.args.sink.now)
+    c.carry_out_edit.new.pen (g.S.Sink.state c.carry_out_edit.new.sink) in
     let same : (items : List Item) → edit_answer text c.in-Edit.start c.in-Edit.end c.deref.result.now ≡ answer base text items (asked c.args.command.now) =
     λ items. (λ i. edit_answer text c.in-Edit.start c.in-Edit.end (c.deref.ensures.value i)) ∙ sym (ap (λ command. answer base text items (asked command)) c.in-Edit.is) in
     over_items _ text c.item_count-items.ensures (λ items refused. given (answer base text items (asked c.args.command.now)) refused)
@@ -31,8 +31,8 @@ returns-in-Bad-clause-given g c =
     let items = c.item_count-items.ensures.1 in
     let text = c.args.session.now.text in
     let base = c.args.session.now.base in
-    let given : Answer → Type 0 = λ a. IsGiven a c.args.session.now c.args.session.now true c.args.pen.now (g.S.Sink.contents c.args.sink.now) (g.S.Sink.has_failed c.args.sink.now)
-    c.add.new.self (g.S.Sink.contents c.add.new.sink) (g.S.Sink.has_failed c.add.new.sink) in (
+    let given : Answer → Type 0 = λ a. IsGiven a c.args.session.now c.args.session.now true c.args.pen.now (g.S.Sink.state c.args.sink.now)
+    c.add.new.self (g.S.Sink.state c.add.new.sink) in (
       c.item_count-items.ensures.0,
       items,
       c.item_count-items.ensures.2,

@@ -9,21 +9,20 @@ use Rattle.rpcx.proofs.program.editing.edit_run.Goals as goal
 
 pub returns-clause-answers : goal.returns-clause-answers
 returns-clause-answers g c =
-    subst (λ (s : Document). MatchOption (g.I.Tap.remaining c.args.input.now) (Unit {0}) (λ script. Answers script s.base s.text (g.O.Sink.contents c.args.out.now) (g.O.Sink.contents c.answer_input.new.out) c.answer_input.result))
+    subst (λ (s : Document). MatchOption (g.I.Tap.state c.args.input.now).bytes (Unit {0}) (λ script. Answers script s.base s.text (g.O.Sink.state c.args.out.now) (g.O.Sink.state c.answer_input.new.out) c.answer_input.result))
     (c.in-Ok.ensures.opened ∙ (λ i. record { base = c.base_of_file.ensures i; text = c.args.bytes.now })) c.answer_input.ensures.answers
 
 pub returns-in-Err-clause-failed : goal.returns-in-Err-clause-failed
 returns-in-Err-clause-failed g c e =
-    not_run c.args.args.now.file.now c.args.bytes.now (g.E.Sink.contents c.args.err.now) (g.E.Sink.contents c.tell_unopened.new.err) (g.E.Sink.has_failed c.tell_unopened.new.err)
-    (g.I.Tap.has_failed c.args.input.now) (g.O.Sink.has_failed c.args.out.now) c.in-Err.fault c.in-Err.ensures.too_large c.in-Err.ensures.in_range c.tell_unopened.ensures
+    not_run c.args.args.now.file.now c.args.bytes.now (g.E.Sink.state c.args.err.now) (g.E.Sink.state c.tell_unopened.new.err)
+    (g.I.Tap.state c.args.input.now).failed (g.O.Sink.state c.args.out.now).failed c.in-Err.fault c.in-Err.ensures.too_large c.in-Err.ensures.in_range c.tell_unopened.ensures
 
 pub returns-clause-ended : goal.returns-clause-ended
 returns-clause-ended g c e =
-    begun (g.I.Tap.remaining c.args.input.now) (g.I.Tap.remaining c.answer_input.new.input) (base_of c.args.args.now.file.now) c.args.bytes.now (g.O.Sink.contents c.args.out.now) (g.O.Sink.contents c.answer_input.new.out)
-    (g.O.Sink.has_failed c.answer_input.new.out)
-    (subst (λ (s : Document). MatchOption (g.I.Tap.remaining c.args.input.now) (Unit {0}) (λ script. EndsEarly script (g.I.Tap.remaining c.answer_input.new.input) s.base s.text (g.O.Sink.contents c.args.out.now) (g.O.Sink.contents c.answer_input.new.out) (g.O.Sink.has_failed c.answer_input.new.out)))
+    begun (g.I.Tap.state c.args.input.now).bytes (g.I.Tap.state c.answer_input.new.input).bytes (base_of c.args.args.now.file.now) c.args.bytes.now (g.O.Sink.state c.args.out.now) (g.O.Sink.state c.answer_input.new.out)
+    (subst (λ (s : Document). MatchOption (g.I.Tap.state c.args.input.now).bytes (Unit {0}) (λ script. EndsEarly script (g.I.Tap.state c.answer_input.new.input).bytes s.base s.text (g.O.Sink.state c.args.out.now) (g.O.Sink.state c.answer_input.new.out)))
     (c.in-Ok.ensures.opened ∙ (λ i. record { base = c.base_of_file.ensures i; text = c.args.bytes.now })) (c.answer_input.ensures.ended e))
 
 pub returns-in-Err-clause-ended : goal.returns-in-Err-clause-ended
 returns-in-Err-clause-ended g c e =
-    not_begun (g.I.Tap.remaining c.args.input.now) (base_of c.args.args.now.file.now) c.args.bytes.now (g.O.Sink.contents c.args.out.now) (g.O.Sink.has_failed c.args.out.now)
+    not_begun (g.I.Tap.state c.args.input.now).bytes (base_of c.args.args.now.file.now) c.args.bytes.now (g.O.Sink.state c.args.out.now)

@@ -24,15 +24,14 @@ returns-then-fault_count-gt0-clause-faulty g c e =
     let count = c.fault_count.ensures in
     let all = c.faults.ensures in
     let here = c.in-Ok.session.text in
-    let before = g.E.Sink.contents c.args.err.now in
-    let after = g.E.Sink.contents c.tell_faults.new.err in
-    let failed = g.E.Sink.has_failed c.tell_faults.new.err in
+    let before = g.E.Sink.state c.args.err.now in
+    let after = g.E.Sink.state c.tell_faults.new.err in
     let same : count.1 ≡ all.1 = (one_compilation here count.0 all.0 count.1 all.1 count.2 all.2).1 in
     let long : c.fault_count.result ≡ length (faults_of here all.1) = count.3 ∙ ap (λ is. length (faults_of here is)) same in
     let some : 0 < length (faults_of here all.1) = let more = c.if-fault_count-gt0.true in omega (arith, long, more) in
-    let told : IsTold before after failed (told_faults c.args.file.now (faults_of here all.1)) =
-    subst (λ fs. IsTold before after failed (told_faults c.args.file.now fs)) all.3 c.tell_faults.ensures in
-    subst (λ t. Compiles t (λ items. (0 < length (faults_of t items)) × IsTold before after failed (told_faults c.args.file.now (faults_of t items)))) (ap (λ s. s.text) c.in-Ok.ensures.opened)
+    let told : IsTold before after (told_faults c.args.file.now (faults_of here all.1)) =
+    subst (λ fs. IsTold before after (told_faults c.args.file.now fs)) all.3 c.tell_faults.ensures in
+    subst (λ t. Compiles t (λ items. (0 < length (faults_of t items)) × IsTold before after (told_faults c.args.file.now (faults_of t items)))) (ap (λ s. s.text) c.in-Ok.ensures.opened)
     (all.0, all.1, all.2, (some, told))
 
 pub returns-then-not-has_constants_alone-clause-failed : goal.returns-then-not-has_constants_alone-clause-failed
@@ -49,5 +48,5 @@ returns-then-not-has_constants_alone-clause-failed g c e =
 
 pub returns-in-Err-clause-failed : goal.returns-in-Err-clause-failed
 returns-in-Err-clause-failed g c e =
-    not_opened c.args.file.now c.args.bytes.now (g.E.Sink.contents c.args.err.now) (g.E.Sink.contents c.tell_unopened.new.err) (g.E.Sink.has_failed c.tell_unopened.new.err)
+    not_opened c.args.file.now c.args.bytes.now (g.E.Sink.state c.args.err.now) (g.E.Sink.state c.tell_unopened.new.err)
     c.in-Err.fault c.in-Err.ensures.too_large c.in-Err.ensures.in_range c.tell_unopened.ensures

@@ -6,4 +6,4 @@ use Rattle.rpcx.proofs.program.generating.tell_faults.Given as goal
 
 abbrev pub invariant-loop-fault : goal.invariant-loop-fault
 invariant-loop-fault g l = HasListed Fault (told_fault l.file) l.faults (drop l.fault-index l.faults)
-    l.initial.pen (g.E.Sink.contents l.initial.err) (g.E.Sink.has_failed l.initial.err) l.pen (g.E.Sink.contents l.err) (g.E.Sink.has_failed l.err)
+    l.initial.pen (g.E.Sink.state l.initial.err) l.pen (g.E.Sink.state l.err)

@@ -2,4 +2,4 @@ use Rattle.rpcx.proofs.DefinitionLemmas.{HasDefinitions}
 use Rattle.rpcx.proofs.script.answer.add_definitions.Given as goal
 
 abbrev pub invariant-loop-item : goal.invariant-loop-item
-invariant-loop-item g l = HasDefinitions l.session.text l.item l.initial.pen (g.S.Sink.contents l.initial.sink) (g.S.Sink.has_failed l.initial.sink) l.pen (g.S.Sink.contents l.sink) (g.S.Sink.has_failed l.sink)
+invariant-loop-item g l = HasDefinitions l.session.text l.item l.initial.pen (g.S.Sink.state l.initial.sink) l.pen (g.S.Sink.state l.sink)

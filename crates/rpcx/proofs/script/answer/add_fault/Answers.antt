@@ -6,14 +6,11 @@ use Rattle.rpcx.proofs.script.answer.add_fault.Goals as goal
 
 pub returns : goal.returns
 returns g c =
-    let start = g.S.Sink.contents c.args.sink.now in
-    let failed = g.S.Sink.has_failed c.args.sink.now in
-    let end = g.S.Sink.contents c.add-3.new.sink in
-    let fails = g.S.Sink.has_failed c.add-3.new.sink in
+    let start = g.S.Sink.state c.args.sink.now in
+    let end = g.S.Sink.state c.add-3.new.sink in
     let told = four c.args.pen.now c.add_place.new.pen c.add.new.self c.add-2.new.self c.add-3.new.self
-    start (g.S.Sink.contents c.add_place.new.sink) (g.S.Sink.contents c.add.new.sink) (g.S.Sink.contents c.add-2.new.sink) end
-    failed (g.S.Sink.has_failed c.add_place.new.sink) (g.S.Sink.has_failed c.add.new.sink) (g.S.Sink.has_failed c.add-2.new.sink) fails
+    start (g.S.Sink.state c.add_place.new.sink) (g.S.Sink.state c.add.new.sink) (g.S.Sink.state c.add-2.new.sink) end
     (fault_place c.args.fault.now) (codes " ") c.as_bytes.result.now (codes "\n")
     c.add_place.ensures c.add.ensures c.add-2.ensures c.add-3.ensures in
     let code = c.as_bytes.ensures.value ∙ c.text.ensures in
-    subst (λ k. Adds c.args.pen.now start failed c.add-3.new.self end fails (fault_place c.args.fault.now ++ codes " " ++ k ++ codes "\n")) code told
+    subst (λ k. Adds c.args.pen.now start c.add-3.new.self end (fault_place c.args.fault.now ++ codes " " ++ k ++ codes "\n")) code told

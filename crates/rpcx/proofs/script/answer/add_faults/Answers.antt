@@ -12,14 +12,12 @@ use Rattle.rpcx.proofs.script.answer.add_faults.Goals as goal
 
 pub loop-fault-preserved : goal.loop-fault-preserved
 loop-fault-preserved g c =
-    let start = g.S.Sink.contents c.add_counted.new.sink in
-    let failed = g.S.Sink.has_failed c.add_counted.new.sink in
-    let mid = g.S.Sink.contents c.loop-fault.sink in
-    let fails = g.S.Sink.has_failed c.loop-fault.sink in
+    let start = g.S.Sink.state c.add_counted.new.sink in
+    let mid = g.S.Sink.state c.loop-fault.sink in
     let all = c.faults-fault-items.result.now in
     let none : Fault = record { item = 0; token = 0; line = 0; col = 0; code = Syntax } in
-    lists_more fault_line all (drop (c.loop-fault.fault-index + 1) all) (get_or all c.loop-fault.fault-index none) c.add_counted.new.pen c.loop-fault.pen c.add_fault.new.pen start mid (g.S.Sink.contents c.add_fault.new.sink) failed fails (g.S.Sink.has_failed c.add_fault.new.sink)
-    (subst (λ fs. HasListed Fault fault_line all fs c.add_counted.new.pen start failed c.loop-fault.pen mid fails) (drop_one all c.loop-fault.fault-index none c.loop-fault-test.true) c.loop-fault.invariant)
+    lists_more fault_line all (drop (c.loop-fault.fault-index + 1) all) (get_or all c.loop-fault.fault-index none) c.add_counted.new.pen c.loop-fault.pen c.add_fault.new.pen start mid (g.S.Sink.state c.add_fault.new.sink)
+    (subst (λ fs. HasListed Fault fault_line all fs c.add_counted.new.pen start c.loop-fault.pen mid) (drop_one all c.loop-fault.fault-index none c.loop-fault-test.true) c.loop-fault.invariant)
     c.add_fault.ensures
 
 pub returns : goal.returns
@@ -30,16 +28,13 @@ returns g c =
     let items = two.1 in
     let text = c.args.session.now.text in
     let all = c.faults-fault-items.result.now in
-    let start = g.S.Sink.contents c.args.sink.now in
-    let failed = g.S.Sink.has_failed c.args.sink.now in
-    let mid = g.S.Sink.contents c.add_counted.new.sink in
-    let fails = g.S.Sink.has_failed c.add_counted.new.sink in
-    let end = g.S.Sink.contents c.loop-fault.sink in
-    let over = g.S.Sink.has_failed c.loop-fault.sink in
-    let listed = lists_all fault_line all (drop c.loop-fault.fault-index all) c.add_counted.new.pen c.loop-fault.pen mid end fails over (drop_none all c.loop-fault.fault-index (let over = c.loop-fault-test.false in omega (arith, over))) c.loop-fault.invariant in
-    let told = adds_trans c.args.pen.now c.add_counted.new.pen c.loop-fault.pen start mid end failed fails over
+    let start = g.S.Sink.state c.args.sink.now in
+    let mid = g.S.Sink.state c.add_counted.new.sink in
+    let end = g.S.Sink.state c.loop-fault.sink in
+    let listed = lists_all fault_line all (drop c.loop-fault.fault-index all) c.add_counted.new.pen c.loop-fault.pen mid end (drop_none all c.loop-fault.fault-index (let over = c.loop-fault-test.false in omega (arith, over))) c.loop-fault.invariant in
+    let told = adds_trans c.args.pen.now c.add_counted.new.pen c.loop-fault.pen start mid end
     (counted_line (codes "faults") c.fault_count.result) (flat_map fault_line all) c.add_counted.ensures listed in
     let count : c.fault_count.result ≡ length (faults_of text items) = one.3 ∙ ap (λ is. length (faults_of text is)) same in
     let whole : counted_line (codes "faults") c.fault_count.result ++ flat_map fault_line all ≡ faults_answer (faults_of text items) =
     λ i. counted_line (codes "faults") (count i) ++ flat_map fault_line (two.3 i) in
-    (two.0, items, two.2, subst (λ t. Adds c.args.pen.now start failed c.loop-fault.pen end over t) whole told)
+    (two.0, items, two.2, subst (λ t. Adds c.args.pen.now start c.loop-fault.pen end t) whole told)

@@ -6,4 +6,4 @@ use Rattle.rpcx.proofs.script.answer.add_faults.Given as goal
 
 abbrev pub invariant-loop-fault : goal.invariant-loop-fault
 invariant-loop-fault g l = HasListed Fault fault_line l.fault-items (drop l.fault-index l.fault-items)
-    l.initial.pen (g.S.Sink.contents l.initial.sink) (g.S.Sink.has_failed l.initial.sink) l.pen (g.S.Sink.contents l.sink) (g.S.Sink.has_failed l.sink)
+    l.initial.pen (g.S.Sink.state l.initial.sink) l.pen (g.S.Sink.state l.sink)

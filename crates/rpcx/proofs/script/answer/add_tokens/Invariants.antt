@@ -5,4 +5,4 @@ use Rattle.rpcx.proofs.script.answer.add_tokens.Given as goal
 
 abbrev pub invariant-loop-token : goal.invariant-loop-token
 invariant-loop-token g l = HasListed Lexeme token_line l.initial.token-iterator l.token-iterator
-    l.initial.pen (g.S.Sink.contents l.initial.sink) (g.S.Sink.has_failed l.initial.sink) l.pen (g.S.Sink.contents l.sink) (g.S.Sink.has_failed l.sink)
+    l.initial.pen (g.S.Sink.state l.initial.sink) l.pen (g.S.Sink.state l.sink)

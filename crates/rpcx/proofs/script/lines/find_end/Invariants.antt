@@ -4,7 +4,7 @@ use Rattle.rpcx.proofs.script.lines.find_end.Given as goal
 
 abbrev pub invariant-pieces : goal.invariant-pieces
 invariant-pieces g l = record {
-  come : HasSearched l.fn.queue l.queue (g.R.Tap.remaining l.fn.tap) (g.R.Tap.remaining l.tap);
+  come : HasSearched l.fn.queue l.queue (g.R.Tap.state l.fn.tap).bytes (g.R.Tap.state l.tap).bytes;
   no_feed : HasNoFeed l.queue;
-  failed : g.R.Tap.has_failed l.tap ≡ g.R.Tap.has_failed l.fn.tap;
+  failed : (g.R.Tap.state l.tap).failed ≡ (g.R.Tap.state l.fn.tap).failed;
 }

@@ -5,6 +5,6 @@ use Rattle.rpcx.proofs.script.lines.pass_feed.Given as goal
 
 abbrev pub invariant-pieces : goal.invariant-pieces
 invariant-pieces g l = record {
-  passed : HasPassed l.fn.queue l.queue (g.R.Tap.remaining l.fn.tap) (g.R.Tap.remaining l.tap) (Err NoMemory);
-  failed : g.R.Tap.has_failed l.tap ≡ g.R.Tap.has_failed l.fn.tap;
+  passed : HasPassed l.fn.queue l.queue (g.R.Tap.state l.fn.tap).bytes (g.R.Tap.state l.tap).bytes (Err NoMemory);
+  failed : (g.R.Tap.state l.tap).failed ≡ (g.R.Tap.state l.fn.tap).failed;
 }

@@ -1,6 +1,6 @@
 use Rattle.std.proofs.Common.{◌≡◌, codes, refl, ap, sym, ◌∙◌}
 use Rattle.x_item.specs.View.{view_body, view_union}
-use Rattle.x_item.specs.declared.definition.UnionBody.{UnionBody, UnionBody'}
+use Rattle.x_item.specs.declared.trees.declaration.UnionBody.{UnionBody, UnionBody'}
 use Rattle.rpcx.specs.Listings.{body_keyword}
 use Rattle.rpcx.proofs.script.listing.body_keyword.Goals as goal
 

@@ -6,8 +6,7 @@ use Rattle.rpcx.proofs.session.Session.write_text.Goals as goal
 
 pub returns : goal.returns
 returns g c =
-    let start = g.S.Sink.contents c.args.sink.now in
-    let failed = g.S.Sink.has_failed c.args.sink.now in
+    let start = g.S.Sink.state c.args.sink.now in
     let added = c.add_text.ensures in
-    let none : Writes start [] c.new-pen.result start failed = subst (λ (p : Inked). Writes start [] p start failed) (sym c.new-pen.ensures) (writes_none start failed) in
+    let none : Writes start [] c.new-pen.result start = subst (λ (p : Inked). Writes start [] p start) (sym c.new-pen.ensures) (writes_none start) in
     (added.0, added.1, added.2, c.finish.ensures start (header c.args.self.now.base added.1) (added.3.goes_on start [] none))

@@ -1,0 +1,18 @@
+use Rattle.std.proofs.Common.{◌≡◌, ◌-◌, length}
+use Rattle.std.specs.Prelude.{All}
+use Rattle.x_lex.specs.Tiling.{end_of}
+use Rattle.x_lex.specs.TokenList.{patched}
+use Rattle.x_item.specs.ItemList.{counts}
+use Rattle.x_item.specs.Cutting.{roles}
+use Rattle.x_item.proofs.RecutRun.{Recutting}
+use Rattle.x_item.proofs.cutting.recut.recut.Given as goal
+
+abbrev pub invariant-cutting : goal.invariant-cutting
+invariant-cutting g l = record {
+  recutting : Recutting (counts l.items.list) (roles l.text (patched l.tokens.list l.patch)) l.patch.at (length l.patch.fresh) l.patch.removed l.kept l.start (counts l.fresh.items) l.index l.back l.back_index;
+  place_is : l.place ≡ end_of (patched l.tokens.list l.patch) l.index;
+  blank : All (λ item. g.K.Default.is_default item.kept) l.fresh.items;
+}
+
+abbrev pub decreases-cutting : goal.decreases-cutting
+decreases-cutting g l = length (patched l.tokens.list l.patch) - l.index

@@ -1,5 +1,0 @@
-use Rattle.x_item.proofs.Rows.{struct_view}
-use Rattle.x_item.proofs.definition.struct_body.Goals as goal
-
-pub returns : goal.returns
-returns c = struct_view c.args.declarations

@@ -1,6 +1,0 @@
-use Rattle.std.proofs.Common.{◌≡◌, take}
-use Rattle.x_item.specs.ItemList.{counts, total}
-use Rattle.x_item.proofs.items.tokens_of.Given as goal
-
-abbrev pub invariant-loop-entry : goal.invariant-loop-entry
-invariant-loop-entry g l = l.total ≡ total (counts (take l.entry-index l.entries))

@@ -1,0 +1,17 @@
+use Rattle.std.proofs.Common.{ℕ, [], ◌∷◌, length, map}
+use Rattle.x_item.specs.Words.{Fixed}
+use Rattle.x_item.specs.Spell.{spell_cases, HasOne}
+use Rattle.x_item.specs.View.{view_value}
+use Rattle.x_item.specs.declared.mark.Mark.TheVariants as marks
+use Rattle.x_item.specs.Symbols.{AnyValue, Token, AfterCase}
+use Rattle.x_item.specs.Reading.{IsRead}
+use Rattle.x_item.proofs.parsing.cases.cases.Given as goal
+
+abbrev pub invariant-loop-cases : goal.invariant-loop-cases
+invariant-loop-cases l = record {
+  read : (n : ℕ) → IsRead (Fixed marks.Case ∷ []) (AnyValue ∷ Token marks.Colon ∷ AfterCase n ∷ []) l.tokens (spell_cases (map view_value l.cases.items)) (AfterCase n ∷ []) l.left;
+  some : HasOne (map view_value l.cases.items);
+}
+
+abbrev pub decreases-loop-cases : goal.decreases-loop-cases
+decreases-loop-cases l = length l.left

@@ -1,0 +1,239 @@
+use Rattle.std.proofs.Common.{rules, ◌≡◌, ◌+◌, ◌-◌, [], ◌∷◌, ap, sym, ◌∙◌, append_assoc}
+use Rattle.std.proofs.lemmas.Result.{IfOk-weaker}
+use Rattle.x_item.specs.Words.{Fixed}
+use Rattle.x_item.specs.Spell.{tag_mark, spell_body, spell_type, spell_named, TypeFits}
+use Rattle.x_item.specs.View.{view_type, view_shape, view_declaration}
+use Rattle.x_item.specs.declared.mark.Mark.TheVariants as marks
+use Rattle.x_item.specs.declared.mark.Ending.TheVariants as endings
+use Rattle.x_item.specs.Symbols.{AnyValue, Token, AfterCase, MoreArms, Declared, Declarations, MoreDeclarations, Arms, InDeclaration, AfterType, AfterTag, AnyBody, Typed, ending_mark}
+use Rattle.x_item.specs.Reading.{view_word, spell_ended}
+use Rattle.x_item.proofs.ReadLemmas.{exit, not_mark, fails_alike, fails_more, fails_then, read_alike, read_as, read_more, read_on, read_then, read_after, ok_alike, err_alike}
+use Rattle.x_item.proofs.LoopLemmas.{one_only, other_mark, no_mark, of_struct, of_union, union_words, of_declarations, more_declarations, declarations_more, has_declaration, fits_declaration, of_arms, more_arms, arms_more, has_arm, fits_arm, read_unsigned, stuck_unsigned, no_keyword, no_tag_name, fits_one_more}
+use Rattle.x_item.proofs.parsing.declaration.+parser.Goals as goal
+
+pub body_of_struct-returns-in_err-rest-clause-stuck : goal.body_of_struct-returns-in_err-rest-clause-stuck
+body_of_struct-returns-in_err-rest-clause-stuck t c =
+    let same = of_struct c.args.depth c.args.tokens.now in
+    exit _ _ c.from_residual.ensures.1 (fails_alike same (fails_more (Token marks.OpenBrace ∷ []) (Declarations c.args.depth ∷ []) c.in_err-rest.ensures.stuck))
+
+pub body_of_struct-returns-in_err-members-clause-stuck : goal.body_of_struct-returns-in_err-members-clause-stuck
+body_of_struct-returns-in_err-members-clause-stuck t c =
+    let n = c.args.depth in
+    let start = read_alike (of_struct n c.args.tokens.now) (read_more (Token marks.OpenBrace ∷ []) (Declarations n ∷ []) c.in_ok-rest.ensures.read) in
+    exit _ _ c.from_residual-in_err-members.ensures.1 (fails_then (Declarations n ∷ []) [] start c.in_err-members.ensures.stuck)
+
+pub body_of_struct-returns-clause-read : goal.body_of_struct-returns-clause-read
+body_of_struct-returns-clause-read t c =
+    let n = c.args.depth in
+    let start = read_alike (of_struct n c.args.tokens.now) (read_more (Token marks.OpenBrace ∷ []) (Declarations n ∷ []) c.in_ok-rest.ensures.read) in
+    read_as (ap spell_body (sym c.struct_body.ensures)) (read_then (Declarations n ∷ []) [] start c.in_ok-members.ensures.read)
+
+pub declarations-returns-in_err-member-clause-stuck : goal.declarations-returns-in_err-member-clause-stuck
+declarations-returns-in_err-member-clause-stuck t c =
+    let n = c.args.depth in
+    exit _ _ c.from_residual.ensures.1 (fails_alike (of_declarations n c.args.tokens.now) (fails_more (Declared n endings.Semicolon ∷ []) (MoreDeclarations n ∷ []) c.in_err-member.ensures.stuck))
+
+pub declarations-loop-members-init : goal.declarations-loop-members-init
+declarations-loop-members-init t c =
+    let n = c.args.depth in
+    let one = one_only _ _ _ c.new-members.ensures.items c.in_ok-push.ensures.items in
+    let member = c.in_ok-member in
+    record {
+      read = read_as (declarations_more [] member.member _ one) (read_alike (of_declarations n c.args.tokens.now) (read_more (Declared n endings.Semicolon ∷ []) (MoreDeclarations n ∷ []) member.ensures.read));
+      some = has_declaration [] member.member _ one;
+      fits = fits_declaration _ [] member.member _ one tt member.ensures.fits;
+    }
+
+pub declarations-returns-in_err-word-clause-stuck : goal.declarations-returns-in_err-word-clause-stuck
+declarations-returns-in_err-word-clause-stuck t c =
+    exit _ _ c.from_residual-in_err-word.ensures.1 (fails_then (MoreDeclarations c.args.depth ∷ []) [] c.loop-members.invariant.read (c.in_err-word.ensures.stuck (MoreDeclarations c.args.depth)))
+
+pub declarations-returns-in_err-next-clause-stuck : goal.declarations-returns-in_err-next-clause-stuck
+declarations-returns-in_err-next-clause-stuck t c =
+    let n = c.args.depth in
+    let on = read_on c.loop-members.invariant.read (more_declarations n c.in_ok-word.ensures.word (not_mark c.is_mark.ensures c.if-is_mark.false)) in
+    exit _ _ c.from_residual-in_err-next.ensures.1 (fails_then (Declared n endings.Semicolon ∷ []) (MoreDeclarations n ∷ []) on c.in_err-next.ensures.stuck)
+
+pub declarations-loop-members-preserved : goal.declarations-loop-members-preserved
+declarations-loop-members-preserved t c =
+    let n = c.args.depth in
+    let h = c.loop-members.invariant in
+    let next = c.in_ok-next in
+    let pushed = c.in_ok-push-2.ensures.items in
+    let on = read_on h.read (more_declarations n c.in_ok-word.ensures.word (not_mark c.is_mark.ensures c.if-is_mark.false)) in
+    record {
+      read = read_as (declarations_more c.loop-members.members.items next.next _ pushed) (read_then (Declared n endings.Semicolon ∷ []) (MoreDeclarations n ∷ []) on next.ensures.read);
+      some = has_declaration c.loop-members.members.items next.next _ pushed;
+      fits = fits_declaration _ c.loop-members.members.items next.next _ pushed h.fits next.ensures.fits;
+    }
+
+pub arms-returns-in_err-rest-clause-stuck : goal.arms-returns-in_err-rest-clause-stuck
+arms-returns-in_err-rest-clause-stuck t c =
+    let n = c.args.depth in
+    exit _ _ c.from_residual.ensures.1 (fails_alike (of_arms n c.args.tokens.now) (fails_more (Token marks.Case ∷ []) (AnyValue ∷ Token marks.Colon ∷ AfterCase n ∷ MoreArms n ∷ []) c.in_err-rest.ensures.stuck))
+
+pub arms-returns-in_err-member-clause-stuck : goal.arms-returns-in_err-member-clause-stuck
+arms-returns-in_err-member-clause-stuck t c =
+    let n = c.args.depth in
+    let start = read_alike (of_arms n c.args.tokens.now) (read_more (Token marks.Case ∷ []) (AnyValue ∷ Token marks.Colon ∷ AfterCase n ∷ MoreArms n ∷ []) c.in_ok-rest.ensures.read) in
+    exit _ _ c.from_residual-in_err-member.ensures.1 (fails_then (AnyValue ∷ Token marks.Colon ∷ AfterCase n ∷ []) (MoreArms n ∷ []) start c.in_err-member.ensures.stuck)
+
+pub arms-loop-arms-init : goal.arms-loop-arms-init
+arms-loop-arms-init t c =
+    let n = c.args.depth in
+    let one = one_only _ _ _ c.new-arms.ensures.items c.in_ok-push.ensures.items in
+    let member = c.in_ok-member in
+    let start = read_alike (of_arms n c.args.tokens.now) (read_more (Token marks.Case ∷ []) (AnyValue ∷ Token marks.Colon ∷ AfterCase n ∷ MoreArms n ∷ []) c.in_ok-rest.ensures.read) in
+    record {
+      read = read_as (arms_more [] member.member _ one) (read_after (AnyValue ∷ Token marks.Colon ∷ AfterCase n ∷ []) (MoreArms n ∷ []) [] (Fixed marks.Case) start member.ensures.read);
+      some = has_arm [] member.member _ one;
+      fits = fits_arm _ [] member.member _ one tt member.ensures.some member.ensures.fits;
+    }
+
+pub arms-returns-in_err-word-clause-stuck : goal.arms-returns-in_err-word-clause-stuck
+arms-returns-in_err-word-clause-stuck t c =
+    exit _ _ c.from_residual-in_err-word.ensures.1 (fails_then (MoreArms c.args.depth ∷ []) [] c.loop-arms.invariant.read (c.in_err-word.ensures.stuck (MoreArms c.args.depth)))
+
+pub arms-returns-in_err-rest-2-clause-stuck : goal.arms-returns-in_err-rest-2-clause-stuck
+arms-returns-in_err-rest-2-clause-stuck t c =
+    let n = c.args.depth in
+    let on = read_on c.loop-arms.invariant.read (more_arms n c.in_ok-word.ensures.word (not_mark c.is_mark.ensures c.if-is_mark.false) (not_mark c.is_mark-in-loop-arms.ensures c.if-is_mark-2.false)) in
+    exit _ _ c.from_residual-in_err-rest-2.ensures.1 (fails_then (Token marks.Case ∷ []) (AnyValue ∷ Token marks.Colon ∷ AfterCase n ∷ MoreArms n ∷ []) on c.in_err-rest-2.ensures.stuck)
+
+pub arms-returns-in_err-next-clause-stuck : goal.arms-returns-in_err-next-clause-stuck
+arms-returns-in_err-next-clause-stuck t c =
+    let n = c.args.depth in
+    let on = read_on c.loop-arms.invariant.read (more_arms n c.in_ok-word.ensures.word (not_mark c.is_mark.ensures c.if-is_mark.false) (not_mark c.is_mark-in-loop-arms.ensures c.if-is_mark-2.false)) in
+    let past = read_then (Token marks.Case ∷ []) (AnyValue ∷ Token marks.Colon ∷ AfterCase n ∷ MoreArms n ∷ []) on c.in_ok-rest-2.ensures.read in
+    exit _ _ c.from_residual-in_err-next.ensures.1 (fails_then (AnyValue ∷ Token marks.Colon ∷ AfterCase n ∷ []) (MoreArms n ∷ []) past c.in_err-next.ensures.stuck)
+
+pub arms-loop-arms-preserved : goal.arms-loop-arms-preserved
+arms-loop-arms-preserved t c =
+    let n = c.args.depth in
+    let h = c.loop-arms.invariant in
+    let next = c.in_ok-next in
+    let pushed = c.in_ok-push-2.ensures.items in
+    let on = read_on h.read (more_arms n c.in_ok-word.ensures.word (not_mark c.is_mark.ensures c.if-is_mark.false) (not_mark c.is_mark-in-loop-arms.ensures c.if-is_mark-2.false)) in
+    let past = read_then (Token marks.Case ∷ []) (AnyValue ∷ Token marks.Colon ∷ AfterCase n ∷ MoreArms n ∷ []) on c.in_ok-rest-2.ensures.read in
+    record {
+      read = read_as (arms_more c.loop-arms.arms.items next.next _ pushed) (read_after (AnyValue ∷ Token marks.Colon ∷ AfterCase n ∷ []) (MoreArms n ∷ []) _ (Fixed marks.Case) past next.ensures.read);
+      some = has_arm c.loop-arms.arms.items next.next _ pushed;
+      fits = fits_arm _ c.loop-arms.arms.items next.next _ pushed h.fits next.ensures.some next.ensures.fits;
+    }
+
+pub body_of_union-returns-in_err-rest-clause-stuck : goal.body_of_union-returns-in_err-rest-clause-stuck
+body_of_union-returns-in_err-rest-clause-stuck t c =
+    let n = c.args.depth in
+    exit _ _ c.from_residual.ensures.1 (fails_alike (of_union n c.args.tokens.now) (fails_more (Token marks.Switch ∷ []) (Token marks.OpenParenthesis ∷ Declared n endings.Parenthesis ∷ Token marks.OpenBrace ∷ Arms n ∷ []) c.in_err-rest.ensures.stuck))
+
+pub body_of_union-returns-in_err-rest-2-clause-stuck : goal.body_of_union-returns-in_err-rest-2-clause-stuck
+body_of_union-returns-in_err-rest-2-clause-stuck t c =
+    let n = c.args.depth in
+    let start = read_alike (of_union n c.args.tokens.now) (read_more (Token marks.Switch ∷ []) (Token marks.OpenParenthesis ∷ Declared n endings.Parenthesis ∷ Token marks.OpenBrace ∷ Arms n ∷ []) c.in_ok-rest.ensures.read) in
+    exit _ _ c.from_residual-in_err-rest-2.ensures.1 (fails_then (Token marks.OpenParenthesis ∷ []) (Declared n endings.Parenthesis ∷ Token marks.OpenBrace ∷ Arms n ∷ []) start c.in_err-rest-2.ensures.stuck)
+
+pub body_of_union-returns-in_err-discriminant-clause-stuck : goal.body_of_union-returns-in_err-discriminant-clause-stuck
+body_of_union-returns-in_err-discriminant-clause-stuck t c =
+    let n = c.args.depth in
+    let start = read_alike (of_union n c.args.tokens.now) (read_more (Token marks.Switch ∷ []) (Token marks.OpenParenthesis ∷ Declared n endings.Parenthesis ∷ Token marks.OpenBrace ∷ Arms n ∷ []) c.in_ok-rest.ensures.read) in
+    let opened = read_then (Token marks.OpenParenthesis ∷ []) (Declared n endings.Parenthesis ∷ Token marks.OpenBrace ∷ Arms n ∷ []) start c.in_ok-rest-2.ensures.read in
+    exit _ _ c.from_residual-in_err-discriminant.ensures.1 (fails_then (Declared n endings.Parenthesis ∷ []) (Token marks.OpenBrace ∷ Arms n ∷ []) opened c.in_err-discriminant.ensures.stuck)
+
+pub body_of_union-returns-in_err-rest-3-clause-stuck : goal.body_of_union-returns-in_err-rest-3-clause-stuck
+body_of_union-returns-in_err-rest-3-clause-stuck t c =
+    let n = c.args.depth in
+    let start = read_alike (of_union n c.args.tokens.now) (read_more (Token marks.Switch ∷ []) (Token marks.OpenParenthesis ∷ Declared n endings.Parenthesis ∷ Token marks.OpenBrace ∷ Arms n ∷ []) c.in_ok-rest.ensures.read) in
+    let opened = read_then (Token marks.OpenParenthesis ∷ []) (Declared n endings.Parenthesis ∷ Token marks.OpenBrace ∷ Arms n ∷ []) start c.in_ok-rest-2.ensures.read in
+    let told = read_then (Declared n endings.Parenthesis ∷ []) (Token marks.OpenBrace ∷ Arms n ∷ []) opened c.in_ok-discriminant.ensures.read in
+    exit _ _ c.from_residual-in_err-rest-3.ensures.1 (fails_then (Token marks.OpenBrace ∷ []) (Arms n ∷ []) told c.in_err-rest-3.ensures.stuck)
+
+pub body_of_union-returns-in_err-arms-clause-stuck : goal.body_of_union-returns-in_err-arms-clause-stuck
+body_of_union-returns-in_err-arms-clause-stuck t c =
+    let n = c.args.depth in
+    let start = read_alike (of_union n c.args.tokens.now) (read_more (Token marks.Switch ∷ []) (Token marks.OpenParenthesis ∷ Declared n endings.Parenthesis ∷ Token marks.OpenBrace ∷ Arms n ∷ []) c.in_ok-rest.ensures.read) in
+    let opened = read_then (Token marks.OpenParenthesis ∷ []) (Declared n endings.Parenthesis ∷ Token marks.OpenBrace ∷ Arms n ∷ []) start c.in_ok-rest-2.ensures.read in
+    let told = read_then (Declared n endings.Parenthesis ∷ []) (Token marks.OpenBrace ∷ Arms n ∷ []) opened c.in_ok-discriminant.ensures.read in
+    let within = read_then (Token marks.OpenBrace ∷ []) (Arms n ∷ []) told c.in_ok-rest-3.ensures.read in
+    exit _ _ c.from_residual-in_err-arms.ensures.1 (fails_then (Arms n ∷ []) [] within c.in_err-arms.ensures.stuck)
+
+pub body_of_union-returns-clause-read : goal.body_of_union-returns-clause-read
+body_of_union-returns-clause-read t c =
+    let n = c.args.depth in
+    let start = read_alike (of_union n c.args.tokens.now) (read_more (Token marks.Switch ∷ []) (Token marks.OpenParenthesis ∷ Declared n endings.Parenthesis ∷ Token marks.OpenBrace ∷ Arms n ∷ []) c.in_ok-rest.ensures.read) in
+    let opened = read_then (Token marks.OpenParenthesis ∷ []) (Declared n endings.Parenthesis ∷ Token marks.OpenBrace ∷ Arms n ∷ []) start c.in_ok-rest-2.ensures.read in
+    let told = read_then (Declared n endings.Parenthesis ∷ []) (Token marks.OpenBrace ∷ Arms n ∷ []) opened c.in_ok-discriminant.ensures.read in
+    let within = read_then (Token marks.OpenBrace ∷ []) (Arms n ∷ []) told c.in_ok-rest-3.ensures.read in
+    read_as (union_words _ _ ∙ ap spell_body (sym c.union_body.ensures)) (read_then (Arms n ∷ []) [] within c.in_ok-arms.ensures.read)
+
+pub data_type-returns-in-Unsigned-clause-read : goal.data_type-returns-in-Unsigned-clause-read
+data_type-returns-in-Unsigned-clause-read t c =
+    let here : view_word c.in_ok-word.word ≡ Fixed marks.Unsigned = search rules in
+    read_unsigned c.args.depth c.in_ok-word.ensures.word here c.unsigned.result (λ x. spell_type (view_type x.0)) (λ x. x.1.now) c.unsigned.ensures.read
+
+pub data_type-returns-in-Unsigned-clause-stuck : goal.data_type-returns-in-Unsigned-clause-stuck
+data_type-returns-in-Unsigned-clause-stuck t c =
+    let here : view_word c.in_ok-word.word ≡ Fixed marks.Unsigned = search rules in
+    stuck_unsigned c.args.depth c.in_ok-word.ensures.word here c.unsigned.result c.unsigned.ensures.stuck
+
+pub declared-returns-in_default-mark : goal.declared-returns-in_default-mark
+declared-returns-in_default-mark t c =
+    let n = c.args.depth in
+    let e = c.args.ending in
+    let w = c.in_ok-word.word in
+    let m = c.in-Mark.mark in
+    let same = no_keyword n e c.in_ok-word.ensures.word
+    (other_mark w m marks.Void c.in-Mark.is c.in_default-mark.not-Void)
+    (other_mark w m marks.Opaque c.in-Mark.is c.in_default-mark.not-Opaque)
+    (other_mark w m marks.String c.in-Mark.is c.in_default-mark.not-String) in
+    record {
+      read = ok_alike [] (Declared n e ∷ []) (Typed n (InDeclaration e) ∷ []) [] c.args.tokens.now (λ x. spell_ended (view_declaration x.0) e) (λ x. x.1.now) c.typed.result same c.typed.ensures.read;
+      fits = c.typed.ensures.fits;
+      stuck = err_alike (Declared n e ∷ []) (Typed n (InDeclaration e) ∷ []) c.args.tokens.now c.typed.result same c.typed.ensures.stuck;
+    }
+
+pub declared-returns-in_default : goal.declared-returns-in_default
+declared-returns-in_default t c =
+    let n = c.args.depth in
+    let e = c.args.ending in
+    let w = c.in_ok-word.word in
+    let last = c.typed-in_default in
+    let same = no_keyword n e c.in_ok-word.ensures.word
+    (no_mark w marks.Void c.in_default.not-Mark) (no_mark w marks.Opaque c.in_default.not-Mark) (no_mark w marks.String c.in_default.not-Mark) in
+    record {
+      read = ok_alike [] (Declared n e ∷ []) (Typed n (InDeclaration e) ∷ []) [] c.args.tokens.now (λ x. spell_ended (view_declaration x.0) e) (λ x. x.1.now) last.result same last.ensures.read;
+      fits = last.ensures.fits;
+      stuck = err_alike (Declared n e ∷ []) (Typed n (InDeclaration e) ∷ []) c.args.tokens.now last.result same last.ensures.stuck;
+    }
+
+pub tagged-returns-else-depth-eq0 : goal.tagged-returns-else-depth-eq0
+tagged-returns-else-depth-eq0 t c =
+    let n = c.args.depth in
+    let tag = c.args.tag in
+    let some = c.if-depth-eq0.false in
+    let same = no_tag_name tag n c.in_ok-word.word c.in_ok-word.ensures.word c.in_default.not-Name some in
+    record {
+      read = ok_alike (Fixed (tag_mark tag) ∷ []) (AfterTag tag n ∷ []) (AnyBody tag (n - 1) ∷ []) [] c.args.tokens.now (λ x. spell_type (view_type x.0)) (λ x. x.1.now) c.inlined.result same c.inlined.ensures.read;
+      fits = IfOk-weaker c.inlined.result (λ x. TypeFits (view_type x.0) (n - 1 + 1)) (λ x. TypeFits (view_type x.0) n) (λ x f. fits_one_more (view_type x.0) n some f) c.inlined.ensures.fits;
+      stuck = err_alike (AfterTag tag n ∷ []) (AnyBody tag (n - 1) ∷ []) c.args.tokens.now c.inlined.result same c.inlined.ensures.stuck;
+    }
+
+pub typed-returns-in_err-name-clause-stuck : goal.typed-returns-in_err-name-clause-stuck
+typed-returns-in_err-name-clause-stuck t c =
+    let e = c.args.ending in
+    exit _ _ c.from_residual-in_err-name.ensures.1 (fails_then (AfterType (InDeclaration e) ∷ []) [] (c.in_ok-data.ensures.read (InDeclaration e)) c.in_err-name.ensures.stuck)
+
+pub typed-returns-clause-read : goal.typed-returns-clause-read
+typed-returns-clause-read t c =
+    let e = c.args.ending in
+    read_as (sym (append_assoc (spell_type (view_type c.in_ok-data.data)) (spell_named c.in_ok-name.name.items (view_shape c.in_ok-name.shape)) (Fixed (ending_mark e) ∷ [])))
+    (read_then (AfterType (InDeclaration e) ∷ []) [] (c.in_ok-data.ensures.read (InDeclaration e)) c.in_ok-name.ensures.read)
+
+pub arm-returns-in_err-declaration-clause-stuck : goal.arm-returns-in_err-declaration-clause-stuck
+arm-returns-in_err-declaration-clause-stuck t c =
+    let n = c.args.depth in
+    exit _ _ c.from_residual-in_err-declaration.ensures.1 (fails_then (Declared n endings.Semicolon ∷ []) [] (c.in_ok-cases.ensures.read n) c.in_err-declaration.ensures.stuck)
+
+pub arm-returns-clause-read : goal.arm-returns-clause-read
+arm-returns-clause-read t c =
+    let n = c.args.depth in
+    read_then (Declared n endings.Semicolon ∷ []) [] (c.in_ok-cases.ensures.read n) c.in_ok-declaration.ensures.read

@@ -1,0 +1,15 @@
+use Rattle.std.proofs.Common.{[], ◌∷◌, length, map}
+use Rattle.x_item.specs.Spell.{spell_enumerators, HasOne}
+use Rattle.x_item.specs.View.{view_enumerator}
+use Rattle.x_item.specs.Symbols.{Enumerators, MoreEnumerators}
+use Rattle.x_item.specs.Reading.{IsRead}
+use Rattle.x_item.proofs.parsing.enumerators.enumerators.Given as goal
+
+abbrev pub invariant-loop-members : goal.invariant-loop-members
+invariant-loop-members l = record {
+  read : IsRead [] (Enumerators ∷ []) l.tokens (spell_enumerators (map view_enumerator l.members.items)) (MoreEnumerators ∷ []) l.left;
+  some : HasOne (map view_enumerator l.members.items);
+}
+
+abbrev pub decreases-loop-members : goal.decreases-loop-members
+decreases-loop-members l = length l.left

@@ -1,0 +1,428 @@
+//! The names that a definition declares.
+ghost use Rattle.std.specs.Prelude.{◌≡◌, ◌+◌, ℕ, List, [], ◌∷◌, length, map, true, false, OnOk, IfOk};
+ghost use Rattle.x_item.specs.Tree.{Of, Inline};
+ghost use Rattle.x_item.specs.View.{view_length, view_shape, view_enumerator, view_body, view_declaration};
+ghost use Rattle.x_item.specs.View.{view_declarations, view_arms, view_default, view_definition};
+ghost use Rattle.x_item.specs.Spell.{spell_length, spell_named, spell_enumerator, spell_other_enumerators};
+ghost use Rattle.x_item.specs.Spell.{spell_enumerators, spell_body, spell_declaration, spell_declarations};
+ghost use Rattle.x_item.specs.Spell.{spell_arms, spell_default};
+ghost use Rattle.x_item.specs.Names.{lifted_name, star, by_other_enumerators, by_enumerators, by_body};
+ghost use Rattle.x_item.specs.Names.{by_declaration, by_declarations, by_arms, by_default, by_typedef};
+ghost use Rattle.x_item.specs.Names.{declared, kept};
+ghost use Rattle.x_item.specs.Named.{view_name, Names};
+
+use super::mentions::words_of;
+use super::{DeclaredName, NameKind};
+use crate::trees::{
+    Arm, Basic, Body, DataType, Declaration, Definition, Enumerator, Length, Shape,
+};
+use std::alloc::Global;
+use x_text::NoMemory;
+
+/// The name of an inline type.
+fn lifted_name(alloc: Global, around: &[u8], name: &[u8]) -> Result<Vec<u8>, NoMemory>
+    ensures { IfOk result (λ lifted. lifted.items ≡ lifted_name around.now name.now) }
+{
+    let mut lifted = Vec::from_slice(alloc, around)?;
+    lifted.push(b'_')?;
+    lifted.extend_from_slice(name)?;
+    Ok(lifted)
+}
+
+/// How many words stand between the type of a declaration and its name.
+fn words_before_name(shape: &Shape) -> usize
+    ensures { result ≡ star (view_shape shape.now) }
+{
+    match shape {
+        Shape::Optional => 1,
+        _ => 0,
+    }
+}
+
+/// How many words the name of a declaration and those behind it are.
+fn words_from_name(shape: &Shape) -> usize
+    ensures { (name : List ℕ) → star (view_shape shape.now) + result
+        ≡ length (spell_named name (view_shape shape.now)) }
+{
+    match shape {
+        Shape::Plain | Shape::Optional => 1,
+        Shape::Array(Length::Fixed(_)) | Shape::Array(Length::Variable(Some(_))) => 4,
+        Shape::Array(Length::Variable(None)) => 3,
+    }
+}
+
+/// How many words the length of an array is, with its brackets.
+fn words_of_length(size: &Length) -> usize
+    ensures { result ≡ length (spell_length (view_length size.now)) }
+{
+    match size {
+        Length::Fixed(_) | Length::Variable(Some(_)) => 3,
+        Length::Variable(None) => 2,
+    }
+}
+
+/// A walk over a definition, which has come to a word.
+#[derive(Drop)]
+struct NameWalk {
+    list: Vec<DeclaredName>,
+    word: usize,
+}
+
+impl NameWalk {
+    /// Goes over words that declare nothing.
+    fn skip(&mut self, words: usize)
+        ensures { Names self.old self.new words (λ k. []) }
+    {
+        self.word = self.word.saturating_add(words);
+    }
+
+    /// Takes in a name that the word declares which is next.
+    fn add(&mut self, name: Vec<u8>, kind: NameKind, lifted: bool) -> Result<(), NoMemory>
+        ensures { OnOk result (Names self.old self.new 0
+            (λ k. record { name = name.items; word = k; kind = kind; lifted = lifted } ∷ [])) }
+    {
+        self.list.push(DeclaredName {
+            name,
+            word: self.word,
+            kind,
+            lifted,
+        })?;
+        Ok(())
+    }
+
+    fn enumerator(&mut self, alloc: Global, enumerator: &Enumerator) -> Result<(), NoMemory>
+        ensures { OnOk result (Names self.old self.new
+            (length (spell_enumerator (view_enumerator enumerator.now)))
+            (λ k. record {
+              name = enumerator.now.name.items;
+              word = k;
+              kind = NameKind.Constant;
+              lifted = false;
+            } ∷ [])) }
+    {
+        let name = Vec::from_slice(alloc, &enumerator.name)?;
+        self.add(name, NameKind::Constant, false)?;
+        match &enumerator.value {
+            Some(_) => self.skip(3),
+            None => self.skip(1),
+        }
+        Ok(())
+    }
+
+    fn enumerators(&mut self, alloc: Global, enumerators: &[Enumerator]) -> Result<(), NoMemory>
+        ensures { OnOk result (Names self.old self.new
+            (length (spell_enumerators (map view_enumerator enumerators.now)))
+            (λ k. by_enumerators k (map view_enumerator enumerators.now))) }
+    {
+        match enumerators.split_first() {
+            Some((first, others)) => {
+                self.enumerator(alloc, first)?;
+                self.other_enumerators(alloc, others)
+            }
+            None => Ok(()),
+        }
+    }
+
+    fn other_enumerators(
+        &mut self,
+        alloc: Global,
+        enumerators: &[Enumerator],
+    ) -> Result<(), NoMemory>
+        ensures { OnOk result (Names self.old self.new
+            (length (spell_other_enumerators (map view_enumerator enumerators.now)))
+            (λ k. by_other_enumerators k (map view_enumerator enumerators.now))) }
+    {
+        for enumerator in enumerators {
+            self.skip(1);
+            self.enumerator(alloc, enumerator)?;
+        }
+        Ok(())
+    }
+
+    /// Goes over the body of the type that `around` names.
+    #[cycle(walk)]
+    fn body(&mut self, alloc: Global, around: &[u8], body: &Body) -> Result<(), NoMemory>
+        ensures { OnOk result (Names self.old self.new (length (spell_body (view_body body.now)))
+            (λ k. by_body around.now k (view_body body.now))) }
+    {
+        match body {
+            Body::Enum(enumerators) => {
+                self.skip(1);
+                self.enumerators(alloc, enumerators)?;
+                self.skip(1);
+                Ok(())
+            }
+            Body::Struct(declarations) => {
+                self.skip(1);
+                self.declarations(alloc, around, declarations)?;
+                self.skip(1);
+                Ok(())
+            }
+            Body::Union(body) => {
+                self.skip(2);
+                self.declaration(alloc, around, &body.discriminant)?;
+                self.skip(2);
+                self.arms(alloc, around, &body.arms)?;
+                self.default(alloc, around, &body.default)
+            }
+        }
+    }
+
+    #[cycle(walk)]
+    fn declaration(
+        &mut self,
+        alloc: Global,
+        around: &[u8],
+        declaration: &Declaration,
+    ) -> Result<(), NoMemory>
+        ensures { OnOk result (Names self.old self.new
+            (length (spell_declaration (view_declaration declaration.now)))
+            (λ k. by_declaration around.now k (view_declaration declaration.now))) }
+    {
+        match declaration {
+            Declaration::Void => self.skip(1),
+            Declaration::Of { data, name, shape } => match data {
+                DataType::Inline(body) => return self.inline(alloc, around, body, name, shape),
+                DataType::Basic(basic) => self.plain(words_of(*basic), shape),
+                DataType::Named(_) => self.plain(1, shape),
+                DataType::Tagged { .. } => self.plain(2, shape),
+            },
+            Declaration::Opaque { length, .. } => {
+                self.skip(2);
+                self.skip(words_of_length(length));
+            }
+            Declaration::String { most, .. } => match most {
+                Some(_) => self.skip(5),
+                None => self.skip(4),
+            },
+        }
+        Ok(())
+    }
+
+    /// Goes over a declaration of a type of so many words.
+    fn plain(&mut self, words: usize, shape: &Shape)
+        ensures { (name : List ℕ) → Names self.old self.new
+            (words + length (spell_named name (view_shape shape.now))) (λ k. []) }
+    {
+        self.skip(words);
+        self.skip(words_before_name(shape));
+        self.skip(words_from_name(shape));
+    }
+
+    /// Goes over a declaration of an inline type.
+    #[cycle(walk)]
+    fn inline(
+        &mut self,
+        alloc: Global,
+        around: &[u8],
+        body: &Body,
+        name: &[u8],
+        shape: &Shape,
+    ) -> Result<(), NoMemory>
+        ensures { OnOk result (Names self.old self.new
+            (length (spell_declaration
+            (Of (Inline (view_body body.now)) name.now (view_shape shape.now))))
+            (λ k. by_declaration around.now k
+            (Of (Inline (view_body body.now)) name.now (view_shape shape.now)))) }
+    {
+        let lifted = lifted_name(alloc, around, name)?;
+        self.skip(1);
+        self.body(alloc, &lifted, body)?;
+        self.skip(words_before_name(shape));
+        self.add(lifted, NameKind::of_body(body), true)?;
+        self.skip(words_from_name(shape));
+        Ok(())
+    }
+
+    /// Goes over declarations, each with its `;`.
+    #[cycle(walk)]
+    fn declarations(
+        &mut self,
+        alloc: Global,
+        around: &[u8],
+        declarations: &[Declaration],
+    ) -> Result<(), NoMemory>
+        ensures { OnOk result (Names self.old self.new
+            (length (spell_declarations (view_declarations declarations.now)))
+            (λ k. by_declarations around.now k (view_declarations declarations.now))) }
+    {
+        for declaration in declarations {
+            self.declaration(alloc, around, declaration)?;
+            self.skip(1);
+        }
+        Ok(())
+    }
+
+    #[cycle(walk)]
+    fn arms(&mut self, alloc: Global, around: &[u8], arms: &[Arm]) -> Result<(), NoMemory>
+        ensures { OnOk result (Names self.old self.new (length (spell_arms (view_arms arms.now)))
+            (λ k. by_arms around.now k (view_arms arms.now))) }
+    {
+        for arm in arms {
+            self.cases(arm.cases.len());
+            self.declaration(alloc, around, &arm.declaration)?;
+            self.skip(1);
+        }
+        Ok(())
+    }
+
+    /// Goes over so many cases of an arm.
+    fn cases(&mut self, cases: usize)
+        ensures { Names self.old self.new (cases + cases + cases) (λ k. []) }
+    {
+        self.skip(cases);
+        self.skip(cases);
+        self.skip(cases);
+    }
+
+    /// Goes over the default arm, if there is one, and the `}` of a union.
+    #[cycle(walk)]
+    fn default(
+        &mut self,
+        alloc: Global,
+        around: &[u8],
+        default: &Option<Declaration>,
+    ) -> Result<(), NoMemory>
+        ensures { OnOk result (Names self.old self.new (length (spell_default (view_default default.now)))
+            (λ k. by_default around.now k (view_default default.now))) }
+    {
+        if let Some(declaration) = default {
+            self.skip(2);
+            self.declaration(alloc, around, declaration)?;
+            self.skip(1);
+        }
+        self.skip(1);
+        Ok(())
+    }
+
+    /// Goes over the declaration of a `typedef`.
+    fn typedef(&mut self, alloc: Global, declaration: &Declaration) -> Result<(), NoMemory>
+        ensures { OnOk result (Names self.old self.new
+            (length (spell_declaration (view_declaration declaration.now)))
+            (λ k. by_typedef k (view_declaration declaration.now))) }
+    {
+        match declaration {
+            Declaration::Void => {
+                self.skip(1);
+                Ok(())
+            }
+            Declaration::Of { data, name, shape } => match data {
+                DataType::Inline(body) => self.inline_typedef(alloc, body, name, shape),
+                DataType::Basic(basic) => self.plain_typedef(alloc, words_of(*basic), name, shape),
+                DataType::Named(_) => self.plain_typedef(alloc, 1, name, shape),
+                DataType::Tagged { .. } => self.plain_typedef(alloc, 2, name, shape),
+            },
+            Declaration::Opaque { name, length } => {
+                self.own(alloc, 1, name)?;
+                self.skip(1);
+                self.skip(words_of_length(length));
+                Ok(())
+            }
+            Declaration::String { name, most } => {
+                self.own(alloc, 1, name)?;
+                match most {
+                    Some(_) => self.skip(4),
+                    None => self.skip(3),
+                }
+                Ok(())
+            }
+        }
+    }
+
+    /// Goes over so many words, and takes in the own name of a `typedef` behind them.
+    fn own(&mut self, alloc: Global, words: usize, name: &[u8]) -> Result<(), NoMemory>
+        ensures { OnOk result (Names self.old self.new words
+            (λ k. record {
+              name = name.now;
+              word = k + words;
+              kind = NameKind.Typedef;
+              lifted = false;
+            } ∷ [])) }
+    {
+        self.skip(words);
+        let name = Vec::from_slice(alloc, name)?;
+        self.add(name, NameKind::Typedef, false)
+    }
+
+    /// Goes over the declaration of a `typedef`, of a type of so many words.
+    fn plain_typedef(
+        &mut self,
+        alloc: Global,
+        words: usize,
+        name: &[u8],
+        shape: &Shape,
+    ) -> Result<(), NoMemory>
+        ensures { OnOk result (Names self.old self.new
+            (words + length (spell_named name.now (view_shape shape.now)))
+            (λ k. record {
+              name = name.now;
+              word = k + words + star (view_shape shape.now);
+              kind = NameKind.Typedef;
+              lifted = false;
+            } ∷ [])) }
+    {
+        self.skip(words);
+        self.own(alloc, words_before_name(shape), name)?;
+        self.skip(words_from_name(shape));
+        Ok(())
+    }
+
+    /// Goes over the declaration of a `typedef` of an inline type.
+    fn inline_typedef(
+        &mut self,
+        alloc: Global,
+        body: &Body,
+        name: &[u8],
+        shape: &Shape,
+    ) -> Result<(), NoMemory>
+        ensures { OnOk result (Names self.old self.new
+            (length (spell_declaration
+            (Of (Inline (view_body body.now)) name.now (view_shape shape.now))))
+            (λ k. by_typedef k
+            (Of (Inline (view_body body.now)) name.now (view_shape shape.now)))) }
+    {
+        let lifted = lifted_name(alloc, name, name)?;
+        self.skip(1);
+        self.body(alloc, &lifted, body)?;
+        self.own(alloc, words_before_name(shape), name)?;
+        let kind = NameKind::of_body(body);
+        self.add(lifted, kind, true)?;
+        self.skip(words_from_name(shape));
+        Ok(())
+    }
+}
+
+/// The names that the definition declares, in the order of their words; at one word the own name comes first. What is written as
+/// an argument or a result declares none.
+///
+/// # Errors
+///
+/// [`NoMemory`] where the list, or a name in it, could not grow.
+pub fn declares(alloc: Global, definition: &Definition) -> Result<Vec<DeclaredName>, NoMemory>
+    ensures { IfOk result (λ found. map view_name found.items
+        ≡ map kept (declared (view_definition definition.now))) }
+{
+    let mut walk = NameWalk {
+        list: Vec::new(alloc),
+        word: 0,
+    };
+    walk.skip(1);
+    match definition {
+        Definition::Const { name, .. } => {
+            let name = Vec::from_slice(alloc, name)?;
+            walk.add(name, NameKind::Constant, false)?;
+        }
+        Definition::Typedef(declaration) => walk.typedef(alloc, declaration)?,
+        Definition::NewType { name, body } => {
+            let own = Vec::from_slice(alloc, name)?;
+            walk.add(own, NameKind::of_body(body), false)?;
+            walk.skip(1);
+            walk.body(alloc, name, body)?;
+        }
+        Definition::Program { name, .. } => {
+            let name = Vec::from_slice(alloc, name)?;
+            walk.add(name, NameKind::Program, false)?;
+        }
+    }
+    Ok(walk.list)
+}

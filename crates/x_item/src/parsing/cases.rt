@@ -1,0 +1,56 @@
+//! Reading of the cases of an arm. Each function takes the tokens that are ahead, of which some may be no words, and
+//! gives back those after what it read.
+ghost use Rattle.std.specs.Prelude.{ℕ, [], ◌∷◌, map, IfOk, IfErr};
+ghost use Rattle.x_item.specs.Words.{Fixed};
+ghost use Rattle.x_item.specs.View.{view_value};
+ghost use Rattle.x_item.specs.Spell.{spell_value, spell_cases, HasOne};
+ghost use Rattle.x_item.specs.Symbols.{Token as OfMark, AnyValue, Declared, AfterCase};
+ghost use Rattle.x_item.specs.Reading.{IsRead, Fails};
+
+use super::ParseError;
+use super::words::{expect, first, is_mark, value};
+use crate::mark::{Ending, Mark};
+use crate::trees::Value;
+use std::alloc::Global;
+use x_lex::Token;
+
+/// Reads the values of an arm after its first `case`, each with its `:`.
+pub fn cases<'w, 't>(
+    alloc: Global,
+    tokens: &'w [Token<'t>],
+) -> Result<(Vec<Value>, &'w [Token<'t>]), ParseError>
+    ensures read { IfOk result (λ x. (n : ℕ) → IsRead (Fixed Mark.Case ∷ [])
+        (AnyValue ∷ OfMark Mark.Colon ∷ AfterCase n ∷ []) tokens.now
+        (spell_cases (map view_value x.0.items)) (Declared n Ending.Semicolon ∷ []) x.1.now) }
+    ensures some { IfOk result (λ x. HasOne (map view_value x.0.items)) }
+    ensures stuck { IfErr result
+        (λ e. (n : ℕ) → Fails (AnyValue ∷ OfMark Mark.Colon ∷ AfterCase n ∷ []) tokens.now e) }
+{
+    let (first_case, mut left) = case(alloc, tokens)?;
+    let mut cases = Vec::new(alloc);
+    cases.push(first_case)?;
+    loop {
+        let (word, rest) = first(left)?;
+        if is_mark(&word, Mark::Case) {
+            let (next, after) = case(alloc, rest)?;
+            cases.push(next)?;
+            left = after;
+        } else {
+            return Ok((cases, left));
+        }
+    }
+}
+
+/// Reads a value and its `:`.
+fn case<'w, 't>(
+    alloc: Global,
+    tokens: &'w [Token<'t>],
+) -> Result<(Value, &'w [Token<'t>]), ParseError>
+    ensures read { IfOk result (λ x. IsRead [] (AnyValue ∷ OfMark Mark.Colon ∷ []) tokens.now
+        (spell_value (view_value x.0) ∷ Fixed Mark.Colon ∷ []) [] x.1.now) }
+    ensures stuck { IfErr result (λ e. Fails (AnyValue ∷ OfMark Mark.Colon ∷ []) tokens.now e) }
+{
+    let (value, rest) = value(alloc, tokens)?;
+    let rest = expect(Mark::Colon, rest)?;
+    Ok((value, rest))
+}

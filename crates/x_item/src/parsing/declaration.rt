@@ -1,0 +1,397 @@
+//! Reading of types and declarations, and of all that stands inside them. Each function takes the tokens that are
+//! ahead, of which some may be no words, and gives back those after what it read; `depth` is how many inline bodies
+//! may stand inside one another.
+ghost use Rattle.std.specs.Prelude.{◌≡◌, ℕ, [], ◌∷◌, ◌++◌, ◌+◌, map, IfOk, IfErr};
+ghost use Rattle.x_item.specs.Words.{Fixed, Name};
+ghost use Rattle.x_item.specs.Tree.{default as one_default};
+ghost use Rattle.x_item.specs.View.{view_value, view_type, view_body, view_declaration, view_declarations};
+ghost use Rattle.x_item.specs.View.{view_arms, view_default};
+ghost use Rattle.x_item.specs.Spell.{tag_mark, body_mark, spell_type, spell_body, spell_declarations};
+ghost use Rattle.x_item.specs.Spell.{spell_arms, spell_default, HasOne, HasDeclaration, HasArm, TypeFits};
+ghost use Rattle.x_item.specs.Spell.{BodyFits, DeclarationFits, DeclarationsFit, ArmsFit, DefaultFits};
+ghost use Rattle.x_item.specs.Symbols.{Context, InDeclaration, Token as OfMark, AnyName, AnyValue, AnyLength};
+ghost use Rattle.x_item.specs.Symbols.{AfterLess, Typed, AfterType, AfterTag, AnyBody, Declared};
+ghost use Rattle.x_item.specs.Symbols.{Declarations, Arms, AfterCase, ending_mark, AfterUnsigned};
+ghost use Rattle.x_item.specs.Reading.{IsRead, IsPart, Fails, spell_ended, spell_arm};
+
+use super::ParseError;
+use super::cases::cases;
+use super::declarator::{array_length, most, named};
+use super::enumerators::enumerators;
+use super::words::{Word, expect, first, is_mark, name, stuck_at};
+use crate::mark::{Ending, Mark};
+use crate::trees::{Arm, Basic, Body, DataType, Declaration, Tag, inline, struct_body, union_body};
+use std::alloc::Global;
+use x_lex::Token;
+
+/// Reads a type.
+#[cycle(parser)]
+pub fn data_type<'w, 't>(
+    alloc: Global,
+    depth: u32,
+    tokens: &'w [Token<'t>],
+) -> Result<(DataType, &'w [Token<'t>]), ParseError>
+    ensures read { IfOk result (λ x. (c : Context) → IsRead [] (Typed depth c ∷ []) tokens.now
+        (spell_type (view_type x.0)) (AfterType c ∷ []) x.1.now) }
+    ensures fits { IfOk result (λ x. TypeFits (view_type x.0) depth) }
+    ensures stuck { IfErr result (λ e. (c : Context) → Fails (Typed depth c ∷ []) tokens.now e) }
+{
+    let (word, rest) = first(tokens)?;
+    match word {
+        Word::Mark(mark) => match mark {
+            Mark::Int => Ok((DataType::Basic(Basic::Int), rest)),
+            Mark::Long => Ok((DataType::Basic(Basic::Long), rest)),
+            Mark::Hyper => Ok((DataType::Basic(Basic::Hyper), rest)),
+            Mark::Float => Ok((DataType::Basic(Basic::Float), rest)),
+            Mark::Double => Ok((DataType::Basic(Basic::Double), rest)),
+            Mark::Quadruple => Ok((DataType::Basic(Basic::Quadruple), rest)),
+            Mark::Bool => Ok((DataType::Basic(Basic::Bool), rest)),
+            Mark::Unsigned => unsigned(rest),
+            Mark::Enum => tagged(alloc, Tag::Enum, depth, rest),
+            Mark::Struct => tagged(alloc, Tag::Struct, depth, rest),
+            Mark::Union => tagged(alloc, Tag::Union, depth, rest),
+            _ => Err(stuck_at(tokens)),
+        },
+        Word::Name(text) => Ok((DataType::Named(text.to_vec(alloc)?), rest)),
+        _ => Err(stuck_at(tokens)),
+    }
+}
+
+/// Reads what may stand after `unsigned`: the type.
+pub fn unsigned<'w, 't>(tokens: &'w [Token<'t>]) -> Result<(DataType, &'w [Token<'t>]), ParseError>
+    ensures read { IfOk result (λ x. (c : Context) → IsRead (Fixed Mark.Unsigned ∷ []) (AfterUnsigned c ∷ [])
+        tokens.now (spell_type (view_type x.0)) (AfterType c ∷ []) x.1.now) }
+    ensures fits { IfOk result (λ x. (n : ℕ) → TypeFits (view_type x.0) n) }
+    ensures stuck { IfErr result (λ e. (c : Context) → Fails (AfterUnsigned c ∷ []) tokens.now e) }
+{
+    let (word, rest) = first(tokens)?;
+    match word {
+        Word::Mark(mark) => match mark {
+            Mark::Int => Ok((DataType::Basic(Basic::UnsignedInt), rest)),
+            Mark::Long => Ok((DataType::Basic(Basic::UnsignedLong), rest)),
+            Mark::Hyper => Ok((DataType::Basic(Basic::UnsignedHyper), rest)),
+            _ => Ok((DataType::Basic(Basic::Unsigned), tokens)),
+        },
+        _ => Ok((DataType::Basic(Basic::Unsigned), tokens)),
+    }
+}
+
+/// Reads the name or the body after `enum`, `struct` or `union`.
+#[cycle(parser)]
+fn tagged<'w, 't>(
+    alloc: Global,
+    tag: Tag,
+    depth: u32,
+    tokens: &'w [Token<'t>],
+) -> Result<(DataType, &'w [Token<'t>]), ParseError>
+    ensures read { IfOk result (λ x. IsRead (Fixed (tag_mark tag) ∷ []) (AfterTag tag depth ∷ []) tokens.now
+        (spell_type (view_type x.0)) [] x.1.now) }
+    ensures fits { IfOk result (λ x. TypeFits (view_type x.0) depth) }
+    ensures stuck { IfErr result (λ e. Fails (AfterTag tag depth ∷ []) tokens.now e) }
+{
+    let (word, rest) = first(tokens)?;
+    match word {
+        Word::Name(text) => {
+            let name = text.to_vec(alloc)?;
+            Ok((DataType::Tagged { tag, name }, rest))
+        }
+        _ => {
+            if depth == 0 {
+                return Err(stuck_at(tokens));
+            }
+            inlined(alloc, tag, depth - 1, tokens)
+        }
+    }
+}
+
+/// Reads the body after `enum`, `struct` or `union`, of a type without a name.
+#[cycle(parser)]
+fn inlined<'w, 't>(
+    alloc: Global,
+    tag: Tag,
+    depth: u32,
+    tokens: &'w [Token<'t>],
+) -> Result<(DataType, &'w [Token<'t>]), ParseError>
+    ensures read { IfOk result (λ x. IsRead (Fixed (tag_mark tag) ∷ []) (AnyBody tag depth ∷ []) tokens.now
+        (spell_type (view_type x.0)) [] x.1.now) }
+    ensures fits { IfOk result (λ x. TypeFits (view_type x.0) (depth + 1)) }
+    ensures stuck { IfErr result (λ e. Fails (AnyBody tag depth ∷ []) tokens.now e) }
+{
+    let (body, rest) = body(alloc, tag, depth, tokens)?;
+    Ok((inline(alloc, body)?, rest))
+}
+
+/// Reads the body of an enum, a struct or a union.
+#[cycle(parser)]
+pub fn body<'w, 't>(
+    alloc: Global,
+    tag: Tag,
+    depth: u32,
+    tokens: &'w [Token<'t>],
+) -> Result<(Body, &'w [Token<'t>]), ParseError>
+    ensures read { IfOk result (λ x. IsPart (AnyBody tag depth) tokens.now
+        (spell_body (view_body x.0)) x.1.now) }
+    ensures of { IfOk result (λ x. body_mark (view_body x.0) ≡ tag_mark tag) }
+    ensures fits { IfOk result (λ x. BodyFits (view_body x.0) depth) }
+    ensures stuck { IfErr result (λ e. Fails (AnyBody tag depth ∷ []) tokens.now e) }
+{
+    match tag {
+        Tag::Enum => body_of_enum(alloc, depth, tokens),
+        Tag::Struct => body_of_struct(alloc, depth, tokens),
+        Tag::Union => body_of_union(alloc, depth, tokens),
+    }
+}
+
+/// Reads the body of an enum.
+fn body_of_enum<'w, 't>(
+    alloc: Global,
+    depth: u32,
+    tokens: &'w [Token<'t>],
+) -> Result<(Body, &'w [Token<'t>]), ParseError>
+    ensures read { IfOk result (λ x. IsPart (AnyBody Tag.Enum depth) tokens.now
+        (spell_body (view_body x.0)) x.1.now) }
+    ensures of { IfOk result (λ x. body_mark (view_body x.0) ≡ Mark.Enum) }
+    ensures fits { IfOk result (λ x. BodyFits (view_body x.0) depth) }
+    ensures stuck { IfErr result (λ e. Fails (AnyBody Tag.Enum depth ∷ []) tokens.now e) }
+{
+    let rest = expect(Mark::OpenBrace, tokens)?;
+    let (members, rest) = enumerators(alloc, rest)?;
+    Ok((Body::Enum(members), rest))
+}
+
+/// Reads the body of a struct.
+#[cycle(parser)]
+fn body_of_struct<'w, 't>(
+    alloc: Global,
+    depth: u32,
+    tokens: &'w [Token<'t>],
+) -> Result<(Body, &'w [Token<'t>]), ParseError>
+    ensures read { IfOk result (λ x. IsPart (AnyBody Tag.Struct depth) tokens.now
+        (spell_body (view_body x.0)) x.1.now) }
+    ensures of { IfOk result (λ x. body_mark (view_body x.0) ≡ Mark.Struct) }
+    ensures fits { IfOk result (λ x. BodyFits (view_body x.0) depth) }
+    ensures stuck { IfErr result (λ e. Fails (AnyBody Tag.Struct depth ∷ []) tokens.now e) }
+{
+    let rest = expect(Mark::OpenBrace, tokens)?;
+    let (members, rest) = declarations(alloc, depth, rest)?;
+    Ok((struct_body(members), rest))
+}
+
+/// Reads the body of a union.
+#[cycle(parser)]
+fn body_of_union<'w, 't>(
+    alloc: Global,
+    depth: u32,
+    tokens: &'w [Token<'t>],
+) -> Result<(Body, &'w [Token<'t>]), ParseError>
+    ensures read { IfOk result (λ x. IsPart (AnyBody Tag.Union depth) tokens.now
+        (spell_body (view_body x.0)) x.1.now) }
+    ensures of { IfOk result (λ x. body_mark (view_body x.0) ≡ Mark.Union) }
+    ensures fits { IfOk result (λ x. BodyFits (view_body x.0) depth) }
+    ensures stuck { IfErr result (λ e. Fails (AnyBody Tag.Union depth ∷ []) tokens.now e) }
+{
+    let rest = expect(Mark::Switch, tokens)?;
+    let rest = expect(Mark::OpenParenthesis, rest)?;
+    let (discriminant, rest) = declared(alloc, depth, Ending::Parenthesis, rest)?;
+    let rest = expect(Mark::OpenBrace, rest)?;
+    let (arms, default, rest) = arms(alloc, depth, rest)?;
+    Ok((union_body(discriminant, arms, default), rest))
+}
+
+/// Reads a declaration and its ending.
+#[cycle(parser)]
+pub fn declared<'w, 't>(
+    alloc: Global,
+    depth: u32,
+    ending: Ending,
+    tokens: &'w [Token<'t>],
+) -> Result<(Declaration, &'w [Token<'t>]), ParseError>
+    ensures read { IfOk result (λ x. IsPart (Declared depth ending) tokens.now
+        (spell_ended (view_declaration x.0) ending) x.1.now) }
+    ensures fits { IfOk result (λ x. DeclarationFits (view_declaration x.0) depth) }
+    ensures stuck { IfErr result (λ e. Fails (Declared depth ending ∷ []) tokens.now e) }
+{
+    let (word, rest) = first(tokens)?;
+    match word {
+        Word::Mark(mark) => match mark {
+            Mark::Void => nothing(ending, rest),
+            Mark::Opaque => opaque(alloc, ending, rest),
+            Mark::String => string(alloc, ending, rest),
+            _ => typed(alloc, depth, ending, tokens),
+        },
+        _ => typed(alloc, depth, ending, tokens),
+    }
+}
+
+/// Reads the ending after `void`.
+fn nothing<'w, 't>(
+    ending: Ending,
+    tokens: &'w [Token<'t>],
+) -> Result<(Declaration, &'w [Token<'t>]), ParseError>
+    ensures read { IfOk result (λ x. IsRead (Fixed Mark.Void ∷ []) (OfMark (ending_mark ending) ∷ [])
+        tokens.now (spell_ended (view_declaration x.0) ending) [] x.1.now) }
+    ensures fits { IfOk result (λ x. (n : ℕ) → DeclarationFits (view_declaration x.0) n) }
+    ensures stuck { IfErr result (λ e. Fails (OfMark (ending_mark ending) ∷ []) tokens.now e) }
+{
+    let rest = expect(ending.mark(), tokens)?;
+    Ok((Declaration::Void, rest))
+}
+
+/// Reads what stands after `opaque`, and the ending.
+fn opaque<'w, 't>(
+    alloc: Global,
+    ending: Ending,
+    tokens: &'w [Token<'t>],
+) -> Result<(Declaration, &'w [Token<'t>]), ParseError>
+    ensures read { IfOk result (λ x. IsRead (Fixed Mark.Opaque ∷ [])
+        (AnyName ∷ AnyLength ∷ OfMark (ending_mark ending) ∷ []) tokens.now
+        (spell_ended (view_declaration x.0) ending) [] x.1.now) }
+    ensures fits { IfOk result (λ x. (n : ℕ) → DeclarationFits (view_declaration x.0) n) }
+    ensures stuck { IfErr result
+        (λ e. Fails (AnyName ∷ AnyLength ∷ OfMark (ending_mark ending) ∷ []) tokens.now e) }
+{
+    let (name, rest) = name(alloc, tokens)?;
+    let (length, rest) = array_length(alloc, rest)?;
+    let rest = expect(ending.mark(), rest)?;
+    Ok((Declaration::Opaque { name, length }, rest))
+}
+
+/// Reads what stands after `string`, and the ending.
+fn string<'w, 't>(
+    alloc: Global,
+    ending: Ending,
+    tokens: &'w [Token<'t>],
+) -> Result<(Declaration, &'w [Token<'t>]), ParseError>
+    ensures read { IfOk result (λ x. IsRead (Fixed Mark.String ∷ [])
+        (AnyName ∷ OfMark Mark.Less ∷ AfterLess ∷ OfMark (ending_mark ending) ∷ []) tokens.now
+        (spell_ended (view_declaration x.0) ending) [] x.1.now) }
+    ensures fits { IfOk result (λ x. (n : ℕ) → DeclarationFits (view_declaration x.0) n) }
+    ensures stuck { IfErr result
+        (λ e. Fails (AnyName ∷ OfMark Mark.Less ∷ AfterLess ∷ OfMark (ending_mark ending) ∷ [])
+        tokens.now e) }
+{
+    let (name, rest) = name(alloc, tokens)?;
+    let rest = expect(Mark::Less, rest)?;
+    let (most, rest) = most(alloc, rest)?;
+    let rest = expect(ending.mark(), rest)?;
+    Ok((Declaration::String { name, most }, rest))
+}
+
+/// Reads a declaration that begins with a type, and its ending.
+#[cycle(parser)]
+fn typed<'w, 't>(
+    alloc: Global,
+    depth: u32,
+    ending: Ending,
+    tokens: &'w [Token<'t>],
+) -> Result<(Declaration, &'w [Token<'t>]), ParseError>
+    ensures read { IfOk result (λ x. IsPart (Typed depth (InDeclaration ending)) tokens.now
+        (spell_ended (view_declaration x.0) ending) x.1.now) }
+    ensures fits { IfOk result (λ x. DeclarationFits (view_declaration x.0) depth) }
+    ensures stuck { IfErr result (λ e. Fails (Typed depth (InDeclaration ending) ∷ []) tokens.now e) }
+{
+    let (data, rest) = data_type(alloc, depth, tokens)?;
+    let (name, shape, rest) = named(alloc, ending, rest)?;
+    Ok((Declaration::Of { data, name, shape }, rest))
+}
+
+/// Reads the declarations of a struct, and its `}`.
+#[cycle(parser)]
+fn declarations<'w, 't>(
+    alloc: Global,
+    depth: u32,
+    tokens: &'w [Token<'t>],
+) -> Result<(Vec<Declaration>, &'w [Token<'t>]), ParseError>
+    ensures read { IfOk result (λ x. IsPart (Declarations depth) tokens.now
+        (spell_declarations (view_declarations x.0.items) ++ Fixed Mark.CloseBrace ∷ []) x.1.now) }
+    ensures some { IfOk result (λ x. HasDeclaration (view_declarations x.0.items)) }
+    ensures fits { IfOk result (λ x. DeclarationsFit (view_declarations x.0.items) depth) }
+    ensures stuck { IfErr result (λ e. Fails (Declarations depth ∷ []) tokens.now e) }
+{
+    let (member, mut left) = declared(alloc, depth, Ending::Semicolon, tokens)?;
+    let mut members = Vec::new(alloc);
+    members.push(member)?;
+    loop {
+        let (word, rest) = first(left)?;
+        if is_mark(&word, Mark::CloseBrace) {
+            return Ok((members, rest));
+        }
+        let (next, after) = declared(alloc, depth, Ending::Semicolon, left)?;
+        members.push(next)?;
+        left = after;
+    }
+}
+
+/// Reads the arms of a union, its default arm and its `}`.
+#[cycle(parser)]
+fn arms<'w, 't>(
+    alloc: Global,
+    depth: u32,
+    tokens: &'w [Token<'t>],
+) -> Result<(Vec<Arm>, Option<Declaration>, &'w [Token<'t>]), ParseError>
+    ensures read { IfOk result (λ x. IsPart (Arms depth) tokens.now
+        (spell_arms (view_arms x.0.items) ++ spell_default (view_default x.1)) x.2.now) }
+    ensures some { IfOk result (λ x. HasArm (view_arms x.0.items)) }
+    ensures fits { IfOk result (λ x. ArmsFit (view_arms x.0.items) depth) }
+    ensures default_fits { IfOk result (λ x. DefaultFits (view_default x.1) depth) }
+    ensures stuck { IfErr result (λ e. Fails (Arms depth ∷ []) tokens.now e) }
+{
+    let rest = expect(Mark::Case, tokens)?;
+    let (member, mut left) = arm(alloc, depth, rest)?;
+    let mut arms = Vec::new(alloc);
+    arms.push(member)?;
+    loop {
+        let (word, rest) = first(left)?;
+        if is_mark(&word, Mark::CloseBrace) {
+            return Ok((arms, None, rest));
+        }
+        if is_mark(&word, Mark::Default) {
+            let (default, rest) = default_arm(alloc, depth, rest)?;
+            return Ok((arms, Some(default), rest));
+        }
+        let rest = expect(Mark::Case, left)?;
+        let (next, after) = arm(alloc, depth, rest)?;
+        arms.push(next)?;
+        left = after;
+    }
+}
+
+/// Reads what stands after `default`, and the `}`.
+#[cycle(parser)]
+fn default_arm<'w, 't>(
+    alloc: Global,
+    depth: u32,
+    tokens: &'w [Token<'t>],
+) -> Result<(Declaration, &'w [Token<'t>]), ParseError>
+    ensures read { IfOk result (λ x. IsRead (Fixed Mark.Default ∷ [])
+        (OfMark Mark.Colon ∷ Declared depth Ending.Semicolon ∷ OfMark Mark.CloseBrace ∷ []) tokens.now
+        (spell_default (one_default (view_declaration x.0))) [] x.1.now) }
+    ensures fits { IfOk result (λ x. DeclarationFits (view_declaration x.0) depth) }
+    ensures stuck { IfErr result (λ e. Fails
+        (OfMark Mark.Colon ∷ Declared depth Ending.Semicolon ∷ OfMark Mark.CloseBrace ∷ []) tokens.now e) }
+{
+    let rest = expect(Mark::Colon, tokens)?;
+    let (declaration, rest) = declared(alloc, depth, Ending::Semicolon, rest)?;
+    let rest = expect(Mark::CloseBrace, rest)?;
+    Ok((declaration, rest))
+}
+
+/// Reads an arm after its first `case`.
+#[cycle(parser)]
+fn arm<'w, 't>(
+    alloc: Global,
+    depth: u32,
+    tokens: &'w [Token<'t>],
+) -> Result<(Arm, &'w [Token<'t>]), ParseError>
+    ensures read { IfOk result (λ x. IsRead (Fixed Mark.Case ∷ [])
+        (AnyValue ∷ OfMark Mark.Colon ∷ AfterCase depth ∷ []) tokens.now
+        (spell_arm (map view_value x.0.cases.items) (view_declaration x.0.declaration)) [] x.1.now) }
+    ensures some { IfOk result (λ x. HasOne (map view_value x.0.cases.items)) }
+    ensures fits { IfOk result (λ x. DeclarationFits (view_declaration x.0.declaration) depth) }
+    ensures stuck { IfErr result
+        (λ e. Fails (AnyValue ∷ OfMark Mark.Colon ∷ AfterCase depth ∷ []) tokens.now e) }
+{
+    let (cases, rest) = cases(alloc, tokens)?;
+    let (declaration, rest) = declared(alloc, depth, Ending::Semicolon, rest)?;
+    Ok((Arm { cases, declaration }, rest))
+}

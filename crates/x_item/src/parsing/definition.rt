@@ -1,0 +1,101 @@
+//! Reading of definitions. Each function takes the tokens that are ahead, of which some may be no words, and gives
+//! back those after what it read.
+ghost use Rattle.std.specs.Prelude.{[], ◌∷◌, IfOk, IfErr};
+ghost use Rattle.x_item.specs.Words.{Fixed};
+ghost use Rattle.x_item.specs.View.{view_definition};
+ghost use Rattle.x_item.specs.Spell.{spell, tag_mark, KeepsLimits};
+ghost use Rattle.x_item.specs.Symbols.{Item, of_constant, of_new_type, of_program};
+ghost use Rattle.x_item.specs.Reading.{IsRead, Fails};
+
+use super::ParseError;
+use super::declaration::{body, declared};
+use super::program::{numbered, versions};
+use super::words::{Word, expect, first, name, stuck_at, value};
+use crate::mark::{Ending, Mark};
+use crate::trees::{Definition, Tag};
+use std::alloc::Global;
+use x_lex::Token;
+
+/// Reads a definition.
+pub fn definition<'w, 't>(
+    alloc: Global,
+    tokens: &'w [Token<'t>],
+) -> Result<(Definition, &'w [Token<'t>]), ParseError>
+    ensures read { IfOk result (λ x. IsRead [] (Item ∷ []) tokens.now
+        (spell (view_definition x.0)) [] x.1.now) }
+    ensures fits { IfOk result (λ x. KeepsLimits (view_definition x.0)) }
+    ensures stuck { IfErr result (λ e. Fails (Item ∷ []) tokens.now e) }
+{
+    let (word, rest) = first(tokens)?;
+    match word {
+        Word::Mark(mark) => match mark {
+            Mark::Const => constant(alloc, rest),
+            Mark::Typedef => {
+                let (declaration, rest) = declared(alloc, 32, Ending::Semicolon, rest)?;
+                Ok((Definition::Typedef(declaration), rest))
+            }
+            Mark::Enum => new_type(alloc, Tag::Enum, rest),
+            Mark::Struct => new_type(alloc, Tag::Struct, rest),
+            Mark::Union => new_type(alloc, Tag::Union, rest),
+            Mark::Program => program(alloc, rest),
+            _ => Err(stuck_at(tokens)),
+        },
+        _ => Err(stuck_at(tokens)),
+    }
+}
+
+/// Reads what stands after `const`.
+fn constant<'w, 't>(
+    alloc: Global,
+    tokens: &'w [Token<'t>],
+) -> Result<(Definition, &'w [Token<'t>]), ParseError>
+    ensures read { IfOk result (λ x. IsRead (Fixed Mark.Const ∷ []) of_constant tokens.now
+        (spell (view_definition x.0)) [] x.1.now) }
+    ensures fits { IfOk result (λ x. KeepsLimits (view_definition x.0)) }
+    ensures stuck { IfErr result (λ e. Fails of_constant tokens.now e) }
+{
+    let (name, rest) = name(alloc, tokens)?;
+    let rest = expect(Mark::Equals, rest)?;
+    let (value, rest) = value(alloc, rest)?;
+    let rest = expect(Mark::Semicolon, rest)?;
+    Ok((Definition::Const { name, value }, rest))
+}
+
+/// Reads what stands after the `enum`, `struct` or `union` of a definition.
+fn new_type<'w, 't>(
+    alloc: Global,
+    tag: Tag,
+    tokens: &'w [Token<'t>],
+) -> Result<(Definition, &'w [Token<'t>]), ParseError>
+    ensures read { IfOk result (λ x. IsRead (Fixed (tag_mark tag) ∷ []) (of_new_type tag) tokens.now
+        (spell (view_definition x.0)) [] x.1.now) }
+    ensures fits { IfOk result (λ x. KeepsLimits (view_definition x.0)) }
+    ensures stuck { IfErr result (λ e. Fails (of_new_type tag) tokens.now e) }
+{
+    let (name, rest) = name(alloc, tokens)?;
+    let (body, rest) = body(alloc, tag, 32, rest)?;
+    let rest = expect(Mark::Semicolon, rest)?;
+    Ok((Definition::NewType { name, body }, rest))
+}
+
+/// Reads what stands after `program`.
+fn program<'w, 't>(
+    alloc: Global,
+    tokens: &'w [Token<'t>],
+) -> Result<(Definition, &'w [Token<'t>]), ParseError>
+    ensures read { IfOk result (λ x. IsRead (Fixed Mark.Program ∷ []) of_program tokens.now
+        (spell (view_definition x.0)) [] x.1.now) }
+    ensures fits { IfOk result (λ x. KeepsLimits (view_definition x.0)) }
+    ensures stuck { IfErr result (λ e. Fails of_program tokens.now e) }
+{
+    let (name, rest) = name(alloc, tokens)?;
+    let rest = expect(Mark::OpenBrace, rest)?;
+    let (versions, rest) = versions(alloc, rest)?;
+    let (number, rest) = numbered(alloc, rest)?;
+    let definition = Definition::Program {
+        name,
+        versions,
+        number,
+    };
+    Ok((definition, rest))
+}

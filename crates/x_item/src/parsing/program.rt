@@ -1,0 +1,221 @@
+//! Reading of programs: RFC 5531, section 12. Each function takes the tokens that are ahead, of which some
+//! may be no words, and gives back those after what it read.
+ghost use Rattle.std.specs.Prelude.{[], ◌∷◌, ◌++◌, map, IfOk, IfErr};
+ghost use Rattle.x_item.specs.Words.{Fixed, Number};
+ghost use Rattle.x_item.specs.View.{view_argument, view_passed, view_procedure, view_version};
+ghost use Rattle.x_item.specs.Spell.{spell_argument, spell_passed, spell_others, spell_procedure};
+ghost use Rattle.x_item.specs.Spell.{spell_procedures, spell_version, spell_versions, HasOne, ArgumentFits};
+ghost use Rattle.x_item.specs.Spell.{PassedFits, OthersFit, ProcedureFits, ProceduresFit, VersionFits};
+ghost use Rattle.x_item.specs.Spell.{VersionsFit};
+ghost use Rattle.x_item.specs.Symbols.{InArguments, AnyName, AfterType, Parameters, Arguments};
+ghost use Rattle.x_item.specs.Symbols.{Result as AnyResult, Procedures, Versions, of_number, of_procedure};
+ghost use Rattle.x_item.specs.Symbols.{of_version};
+ghost use Rattle.x_item.specs.Reading.{IsRead, IsPart, Fails};
+
+use super::ParseError;
+use super::declaration::data_type;
+use super::words::{Word, expect, first, is_mark, name, number, stuck_at};
+use crate::mark::Mark;
+use crate::trees::{Argument, Procedure, Version};
+use std::alloc::Global;
+use x_lex::Token;
+
+/// Reads an argument: `string` or a type.
+fn argument<'w, 't>(
+    alloc: Global,
+    tokens: &'w [Token<'t>],
+) -> Result<(Argument, &'w [Token<'t>]), ParseError>
+    ensures read { IfOk result (λ x. IsRead [] (Arguments ∷ []) tokens.now
+        (spell_argument (view_argument x.0)) (AfterType InArguments ∷ []) x.1.now) }
+    ensures fits { IfOk result (λ x. ArgumentFits (view_argument x.0)) }
+    ensures stuck { IfErr result (λ e. Fails (Arguments ∷ []) tokens.now e) }
+{
+    let (word, rest) = first(tokens)?;
+    if is_mark(&word, Mark::String) {
+        return Ok((Argument::String, rest));
+    }
+    let (data, rest) = data_type(alloc, 32, tokens)?;
+    Ok((Argument::Of(data), rest))
+}
+
+/// Reads the first argument: `void`, `string` or a type.
+fn first_argument<'w, 't>(
+    alloc: Global,
+    tokens: &'w [Token<'t>],
+) -> Result<(Option<Argument>, &'w [Token<'t>]), ParseError>
+    ensures read { IfOk result (λ x. IsRead [] (Parameters ∷ []) tokens.now (spell_passed (view_passed x.0))
+        (AfterType InArguments ∷ []) x.1.now) }
+    ensures fits { IfOk result (λ x. PassedFits (view_passed x.0)) }
+    ensures stuck { IfErr result (λ e. Fails (Parameters ∷ []) tokens.now e) }
+{
+    let (word, rest) = first(tokens)?;
+    if is_mark(&word, Mark::Void) {
+        return Ok((None, rest));
+    }
+    let (argument, rest) = argument(alloc, tokens)?;
+    Ok((Some(argument), rest))
+}
+
+/// Reads a result: `void`, `string` or a type.
+fn returned<'w, 't>(
+    alloc: Global,
+    tokens: &'w [Token<'t>],
+) -> Result<(Option<Argument>, &'w [Token<'t>]), ParseError>
+    ensures read { IfOk result (λ x. IsRead [] (AnyResult ∷ []) tokens.now (spell_passed (view_passed x.0))
+        (AnyName ∷ []) x.1.now) }
+    ensures fits { IfOk result (λ x. PassedFits (view_passed x.0)) }
+    ensures stuck { IfErr result (λ e. Fails (AnyResult ∷ []) tokens.now e) }
+{
+    let (word, rest) = first(tokens)?;
+    if is_mark(&word, Mark::Void) {
+        return Ok((None, rest));
+    }
+    if is_mark(&word, Mark::String) {
+        return Ok((Some(Argument::String), rest));
+    }
+    let (data, rest) = data_type(alloc, 32, tokens)?;
+    Ok((Some(Argument::Of(data)), rest))
+}
+
+/// Reads the arguments, of which the first may be `void`, and the `)`.
+fn arguments<'w, 't>(
+    alloc: Global,
+    tokens: &'w [Token<'t>],
+) -> Result<(Option<Argument>, Vec<Argument>, &'w [Token<'t>]), ParseError>
+    ensures read { IfOk result (λ x. IsPart Parameters tokens.now ((spell_passed (view_passed x.0)
+        ++ spell_others (map view_argument x.1.items)) ++ Fixed Mark.CloseParenthesis ∷ []) x.2.now) }
+    ensures first_fits { IfOk result (λ x. PassedFits (view_passed x.0)) }
+    ensures others_fit { IfOk result (λ x. OthersFit (map view_argument x.1.items)) }
+    ensures stuck { IfErr result (λ e. Fails (Parameters ∷ []) tokens.now e) }
+{
+    let (head, mut left) = first_argument(alloc, tokens)?;
+    let mut others = Vec::new(alloc);
+    loop {
+        let (word, rest) = first(left)?;
+        match word {
+            Word::Mark(mark) => match mark {
+                Mark::Comma => {
+                    let (next, after) = argument(alloc, rest)?;
+                    others.push(next)?;
+                    left = after;
+                }
+                Mark::CloseParenthesis => return Ok((head, others, rest)),
+                _ => return Err(stuck_at(left)),
+            },
+            _ => return Err(stuck_at(left)),
+        }
+    }
+}
+
+/// Reads `=`, a number and `;`.
+pub fn numbered<'w, 't>(
+    alloc: Global,
+    tokens: &'w [Token<'t>],
+) -> Result<(Vec<u8>, &'w [Token<'t>]), ParseError>
+    ensures read { IfOk result (λ x. IsRead [] of_number tokens.now
+        (Fixed Mark.Equals ∷ Number x.0.items ∷ Fixed Mark.Semicolon ∷ []) [] x.1.now) }
+    ensures stuck { IfErr result (λ e. Fails of_number tokens.now e) }
+{
+    let rest = expect(Mark::Equals, tokens)?;
+    let (number, rest) = number(alloc, rest)?;
+    let rest = expect(Mark::Semicolon, rest)?;
+    Ok((number, rest))
+}
+
+/// Reads a procedure.
+fn procedure<'w, 't>(
+    alloc: Global,
+    tokens: &'w [Token<'t>],
+) -> Result<(Procedure, &'w [Token<'t>]), ParseError>
+    ensures read { IfOk result (λ x. IsRead [] of_procedure tokens.now
+        (spell_procedure (view_procedure x.0)) [] x.1.now) }
+    ensures fits { IfOk result (λ x. ProcedureFits (view_procedure x.0)) }
+    ensures stuck { IfErr result (λ e. Fails of_procedure tokens.now e) }
+{
+    let (result, rest) = returned(alloc, tokens)?;
+    let (name, rest) = name(alloc, rest)?;
+    let rest = expect(Mark::OpenParenthesis, rest)?;
+    let (first, others, rest) = arguments(alloc, rest)?;
+    let (number, rest) = numbered(alloc, rest)?;
+    let procedure = Procedure {
+        result,
+        name,
+        first,
+        others,
+        number,
+    };
+    Ok((procedure, rest))
+}
+
+/// Reads the procedures of a version, and its `}`.
+fn procedures<'w, 't>(
+    alloc: Global,
+    tokens: &'w [Token<'t>],
+) -> Result<(Vec<Procedure>, &'w [Token<'t>]), ParseError>
+    ensures read { IfOk result (λ x. IsPart Procedures tokens.now
+        (spell_procedures (map view_procedure x.0.items) ++ Fixed Mark.CloseBrace ∷ []) x.1.now) }
+    ensures some { IfOk result (λ x. HasOne (map view_procedure x.0.items)) }
+    ensures fits { IfOk result (λ x. ProceduresFit (map view_procedure x.0.items)) }
+    ensures stuck { IfErr result (λ e. Fails (Procedures ∷ []) tokens.now e) }
+{
+    let (member, mut left) = procedure(alloc, tokens)?;
+    let mut members = Vec::new(alloc);
+    members.push(member)?;
+    loop {
+        let (word, rest) = first(left)?;
+        if is_mark(&word, Mark::CloseBrace) {
+            return Ok((members, rest));
+        }
+        let (next, after) = procedure(alloc, left)?;
+        members.push(next)?;
+        left = after;
+    }
+}
+
+/// Reads a version.
+fn version<'w, 't>(
+    alloc: Global,
+    tokens: &'w [Token<'t>],
+) -> Result<(Version, &'w [Token<'t>]), ParseError>
+    ensures read { IfOk result (λ x. IsRead [] of_version tokens.now
+        (spell_version (view_version x.0)) [] x.1.now) }
+    ensures fits { IfOk result (λ x. VersionFits (view_version x.0)) }
+    ensures stuck { IfErr result (λ e. Fails of_version tokens.now e) }
+{
+    let rest = expect(Mark::Version, tokens)?;
+    let (name, rest) = name(alloc, rest)?;
+    let rest = expect(Mark::OpenBrace, rest)?;
+    let (procedures, rest) = procedures(alloc, rest)?;
+    let (number, rest) = numbered(alloc, rest)?;
+    let version = Version {
+        name,
+        procedures,
+        number,
+    };
+    Ok((version, rest))
+}
+
+/// Reads the versions of a program, and its `}`.
+pub fn versions<'w, 't>(
+    alloc: Global,
+    tokens: &'w [Token<'t>],
+) -> Result<(Vec<Version>, &'w [Token<'t>]), ParseError>
+    ensures read { IfOk result (λ x. IsPart Versions tokens.now
+        (spell_versions (map view_version x.0.items) ++ Fixed Mark.CloseBrace ∷ []) x.1.now) }
+    ensures some { IfOk result (λ x. HasOne (map view_version x.0.items)) }
+    ensures fits { IfOk result (λ x. VersionsFit (map view_version x.0.items)) }
+    ensures stuck { IfErr result (λ e. Fails (Versions ∷ []) tokens.now e) }
+{
+    let (member, mut left) = version(alloc, tokens)?;
+    let mut members = Vec::new(alloc);
+    members.push(member)?;
+    loop {
+        let (word, rest) = first(left)?;
+        if is_mark(&word, Mark::CloseBrace) {
+            return Ok((members, rest));
+        }
+        let (next, after) = version(alloc, left)?;
+        members.push(next)?;
+        left = after;
+    }
+}

@@ -1,0 +1,184 @@
+//! Reading of single words. Each function takes the tokens that are ahead, of which some may be no words,
+//! and gives back those after what it read.
+ghost use Rattle.std.specs.Prelude.{◌≡◌, ◌∷◌, [], IfOk, IfErr, IfSome, IfNone, ◌+◌, IsTrue, ◌↔◌};
+ghost use Rattle.x_lex.specs.Places.{lexeme};
+ghost use Rattle.x_item.specs.Words.{Fixed, Name, Number, word_of, mark_among, is_significant};
+ghost use Rattle.x_item.specs.Spell.{spell_value};
+ghost use Rattle.x_item.specs.View.{view_value};
+ghost use Rattle.x_item.specs.Symbols.{Symbol, Token as OfMark, AnyName, AnyNumber, AnyValue};
+ghost use Rattle.x_item.specs.Reading.{view_word, ahead, left_in, code_in, IsSplit, HasFirst, Fails, IsPart};
+
+use super::{FaultCode, ParseError};
+use crate::mark::{KEYWORDS, Mark, PUNCTS};
+use crate::trees::Value;
+use std::alloc::Global;
+use x_lex::{Kind, Token};
+
+/// What a token is to the parser.
+#[derive(Clone, Copy)]
+pub enum Word<'t> {
+    Mark(Mark),
+    Name(&'t [u8]),
+    Number(&'t [u8]),
+    Other,
+}
+
+impl<'t> Word<'t> {
+    /// The word that the token is.
+    #[tactic(auto, unfolding(crate::specs::Words::word_by))]
+    fn of(token: &Token<'t>) -> Word<'t>
+        ensures { view_word result ≡ word_of (lexeme token.now) }
+    {
+        match token.kind {
+            Kind::Keyword => marked(mark_among(&KEYWORDS, token.text)),
+            Kind::Punct => marked(mark_among(&PUNCTS, token.text)),
+            Kind::Name => Word::Name(token.text),
+            Kind::Number => Word::Number(token.text),
+            _ => Word::Other,
+        }
+    }
+}
+
+/// The word of a mark that was looked for.
+fn marked<'t>(mark: Option<Mark>) -> Word<'t>
+    ensures { view_word result ≡ Rattle.x_item.specs.Words.marked mark }
+{
+    match mark {
+        Some(mark) => Word::Mark(mark),
+        None => Word::Other,
+    }
+}
+
+/// The mark of these that is written so.
+fn mark_among(marks: &[Mark], text: &[u8]) -> Option<Mark>
+    ensures { result ≡ mark_among marks.now text.now }
+{
+    marks.iter().copied().find(|mark| mark.text() == text)
+}
+
+/// Whether tokens of the kind are words.
+pub fn is_significant(kind: Kind) -> bool
+    ensures { result ≡ is_significant kind }
+{
+    !matches!(
+        kind,
+        Kind::Space | Kind::Comment | Kind::Percent | Kind::Marker
+    )
+}
+
+/// The first word, and the tokens after it.
+pub fn split_word<'w, 't>(tokens: &'w [Token<'t>]) -> Option<(Token<'t>, &'w [Token<'t>])>
+    ensures some { IfSome result (λ x. IsSplit tokens.now x.0 x.1.now) }
+    ensures none { IfNone result (ahead tokens.now ≡ []) }
+    ensures none_left { IfNone result (left_in tokens.now ≡ 0) }
+    ensures none_code { IfNone result (code_in tokens.now ≡ FaultCode.Syntax) }
+{
+    for at in 0..tokens.len() {
+        let token = tokens[at];
+        if is_significant(token.kind) {
+            return Some((token, &tokens[at + 1..]));
+        }
+    }
+    None
+}
+
+/// The first word, and the tokens after it.
+pub fn first<'w, 't>(tokens: &'w [Token<'t>]) -> Result<(Word<'t>, &'w [Token<'t>]), ParseError>
+    ensures word { IfOk result (λ x. HasFirst tokens.now (view_word x.0) x.1.now) }
+    ensures stuck { IfErr result (λ e. (s : Symbol) → Fails (s ∷ []) tokens.now e) }
+{
+    match split_word(tokens) {
+        Some((token, rest)) => Ok((Word::of(&token), rest)),
+        None => Err(ParseError::AtEnd),
+    }
+}
+
+/// The error where no spelling goes on with the first word.
+pub fn stuck_at(tokens: &[Token]) -> ParseError
+    ensures { result ≡ ParseError.Stuck (left_in tokens.now) (code_in tokens.now) }
+{
+    match split_word(tokens) {
+        Some((token, rest)) => ParseError::Stuck {
+            left: rest.len() + 1,
+            code: FaultCode::of_word(token.kind),
+        },
+        None => ParseError::Stuck {
+            left: 0,
+            code: FaultCode::Syntax,
+        },
+    }
+}
+
+/// Reads a mark.
+pub fn expect<'w, 't>(mark: Mark, tokens: &'w [Token<'t>]) -> Result<&'w [Token<'t>], ParseError>
+    ensures read { IfOk result (λ rest. IsPart (OfMark mark) tokens.now (Fixed mark ∷ []) rest.now) }
+    ensures stuck { IfErr result (λ e. Fails (OfMark mark ∷ []) tokens.now e) }
+{
+    let (word, rest) = first(tokens)?;
+    match word {
+        Word::Mark(found) => {
+            if found == mark {
+                Ok(rest)
+            } else {
+                Err(stuck_at(tokens))
+            }
+        }
+        _ => Err(stuck_at(tokens)),
+    }
+}
+
+/// Reads a name.
+pub fn name<'w, 't>(
+    alloc: Global,
+    tokens: &'w [Token<'t>],
+) -> Result<(Vec<u8>, &'w [Token<'t>]), ParseError>
+    ensures read { IfOk result (λ x. IsPart AnyName tokens.now (Name x.0.items ∷ []) x.1.now) }
+    ensures stuck { IfErr result (λ e. Fails (AnyName ∷ []) tokens.now e) }
+{
+    let (word, rest) = first(tokens)?;
+    match word {
+        Word::Name(text) => Ok((text.to_vec(alloc)?, rest)),
+        _ => Err(stuck_at(tokens)),
+    }
+}
+
+/// Reads a number.
+pub fn number<'w, 't>(
+    alloc: Global,
+    tokens: &'w [Token<'t>],
+) -> Result<(Vec<u8>, &'w [Token<'t>]), ParseError>
+    ensures read { IfOk result (λ x. IsPart AnyNumber tokens.now (Number x.0.items ∷ []) x.1.now) }
+    ensures stuck { IfErr result (λ e. Fails (AnyNumber ∷ []) tokens.now e) }
+{
+    let (word, rest) = first(tokens)?;
+    match word {
+        Word::Number(text) => Ok((text.to_vec(alloc)?, rest)),
+        _ => Err(stuck_at(tokens)),
+    }
+}
+
+/// Reads a number or a name.
+pub fn value<'w, 't>(
+    alloc: Global,
+    tokens: &'w [Token<'t>],
+) -> Result<(Value, &'w [Token<'t>]), ParseError>
+    ensures read { IfOk result (λ x. IsPart AnyValue tokens.now (spell_value (view_value x.0) ∷ []) x.1.now) }
+    ensures stuck { IfErr result (λ e. Fails (AnyValue ∷ []) tokens.now e) }
+{
+    let (word, rest) = first(tokens)?;
+    match word {
+        Word::Name(text) => Ok((Value::Named(text.to_vec(alloc)?), rest)),
+        Word::Number(text) => Ok((Value::Number(text.to_vec(alloc)?), rest)),
+        _ => Err(stuck_at(tokens)),
+    }
+}
+
+/// Whether the word is the mark.
+pub fn is_mark(word: &Word, mark: Mark) -> bool
+    ensures { IsTrue result ↔ (view_word word.now ≡ Fixed mark) }
+{
+    match word {
+        Word::Mark(found) => *found == mark,
+        _ => false,
+    }
+}

@@ -1,0 +1,14 @@
+//! The trees of definitions. Each name and number is kept as it is spelled.
+
+mod declaration;
+mod definition;
+mod program;
+mod value;
+
+pub use declaration::{
+    Arm, Basic, Body, DataType, Declaration, Enumerator, Length, Shape, Tag, UnionBody,
+};
+pub(crate) use declaration::{inline, struct_body, union_body};
+pub use definition::Definition;
+pub use program::{Argument, Procedure, Version};
+pub use value::Value;
