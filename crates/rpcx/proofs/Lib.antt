@@ -16,8 +16,10 @@ pub mod NameLemmas
 pub mod Parting
 pub mod QueueLemmas
 pub mod ReadingLemmas
+pub mod RuleTexts
 pub mod Running
 pub mod Scripts
 pub mod SearchLemmas
 pub mod Stopped
+pub mod TextLemmas
 pub mod WalkLemmas

@@ -19,7 +19,7 @@ mod parsing;
 mod placing;
 mod rules;
 
-pub use fault::{Fault, FaultCode};
+pub use fault::{Fault, FaultCode, RuleCode};
 pub(crate) use header::{EPILOGUE, prologue};
 pub(crate) use item::{Item, is_constant};
 pub use names::{Declared, Declarer, Names, declares};
