@@ -9,11 +9,14 @@ use Rattle.x_lex.specs.Names.{kind_name}
 use Rattle.rpcx.specs.declared.compile.fault.Fault.{Fault}
 use Rattle.rpcx.specs.Faults.{fault_text}
 use Rattle.rpcx.specs.declared.script.lines.TheConstants.{LONGEST}
-use Rattle.rpcx.specs.Commands.{Asked, ToEdit, ForTokens, ForDefinitions, ForFaults, ForHeader, Nothing, command_of}
+use Rattle.rpcx.specs.declared.script.command.Command.{Command}
+use Rattle.rpcx.specs.declared.script.command.Command.TheVariants as commands
+use Rattle.rpcx.specs.declared.session.generated_text.GeneratedText.TheVariants as texts
+use Rattle.rpcx.specs.Commands.{command_of}
 use Rattle.rpcx.specs.Compile.{Item, tokens_of, definitions_of, faults_of}
 use Rattle.rpcx.specs.Listings.{numbered, definition_line}
 use Rattle.x_item.specs.Tree.{Definition}
-use Rattle.rpcx.specs.Header.{header}
+use Rattle.rpcx.specs.Texts.{text_of}
 
 -- what a line is answered, whether that refuses it, and the text that it leaves
 pub record Answer : Type 0 where
@@ -69,13 +72,13 @@ edit_answer text start end insert =
     else refused text (codes "refused 2 TooLarge\n"))
     else refused text (codes "refused 1 BadRange\n")
 
-abbrev pub answer : List ℕ → List ℕ → List Item → Asked → Answer
-answer base text items (ToEdit start end insert) = edit_answer text start end insert
-answer base text items ForTokens = answered text (tokens_answer (tokens_of items))
-answer base text items ForDefinitions = answered text (definitions_answer (definitions_of items))
-answer base text items ForFaults = answered text (faults_answer (faults_of text items))
-answer base text items ForHeader = answered text (text_answer (header base items))
-answer base text items Nothing = refused text (codes "refused 43 BadLine\n")
+abbrev pub answer : List ℕ → List ℕ → List Item → Command → Answer
+answer base text items (commands.Edit start end insert) = edit_answer text start end insert
+answer base text items commands.Tokens = answered text (tokens_answer (tokens_of items))
+answer base text items commands.Definitions = answered text (definitions_answer (definitions_of items))
+answer base text items commands.Faults = answered text (faults_answer (faults_of text items))
+answer base text items commands.Header = answered text (text_answer (text_of texts.Header base items))
+answer base text items commands.Bad = refused text (codes "refused 43 BadLine\n")
 
 -- what a line is answered, over a text that has these items
 abbrev pub line_answer : List ℕ → List ℕ → List Item → List ℕ → Answer

@@ -15,3 +15,5 @@ pub mod Rules
 pub mod Script
 pub mod Session
 pub mod SessionState
+pub mod Status
+pub mod Texts

@@ -2,10 +2,12 @@
 use Rattle.std.specs.Prelude.{◌≡◌, ◌≤◌, ℕ, Bool, true, false, ◌||◌, List, [], ◌∷◌, ◌++◌, length, Option, Some, None, Result, Ok, Err, if◌then◌else◌}
 use Rattle.x_text.specs.Streams.{Stream}
 use Rattle.x_text.specs.Writing.{Inked, Adds}
-use Rattle.rpcx.specs.Session.{Document, Compiles}
+use Rattle.rpcx.specs.Session.{Document, LeavesText, IsOpenOf, Compiles}
 use Rattle.rpcx.specs.Answers.{Answer, line_answer}
 use Rattle.rpcx.specs.declared.script.lines.LineFault.{LineFault}
 use Rattle.rpcx.specs.declared.script.lines.State.TheVariants.{Ended}
+use Rattle.rpcx.specs.declared.program.status.Status.{Status}
+use Rattle.rpcx.specs.declared.program.status.Status.TheVariants.{Done, Faulty}
 use Rattle.rpcx.specs.declared.script.Outcome.{Outcome}
 use Rattle.rpcx.specs.declared.script.Outcome.TheVariants.{Clean, Refused}
 use Rattle.rpcx.specs.declared.script.EngineFault.{EngineFault}
@@ -28,7 +30,7 @@ AreAnswered base text (line ∷ lines) all = Compiles text (λ items. (rest : An
 pub record IsGiven (a : Answer) (old new : Document) (refused : Bool) (p : Inked) (now : Stream) (q : Inked) (now' : Stream) : Type 0 where
   pub added : Adds p now q now' a.told
   pub refused_is : refused ≡ a.refused
-  pub session_is : new ≡ record old { text = a.text }
+  pub session_is : LeavesText old new a.text
 
 -- Of the script, which the tap told at first, the reader has given these lines; what is left stands unread in the reader and in the tap.
 -- Except at the end, they and those of what is unread are also the lines that line feeds end, whatever comes behind what was read.
@@ -66,7 +68,7 @@ pub record HasRun (lines : List (List ℕ)) (old new : Document) (before after :
   pub answered : AreAnswered old.base old.text lines all
   pub written : Appends before.bytes after.bytes all.told
   pub refused_is : refused ≡ all.refused
-  pub session_is : new ≡ record old { text = all.text }
+  pub session_is : LeavesText old new all.text
 
 -- These lines are answered, and so many bytes were written.
 pub record HasStopped (lines : List (List ℕ)) (old new : Document) (before after : Stream) (written : ℕ) : Type 0 where
@@ -78,7 +80,7 @@ pub record HasStopped (lines : List (List ℕ)) (old new : Document) (before aft
 pub record FailsWithin (all last : Answer) (old new : Document) (before after : Stream) (written : ℕ) : Type 0 where
   pub front : HasFront before after (all.told ++ last.told) written
   pub whole : counted (length all.told) ≤ written
-  pub session_is : new ≡ record old { text = last.text }
+  pub session_is : LeavesText old new last.text
 
 -- These lines are carried out, and the sink failed within the answer of the last of them.
 pub record HasFailed (lines : List (List ℕ)) (old new : Document) (before after : Stream) (written : ℕ) : Type 0 where
@@ -119,13 +121,14 @@ AddsIfFound (Ok None) sink sink' Added = sink' ≡ sink
 AddsIfFound (Err fault) sink sink' Added = sink' ≡ sink
 
 -- the status of a run that carried out each line, whether or not one was refused
-abbrev pub status_of : Bool → ℕ
-status_of refused = if refused then 1 else 0
+abbrev pub status_of : Bool → Status
+status_of refused = if refused then Faulty else Done
 
 -- A run over a text answers the script: where its status tells of no fault, the sink has the answers of all lines, and the status says whether one was refused.
-abbrev pub Answers : (script base text : List ℕ) (before after : Stream) (status : ℕ) → Type 0
+abbrev pub Answers : (script base text : List ℕ) (before after : Stream) (status : Status) → Type 0
 Answers script base text before after status =
-    (refused : Bool) → status ≡ status_of refused → (new : Document) × HasRun (script_lines script) (record { base = base; text = text }) new before after refused
+    (refused : Bool) → status ≡ status_of refused → (old new : Document) × IsOpenOf old base text
+    × HasRun (script_lines script) old new before after refused
 
 -- nothing of the script was read, and nothing was written
 pub record IsUntouched (script : List ℕ) (left : Option (List ℕ)) (before after : Stream) : Type 0 where
@@ -135,4 +138,4 @@ pub record IsUntouched (script : List ℕ) (left : Option (List ℕ)) (before af
 -- A run over a text that a fault ends: the sink has what the run of the script says of that fault.
 abbrev pub EndsEarly : (script : List ℕ) (left : Option (List ℕ)) (base text : List ℕ) (before after : Stream) → Type 0
 EndsEarly script left base text before after =
-    (fault : EngineFault) × (new : Document) × Runs script left (record { base = base; text = text }) new before after (Err fault)
+    (fault : EngineFault) × (old new : Document) × IsOpenOf old base text × Runs script left old new before after (Err fault)

@@ -4,7 +4,7 @@ ghost use Rattle.std.specs.Prelude.{◌≡◌, ℕ, List, map, IfOk};
 ghost use Rattle.x_lex.specs.Tiling.{AreTokens};
 ghost use Rattle.x_lex.specs.Places.{lexemes};
 ghost use Rattle.rpcx.specs.ItemView.{view_item, kept_definition};
-ghost use Rattle.rpcx.specs.Declarers.{first_declarer};
+ghost use Rattle.rpcx.specs.Declarers.{FirstIs};
 ghost use Rattle.rpcx.specs.DeclarerTable.{first_in};
 ghost use Rattle.rpcx.specs.Compile.{IsCompilation, parts, faults_of};
 ghost use Rattle.rpcx.specs.Header.{body_of};
@@ -19,11 +19,11 @@ mod parsing;
 mod placing;
 mod rules;
 
-pub use fault::{Fault, FaultCode};
+pub use fault::{Fault, FaultCode, RuleCode};
 pub(crate) use header::{EPILOGUE, prologue};
 pub(crate) use item::{Item, is_constant};
 pub use names::{Declared, Declarer, Names, declares};
-pub use number::is_in_range;
+pub use number::number_value;
 use output::{Output, output_of};
 use parsing::parse_items;
 use std::alloc::Global;
@@ -57,7 +57,7 @@ pub fn compile(alloc: Global, source: &Source, meter: &mut Meter) -> Result<Comp
 
 /// The table of the names that the items declare.
 fn names_of(alloc: Global, items: &[Item]) -> Result<Names, NoMemory>
-    ensures { IfOk result (λ names. (name : List ℕ) → first_in names name ≡ first_declarer (map kept_definition items.now) name) }
+    ensures { IfOk result (λ names. (name : List ℕ) → FirstIs (map kept_definition items.now) name (first_in names name)) }
 {
     let mut definitions = Vec::with_capacity(alloc, items.len())?;
     for item in items {

@@ -7,9 +7,9 @@ mod program;
 mod script;
 mod session;
 
-pub use compile::{Declared, Declarer, Fault, FaultCode, Names, declares, is_in_range};
-pub use laws::one_compilation;
-pub use program::{
+pub use compile::{Declared, Declarer, Fault, FaultCode, Names, RuleCode, declares, number_value};
+pub use laws::{one_compilation, one_first_declarer};
+pub use program::{Status, 
     EditArgs, GenArgs, complain, edit_args, edit_run, gen_args, gen_mode, gen_open, gen_write,
     tell_of_file,
 };

@@ -6,9 +6,11 @@ mod editing;
 mod editing_args;
 mod generating;
 mod generating_args;
+mod status;
 
 pub use complaint::{complain, tell_of_file};
 pub use editing::edit_run;
 pub use editing_args::{EditArgs, edit_args};
 pub use generating::{gen_mode, gen_open, gen_write};
 pub use generating_args::{GenArgs, gen_args};
+pub use status::Status;

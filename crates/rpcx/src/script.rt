@@ -3,7 +3,6 @@
 ghost use Rattle.std.specs.Prelude.{◌≡◌, ◌≤◌, ◌||◌, ℕ, List, length, IfOk, IfErr, OnErr, MatchOption, IsTrue};
 ghost use Rattle.x_text.specs.Writing.{Adds};
 ghost use Rattle.rpcx.specs.Session.{Compiles};
-ghost use Rattle.rpcx.specs.Commands.{asked};
 ghost use Rattle.rpcx.specs.Answers.{answer, edit_answer, line_answer};
 ghost use Rattle.rpcx.specs.declared.script.lines.TheConstants.{LONGEST};
 ghost use Rattle.rpcx.specs.Script.{AddsIfFound, IsGiven, HasGiven, GoesOn, NamesCause, Runs, is_refused};
@@ -138,7 +137,7 @@ fn carry_out<S: Sink>(
     pen: &mut Pen,
     sink: &mut S,
 ) -> Result<bool, NoMemory>
-    ensures given { IfOk result (λ refused. Compiles session.old.text (λ items. IsGiven (answer session.old.base session.old.text items (asked command.now)) session.old session.new refused
+    ensures given { IfOk result (λ refused. Compiles session.old.text (λ items. IsGiven (answer session.old.base session.old.text items command.now) session.old session.new refused
         pen.old (S.state sink.old) pen.new (S.state sink.new))) }
     ensures same { OnErr result ((session.new ≡ session.old) × (pen.new ≡ pen.old) × (sink.new ≡ sink.old)) }
 {
@@ -146,8 +145,12 @@ fn carry_out<S: Sink>(
     let _items = session.item_count();
     match command {
         Command::Edit { start, end, insert } => {
-            let (start, end) = (*start, *end);
-            return carry_out_edit(session, &Edit { start, end, insert }, pen, sink);
+            let edit = Edit {
+                start: *start,
+                end: *end,
+                insert: insert.bytes(),
+            };
+            return carry_out_edit(session, &edit, pen, sink);
         }
         Command::Tokens => add_tokens(session, pen, sink),
         Command::Definitions => add_definitions(session, pen, sink),

@@ -10,7 +10,7 @@ ghost use Rattle.rpcx.specs.Session.{Document, Compiles, edited_by_all, TakesAll
 ghost use Rattle.rpcx.specs.Compile.{tokens_of, definitions_of, definition_at, faults_of};
 ghost use Rattle.rpcx.specs.ItemView.{kept_definition, tree_at};
 ghost use Rattle.rpcx.specs.Listings.{numbered, are_constants};
-ghost use Rattle.rpcx.specs.Header.{header};
+ghost use Rattle.rpcx.specs.Texts.{text_of};
 
 mod generated_text;
 mod work;
@@ -51,7 +51,8 @@ impl Model for Session {
 impl Session {
     /// Opens a text: [`TextFault::TooLarge`] or [`TextFault::NoMemory`]. `base` is the name that the generated texts use.
     pub fn open(alloc: Global, base: &[u8], bytes: &[u8]) -> Result<Session, TextFault>
-        ensures opened { IfOk result (λ s. s ≡ record { base = base.now; text = bytes.now }) }
+        ensures base { IfOk result (λ s. s.base ≡ base.now) }
+        ensures text { IfOk result (λ s. s.text ≡ bytes.now) }
         ensures too_large { IsErrOf result TextFault.TooLarge ↔ (MAX_TEXT < length bytes.now) }
         ensures in_range { IsErrOf result TextFault.BadRange → ⊥ }
     {
@@ -64,7 +65,8 @@ impl Session {
 
     /// The session of a text.
     fn compiled(alloc: Global, base: &[u8], source: Source) -> Result<Session, NoMemory>
-        ensures { IfOk result (λ s. s ≡ record { base = base.now; text = source }) }
+        ensures base { IfOk result (λ s. s.base ≡ base.now) }
+        ensures text { IfOk result (λ s. s.text ≡ source) }
     {
         let mut meter = Meter::new();
         let base = Vec::from_slice(alloc, base)?;
@@ -88,7 +90,8 @@ impl Session {
 
     /// Carries an edit out, with the faults of [`Source::replace`], and answers what work it took. After a fault all is as before.
     pub fn apply(&mut self, edit: &Edit) -> Result<Work, TextFault>
-        ensures text { OnOk result (self.new ≡ record self.old { text = edited self.old.text edit.now.start edit.now.end edit.now.insert.now }) }
+        ensures text { OnOk result (self.new.text ≡ edited self.old.text edit.now.start edit.now.end edit.now.insert.now) }
+        ensures base { self.new.base ≡ self.old.base }
         ensures fits { OnOk result (LiesWithin self.old.text edit.now.start edit.now.end
             × (length (edited self.old.text edit.now.start edit.now.end edit.now.insert.now) ≤ MAX_TEXT)) }
         ensures bad_range { IsErrOf result TextFault.BadRange ↔ ¬ (LiesWithin self.old.text edit.now.start edit.now.end) }
@@ -117,7 +120,7 @@ impl Session {
     /// Carries the edits out in order, and answers what work they took. At the first that is refused it stops and answers its index,
     /// from 0, and the fault: the edits before it are done.
     pub fn apply_all(&mut self, edits: &[Edit]) -> Result<Work, (usize, TextFault)>
-        ensures text { OnOk result (self.new ≡ record self.old { text = edited_by_all self.old.text edits.now }) }
+        ensures text { OnOk result (self.new.text ≡ edited_by_all self.old.text edits.now) }
         ensures takes { OnOk result (TakesAll self.old.text edits.now) }
         ensures stops { IfErr result (λ fault. StopsAt self.old.text edits.now self.new.text fault.0 fault.1) }
         ensures base { self.new.base ≡ self.old.base }
@@ -211,7 +214,7 @@ impl Session {
 
     /// Writes a generated text. After a fault the sink has exactly its first `written` bytes.
     pub fn write_text<S: Sink>(&self, which: GeneratedText, sink: &mut S) -> Result<(), WriteFault>
-        ensures { Compiles self.now.text (λ items. IsWritten result (S.state sink.old) (S.state sink.new) (header self.now.base items)) }
+        ensures { Compiles self.now.text (λ items. IsWritten result (S.state sink.old) (S.state sink.new) (text_of which self.now.base items)) }
     {
         let mut pen = Pen::new();
         self.add_text(which, &mut pen, sink);
@@ -220,7 +223,7 @@ impl Session {
 
     /// Adds a generated text.
     pub(crate) fn add_text<S: Sink>(&self, which: GeneratedText, pen: &mut Pen, sink: &mut S)
-        ensures { Compiles self.now.text (λ items. Adds pen.old (S.state sink.old) pen.new (S.state sink.new) (header self.now.base items)) }
+        ensures { Compiles self.now.text (λ items. Adds pen.old (S.state sink.old) pen.new (S.state sink.new) (text_of which self.now.base items)) }
     {
         match which {
             GeneratedText::Header => {
@@ -233,7 +236,7 @@ impl Session {
 
     /// How many bytes a generated text has.
     pub(crate) fn text_length(&self, which: GeneratedText) -> u128
-        ensures { Compiles self.now.text (λ items. result ≡ length (header self.now.base items)) }
+        ensures { Compiles self.now.text (λ items. result ≡ length (text_of which self.now.base items)) }
     {
         match which {
             GeneratedText::Header => {

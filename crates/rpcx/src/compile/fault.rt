@@ -1,27 +1,47 @@
-ghost use Rattle.std.specs.Prelude.{◌≡◌, Some};
-ghost use Rattle.rpcx.specs.Faults.{fault_text, of_syntax};
+ghost use Rattle.std.specs.Prelude.{◌≡◌, ◌<◌, [], map, length, slice_index_or, Some};
+ghost use denote.Enum.Declared.{tag_of};
+ghost use Rattle.rpcx.specs.contracts.compile.fault.RuleCode.{the_type};
+ghost use Rattle.rpcx.specs.Faults.{fault_text, rule_text};
 
 use std::fmt;
 
-/// What is wrong at a word of an item. The number of each is its code.
+/// A rule beyond the spelling that a definition breaks.
+#[derive(Clone, Copy, Debug, PartialEq, Eq)]
+pub enum RuleCode {
+    /// The name is declared before.
+    Duplicate,
+    /// The number does not fit.
+    Range,
+}
+
+/// The number and the name of each rule, as they are printed, in the order of [`RuleCode`].
+pub const RULE_TEXTS: [&str; 2] = ["20 Duplicate", "25 Range"];
+
+/// What is printed for the rule, by a table in the order of the rules.
+fn text_in(table: &[&'static str], rule: RuleCode) -> &'static str
+    requires { tag_of the_type rule < length table.now }
+    ensures { result.now ≡ slice_index_or (map (λ text. text.now) table.now) (tag_of the_type rule) [] }
+{
+    table[rule as usize]
+}
+
+impl RuleCode {
+    /// The number and the name that are printed for the rule.
+    #[tactic(auto, using(crate::proofs::RuleTexts::within))]
+    pub fn text(self) -> &'static str
+        ensures { result.now ≡ rule_text self }
+    {
+        text_in(&RULE_TEXTS, self)
+    }
+}
+
+/// What is wrong at a word of an item.
 #[derive(Clone, Copy, Debug, PartialEq, Eq)]
 pub enum FaultCode {
-    /// No definition goes on with this word.
-    Syntax = 10,
-    /// A byte that begins no token.
-    BadByte = 11,
-    /// A number that is neither decimal, hexadecimal nor octal.
-    BadNumber = 12,
-    /// A comment that is not closed.
-    OpenComment = 13,
-    /// A line for the C preprocessor that is no line marker.
-    Directive = 14,
-    /// The text ends within a definition.
-    Unfinished = 15,
-    /// The name is declared before.
-    Duplicate = 20,
-    /// The number does not fit.
-    Range = 25,
+    /// The item spells no definition.
+    Syntax(x_item::FaultCode),
+    /// The item's definition breaks a rule.
+    Rule(RuleCode),
 }
 
 impl FaultCode {
@@ -30,29 +50,8 @@ impl FaultCode {
         ensures { result.now ≡ fault_text self }
     {
         match self {
-            FaultCode::Syntax => "10 Syntax",
-            FaultCode::BadByte => "11 BadByte",
-            FaultCode::BadNumber => "12 BadNumber",
-            FaultCode::OpenComment => "13 OpenComment",
-            FaultCode::Directive => "14 Directive",
-            FaultCode::Unfinished => "15 Unfinished",
-            FaultCode::Duplicate => "20 Duplicate",
-            FaultCode::Range => "25 Range",
-        }
-    }
-}
-
-impl From<x_item::FaultCode> for FaultCode {
-    ghost from_gives = { λ code result. result ≡ of_syntax code };
-
-    fn from(code: x_item::FaultCode) -> FaultCode {
-        match code {
-            x_item::FaultCode::Syntax => FaultCode::Syntax,
-            x_item::FaultCode::BadByte => FaultCode::BadByte,
-            x_item::FaultCode::BadNumber => FaultCode::BadNumber,
-            x_item::FaultCode::OpenComment => FaultCode::OpenComment,
-            x_item::FaultCode::Directive => FaultCode::Directive,
-            x_item::FaultCode::Unfinished => FaultCode::Unfinished,
+            FaultCode::Syntax(code) => code.text(),
+            FaultCode::Rule(rule) => rule.text(),
         }
     }
 }

@@ -4,11 +4,12 @@ ghost use Rattle.std.specs.Prelude.{◌≡◌, ℕ, List, map, IfOk, OnOk, Some,
 ghost use Rattle.std.specs.Str.{bytes_eq};
 ghost use Rattle.x_item.specs.View.{view_definition};
 ghost use Rattle.rpcx.specs.ItemView.{tree_at};
-ghost use Rattle.rpcx.specs.Declarers.{declared, is_beforehand, first_declarer, or_else, in_item, word_of_name};
+ghost use Rattle.rpcx.specs.Declarers.{declared, is_beforehand, FirstIs, first_from, or_else, in_item, word_of_name};
 ghost use Rattle.rpcx.specs.DeclarerTable.{entry_in, first_in, view_declared};
 
 use indexmap::IndexMap;
 use std::alloc::Global;
+use std::marker::Model;
 use x_item::Definition;
 use x_text::NoMemory;
 
@@ -26,26 +27,31 @@ pub struct Declarer {
     pub word: usize,
 }
 
-/// The table of the names that the items of a text declare, each with its first declarer.
-#[derive(Debug, Drop)]
+/// The table of the names that the items of a text declare. It is seen as the list of the names with their first
+/// declarers, without those that were declared beforehand.
+#[derive(Drop)]
 pub struct Names {
     table: IndexMap<Vec<u8>, Declarer>,
+}
+
+impl Model for Names {
+    ghost use Rattle.std.specs.Prelude.{ℕ, List};
+    ghost use Rattle.rpcx.specs.DeclarerTable.{names_in};
+    ghost use Rattle.rpcx.specs.declared.compile.names.Declarer.{Declarer};
+
+    ghost Value = { List (List ℕ × Declarer) };
+
+    ghost view = { λ names. names_in names.table.entries };
 }
 
 impl Names {
     /// The table of the items' definitions; an item without one declares nothing.
     pub fn of(alloc: Global, definitions: &[Option<&Definition>]) -> Result<Names, NoMemory>
-        ensures { IfOk result (λ names. (name : List ℕ) → first_in names name ≡ first_declarer (map tree_at definitions.now) name) }
+        ensures { IfOk result (λ names. (name : List ℕ) → FirstIs (map tree_at definitions.now) name (first_in names name)) }
     {
-        let mut names = Names {
-            table: IndexMap::new(alloc),
-        };
-        for (item, definition) in definitions.iter().enumerate() {
-            if let Some(definition) = definition {
-                names.add(alloc, item, definition)?;
-            }
-        }
-        Ok(names)
+        Ok(Names {
+            table: table_of(alloc, definitions)?,
+        })
     }
 
     /// The first declarer of the name. A name that was declared beforehand has none.
@@ -55,40 +61,65 @@ impl Names {
         if is_beforehand(name) {
             None
         } else {
-            self.entry(name)
+            entry(&self.table, name)
         }
     }
+}
 
-    /// What the table has for the name.
-    fn entry(&self, name: &[u8]) -> Option<Declarer>
-        ensures { result ≡ entry_in self.now name.now }
-    {
-        self.table.get(name).copied()
-    }
-
-    /// Takes in the names that an item declares, but for those that are there.
-    fn add(&mut self, alloc: Global, item: usize, definition: &Definition) -> Result<(), NoMemory>
-        ensures { OnOk result ((name : List ℕ) → entry_in self.new name
-            ≡ or_else (entry_in self.old name) (in_item item (word_of_name name (declared (view_definition definition.now))))) }
-    {
-        for declared in &declares(alloc, definition)? {
-            let name = Vec::from_slice(alloc, declared.name)?;
-            let word = declared.word;
-            self.note(name, Declarer { item, word })?;
+/// The table of the items' definitions, also of names that were declared beforehand.
+fn table_of(
+    alloc: Global,
+    definitions: &[Option<&Definition>],
+) -> Result<IndexMap<Vec<u8>, Declarer>, NoMemory>
+    ensures { IfOk result (λ table. (name : List ℕ) → entry_in table.entries name ≡ first_from 0 (map tree_at definitions.now) name) }
+{
+    let mut table = IndexMap::new(alloc);
+    for (item, definition) in definitions.iter().enumerate() {
+        if let Some(definition) = definition {
+            add(alloc, &mut table, item, definition)?;
         }
-        Ok(())
     }
+    Ok(table)
+}
 
-    /// Takes in a name with its declarer, if the name is not there.
-    fn note(&mut self, name: Vec<u8>, declarer: Declarer) -> Result<(), NoMemory>
-        ensures { OnOk result ((other : List ℕ) → entry_in self.new other
-            ≡ or_else (entry_in self.old other) (if bytes_eq other name.items then Some declarer else None)) }
-    {
-        if self.entry(&name).is_none() {
-            self.table.insert(name, declarer)?;
-        }
-        Ok(())
+/// What the table has for the name.
+fn entry(table: &IndexMap<Vec<u8>, Declarer>, name: &[u8]) -> Option<Declarer>
+    ensures { result ≡ entry_in table.now.entries name.now }
+{
+    table.get(name).copied()
+}
+
+/// Takes in the names that an item declares, but for those that are there.
+fn add(
+    alloc: Global,
+    table: &mut IndexMap<Vec<u8>, Declarer>,
+    item: usize,
+    definition: &Definition,
+) -> Result<(), NoMemory>
+    ensures { OnOk result ((name : List ℕ) → entry_in table.new.entries name
+        ≡ or_else (entry_in table.old.entries name) (in_item item (word_of_name name (declared (view_definition definition.now))))) }
+{
+    for declared in &declares(alloc, definition)? {
+        let name = Vec::from_slice(alloc, declared.name)?;
+        let word = declared.word;
+        note(table, name, Declarer { item, word })?;
     }
+    Ok(())
+}
+
+/// Takes in a name with its declarer, if the name is not there.
+fn note(
+    table: &mut IndexMap<Vec<u8>, Declarer>,
+    name: Vec<u8>,
+    declarer: Declarer,
+) -> Result<(), NoMemory>
+    ensures { OnOk result ((other : List ℕ) → entry_in table.new.entries other
+        ≡ or_else (entry_in table.old.entries other) (if bytes_eq other name.items then Some declarer else None)) }
+{
+    if entry(table, &name).is_none() {
+        table.insert(name, declarer)?;
+    }
+    Ok(())
 }
 
 /// Whether the name is a constant that no item declares.

@@ -1,7 +1,7 @@
 //! Numbers as they are spelled.
 
-ghost use Rattle.std.specs.Prelude.{◌≡◌, ◌<◌, ◌≤◌, ◌^◌, SomeIff};
-ghost use Rattle.rpcx.specs.Numbers.{digit_value, value_in, magnitude, in_range};
+ghost use Rattle.std.specs.Prelude.{◌≡◌, ◌<◌, ◌≤◌, ◌^◌, SomeIff, IsTrue};
+ghost use Rattle.rpcx.specs.Numbers.{digit_value, value_in, magnitude, in_range, value};
 
 /// The value of a digit.
 fn digit_value(byte: u8) -> u64
@@ -46,13 +46,17 @@ fn magnitude(text: &[u8]) -> Option<u64>
     }
 }
 
-/// Whether the number is one that a constant may have: from -2^63 to 2^64-1.
-#[tactic(auto, unfolding(crate::specs::Numbers::in_range))]
-pub fn is_in_range(text: &[u8]) -> bool
-    ensures { result ≡ in_range text.now }
+/// The number that the text stands for, if a constant may have it: from -2^63 to 2^64-1.
+#[tactic(auto, unfolding(crate::specs::Numbers::in_range, crate::specs::Numbers::value))]
+pub fn number_value(text: &[u8]) -> Option<i128>
+    ensures { SomeIff result (IsTrue (in_range text.now)) (value text.now) }
 {
-    match magnitude(text) {
-        Some(value) => text.first() != Some(&b'-') || value <= 1 << 63,
-        None => false,
+    let magnitude = magnitude(text)?;
+    if text.first() != Some(&b'-') {
+        return Some(i128::from(magnitude));
     }
+    if magnitude > 1 << 63 {
+        return None;
+    }
+    Some(-i128::from(magnitude))
 }

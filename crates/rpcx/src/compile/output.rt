@@ -37,7 +37,7 @@ fn token_faults(
         Parse::Fault { token, code } => Ok(vec![in alloc;
             TokenFault {
                 token: *token,
-                code: FaultCode::from(*code)
+                code: FaultCode::Syntax(*code)
             },
         ]?),
         Parse::Def(definition) => {

@@ -6,9 +6,9 @@ ghost use Rattle.x_item.specs.View.{view_definition};
 ghost use Rattle.rpcx.specs.DeclarerTable.{first_in, view_declared};
 ghost use Rattle.rpcx.specs.Rules.{is_taken, is_at, rules};
 
-use crate::compile::fault::{FaultCode, WordFault};
+use crate::compile::fault::{FaultCode, RuleCode, WordFault};
 use crate::compile::names::{Declared, Declarer, Names};
-use crate::compile::number::is_in_range;
+use crate::compile::number::number_value;
 use std::alloc::Global;
 use x_item::{Definition, Value};
 use x_text::{Meter, NoMemory};
@@ -52,13 +52,13 @@ pub fn check_item(
             if is_taken(names, item, &Declared { name, word: 1 }) {
                 faults.push(WordFault {
                     word: 1,
-                    code: FaultCode::Duplicate,
+                    code: FaultCode::Rule(RuleCode::Duplicate),
                 })?;
             }
-            if !is_in_range(value) {
+            if number_value(value).is_none() {
                 faults.push(WordFault {
                     word: 3,
-                    code: FaultCode::Range,
+                    code: FaultCode::Rule(RuleCode::Range),
                 })?;
             }
         }

@@ -8,12 +8,13 @@ ghost use Rattle.rpcx.specs.Script.{Answers, EndsEarly, IsUntouched, WorksOn};
 use crate::program::base::base_of_file;
 use crate::program::complaint::{complain, tell_unopened};
 use crate::program::editing_args::EditArgs;
+use crate::program::status::Status;
 use crate::{EngineFault, Outcome, Session, run_script};
 use std::alloc::Global;
 use x_text::{Sink, Tap};
 
-/// Opens the text of a file, carries out the script of the input, and answers the status: 0 where each line was carried out, 1
-/// where one was refused, and 2 where the run could not be carried out, which it tells.
+/// Opens the text of a file, carries out the script of the input, and answers the status: `Done` where each line was
+/// carried out, `Faulty` where one was refused, and `Failed` where the run could not be carried out, which it tells.
 pub fn edit_run<I: Tap, O: Sink, E: Sink>(
     alloc: Global,
     args: &EditArgs,
@@ -21,14 +22,13 @@ pub fn edit_run<I: Tap, O: Sink, E: Sink>(
     input: &mut I,
     out: &mut O,
     err: &mut E,
-) -> u8
-    ensures status { (result ≡ 0) ⊎ (result ≡ 1) ⊎ (result ≡ 2) }
-    ensures too_large { MAX_TEXT < length bytes.now → result ≡ 2 }
-    ensures failed { result ≡ 2 → NotRun args.now.file.now bytes.now (E.state err.old) (E.state err.new) (I.state input.new).failed (O.state out.new).failed }
-    ensures quiet { result ≢ 2 → err.new ≡ err.old }
-    ensures working { result ≢ 2 → WorksOn (O.state out.old).failed (O.state out.new).failed }
+) -> Status
+    ensures too_large { MAX_TEXT < length bytes.now → result ≡ Status.Failed }
+    ensures failed { result ≡ Status.Failed → NotRun args.now.file.now bytes.now (E.state err.old) (E.state err.new) (I.state input.new).failed (O.state out.new).failed }
+    ensures quiet { result ≢ Status.Failed → err.new ≡ err.old }
+    ensures working { result ≢ Status.Failed → WorksOn (O.state out.old).failed (O.state out.new).failed }
     ensures answers { MatchOption (I.state input.old).bytes (Unit {0}) (λ script. Answers script (base_of args.now.file.now) bytes.now (O.state out.old) (O.state out.new) result) }
-    ensures ended { result ≡ 2 → MatchOption (I.state input.old).bytes (Unit {0}) (λ script.
+    ensures ended { result ≡ Status.Failed → MatchOption (I.state input.old).bytes (Unit {0}) (λ script.
         IsUntouched script (I.state input.new).bytes (O.state out.old) (O.state out.new)
         ⊎ EndsEarly script (I.state input.new).bytes (base_of args.now.file.now) bytes.now (O.state out.old) (O.state out.new)) }
 {
@@ -36,7 +36,7 @@ pub fn edit_run<I: Tap, O: Sink, E: Sink>(
         Ok(session) => session,
         Err(fault) => {
             tell_unopened("rpcedit", args.file, fault, err);
-            return 2;
+            return Status::Failed;
         }
     };
     answer_input(alloc, &mut session, input, out, err)
@@ -49,21 +49,20 @@ fn answer_input<I: Tap, O: Sink, E: Sink>(
     input: &mut I,
     out: &mut O,
     err: &mut E,
-) -> u8
-    ensures status { (result ≡ 0) ⊎ (result ≡ 1) ⊎ (result ≡ 2) }
-    ensures failed { result ≡ 2 → Stops (E.state err.old) (E.state err.new) (I.state input.new).failed (O.state out.new).failed }
-    ensures quiet { result ≢ 2 → err.new ≡ err.old }
-    ensures working { result ≢ 2 → WorksOn (O.state out.old).failed (O.state out.new).failed }
+) -> Status
+    ensures failed { result ≡ Status.Failed → Stops (E.state err.old) (E.state err.new) (I.state input.new).failed (O.state out.new).failed }
+    ensures quiet { result ≢ Status.Failed → err.new ≡ err.old }
+    ensures working { result ≢ Status.Failed → WorksOn (O.state out.old).failed (O.state out.new).failed }
     ensures answers { MatchOption (I.state input.old).bytes (Unit {0}) (λ script. Answers script session.old.base session.old.text (O.state out.old) (O.state out.new) result) }
-    ensures ended { result ≡ 2 → MatchOption (I.state input.old).bytes (Unit {0}) (λ script.
+    ensures ended { result ≡ Status.Failed → MatchOption (I.state input.old).bytes (Unit {0}) (λ script.
         EndsEarly script (I.state input.new).bytes session.old.base session.old.text (O.state out.old) (O.state out.new)) }
 {
     match run_script(alloc, session, input, out) {
-        Ok(Outcome::Clean) => 0,
-        Ok(Outcome::Refused) => 1,
+        Ok(Outcome::Clean) => Status::Done,
+        Ok(Outcome::Refused) => Status::Faulty,
         Err(fault) => {
             tell_fault(fault, err);
-            2
+            Status::Failed
         }
     }
 }

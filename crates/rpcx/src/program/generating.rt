@@ -8,21 +8,16 @@ ghost use Rattle.rpcx.specs.Generate.{base_of, told_fault, told_faults, Grows, I
 ghost use Rattle.rpcx.specs.Session.{Compiles};
 ghost use Rattle.rpcx.specs.Compile.{definitions_of, faults_of};
 ghost use Rattle.rpcx.specs.Listings.{are_constants};
-ghost use Rattle.rpcx.specs.Header.{header};
+ghost use Rattle.rpcx.specs.Texts.{text_of};
 
 use crate::program::base::base_of_file;
 use crate::program::complaint::{complain, tell_of_file, tell_unopened};
 use crate::program::generating_args::GenArgs;
+use crate::program::status::Status;
 use crate::script::add_place;
 use crate::{Fault, GeneratedText, Session};
 use std::alloc::Global;
 use x_text::{Pen, Sink};
-
-/// The status of a run whose text has faults.
-const FAULTY: u8 = 1;
-
-/// The status of a run that could not be carried out.
-const FAILED: u8 = 2;
 
 /// The text that a command line asks for: exactly one letter tells it.
 pub fn gen_mode<E: Sink>(args: &GenArgs, err: &mut E) -> Option<GeneratedText>
@@ -37,39 +32,41 @@ pub fn gen_mode<E: Sink>(args: &GenArgs, err: &mut E) -> Option<GeneratedText>
     None
 }
 
-/// Opens the text of a file for a run, or tells what is wrong with it and answers the status: 1 where the text has faults, which
-/// are written one a line, and 2 where it is too large, has a definition of which nothing is generated yet, or memory runs out.
+/// Opens the text of a file for a run, or tells what is wrong with it and answers the status: `Faulty` where the text has faults,
+/// which are written one a line, and `Failed` where it is too large, has a definition of which nothing is generated yet, or memory
+/// runs out.
 pub fn gen_open<E: Sink>(
     alloc: Global,
     file: &str,
     bytes: &[u8],
     err: &mut E,
-) -> Result<Session, u8>
-    ensures opened { IfOk result (λ s. s ≡ record { base = base_of file.now; text = bytes.now }) }
+) -> Result<Session, Status>
+    ensures base { IfOk result (λ s. s.base ≡ base_of file.now) }
+    ensures text { IfOk result (λ s. s.text ≡ bytes.now) }
     ensures clean { OnOk result (Compiles bytes.now (λ items. faults_of bytes.now items ≡ [])) }
     ensures constants { OnOk result (Compiles bytes.now (λ items. are_constants (definitions_of items) ≡ true)) }
-    ensures faulty { IsErrOf result 1 → Compiles bytes.now (λ items. (0 < length (faults_of bytes.now items))
+    ensures faulty { IsErrOf result Status.Faulty → Compiles bytes.now (λ items. (0 < length (faults_of bytes.now items))
         × IsTold (E.state err.old) (E.state err.new) (told_faults file.now (faults_of bytes.now items))) }
-    ensures too_large { MAX_TEXT < length bytes.now → IsErrOf result 2 }
-    ensures failed { IsErrOf result 2 → NotOpened file.now bytes.now (E.state err.old) (E.state err.new) }
-    ensures others { IfErr result (λ status. (status ≡ 1) ⊎ (status ≡ 2)) }
+    ensures too_large { MAX_TEXT < length bytes.now → IsErrOf result Status.Failed }
+    ensures failed { IsErrOf result Status.Failed → NotOpened file.now bytes.now (E.state err.old) (E.state err.new) }
+    ensures others { IfErr result (λ status. (status ≡ Status.Faulty) ⊎ (status ≡ Status.Failed)) }
     ensures quiet { OnOk result (err.new ≡ err.old) }
 {
     match Session::open(alloc, base_of_file(file), bytes) {
         Ok(session) => {
             if session.fault_count() > 0 {
                 tell_faults(file, session.faults(), err);
-                return Err(FAULTY);
+                return Err(Status::Faulty);
             }
             if !session.has_constants_alone() {
                 tell_of_file("rpcgen", file, ": only const definitions yet\n", err);
-                return Err(FAILED);
+                return Err(Status::Failed);
             }
             Ok(session)
         }
         Err(fault) => {
             tell_unopened("rpcgen", file, fault, err);
-            Err(FAILED)
+            Err(Status::Failed)
         }
     }
 }
@@ -99,8 +96,8 @@ fn add_fault<E: Sink>(file: &str, fault: &Fault, pen: &mut Pen, err: &mut E)
 
 /// Writes a generated text and flushes the output, and answers whether it took all.
 fn is_written<O: Sink>(which: GeneratedText, session: &Session, out: &mut O) -> bool
-    ensures written { IsTrue result → Compiles session.now.text (λ items. Appends (O.state out.old).bytes (O.state out.new).bytes (header session.now.base items)) }
-    ensures front { result ≡ false → Compiles session.now.text (λ items. Grows (O.state out.old) (O.state out.new) (header session.now.base items)) }
+    ensures written { IsTrue result → Compiles session.now.text (λ items. Appends (O.state out.old).bytes (O.state out.new).bytes (text_of which session.now.base items)) }
+    ensures front { result ≡ false → Compiles session.now.text (λ items. Grows (O.state out.old) (O.state out.new) (text_of which session.now.base items)) }
     ensures working { result ≡ not (O.state out.new).failed }
 {
     if session.write_text(which, out).is_err() {
@@ -109,22 +106,22 @@ fn is_written<O: Sink>(which: GeneratedText, session: &Session, out: &mut O) -> 
     out.flush().is_ok()
 }
 
-/// Writes a generated text, and answers the status: 0, or 2 where the output fails, which it tells.
+/// Writes a generated text, and answers the status: `Failed` where the output fails, which it tells.
 pub fn gen_write<O: Sink, E: Sink>(
     which: GeneratedText,
     session: &Session,
     out: &mut O,
     err: &mut E,
-) -> u8
-    ensures written { result ≡ 0 → Compiles session.now.text (λ items. Appends (O.state out.old).bytes (O.state out.new).bytes (header session.now.base items)) }
-    ensures front { result ≢ 0 → Compiles session.now.text (λ items. Grows (O.state out.old) (O.state out.new) (header session.now.base items)) }
-    ensures status { result ≡ (if (O.state out.new).failed then 2 else 0) }
-    ensures told { result ≢ 0 → IsTold (E.state err.old) (E.state err.new) (codes "rpcgen: output cannot be written\n") }
-    ensures quiet { result ≡ 0 → err.new ≡ err.old }
+) -> Status
+    ensures written { result ≡ Status.Done → Compiles session.now.text (λ items. Appends (O.state out.old).bytes (O.state out.new).bytes (text_of which session.now.base items)) }
+    ensures front { result ≢ Status.Done → Compiles session.now.text (λ items. Grows (O.state out.old) (O.state out.new) (text_of which session.now.base items)) }
+    ensures status { result ≡ (if (O.state out.new).failed then Status.Failed else Status.Done) }
+    ensures told { result ≢ Status.Done → IsTold (E.state err.old) (E.state err.new) (codes "rpcgen: output cannot be written\n") }
+    ensures quiet { result ≡ Status.Done → err.new ≡ err.old }
 {
     if is_written(which, session, out) {
-        return 0;
+        return Status::Done;
     }
     complain("rpcgen: output cannot be written\n", err);
-    FAILED
+    Status::Failed
 }

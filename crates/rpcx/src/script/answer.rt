@@ -6,7 +6,7 @@ ghost use Rattle.x_lex.specs.Places.{lexeme};
 ghost use Rattle.rpcx.specs.Session.{Compiles};
 ghost use Rattle.x_item.specs.View.{view_definition};
 ghost use Rattle.rpcx.specs.Compile.{tokens_of, definitions_of, faults_of};
-ghost use Rattle.rpcx.specs.Header.{header};
+ghost use Rattle.rpcx.specs.Texts.{text_of};
 ghost use Rattle.rpcx.specs.Listings.{definition_line};
 ghost use Rattle.rpcx.specs.Answers.{counted_by, token_line, fault_line, tokens_answer, definitions_answer, fault_place, faults_answer, text_answer};
 
@@ -121,7 +121,7 @@ pub(crate) fn add_text<S: Sink>(
     pen: &mut Pen,
     sink: &mut S,
 )
-    ensures { Compiles session.now.text (λ items. Adds pen.old (S.state sink.old) pen.new (S.state sink.new) (text_answer (header session.now.base items))) }
+    ensures { Compiles session.now.text (λ items. Adds pen.old (S.state sink.old) pen.new (S.state sink.new) (text_answer (text_of which session.now.base items))) }
 {
     add_counted("text", session.text_length(which), pen, sink);
     session.add_text(which, pen, sink);

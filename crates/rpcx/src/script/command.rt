@@ -2,14 +2,44 @@ ghost use Rattle.std.specs.Prelude.{◌≡◌, ◌<◌, ◌∷◌, [], true, len
 ghost use Rattle.std.specs.Char.{is_ascii_hexdigit, is_ascii_digit, digit_value};
 ghost use Rattle.std.specs.List.{list_all};
 ghost use Rattle.std.specs.Str.Parse.{digits_value};
-ghost use Rattle.rpcx.specs.Commands.{asked, edit_by, command_of, words_of, one_word, edit_of, is_number, is_hex, bytes_of};
+ghost use Rattle.rpcx.specs.Commands.{edit_by, command_of, words_of, one_word, edit_of, is_number, is_hex, bytes_of};
 
 use memchr::memchr;
 use std::alloc::Global;
+use std::marker::Model;
 use x_text::NoMemory;
 
+/// The bytes that an edit puts in. They are seen as their list.
+#[derive(Drop)]
+pub struct Insert {
+    bytes: Vec<u8>,
+}
+
+impl Model for Insert {
+    ghost use Rattle.std.specs.Prelude.{ℕ, List};
+
+    ghost Value = { List ℕ };
+
+    ghost view = { λ insert. insert.bytes.items };
+}
+
+impl Insert {
+    fn of(bytes: Vec<u8>) -> Insert
+        ensures { result ≡ bytes.items }
+    {
+        Insert { bytes }
+    }
+
+    /// The bytes.
+    pub fn bytes(&self) -> &[u8]
+        ensures { result.now ≡ self.now }
+    {
+        &self.bytes
+    }
+}
+
 /// What a line of a script asks for.
-#[derive(Debug, PartialEq, Eq, Drop)]
+#[derive(Drop)]
 pub enum Command {
     /// `edit START END` or `edit START END HEX`: other bytes in place of those from `start` to before `end`.
     Edit {
@@ -18,7 +48,7 @@ pub enum Command {
         /// The first byte behind them that stays.
         end: usize,
         /// The bytes that come.
-        insert: Vec<u8>,
+        insert: Insert,
     },
     /// `tokens`: the tokens of the text.
     Tokens,
@@ -40,7 +70,7 @@ const MOST_DIGITS: usize = 9;
 /// # Errors
 /// No memory for the bytes that an edit inserts; a line of three words or fewer takes none.
 pub fn parse_command(alloc: Global, line: &[u8]) -> Result<Command, NoMemory>
-    ensures asks { IfOk result (λ command. asked command ≡ command_of line.now) }
+    ensures asks { IfOk result (λ command. command ≡ command_of line.now) }
     ensures memory { OnErr result (3 < length (words_of line.now)) }
 {
     let Some((name, words)) = split_word(line) else {
@@ -55,7 +85,7 @@ pub fn parse_command(alloc: Global, line: &[u8]) -> Result<Command, NoMemory>
 
 /// What the words behind `edit` ask for.
 fn parse_edit(alloc: Global, words: &[u8]) -> Result<Command, NoMemory>
-    ensures asks { IfOk result (λ command. asked command ≡ edit_by (words_of words.now)) }
+    ensures asks { IfOk result (λ command. command ≡ edit_by (words_of words.now)) }
     ensures memory { OnErr result (2 < length (words_of words.now)) }
 {
     let Some((start, rest)) = split_word(words) else {
@@ -81,7 +111,7 @@ fn split_word(line: &[u8]) -> Option<(&[u8], &[u8])>
 
 /// The command of a line that is one word.
 fn one_word(line: &[u8]) -> Command
-    ensures { asked result ≡ one_word line.now }
+    ensures { result ≡ one_word line.now }
 {
     if line == b"tokens".as_slice() {
         Command::Tokens
@@ -98,10 +128,14 @@ fn one_word(line: &[u8]) -> Command
 
 /// The edit between these numbers, if they are numbers.
 fn edit(start: &[u8], end: &[u8], insert: Vec<u8>) -> Command
-    ensures { asked result ≡ edit_of start.now end.now insert.items }
+    ensures { result ≡ edit_of start.now end.now insert.items }
 {
     match (number(start), number(end)) {
-        (Some(start), Some(end)) => Command::Edit { start, end, insert },
+        (Some(start), Some(end)) => Command::Edit {
+            start,
+            end,
+            insert: Insert::of(insert),
+        },
         _ => Command::Bad,
     }
 }

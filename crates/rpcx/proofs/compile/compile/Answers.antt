@@ -2,9 +2,10 @@ use Rattle.std.proofs.Common.{◌≡◌, map, ap, ◌∙◌}
 use Rattle.x_lex.specs.Places.{lexemes}
 use Rattle.rpcx.specs.ItemView.{view_item, kept_definition}
 use Rattle.rpcx.specs.Declarers.{first_declarer}
-use Rattle.rpcx.specs.DeclarerTable.{first_in}
 use Rattle.rpcx.specs.Compile.{parts, first_of, faults_from}
 use Rattle.rpcx.specs.Header.{body_from}
+use Rattle.rpcx.specs.DeclarerTable.{first_in}
+use Rattle.rpcx.proofs.DeclarerLaws.{as_found}
 use Rattle.rpcx.proofs.Compiled.{same_first, same_faults, same_body, compiles}
 use Rattle.rpcx.proofs.compile.compile.Goals as goal
 use Rattle.rpcx.proofs.compile.compile.Goals.{After-drop-names-5}
@@ -12,7 +13,7 @@ use Rattle.rpcx.proofs.compile.compile.Goals.{After-drop-names-5}
 first_is : (c : After-drop-names-5) → first_in c.in_ok-names.names ≡ first_of (parts (lexemes c.args.source.now c.in_ok-tokens.tokens.list) (map view_item c.in_ok-items.items.items))
 first_is c =
     same_first (first_in c.in_ok-names.names) (lexemes c.args.source.now c.in_ok-tokens.tokens.list) c.in_ok-items.items.items
-    (λ name. c.in_ok-names.ensures name ∙ ap (λ is. first_declarer (map kept_definition is) name) c.deref.ensures.value)
+    (λ name. as_found (map kept_definition c.deref.result.now) name (first_in c.in_ok-names.names name) (c.in_ok-names.ensures name) ∙ ap (λ is. first_declarer (map kept_definition is) name) c.deref.ensures.value)
 
 pub returns-clause-faults : goal.returns-clause-faults
 returns-clause-faults c =

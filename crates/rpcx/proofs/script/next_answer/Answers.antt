@@ -31,7 +31,7 @@ returns-in-TooLong-clause-given g c script given h =
         c.item_count-items.ensures.0,
         items,
         c.item_count-items.ensures.2,
-        subst is_given (sym (too_long base text items told.0 told.1)) (record { added = c.add.ensures; refused_is = refl; session_is = refl }),
+        subst is_given (sym (too_long base text items told.0 told.1)) (record { added = c.add.ensures; refused_is = refl; session_is = record { text_is = refl; base_is = refl } }),
       ),
     )
 

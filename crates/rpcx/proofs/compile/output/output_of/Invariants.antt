@@ -1,10 +1,10 @@
 use Rattle.std.proofs.Common.{◌≡◌, ◌≤◌, ◌++◌, length, map, drop}
 use Rattle.x_text.specs.declared.source.TheConstants.{MAX_TEXT}
 use Rattle.x_lex.specs.Places.{lexemes}
-use Rattle.rpcx.specs.DeclarerTable.{first_in}
 use Rattle.rpcx.specs.Compile.{parts, faults_from}
 use Rattle.rpcx.specs.Header.{body_from}
 use Rattle.rpcx.specs.ItemView.{view_item}
+use Rattle.rpcx.specs.DeclarerTable.{first_in}
 use Rattle.rpcx.proofs.compile.output.output_of.Given as goal
 
 -- what was found, and what the items that are left give

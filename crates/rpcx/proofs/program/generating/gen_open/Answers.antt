@@ -16,7 +16,7 @@ no_fault (f ∷ fs) n is none = absurd (omega (arith, is, none))
 pub returns-else-not-has_constants_alone-clause-clean : goal.returns-else-not-has_constants_alone-clause-clean
 returns-else-not-has_constants_alone-clause-clean g c =
     let h = c.fault_count.ensures in
-    let text = ap (λ s. s.text) c.in-Ok.ensures.opened in
+    let text = c.in-Ok.ensures.text in
     subst (λ t. Compiles t (λ items. faults_of t items ≡ [])) text (h.0, h.1, h.2, no_fault (faults_of c.in-Ok.session.text h.1) c.fault_count.result h.3 c.if-fault_count-gt0.false)
 
 pub returns-then-fault_count-gt0-clause-faulty : goal.returns-then-fault_count-gt0-clause-faulty
@@ -31,7 +31,7 @@ returns-then-fault_count-gt0-clause-faulty g c e =
     let some : 0 < length (faults_of here all.1) = let more = c.if-fault_count-gt0.true in omega (arith, long, more) in
     let told : IsTold before after (told_faults c.args.file.now (faults_of here all.1)) =
     subst (λ fs. IsTold before after (told_faults c.args.file.now fs)) all.3 c.tell_faults.ensures in
-    subst (λ t. Compiles t (λ items. (0 < length (faults_of t items)) × IsTold before after (told_faults c.args.file.now (faults_of t items)))) (ap (λ s. s.text) c.in-Ok.ensures.opened)
+    subst (λ t. Compiles t (λ items. (0 < length (faults_of t items)) × IsTold before after (told_faults c.args.file.now (faults_of t items)))) (c.in-Ok.ensures.text)
     (all.0, all.1, all.2, (some, told))
 
 pub returns-then-not-has_constants_alone-clause-failed : goal.returns-then-not-has_constants_alone-clause-failed
@@ -43,7 +43,7 @@ returns-then-not-has_constants_alone-clause-failed g c e =
     let none : faults_of here all.1 ≡ [] = ap (faults_of here) (sym same) ∙ no_fault (faults_of here count.1) c.fault_count.result count.3 c.if-fault_count-gt0.false in
     let others : are_constants (definitions_of all.1) ≡ false = sym all.3 ∙ c.if-not-has_constants_alone.true in
     OtherDefinitions
-    (subst (λ t. Compiles t (λ items. (faults_of t items ≡ []) × (are_constants (definitions_of items) ≡ false))) (ap (λ s. s.text) c.in-Ok.ensures.opened) (all.0, all.1, all.2, (none, others)))
+    (subst (λ t. Compiles t (λ items. (faults_of t items ≡ []) × (are_constants (definitions_of items) ≡ false))) (c.in-Ok.ensures.text) (all.0, all.1, all.2, (none, others)))
     c.tell_of_file.ensures
 
 pub returns-in-Err-clause-failed : goal.returns-in-Err-clause-failed
