@@ -101,6 +101,13 @@ many_tokens (part ∷ whole) each =
     let h = many_tokens whole each.1 in
     omega (arith, p, l, h)
 
+-- there is an item
+pub some_items : (all : List Lexeme) (items : List Item) → AreParsed all items → 0 < length items
+some_items all items h =
+    let same = same_many h.parts items h.each in
+    let parts = ap length h.are.parts ∙ length_push h.are.whole h.are.last in
+    omega (arith, same, parts)
+
 -- there is at most one item more than there are tokens
 pub few_items : (all : List Lexeme) (items : List Item) → AreParsed all items → length items ≤ length all + 1
 few_items all items h =
