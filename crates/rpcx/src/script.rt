@@ -66,8 +66,11 @@ pub fn run_script<R: Tap, S: Sink>(
     tap: &mut R,
     sink: &mut S,
 ) -> Result<Outcome, EngineFault>
-    ensures runs { MatchOption (R.state tap.old).bytes (Unit {0}) (λ script. Runs script (R.state tap.new).bytes session.old session.new (S.state sink.old) (S.state sink.new) result) }
-    ensures cause { NamesCause result (R.state tap.old).failed (R.state tap.new).failed (S.state sink.old).failed (S.state sink.new).failed }
+    ensures runs { MatchOption (R.state tap.old).bytes (Unit {0})
+        (λ script. Runs script (R.state tap.new).bytes session.old session.new (S.state sink.old)
+        (S.state sink.new) result) }
+    ensures cause { NamesCause result (R.state tap.old).failed (R.state tap.new).failed
+        (S.state sink.old).failed (S.state sink.new).failed }
 {
     let mut reader = LineReader::new(alloc);
     let mut pen = Pen::new();
@@ -109,9 +112,11 @@ fn next_answer<R: Tap, S: Sink>(
     pen: &mut Pen,
     sink: &mut S,
 ) -> Result<Option<bool>, LineFault>
-    ensures given { (script : List ℕ) (given : List (List ℕ)) → HasGiven script reader.old (R.state tap.old).bytes given →
+    ensures given { (script : List ℕ) (given : List (List ℕ))
+        → HasGiven script reader.old (R.state tap.old).bytes given →
         GoesOn session.old session.new script reader.new (R.state tap.new).bytes given result pen.old (S.state sink.old) pen.new (S.state sink.new) }
-    ensures adds { AddsIfFound result sink.old sink.new ((told : List ℕ) × Adds pen.old (S.state sink.old) pen.new (S.state sink.new) told) }
+    ensures adds { AddsIfFound result sink.old sink.new
+        ((told : List ℕ) × Adds pen.old (S.state sink.old) pen.new (S.state sink.new) told) }
     ensures failed { FailsBy result (R.state tap.old).failed (R.state tap.new).failed }
 {
     // So that the contract of `item_count` says that the text has items, of which a line that is too long asks nothing.
@@ -137,7 +142,9 @@ fn carry_out<S: Sink>(
     pen: &mut Pen,
     sink: &mut S,
 ) -> Result<bool, NoMemory>
-    ensures given { IfOk result (λ refused. Compiles session.old.text (λ items. IsGiven (answer session.old.base session.old.text items command.now) session.old session.new refused
+    ensures given { IfOk result
+        (λ refused. Compiles session.old.text
+        (λ items. IsGiven (answer session.old.base session.old.text items command.now) session.old session.new refused
         pen.old (S.state sink.old) pen.new (S.state sink.new))) }
     ensures same { OnErr result ((session.new ≡ session.old) × (pen.new ≡ pen.old) × (sink.new ≡ sink.old)) }
 {
@@ -173,7 +180,9 @@ fn answer_line<S: Sink>(
     sink: &mut S,
 ) -> Result<bool, NoMemory>
     requires { length line.now ≤ LONGEST }
-    ensures given { IfOk result (λ refused. Compiles session.old.text (λ items. IsGiven (line_answer session.old.base session.old.text items line.now) session.old session.new refused
+    ensures given { IfOk result
+        (λ refused. Compiles session.old.text
+        (λ items. IsGiven (line_answer session.old.base session.old.text items line.now) session.old session.new refused
         pen.old (S.state sink.old) pen.new (S.state sink.new))) }
     ensures same { OnErr result ((session.new ≡ session.old) × (pen.new ≡ pen.old) × (sink.new ≡ sink.old)) }
 {
@@ -188,7 +197,8 @@ fn carry_out_edit<S: Sink>(
     pen: &mut Pen,
     sink: &mut S,
 ) -> Result<bool, NoMemory>
-    ensures given { IfOk result (λ refused. IsGiven (edit_answer session.old.text edit.now.start edit.now.end edit.now.insert.now) session.old session.new refused
+    ensures given { IfOk result
+        (λ refused. IsGiven (edit_answer session.old.text edit.now.start edit.now.end edit.now.insert.now) session.old session.new refused
         pen.old (S.state sink.old) pen.new (S.state sink.new)) }
     ensures same { OnErr result ((session.new ≡ session.old) × (pen.new ≡ pen.old) × (sink.new ≡ sink.old)) }
 {

@@ -90,13 +90,16 @@ impl Session {
 
     /// Carries an edit out, with the faults of [`Source::replace`], and answers what work it took. After a fault all is as before.
     pub fn apply(&mut self, edit: &Edit) -> Result<Work, TextFault>
-        ensures text { OnOk result (self.new.text ≡ edited self.old.text edit.now.start edit.now.end edit.now.insert.now) }
+        ensures text { OnOk result
+            (self.new.text ≡ edited self.old.text edit.now.start edit.now.end edit.now.insert.now) }
         ensures base { self.new.base ≡ self.old.base }
         ensures fits { OnOk result (LiesWithin self.old.text edit.now.start edit.now.end
             × (length (edited self.old.text edit.now.start edit.now.end edit.now.insert.now) ≤ MAX_TEXT)) }
-        ensures bad_range { IsErrOf result TextFault.BadRange ↔ ¬ (LiesWithin self.old.text edit.now.start edit.now.end) }
+        ensures bad_range { IsErrOf result TextFault.BadRange
+            ↔ ¬ (LiesWithin self.old.text edit.now.start edit.now.end) }
         ensures too_large { IsErrOf result TextFault.TooLarge ↔
-            (LiesWithin self.old.text edit.now.start edit.now.end × (MAX_TEXT < length (edited self.old.text edit.now.start edit.now.end edit.now.insert.now))) }
+            (LiesWithin self.old.text edit.now.start edit.now.end
+            × (MAX_TEXT < length (edited self.old.text edit.now.start edit.now.end edit.now.insert.now))) }
         ensures same { OnErr result (self.new ≡ self.old) }
     {
         let source = self.source.edited(self.alloc, edit)?;
@@ -122,7 +125,8 @@ impl Session {
     pub fn apply_all(&mut self, edits: &[Edit]) -> Result<Work, (usize, TextFault)>
         ensures text { OnOk result (self.new.text ≡ edited_by_all self.old.text edits.now) }
         ensures takes { OnOk result (TakesAll self.old.text edits.now) }
-        ensures stops { IfErr result (λ fault. StopsAt self.old.text edits.now self.new.text fault.0 fault.1) }
+        ensures stops { IfErr result
+            (λ fault. StopsAt self.old.text edits.now self.new.text fault.0 fault.1) }
         ensures base { self.new.base ≡ self.old.base }
     {
         let mut total = Work::default();
@@ -151,7 +155,8 @@ impl Session {
 
     /// The token at an index.
     pub fn token(&self, index: usize) -> Option<Token<'_>>
-        ensures { Compiles self.now.text (λ items. option_map lexeme result ≡ slice_get (tokens_of items) index) }
+        ensures { Compiles self.now.text
+            (λ items. option_map lexeme result ≡ slice_get (tokens_of items) index) }
     {
         self.tokens.token(index, &self.source)
     }
@@ -214,7 +219,9 @@ impl Session {
 
     /// Writes a generated text. After a fault the sink has exactly its first `written` bytes.
     pub fn write_text<S: Sink>(&self, which: GeneratedText, sink: &mut S) -> Result<(), WriteFault>
-        ensures { Compiles self.now.text (λ items. IsWritten result (S.state sink.old) (S.state sink.new) (text_of which self.now.base items)) }
+        ensures { Compiles self.now.text
+            (λ items. IsWritten result (S.state sink.old) (S.state sink.new)
+            (text_of which self.now.base items)) }
     {
         let mut pen = Pen::new();
         self.add_text(which, &mut pen, sink);
@@ -223,7 +230,9 @@ impl Session {
 
     /// Adds a generated text.
     pub(crate) fn add_text<S: Sink>(&self, which: GeneratedText, pen: &mut Pen, sink: &mut S)
-        ensures { Compiles self.now.text (λ items. Adds pen.old (S.state sink.old) pen.new (S.state sink.new) (text_of which self.now.base items)) }
+        ensures { Compiles self.now.text
+            (λ items. Adds pen.old (S.state sink.old) pen.new (S.state sink.new)
+            (text_of which self.now.base items)) }
     {
         match which {
             GeneratedText::Header => {

@@ -22,7 +22,8 @@ use x_text::{Pen, Sink};
 /// The text that a command line asks for: exactly one letter tells it.
 pub fn gen_mode<E: Sink>(args: &GenArgs, err: &mut E) -> Option<GeneratedText>
     ensures mode { result ≡ (if args.now.header then Some GeneratedText.Header else None) }
-    ensures told { result ≡ None → IsTold (E.state err.old) (E.state err.new) (codes "rpcgen: exactly one of -c, -h, -l, -t\n") }
+    ensures told { result ≡ None
+        → IsTold (E.state err.old) (E.state err.new) (codes "rpcgen: exactly one of -c, -h, -l, -t\n") }
     ensures quiet { result ≢ None → err.new ≡ err.old }
 {
     if args.header {
@@ -44,11 +45,14 @@ pub fn gen_open<E: Sink>(
     ensures base { IfOk result (λ s. s.base ≡ base_of file.now) }
     ensures text { IfOk result (λ s. s.text ≡ bytes.now) }
     ensures clean { OnOk result (Compiles bytes.now (λ items. faults_of bytes.now items ≡ [])) }
-    ensures constants { OnOk result (Compiles bytes.now (λ items. are_constants (definitions_of items) ≡ true)) }
-    ensures faulty { IsErrOf result Status.Faulty → Compiles bytes.now (λ items. (0 < length (faults_of bytes.now items))
+    ensures constants { OnOk result
+        (Compiles bytes.now (λ items. are_constants (definitions_of items) ≡ true)) }
+    ensures faulty { IsErrOf result Status.Faulty
+        → Compiles bytes.now (λ items. (0 < length (faults_of bytes.now items))
         × IsTold (E.state err.old) (E.state err.new) (told_faults file.now (faults_of bytes.now items))) }
     ensures too_large { MAX_TEXT < length bytes.now → IsErrOf result Status.Failed }
-    ensures failed { IsErrOf result Status.Failed → NotOpened file.now bytes.now (E.state err.old) (E.state err.new) }
+    ensures failed { IsErrOf result Status.Failed
+        → NotOpened file.now bytes.now (E.state err.old) (E.state err.new) }
     ensures others { IfErr result (λ status. (status ≡ Status.Faulty) ⊎ (status ≡ Status.Failed)) }
     ensures quiet { OnOk result (err.new ≡ err.old) }
 {
@@ -96,8 +100,13 @@ fn add_fault<E: Sink>(file: &str, fault: &Fault, pen: &mut Pen, err: &mut E)
 
 /// Writes a generated text and flushes the output, and answers whether it took all.
 fn is_written<O: Sink>(which: GeneratedText, session: &Session, out: &mut O) -> bool
-    ensures written { IsTrue result → Compiles session.now.text (λ items. Appends (O.state out.old).bytes (O.state out.new).bytes (text_of which session.now.base items)) }
-    ensures front { result ≡ false → Compiles session.now.text (λ items. Grows (O.state out.old) (O.state out.new) (text_of which session.now.base items)) }
+    ensures written { IsTrue result
+        → Compiles session.now.text
+        (λ items. Appends (O.state out.old).bytes (O.state out.new).bytes
+        (text_of which session.now.base items)) }
+    ensures front { result ≡ false
+        → Compiles session.now.text
+        (λ items. Grows (O.state out.old) (O.state out.new) (text_of which session.now.base items)) }
     ensures working { result ≡ not (O.state out.new).failed }
 {
     if session.write_text(which, out).is_err() {
@@ -113,10 +122,16 @@ pub fn gen_write<O: Sink, E: Sink>(
     out: &mut O,
     err: &mut E,
 ) -> Status
-    ensures written { result ≡ Status.Done → Compiles session.now.text (λ items. Appends (O.state out.old).bytes (O.state out.new).bytes (text_of which session.now.base items)) }
-    ensures front { result ≢ Status.Done → Compiles session.now.text (λ items. Grows (O.state out.old) (O.state out.new) (text_of which session.now.base items)) }
+    ensures written { result ≡ Status.Done
+        → Compiles session.now.text
+        (λ items. Appends (O.state out.old).bytes (O.state out.new).bytes
+        (text_of which session.now.base items)) }
+    ensures front { result ≢ Status.Done
+        → Compiles session.now.text
+        (λ items. Grows (O.state out.old) (O.state out.new) (text_of which session.now.base items)) }
     ensures status { result ≡ (if (O.state out.new).failed then Status.Failed else Status.Done) }
-    ensures told { result ≢ Status.Done → IsTold (E.state err.old) (E.state err.new) (codes "rpcgen: output cannot be written\n") }
+    ensures told { result ≢ Status.Done
+        → IsTold (E.state err.old) (E.state err.new) (codes "rpcgen: output cannot be written\n") }
     ensures quiet { result ≡ Status.Done → err.new ≡ err.old }
 {
     if is_written(which, session, out) {

@@ -17,7 +17,8 @@ pub fn read_words<E: Sink>(
     err: &mut E,
 ) -> Result<Vec<String>, Status>
     ensures failed { IfErr result (λ status. status ≡ Status.Failed) }
-    ensures told { OnErr result (IsTold (E.state err.old) (E.state err.new) (told_of program.now (codes "out of memory"))
+    ensures told { OnErr result
+        (IsTold (E.state err.old) (E.state err.new) (told_of program.now (codes "out of memory"))
         ⊎ IsTold (E.state err.old) (E.state err.new) (told_of program.now (codes "a word of the command line is not UTF-8"))) }
     ensures quiet { OnOk result (err.new ≡ err.old) }
 {
@@ -57,7 +58,8 @@ pub fn read_text<E: Sink>(
     err: &mut E,
 ) -> Result<Vec<u8>, Status>
     ensures failed { IfErr result (λ status. status ≡ Status.Failed) }
-    ensures told { OnErr result (IsTold (E.state err.old) (E.state err.new) (told_of program.now (codes "out of memory"))
+    ensures told { OnErr result
+        (IsTold (E.state err.old) (E.state err.new) (told_of program.now (codes "out of memory"))
         ⊎ IsTold (E.state err.old) (E.state err.new) (program.now ++ codes ": " ++ file.now ++ codes ": cannot be read\n")) }
     ensures quiet { OnOk result (err.new ≡ err.old) }
 {

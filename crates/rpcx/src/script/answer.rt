@@ -28,7 +28,8 @@ fn add_number<I: Integer, S: Sink>(number: I, pen: &mut Pen, sink: &mut S)
 /// Adds a line with a name and a count.
 #[tactic(auto, using(crate::proofs::Adding::four))]
 pub(crate) fn add_counted<I: Integer, S: Sink>(name: &str, count: I, pen: &mut Pen, sink: &mut S)
-    ensures { Adds pen.old (S.state sink.old) pen.new (S.state sink.new) (counted_by name.now (I.text count)) }
+    ensures { Adds pen.old (S.state sink.old) pen.new (S.state sink.new)
+        (counted_by name.now (I.text count)) }
 {
     pen.add(name.as_bytes(), sink);
     pen.add(b" ", sink);
@@ -52,7 +53,8 @@ fn add_token<S: Sink>(token: &Token, pen: &mut Pen, sink: &mut S)
 /// Adds the line of a definition, which is that of the item with this number.
 #[tactic(auto, using(crate::proofs::Adding::six))]
 fn add_definition<S: Sink>(item: usize, definition: &Definition, pen: &mut Pen, sink: &mut S)
-    ensures { Adds pen.old (S.state sink.old) pen.new (S.state sink.new) (definition_line (item, view_definition definition.now)) }
+    ensures { Adds pen.old (S.state sink.old) pen.new (S.state sink.new)
+        (definition_line (item, view_definition definition.now)) }
 {
     add_number(item, pen, sink);
     pen.add(b" ", sink);
@@ -84,7 +86,9 @@ fn add_fault<S: Sink>(fault: &Fault, pen: &mut Pen, sink: &mut S)
 
 /// Adds the tokens of a text.
 pub(crate) fn add_tokens<S: Sink>(session: &Session, pen: &mut Pen, sink: &mut S)
-    ensures { Compiles session.now.text (λ items. Adds pen.old (S.state sink.old) pen.new (S.state sink.new) (tokens_answer (tokens_of items))) }
+    ensures { Compiles session.now.text
+        (λ items. Adds pen.old (S.state sink.old) pen.new (S.state sink.new)
+        (tokens_answer (tokens_of items))) }
 {
     add_counted("tokens", session.token_count(), pen, sink);
     for token in session.tokens() {
@@ -94,7 +98,9 @@ pub(crate) fn add_tokens<S: Sink>(session: &Session, pen: &mut Pen, sink: &mut S
 
 /// Adds the definitions of a text.
 pub(crate) fn add_definitions<S: Sink>(session: &Session, pen: &mut Pen, sink: &mut S)
-    ensures { Compiles session.now.text (λ items. Adds pen.old (S.state sink.old) pen.new (S.state sink.new) (definitions_answer (definitions_of items))) }
+    ensures { Compiles session.now.text
+        (λ items. Adds pen.old (S.state sink.old) pen.new (S.state sink.new)
+        (definitions_answer (definitions_of items))) }
 {
     add_counted("definitions", session.definition_count(), pen, sink);
     for item in 0..session.item_count() {
@@ -106,7 +112,9 @@ pub(crate) fn add_definitions<S: Sink>(session: &Session, pen: &mut Pen, sink: &
 
 /// Adds the faults of a text.
 pub(crate) fn add_faults<S: Sink>(session: &Session, pen: &mut Pen, sink: &mut S)
-    ensures { Compiles session.now.text (λ items. Adds pen.old (S.state sink.old) pen.new (S.state sink.new) (faults_answer (faults_of session.now.text items))) }
+    ensures { Compiles session.now.text
+        (λ items. Adds pen.old (S.state sink.old) pen.new (S.state sink.new)
+        (faults_answer (faults_of session.now.text items))) }
 {
     add_counted("faults", session.fault_count(), pen, sink);
     for fault in session.faults() {
@@ -121,7 +129,9 @@ pub(crate) fn add_text<S: Sink>(
     pen: &mut Pen,
     sink: &mut S,
 )
-    ensures { Compiles session.now.text (λ items. Adds pen.old (S.state sink.old) pen.new (S.state sink.new) (text_answer (text_of which session.now.base items))) }
+    ensures { Compiles session.now.text
+        (λ items. Adds pen.old (S.state sink.old) pen.new (S.state sink.new)
+        (text_answer (text_of which session.now.base items))) }
 {
     add_counted("text", session.text_length(which), pen, sink);
     session.add_text(which, pen, sink);
