@@ -2,7 +2,7 @@
 use Rattle.std.proofs.Common.{◌≡◌, ℕ, ◌+◌, List, [], ◌∷◌, ◌++◌, length, ap, sym, ◌∙◌, append_assoc, length-append, arith}
 use Rattle.std.proofs.lemmas.List.{append-nil}
 use Rattle.x_item.specs.Words.{Fixed, Name, Number}
-use Rattle.x_item.specs.declared.mark.Mark.TheVariants as marks
+use Rattle.x_lex.specs.declared.mark.Mark.TheVariants as marks
 use Rattle.x_item.specs.Tree as tree
 use Rattle.x_item.specs.Spell.{spell_enumerator, spell_other_enumerators, spell_cases, spell_body, spell_declaration, spell_declarations, spell_arms, spell_default, spell_argument, spell_passed, spell_others, spell_procedure, spell_procedures, spell_version, spell_versions}
 use Rattle.x_item.specs.Mentions.{in_enumerator, in_other_enumerators, in_cases, in_body, in_declaration, in_declarations, in_arms, in_default, in_argument, in_passed, in_others, in_procedure}

@@ -7,10 +7,8 @@ use Rattle.std.specs.Bool.{then_some}
 use Rattle.std.proofs.lemmas.Bool.{false≢true}
 use Rattle.std.proofs.lemmas.Option.{none-some, same_Some}
 use Rattle.std.proofs.lemmas.Slice.Eq.{bytes_eq-Decides}
-use denote.Enum.Declared.{tag_of}
-use Rattle.x_lex.specs.contracts.mark.Mark.{the_type}
 use Rattle.x_lex.specs.Bytes.{is_space, is_letter, is_digit, is_punct}
-use Rattle.x_lex.specs.Marks.{mark_of, text_of, candidate}
+use Rattle.x_lex.specs.Marks.{mark_of, text_of, place_of, candidate}
 use Rattle.x_lex.specs.declared.mark.Mark.{Mark}
 use Rattle.x_lex.specs.declared.mark.Mark.TheVariants as marks
 use Rattle.x_lex.specs.declared.mark.TheConstants.{MARKS}
@@ -22,48 +20,16 @@ is_apart bytes = true
 
 -- what the table says of a mark
 pub record Stands (mark : Mark) : Type 0 where
-  pub within : tag_of the_type mark < 34
+  pub within : place_of mark < 34
   pub found : mark_of (text_of mark) ≡ Some mark
   pub apart : is_apart (text_of mark) ≡ true
 
 pub stands : (mark : Mark) → Stands mark
 unfolding mark_of text_of
 stands marks.Bool = record { within = lit< tt; found = refl; apart = refl }
-stands marks.Case = record { within = lit< tt; found = refl; apart = refl }
-stands marks.Const = record { within = lit< tt; found = refl; apart = refl }
-stands marks.Default = record { within = lit< tt; found = refl; apart = refl }
-stands marks.Double = record { within = lit< tt; found = refl; apart = refl }
-stands marks.Enum = record { within = lit< tt; found = refl; apart = refl }
-stands marks.Float = record { within = lit< tt; found = refl; apart = refl }
-stands marks.Hyper = record { within = lit< tt; found = refl; apart = refl }
-stands marks.Int = record { within = lit< tt; found = refl; apart = refl }
-stands marks.Long = record { within = lit< tt; found = refl; apart = refl }
-stands marks.Opaque = record { within = lit< tt; found = refl; apart = refl }
-stands marks.Program = record { within = lit< tt; found = refl; apart = refl }
-stands marks.Quadruple = record { within = lit< tt; found = refl; apart = refl }
-stands marks.String = record { within = lit< tt; found = refl; apart = refl }
-stands marks.Struct = record { within = lit< tt; found = refl; apart = refl }
-stands marks.Switch = record { within = lit< tt; found = refl; apart = refl }
-stands marks.Typedef = record { within = lit< tt; found = refl; apart = refl }
-stands marks.Union = record { within = lit< tt; found = refl; apart = refl }
-stands marks.Unsigned = record { within = lit< tt; found = refl; apart = refl }
-stands marks.Version = record { within = lit< tt; found = refl; apart = refl }
-stands marks.Void = record { within = lit< tt; found = refl; apart = refl }
-stands marks.OpenBrace = record { within = lit< tt; found = refl; apart = refl }
-stands marks.CloseBrace = record { within = lit< tt; found = refl; apart = refl }
-stands marks.OpenBracket = record { within = lit< tt; found = refl; apart = refl }
-stands marks.CloseBracket = record { within = lit< tt; found = refl; apart = refl }
-stands marks.OpenParenthesis = record { within = lit< tt; found = refl; apart = refl }
-stands marks.CloseParenthesis = record { within = lit< tt; found = refl; apart = refl }
-stands marks.Less = record { within = lit< tt; found = refl; apart = refl }
-stands marks.Greater = record { within = lit< tt; found = refl; apart = refl }
-stands marks.Comma = record { within = lit< tt; found = refl; apart = refl }
-stands marks.Semicolon = record { within = lit< tt; found = refl; apart = refl }
-stands marks.Colon = record { within = lit< tt; found = refl; apart = refl }
-stands marks.Equals = record { within = lit< tt; found = refl; apart = refl }
-stands marks.Star = record { within = lit< tt; found = refl; apart = refl }
+stands mark = record { within = lit< tt; found = refl; apart = refl }
 
-pub within : (mark : Mark) → tag_of the_type mark < length MARKS
+pub within : (mark : Mark) → place_of mark < length MARKS
 within mark = (stands mark).within
 
 -- the candidate of each text in the table is the mark that is written so

@@ -1,8 +1,6 @@
 //! The marks: the words that have one spelling each.
-ghost use Rattle.std.specs.Prelude.{◌≡◌, ◌<◌, [], map, length, slice_index_or};
-ghost use denote.Enum.Declared.{tag_of};
-ghost use Rattle.x_lex.specs.contracts.mark.Mark.{the_type};
-ghost use Rattle.x_lex.specs.Marks.{mark_of, text_of, candidate};
+ghost use Rattle.std.specs.Prelude.{◌≡◌, ◌<◌, [], map, length, slice_index, slice_index_or};
+ghost use Rattle.x_lex.specs.Marks.{mark_of, text_of, place_of, candidate};
 
 /// A word with one spelling: a keyword (RFC 4506, section 6.2, and RFC 5531, section 12; `long` is one of this project) or a
 /// punctuation mark of the grammar.
@@ -82,6 +80,13 @@ pub const MARKS: [(&[u8], Mark); 34] = [
     (b"*", Mark::Star),
 ];
 
+/// The byte at a place, or 0 behind the last.
+fn byte_at(bytes: &[u8], index: usize) -> u8
+    ensures { result ≡ slice_index bytes.now index }
+{
+    bytes.get(index).copied().unwrap_or(0)
+}
+
 /// The one mark that a word with these first bytes can be.
 #[tactic(auto, unfolding(crate::specs::Marks::candidate))]
 fn candidate(word: &[u8]) -> Option<Mark>
@@ -90,9 +95,9 @@ fn candidate(word: &[u8]) -> Option<Mark>
     let (first, rest) = word.split_first()?;
     let mark = match *first {
         b'b' => Mark::Bool,
-        b'c' if rest.starts_with(b"a") => Mark::Case,
+        b'c' if byte_at(rest, 0) == b'a' => Mark::Case,
         b'c' => Mark::Const,
-        b'd' if rest.starts_with(b"e") => Mark::Default,
+        b'd' if byte_at(rest, 0) == b'e' => Mark::Default,
         b'd' => Mark::Double,
         b'e' => Mark::Enum,
         b'f' => Mark::Float,
@@ -102,13 +107,13 @@ fn candidate(word: &[u8]) -> Option<Mark>
         b'o' => Mark::Opaque,
         b'p' => Mark::Program,
         b'q' => Mark::Quadruple,
-        b's' if rest.starts_with(b"tri") => Mark::String,
-        b's' if rest.starts_with(b"t") => Mark::Struct,
-        b's' => Mark::Switch,
+        b's' if byte_at(rest, 0) == b'w' => Mark::Switch,
+        b's' if byte_at(rest, 2) == b'i' => Mark::String,
+        b's' => Mark::Struct,
         b't' => Mark::Typedef,
-        b'u' if rest.starts_with(b"ni") => Mark::Union,
+        b'u' if byte_at(rest, 1) == b'i' => Mark::Union,
         b'u' => Mark::Unsigned,
-        b'v' if rest.starts_with(b"e") => Mark::Version,
+        b'v' if byte_at(rest, 0) == b'e' => Mark::Version,
         b'v' => Mark::Void,
         b'{' => Mark::OpenBrace,
         b'}' => Mark::CloseBrace,
@@ -130,8 +135,8 @@ fn candidate(word: &[u8]) -> Option<Mark>
 
 /// How the mark is written, by a table in the order of the marks.
 fn text_in(table: &[(&'static [u8], Mark)], mark: Mark) -> &'static [u8]
-    requires { tag_of the_type mark < length table.now }
-    ensures { result.now ≡ slice_index_or (map (λ entry. entry.0.now) table.now) (tag_of the_type mark) [] }
+    requires { place_of mark < length table.now }
+    ensures { result.now ≡ slice_index_or (map (λ entry. entry.0.now) table.now) (place_of mark) [] }
 {
     table[mark as usize].0
 }
