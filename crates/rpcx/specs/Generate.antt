@@ -10,7 +10,7 @@ use Rattle.rpcx.specs.declared.script.EngineFault.{EngineFault}
 use Rattle.rpcx.specs.declared.script.EngineFault.TheVariants.{Read, Write, NoMemory}
 use Rattle.rpcx.specs.Answers.{fault_place}
 use Rattle.rpcx.specs.Compile.{definitions_of, faults_of}
-use Rattle.rpcx.specs.Listings.{are_constants}
+use Rattle.rpcx.specs.Definitions.{are_constants}
 use Rattle.rpcx.specs.Session.{Compiles}
 use Rattle.x_text.specs.declared.fault.TextFault.{TextFault}
 use Rattle.x_text.specs.declared.fault.TextFault.TheVariants as faults

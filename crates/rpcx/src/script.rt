@@ -12,7 +12,6 @@ mod answer;
 mod byte_queue;
 mod command;
 mod lines;
-mod listing;
 
 use crate::{GeneratedText, Session};
 pub(crate) use answer::add_place;

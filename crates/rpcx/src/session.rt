@@ -3,26 +3,24 @@
 ghost use Rattle.std.specs.Prelude.{◌≡◌, ◌↔◌, ◌<◌, ◌≤◌, ℕ, List, Option, length, map, option_map, option_and_then, slice_get, IfOk, OnOk, OnErr, IfErr, IsErrOf, IsTrue, Some, None};
 ghost use Rattle.x_text.specs.Counts.{raised};
 ghost use Rattle.x_text.specs.Edits.{edited, LiesWithin};
-ghost use Rattle.x_text.specs.Writing.{Adds, IsWritten};
 ghost use Rattle.x_text.specs.declared.source.TheConstants.{MAX_TEXT};
 ghost use Rattle.x_lex.specs.Places.{lexeme};
 ghost use Rattle.rpcx.specs.Session.{Document, Compiles, edited_by_all, TakesAll, StopsAt};
 ghost use Rattle.rpcx.specs.Compile.{tokens_of, definitions_of, definition_at, faults_of};
 ghost use Rattle.rpcx.specs.ItemView.{kept_definition, tree_at};
-ghost use Rattle.rpcx.specs.Listings.{numbered, are_constants};
-ghost use Rattle.rpcx.specs.Texts.{text_of};
+ghost use Rattle.rpcx.specs.Definitions.{numbered, are_constants};
 
 mod generated_text;
 mod work;
 
-use crate::compile::{Compilation, EPILOGUE, Fault, Item, compile, is_constant, prologue};
+use crate::compile::{Compilation, Fault, Item, compile, is_constant, prologue};
 pub use generated_text::GeneratedText;
 use std::alloc::Global;
 use std::marker::Model;
 pub use work::Work;
 use x_item::Definition;
 use x_lex::{Token, Tokens, Walk};
-use x_text::{Edit, Meter, NoMemory, Pen, Sink, Source, TextFault, WriteFault};
+use x_text::{Edit, Meter, NoMemory, Source, TextFault};
 
 /// A text that stays open: its tokens, definitions and faults, and what is generated of it.
 #[derive(Drop)]
@@ -215,43 +213,6 @@ impl Session {
         ensures { Compiles self.now.text (λ items. result.now ≡ faults_of self.now.text items) }
     {
         &self.faults
-    }
-
-    /// Writes a generated text. After a fault the sink has exactly its first `written` bytes.
-    pub fn write_text<S: Sink>(&self, which: GeneratedText, sink: &mut S) -> Result<(), WriteFault>
-        ensures { Compiles self.now.text
-            (λ items. IsWritten result (S.state sink.old) (S.state sink.new)
-            (text_of which self.now.base items)) }
-    {
-        let mut pen = Pen::new();
-        self.add_text(which, &mut pen, sink);
-        pen.finish(sink)
-    }
-
-    /// Adds a generated text.
-    pub(crate) fn add_text<S: Sink>(&self, which: GeneratedText, pen: &mut Pen, sink: &mut S)
-        ensures { Compiles self.now.text
-            (λ items. Adds pen.old (S.state sink.old) pen.new (S.state sink.new)
-            (text_of which self.now.base items)) }
-    {
-        match which {
-            GeneratedText::Header => {
-                pen.add(&self.prologue, sink);
-                pen.add(&self.body, sink);
-                pen.add(EPILOGUE, sink);
-            }
-        }
-    }
-
-    /// How many bytes a generated text has.
-    pub(crate) fn text_length(&self, which: GeneratedText) -> u128
-        ensures { Compiles self.now.text (λ items. result ≡ length (text_of which self.now.base items)) }
-    {
-        match which {
-            GeneratedText::Header => {
-                self.prologue.len() as u128 + self.body.len() as u128 + EPILOGUE.len() as u128
-            }
-        }
     }
 }
 

@@ -1,37 +1,22 @@
 //! What `rpcgen` does, over a text that was read and sinks.
 
-ghost use Rattle.std.specs.Prelude.{◌≡◌, ◌≢◌, ◌⊎◌, true, false, not, ◌<◌, ◌==◌, ◌++◌, codes, [], Some, None, IsTrue, IfOk, OnOk, IfErr, IsErrOf, length, if◌then◌else◌};
+ghost use Rattle.std.specs.Prelude.{◌≡◌, ◌≢◌, ◌⊎◌, true, false, not, ◌<◌, codes, [], IsTrue, IfOk, OnOk, IfErr, IsErrOf, length, if◌then◌else◌};
 ghost use Rattle.std.specs.Io.KnownBytes.{Appends};
 ghost use Rattle.x_text.specs.Writing.{Adds};
 ghost use Rattle.x_text.specs.declared.source.TheConstants.{MAX_TEXT};
 ghost use Rattle.rpcx.specs.Generate.{base_of, told_fault, told_faults, Grows, IsTold, NotOpened};
 ghost use Rattle.rpcx.specs.Session.{Compiles};
 ghost use Rattle.rpcx.specs.Compile.{definitions_of, faults_of};
-ghost use Rattle.rpcx.specs.Listings.{are_constants};
-ghost use Rattle.rpcx.specs.Texts.{text_of};
+ghost use Rattle.rpcx.specs.Definitions.{are_constants};
+ghost use Rattle.rpcx.specs.Header.{text_of};
 
 use crate::program::base::base_of_file;
 use crate::program::complaint::{complain, tell_of_file, tell_unopened};
-use crate::program::generating_args::GenArgs;
 use crate::program::status::Status;
 use crate::script::add_place;
 use crate::{Fault, GeneratedText, Session};
 use std::alloc::Global;
 use x_text::{Pen, Sink};
-
-/// The text that a command line asks for: exactly one letter tells it.
-pub fn gen_mode<E: Sink>(args: &GenArgs, err: &mut E) -> Option<GeneratedText>
-    ensures mode { result ≡ (if args.now.header then Some GeneratedText.Header else None) }
-    ensures told { result ≡ None
-        → IsTold (E.state err.old) (E.state err.new) (codes "rpcgen: exactly one of -c, -h, -l, -t\n") }
-    ensures quiet { result ≢ None → err.new ≡ err.old }
-{
-    if args.header {
-        return Some(GeneratedText::Header);
-    }
-    complain("rpcgen: exactly one of -c, -h, -l, -t\n", err);
-    None
-}
 
 /// Opens the text of a file for a run, or tells what is wrong with it and answers the status: `Faulty` where the text has faults,
 /// which are written one a line, and `Failed` where it is too large, has a definition of which nothing is generated yet, or memory
