@@ -14,6 +14,7 @@ pub use program::{
     gen_write, read_text, read_words, tell_of_file,
 };
 pub use script::{
-    Command, EngineFault, Found, LONGEST, LineFault, LineReader, Outcome, parse_command, run_script,
+    Command, EngineFault, Found, Insert, LONGEST, LineFault, LineReader, Outcome, parse_command,
+    run_script,
 };
 pub use session::{GeneratedText, Session, Work};

@@ -16,7 +16,7 @@ mod lines;
 use crate::{GeneratedText, Session};
 pub(crate) use answer::add_place;
 use answer::{add_counted, add_definitions, add_faults, add_text, add_tokens};
-pub use command::{Command, parse_command};
+pub use command::{Command, Insert, parse_command};
 pub use lines::{Found, LONGEST, LineFault, LineReader};
 use std::alloc::Global;
 use thiserror::Error;
