@@ -113,7 +113,8 @@ fn next_answer<R: Tap, S: Sink>(
 ) -> Result<Option<bool>, LineFault>
     ensures given { (script : List ℕ) (given : List (List ℕ))
         → HasGiven script reader.old (R.state tap.old).bytes given →
-        GoesOn session.old session.new script reader.new (R.state tap.new).bytes given result pen.old (S.state sink.old) pen.new (S.state sink.new) }
+        GoesOn session.old session.new script reader.new (R.state tap.new).bytes given result
+        pen.old (S.state sink.old) pen.new (S.state sink.new) }
     ensures adds { AddsIfFound result sink.old sink.new
         ((told : List ℕ) × Adds pen.old (S.state sink.old) pen.new (S.state sink.new) told) }
     ensures failed { FailsBy result (R.state tap.old).failed (R.state tap.new).failed }
@@ -143,8 +144,8 @@ fn carry_out<S: Sink>(
 ) -> Result<bool, NoMemory>
     ensures given { IfOk result
         (λ refused. Compiles session.old.text
-        (λ items. IsGiven (answer session.old.base session.old.text items command.now) session.old session.new refused
-        pen.old (S.state sink.old) pen.new (S.state sink.new))) }
+        (λ items. IsGiven (answer session.old.base session.old.text items command.now)
+        session.old session.new refused pen.old (S.state sink.old) pen.new (S.state sink.new))) }
     ensures same { OnErr result ((session.new ≡ session.old) × (pen.new ≡ pen.old) × (sink.new ≡ sink.old)) }
 {
     // So that the contract of `item_count` says that the text has items, of which an edit asks nothing.
@@ -181,8 +182,8 @@ fn answer_line<S: Sink>(
     requires { length line.now ≤ LONGEST }
     ensures given { IfOk result
         (λ refused. Compiles session.old.text
-        (λ items. IsGiven (line_answer session.old.base session.old.text items line.now) session.old session.new refused
-        pen.old (S.state sink.old) pen.new (S.state sink.new))) }
+        (λ items. IsGiven (line_answer session.old.base session.old.text items line.now)
+        session.old session.new refused pen.old (S.state sink.old) pen.new (S.state sink.new))) }
     ensures same { OnErr result ((session.new ≡ session.old) × (pen.new ≡ pen.old) × (sink.new ≡ sink.old)) }
 {
     let command = parse_command(alloc, line)?;
@@ -197,8 +198,8 @@ fn carry_out_edit<S: Sink>(
     sink: &mut S,
 ) -> Result<bool, NoMemory>
     ensures given { IfOk result
-        (λ refused. IsGiven (edit_answer session.old.text edit.now.start edit.now.end edit.now.insert.now) session.old session.new refused
-        pen.old (S.state sink.old) pen.new (S.state sink.new)) }
+        (λ refused. IsGiven (edit_answer session.old.text edit.now.start edit.now.end edit.now.insert.now)
+        session.old session.new refused pen.old (S.state sink.old) pen.new (S.state sink.new)) }
     ensures same { OnErr result ((session.new ≡ session.old) × (pen.new ≡ pen.old) × (sink.new ≡ sink.old)) }
 {
     match session.apply(edit) {

@@ -43,7 +43,8 @@ impl Model for Session {
 
     ghost view = { λ s. record { base = s.base.items; text = s.source } };
 
-    ghost invariant = { λ s. IsUpToDate s.base.items s.source s.tokens.list s.items.items s.faults.items s.prologue.items s.body.items };
+    ghost invariant = { λ s. IsUpToDate s.base.items s.source s.tokens.list s.items.items s.faults.items
+        s.prologue.items s.body.items };
 }
 
 impl Session {

@@ -58,8 +58,8 @@ fn add_faults(
     lines: &mut Lines,
 ) -> Result<(), NoMemory>
     ensures added { OnOk result
-        (faults.new.items ≡ faults.old.items ++ map
-        (placed lines.old index (map lexeme tokens.now)) found.now) }
+        (faults.new.items ≡ faults.old.items ++
+        map (placed lines.old index (map lexeme tokens.now)) found.now) }
     ensures same { lines.new ≡ lines.old }
 {
     for fault in found {

@@ -34,7 +34,8 @@ pub fn edit_run<I: Tap, O: Sink, E: Sink>(
         (O.state out.new) result) }
     ensures ended { result ≡ Status.Failed → MatchOption (I.state input.old).bytes (Unit {0}) (λ script.
         IsUntouched script (I.state input.new).bytes (O.state out.old) (O.state out.new)
-        ⊎ EndsEarly script (I.state input.new).bytes (base_of args.now.file.now) bytes.now (O.state out.old) (O.state out.new)) }
+        ⊎ EndsEarly script (I.state input.new).bytes (base_of args.now.file.now) bytes.now
+        (O.state out.old) (O.state out.new)) }
 {
     let mut session = match Session::open(alloc, base_of_file(args.file), bytes) {
         Ok(session) => session,
@@ -62,7 +63,8 @@ fn answer_input<I: Tap, O: Sink, E: Sink>(
         (λ script. Answers script session.old.base session.old.text (O.state out.old)
         (O.state out.new) result) }
     ensures ended { result ≡ Status.Failed → MatchOption (I.state input.old).bytes (Unit {0}) (λ script.
-        EndsEarly script (I.state input.new).bytes session.old.base session.old.text (O.state out.old) (O.state out.new)) }
+        EndsEarly script (I.state input.new).bytes session.old.base session.old.text
+        (O.state out.old) (O.state out.new)) }
 {
     match run_script(alloc, session, input, out) {
         Ok(Outcome::Clean) => Status::Done,

@@ -19,7 +19,8 @@ pub fn read_words<E: Sink>(
     ensures failed { IfErr result (λ status. status ≡ Status.Failed) }
     ensures told { OnErr result
         (IsTold (E.state err.old) (E.state err.new) (told_of program.now (codes "out of memory"))
-        ⊎ IsTold (E.state err.old) (E.state err.new) (told_of program.now (codes "a word of the command line is not UTF-8"))) }
+        ⊎ IsTold (E.state err.old) (E.state err.new)
+        (told_of program.now (codes "a word of the command line is not UTF-8"))) }
     ensures quiet { OnOk result (err.new ≡ err.old) }
 {
     match env::args(rt).map(|words| words.collect(rt.alloc())) {
@@ -60,7 +61,8 @@ pub fn read_text<E: Sink>(
     ensures failed { IfErr result (λ status. status ≡ Status.Failed) }
     ensures told { OnErr result
         (IsTold (E.state err.old) (E.state err.new) (told_of program.now (codes "out of memory"))
-        ⊎ IsTold (E.state err.old) (E.state err.new) (program.now ++ codes ": " ++ file.now ++ codes ": cannot be read\n")) }
+        ⊎ IsTold (E.state err.old) (E.state err.new)
+        (program.now ++ codes ": " ++ file.now ++ codes ": cannot be read\n")) }
     ensures quiet { OnOk result (err.new ≡ err.old) }
 {
     match bytes_of_file(rt, file) {
