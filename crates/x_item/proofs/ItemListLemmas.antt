@@ -128,7 +128,7 @@ no_end_none = record { never = λ front x rear e ends. never front x rear e }
     never [] x rear e = cc
     never (y ∷ front) x rear e = cc
 
-whole_push : (whole : List (List Lexeme)) (item : List Lexeme) → AreWhole whole → IsWhole item → AreWhole (whole ++ item ∷ [])
+pub whole_push : (whole : List (List Lexeme)) (item : List Lexeme) → AreWhole whole → IsWhole item → AreWhole (whole ++ item ∷ [])
 whole_push [] item each this = (this, tt)
 whole_push (x ∷ whole) item each this = (each.0, whole_push whole item each.1 this)
 

@@ -9,7 +9,7 @@ ghost use Rattle.rpcx.specs.ItemView.{AreParsed};
 
 use crate::compile::item::Item;
 use std::alloc::Global;
-use x_item::{Items, cut};
+use x_item::next_item;
 use x_lex::{Token, Tokens, Walk};
 use x_text::{Meter, NoMemory, Source};
 
@@ -26,12 +26,12 @@ pub fn parse_items(
     ensures counted { IfOk result
         (λ items. meter.new ≡ record meter.old { parsed = raised meter.old.parsed (length items.items) }) }
 {
-    let parts: Items<()> = cut(alloc, tokens, source)?;
-    let mut items = Vec::with_capacity(alloc, parts.len())?;
+    let mut items = Vec::new(alloc);
     let mut walk = tokens.iter(source);
     let mut part = Vec::new(alloc);
-    for entry in parts.iter() {
-        take_tokens(&mut part, &mut walk, entry.tokens as usize)?;
+    let mut whole = true;
+    while whole {
+        whole = next_item(&mut part, &mut walk)?;
         items.push(Item::of(alloc, &part, meter)?)?;
     }
     Ok(items)
