@@ -2,7 +2,7 @@
 use Rattle.std.proofs.Common.{◌≡◌, ℕ, List, refl}
 use Rattle.rpcx.specs.Compile.{Item}
 use Rattle.rpcx.specs.Header.{header}
-use Rattle.rpcx.specs.Texts.{text_of}
+use Rattle.rpcx.specs.Header.{text_of}
 use Rattle.rpcx.specs.declared.session.generated_text.GeneratedText.{GeneratedText}
 use Rattle.rpcx.specs.declared.session.generated_text.GeneratedText.TheVariants.{Header}
 

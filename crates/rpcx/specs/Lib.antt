@@ -4,16 +4,15 @@ pub mod Commands
 pub mod Compile
 pub mod DeclarerTable
 pub mod Declarers
+pub mod Definitions
 pub mod Faults
 pub mod Generate
 pub mod Header
 pub mod ItemView
 pub mod Lines
-pub mod Listings
 pub mod Numbers
 pub mod Rules
 pub mod Script
 pub mod Session
 pub mod SessionState
 pub mod Status
-pub mod Texts

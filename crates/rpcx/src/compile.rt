@@ -40,9 +40,15 @@ pub struct Compilation {
 
 /// Compiles a text from scratch.
 pub fn compile(alloc: Global, source: &Source, meter: &mut Meter) -> Result<Compilation, NoMemory>
-    ensures items { IfOk result (λ c. IsCompilation source.now c.tokens.list (parts (lexemes source.now c.tokens.list) (map view_item c.items.items))) }
-    ensures faults { IfOk result (λ c. c.output.faults.items ≡ faults_of source.now (parts (lexemes source.now c.tokens.list) (map view_item c.items.items))) }
-    ensures body { IfOk result (λ c. c.output.body.items ≡ body_of (parts (lexemes source.now c.tokens.list) (map view_item c.items.items))) }
+    ensures items { IfOk result
+        (λ c. IsCompilation source.now c.tokens.list
+        (parts (lexemes source.now c.tokens.list) (map view_item c.items.items))) }
+    ensures faults { IfOk result
+        (λ c. c.output.faults.items
+        ≡ faults_of source.now (parts (lexemes source.now c.tokens.list) (map view_item c.items.items))) }
+    ensures body { IfOk result
+        (λ c. c.output.body.items
+        ≡ body_of (parts (lexemes source.now c.tokens.list) (map view_item c.items.items))) }
 {
     let tokens = lex(alloc, source, meter)?;
     let items = parse_items(alloc, &tokens, source, meter)?;
@@ -57,7 +63,8 @@ pub fn compile(alloc: Global, source: &Source, meter: &mut Meter) -> Result<Comp
 
 /// The table of the names that the items declare.
 fn names_of(alloc: Global, items: &[Item]) -> Result<Names, NoMemory>
-    ensures { IfOk result (λ names. (name : List ℕ) → FirstIs (map kept_definition items.now) name (first_in names name)) }
+    ensures { IfOk result
+        (λ names. (name : List ℕ) → FirstIs (map kept_definition items.now) name (first_in names name)) }
 {
     let mut definitions = Vec::with_capacity(alloc, items.len())?;
     for item in items {

@@ -10,7 +10,8 @@ ghost use Rattle.rpcx.specs.declared.compile.names.Declarer.{Declarer};
 /// A text has one compilation: all that a session answers is a function of its text.
 pub fn one_compilation()
     ensures { (text : List ℕ) (tokens others : List (Kind × ℕ)) (items more : List Item)
-        → IsCompilation text tokens items → IsCompilation text others more → (tokens ≡ others) × (items ≡ more) }
+        → IsCompilation text tokens items → IsCompilation text others more
+        → (tokens ≡ others) × (items ≡ more) }
 {}
 
 /// A name has one first declarer at the most, and it has one where it is declared and was not declared beforehand.

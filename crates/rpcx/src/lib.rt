@@ -9,11 +9,12 @@ mod session;
 
 pub use compile::{Declared, Declarer, Fault, FaultCode, Names, RuleCode, declares, number_value};
 pub use laws::{one_compilation, one_first_declarer};
-pub use program::{Status, 
-    EditArgs, GenArgs, complain, edit_args, edit_run, gen_args, gen_mode, gen_open, gen_write,
-    tell_of_file,
+pub use program::{
+    EditArgs, GenArgs, Status, complain, edit_args, edit_run, gen_args, gen_mode, gen_open,
+    gen_write, read_text, read_words, tell_of_file,
 };
 pub use script::{
-    Command, EngineFault, Found, LONGEST, LineFault, LineReader, Outcome, parse_command, run_script,
+    Command, EngineFault, Found, Insert, LONGEST, LineFault, LineReader, Outcome, parse_command,
+    run_script,
 };
 pub use session::{GeneratedText, Session, Work};

@@ -12,12 +12,11 @@ mod answer;
 mod byte_queue;
 mod command;
 mod lines;
-mod listing;
 
 use crate::{GeneratedText, Session};
 pub(crate) use answer::add_place;
 use answer::{add_counted, add_definitions, add_faults, add_text, add_tokens};
-pub use command::{Command, parse_command};
+pub use command::{Command, Insert, parse_command};
 pub use lines::{Found, LONGEST, LineFault, LineReader};
 use std::alloc::Global;
 use thiserror::Error;
@@ -66,8 +65,11 @@ pub fn run_script<R: Tap, S: Sink>(
     tap: &mut R,
     sink: &mut S,
 ) -> Result<Outcome, EngineFault>
-    ensures runs { MatchOption (R.state tap.old).bytes (Unit {0}) (λ script. Runs script (R.state tap.new).bytes session.old session.new (S.state sink.old) (S.state sink.new) result) }
-    ensures cause { NamesCause result (R.state tap.old).failed (R.state tap.new).failed (S.state sink.old).failed (S.state sink.new).failed }
+    ensures runs { MatchOption (R.state tap.old).bytes (Unit {0})
+        (λ script. Runs script (R.state tap.new).bytes session.old session.new (S.state sink.old)
+        (S.state sink.new) result) }
+    ensures cause { NamesCause result (R.state tap.old).failed (R.state tap.new).failed
+        (S.state sink.old).failed (S.state sink.new).failed }
 {
     let mut reader = LineReader::new(alloc);
     let mut pen = Pen::new();
@@ -109,9 +111,12 @@ fn next_answer<R: Tap, S: Sink>(
     pen: &mut Pen,
     sink: &mut S,
 ) -> Result<Option<bool>, LineFault>
-    ensures given { (script : List ℕ) (given : List (List ℕ)) → HasGiven script reader.old (R.state tap.old).bytes given →
-        GoesOn session.old session.new script reader.new (R.state tap.new).bytes given result pen.old (S.state sink.old) pen.new (S.state sink.new) }
-    ensures adds { AddsIfFound result sink.old sink.new ((told : List ℕ) × Adds pen.old (S.state sink.old) pen.new (S.state sink.new) told) }
+    ensures given { (script : List ℕ) (given : List (List ℕ))
+        → HasGiven script reader.old (R.state tap.old).bytes given →
+        GoesOn session.old session.new script reader.new (R.state tap.new).bytes given result
+        pen.old (S.state sink.old) pen.new (S.state sink.new) }
+    ensures adds { AddsIfFound result sink.old sink.new
+        ((told : List ℕ) × Adds pen.old (S.state sink.old) pen.new (S.state sink.new) told) }
     ensures failed { FailsBy result (R.state tap.old).failed (R.state tap.new).failed }
 {
     // So that the contract of `item_count` says that the text has items, of which a line that is too long asks nothing.
@@ -137,8 +142,10 @@ fn carry_out<S: Sink>(
     pen: &mut Pen,
     sink: &mut S,
 ) -> Result<bool, NoMemory>
-    ensures given { IfOk result (λ refused. Compiles session.old.text (λ items. IsGiven (answer session.old.base session.old.text items command.now) session.old session.new refused
-        pen.old (S.state sink.old) pen.new (S.state sink.new))) }
+    ensures given { IfOk result
+        (λ refused. Compiles session.old.text
+        (λ items. IsGiven (answer session.old.base session.old.text items command.now)
+        session.old session.new refused pen.old (S.state sink.old) pen.new (S.state sink.new))) }
     ensures same { OnErr result ((session.new ≡ session.old) × (pen.new ≡ pen.old) × (sink.new ≡ sink.old)) }
 {
     // So that the contract of `item_count` says that the text has items, of which an edit asks nothing.
@@ -173,8 +180,10 @@ fn answer_line<S: Sink>(
     sink: &mut S,
 ) -> Result<bool, NoMemory>
     requires { length line.now ≤ LONGEST }
-    ensures given { IfOk result (λ refused. Compiles session.old.text (λ items. IsGiven (line_answer session.old.base session.old.text items line.now) session.old session.new refused
-        pen.old (S.state sink.old) pen.new (S.state sink.new))) }
+    ensures given { IfOk result
+        (λ refused. Compiles session.old.text
+        (λ items. IsGiven (line_answer session.old.base session.old.text items line.now)
+        session.old session.new refused pen.old (S.state sink.old) pen.new (S.state sink.new))) }
     ensures same { OnErr result ((session.new ≡ session.old) × (pen.new ≡ pen.old) × (sink.new ≡ sink.old)) }
 {
     let command = parse_command(alloc, line)?;
@@ -188,8 +197,9 @@ fn carry_out_edit<S: Sink>(
     pen: &mut Pen,
     sink: &mut S,
 ) -> Result<bool, NoMemory>
-    ensures given { IfOk result (λ refused. IsGiven (edit_answer session.old.text edit.now.start edit.now.end edit.now.insert.now) session.old session.new refused
-        pen.old (S.state sink.old) pen.new (S.state sink.new)) }
+    ensures given { IfOk result
+        (λ refused. IsGiven (edit_answer session.old.text edit.now.start edit.now.end edit.now.insert.now)
+        session.old session.new refused pen.old (S.state sink.old) pen.new (S.state sink.new)) }
     ensures same { OnErr result ((session.new ≡ session.old) × (pen.new ≡ pen.old) × (sink.new ≡ sink.old)) }
 {
     match session.apply(edit) {

@@ -3,26 +3,24 @@
 ghost use Rattle.std.specs.Prelude.{◌≡◌, ◌↔◌, ◌<◌, ◌≤◌, ℕ, List, Option, length, map, option_map, option_and_then, slice_get, IfOk, OnOk, OnErr, IfErr, IsErrOf, IsTrue, Some, None};
 ghost use Rattle.x_text.specs.Counts.{raised};
 ghost use Rattle.x_text.specs.Edits.{edited, LiesWithin};
-ghost use Rattle.x_text.specs.Writing.{Adds, IsWritten};
 ghost use Rattle.x_text.specs.declared.source.TheConstants.{MAX_TEXT};
 ghost use Rattle.x_lex.specs.Places.{lexeme};
 ghost use Rattle.rpcx.specs.Session.{Document, Compiles, edited_by_all, TakesAll, StopsAt};
 ghost use Rattle.rpcx.specs.Compile.{tokens_of, definitions_of, definition_at, faults_of};
 ghost use Rattle.rpcx.specs.ItemView.{kept_definition, tree_at};
-ghost use Rattle.rpcx.specs.Listings.{numbered, are_constants};
-ghost use Rattle.rpcx.specs.Texts.{text_of};
+ghost use Rattle.rpcx.specs.Definitions.{numbered, are_constants};
 
 mod generated_text;
 mod work;
 
-use crate::compile::{Compilation, EPILOGUE, Fault, Item, compile, is_constant, prologue};
+use crate::compile::{Compilation, Fault, Item, compile, is_constant, prologue};
 pub use generated_text::GeneratedText;
 use std::alloc::Global;
 use std::marker::Model;
 pub use work::Work;
 use x_item::Definition;
 use x_lex::{Token, Tokens, Walk};
-use x_text::{Edit, Meter, NoMemory, Pen, Sink, Source, TextFault, WriteFault};
+use x_text::{Edit, Meter, NoMemory, Source, TextFault};
 
 /// A text that stays open: its tokens, definitions and faults, and what is generated of it.
 #[derive(Drop)]
@@ -45,7 +43,8 @@ impl Model for Session {
 
     ghost view = { λ s. record { base = s.base.items; text = s.source } };
 
-    ghost invariant = { λ s. IsUpToDate s.base.items s.source s.tokens.list s.items.items s.faults.items s.prologue.items s.body.items };
+    ghost invariant = { λ s. IsUpToDate s.base.items s.source s.tokens.list s.items.items s.faults.items
+        s.prologue.items s.body.items };
 }
 
 impl Session {
@@ -90,13 +89,16 @@ impl Session {
 
     /// Carries an edit out, with the faults of [`Source::replace`], and answers what work it took. After a fault all is as before.
     pub fn apply(&mut self, edit: &Edit) -> Result<Work, TextFault>
-        ensures text { OnOk result (self.new.text ≡ edited self.old.text edit.now.start edit.now.end edit.now.insert.now) }
+        ensures text { OnOk result
+            (self.new.text ≡ edited self.old.text edit.now.start edit.now.end edit.now.insert.now) }
         ensures base { self.new.base ≡ self.old.base }
         ensures fits { OnOk result (LiesWithin self.old.text edit.now.start edit.now.end
             × (length (edited self.old.text edit.now.start edit.now.end edit.now.insert.now) ≤ MAX_TEXT)) }
-        ensures bad_range { IsErrOf result TextFault.BadRange ↔ ¬ (LiesWithin self.old.text edit.now.start edit.now.end) }
+        ensures bad_range { IsErrOf result TextFault.BadRange
+            ↔ ¬ (LiesWithin self.old.text edit.now.start edit.now.end) }
         ensures too_large { IsErrOf result TextFault.TooLarge ↔
-            (LiesWithin self.old.text edit.now.start edit.now.end × (MAX_TEXT < length (edited self.old.text edit.now.start edit.now.end edit.now.insert.now))) }
+            (LiesWithin self.old.text edit.now.start edit.now.end
+            × (MAX_TEXT < length (edited self.old.text edit.now.start edit.now.end edit.now.insert.now))) }
         ensures same { OnErr result (self.new ≡ self.old) }
     {
         let source = self.source.edited(self.alloc, edit)?;
@@ -122,7 +124,8 @@ impl Session {
     pub fn apply_all(&mut self, edits: &[Edit]) -> Result<Work, (usize, TextFault)>
         ensures text { OnOk result (self.new.text ≡ edited_by_all self.old.text edits.now) }
         ensures takes { OnOk result (TakesAll self.old.text edits.now) }
-        ensures stops { IfErr result (λ fault. StopsAt self.old.text edits.now self.new.text fault.0 fault.1) }
+        ensures stops { IfErr result
+            (λ fault. StopsAt self.old.text edits.now self.new.text fault.0 fault.1) }
         ensures base { self.new.base ≡ self.old.base }
     {
         let mut total = Work::default();
@@ -151,7 +154,8 @@ impl Session {
 
     /// The token at an index.
     pub fn token(&self, index: usize) -> Option<Token<'_>>
-        ensures { Compiles self.now.text (λ items. option_map lexeme result ≡ slice_get (tokens_of items) index) }
+        ensures { Compiles self.now.text
+            (λ items. option_map lexeme result ≡ slice_get (tokens_of items) index) }
     {
         self.tokens.token(index, &self.source)
     }
@@ -210,39 +214,6 @@ impl Session {
         ensures { Compiles self.now.text (λ items. result.now ≡ faults_of self.now.text items) }
     {
         &self.faults
-    }
-
-    /// Writes a generated text. After a fault the sink has exactly its first `written` bytes.
-    pub fn write_text<S: Sink>(&self, which: GeneratedText, sink: &mut S) -> Result<(), WriteFault>
-        ensures { Compiles self.now.text (λ items. IsWritten result (S.state sink.old) (S.state sink.new) (text_of which self.now.base items)) }
-    {
-        let mut pen = Pen::new();
-        self.add_text(which, &mut pen, sink);
-        pen.finish(sink)
-    }
-
-    /// Adds a generated text.
-    pub(crate) fn add_text<S: Sink>(&self, which: GeneratedText, pen: &mut Pen, sink: &mut S)
-        ensures { Compiles self.now.text (λ items. Adds pen.old (S.state sink.old) pen.new (S.state sink.new) (text_of which self.now.base items)) }
-    {
-        match which {
-            GeneratedText::Header => {
-                pen.add(&self.prologue, sink);
-                pen.add(&self.body, sink);
-                pen.add(EPILOGUE, sink);
-            }
-        }
-    }
-
-    /// How many bytes a generated text has.
-    pub(crate) fn text_length(&self, which: GeneratedText) -> u128
-        ensures { Compiles self.now.text (λ items. result ≡ length (text_of which self.now.base items)) }
-    {
-        match which {
-            GeneratedText::Header => {
-                self.prologue.len() as u128 + self.body.len() as u128 + EPILOGUE.len() as u128
-            }
-        }
     }
 }
 

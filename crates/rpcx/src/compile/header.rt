@@ -112,7 +112,9 @@ pub fn add_item(
     parse: &Parse,
     faults: &[TokenFault],
 ) -> Result<(), NoMemory>
-    ensures { OnOk result (text.new.items ≡ text.old.items ++ (lines_of (map lexeme tokens.now) ++ clean_piece faults.now (view_parse parse.now))) }
+    ensures { OnOk result
+        (text.new.items ≡ text.old.items ++
+        (lines_of (map lexeme tokens.now) ++ clean_piece faults.now (view_parse parse.now))) }
 {
     add_lines(text, tokens)?;
     if !faults.is_empty() {

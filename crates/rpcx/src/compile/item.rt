@@ -6,7 +6,7 @@ ghost use Rattle.x_text.specs.declared.source.TheConstants.{MAX_TEXT};
 ghost use Rattle.x_lex.specs.Places.{lexeme};
 ghost use Rattle.x_item.specs.View.{view_definition};
 ghost use Rattle.rpcx.specs.ItemView.{IsItem, kept_definition, tree_at};
-ghost use Rattle.rpcx.specs.Listings.{is_constant};
+ghost use Rattle.rpcx.specs.Definitions.{is_constant};
 
 use std::alloc::Global;
 use x_item::{Definition, FaultCode, Parsed, parse_item};

@@ -47,7 +47,8 @@ impl Model for Names {
 impl Names {
     /// The table of the items' definitions; an item without one declares nothing.
     pub fn of(alloc: Global, definitions: &[Option<&Definition>]) -> Result<Names, NoMemory>
-        ensures { IfOk result (λ names. (name : List ℕ) → FirstIs (map tree_at definitions.now) name (first_in names name)) }
+        ensures { IfOk result
+            (λ names. (name : List ℕ) → FirstIs (map tree_at definitions.now) name (first_in names name)) }
     {
         Ok(Names {
             table: table_of(alloc, definitions)?,
@@ -71,7 +72,9 @@ fn table_of(
     alloc: Global,
     definitions: &[Option<&Definition>],
 ) -> Result<IndexMap<Vec<u8>, Declarer>, NoMemory>
-    ensures { IfOk result (λ table. (name : List ℕ) → entry_in table.entries name ≡ first_from 0 (map tree_at definitions.now) name) }
+    ensures { IfOk result
+        (λ table. (name : List ℕ) → entry_in table.entries name
+        ≡ first_from 0 (map tree_at definitions.now) name) }
 {
     let mut table = IndexMap::new(alloc);
     for (item, definition) in definitions.iter().enumerate() {
@@ -97,7 +100,8 @@ fn add(
     definition: &Definition,
 ) -> Result<(), NoMemory>
     ensures { OnOk result ((name : List ℕ) → entry_in table.new.entries name
-        ≡ or_else (entry_in table.old.entries name) (in_item item (word_of_name name (declared (view_definition definition.now))))) }
+        ≡ or_else (entry_in table.old.entries name)
+        (in_item item (word_of_name name (declared (view_definition definition.now))))) }
 {
     for declared in &declares(alloc, definition)? {
         let name = Vec::from_slice(alloc, declared.name)?;
@@ -114,7 +118,8 @@ fn note(
     declarer: Declarer,
 ) -> Result<(), NoMemory>
     ensures { OnOk result ((other : List ℕ) → entry_in table.new.entries other
-        ≡ or_else (entry_in table.old.entries other) (if bytes_eq other name.items then Some declarer else None)) }
+        ≡ or_else (entry_in table.old.entries other)
+        (if bytes_eq other name.items then Some declarer else None)) }
 {
     if entry(table, &name).is_none() {
         table.insert(name, declarer)?;

@@ -30,7 +30,9 @@ fn token_faults(
     meter: &mut Meter,
 ) -> Result<Vec<TokenFault>, NoMemory>
     requires { length tokens.now ≤ MAX_TEXT }
-    ensures { IfOk result (λ faults. faults.items ≡ token_faults (first_in names.now) index (map lexeme tokens.now) (view_parse parse.now)) }
+    ensures { IfOk result
+        (λ faults. faults.items
+        ≡ token_faults (first_in names.now) index (map lexeme tokens.now) (view_parse parse.now)) }
 {
     match parse {
         Parse::Nothing => Ok(Vec::new(alloc)),
@@ -55,7 +57,9 @@ fn add_faults(
     found: &[TokenFault],
     lines: &mut Lines,
 ) -> Result<(), NoMemory>
-    ensures added { OnOk result (faults.new.items ≡ faults.old.items ++ map (placed lines.old index (map lexeme tokens.now)) found.now) }
+    ensures added { OnOk result
+        (faults.new.items ≡ faults.old.items ++
+        map (placed lines.old index (map lexeme tokens.now)) found.now) }
     ensures same { lines.new ≡ lines.old }
 {
     for fault in found {
@@ -85,9 +89,11 @@ pub fn output_of(
     requires tokens { AreTokens source.now tokens.now.list }
     requires few { length items.now ≤ MAX_TEXT + 1 }
     ensures faults { IfOk result (λ found. found.faults.items
-        ≡ faults_from source.now (first_in names.now) 0 (parts (lexemes source.now tokens.now.list) (map view_item items.now))) }
+        ≡ faults_from source.now (first_in names.now) 0
+        (parts (lexemes source.now tokens.now.list) (map view_item items.now))) }
     ensures body { IfOk result (λ found. found.body.items
-        ≡ body_from (first_in names.now) 0 (parts (lexemes source.now tokens.now.list) (map view_item items.now))) }
+        ≡ body_from (first_in names.now) 0
+        (parts (lexemes source.now tokens.now.list) (map view_item items.now))) }
 {
     let mut faults = Vec::new(alloc);
     let mut body = Vec::new(alloc);

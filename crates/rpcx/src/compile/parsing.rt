@@ -23,7 +23,8 @@ pub fn parse_items(
     requires { AreTokens source.now tokens.now.list }
     ensures parsed { IfOk result (λ items. AreParsed (lexemes source.now tokens.now.list) items.items) }
     ensures few { IfOk result (λ items. length items.items ≤ MAX_TEXT + 1) }
-    ensures counted { IfOk result (λ items. meter.new ≡ record meter.old { parsed = raised meter.old.parsed (length items.items) }) }
+    ensures counted { IfOk result
+        (λ items. meter.new ≡ record meter.old { parsed = raised meter.old.parsed (length items.items) }) }
 {
     let mut items = Vec::new(alloc);
     let mut walk = tokens.iter(source);
@@ -42,7 +43,8 @@ pub fn take_tokens<'a>(
     walk: &mut Walk<'a>,
     count: usize,
 ) -> Result<(), NoMemory>
-    ensures { OnOk result ((map lexeme tokens.new.items ≡ take count walk.old) × (walk.new ≡ drop count walk.old)) }
+    ensures { OnOk result
+        ((map lexeme tokens.new.items ≡ take count walk.old) × (walk.new ≡ drop count walk.old)) }
 {
     tokens.clear();
     while tokens.len() < count {

@@ -39,7 +39,8 @@ pub fn check_item(
     names: &Names,
     meter: &mut Meter,
 ) -> Result<Vec<WordFault>, NoMemory>
-    ensures faults { IfOk result (λ faults. faults.items ≡ rules (first_in names.now) item (view_definition definition.now)) }
+    ensures faults { IfOk result
+        (λ faults. faults.items ≡ rules (first_in names.now) item (view_definition definition.now)) }
     ensures counted { meter.new ≡ record meter.old { checked = raised meter.old.checked 1 } }
 {
     meter.tick_checked();

@@ -16,7 +16,8 @@ pub fn complain<E: Sink>(text: &str, err: &mut E)
 
 /// Writes what is wrong with a file, behind the name of the program.
 pub fn tell_of_file<E: Sink>(program: &str, file: &str, wrong: &str, err: &mut E)
-    ensures { IsTold (E.state err.old) (E.state err.new) (program.now ++ codes ": " ++ file.now ++ wrong.now) }
+    ensures { IsTold (E.state err.old) (E.state err.new)
+        (program.now ++ codes ": " ++ file.now ++ wrong.now) }
 {
     let mut pen = Pen::new();
     pen.add(program.as_bytes(), err);

@@ -24,13 +24,18 @@ pub fn edit_run<I: Tap, O: Sink, E: Sink>(
     err: &mut E,
 ) -> Status
     ensures too_large { MAX_TEXT < length bytes.now → result ≡ Status.Failed }
-    ensures failed { result ≡ Status.Failed → NotRun args.now.file.now bytes.now (E.state err.old) (E.state err.new) (I.state input.new).failed (O.state out.new).failed }
+    ensures failed { result ≡ Status.Failed
+        → NotRun args.now.file.now bytes.now (E.state err.old) (E.state err.new) (I.state input.new).failed
+        (O.state out.new).failed }
     ensures quiet { result ≢ Status.Failed → err.new ≡ err.old }
     ensures working { result ≢ Status.Failed → WorksOn (O.state out.old).failed (O.state out.new).failed }
-    ensures answers { MatchOption (I.state input.old).bytes (Unit {0}) (λ script. Answers script (base_of args.now.file.now) bytes.now (O.state out.old) (O.state out.new) result) }
+    ensures answers { MatchOption (I.state input.old).bytes (Unit {0})
+        (λ script. Answers script (base_of args.now.file.now) bytes.now (O.state out.old)
+        (O.state out.new) result) }
     ensures ended { result ≡ Status.Failed → MatchOption (I.state input.old).bytes (Unit {0}) (λ script.
         IsUntouched script (I.state input.new).bytes (O.state out.old) (O.state out.new)
-        ⊎ EndsEarly script (I.state input.new).bytes (base_of args.now.file.now) bytes.now (O.state out.old) (O.state out.new)) }
+        ⊎ EndsEarly script (I.state input.new).bytes (base_of args.now.file.now) bytes.now
+        (O.state out.old) (O.state out.new)) }
 {
     let mut session = match Session::open(alloc, base_of_file(args.file), bytes) {
         Ok(session) => session,
@@ -50,12 +55,16 @@ fn answer_input<I: Tap, O: Sink, E: Sink>(
     out: &mut O,
     err: &mut E,
 ) -> Status
-    ensures failed { result ≡ Status.Failed → Stops (E.state err.old) (E.state err.new) (I.state input.new).failed (O.state out.new).failed }
+    ensures failed { result ≡ Status.Failed
+        → Stops (E.state err.old) (E.state err.new) (I.state input.new).failed (O.state out.new).failed }
     ensures quiet { result ≢ Status.Failed → err.new ≡ err.old }
     ensures working { result ≢ Status.Failed → WorksOn (O.state out.old).failed (O.state out.new).failed }
-    ensures answers { MatchOption (I.state input.old).bytes (Unit {0}) (λ script. Answers script session.old.base session.old.text (O.state out.old) (O.state out.new) result) }
+    ensures answers { MatchOption (I.state input.old).bytes (Unit {0})
+        (λ script. Answers script session.old.base session.old.text (O.state out.old)
+        (O.state out.new) result) }
     ensures ended { result ≡ Status.Failed → MatchOption (I.state input.old).bytes (Unit {0}) (λ script.
-        EndsEarly script (I.state input.new).bytes session.old.base session.old.text (O.state out.old) (O.state out.new)) }
+        EndsEarly script (I.state input.new).bytes session.old.base session.old.text
+        (O.state out.old) (O.state out.new)) }
 {
     match run_script(alloc, session, input, out) {
         Ok(Outcome::Clean) => Status::Done,

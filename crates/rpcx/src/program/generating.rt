@@ -1,36 +1,22 @@
 //! What `rpcgen` does, over a text that was read and sinks.
 
-ghost use Rattle.std.specs.Prelude.{◌≡◌, ◌≢◌, ◌⊎◌, true, false, not, ◌<◌, ◌==◌, ◌++◌, codes, [], Some, None, IsTrue, IfOk, OnOk, IfErr, IsErrOf, length, if◌then◌else◌};
+ghost use Rattle.std.specs.Prelude.{◌≡◌, ◌≢◌, ◌⊎◌, true, false, not, ◌<◌, codes, [], IsTrue, IfOk, OnOk, IfErr, IsErrOf, length, if◌then◌else◌};
 ghost use Rattle.std.specs.Io.KnownBytes.{Appends};
 ghost use Rattle.x_text.specs.Writing.{Adds};
 ghost use Rattle.x_text.specs.declared.source.TheConstants.{MAX_TEXT};
 ghost use Rattle.rpcx.specs.Generate.{base_of, told_fault, told_faults, Grows, IsTold, NotOpened};
 ghost use Rattle.rpcx.specs.Session.{Compiles};
 ghost use Rattle.rpcx.specs.Compile.{definitions_of, faults_of};
-ghost use Rattle.rpcx.specs.Listings.{are_constants};
-ghost use Rattle.rpcx.specs.Texts.{text_of};
+ghost use Rattle.rpcx.specs.Definitions.{are_constants};
+ghost use Rattle.rpcx.specs.Header.{text_of};
 
 use crate::program::base::base_of_file;
 use crate::program::complaint::{complain, tell_of_file, tell_unopened};
-use crate::program::generating_args::GenArgs;
 use crate::program::status::Status;
 use crate::script::add_place;
 use crate::{Fault, GeneratedText, Session};
 use std::alloc::Global;
 use x_text::{Pen, Sink};
-
-/// The text that a command line asks for: exactly one letter tells it.
-pub fn gen_mode<E: Sink>(args: &GenArgs, err: &mut E) -> Option<GeneratedText>
-    ensures mode { result ≡ (if args.now.header then Some GeneratedText.Header else None) }
-    ensures told { result ≡ None → IsTold (E.state err.old) (E.state err.new) (codes "rpcgen: exactly one of -c, -h, -l, -t\n") }
-    ensures quiet { result ≢ None → err.new ≡ err.old }
-{
-    if args.header {
-        return Some(GeneratedText::Header);
-    }
-    complain("rpcgen: exactly one of -c, -h, -l, -t\n", err);
-    None
-}
 
 /// Opens the text of a file for a run, or tells what is wrong with it and answers the status: `Faulty` where the text has faults,
 /// which are written one a line, and `Failed` where it is too large, has a definition of which nothing is generated yet, or memory
@@ -44,11 +30,14 @@ pub fn gen_open<E: Sink>(
     ensures base { IfOk result (λ s. s.base ≡ base_of file.now) }
     ensures text { IfOk result (λ s. s.text ≡ bytes.now) }
     ensures clean { OnOk result (Compiles bytes.now (λ items. faults_of bytes.now items ≡ [])) }
-    ensures constants { OnOk result (Compiles bytes.now (λ items. are_constants (definitions_of items) ≡ true)) }
-    ensures faulty { IsErrOf result Status.Faulty → Compiles bytes.now (λ items. (0 < length (faults_of bytes.now items))
+    ensures constants { OnOk result
+        (Compiles bytes.now (λ items. are_constants (definitions_of items) ≡ true)) }
+    ensures faulty { IsErrOf result Status.Faulty
+        → Compiles bytes.now (λ items. (0 < length (faults_of bytes.now items))
         × IsTold (E.state err.old) (E.state err.new) (told_faults file.now (faults_of bytes.now items))) }
     ensures too_large { MAX_TEXT < length bytes.now → IsErrOf result Status.Failed }
-    ensures failed { IsErrOf result Status.Failed → NotOpened file.now bytes.now (E.state err.old) (E.state err.new) }
+    ensures failed { IsErrOf result Status.Failed
+        → NotOpened file.now bytes.now (E.state err.old) (E.state err.new) }
     ensures others { IfErr result (λ status. (status ≡ Status.Faulty) ⊎ (status ≡ Status.Failed)) }
     ensures quiet { OnOk result (err.new ≡ err.old) }
 {
@@ -96,8 +85,13 @@ fn add_fault<E: Sink>(file: &str, fault: &Fault, pen: &mut Pen, err: &mut E)
 
 /// Writes a generated text and flushes the output, and answers whether it took all.
 fn is_written<O: Sink>(which: GeneratedText, session: &Session, out: &mut O) -> bool
-    ensures written { IsTrue result → Compiles session.now.text (λ items. Appends (O.state out.old).bytes (O.state out.new).bytes (text_of which session.now.base items)) }
-    ensures front { result ≡ false → Compiles session.now.text (λ items. Grows (O.state out.old) (O.state out.new) (text_of which session.now.base items)) }
+    ensures written { IsTrue result
+        → Compiles session.now.text
+        (λ items. Appends (O.state out.old).bytes (O.state out.new).bytes
+        (text_of which session.now.base items)) }
+    ensures front { result ≡ false
+        → Compiles session.now.text
+        (λ items. Grows (O.state out.old) (O.state out.new) (text_of which session.now.base items)) }
     ensures working { result ≡ not (O.state out.new).failed }
 {
     if session.write_text(which, out).is_err() {
@@ -113,10 +107,16 @@ pub fn gen_write<O: Sink, E: Sink>(
     out: &mut O,
     err: &mut E,
 ) -> Status
-    ensures written { result ≡ Status.Done → Compiles session.now.text (λ items. Appends (O.state out.old).bytes (O.state out.new).bytes (text_of which session.now.base items)) }
-    ensures front { result ≢ Status.Done → Compiles session.now.text (λ items. Grows (O.state out.old) (O.state out.new) (text_of which session.now.base items)) }
+    ensures written { result ≡ Status.Done
+        → Compiles session.now.text
+        (λ items. Appends (O.state out.old).bytes (O.state out.new).bytes
+        (text_of which session.now.base items)) }
+    ensures front { result ≢ Status.Done
+        → Compiles session.now.text
+        (λ items. Grows (O.state out.old) (O.state out.new) (text_of which session.now.base items)) }
     ensures status { result ≡ (if (O.state out.new).failed then Status.Failed else Status.Done) }
-    ensures told { result ≢ Status.Done → IsTold (E.state err.old) (E.state err.new) (codes "rpcgen: output cannot be written\n") }
+    ensures told { result ≢ Status.Done
+        → IsTold (E.state err.old) (E.state err.new) (codes "rpcgen: output cannot be written\n") }
     ensures quiet { result ≡ Status.Done → err.new ≡ err.old }
 {
     if is_written(which, session, out) {

@@ -1,13 +1,17 @@
-//! The command line of `rpcgen`.
+//! The command line of `rpcgen`, and the text that it asks for.
 
-ghost use Rattle.std.specs.Prelude.{◌≡◌, IfOk, codes, map};
+ghost use Rattle.std.specs.Prelude.{◌≡◌, ◌≢◌, None, Some, IfOk, codes, map, if◌then◌else◌};
 ghost use Rattle.clap.specs.Words.{FailsBy, app_of, fault_of, found_of, matches_of, rows_of};
+ghost use Rattle.rpcx.specs.Generate.{IsTold};
 ghost use Rattle.rpcx.specs.Args.{AlwaysHas, IsGenArgs, gen_app, is_in_words};
 
+use crate::GeneratedText;
+use crate::program::complaint::complain;
 use clap::parser::ValueSource;
 use clap::{Arg, ArgAction, ArgMatches, Command, Error};
 use std::alloc::{AllocError, Global};
 use std::convert::AsStr;
+use x_text::Sink;
 
 /// What a command line of `rpcgen` asks for.
 #[derive(Clone, Copy, Debug, PartialEq, Eq)]
@@ -60,4 +64,18 @@ fn gen_command<'a>(alloc: Global) -> Result<Command<'a>, AllocError>
         .arg(header)?
         .arg(output)?
         .arg(file)
+}
+
+/// The text that a command line asks for: exactly one letter tells it.
+pub fn gen_mode<E: Sink>(args: &GenArgs, err: &mut E) -> Option<GeneratedText>
+    ensures mode { result ≡ (if args.now.header then Some GeneratedText.Header else None) }
+    ensures told { result ≡ None
+        → IsTold (E.state err.old) (E.state err.new) (codes "rpcgen: exactly one of -c, -h, -l, -t\n") }
+    ensures quiet { result ≢ None → err.new ≡ err.old }
+{
+    if args.header {
+        return Some(GeneratedText::Header);
+    }
+    complain("rpcgen: exactly one of -c, -h, -l, -t\n", err);
+    None
 }

@@ -58,7 +58,8 @@ impl ByteQueue {
 
     /// Reads a piece, and answers how many bytes came: none only at the tap's end.
     pub(crate) fn read<R: Tap>(&mut self, tap: &mut R) -> Result<usize, LineFault>
-        ensures come { IfOk result (HasCome self.old self.new (R.state tap.old).bytes (R.state tap.new).bytes) }
+        ensures come { IfOk result
+            (HasCome self.old self.new (R.state tap.old).bytes (R.state tap.new).bytes) }
         ensures kept { OnErr result (self.new ≡ self.old) }
         ensures none_lost { OnErr result (Keeps (R.state tap.old).bytes (R.state tap.new).bytes) }
         ensures failed { FailsBy result (R.state tap.old).failed (R.state tap.new).failed }

@@ -103,7 +103,8 @@ fn parse_edit(alloc: Global, words: &[u8]) -> Result<Command, NoMemory>
 
 /// The bytes before the first space, and those behind it, if there is one.
 fn split_word(line: &[u8]) -> Option<(&[u8], &[u8])>
-    ensures { MatchOption result (words_of line.now ≡ line.now ∷ []) (λ p. words_of line.now ≡ p.0.now ∷ words_of p.1.now) }
+    ensures { MatchOption result (words_of line.now ≡ line.now ∷ [])
+        (λ p. words_of line.now ≡ p.0.now ∷ words_of p.1.now) }
 {
     let space = memchr(b' ', line)?;
     Some((&line[..space], &line[space + 1..]))

@@ -68,7 +68,11 @@ impl Model for LineReader {
 
     ghost Value = { Reading };
 
-    ghost view = { λ r. record { line = take r.line r.queue; bytes = drop r.given r.queue; state = r.state } };
+    ghost view = { λ r. record {
+      line = take r.line r.queue;
+      bytes = drop r.given r.queue;
+      state = r.state;
+    } };
 
     ghost invariant = { λ r. (r.line ≤ r.given) × (r.given ≤ length r.queue) × (r.line ≤ LONGEST) };
 }
@@ -170,7 +174,8 @@ pub(crate) enum LineEnd {
 /// Drops line feeds at the front, and finds where the line behind them ends; more bytes are read as they are needed.
 fn find_end<R: Tap>(queue: &mut ByteQueue, tap: &mut R) -> Result<LineEnd, LineFault>
     ensures come { HasSearched queue.old queue.new (R.state tap.old).bytes (R.state tap.new).bytes }
-    ensures found { MatchResult result (λ end. EndIs end queue.new (R.state tap.new).bytes) (λ _. HasNoFeed queue.new) }
+    ensures found { MatchResult result (λ end. EndIs end queue.new (R.state tap.new).bytes)
+        (λ _. HasNoFeed queue.new) }
     ensures failed { FailsBy result (R.state tap.old).failed (R.state tap.new).failed }
 {
     if let Some(len) = search(queue, 0) {

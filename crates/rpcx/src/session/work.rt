@@ -19,7 +19,12 @@ pub struct Work {
 impl Work {
     /// What a meter counted.
     pub(crate) fn of(meter: &Meter) -> Work
-        ensures { result ≡ record { lexed = meter.now.lexed; parsed = meter.now.parsed; checked = meter.now.checked; moved = meter.now.moved } }
+        ensures { result ≡ record {
+          lexed = meter.now.lexed;
+          parsed = meter.now.parsed;
+          checked = meter.now.checked;
+          moved = meter.now.moved;
+        } }
     {
         Work {
             lexed: meter.lexed(),
@@ -31,7 +36,12 @@ impl Work {
 
     /// This work and other work. Each count stays at the greatest number.
     pub(crate) fn with(self, other: &Work) -> Work
-        ensures { result ≡ record { lexed = raised self.lexed other.now.lexed; parsed = raised self.parsed other.now.parsed; checked = raised self.checked other.now.checked; moved = raised self.moved other.now.moved } }
+        ensures { result ≡ record {
+          lexed = raised self.lexed other.now.lexed;
+          parsed = raised self.parsed other.now.parsed;
+          checked = raised self.checked other.now.checked;
+          moved = raised self.moved other.now.moved;
+        } }
     {
         Work {
             lexed: self.lexed.saturating_add(other.lexed),

@@ -3,7 +3,7 @@ use Rattle.rpcx.specs.Session.{Compiles}
 use Rattle.rpcx.specs.Compile.{faults_of}
 use Rattle.rpcx.specs.declared.compile.fault.Fault.{Fault}
 use Rattle.rpcx.specs.Compile.{definitions_of}
-use Rattle.rpcx.specs.Listings.{are_constants}
+use Rattle.rpcx.specs.Definitions.{are_constants}
 use Rattle.rpcx.specs.Generate.{told_faults, IsTold, OtherDefinitions}
 use Rattle.rpcx.proofs.Compiled.{one_compilation}
 use Rattle.rpcx.proofs.Stopped.{not_opened}

@@ -3,8 +3,8 @@ use Rattle.x_text.specs.Writing.{Inked, Writes}
 use Rattle.x_text.proofs.Pens.{writes_none}
 use Rattle.rpcx.specs.Generate.{told_fault, told_faults}
 use Rattle.rpcx.specs.declared.compile.fault.Fault.{Fault}
-use Rattle.rpcx.specs.declared.compile.fault.FaultCode.TheVariants.{Rule}
-use Rattle.rpcx.specs.declared.compile.fault.RuleCode.TheVariants.{Range}
+use Rattle.rpcx.specs.declared.compile.fault.FaultCode.TheVariants.{Syntax}
+use Rattle.x_item.specs.declared.parsing.fault_code.FaultCode.TheVariants as codes
 use Rattle.rpcx.proofs.Grown.{told}
 use Rattle.rpcx.proofs.Listing.{HasListed, lists_none, lists_more, lists_all, drop_one, drop_none}
 use Rattle.rpcx.proofs.program.generating.tell_faults.Goals as goal
@@ -18,7 +18,7 @@ loop-fault-preserved g c =
     let mid = g.E.Sink.state c.loop-fault.err in
     let all = c.args.faults.now in
     let line = told_fault c.args.file.now in
-    let none : Fault = record { item = 0; token = 0; line = 0; col = 0; code = Rule Range } in
+    let none : Fault = record { item = 0; token = 0; line = 0; col = 0; code = Syntax codes.Syntax } in
     lists_more line all (drop (c.loop-fault.fault-index + 1) all) (get_or all c.loop-fault.fault-index none) c.new-pen.result c.loop-fault.pen c.add_fault.new.pen start mid (g.E.Sink.state c.add_fault.new.err)
     (subst (λ fs. HasListed Fault line all fs c.new-pen.result start c.loop-fault.pen mid) (drop_one all c.loop-fault.fault-index none c.loop-fault-test.true) c.loop-fault.invariant)
     c.add_fault.ensures

@@ -5,7 +5,8 @@ use Rattle.x_text.proofs.Pens.{adds_trans}
 use Rattle.x_item.specs.View.{view_definition}
 use Rattle.rpcx.specs.ItemView.{tree_at}
 use Rattle.rpcx.specs.Compile.{definitions_of}
-use Rattle.rpcx.specs.Listings.{numbered, definition_line}
+use Rattle.rpcx.specs.Definitions.{numbered}
+use Rattle.rpcx.specs.Answers.{definition_line}
 use Rattle.rpcx.specs.Answers.{counted_line, definitions_answer}
 use Rattle.rpcx.proofs.Compiled.{one_compilation}
 use Rattle.rpcx.proofs.DefinitionLemmas.{HasDefinitions, definitions_none, definitions_on, definitions_more, definitions_all}

@@ -5,8 +5,8 @@ use Rattle.x_text.proofs.Pens.{adds_trans}
 use Rattle.rpcx.specs.Compile.{faults_of}
 use Rattle.rpcx.specs.Answers.{counted_line, fault_line, faults_answer}
 use Rattle.rpcx.specs.declared.compile.fault.Fault.{Fault}
-use Rattle.rpcx.specs.declared.compile.fault.FaultCode.TheVariants.{Rule}
-use Rattle.rpcx.specs.declared.compile.fault.RuleCode.TheVariants.{Range}
+use Rattle.rpcx.specs.declared.compile.fault.FaultCode.TheVariants.{Syntax}
+use Rattle.x_item.specs.declared.parsing.fault_code.FaultCode.TheVariants as codes
 use Rattle.rpcx.proofs.Compiled.{one_compilation}
 use Rattle.rpcx.proofs.Listing.{HasListed, lists_more, lists_all, drop_one, drop_none}
 use Rattle.rpcx.proofs.script.answer.add_faults.Goals as goal
@@ -16,7 +16,7 @@ loop-fault-preserved g c =
     let start = g.S.Sink.state c.add_counted.new.sink in
     let mid = g.S.Sink.state c.loop-fault.sink in
     let all = c.faults-fault-items.result.now in
-    let none : Fault = record { item = 0; token = 0; line = 0; col = 0; code = Rule Range } in
+    let none : Fault = record { item = 0; token = 0; line = 0; col = 0; code = Syntax codes.Syntax } in
     lists_more fault_line all (drop (c.loop-fault.fault-index + 1) all) (get_or all c.loop-fault.fault-index none) c.add_counted.new.pen c.loop-fault.pen c.add_fault.new.pen start mid (g.S.Sink.state c.add_fault.new.sink)
     (subst (λ fs. HasListed Fault fault_line all fs c.add_counted.new.pen start c.loop-fault.pen mid) (drop_one all c.loop-fault.fault-index none c.loop-fault-test.true) c.loop-fault.invariant)
     c.add_fault.ensures

@@ -1,7 +1,7 @@
 use Rattle.std.proofs.Common.{◌≡◌, ◌++◌, length, codes, ap, subst, ◌∙◌}
 use Rattle.x_text.specs.Writing.{Adds}
 use Rattle.x_text.proofs.Pens.{adds_trans}
-use Rattle.rpcx.specs.Texts.{text_of}
+use Rattle.rpcx.specs.Header.{text_of}
 use Rattle.rpcx.specs.Answers.{counted_line, text_answer}
 use Rattle.rpcx.proofs.Compiled.{one_compilation}
 use Rattle.rpcx.proofs.script.answer.add_text.Goals as goal

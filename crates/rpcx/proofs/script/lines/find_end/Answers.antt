@@ -1,4 +1,5 @@
 use Rattle.std.proofs.Common.{◌∙◌, ◌<◌, length, subst}
+use Rattle.rpcx.specs.declared.script.lines.TheConstants.{LONGEST}
 use Rattle.rpcx.proofs.ReadingLemmas.{none_in_front}
 use Rattle.rpcx.proofs.SearchLemmas.{searched_more, searched_trimmed}
 use Rattle.rpcx.proofs.script.lines.find_end.Goals as goal
@@ -19,4 +20,4 @@ pieces-preserved g c = record {
 }
 
 pub returns-then-searched-gt-LONGEST-clause-found : goal.returns-then-searched-gt-LONGEST-clause-found
-returns-then-searched-gt-LONGEST-clause-found g c = (none_in_front c.pieces.queue c.pieces.invariant.no_feed, subst (λ l. 33600000 < length l) c.bytes-searched.ensures c.if-searched-gt-LONGEST.true)
+returns-then-searched-gt-LONGEST-clause-found g c = (none_in_front c.pieces.queue c.pieces.invariant.no_feed, subst (λ l. LONGEST < length l) c.bytes-searched.ensures c.if-searched-gt-LONGEST.true)

@@ -5,7 +5,7 @@ use Rattle.rpcx.specs.Session.{Compiles}
 use Rattle.rpcx.specs.Compile.{parts}
 use Rattle.rpcx.specs.Header.{header}
 use Rattle.rpcx.specs.declared.compile.header.TheConstants.{EPILOGUE}
-use Rattle.rpcx.specs.Texts.{text_of}
+use Rattle.rpcx.specs.Header.{text_of}
 use Rattle.rpcx.proofs.TextLemmas.{is_header}
 use Rattle.rpcx.proofs.Ends.{epilogue_is}
 use Rattle.rpcx.proofs.session.Session.text_length.Goals as goal

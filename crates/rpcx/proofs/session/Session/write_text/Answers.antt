@@ -1,7 +1,7 @@
 use Rattle.std.proofs.Common.{[], sym, subst}
 use Rattle.x_text.specs.Writing.{Inked, Writes}
 use Rattle.x_text.proofs.Pens.{writes_none}
-use Rattle.rpcx.specs.Texts.{text_of}
+use Rattle.rpcx.specs.Header.{text_of}
 use Rattle.rpcx.proofs.session.Session.write_text.Goals as goal
 
 pub returns : goal.returns
