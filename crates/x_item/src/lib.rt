@@ -12,7 +12,7 @@ mod trees;
 pub use cutting::cut::cut;
 pub use cutting::recut::recut;
 pub use cutting::{Entry, ItemPatch, Items};
-pub use laws::{one_cut, one_parse, one_recut, spell_law};
+pub use laws::{gloss_law, one_cut, one_parse, one_recut, spell_law};
 pub use mark::Mark;
 pub use names::declares::declares;
 pub use names::mentions::mentions;
