@@ -3,7 +3,8 @@
 ghost use Rattle.std.specs.Prelude.{ℕ, [], ◌∷◌, map, IfOk, IfErr};
 ghost use Rattle.x_item.specs.Words.{Fixed};
 ghost use Rattle.x_item.specs.View.{view_value};
-ghost use Rattle.x_item.specs.Spell.{spell_value, spell_cases, HasOne};
+ghost use Rattle.x_item.specs.Gloss.{spell_value};
+ghost use Rattle.x_item.specs.Spell.{spell_cases, HasOne};
 ghost use Rattle.x_item.specs.Symbols.{Token as OfMark, AnyValue, Declared, AfterCase};
 ghost use Rattle.x_item.specs.Reading.{IsRead, Fails};
 

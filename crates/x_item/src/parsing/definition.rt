@@ -3,7 +3,8 @@
 ghost use Rattle.std.specs.Prelude.{[], ◌∷◌, IfOk, IfErr};
 ghost use Rattle.x_item.specs.Words.{Fixed};
 ghost use Rattle.x_item.specs.View.{view_definition};
-ghost use Rattle.x_item.specs.Spell.{spell, tag_mark, KeepsLimits};
+ghost use Rattle.x_item.specs.Gloss.{tag_mark};
+ghost use Rattle.x_item.specs.Spell.{spell, KeepsLimits};
 ghost use Rattle.x_item.specs.Symbols.{Item, of_constant, of_new_type, of_program};
 ghost use Rattle.x_item.specs.Reading.{IsRead, Fails};
 

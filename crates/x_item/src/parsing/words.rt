@@ -2,8 +2,8 @@
 //! and gives back those after what it read.
 ghost use Rattle.std.specs.Prelude.{◌≡◌, ◌∷◌, [], IfOk, IfErr, IfSome, IfNone, ◌+◌, IsTrue, ◌↔◌};
 ghost use Rattle.x_lex.specs.Places.{lexeme};
+ghost use Rattle.x_item.specs.Gloss.{spell_value};
 ghost use Rattle.x_item.specs.Words.{Fixed, Name, Number, word_of, is_significant};
-ghost use Rattle.x_item.specs.Spell.{spell_value};
 ghost use Rattle.x_item.specs.View.{view_value};
 ghost use Rattle.x_item.specs.Symbols.{Symbol, Token as OfMark, AnyName, AnyNumber, AnyValue};
 ghost use Rattle.x_item.specs.Reading.{view_word, ahead, left_in, code_in, IsSplit, HasFirst, Fails, IsPart};

@@ -1,7 +1,8 @@
 use Rattle.std.proofs.Common.{rules, ◌≡◌, ◌+◌, ◌-◌, [], ◌∷◌, ap, sym, ◌∙◌, append_assoc}
 use Rattle.std.proofs.lemmas.Result.{IfOk-weaker}
 use Rattle.x_item.specs.Words.{Fixed}
-use Rattle.x_item.specs.Spell.{tag_mark, spell_body, spell_type, spell_named, TypeFits}
+use Rattle.x_item.specs.Gloss.{tag_mark}
+use Rattle.x_item.specs.Spell.{spell_body, spell_type, spell_named, TypeFits}
 use Rattle.x_item.specs.View.{view_type, view_shape, view_declaration}
 use Rattle.x_lex.specs.declared.mark.Mark.TheVariants as marks
 use Rattle.x_item.specs.declared.parsing.ending.Ending.TheVariants as endings
