@@ -7,7 +7,8 @@ use Rattle.x_text.specs.Writing.{Inked, Adds}
 use Rattle.x_lex.specs.declared.kind.Kind.{Kind}
 use Rattle.x_item.specs.Tree.{Definition}
 use Rattle.rpcx.specs.Compile.{Item, IsCompilation, definitions_of, definition_at}
-use Rattle.rpcx.specs.Listings.{numbered, definition_line}
+use Rattle.rpcx.specs.Definitions.{numbered}
+use Rattle.rpcx.specs.Answers.{definition_line}
 use Rattle.rpcx.specs.Session.{Compiles}
 use Rattle.rpcx.proofs.Compiled.{one_compilation}
 use Rattle.rpcx.proofs.Listing.{HasListed, lists_none, lists_more, lists_all, drop_none}

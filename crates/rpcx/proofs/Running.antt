@@ -5,30 +5,31 @@ use Rattle.std.specs.Io.KnownBytes.{Appends}
 use Rattle.x_text.specs.Streams.{Stream}
 use Rattle.x_text.specs.Writing.{Inked, Writes, Adds, counted}
 use Rattle.x_text.proofs.Pens.{writes_none, all_written, counted_all, front_written}
-use Rattle.rpcx.specs.Session.{Opened, Compiles}
+use Rattle.rpcx.specs.Session.{Document, LeavesText, Compiles}
 use Rattle.rpcx.specs.Answers.{Answer, line_answer}
 use Rattle.rpcx.specs.Lines.{Reading, IsUnread, script_lines}
 use Rattle.x_lex.specs.declared.kind.Kind.{Kind}
 use Rattle.rpcx.specs.Compile.{Item, IsCompilation}
-use Rattle.rpcx.specs.declared.lines.State.TheVariants.{Between}
+use Rattle.rpcx.specs.declared.script.lines.State.TheVariants.{Between}
 use Rattle.rpcx.specs.Script.{then_answer, AreAnswered, IsGiven, HasGiven, IsAsBefore, HasRun, HasStopped, HasFailed, IsFrontOf, Runs, Answers, is_refused, status_of, WorksOn, AddsIfFound, EndsEarly, IsUntouched}
+use Rattle.rpcx.specs.declared.program.status.Status.{Status}
 use Rattle.rpcx.specs.declared.script.Outcome.{Outcome}
 use Rattle.rpcx.specs.declared.script.EngineFault.{EngineFault}
 use Rattle.rpcx.proofs.Scripts.{answered_more}
 
 -- between two lines: the lines that were given are answered, and their answers are written
-pub record IsBetween (script : List ℕ) (old : Opened) (start : Stream) (session : Opened) (reader : Reading) (left : Option (List ℕ)) (refused : Bool) (pen : Inked) (now : Stream) : Type 0 where
+pub record IsBetween (script : List ℕ) (old : Document) (start : Stream) (session : Document) (reader : Reading) (left : Option (List ℕ)) (refused : Bool) (pen : Inked) (now : Stream) : Type 0 where
   pub given : List (List ℕ)
   pub all : Answer
   pub reads : HasGiven script reader left given
   pub answered : AreAnswered old.base old.text given all
-  pub session_is : session ≡ record old { text = all.text }
+  pub session_is : LeavesText old session all.text
   pub refused_is : refused ≡ all.refused
   pub writes : Writes start all.told pen now
   pub goes : pen.stopped ≡ false
   pub empty : pen.pending ≡ []
 
-pub at_start : (script : List ℕ) (old : Opened) (start : Stream) (reader : Reading) (left : Option (List ℕ)) (pen : Inked)
+pub at_start : (script : List ℕ) (old : Document) (start : Stream) (reader : Reading) (left : Option (List ℕ)) (pen : Inked)
     → left ≡ Some script → reader ≡ record { line = []; bytes = []; state = Between } → pen ≡ record { pending = []; written = 0; stopped = false }
     → IsBetween script old start old reader left false pen start
 at_start script old start reader left pen left_is reader_is pen_is = record {
@@ -45,7 +46,7 @@ at_start script old start reader left pen left_is reader_is pen_is = record {
     whole_are = λ goes next. refl;
   };
   answered = refl;
-  session_is = refl;
+  session_is = record { text_is = refl; base_is = refl };
   refused_is = refl;
   writes = subst (λ (p : Inked). Writes start [] p start) (sym pen_is) (writes_none start);
   goes = ap (λ (p : Inked). p.stopped) pen_is;
@@ -53,7 +54,7 @@ at_start script old start reader left pen left_is reader_is pen_is = record {
 }
 
 -- a line is answered behind the others, and its answer is passed on, or the sink has failed
-pub record IsBehind (script : List ℕ) (old : Opened) (start : Stream) (session : Opened) (reader : Reading) (left : Option (List ℕ)) (refused : Bool) (pen : Inked) (now : Stream) : Type 0 where
+pub record IsBehind (script : List ℕ) (old : Document) (start : Stream) (session : Document) (reader : Reading) (left : Option (List ℕ)) (refused : Bool) (pen : Inked) (now : Stream) : Type 0 where
   pub earlier : List (List ℕ)
   pub last : List ℕ
   pub all : Answer
@@ -62,7 +63,7 @@ pub record IsBehind (script : List ℕ) (old : Opened) (start : Stream) (session
   pub reads : HasGiven script reader left (earlier ++ last ∷ [])
   pub answered : AreAnswered old.base old.text earlier all
   pub compiled : IsCompilation all.text tokens items
-  pub session_is : session ≡ record old { text = (line_answer old.base all.text items last).text }
+  pub session_is : LeavesText old session (line_answer old.base all.text items last).text
   pub refused_is : refused ≡ (all.refused || (line_answer old.base all.text items last).refused)
   pub writes : Writes start (all.told ++ (line_answer old.base all.text items last).told) pen now
   pub whole : counted (length all.told) ≤ pen.written
@@ -70,7 +71,7 @@ pub record IsBehind (script : List ℕ) (old : Opened) (start : Stream) (session
 no_fewer_then : (a b c d : ℕ) → b ≡ a → b ≤ c → c ≤ d → a ≤ d
 no_fewer_then a b c d is first second = omega (arith, is, first, second)
 
-pub behind : (script : List ℕ) (old : Opened) (start : Stream) (session new : Opened) (reader reader' : Reading) (left left' : Option (List ℕ)) (refused refuses : Bool)
+pub behind : (script : List ℕ) (old : Document) (start : Stream) (session new : Document) (reader reader' : Reading) (left left' : Option (List ℕ)) (refused refuses : Bool)
     (p q r : Inked) (now now' now'' : Stream) → (h : IsBetween script old start session reader left refused p now)
     → ((line : List ℕ) × HasGiven script reader' left' (h.given ++ line ∷ []) × Compiles session.text (λ items. IsGiven (line_answer session.base session.text items line) session new refuses p now q now'))
     → Adds q now' r now'' []
@@ -78,8 +79,8 @@ pub behind : (script : List ℕ) (old : Opened) (start : Stream) (session new : 
 behind script old start session new reader reader' left left' refused refuses p q r now now' now'' h k flushed =
     let line = k.0 in
     let items = k.2.1 in
-    let text_is : session.text ≡ h.all.text = ap (λ s. s.text) h.session_is in
-    let base_is : session.base ≡ old.base = ap (λ s. s.base) h.session_is in
+    let text_is : session.text ≡ h.all.text = h.session_is.text_is in
+    let base_is : session.base ≡ old.base = h.session_is.base_is in
     let a = line_answer old.base h.all.text items line in
     let same : line_answer session.base session.text items line ≡ a = λ i. line_answer (base_is i) (text_is i) items line in
     let given : IsGiven a session new refuses p now q now' = subst (λ b. IsGiven b session new refuses p now q now') same k.2.3 in
@@ -93,13 +94,13 @@ behind script old start session new reader reader' left left' refused refuses p 
       reads = k.1;
       answered = h.answered;
       compiled = subst (λ t. IsCompilation t k.2.0 items) text_is k.2.2;
-      session_is = given.session_is ∙ (λ i. record (h.session_is i) { text = a.text });
+      session_is = record { text_is = given.session_is.text_is; base_is = given.session_is.base_is ∙ base_is };
       refused_is = λ i. h.refused_is i || given.refused_is i;
       writes = subst (λ t. Writes start t r now'') (append-nil (h.all.told ++ a.told)) told;
       whole = no_fewer_then (counted (length h.all.told)) p.written q.written r.written (counted_all p start now h.all.told h.goes h.empty h.writes) given.added.no_fewer flushed.no_fewer;
     }
 
-pub between : (script : List ℕ) (old : Opened) (start : Stream) (session : Opened) (reader : Reading) (left : Option (List ℕ)) (refused : Bool) (pen : Inked) (now : Stream)
+pub between : (script : List ℕ) (old : Document) (start : Stream) (session : Document) (reader : Reading) (left : Option (List ℕ)) (refused : Bool) (pen : Inked) (now : Stream)
     → IsBehind script old start session reader left refused pen now → pen.stopped ≡ false → pen.pending ≡ [] → IsBetween script old start session reader left refused pen now
 between script old start session reader left refused pen now h goes empty = record {
   given = h.earlier ++ h.last ∷ [];
@@ -114,7 +115,7 @@ between script old start session reader left refused pen now h goes empty = reco
 }
 
 -- the sink failed
-pub at_stop : (script : List ℕ) (old : Opened) (start : Stream) (session : Opened) (reader : Reading) (left : Option (List ℕ)) (refused : Bool) (pen : Inked) (now : Stream)
+pub at_stop : (script : List ℕ) (old : Document) (start : Stream) (session : Document) (reader : Reading) (left : Option (List ℕ)) (refused : Bool) (pen : Inked) (now : Stream)
     → IsBehind script old start session reader left refused pen now → pen.stopped ≡ true → IsFrontOf script (λ lines. HasFailed lines old session start now pen.written) × (now.failed ≡ true)
 at_stop script old start session reader left refused pen now h stops =
     let last = line_answer old.base h.all.text h.items h.last in
@@ -130,7 +131,7 @@ at_stop script old start session reader left refused pen now h stops =
     ((h.earlier ++ h.last ∷ [], script_lines (h.reads.unread ++ h.reads.later), h.reads.lines_are, fails), front.failed)
 
 -- all lines that were given are answered
-pub so_far : (script : List ℕ) (old : Opened) (start : Stream) (session : Opened) (reader : Reading) (left : Option (List ℕ)) (refused : Bool) (pen : Inked) (now : Stream)
+pub so_far : (script : List ℕ) (old : Document) (start : Stream) (session : Document) (reader : Reading) (left : Option (List ℕ)) (refused : Bool) (pen : Inked) (now : Stream)
     → (h : IsBetween script old start session reader left refused pen now) → HasRun h.given old session start now refused
 so_far script old start session reader left refused pen now h = record {
   all = h.all;
@@ -141,7 +142,7 @@ so_far script old start session reader left refused pen now h = record {
 }
 
 -- nothing more was done, so all lines that were given are still answered
-pub so_still : (script : List ℕ) (old : Opened) (start : Stream) (session new : Opened) (reader : Reading) (left : Option (List ℕ)) (refused : Bool) (p q : Inked) (now now' : Stream)
+pub so_still : (script : List ℕ) (old : Document) (start : Stream) (session new : Document) (reader : Reading) (left : Option (List ℕ)) (refused : Bool) (p q : Inked) (now now' : Stream)
     → (h : IsBetween script old start session reader left refused p now) → IsAsBefore session new p now q now' → HasRun h.given old new start now' refused
 so_still script old start session new reader left refused p q now now' h same =
     subst (λ s. HasRun h.given old s start now' refused) (sym same.session_same)
@@ -152,7 +153,7 @@ match_some None P h = tt
 match_some (Some x) P h = h x refl
 
 -- a fault that is not the sink's
-pub at_fault : (script : List ℕ) (old : Opened) (start : Stream) (session new : Opened) (reader : Reading) (left : Option (List ℕ)) (refused : Bool) (p q : Inked) (now now' : Stream)
+pub at_fault : (script : List ℕ) (old : Document) (start : Stream) (session new : Document) (reader : Reading) (left : Option (List ℕ)) (refused : Bool) (p q : Inked) (now now' : Stream)
     (written : ℕ) → (h : IsBetween script old start session reader left refused p now) → IsAsBefore session new p now q now' → written ≡ q.written → HasStopped h.given old new start now' written
 at_fault script old start session new reader left refused p q now now' written h same is = record {
   refused = refused;
@@ -161,23 +162,23 @@ at_fault script old start session new reader left refused p q now now' written h
     answered = h.answered;
     refused_is = h.refused_is;
     written = subst (λ (n : Stream). Appends start.bytes n.bytes h.all.told) (sym same.sink_same) (all_written p start now h.all.told h.goes h.empty h.writes);
-    session_is = same.session_same ∙ h.session_is;
+    session_is = subst (λ s. LeavesText old s h.all.text) (sym same.session_same) h.session_is;
   };
   written_is = is ∙ ap (λ (p : Inked). p.written) same.pen_same ∙ counted_all p start now h.all.told h.goes h.empty h.writes;
 }
 
 one_status : (a b : Bool) → status_of a ≡ status_of b → a ≡ b
 one_status true true e = refl
-one_status true false e = absurd (omega (arith, e))
-one_status false true e = absurd (omega (arith, e))
+one_status true false e = absurd (cc)
+one_status false true e = absurd (cc)
 one_status false false e = refl
 
 -- a run without a fault answers its script
-pub answers_all : (tap : Option (List ℕ)) (left : Option (List ℕ)) (old new : Opened) (before after : Stream) (outcome : Outcome) (status : ℕ) → status ≡ status_of (is_refused outcome)
+pub answers_all : (tap : Option (List ℕ)) (left : Option (List ℕ)) (old new : Document) (before after : Stream) (outcome : Outcome) (status : Status) → status ≡ status_of (is_refused outcome)
     → MatchOption tap (Unit {0}) (λ script. Runs script left old new before after (Ok outcome)) → MatchOption tap (Unit {0}) (λ script. Answers script old.base old.text before after status)
 answers_all None left old new before after outcome status is run = tt
 answers_all (Some script) left old new before after outcome status is run =
-    λ refused e. (new, subst (λ r. HasRun (script_lines script) old new before after r) (one_status (is_refused outcome) refused (sym is ∙ e)) run)
+    λ refused e. (old, new, record { base_is = refl; text_is = refl }, subst (λ r. HasRun (script_lines script) old new before after r) (one_status (is_refused outcome) refused (sym is ∙ e)) run)
 
 -- ---- what failed
 
@@ -222,10 +223,10 @@ pub added_some : {S : Type 0} (found : Option Bool) (refused : Bool) (s s' : S) 
 added_some found refused s s' Added is h = subst (λ f. AddsIfFound (Ok f) s s' Added) is h
 
 -- what a run says where a fault ended it
-pub ends_early : (at left : Option (List ℕ)) (old new : Opened) (before after : Stream) (fault : EngineFault) → MatchOption at (Unit {0}) (λ script. Runs script left old new before after (Err fault))
+pub ends_early : (at left : Option (List ℕ)) (old new : Document) (before after : Stream) (fault : EngineFault) → MatchOption at (Unit {0}) (λ script. Runs script left old new before after (Err fault))
     → MatchOption at (Unit {0}) (λ script. EndsEarly script left old.base old.text before after)
 ends_early None left old new before after fault h = h
-ends_early (Some script) left old new before after fault h = (fault, new, h)
+ends_early (Some script) left old new before after fault h = (fault, old, new, record { base_is = refl; text_is = refl }, h)
 
 -- a run that was not begun
 pub not_begun : (at : Option (List ℕ)) (base text : List ℕ) (contents : Stream)

@@ -4,13 +4,13 @@ use Rattle.std.specs.List.{after_last, flat_map}
 use Rattle.std.specs.Io.KnownBytes.{Appends}
 use Rattle.std.specs.Str.{bytes_eq}
 use Rattle.x_text.specs.Streams.{Stream}
-use Rattle.rpcx.specs.declared.fault.Fault.{Fault}
+use Rattle.rpcx.specs.declared.compile.fault.Fault.{Fault}
 use Rattle.rpcx.specs.Faults.{fault_text}
 use Rattle.rpcx.specs.declared.script.EngineFault.{EngineFault}
 use Rattle.rpcx.specs.declared.script.EngineFault.TheVariants.{Read, Write, NoMemory}
 use Rattle.rpcx.specs.Answers.{fault_place}
 use Rattle.rpcx.specs.Compile.{definitions_of, faults_of}
-use Rattle.rpcx.specs.Listings.{are_constants}
+use Rattle.rpcx.specs.Definitions.{are_constants}
 use Rattle.rpcx.specs.Session.{Compiles}
 use Rattle.x_text.specs.declared.fault.TextFault.{TextFault}
 use Rattle.x_text.specs.declared.fault.TextFault.TheVariants as faults
@@ -40,10 +40,14 @@ told_fault file f = file ++ codes ":" ++ fault_place f ++ codes ": " ++ fault_te
 abbrev pub told_faults : List ℕ → List Fault → List ℕ
 told_faults file fs = flat_map (told_fault file) fs
 
+-- `PROGRAM: WHAT`
+abbrev pub told_of : List ℕ → List ℕ → List ℕ
+told_of program what = program ++ codes ": " ++ what ++ codes "\n"
+
 -- why a file's text is not opened, as a program tells it
 abbrev pub unopened_told : List ℕ → List ℕ → TextFault → List ℕ
 unopened_told program file faults.TooLarge = program ++ codes ": " ++ file ++ codes ": 2 TooLarge\n"
-unopened_told program file fault = program ++ codes ": " ++ codes "out of memory" ++ codes "\n"
+unopened_told program file fault = told_of program (codes "out of memory")
 
 -- Why `rpcgen` opens no session of a file's text that it can read, as it tells it: the text is too large, or it has no fault and another definition than
 -- constants, or memory ran out. A text with faults has them told.

@@ -1,12 +1,13 @@
 pub mod Collected
 pub mod Cutting
+pub mod FaultTexts
+pub mod Gloss
 pub mod ItemList
 pub mod Items
 pub mod Mentions
 pub mod Named
 pub mod Names
 pub mod Parse
-pub mod Parsed
 pub mod Reading
 pub mod Recut
 pub mod Spell

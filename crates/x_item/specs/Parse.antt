@@ -6,6 +6,9 @@ use Rattle.x_lex.specs.declared.kind.Kind.TheVariants as kinds
 use Rattle.x_item.specs.Words.{word_of, words_of, is_significant}
 use Rattle.x_item.specs.Tree.{Definition}
 use Rattle.x_item.specs.Spell.{spell, KeepsLimits, Begins}
+use Rattle.x_item.specs.View.{view_definition}
+use Rattle.x_item.specs.declared.parsing.parse_item.Parsed.{Parsed}
+use Rattle.x_item.specs.declared.parsing.parse_item.Parsed.TheVariants as parsed
 use Rattle.x_item.specs.declared.parsing.fault_code.FaultCode.{FaultCode}
 use Rattle.x_item.specs.declared.parsing.fault_code.FaultCode.TheVariants as codes
 
@@ -57,3 +60,9 @@ abbrev pub IsParse : List Lexeme → Parse → Type 0
 IsParse item Nothing = words_of item ≡ []
 IsParse item (Def d) = KeepsLimits d × (spell d ≡ words_of item)
 IsParse item (Fault at code) = IsStuck item at code ⊎ IsUnfinished item at code
+
+-- what the program says that an item is
+abbrev pub view_parsed : Parsed → Parse
+view_parsed parsed.Nothing = Nothing
+view_parsed (parsed.Def d) = Def (view_definition d)
+view_parsed (parsed.Fault token code) = Fault token code

@@ -1,158 +1,81 @@
--- The words that a definition is written as: RFC 4506, section 6.3, and for programs RFC 5531, section 12.
--- Beyond them stand `unsigned` alone, `long`, a keyword and a name as a type, `string` as an argument or a result,
--- a name as the value of a constant, and an enumerator without a value.
-use Rattle.std.specs.Prelude.{◌≡◌, ℕ, zero, suc, List, [], ◌∷◌, ◌++◌, Option, Some, None}
+-- The words that a definition is written as, and what no definition may go over.
+use Rattle.std.specs.Prelude.{◌≡◌, ℕ, zero, suc, List, [], ◌∷◌, ◌++◌, false, Option, Some, None}
 use Rattle.x_item.specs.Tree as tree
-use Rattle.x_item.specs.Words.{Word, Fixed, Name, Number}
-use Rattle.x_item.specs.declared.mark.Mark.{Mark}
-use Rattle.x_item.specs.declared.mark.Mark.TheVariants as marks
+use Rattle.x_item.specs.Words.{Word}
+use Rattle.x_item.specs.Gloss as by
 use Rattle.x_item.specs.declared.trees.declaration.Basic.{Basic}
-use Rattle.x_item.specs.declared.trees.declaration.Basic.TheVariants as basics
-use Rattle.x_item.specs.declared.trees.declaration.Tag.{Tag}
-use Rattle.x_item.specs.declared.trees.declaration.Tag.TheVariants as tags
 
--- value: NUMBER | NAME
-abbrev pub spell_value : tree.Value → Word
-spell_value (tree.Number t) = Number t
-spell_value (tree.Named t) = Name t
+-- the words of a definition
+abbrev pub spell : tree.Definition → List Word
+spell d = by.definition_by by.worded false d
 
--- [value]
+-- The words of its parts, which private contracts cite.
+
 abbrev pub spell_most : Option tree.Value → List Word
-spell_most None = []
-spell_most (Some v) = spell_value v ∷ []
+spell_most v = by.most_by by.worded false v
 
--- "[" value "]" | "<" [value] ">"
 abbrev pub spell_length : tree.Length → List Word
-spell_length (tree.Fixed v) = Fixed marks.OpenBracket ∷ spell_value v ∷ Fixed marks.CloseBracket ∷ []
-spell_length (tree.Variable v) = Fixed marks.Less ∷ (spell_most v ++ Fixed marks.Greater ∷ [])
+spell_length l = by.length_by by.worded false l
 
--- a declaration's name, with what stands around it
 abbrev pub spell_named : List ℕ → tree.Shape → List Word
-spell_named name tree.Plain = Name name ∷ []
-spell_named name tree.Optional = Fixed marks.Star ∷ Name name ∷ []
-spell_named name (tree.Array length) = Name name ∷ spell_length length
+spell_named name shape = by.named_by by.worded false [] name shape
 
 abbrev pub spell_basic : Basic → List Word
-spell_basic basics.Int = Fixed marks.Int ∷ []
-spell_basic basics.UnsignedInt = Fixed marks.Unsigned ∷ Fixed marks.Int ∷ []
-spell_basic basics.Long = Fixed marks.Long ∷ []
-spell_basic basics.UnsignedLong = Fixed marks.Unsigned ∷ Fixed marks.Long ∷ []
-spell_basic basics.Hyper = Fixed marks.Hyper ∷ []
-spell_basic basics.UnsignedHyper = Fixed marks.Unsigned ∷ Fixed marks.Hyper ∷ []
-spell_basic basics.Unsigned = Fixed marks.Unsigned ∷ []
-spell_basic basics.Float = Fixed marks.Float ∷ []
-spell_basic basics.Double = Fixed marks.Double ∷ []
-spell_basic basics.Quadruple = Fixed marks.Quadruple ∷ []
-spell_basic basics.Bool = Fixed marks.Bool ∷ []
+spell_basic b = by.marks_by by.worded [] (by.basic_marks b)
 
-abbrev pub tag_mark : Tag → Mark
-tag_mark tags.Enum = marks.Enum
-tag_mark tags.Struct = marks.Struct
-tag_mark tags.Union = marks.Union
-
--- the keyword of a body
-abbrev pub body_mark : tree.Body → Mark
-body_mark (tree.Enum es) = marks.Enum
-body_mark (tree.Struct ds) = marks.Struct
-body_mark (tree.Union d arms other) = marks.Union
-
--- ["=" value]
 abbrev pub spell_given : Option tree.Value → List Word
-spell_given None = []
-spell_given (Some v) = Fixed marks.Equals ∷ spell_value v ∷ []
+spell_given v = by.given_by by.worded false v
 
--- NAME ["=" value]
 abbrev pub spell_enumerator : tree.Enumerator → List Word
-spell_enumerator e = Name e.name ∷ spell_given e.value
+spell_enumerator e = by.enumerator_by by.worded false e
 
--- ("," NAME ["=" value])*
 abbrev pub spell_other_enumerators : List tree.Enumerator → List Word
-spell_other_enumerators [] = []
-spell_other_enumerators (e ∷ es) = Fixed marks.Comma ∷ (spell_enumerator e ++ spell_other_enumerators es)
+spell_other_enumerators es = by.other_enumerators_by by.worded false es
 
--- NAME ["=" value] ("," NAME ["=" value])*
 abbrev pub spell_enumerators : List tree.Enumerator → List Word
-spell_enumerators [] = []
-spell_enumerators (e ∷ es) = spell_enumerator e ++ spell_other_enumerators es
+spell_enumerators es = by.enumerators_by by.worded false es
 
--- "case" value ":" ("case" value ":")*
 abbrev pub spell_cases : List tree.Value → List Word
-spell_cases [] = []
-spell_cases (v ∷ vs) = Fixed marks.Case ∷ spell_value v ∷ Fixed marks.Colon ∷ spell_cases vs
+spell_cases vs = by.cases_by by.worded false vs
 
-abbrev mutual
-  pub spell_type : tree.DataType → List Word
-  spell_type (tree.Simple b) = spell_basic b
-  spell_type (tree.Name t) = Name t ∷ []
-  spell_type (tree.Tagged tag t) = Fixed (tag_mark tag) ∷ Name t ∷ []
-  spell_type (tree.Inline body) = Fixed (body_mark body) ∷ spell_body body
+abbrev pub spell_type : tree.DataType → List Word
+spell_type type = by.type_by by.worded [] None None type
 
-  pub spell_body : tree.Body → List Word
-  spell_body (tree.Enum es) = Fixed marks.OpenBrace ∷ (spell_enumerators es ++ Fixed marks.CloseBrace ∷ [])
-  spell_body (tree.Struct ds) = Fixed marks.OpenBrace ∷ (spell_declarations ds ++ Fixed marks.CloseBrace ∷ [])
-  spell_body (tree.Union d arms other) =
-      Fixed marks.Switch ∷ Fixed marks.OpenParenthesis ∷ (spell_declaration d ++ Fixed marks.CloseParenthesis ∷ Fixed marks.OpenBrace ∷ (spell_arms arms ++ spell_default other))
+abbrev pub spell_body : tree.Body → List Word
+spell_body body = by.body_by by.worded None body
 
-  pub spell_declaration : tree.Declaration → List Word
-  spell_declaration tree.Void = Fixed marks.Void ∷ []
-  spell_declaration (tree.Of type name shape) = spell_type type ++ spell_named name shape
-  spell_declaration (tree.Opaque name length) = Fixed marks.Opaque ∷ Name name ∷ spell_length length
-  spell_declaration (tree.String name most) = Fixed marks.String ∷ Name name ∷ spell_length (tree.Variable most)
+abbrev pub spell_declaration : tree.Declaration → List Word
+spell_declaration d = by.declaration_by by.worded None d
 
-  -- (declaration ";")*
-  pub spell_declarations : tree.Declarations → List Word
-  spell_declarations tree.none = []
-  spell_declarations (tree.more d ds) = spell_declaration d ++ Fixed marks.Semicolon ∷ spell_declarations ds
+abbrev pub spell_declarations : tree.Declarations → List Word
+spell_declarations ds = by.declarations_by by.worded None ds
 
-  pub spell_arms : tree.Arms → List Word
-  spell_arms tree.no_arm = []
-  spell_arms (tree.arm cases d rest) = spell_cases cases ++ (spell_declaration d ++ Fixed marks.Semicolon ∷ spell_arms rest)
+abbrev pub spell_arms : tree.Arms → List Word
+spell_arms arms = by.arms_by by.worded None arms
 
-  -- ["default" ":" declaration ";"] "}"
-  pub spell_default : tree.Default → List Word
-  spell_default tree.no_default = Fixed marks.CloseBrace ∷ []
-  spell_default (tree.default d) = Fixed marks.Default ∷ Fixed marks.Colon ∷ (spell_declaration d ++ Fixed marks.Semicolon ∷ Fixed marks.CloseBrace ∷ [])
+abbrev pub spell_default : tree.Default → List Word
+spell_default other = by.default_by by.worded None other
 
--- arg: type | "string"
 abbrev pub spell_argument : tree.Argument → List Word
-spell_argument tree.Text = Fixed marks.String ∷ []
-spell_argument (tree.Typed type) = spell_type type
+spell_argument a = by.argument_by by.worded false a
 
--- "void" | arg
 abbrev pub spell_passed : Option tree.Argument → List Word
-spell_passed None = Fixed marks.Void ∷ []
-spell_passed (Some a) = spell_argument a
+spell_passed a = by.passed_by by.worded false [] a
 
--- ("," arg)*
 abbrev pub spell_others : List tree.Argument → List Word
-spell_others [] = []
-spell_others (a ∷ rest) = Fixed marks.Comma ∷ (spell_argument a ++ spell_others rest)
+spell_others rest = by.others_by by.worded false rest
 
--- result NAME "(" first ("," arg)* ")" "=" NUMBER ";"
 abbrev pub spell_procedure : tree.Procedure → List Word
-spell_procedure p =
-    spell_passed p.result ++ Name p.name ∷ Fixed marks.OpenParenthesis ∷ ((spell_passed p.first ++ spell_others p.others) ++ Fixed marks.CloseParenthesis ∷ Fixed marks.Equals ∷ Number p.number ∷ Fixed marks.Semicolon ∷ [])
+spell_procedure p = by.procedure_by by.worded false p
 
 abbrev pub spell_procedures : List tree.Procedure → List Word
-spell_procedures [] = []
-spell_procedures (p ∷ ps) = spell_procedure p ++ spell_procedures ps
+spell_procedures ps = by.procedures_by by.worded false ps
 
--- "version" NAME "{" procedure (procedure)* "}" "=" NUMBER ";"
 abbrev pub spell_version : tree.Version → List Word
-spell_version v =
-    Fixed marks.Version ∷ Name v.name ∷ Fixed marks.OpenBrace ∷ (spell_procedures v.procedures ++ Fixed marks.CloseBrace ∷ Fixed marks.Equals ∷ Number v.number ∷ Fixed marks.Semicolon ∷ [])
+spell_version v = by.version_by by.worded false v
 
 abbrev pub spell_versions : List tree.Version → List Word
-spell_versions [] = []
-spell_versions (v ∷ vs) = spell_version v ++ spell_versions vs
-
-abbrev pub spell : tree.Definition → List Word
-spell (tree.Const name value) =
-    Fixed marks.Const ∷ Name name ∷ Fixed marks.Equals ∷ spell_value value ∷ Fixed marks.Semicolon ∷ []
-spell (tree.Typedef d) = Fixed marks.Typedef ∷ (spell_declaration d ++ Fixed marks.Semicolon ∷ [])
-spell (tree.NewType name body) = Fixed (body_mark body) ∷ Name name ∷ (spell_body body ++ Fixed marks.Semicolon ∷ [])
-spell (tree.Program name versions number) =
-    Fixed marks.Program ∷ Name name ∷ Fixed marks.OpenBrace ∷ (spell_versions versions ++ Fixed marks.CloseBrace ∷ Fixed marks.Equals ∷ Number number ∷ Fixed marks.Semicolon ∷ [])
+spell_versions vs = by.versions_by by.worded false vs
 
 -- the list has an element
 abbrev pub HasOne : {A : Type 0} → List A → Type 0

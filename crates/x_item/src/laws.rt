@@ -1,4 +1,4 @@
-ghost use Rattle.std.specs.Prelude.{◌≡◌, ℕ, List};
+ghost use Rattle.std.specs.Prelude.{◌≡◌, ℕ, List, map};
 ghost use Rattle.x_text.specs.Edits.{Change};
 ghost use Rattle.x_lex.specs.declared.kind.Kind.{Kind};
 ghost use Rattle.x_lex.specs.Places.{Lexeme};
@@ -8,6 +8,7 @@ ghost use Rattle.x_item.specs.declared.cutting.entry.Entry.{Entry};
 ghost use Rattle.x_item.specs.Items.{IsCut};
 ghost use Rattle.x_item.specs.ItemList.{ItemChange, counts};
 ghost use Rattle.x_item.specs.Recut.{IsRelexed, IsItemPatch, AreOne};
+ghost use Rattle.x_item.specs.Gloss.{gloss};
 ghost use Rattle.x_item.specs.Spell.{spell, KeepsLimits};
 ghost use Rattle.x_item.specs.Parse.{Parse, IsParse};
 
@@ -15,6 +16,11 @@ ghost use Rattle.x_item.specs.Parse.{Parse, IsParse};
 /// inline bodies stand inside one another.
 pub fn spell_law()
     ensures { (d e : Definition) → KeepsLimits d → KeepsLimits e → spell d ≡ spell e → d ≡ e }
+{}
+
+/// The words of a definition's gloss are its spelling.
+pub fn gloss_law()
+    ensures { (d : Definition) → map (λ g. g.word) (gloss d) ≡ spell d }
 {}
 
 /// An item has one parse.

@@ -4,5 +4,6 @@ pub mod Word
 pub mod Scan
 pub mod Tiling
 pub mod Places
+pub mod Marks
 pub mod TokenList
 pub mod Relex

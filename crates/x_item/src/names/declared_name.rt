@@ -1,6 +1,6 @@
 ghost use Rattle.std.specs.Prelude.{◌≡◌};
 ghost use Rattle.x_item.specs.View.{view_body};
-ghost use Rattle.x_item.specs.Names.{body_kind, declared};
+ghost use Rattle.x_item.specs.Gloss.{body_kind};
 
 use crate::trees::Body;
 

@@ -1,15 +1,15 @@
 //! The names that a definition declares.
-ghost use Rattle.std.specs.Prelude.{◌≡◌, ◌+◌, ℕ, List, [], ◌∷◌, length, map, true, false, OnOk, IfOk};
+ghost use Rattle.std.specs.Prelude.{◌≡◌, ◌+◌, ◌<◌, ◌^◌, ℕ, List, [], ◌∷◌, length, map, Some, true, false};
+ghost use Rattle.std.specs.Prelude.{OnOk, IfOk};
 ghost use Rattle.x_item.specs.Tree.{Of, Inline};
 ghost use Rattle.x_item.specs.View.{view_length, view_shape, view_enumerator, view_body, view_declaration};
 ghost use Rattle.x_item.specs.View.{view_declarations, view_arms, view_default, view_definition};
-ghost use Rattle.x_item.specs.Spell.{spell_length, spell_named, spell_enumerator, spell_other_enumerators};
-ghost use Rattle.x_item.specs.Spell.{spell_enumerators, spell_body, spell_declaration, spell_declarations};
-ghost use Rattle.x_item.specs.Spell.{spell_arms, spell_default};
-ghost use Rattle.x_item.specs.Names.{lifted_name, star, by_other_enumerators, by_enumerators, by_body};
-ghost use Rattle.x_item.specs.Names.{by_declaration, by_declarations, by_arms, by_default, by_typedef};
-ghost use Rattle.x_item.specs.Names.{declared, kept};
-ghost use Rattle.x_item.specs.Named.{view_name, Names};
+ghost use Rattle.x_item.specs.Gloss.{Position, Inside, InTypedef, glossed, lifted_name};
+ghost use Rattle.x_item.specs.Gloss.{other_enumerators_by, enumerators_by, body_by, declaration_by};
+ghost use Rattle.x_item.specs.Gloss.{declarations_by, arms_by, default_by};
+ghost use Rattle.x_item.specs.Spell.{spell, spell_length, spell_named, spell_enumerator};
+ghost use Rattle.x_item.specs.Names.{Declared, declared};
+ghost use Rattle.x_item.specs.Named.{view_name, Names, NamesIn, NamesAll, star};
 
 use super::mentions::words_of;
 use super::{DeclaredName, NameKind};
@@ -110,9 +110,8 @@ impl NameWalk {
     }
 
     fn enumerators(&mut self, alloc: Global, enumerators: &[Enumerator]) -> Result<(), NoMemory>
-        ensures { OnOk result (Names self.old self.new
-            (length (spell_enumerators (map view_enumerator enumerators.now)))
-            (λ k. by_enumerators k (map view_enumerator enumerators.now))) }
+        ensures { OnOk result (NamesIn self.old self.new
+            (enumerators_by glossed true (map view_enumerator enumerators.now))) }
     {
         match enumerators.split_first() {
             Some((first, others)) => {
@@ -128,9 +127,8 @@ impl NameWalk {
         alloc: Global,
         enumerators: &[Enumerator],
     ) -> Result<(), NoMemory>
-        ensures { OnOk result (Names self.old self.new
-            (length (spell_other_enumerators (map view_enumerator enumerators.now)))
-            (λ k. by_other_enumerators k (map view_enumerator enumerators.now))) }
+        ensures { OnOk result (NamesIn self.old self.new
+            (other_enumerators_by glossed true (map view_enumerator enumerators.now))) }
     {
         for enumerator in enumerators {
             self.skip(1);
@@ -142,8 +140,8 @@ impl NameWalk {
     /// Goes over the body of the type that `around` names.
     #[cycle(walk)]
     fn body(&mut self, alloc: Global, around: &[u8], body: &Body) -> Result<(), NoMemory>
-        ensures { OnOk result (Names self.old self.new (length (spell_body (view_body body.now)))
-            (λ k. by_body around.now k (view_body body.now))) }
+        ensures { OnOk result (NamesIn self.old self.new
+            (body_by glossed (Some around.now) (view_body body.now))) }
     {
         match body {
             Body::Enum(enumerators) => {
@@ -175,9 +173,8 @@ impl NameWalk {
         around: &[u8],
         declaration: &Declaration,
     ) -> Result<(), NoMemory>
-        ensures { OnOk result (Names self.old self.new
-            (length (spell_declaration (view_declaration declaration.now)))
-            (λ k. by_declaration around.now k (view_declaration declaration.now))) }
+        ensures { OnOk result ((position : Position) → NamesIn self.old self.new
+            (declaration_by glossed (Some (Inside position around.now)) (view_declaration declaration.now))) }
     {
         match declaration {
             Declaration::Void => self.skip(1),
@@ -219,10 +216,8 @@ impl NameWalk {
         name: &[u8],
         shape: &Shape,
     ) -> Result<(), NoMemory>
-        ensures { OnOk result (Names self.old self.new
-            (length (spell_declaration
-            (Of (Inline (view_body body.now)) name.now (view_shape shape.now))))
-            (λ k. by_declaration around.now k
+        ensures { OnOk result ((position : Position) → NamesIn self.old self.new
+            (declaration_by glossed (Some (Inside position around.now))
             (Of (Inline (view_body body.now)) name.now (view_shape shape.now)))) }
     {
         let lifted = lifted_name(alloc, around, name)?;
@@ -242,9 +237,8 @@ impl NameWalk {
         around: &[u8],
         declarations: &[Declaration],
     ) -> Result<(), NoMemory>
-        ensures { OnOk result (Names self.old self.new
-            (length (spell_declarations (view_declarations declarations.now)))
-            (λ k. by_declarations around.now k (view_declarations declarations.now))) }
+        ensures { OnOk result (NamesIn self.old self.new
+            (declarations_by glossed (Some around.now) (view_declarations declarations.now))) }
     {
         for declaration in declarations {
             self.declaration(alloc, around, declaration)?;
@@ -255,8 +249,8 @@ impl NameWalk {
 
     #[cycle(walk)]
     fn arms(&mut self, alloc: Global, around: &[u8], arms: &[Arm]) -> Result<(), NoMemory>
-        ensures { OnOk result (Names self.old self.new (length (spell_arms (view_arms arms.now)))
-            (λ k. by_arms around.now k (view_arms arms.now))) }
+        ensures { OnOk result (NamesIn self.old self.new
+            (arms_by glossed (Some around.now) (view_arms arms.now))) }
     {
         for arm in arms {
             self.cases(arm.cases.len());
@@ -283,23 +277,27 @@ impl NameWalk {
         around: &[u8],
         default: &Option<Declaration>,
     ) -> Result<(), NoMemory>
-        ensures { OnOk result (Names self.old self.new (length (spell_default (view_default default.now)))
-            (λ k. by_default around.now k (view_default default.now))) }
+        ensures { OnOk result (NamesIn self.old self.new
+            (default_by glossed (Some around.now) (view_default default.now))) }
     {
-        if let Some(declaration) = default {
-            self.skip(2);
-            self.declaration(alloc, around, declaration)?;
-            self.skip(1);
+        match default {
+            Some(declaration) => {
+                self.skip(2);
+                self.declaration(alloc, around, declaration)?;
+                self.skip(2);
+                Ok(())
+            }
+            None => {
+                self.skip(1);
+                Ok(())
+            }
         }
-        self.skip(1);
-        Ok(())
     }
 
     /// Goes over the declaration of a `typedef`.
     fn typedef(&mut self, alloc: Global, declaration: &Declaration) -> Result<(), NoMemory>
-        ensures { OnOk result (Names self.old self.new
-            (length (spell_declaration (view_declaration declaration.now)))
-            (λ k. by_typedef k (view_declaration declaration.now))) }
+        ensures { OnOk result (NamesIn self.old self.new
+            (declaration_by glossed (Some InTypedef) (view_declaration declaration.now))) }
     {
         match declaration {
             Declaration::Void => {
@@ -375,10 +373,8 @@ impl NameWalk {
         name: &[u8],
         shape: &Shape,
     ) -> Result<(), NoMemory>
-        ensures { OnOk result (Names self.old self.new
-            (length (spell_declaration
-            (Of (Inline (view_body body.now)) name.now (view_shape shape.now))))
-            (λ k. by_typedef k
+        ensures { OnOk result (NamesIn self.old self.new
+            (declaration_by glossed (Some InTypedef)
             (Of (Inline (view_body body.now)) name.now (view_shape shape.now)))) }
     {
         let lifted = lifted_name(alloc, name, name)?;
@@ -390,6 +386,36 @@ impl NameWalk {
         self.skip(words_from_name(shape));
         Ok(())
     }
+
+    /// Goes over a keyword and the name behind it.
+    fn named(&mut self, alloc: Global, name: &[u8], kind: NameKind) -> Result<(), NoMemory>
+        ensures { OnOk result (Names self.old self.new 2
+            (λ k. record { name = name.now; word = k + 1; kind = kind; lifted = false } ∷ [])) }
+    {
+        self.skip(1);
+        let name = Vec::from_slice(alloc, name)?;
+        self.add(name, kind, false)?;
+        self.skip(1);
+        Ok(())
+    }
+
+    /// Goes over a definition up to the last name that it declares.
+    fn definition(&mut self, alloc: Global, definition: &Definition) -> Result<(), NoMemory>
+        ensures { OnOk result (NamesAll self.old self.new (view_definition definition.now)) }
+    {
+        match definition {
+            Definition::Const { name, .. } => self.named(alloc, name, NameKind::Constant),
+            Definition::Typedef(declaration) => {
+                self.skip(1);
+                self.typedef(alloc, declaration)
+            }
+            Definition::NewType { name, body } => {
+                self.named(alloc, name, NameKind::of_body(body))?;
+                self.body(alloc, name, body)
+            }
+            Definition::Program { name, .. } => self.named(alloc, name, NameKind::Program),
+        }
+    }
 }
 
 /// The names that the definition declares, in the order of their words; at one word the own name comes first. What is written as
@@ -399,30 +425,13 @@ impl NameWalk {
 ///
 /// [`NoMemory`] where the list, or a name in it, could not grow.
 pub fn declares(alloc: Global, definition: &Definition) -> Result<Vec<DeclaredName>, NoMemory>
-    ensures { IfOk result (λ found. map view_name found.items
-        ≡ map kept (declared (view_definition definition.now))) }
+    ensures { IfOk result (λ found. length (spell (view_definition definition.now)) < 2 ^ 64
+        → map view_name found.items ≡ declared (view_definition definition.now)) }
 {
     let mut walk = NameWalk {
         list: Vec::new(alloc),
         word: 0,
     };
-    walk.skip(1);
-    match definition {
-        Definition::Const { name, .. } => {
-            let name = Vec::from_slice(alloc, name)?;
-            walk.add(name, NameKind::Constant, false)?;
-        }
-        Definition::Typedef(declaration) => walk.typedef(alloc, declaration)?,
-        Definition::NewType { name, body } => {
-            let own = Vec::from_slice(alloc, name)?;
-            walk.add(own, NameKind::of_body(body), false)?;
-            walk.skip(1);
-            walk.body(alloc, name, body)?;
-        }
-        Definition::Program { name, .. } => {
-            let name = Vec::from_slice(alloc, name)?;
-            walk.add(name, NameKind::Program, false)?;
-        }
-    }
+    walk.definition(alloc, definition)?;
     Ok(walk.list)
 }

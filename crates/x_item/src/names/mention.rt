@@ -1,6 +1,6 @@
 ghost use Rattle.std.specs.Prelude.{◌≡◌, length, Option};
 ghost use Rattle.x_item.specs.View.{view_shape};
-ghost use Rattle.x_item.specs.Mentions.{use_by};
+ghost use Rattle.x_item.specs.Gloss.{use_by};
 
 use crate::trees::{Length, Shape, Tag};
 

@@ -1,22 +1,19 @@
 //! The names that a definition uses.
-ghost use Rattle.std.specs.Prelude.{◌≡◌, [], ◌∷◌, length, map, Option, Some, None, OnOk, IfOk};
-ghost use Rattle.x_item.specs.Tree.{Inline};
+ghost use Rattle.std.specs.Prelude.{◌≡◌, ◌<◌, ◌^◌, ℕ, List, [], ◌∷◌, length, map, Option, Some, None, true, OnOk};
+ghost use Rattle.std.specs.Prelude.{IfOk};
+ghost use Rattle.x_item.specs.Tree.{Inline, Typed};
 ghost use Rattle.x_item.specs.View.{view_value, view_most, view_length, view_shape, view_enumerator};
 ghost use Rattle.x_item.specs.View.{view_type, view_body, view_declaration, view_declarations, view_arms};
 ghost use Rattle.x_item.specs.View.{view_default, view_argument, view_passed, view_procedure, view_version};
 ghost use Rattle.x_item.specs.View.{view_definition};
-ghost use Rattle.x_item.specs.Spell.{spell, spell_most, spell_length, spell_named, spell_basic};
-ghost use Rattle.x_item.specs.Spell.{spell_enumerator, spell_other_enumerators, spell_enumerators};
-ghost use Rattle.x_item.specs.Spell.{spell_cases, spell_type, spell_body, spell_declaration};
-ghost use Rattle.x_item.specs.Spell.{spell_declarations, spell_arms, spell_default, spell_argument};
-ghost use Rattle.x_item.specs.Spell.{spell_passed, spell_others, spell_procedure, spell_procedures};
-ghost use Rattle.x_item.specs.Spell.{spell_versions};
-ghost use Rattle.x_item.specs.Mentions.{in_value, in_most, in_length, in_shape, in_enumerator};
-ghost use Rattle.x_item.specs.Mentions.{in_other_enumerators, in_enumerators, in_cases, in_type, in_body};
-ghost use Rattle.x_item.specs.Mentions.{in_declaration, in_declarations, in_arms, in_default, in_argument};
-ghost use Rattle.x_item.specs.Mentions.{in_passed, in_others, in_procedure, in_procedures, in_versions};
-ghost use Rattle.x_item.specs.Mentions.{mentioned, kept};
-ghost use Rattle.x_item.specs.Collected.{view_mention, Finds};
+ghost use Rattle.x_item.specs.Gloss.{Role, Place, InlineArgument, glossed, value_roles, spell_value, most_by};
+ghost use Rattle.x_item.specs.Gloss.{length_by, named_by, enumerator_by, other_enumerators_by, enumerators_by};
+ghost use Rattle.x_item.specs.Gloss.{cases_by, type_by, body_by, declaration_by, declarations_by, arms_by};
+ghost use Rattle.x_item.specs.Gloss.{default_by, argument_by, passed_by, others_by, procedure_by};
+ghost use Rattle.x_item.specs.Gloss.{procedures_by, versions_by};
+ghost use Rattle.x_item.specs.Spell.{spell, spell_basic};
+ghost use Rattle.x_item.specs.Mentions.{Mention as OfTree, mentioned_at, mentioned};
+ghost use Rattle.x_item.specs.Collected.{IsSilent, view_mention, Finds, FindsIn, FindsAll};
 
 use super::{Mention, Use};
 use crate::trees::{
@@ -67,7 +64,8 @@ impl<'d> Walk<'d> {
     }
 
     fn value(&mut self, value: &'d Value) -> Result<(), NoMemory>
-        ensures { OnOk result (Finds self.old self.new 1 (λ k. in_value k (view_value value.now))) }
+        ensures { OnOk result ((role : Role) → IsSilent mentioned_at (role ∷ []) → FindsIn self.old self.new
+            (glossed (spell_value (view_value value.now)) (value_roles role (view_value value.now)) ∷ [])) }
     {
         match value {
             Value::Number(_) => {
@@ -79,8 +77,7 @@ impl<'d> Walk<'d> {
     }
 
     fn most(&mut self, most: &'d Option<Value>) -> Result<(), NoMemory>
-        ensures { OnOk result (Finds self.old self.new (length (spell_most (view_most most.now)))
-            (λ k. in_most k (view_most most.now))) }
+        ensures { OnOk result (FindsIn self.old self.new (most_by glossed true (view_most most.now))) }
     {
         match most {
             Some(value) => self.value(value),
@@ -89,22 +86,28 @@ impl<'d> Walk<'d> {
     }
 
     fn brackets(&mut self, size: &'d Length) -> Result<(), NoMemory>
-        ensures { OnOk result (Finds self.old self.new (length (spell_length (view_length size.now)))
-            (λ k. in_length k (view_length size.now))) }
+        ensures { OnOk result (FindsIn self.old self.new (length_by glossed true (view_length size.now))) }
     {
-        self.skip(1);
         match size {
-            Length::Fixed(size) => self.value(size)?,
-            Length::Variable(most) => self.most(most)?,
+            Length::Fixed(size) => {
+                self.skip(1);
+                self.value(size)?;
+                self.skip(1);
+                Ok(())
+            }
+            Length::Variable(most) => {
+                self.skip(1);
+                self.most(most)?;
+                self.skip(1);
+                Ok(())
+            }
         }
-        self.skip(1);
-        Ok(())
     }
 
     /// Goes over the name of a declaration and what stands around it.
     fn shape(&mut self, name: &'d [u8], shape: &'d Shape) -> Result<(), NoMemory>
-        ensures { OnOk result (Finds self.old self.new (length (spell_named name.now (view_shape shape.now)))
-            (λ k. in_shape k (view_shape shape.now))) }
+        ensures { OnOk result ((roles : List Role) → IsSilent mentioned_at roles → FindsIn self.old self.new
+            (named_by glossed true roles name.now (view_shape shape.now))) }
     {
         match shape {
             Shape::Plain => {
@@ -123,9 +126,8 @@ impl<'d> Walk<'d> {
     }
 
     fn enumerator(&mut self, enumerator: &'d Enumerator) -> Result<(), NoMemory>
-        ensures { OnOk result (Finds self.old self.new
-            (length (spell_enumerator (view_enumerator enumerator.now)))
-            (λ k. in_enumerator k (view_enumerator enumerator.now))) }
+        ensures { OnOk result (FindsIn self.old self.new
+            (enumerator_by glossed true (view_enumerator enumerator.now))) }
     {
         self.skip(1);
         match &enumerator.value {
@@ -138,9 +140,8 @@ impl<'d> Walk<'d> {
     }
 
     fn enumerators(&mut self, enumerators: &'d [Enumerator]) -> Result<(), NoMemory>
-        ensures { OnOk result (Finds self.old self.new
-            (length (spell_enumerators (map view_enumerator enumerators.now)))
-            (λ k. in_enumerators k (map view_enumerator enumerators.now))) }
+        ensures { OnOk result (FindsIn self.old self.new
+            (enumerators_by glossed true (map view_enumerator enumerators.now))) }
     {
         match enumerators.split_first() {
             Some((first, others)) => {
@@ -152,9 +153,8 @@ impl<'d> Walk<'d> {
     }
 
     fn other_enumerators(&mut self, enumerators: &'d [Enumerator]) -> Result<(), NoMemory>
-        ensures { OnOk result (Finds self.old self.new
-            (length (spell_other_enumerators (map view_enumerator enumerators.now)))
-            (λ k. in_other_enumerators k (map view_enumerator enumerators.now))) }
+        ensures { OnOk result (FindsIn self.old self.new
+            (other_enumerators_by glossed true (map view_enumerator enumerators.now))) }
     {
         for enumerator in enumerators {
             self.skip(1);
@@ -164,8 +164,7 @@ impl<'d> Walk<'d> {
     }
 
     fn cases(&mut self, cases: &'d [Value]) -> Result<(), NoMemory>
-        ensures { OnOk result (Finds self.old self.new (length (spell_cases (map view_value cases.now)))
-            (λ k. in_cases k (map view_value cases.now))) }
+        ensures { OnOk result (FindsIn self.old self.new (cases_by glossed true (map view_value cases.now))) }
     {
         for case in cases {
             self.skip(1);
@@ -177,8 +176,9 @@ impl<'d> Walk<'d> {
 
     #[cycle(walk)]
     fn data_type(&mut self, usage: Use, tree: &'d DataType) -> Result<(), NoMemory>
-        ensures { OnOk result (Finds self.old self.new (length (spell_type (view_type tree.now)))
-            (λ k. in_type k usage (view_type tree.now))) }
+        ensures { OnOk result ((first : List Role) (inside : List ℕ) → IsSilent mentioned_at first
+            → FindsIn self.old self.new
+            (type_by glossed first (Some usage) (Some inside) (view_type tree.now))) }
     {
         match tree {
             DataType::Basic(basic) => {
@@ -199,8 +199,8 @@ impl<'d> Walk<'d> {
 
     #[cycle(walk)]
     fn body(&mut self, body: &'d Body) -> Result<(), NoMemory>
-        ensures { OnOk result (Finds self.old self.new (length (spell_body (view_body body.now)))
-            (λ k. in_body k (view_body body.now))) }
+        ensures { OnOk result ((around : List ℕ) → FindsIn self.old self.new
+            (body_by glossed (Some around) (view_body body.now))) }
     {
         match body {
             Body::Enum(enumerators) => {
@@ -227,9 +227,8 @@ impl<'d> Walk<'d> {
 
     #[cycle(walk)]
     fn declaration(&mut self, declaration: &'d Declaration) -> Result<(), NoMemory>
-        ensures { OnOk result (Finds self.old self.new
-            (length (spell_declaration (view_declaration declaration.now)))
-            (λ k. in_declaration k (view_declaration declaration.now))) }
+        ensures { OnOk result ((place : Place) → FindsIn self.old self.new
+            (declaration_by glossed (Some place) (view_declaration declaration.now))) }
     {
         match declaration {
             Declaration::Void => {
@@ -256,9 +255,8 @@ impl<'d> Walk<'d> {
     /// Goes over declarations, each with its `;`.
     #[cycle(walk)]
     fn declarations(&mut self, declarations: &'d [Declaration]) -> Result<(), NoMemory>
-        ensures { OnOk result (Finds self.old self.new
-            (length (spell_declarations (view_declarations declarations.now)))
-            (λ k. in_declarations k (view_declarations declarations.now))) }
+        ensures { OnOk result ((around : List ℕ) → FindsIn self.old self.new
+            (declarations_by glossed (Some around) (view_declarations declarations.now))) }
     {
         for declaration in declarations {
             self.declaration(declaration)?;
@@ -269,8 +267,8 @@ impl<'d> Walk<'d> {
 
     #[cycle(walk)]
     fn arms(&mut self, arms: &'d [Arm]) -> Result<(), NoMemory>
-        ensures { OnOk result (Finds self.old self.new (length (spell_arms (view_arms arms.now)))
-            (λ k. in_arms k (view_arms arms.now))) }
+        ensures { OnOk result ((around : List ℕ) → FindsIn self.old self.new
+            (arms_by glossed (Some around) (view_arms arms.now))) }
     {
         for arm in arms {
             self.cases(&arm.cases)?;
@@ -283,22 +281,27 @@ impl<'d> Walk<'d> {
     /// Goes over the default arm, if there is one, and the `}` of a union.
     #[cycle(walk)]
     fn default(&mut self, default: &'d Option<Declaration>) -> Result<(), NoMemory>
-        ensures { OnOk result (Finds self.old self.new (length (spell_default (view_default default.now)))
-            (λ k. in_default k (view_default default.now))) }
+        ensures { OnOk result ((around : List ℕ) → FindsIn self.old self.new
+            (default_by glossed (Some around) (view_default default.now))) }
     {
-        if let Some(declaration) = default {
-            self.skip(2);
-            self.declaration(declaration)?;
-            self.skip(1);
+        match default {
+            Some(declaration) => {
+                self.skip(2);
+                self.declaration(declaration)?;
+                self.skip(2);
+                Ok(())
+            }
+            None => {
+                self.skip(1);
+                Ok(())
+            }
         }
-        self.skip(1);
-        Ok(())
     }
 
     /// Goes over an inline type without a mention.
     fn inline_argument(&mut self, body: &'d Body) -> Result<(), NoMemory>
-        ensures { OnOk result (Finds self.old self.new (length (spell_type (Inline (view_body body.now))))
-            (λ k. [])) }
+        ensures { OnOk result (FindsIn self.old self.new
+            (type_by glossed (InlineArgument ∷ []) (Some Use.ByValue) None (Inline (view_body body.now)))) }
     {
         let mentions = self.list.len();
         self.skip(1);
@@ -308,22 +311,33 @@ impl<'d> Walk<'d> {
     }
 
     fn argument(&mut self, argument: &'d Argument) -> Result<(), NoMemory>
-        ensures { OnOk result (Finds self.old self.new (length (spell_argument (view_argument argument.now)))
-            (λ k. in_argument k (view_argument argument.now))) }
+        ensures { OnOk result (FindsIn self.old self.new
+            (argument_by glossed true (view_argument argument.now))) }
     {
         match argument {
             Argument::String => {
                 self.skip(1);
                 Ok(())
             }
-            Argument::Of(DataType::Inline(body)) => self.inline_argument(body),
-            Argument::Of(tree) => self.data_type(Use::ByValue, tree),
+            Argument::Of(tree) => self.argument_type(tree),
+        }
+    }
+
+    fn argument_type(&mut self, tree: &'d DataType) -> Result<(), NoMemory>
+        ensures { OnOk result (FindsIn self.old self.new
+            (argument_by glossed true (Typed (view_type tree.now)))) }
+    {
+        match tree {
+            DataType::Basic(_) => self.data_type(Use::ByValue, tree),
+            DataType::Named(_) => self.data_type(Use::ByValue, tree),
+            DataType::Tagged { .. } => self.data_type(Use::ByValue, tree),
+            DataType::Inline(body) => self.inline_argument(body),
         }
     }
 
     fn passed(&mut self, passed: &'d Option<Argument>) -> Result<(), NoMemory>
-        ensures { OnOk result (Finds self.old self.new (length (spell_passed (view_passed passed.now)))
-            (λ k. in_passed k (view_passed passed.now))) }
+        ensures { OnOk result ((void : List Role) → IsSilent mentioned_at void → FindsIn self.old self.new
+            (passed_by glossed true void (view_passed passed.now))) }
     {
         match passed {
             Some(argument) => self.argument(argument),
@@ -335,8 +349,8 @@ impl<'d> Walk<'d> {
     }
 
     fn others(&mut self, others: &'d [Argument]) -> Result<(), NoMemory>
-        ensures { OnOk result (Finds self.old self.new (length (spell_others (map view_argument others.now)))
-            (λ k. in_others k (map view_argument others.now))) }
+        ensures { OnOk result (FindsIn self.old self.new
+            (others_by glossed true (map view_argument others.now))) }
     {
         for argument in others {
             self.skip(1);
@@ -346,9 +360,8 @@ impl<'d> Walk<'d> {
     }
 
     fn procedure(&mut self, procedure: &'d Procedure) -> Result<(), NoMemory>
-        ensures { OnOk result (Finds self.old self.new
-            (length (spell_procedure (view_procedure procedure.now)))
-            (λ k. in_procedure k (view_procedure procedure.now))) }
+        ensures { OnOk result (FindsIn self.old self.new
+            (procedure_by glossed true (view_procedure procedure.now))) }
     {
         self.passed(&procedure.result)?;
         self.skip(2);
@@ -359,9 +372,8 @@ impl<'d> Walk<'d> {
     }
 
     fn procedures(&mut self, procedures: &'d [Procedure]) -> Result<(), NoMemory>
-        ensures { OnOk result (Finds self.old self.new
-            (length (spell_procedures (map view_procedure procedures.now)))
-            (λ k. in_procedures k (map view_procedure procedures.now))) }
+        ensures { OnOk result (FindsIn self.old self.new
+            (procedures_by glossed true (map view_procedure procedures.now))) }
     {
         for procedure in procedures {
             self.procedure(procedure)?;
@@ -370,9 +382,8 @@ impl<'d> Walk<'d> {
     }
 
     fn versions(&mut self, versions: &'d [Version]) -> Result<(), NoMemory>
-        ensures { OnOk result (Finds self.old self.new
-            (length (spell_versions (map view_version versions.now)))
-            (λ k. in_versions k (map view_version versions.now))) }
+        ensures { OnOk result (FindsIn self.old self.new
+            (versions_by glossed true (map view_version versions.now))) }
     {
         for version in versions {
             self.skip(3);
@@ -380,6 +391,30 @@ impl<'d> Walk<'d> {
             self.skip(4);
         }
         Ok(())
+    }
+
+    /// Goes over a definition up to the last name that it uses.
+    fn definition(&mut self, definition: &'d Definition) -> Result<(), NoMemory>
+        ensures { OnOk result (FindsAll self.old self.new (view_definition definition.now)) }
+    {
+        match definition {
+            Definition::Const { value, .. } => {
+                self.skip(3);
+                self.value(value)
+            }
+            Definition::Typedef(declaration) => {
+                self.skip(1);
+                self.declaration(declaration)
+            }
+            Definition::NewType { body, .. } => {
+                self.skip(2);
+                self.body(body)
+            }
+            Definition::Program { versions, .. } => {
+                self.skip(3);
+                self.versions(versions)
+            }
+        }
     }
 }
 
@@ -390,30 +425,13 @@ impl<'d> Walk<'d> {
 ///
 /// [`NoMemory`] where the list could not grow.
 pub fn mentions(alloc: Global, definition: &Definition) -> Result<Vec<Mention<'_>>, NoMemory>
-    ensures { IfOk result (λ found. map view_mention found.items
-        ≡ map kept (mentioned (view_definition definition.now))) }
+    ensures { IfOk result (λ found. length (spell (view_definition definition.now)) < 2 ^ 64
+        → map view_mention found.items ≡ mentioned (view_definition definition.now)) }
 {
     let mut walk = Walk {
         list: Vec::new(alloc),
         word: 0,
     };
-    match definition {
-        Definition::Const { value, .. } => {
-            walk.skip(3);
-            walk.value(value)?;
-        }
-        Definition::Typedef(declaration) => {
-            walk.skip(1);
-            walk.declaration(declaration)?;
-        }
-        Definition::NewType { body, .. } => {
-            walk.skip(2);
-            walk.body(body)?;
-        }
-        Definition::Program { versions, .. } => {
-            walk.skip(3);
-            walk.versions(versions)?;
-        }
-    }
+    walk.definition(definition)?;
     Ok(walk.list)
 }

@@ -3,16 +3,17 @@
 ghost use Rattle.std.specs.Prelude.{ℕ, [], ◌∷◌, map, IfOk, IfErr};
 ghost use Rattle.x_item.specs.Words.{Fixed};
 ghost use Rattle.x_item.specs.View.{view_value};
-ghost use Rattle.x_item.specs.Spell.{spell_value, spell_cases, HasOne};
+ghost use Rattle.x_item.specs.Gloss.{spell_value};
+ghost use Rattle.x_item.specs.Spell.{spell_cases, HasOne};
 ghost use Rattle.x_item.specs.Symbols.{Token as OfMark, AnyValue, Declared, AfterCase};
 ghost use Rattle.x_item.specs.Reading.{IsRead, Fails};
 
 use super::ParseError;
+use super::ending::Ending;
 use super::words::{expect, first, is_mark, value};
-use crate::mark::{Ending, Mark};
 use crate::trees::Value;
 use std::alloc::Global;
-use x_lex::Token;
+use x_lex::{Mark, Token};
 
 /// Reads the values of an arm after its first `case`, each with its `:`.
 pub fn cases<'w, 't>(

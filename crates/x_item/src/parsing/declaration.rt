@@ -6,7 +6,8 @@ ghost use Rattle.x_item.specs.Words.{Fixed, Name};
 ghost use Rattle.x_item.specs.Tree.{default as one_default};
 ghost use Rattle.x_item.specs.View.{view_value, view_type, view_body, view_declaration, view_declarations};
 ghost use Rattle.x_item.specs.View.{view_arms, view_default};
-ghost use Rattle.x_item.specs.Spell.{tag_mark, body_mark, spell_type, spell_body, spell_declarations};
+ghost use Rattle.x_item.specs.Gloss.{tag_mark, body_mark};
+ghost use Rattle.x_item.specs.Spell.{spell_type, spell_body, spell_declarations};
 ghost use Rattle.x_item.specs.Spell.{spell_arms, spell_default, HasOne, HasDeclaration, HasArm, TypeFits};
 ghost use Rattle.x_item.specs.Spell.{BodyFits, DeclarationFits, DeclarationsFit, ArmsFit, DefaultFits};
 ghost use Rattle.x_item.specs.Symbols.{Context, InDeclaration, Token as OfMark, AnyName, AnyValue, AnyLength};
@@ -17,12 +18,12 @@ ghost use Rattle.x_item.specs.Reading.{IsRead, IsPart, Fails, spell_ended, spell
 use super::ParseError;
 use super::cases::cases;
 use super::declarator::{array_length, most, named};
+use super::ending::Ending;
 use super::enumerators::enumerators;
 use super::words::{Word, expect, first, is_mark, name, stuck_at};
-use crate::mark::{Ending, Mark};
 use crate::trees::{Arm, Basic, Body, DataType, Declaration, Tag, inline, struct_body, union_body};
 use std::alloc::Global;
-use x_lex::Token;
+use x_lex::{Mark, Token};
 
 /// Reads a type.
 #[cycle(parser)]

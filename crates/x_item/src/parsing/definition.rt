@@ -3,18 +3,19 @@
 ghost use Rattle.std.specs.Prelude.{[], ◌∷◌, IfOk, IfErr};
 ghost use Rattle.x_item.specs.Words.{Fixed};
 ghost use Rattle.x_item.specs.View.{view_definition};
-ghost use Rattle.x_item.specs.Spell.{spell, tag_mark, KeepsLimits};
+ghost use Rattle.x_item.specs.Gloss.{tag_mark};
+ghost use Rattle.x_item.specs.Spell.{spell, KeepsLimits};
 ghost use Rattle.x_item.specs.Symbols.{Item, of_constant, of_new_type, of_program};
 ghost use Rattle.x_item.specs.Reading.{IsRead, Fails};
 
 use super::ParseError;
 use super::declaration::{body, declared};
+use super::ending::Ending;
 use super::program::{numbered, versions};
 use super::words::{Word, expect, first, name, stuck_at, value};
-use crate::mark::{Ending, Mark};
 use crate::trees::{Definition, Tag};
 use std::alloc::Global;
-use x_lex::Token;
+use x_lex::{Mark, Token};
 
 /// Reads a definition.
 pub fn definition<'w, 't>(

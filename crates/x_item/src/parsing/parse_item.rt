@@ -7,7 +7,7 @@ ghost use Rattle.x_item.specs.Tree.{Definition as Tree};
 ghost use Rattle.x_item.specs.View.{view_definition};
 ghost use Rattle.x_item.specs.Spell.{spell, KeepsLimits, Begins};
 ghost use Rattle.x_item.specs.Parse.{IsParse, IsLastWord};
-ghost use Rattle.x_item.specs.Parsed.{view_parsed};
+ghost use Rattle.x_item.specs.Parse.{view_parsed};
 ghost use Rattle.x_item.specs.Reading.{IsRefused};
 
 use super::definition::definition;

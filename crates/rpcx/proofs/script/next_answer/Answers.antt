@@ -1,8 +1,8 @@
 use Rattle.std.proofs.Common.{ℕ, Bool, Option, Result, Err, true, List, Ok, refl, sym, ap, subst, ◌∙◌}
 use Rattle.rpcx.specs.Session.{Compiles}
 use Rattle.rpcx.specs.Answers.{Answer, line_answer}
-use Rattle.rpcx.specs.declared.lines.LineFault.{LineFault}
-use Rattle.rpcx.specs.declared.lines.Found.TheVariants.{Line, TooLong, End}
+use Rattle.rpcx.specs.declared.script.lines.LineFault.{LineFault}
+use Rattle.rpcx.specs.declared.script.lines.Found.TheVariants.{Line, TooLong, End}
 use Rattle.rpcx.specs.Script.{IsGiven, GoesOn}
 use Rattle.std.proofs.lemmas.Result.{err_from_is_err_and}
 use Rattle.rpcx.proofs.Scripts.{has_read, line_given, all_given, found_as, stops_behind, before_line, before_long, before_fault, too_long}
@@ -31,7 +31,7 @@ returns-in-TooLong-clause-given g c script given h =
         c.item_count-items.ensures.0,
         items,
         c.item_count-items.ensures.2,
-        subst is_given (sym (too_long base text items told.0 told.1)) (record { added = c.add.ensures; refused_is = refl; session_is = refl }),
+        subst is_given (sym (too_long base text items told.0 told.1)) (record { added = c.add.ensures; refused_is = refl; session_is = record { text_is = refl; base_is = refl } }),
       ),
     )
 

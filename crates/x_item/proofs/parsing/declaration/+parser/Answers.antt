@@ -1,10 +1,11 @@
 use Rattle.std.proofs.Common.{rules, ◌≡◌, ◌+◌, ◌-◌, [], ◌∷◌, ap, sym, ◌∙◌, append_assoc}
 use Rattle.std.proofs.lemmas.Result.{IfOk-weaker}
 use Rattle.x_item.specs.Words.{Fixed}
-use Rattle.x_item.specs.Spell.{tag_mark, spell_body, spell_type, spell_named, TypeFits}
+use Rattle.x_item.specs.Gloss.{tag_mark}
+use Rattle.x_item.specs.Spell.{spell_body, spell_type, spell_named, TypeFits}
 use Rattle.x_item.specs.View.{view_type, view_shape, view_declaration}
-use Rattle.x_item.specs.declared.mark.Mark.TheVariants as marks
-use Rattle.x_item.specs.declared.mark.Ending.TheVariants as endings
+use Rattle.x_lex.specs.declared.mark.Mark.TheVariants as marks
+use Rattle.x_item.specs.declared.parsing.ending.Ending.TheVariants as endings
 use Rattle.x_item.specs.Symbols.{AnyValue, Token, AfterCase, MoreArms, Declared, Declarations, MoreDeclarations, Arms, InDeclaration, AfterType, AfterTag, AnyBody, Typed, ending_mark}
 use Rattle.x_item.specs.Reading.{view_word, spell_ended}
 use Rattle.x_item.proofs.ReadLemmas.{exit, not_mark, fails_alike, fails_more, fails_then, read_alike, read_as, read_more, read_on, read_then, read_after, ok_alike, err_alike}

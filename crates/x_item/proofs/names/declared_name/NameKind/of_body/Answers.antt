@@ -1,6 +1,6 @@
 use Rattle.std.proofs.Common.{ap, sym, ◌∙◌}
 use Rattle.x_item.specs.View.{view_body}
-use Rattle.x_item.specs.Names.{body_kind}
+use Rattle.x_item.specs.Gloss.{body_kind}
 use Rattle.x_item.proofs.Rows.{union_parts}
 use Rattle.x_item.proofs.names.declared_name.NameKind.of_body.Goals as goal
 

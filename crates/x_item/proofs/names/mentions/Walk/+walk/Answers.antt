@@ -1,65 +1,84 @@
-use Rattle.std.proofs.Common.{rules, ◌≡◌, ◌+◌, ◌∷◌, ◌++◌, length, drop, map, refl, ap, sym, ◌∙◌, length-append}
-use Rattle.std.proofs.lemmas.List.{append-nil, drop_all, drop_more}
-use Rattle.x_item.specs.Spell.{spell_type, spell_named, spell_body, spell_cases, spell_declaration, spell_declarations, spell_arms}
-use Rattle.x_item.specs.View.{view_type, view_shape, view_default, view_body, view_value, view_declaration, view_declarations, view_arms}
-use Rattle.x_item.specs.Mentions.{use_by, in_type, in_body, in_cases, in_declaration, in_declarations, in_arms}
-use Rattle.x_item.specs.Collected.{Finds, view_walk}
-use Rattle.x_item.proofs.CollectLemmas.{finds_then, finds_as, goes_start, goes_over, goes_end}
-use Rattle.x_item.proofs.MentionLemmas.{declaration_count, declaration_parts, arm_count, arm_parts, struct_count, union_count, union_parts}
+use Rattle.std.proofs.Common.{◌≡◌, ℕ, List, ◌+◌, ◌∷◌, [], ◌++◌, drop, map, Some, true, refl, ap, sym, ◌∙◌, append_assoc}
+use Rattle.std.proofs.lemmas.List.{drop_all, drop_more}
 use Rattle.std.proofs.lemmas.Result.{on_ok_weaker}
+use Rattle.x_item.specs.Tree.{Of, Struct, Union}
+use Rattle.x_item.specs.View.{view_type, view_shape, view_body, view_enumerator, view_value, view_declaration, view_declarations, view_arms, view_default}
+use Rattle.x_item.specs.Words.{Fixed}
+use Rattle.x_lex.specs.declared.mark.Mark.TheVariants as marks
+use Rattle.x_item.specs.Gloss.{Gloss, Role, AsField, AsDiscriminant, AsArm, Inside, glossed, use_by, enumerators_by, cases_by, type_by, named_by, body_by, declaration_by, declarations_by, arms_by, default_by}
+use Rattle.x_item.specs.Mentions.{mentioned_at}
+use Rattle.x_item.specs.Collected.{IsSilent, FindsIn, view_walk}
 use Rattle.x_item.specs.declared.trees.declaration.Body.TheViews.{out-UnionBody}
-use Rattle.x_item.proofs.Rows.{struct_view, union_parts as parts_of_union}
-use Rattle.x_item.specs.Tree.{Struct, Union, Of}
+use Rattle.x_item.proofs.CollectLemmas.{covers_then, covers_next, covers_two, covers_as, goes_start, goes_over, goes_end}
+use Rattle.x_item.proofs.MentionLemmas.{covers_typed}
+use Rattle.x_item.proofs.Rows.{struct_view, union_parts}
 use Rattle.x_item.proofs.names.mentions.Walk.+walk.Goals as goal
 
+abbrev semicolon : Gloss
+semicolon = glossed (Fixed marks.Semicolon) []
+
 pub declarations-loop-declaration-init : goal.declarations-loop-declaration-init
-declarations-loop-declaration-init t c = goes_start (view_walk c.args.self.now) _ _
+declarations-loop-declaration-init t c around = goes_start (view_walk c.args.self.now) _
 
 pub declarations-loop-declaration-preserved : goal.declarations-loop-declaration-preserved
-declarations-loop-declaration-preserved t c =
+declarations-loop-declaration-preserved t c around =
     let item = c.declaration-item.result in
-    let step : Finds c.loop-declaration.self c.skip.new.self (length (spell_declaration (view_declaration item)) + 1) (λ k. in_declaration k (view_declaration item)) = search rules in
-    let front : drop c.loop-declaration.declaration-index c.args.declarations.now ≡ item ∷ drop (c.loop-declaration.declaration-index + 1) c.args.declarations.now =
-    drop_more c.args.declarations.now c.loop-declaration.declaration-index _ c.loop-declaration-test.true ∙ ap (λ x. x ∷ drop (c.loop-declaration.declaration-index + 1) c.args.declarations.now) (sym c.declaration-item.is) in
-    let rest = (drop (c.loop-declaration.declaration-index + 1) c.args.declarations.now) in
-    goes_over (λ xs. length (spell_declarations (view_declarations xs))) (λ k xs. in_declarations k (view_declarations xs)) (length (spell_declaration (view_declaration item)) + 1) (λ k. in_declaration k (view_declaration item)) _ _ _ front (declaration_count (view_declaration item) (view_declarations rest)) (declaration_parts (view_declaration item) (view_declarations rest)) c.loop-declaration.invariant step
+    let rest = drop (c.loop-declaration.declaration-index + 1) c.args.declarations.now in
+    let front : drop c.loop-declaration.declaration-index c.args.declarations.now ≡ item ∷ rest =
+    drop_more c.args.declarations.now c.loop-declaration.declaration-index _ c.loop-declaration-test.true ∙ ap (λ x. x ∷ rest) (sym c.declaration-item.is) in
+    let words = declaration_by glossed (Some (Inside AsField around)) (view_declaration item) in
+    goes_over (λ xs. declarations_by glossed (Some around) (view_declarations xs)) item _ rest front
+    (sym (append_assoc words (semicolon ∷ []) (declarations_by glossed (Some around) (view_declarations rest)))) (c.loop-declaration.invariant around)
+    (covers_then (c.in_ok-declaration.ensures (Inside AsField around)) record { all = c.skip.ensures })
 
 pub declarations-returns : goal.declarations-returns
-declarations-returns t c = goes_end (λ xs. length (spell_declarations (view_declarations xs))) (λ k xs. in_declarations k (view_declarations xs)) _ (drop_all _ _ c.loop-declaration-test.false) refl (λ k. refl) c.loop-declaration.invariant
+declarations-returns t c around =
+    goes_end (λ xs. declarations_by glossed (Some around) (view_declarations xs)) _ (drop_all _ _ c.loop-declaration-test.false) refl (c.loop-declaration.invariant around)
 
 pub arms-loop-arm-init : goal.arms-loop-arm-init
-arms-loop-arm-init t c = goes_start (view_walk c.args.self.now) _ _
+arms-loop-arm-init t c around = goes_start (view_walk c.args.self.now) _
 
 pub arms-loop-arm-preserved : goal.arms-loop-arm-preserved
-arms-loop-arm-preserved t c =
+arms-loop-arm-preserved t c around =
     let item = c.arm-item.result in
-    let step : Finds c.loop-arm.self c.skip.new.self (length (spell_cases (map view_value item.cases.items)) + length (spell_declaration (view_declaration item.declaration)) + 1) (λ k. in_cases k (map view_value item.cases.items) ++ in_declaration (k + length (spell_cases (map view_value item.cases.items))) (view_declaration item.declaration)) =
-    finds_as _ (λ k. in_cases k (map view_value item.cases.items) ++ in_declaration (k + length (spell_cases (map view_value item.cases.items))) (view_declaration item.declaration)) (finds_then (finds_then (rw c.deref.ensures.value at c.in_ok-cases.ensures) c.in_ok-declaration.ensures) c.skip.ensures) refl (λ k. append-nil _) in
-    let front : drop c.loop-arm.arm-index c.args.arms.now ≡ item ∷ drop (c.loop-arm.arm-index + 1) c.args.arms.now =
-    drop_more c.args.arms.now c.loop-arm.arm-index _ c.loop-arm-test.true ∙ ap (λ x. x ∷ drop (c.loop-arm.arm-index + 1) c.args.arms.now) (sym c.arm-item.is) in
-    let rest = (drop (c.loop-arm.arm-index + 1) c.args.arms.now) in
-    goes_over (λ xs. length (spell_arms (view_arms xs))) (λ k xs. in_arms k (view_arms xs)) (length (spell_cases (map view_value item.cases.items)) + length (spell_declaration (view_declaration item.declaration)) + 1) (λ k. in_cases k (map view_value item.cases.items) ++ in_declaration (k + length (spell_cases (map view_value item.cases.items))) (view_declaration item.declaration)) _ _ _ front (arm_count (map view_value item.cases.items) (view_declaration item.declaration) (view_arms rest)) (arm_parts (map view_value item.cases.items) (view_declaration item.declaration) (view_arms rest)) c.loop-arm.invariant step
+    let rest = drop (c.loop-arm.arm-index + 1) c.args.arms.now in
+    let front : drop c.loop-arm.arm-index c.args.arms.now ≡ item ∷ rest =
+    drop_more c.args.arms.now c.loop-arm.arm-index _ c.loop-arm-test.true ∙ ap (λ x. x ∷ rest) (sym c.arm-item.is) in
+    let cases = cases_by glossed true (map view_value item.cases.items) in
+    let words = declaration_by glossed (Some (Inside AsArm around)) (view_declaration item.declaration) in
+    let behind = arms_by glossed (Some around) (view_arms rest) in
+    let values : FindsIn c.loop-arm.self c.cases.new.self cases = rw c.deref.ensures.value at c.in_ok-cases.ensures in
+    goes_over (λ xs. arms_by glossed (Some around) (view_arms xs)) item _ rest front
+    (sym (append_assoc cases (words ++ semicolon ∷ []) behind ∙ ap (λ l. cases ++ l) (append_assoc words (semicolon ∷ []) behind))) (c.loop-arm.invariant around)
+    (covers_then values (covers_then (c.in_ok-declaration.ensures (Inside AsArm around)) record { all = c.skip.ensures }))
 
 pub arms-returns : goal.arms-returns
-arms-returns t c = goes_end (λ xs. length (spell_arms (view_arms xs))) (λ k xs. in_arms k (view_arms xs)) _ (drop_all _ _ c.loop-arm-test.false) refl (λ k. refl) c.loop-arm.invariant
+arms-returns t c around =
+    goes_end (λ xs. arms_by glossed (Some around) (view_arms xs)) _ (drop_all _ _ c.loop-arm-test.false) refl (c.loop-arm.invariant around)
+
+pub body-returns-in_ok-enumerators-in-Enum : goal.body-returns-in_ok-enumerators-in-Enum
+body-returns-in_ok-enumerators-in-Enum t c around =
+    let es = map view_enumerator c.in-Enum.enumerators.items in
+    let inside : FindsIn c.skip.new.self c.enumerators.new.self (enumerators_by glossed true es) = rw c.deref.ensures.value at c.in_ok-enumerators-in-Enum.ensures in
+    covers_as (covers_next record { all = c.skip.ensures } (covers_then inside record { all = c.skip-in-Enum.ensures }))
+    (ap (λ b. body_by glossed (Some around) (view_body b)) (sym c.in-Enum.is))
 
 pub body-returns-in_ok-declarations-in-Struct : goal.body-returns-in_ok-declarations-in-Struct
-body-returns-in_ok-declarations-in-Struct t c =
+body-returns-in_ok-declarations-in-Struct t c around =
     let ds = view_declarations c.in-Struct.declarations.items in
     let is : view_body c.args.body.now ≡ Struct ds = ap view_body c.in-Struct.is ∙ struct_view c.in-Struct.declarations in
-    let inside : Finds c.skip-in-Struct.new.self c.declarations.new.self (length (spell_declarations ds)) (λ k. in_declarations k ds) = rw c.deref-in-Struct.ensures.value at c.in_ok-declarations-in-Struct.ensures in
-    finds_as _ _ (finds_then (finds_then c.skip-in-Struct.ensures inside) c.skip-in-Struct-2.ensures) (struct_count ds ∙ ap (λ b. length (spell_body b)) (sym is)) (λ k. append-nil _ ∙ ap (in_body k) (sym is))
+    let inside : (around : List ℕ) → FindsIn c.skip-in-Struct.new.self c.declarations.new.self (declarations_by glossed (Some around) ds) = rw c.deref-in-Struct.ensures.value at c.in_ok-declarations-in-Struct.ensures in
+    covers_as (covers_next record { all = c.skip-in-Struct.ensures } (covers_then (inside around) record { all = c.skip-in-Struct-2.ensures })) (ap (body_by glossed (Some around)) (sym is))
 
 pub body-returns-in_ok-arms-in-Union : goal.body-returns-in_ok-arms-in-Union
 body-returns-in_ok-arms-in-Union t c =
     let u = out-UnionBody c.in-Union.body in
-    let d = view_declaration u.discriminant in
     let arms = view_arms u.arms.items in
-    let is : view_body c.args.body.now ≡ Union d arms (view_default u.default) = ap view_body c.in-Union.is ∙ parts_of_union c.in-Union.body in
-    let inside : Finds c.skip-in-Union-2.new.self c.arms.new.self (length (spell_arms arms)) (λ k. in_arms k arms) = rw c.deref-in-Union.ensures.value at c.in_ok-arms-in-Union.ensures in
+    let is : view_body c.args.body.now ≡ Union (view_declaration u.discriminant) arms (view_default u.default) = ap view_body c.in-Union.is ∙ union_parts c.in-Union.body in
+    let inside : (around : List ℕ) → FindsIn c.skip-in-Union-2.new.self c.arms.new.self (arms_by glossed (Some around) arms) = rw c.deref-in-Union.ensures.value at c.in_ok-arms-in-Union.ensures in
     on_ok_weaker c.default.result
-    (λ last. finds_as _ _ (finds_then (finds_then (finds_then (finds_then c.skip-in-Union.ensures c.in_ok-declaration-in-Union.ensures) c.skip-in-Union-2.ensures) inside) last)
-    (union_count d arms (view_default u.default) ∙ ap (λ b. length (spell_body b)) (sym is)) (λ k. union_parts d arms (view_default u.default) k ∙ ap (in_body k) (sym is)))
+    (λ last around. covers_as (covers_two record { all = c.skip-in-Union.ensures } (covers_then (c.in_ok-declaration-in-Union.ensures (Inside AsDiscriminant around))
+    (covers_two record { all = c.skip-in-Union-2.ensures } (covers_then (inside around) (last around))))) (ap (body_by glossed (Some around)) (sym is)))
     c.default.ensures
 
 pub declaration-returns-in_ok-data_type-in-Of : goal.declaration-returns-in_ok-data_type-in-Of
@@ -67,9 +86,13 @@ declaration-returns-in_ok-data_type-in-Of t c =
     let type = view_type c.in-Of.data in
     let shape = view_shape c.in-Of.shape in
     let is : view_declaration c.args.declaration.now ≡ Of type c.in-Of.name.items shape = ap view_declaration c.in-Of.is in
-    let first : Finds c.args.self.now c.data_type.new.self (length (spell_type type)) (λ k. in_type k (use_by shape) type) = rw c.of_type.ensures at c.in_ok-data_type-in-Of.ensures in
+    let front : (first : List Role) (inside : List ℕ) → IsSilent mentioned_at first → FindsIn c.args.self.now c.data_type.new.self (type_by glossed first (Some (use_by shape)) (Some inside) type) = rw c.of_type.ensures at c.in_ok-data_type-in-Of.ensures in
     on_ok_weaker c.shape.result
-    (λ last. finds_as _ _ (finds_then first last)
-    (ap (λ n. length (spell_type type) + length (spell_named n shape)) c.deref.ensures.value ∙ sym (length-append (spell_type type) (spell_named c.in-Of.name.items shape)) ∙ ap (λ d. length (spell_declaration d)) (sym is))
-    (λ k. ap (in_declaration k) (sym is)))
+    (λ last place. let behind : (roles : List Role) → IsSilent mentioned_at roles → FindsIn c.data_type.new.self c.shape.new.self (named_by glossed true roles c.in-Of.name.items shape) = rw c.deref.ensures.value at last in
+    covers_as (covers_typed place type c.in-Of.name.items shape front behind) (ap (declaration_by glossed (Some place)) (sym is)))
     c.shape.ensures
+
+pub default-returns-in_ok-declaration-in-Some : goal.default-returns-in_ok-declaration-in-Some
+default-returns-in_ok-declaration-in-Some t c around =
+    covers_as (covers_two record { all = c.skip.ensures } (covers_then (c.in_ok-declaration-in-Some.ensures (Inside AsArm around)) record { all = c.skip-in-Some.ensures }))
+    (ap (λ d. default_by glossed (Some around) (view_default d)) (sym c.in-Some.is))

@@ -1,0 +1,34 @@
+use Rattle.std.proofs.Common.{◌∷◌, [], map, OnOk, Some, refl, sym, subst}
+use Rattle.std.proofs.lemmas.Result.{on_ok_weaker}
+use Rattle.x_item.specs.Tree.{Typedef, NewType}
+use Rattle.x_item.specs.View.{view_declaration, view_body, view_version, view_definition}
+use Rattle.x_item.specs.Gloss.{glossed, body_by}
+use Rattle.x_item.specs.Named.{NamesIn, NamesAll}
+use Rattle.x_item.proofs.CollectLemmas.{covers_next, covers_then}
+use Rattle.x_item.proofs.NameLemmas.{covers_own, names_all, names_program}
+use Rattle.x_item.proofs.names.declares.NameWalk.definition.Goals as goal
+
+pub returns-in-Typedef : goal.returns-in-Typedef
+returns-in-Typedef c =
+    let d = Typedef (view_declaration c.in-Typedef.declaration) in
+    subst (λ x. OnOk c.typedef.result (NamesAll c.args.self.now c.typedef.new.self (view_definition x))) (sym c.in-Typedef.is)
+    (on_ok_weaker c.typedef.result (λ x. names_all d _ (_ ∷ []) refl (covers_next record { all = c.skip.ensures } x) (λ k. refl)) c.typedef.ensures)
+
+pub returns-in_ok-named-in-NewType : goal.returns-in_ok-named-in-NewType
+returns-in_ok-named-in-NewType c =
+    let name = c.in-NewType.name.items in
+    let body = view_body c.in-NewType.body in
+    let own = covers_own _ name _ c.deref-in-NewType.ensures.value c.of_body.ensures c.in_ok-named-in-NewType.ensures in
+    subst (λ x. OnOk c.body.result (NamesAll c.args.self.now c.body.new.self (view_definition x))) (sym c.in-NewType.is)
+    (on_ok_weaker c.body.result
+    (λ x. let inside : NamesIn c.named-in-NewType.new.self c.body.new.self (body_by glossed (Some name) body) = rw c.deref-in-NewType-2.ensures.value at x in
+    names_all (NewType name body) (_ ∷ _ ∷ body_by glossed (Some name) body) (_ ∷ []) refl (covers_then own inside) (λ k. refl))
+    c.body.ensures)
+
+pub returns-in-Program : goal.returns-in-Program
+returns-in-Program c =
+    let name = c.in-Program.name.items in
+    subst (λ x. OnOk c.named-in-Program.result (NamesAll c.args.self.now c.named-in-Program.new.self (view_definition x))) (sym c.in-Program.is)
+    (on_ok_weaker c.named-in-Program.result
+    (λ x. names_program name (map view_version c.in-Program.versions.items) c.in-Program.number.items (covers_own _ name _ c.deref-in-Program.ensures.value refl x))
+    c.named-in-Program.ensures)
