@@ -22,6 +22,7 @@ fn answer_case(alloc: Global, mut case: Case) -> Result<String, Refusal> {
         b"edit" => edits::edit(alloc, case),
         b"plain" => sequences::plain(alloc, case),
         b"gap" => sequences::gap(alloc, case),
+        b"exchange" => sequences::exchange(alloc, case),
         b"lex_one" => tokens::one(alloc, case),
         b"lex" => tokens::all(alloc, case),
         b"relex" => tokens::changed(alloc, case),

@@ -100,6 +100,61 @@ fn gap_step(
     Ok(())
 }
 
+/// Whether a walk from each entry on meets those that are left of these.
+fn expect_walks(alloc: Global, seq: &GapSeq<u8>, list: &[u8]) -> Result<(), Refusal> {
+    for index in 0..list.len() {
+        if index > seq.len() {
+            return Err(Refusal::Differs);
+        }
+        let walked: Vec<u8> = seq.iter_from(index).copied().collect(alloc)?;
+        expect_same(walked.as_slice() == &list[index..])?;
+    }
+    Ok(())
+}
+
+/// Puts the next byte in the place of an entry, `PLACE NEW`, and adds what was given back, with the counts and entries then.
+fn exchange_step(
+    alloc: Global,
+    case: &mut Case,
+    seq: &mut GapSeq<u8>,
+    answer: &mut String,
+) -> Result<(), Refusal> {
+    let at = case.number()?;
+    let text = case.text(alloc)?;
+    let new = text.first().copied().ok_or(Refusal::BadCase)?;
+    if at >= seq.len() {
+        return Err(Refusal::BadCase);
+    }
+    let (old, moved) = seq.exchange(at, new);
+    let seat = seq.seat();
+    write!(answer, "gave ")?;
+    push_quoted(answer, &[old])?;
+    write!(answer, " moved {moved} seat {seat} ")?;
+    let list = entries(alloc, seq)?;
+    expect_walks(alloc, seq, &list)?;
+    push_quoted(answer, &list)?;
+    Ok(())
+}
+
+/// `exchange ENTRIES EXCHANGE, EXCHANGE ..`: what each exchange gave back, how many other entries it moved, and the seat and the
+/// entries then.
+pub(crate) fn exchange(alloc: Global, mut case: Case) -> Result<String, Refusal> {
+    let mut seq = GapSeq::new(alloc);
+    let first = case.text(alloc)?;
+    let _moved = carry_out(&mut seq, 0, 0, first)?;
+    let mut answer = String::new(alloc);
+    exchange_step(alloc, &mut case, &mut seq, &mut answer)?;
+    for _ in 0..u64::MAX {
+        if !case.comma() {
+            break;
+        }
+        answer.push_str("; ")?;
+        exchange_step(alloc, &mut case, &mut seq, &mut answer)?;
+    }
+    case.end()?;
+    Ok(answer)
+}
+
 /// `gap CHANGE, CHANGE ..`: as [`plain`], and the seat after each change.
 pub(crate) fn gap(alloc: Global, mut case: Case) -> Result<String, Refusal> {
     let mut seq = GapSeq::new(alloc);
