@@ -2,7 +2,7 @@
 use Rattle.std.specs.Prelude.{ℕ, Bool, true, false, ◌&&◌, nat_le, List, ◌++◌, Option, Some, None, length, codes, if◌then◌else◌}
 use Rattle.std.specs.List.{flat_map}
 use Rattle.std.specs.Fmt.{decimal}
-use Rattle.x_text.specs.Edits.{edited}
+use Rattle.x_text.specs.Edits.{Change, edited_by}
 use Rattle.x_text.specs.declared.source.TheConstants.{MAX_TEXT}
 use Rattle.x_lex.specs.Places.{Lexeme}
 use Rattle.x_lex.specs.Names.{kind_name}
@@ -99,16 +99,17 @@ abbrev pub refused : List ℕ → List ℕ → Answer
 refused text told = record { told = told; refused = true; text = text }
 
 -- what an edit is answered; its range is tested first
-abbrev pub edit_answer : List ℕ → ℕ → ℕ → List ℕ → Answer
-edit_answer text start end insert =
-    if nat_le start end && nat_le end (length text)
-    then (if nat_le (length (edited text start end insert)) MAX_TEXT
-    then answered (edited text start end insert) (counted_line (codes "ok") (length (edited text start end insert)))
-    else refused text (codes "refused 2 TooLarge\n"))
-    else refused text (codes "refused 1 BadRange\n")
+abbrev pub edit_answer : Change → Answer
+edit_answer change =
+    if nat_le change.start change.end && nat_le change.end (length change.old)
+    then (if nat_le (length (edited_by change)) MAX_TEXT
+    then answered (edited_by change) (counted_line (codes "ok") (length (edited_by change)))
+    else refused change.old (codes "refused 2 TooLarge\n"))
+    else refused change.old (codes "refused 1 BadRange\n")
 
 abbrev pub answer : List ℕ → List ℕ → List Item → Command → Answer
-answer base text items (commands.Edit start end insert) = edit_answer text start end insert
+answer base text items (commands.Edit start end insert) =
+    edit_answer (record { old = text; start = start; end = end; insert = insert })
 answer base text items commands.Tokens = answered text (tokens_answer (tokens_of items))
 answer base text items commands.Definitions = answered text (definitions_answer (definitions_of items))
 answer base text items commands.Faults = answered text (faults_answer (faults_of text items))

@@ -1,10 +1,8 @@
 -- What a session is a view of: the text, and the base of the names in what is generated of it.
-use Rattle.std.specs.Prelude.{◌≡◌, ℕ, ◌<◌, ◌≤◌, List, [], ◌∷◌, ◌++◌, length}
-use Rattle.x_text.specs.Edits.{edited, LiesWithin}
+use Rattle.std.specs.Prelude.{◌≡◌, ℕ, List, [], ◌∷◌, ◌++◌, length}
+use Rattle.x_text.specs.Edits.{change_of, edited_by, Fits, Refuses}
 use Rattle.x_text.specs.declared.edit.Edit.{Edit}
 use Rattle.x_text.specs.declared.fault.TextFault.{TextFault}
-use Rattle.x_text.specs.declared.fault.TextFault.TheVariants.{BadRange, TooLarge, NoMemory}
-use Rattle.x_text.specs.declared.source.TheConstants.{MAX_TEXT}
 use Rattle.x_lex.specs.declared.kind.Kind.{Kind}
 use Rattle.rpcx.specs.Compile.{Item, IsCompilation}
 
@@ -26,25 +24,15 @@ pub record IsOpenOf (session : Document) (base text : List ℕ) : Type 0 where
 abbrev pub Compiles : List ℕ → (List Item → Type 0) → Type 0
 Compiles text P = (tokens : List (Kind × ℕ)) × (items : List Item) × IsCompilation text tokens items × P items
 
--- the text after an edit
-abbrev pub edited_by : List ℕ → Edit → List ℕ
-edited_by text e = edited text e.start e.end e.insert.now
-
 -- the text after all edits, one after another
 abbrev pub edited_by_all : List ℕ → List Edit → List ℕ
 edited_by_all text [] = text
-edited_by_all text (e ∷ es) = edited_by_all (edited_by text e) es
-
--- why the text does not take the edit
-abbrev pub Refuses : List ℕ → Edit → TextFault → Type 0
-Refuses text e BadRange = ¬ (LiesWithin text e.start e.end)
-Refuses text e TooLarge = LiesWithin text e.start e.end × (MAX_TEXT < length (edited_by text e))
-Refuses text e NoMemory = Unit {0}
+edited_by_all text (e ∷ es) = edited_by_all (edited_by (change_of text e)) es
 
 -- the text takes each of the edits in its turn
 abbrev pub TakesAll : List ℕ → List Edit → Type 0
 TakesAll text [] = Unit {0}
-TakesAll text (e ∷ es) = LiesWithin text e.start e.end × (length (edited_by text e) ≤ MAX_TEXT) × TakesAll (edited_by text e) es
+TakesAll text (e ∷ es) = Fits (change_of text e) × TakesAll (edited_by (change_of text e)) es
 
 -- The text takes the edits before the one at the index, which leave this text, and refuses that one.
 pub record StopsAt (text : List ℕ) (edits : List Edit) (left : List ℕ) (index : ℕ) (fault : TextFault) : Type 0 where
@@ -55,4 +43,4 @@ pub record StopsAt (text : List ℕ) (edits : List Edit) (left : List ℕ) (inde
   pub index_is : index ≡ length before
   pub takes : TakesAll text before
   pub left_is : left ≡ edited_by_all text before
-  pub refuses : Refuses left edit fault
+  pub refuses : Refuses (change_of left edit) fault

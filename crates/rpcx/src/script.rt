@@ -1,6 +1,7 @@
 //! Scripts of edits and questions.
 
 ghost use Rattle.std.specs.Prelude.{◌≡◌, ◌≤◌, ◌||◌, ℕ, List, length, IfOk, IfErr, OnErr, MatchOption, IsTrue};
+ghost use Rattle.x_text.specs.Edits.{change_of};
 ghost use Rattle.x_text.specs.Writing.{Adds};
 ghost use Rattle.rpcx.specs.Session.{Compiles};
 ghost use Rattle.rpcx.specs.Answers.{answer, edit_answer, line_answer};
@@ -198,7 +199,7 @@ fn carry_out_edit<S: Sink>(
     sink: &mut S,
 ) -> Result<bool, NoMemory>
     ensures given { IfOk result
-        (λ refused. IsGiven (edit_answer session.old.text edit.now.start edit.now.end edit.now.insert.now)
+        (λ refused. IsGiven (edit_answer (change_of session.old.text edit.now))
         session.old session.new refused pen.old (S.state sink.old) pen.new (S.state sink.new)) }
     ensures same { OnErr result ((session.new ≡ session.old) × (pen.new ≡ pen.old) × (sink.new ≡ sink.old)) }
 {

@@ -2,7 +2,7 @@
 
 ghost use Rattle.std.specs.Prelude.{◌≡◌, ◌↔◌, ◌<◌, ◌≤◌, ℕ, List, Option, length, map, option_map, option_and_then, slice_get, IfOk, OnOk, OnErr, IfErr, IsErrOf, IsTrue, Some, None};
 ghost use Rattle.x_text.specs.Counts.{raised};
-ghost use Rattle.x_text.specs.Edits.{edited, LiesWithin};
+ghost use Rattle.x_text.specs.Edits.{change_of, edited_by, Judges};
 ghost use Rattle.x_text.specs.declared.source.TheConstants.{MAX_TEXT};
 ghost use Rattle.x_lex.specs.Places.{lexeme};
 ghost use Rattle.rpcx.specs.Session.{Document, Compiles, edited_by_all, TakesAll, StopsAt};
@@ -89,16 +89,9 @@ impl Session {
 
     /// Carries an edit out, with the faults of [`Source::replace`], and answers what work it took. After a fault all is as before.
     pub fn apply(&mut self, edit: &Edit) -> Result<Work, TextFault>
-        ensures text { OnOk result
-            (self.new.text ≡ edited self.old.text edit.now.start edit.now.end edit.now.insert.now) }
+        ensures text { OnOk result (self.new.text ≡ edited_by (change_of self.old.text edit.now)) }
         ensures base { self.new.base ≡ self.old.base }
-        ensures fits { OnOk result (LiesWithin self.old.text edit.now.start edit.now.end
-            × (length (edited self.old.text edit.now.start edit.now.end edit.now.insert.now) ≤ MAX_TEXT)) }
-        ensures bad_range { IsErrOf result TextFault.BadRange
-            ↔ ¬ (LiesWithin self.old.text edit.now.start edit.now.end) }
-        ensures too_large { IsErrOf result TextFault.TooLarge ↔
-            (LiesWithin self.old.text edit.now.start edit.now.end
-            × (MAX_TEXT < length (edited self.old.text edit.now.start edit.now.end edit.now.insert.now))) }
+        ensures fault { Judges (change_of self.old.text edit.now) result }
         ensures same { OnErr result (self.new ≡ self.old) }
     {
         let source = self.source.edited(self.alloc, edit)?;

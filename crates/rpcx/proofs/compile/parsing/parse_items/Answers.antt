@@ -1,9 +1,9 @@
-use Rattle.std.proofs.Common.{◌≡◌, ◌≤◌, ◌<◌, Bool, true, false, List, [], map, length, refl, ap, sym, subst, ◌∙◌, arith}
+use Rattle.std.proofs.Common.{◌≤◌, ◌<◌, true, map, length, refl, ap, sym, subst, arith}
 use Rattle.std.proofs.lemmas.List.{length-map}
 use Rattle.x_text.specs.declared.source.TheConstants.{MAX_TEXT}
-use Rattle.x_lex.specs.Places.{Lexeme, lexeme, lexemes}
+use Rattle.x_lex.specs.Places.{lexeme, lexemes}
 use Rattle.x_item.specs.Items.{IsNext}
-use Rattle.rpcx.specs.ItemView.{IsItem, AreParsed}
+use Rattle.rpcx.specs.ItemView.{IsItem}
 use Rattle.rpcx.proofs.ItemLemmas.{Parsing, HasCounted, steps_left, parsing_none, parsing_more, part_short, rest_short, fewer_steps, few_items, some_items, marked_items, counted_push, counted_all}
 use Rattle.rpcx.proofs.compile.parsing.parse_items.Goals as goal
 

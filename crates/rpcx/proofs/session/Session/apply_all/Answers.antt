@@ -1,5 +1,6 @@
 use Rattle.std.proofs.Common.{◌+◌, [], drop, get_or, ap, subst, ◌∙◌}
 use Rattle.x_text.specs.declared.edit.Edit.{Edit}
+use Rattle.x_text.specs.Edits.{change_of}
 use Rattle.rpcx.proofs.EditLists.{HasTaken, taken_more, stops_at, refuses_by}
 use Rattle.rpcx.proofs.Listing.{drop_one}
 use Rattle.rpcx.proofs.session.Session.apply_all.Goals as goal
@@ -15,7 +16,7 @@ loop-index-preserved c =
     let index = c.loop-index.index in
     let now = c.loop-index.self.text in
     let taken = subst (λ es. HasTaken text edits es now index) (drop_one edits index none c.loop-index-test.true) c.loop-index.invariant.0 in (
-      taken_more text edits (drop (index + 1) edits) (get_or edits index none) now c.apply.new.self.text index taken c.in-Ok.ensures.fits.0 c.in-Ok.ensures.fits.1 c.in-Ok.ensures.text,
+      taken_more text edits (drop (index + 1) edits) (get_or edits index none) now c.apply.new.self.text index taken c.in-Ok.ensures.fault.fits c.in-Ok.ensures.text,
       c.in-Ok.ensures.base ∙ c.loop-index.invariant.1,
     )
 
@@ -28,4 +29,4 @@ returns-in-Err-clause-stops c =
     let edit = get_or edits index none in
     let taken = subst (λ es. HasTaken text edits es now index) (drop_one edits index none c.loop-index-test.true) c.loop-index.invariant.0 in
     stops_at text edits (drop (index + 1) edits) edit now c.apply.new.self.text index c.in-Err.fault taken (ap (λ s. s.text) c.in-Err.ensures.same)
-    (refuses_by now edit c.in-Err.fault c.in-Err.ensures.bad_range c.in-Err.ensures.too_large)
+    (refuses_by (change_of now edit) c.in-Err.fault c.in-Err.ensures.fault)
