@@ -1,9 +1,7 @@
 -- One edit after another.
-use Rattle.std.proofs.Common.{◌≡◌, ℕ, ◌+◌, ◌<◌, ◌≤◌, ◌↔◌, Err, List, [], ◌∷◌, ◌++◌, length, arith, append_assoc, append-nil, length-append, refl, sym, ap, subst, ◌∙◌}
+use Rattle.std.proofs.Common.{◌≡◌, ℕ, ◌+◌, Err, List, [], ◌∷◌, ◌++◌, length, arith, append_assoc, append-nil, length-append, refl, sym, ap, subst, ◌∙◌}
 use Rattle.x_text.specs.Edits.{Change, change_of, edited_by, Fits, Refuses, Judges}
 use Rattle.x_text.specs.declared.edit.Edit.{Edit}
-use Rattle.x_text.specs.declared.source.TheConstants.{MAX_TEXT}
-use Rattle.std.specs.Prelude.{IsErrOf}
 use Rattle.x_text.specs.declared.fault.TextFault.{TextFault}
 use Rattle.x_text.specs.declared.fault.TextFault.TheVariants.{BadRange, TooLarge, NoMemory}
 use Rattle.rpcx.specs.Session.{edited_by_all, TakesAll, StopsAt}
@@ -57,6 +55,6 @@ stops_at text edits left e now new count fault h same refuses = record {
 }
 
 pub refuses_by : {T : Type 0} (change : Change) (fault : TextFault) → Judges {T = T} change (Err fault) → Refuses change fault
-refuses_by change BadRange judged = judged.bad_range.0 refl
-refuses_by change TooLarge judged = judged.too_large.0 refl
-refuses_by change NoMemory judged = tt
+refuses_by change BadRange h = h.bad_range.0 refl
+refuses_by change TooLarge h = h.too_large.0 refl
+refuses_by change NoMemory h = tt

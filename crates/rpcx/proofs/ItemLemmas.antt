@@ -1,14 +1,14 @@
 -- Items that are parsed one after another.
-use Rattle.std.proofs.Common.{◌≡◌, ℕ, zero, suc, ◌+◌, ◌<◌, ◌≤◌, inl, inr, Bool, true, false, List, [], ◌∷◌, ◌++◌, length, map, take, drop, refl, ap, sym, ◌∙◌, subst, append_assoc, arith}
-use Rattle.std.proofs.lemmas.List.{append-nil, length_push, length-append}
+use Rattle.std.proofs.Common.{◌≡◌, ℕ, zero, suc, ◌+◌, ◌<◌, ◌≤◌, inl, inr, Bool, true, false, List, [], ◌∷◌, ◌++◌, length, take, drop, refl, ap, sym, ◌∙◌, subst, append_assoc, arith}
+use Rattle.std.proofs.lemmas.List.{length_push, length-append}
 use Rattle.std.proofs.Math.Seq.{take-append_seam, drop-append_seam}
 use Rattle.x_text.specs.Counts.{Counts, raised}
 use Rattle.x_lex.specs.Places.{Lexeme}
 use Rattle.x_item.specs.Parse.{Fault, IsParse}
-use Rattle.x_item.specs.Items.{AreItems, joined, AreWhole, IsNext}
+use Rattle.x_item.specs.Items.{joined, AreWhole, IsNext}
 use Rattle.x_item.specs.declared.parsing.fault_code.FaultCode.{FaultCode}
 use Rattle.x_item.proofs.ItemListLemmas.{joined_push, whole_push}
-use Rattle.rpcx.specs.ItemView.{IsItem, AreEach, AreParsed}
+use Rattle.rpcx.specs.ItemView.{IsItem, has_lines, AreEach, AreMarked, AreParsed}
 use Rattle.rpcx.specs.declared.compile.item.Item.{Item}
 
 each_push : (parts : List (List Lexeme)) (items : List Item) (part : List Lexeme) (item : Item) → AreEach parts items → IsItem part item → AreEach (parts ++ part ∷ []) (items ++ item ∷ [])
@@ -100,6 +100,18 @@ many_tokens (part ∷ whole) each =
     let l = length-append part (joined whole) in
     let h = many_tokens whole each.1 in
     omega (arith, p, l, h)
+
+marked_parts : (parts : List (List Lexeme)) (items : List Item) → AreEach parts items → AreMarked (joined parts) items
+marked_parts [] [] each = tt
+marked_parts [] (x ∷ items) each = absurd each
+marked_parts (p ∷ parts) [] each = tt
+marked_parts (p ∷ parts) (x ∷ items) each =
+    (each.0.lines ∙ ap has_lines (sym (take_part p (joined parts) x.tokens each.0.count)),
+     subst (λ w. AreMarked w items) (sym (drop_part p (joined parts) x.tokens each.0.count)) (marked_parts parts items each.1))
+
+-- the items say which of them have lines
+pub marked_items : (all : List Lexeme) (items : List Item) → AreParsed all items → AreMarked all items
+marked_items all items h = subst (λ w. AreMarked w items) h.are.all (marked_parts h.parts items h.each)
 
 -- there is an item
 pub some_items : (all : List Lexeme) (items : List Item) → AreParsed all items → 0 < length items

@@ -14,6 +14,7 @@ pub mod LineLemmas
 pub mod Listing
 pub mod NameLemmas
 pub mod Parting
+pub mod PlainLemmas
 pub mod QueueLemmas
 pub mod ReadingLemmas
 pub mod RuleTexts

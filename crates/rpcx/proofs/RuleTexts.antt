@@ -1,5 +1,5 @@
 -- The table of the texts of rules.
-use Rattle.std.proofs.Common.{ℕ, ◌<◌, lit<}
+use Rattle.std.proofs.Common.{◌<◌, lit<}
 use denote.Enum.Declared.{tag_of}
 use Rattle.rpcx.specs.contracts.compile.fault.RuleCode.{the_type}
 use Rattle.rpcx.specs.declared.compile.fault.RuleCode.{RuleCode}

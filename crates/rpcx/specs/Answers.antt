@@ -108,7 +108,8 @@ edit_answer change =
     else refused change.old (codes "refused 1 BadRange\n")
 
 abbrev pub answer : List ℕ → List ℕ → List Item → Command → Answer
-answer base text items (commands.Edit start end insert) = edit_answer (record { old = text; start = start; end = end; insert = insert })
+answer base text items (commands.Edit start end insert) =
+    edit_answer (record { old = text; start = start; end = end; insert = insert })
 answer base text items commands.Tokens = answered text (tokens_answer (tokens_of items))
 answer base text items commands.Definitions = answered text (definitions_answer (definitions_of items))
 answer base text items commands.Faults = answered text (faults_answer (faults_of text items))

@@ -1,5 +1,5 @@
 -- What compiling a text from scratch gives: its items, each with its tokens and what they parse to.
-use Rattle.std.specs.Prelude.{ℕ, suc, ◌-◌, ◌==◌, ◌&&◌, List, [], ◌∷◌, ◌++◌, map, take, drop, Option, Some, None, option_and_then, slice_get, if◌then◌else◌}
+use Rattle.std.specs.Prelude.{ℕ, suc, ◌-◌, ◌==◌, ◌&&◌, Bool, true, false, List, [], ◌∷◌, ◌++◌, map, take, drop, Option, Some, None, option_and_then, slice_get, if◌then◌else◌}
 use Rattle.std.specs.Option.{option_map_or}
 use Rattle.x_text.specs.Text.{line_of, column_of}
 use Rattle.x_lex.specs.declared.kind.Kind.{Kind}
@@ -63,11 +63,24 @@ token_of_word (t ∷ ts) word =
 abbrev pub at_token : List Lexeme → WordFault → TokenFault
 at_token tokens f = record { token = token_of_word tokens f.word; code = f.code }
 
+-- the faults of an item's definition by the rules, at its words
+abbrev pub rule_faults : (List ℕ → Option Declarer) → ℕ → Parse → List WordFault
+rule_faults first index (Def d) = rules first index d
+rule_faults first index parse = []
+
+-- whether the item's words spell no definition
+abbrev pub spells_none : Parse → Bool
+spells_none (Fault token code) = true
+spells_none parse = false
+
+-- the faults of an item at its tokens, of which these are by the rules
+abbrev pub faults_at : List Lexeme → Parse → List WordFault → List TokenFault
+faults_at tokens (Fault token code) ruled = record { token = token; code = codes.Syntax code } ∷ []
+faults_at tokens parse ruled = map (at_token tokens) ruled
+
 -- the faults of an item at its tokens: that of its parse, or those of its definition
 abbrev pub token_faults : (List ℕ → Option Declarer) → ℕ → List Lexeme → Parse → List TokenFault
-token_faults first index tokens Nothing = []
-token_faults first index tokens (Fault token code) = record { token = token; code = codes.Syntax code } ∷ []
-token_faults first index tokens (Def d) = map (at_token tokens) (rules first index d)
+token_faults first index tokens parse = faults_at tokens parse (rule_faults first index parse)
 
 -- where a token of an item starts
 abbrev pub start_of : List Lexeme → ℕ → ℕ

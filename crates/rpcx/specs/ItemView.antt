@@ -1,5 +1,6 @@
 -- What the program keeps of the items of a text, and what it says of them.
-use Rattle.std.specs.Prelude.{◌≡◌, ℕ, List, [], ◌∷◌, length, Option, option_map}
+use Rattle.std.specs.Prelude.{◌≡◌, ℕ, Bool, List, [], ◌∷◌, length, take, drop, Option, option_map}
+use Rattle.std.specs.List.{list_any}
 use Rattle.std.specs.Borrow.{Bor}
 use Rattle.x_lex.specs.Places.{Lexeme}
 use Rattle.x_item.specs.Items.{AreItems}
@@ -9,6 +10,7 @@ use Rattle.x_item.specs.Parse as parse
 use Rattle.x_item.specs.View.{view_definition}
 use Rattle.x_item.specs.declared.trees.definition.Definition.{Definition}
 use Rattle.rpcx.specs.Compile.{parsed_definition}
+use Rattle.rpcx.specs.Header.{is_percent}
 use Rattle.rpcx.specs.declared.compile.item.Item.{Item}
 use Rattle.rpcx.specs.declared.compile.item.Parse.{Parse}
 use Rattle.rpcx.specs.declared.compile.item.Parse.TheVariants as kept
@@ -31,10 +33,15 @@ kept_definition i = parsed_definition (view_parse i.parse)
 abbrev pub tree_at : Option (Bor Definition) → Option tree.Definition
 tree_at definition = option_map (λ d. view_definition d.now) definition
 
--- the number of an item's tokens, and what they parse to
+-- whether a line that passes through is among the tokens
+abbrev pub has_lines : List Lexeme → Bool
+has_lines tokens = list_any (λ t. is_percent t.kind) tokens
+
+-- the number of an item's tokens, what they parse to, and whether a line passes through
 pub record IsItem (tokens : List Lexeme) (item : Item) : Type 0 where
   pub count : item.tokens ≡ length tokens
   pub parsed : IsParse tokens (view_parse item.parse)
+  pub lines : item.has_lines ≡ has_lines tokens
 
 -- so each of them is
 abbrev pub AreEach : List (List Lexeme) → List Item → Type 0
@@ -42,6 +49,11 @@ AreEach [] [] = Unit {0}
 AreEach [] (item ∷ items) = ⊥
 AreEach (part ∷ parts) [] = ⊥
 AreEach (part ∷ parts) (item ∷ items) = IsItem part item × AreEach parts items
+
+-- the items have so many of these tokens each, in order, and say whether a line passes through
+abbrev pub AreMarked : List Lexeme → List Item → Type 0
+AreMarked tokens [] = Unit {0}
+AreMarked tokens (item ∷ items) = (item.has_lines ≡ has_lines (take item.tokens tokens)) × AreMarked (drop item.tokens tokens) items
 
 -- the items of the tokens, each with what it parses to
 pub record AreParsed (tokens : List Lexeme) (items : List Item) : Type 0 where

@@ -1,5 +1,5 @@
 -- What a session is a view of: the text, and the base of the names in what is generated of it.
-use Rattle.std.specs.Prelude.{◌≡◌, ℕ, ◌<◌, ◌≤◌, List, [], ◌∷◌, ◌++◌, length}
+use Rattle.std.specs.Prelude.{◌≡◌, ℕ, List, [], ◌∷◌, ◌++◌, length}
 use Rattle.x_text.specs.Edits.{change_of, edited_by, Fits, Refuses}
 use Rattle.x_text.specs.declared.edit.Edit.{Edit}
 use Rattle.x_text.specs.declared.fault.TextFault.{TextFault}

@@ -1,6 +1,6 @@
 //! The header that is generated of a text.
 
-ghost use Rattle.std.specs.Prelude.{◌≡◌, ◌++◌, drop, map, IfOk, OnOk};
+ghost use Rattle.std.specs.Prelude.{◌≡◌, ◌++◌, [], drop, map, IfOk, OnOk};
 ghost use Rattle.x_lex.specs.Places.{lexeme};
 ghost use Rattle.x_item.specs.View.{view_value, view_definition};
 ghost use Rattle.rpcx.specs.ItemView.{view_parse};
@@ -120,8 +120,15 @@ pub fn add_item(
     if !faults.is_empty() {
         return Ok(());
     }
-    if let Parse::Def(definition) = parse {
-        add_piece(text, definition)?;
+    add_clean(text, parse)
+}
+
+/// Adds the piece of an item without faults and lines.
+pub fn add_clean(text: &mut Vec<u8>, parse: &Parse) -> Result<(), NoMemory>
+    ensures { OnOk result (text.new.items ≡ text.old.items ++ clean_piece [] (view_parse parse.now)) }
+{
+    match parse {
+        Parse::Def(definition) => add_piece(text, definition),
+        _ => Ok(()),
     }
-    Ok(())
 }

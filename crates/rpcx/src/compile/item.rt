@@ -1,16 +1,18 @@
 //! An item of a text.
 
-ghost use Rattle.std.specs.Prelude.{◌≡◌, ◌≤◌, length, IfOk, map};
+ghost use Rattle.std.specs.Prelude.{◌≡◌, ◌≤◌, [], false, length, IfOk, IsTrue, map};
 ghost use Rattle.x_text.specs.Counts.{raised};
 ghost use Rattle.x_text.specs.declared.source.TheConstants.{MAX_TEXT};
 ghost use Rattle.x_lex.specs.Places.{lexeme};
 ghost use Rattle.x_item.specs.View.{view_definition};
-ghost use Rattle.rpcx.specs.ItemView.{IsItem, kept_definition, tree_at};
+ghost use Rattle.rpcx.specs.ItemView.{IsItem, has_lines, view_parse, kept_definition, tree_at};
+ghost use Rattle.rpcx.specs.Compile.{spells_none};
 ghost use Rattle.rpcx.specs.Definitions.{is_constant};
 
+use crate::compile::fault::WordFault;
 use std::alloc::Global;
 use x_item::{Definition, FaultCode, Parsed, parse_item};
-use x_lex::Token;
+use x_lex::{Kind, Token};
 use x_text::{Meter, NoMemory};
 
 /// What an item parses to, in few bytes.
@@ -34,6 +36,8 @@ pub enum Parse {
 pub struct Item {
     /// How many tokens it has.
     pub tokens: u32,
+    /// Whether a line that passes through is among them.
+    pub has_lines: bool,
     /// What they parse to.
     pub parse: Parse,
 }
@@ -57,8 +61,17 @@ impl Item {
         };
         Ok(Item {
             tokens: tokens.len() as u32,
+            has_lines: has_lines(tokens),
             parse,
         })
+    }
+
+    /// Whether the item, where these are its faults by the rules, has neither a fault nor a line that passes through.
+    pub fn is_plain(&self, ruled: &[WordFault]) -> bool
+        ensures { IsTrue result → (self.now.has_lines ≡ false)
+            × (spells_none (view_parse self.now.parse) ≡ false) × (ruled.now ≡ []) }
+    {
+        !self.has_lines && !matches!(self.parse, Parse::Fault { .. }) && ruled.is_empty()
     }
 
     /// The definition of the item, if it has one.
@@ -70,6 +83,18 @@ impl Item {
             _ => None,
         }
     }
+}
+
+/// Whether a line that passes through is among the tokens.
+fn has_lines(tokens: &[Token]) -> bool
+    ensures { result ≡ has_lines (map lexeme tokens.now) }
+{
+    for token in tokens {
+        if token.kind == Kind::Percent {
+            return true;
+        }
+    }
+    false
 }
 
 /// Whether the definition is that of a constant.

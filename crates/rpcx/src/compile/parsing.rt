@@ -5,7 +5,7 @@ ghost use Rattle.x_text.specs.Counts.{raised};
 ghost use Rattle.x_text.specs.declared.source.TheConstants.{MAX_TEXT};
 ghost use Rattle.x_lex.specs.Tiling.{AreTokens};
 ghost use Rattle.x_lex.specs.Places.{lexeme, lexemes};
-ghost use Rattle.rpcx.specs.ItemView.{AreParsed};
+ghost use Rattle.rpcx.specs.ItemView.{AreParsed, AreMarked};
 
 use crate::compile::item::Item;
 use std::alloc::Global;
@@ -23,6 +23,7 @@ pub fn parse_items(
     requires { AreTokens source.now tokens.now.list }
     ensures parsed { IfOk result (λ items. AreParsed (lexemes source.now tokens.now.list) items.items) }
     ensures few { IfOk result (λ items. length items.items ≤ MAX_TEXT + 1) }
+    ensures marked { IfOk result (λ items. AreMarked (lexemes source.now tokens.now.list) items.items) }
     ensures counted { IfOk result
         (λ items. meter.new ≡ record meter.old { parsed = raised meter.old.parsed (length items.items) }) }
 {
@@ -54,4 +55,14 @@ pub fn take_tokens<'a>(
         }
     }
     Ok(())
+}
+
+/// Passes over the next tokens of a walk, or all that are left where there are fewer.
+pub fn pass_tokens(walk: &mut Walk, count: usize)
+    ensures { walk.new ≡ drop count walk.old }
+{
+    let mut left = count;
+    while left > 0 && walk.next().is_some() {
+        left -= 1;
+    }
 }

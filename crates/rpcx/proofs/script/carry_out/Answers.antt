@@ -1,6 +1,7 @@
 use Rattle.std.proofs.Common.{◌≡◌, ℕ, List, Bool, true, Result, Ok, Err, refl, sym, ap, subst, ◌∙◌}
 use Rattle.std.specs.Prelude.{IfOk}
 use Rattle.x_text.specs.declared.no_memory.NoMemory.{NoMemory}
+use Rattle.x_text.specs.Edits.{Change}
 use Rattle.rpcx.specs.Session.{Compiles}
 use Rattle.rpcx.specs.Compile.{Item}
 use Rattle.rpcx.specs.Answers.{Answer, answer, edit_answer}
@@ -19,10 +20,11 @@ returns-in-Edit-clause-given g c =
     let base = c.args.session.now.base in
     let given : Answer → Bool → Type 0 = λ a refused. IsGiven a c.args.session.now c.carry_out_edit.new.session refused c.args.pen.now (g.S.Sink.state c.args.sink.now)
     c.carry_out_edit.new.pen (g.S.Sink.state c.carry_out_edit.new.sink) in
-    let same : (items : List Item) → edit_answer (record { old = text; start = c.in-Edit.start; end = c.in-Edit.end; insert = c.bytes.result.now }) ≡ answer base text items c.args.command.now =
-    λ items. (λ i. edit_answer (record { old = text; start = c.in-Edit.start; end = c.in-Edit.end; insert = c.bytes.ensures i })) ∙ sym (ap (λ command. answer base text items command) c.in-Edit.is) in
+    let change : List ℕ → Change = λ insert. record { old = text; start = c.in-Edit.start; end = c.in-Edit.end; insert = insert } in
+    let same : (items : List Item) → edit_answer (change c.bytes.result.now) ≡ answer base text items c.args.command.now =
+    λ items. (λ i. edit_answer (change (c.bytes.ensures i))) ∙ sym (ap (λ command. answer base text items command) c.in-Edit.is) in
     over_items _ text c.item_count-items.ensures (λ items refused. given (answer base text items c.args.command.now) refused)
-    (given (edit_answer (record { old = text; start = c.in-Edit.start; end = c.in-Edit.end; insert = c.bytes.result.now }))) c.carry_out_edit.result
+    (given (edit_answer (change c.bytes.result.now))) c.carry_out_edit.result
     (λ items b h. subst (λ a. given a b) (same items) h) c.carry_out_edit.ensures.given
 
 pub returns-in-Bad-clause-given : goal.returns-in-Bad-clause-given

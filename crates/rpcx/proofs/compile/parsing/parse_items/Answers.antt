@@ -1,10 +1,10 @@
-use Rattle.std.proofs.Common.{◌≡◌, ◌≤◌, ◌<◌, Bool, true, false, List, [], map, length, refl, ap, sym, subst, ◌∙◌, arith}
+use Rattle.std.proofs.Common.{◌≤◌, ◌<◌, true, map, length, refl, ap, sym, subst, arith}
 use Rattle.std.proofs.lemmas.List.{length-map}
 use Rattle.x_text.specs.declared.source.TheConstants.{MAX_TEXT}
-use Rattle.x_lex.specs.Places.{Lexeme, lexeme, lexemes}
+use Rattle.x_lex.specs.Places.{lexeme, lexemes}
 use Rattle.x_item.specs.Items.{IsNext}
-use Rattle.rpcx.specs.ItemView.{IsItem, AreParsed}
-use Rattle.rpcx.proofs.ItemLemmas.{Parsing, HasCounted, steps_left, parsing_none, parsing_more, part_short, rest_short, fewer_steps, few_items, some_items, counted_push, counted_all}
+use Rattle.rpcx.specs.ItemView.{IsItem}
+use Rattle.rpcx.proofs.ItemLemmas.{Parsing, HasCounted, steps_left, parsing_none, parsing_more, part_short, rest_short, fewer_steps, few_items, some_items, marked_items, counted_push, counted_all}
 use Rattle.rpcx.proofs.compile.parsing.parse_items.Goals as goal
 
 pub loop-whole-init : goal.loop-whole-init
@@ -62,6 +62,9 @@ returns-clause-few c =
     let few = few_items (lexemes c.args.source.now c.args.tokens.now.list) c.loop-whole.items.items (returns-clause-parsed c) in
     let short = c.loop-whole.invariant.short in
     omega (arith, few, short)
+
+pub returns-clause-marked : goal.returns-clause-marked
+returns-clause-marked c = marked_items (lexemes c.args.source.now c.args.tokens.now.list) c.loop-whole.items.items (returns-clause-parsed c)
 
 pub returns-clause-counted : goal.returns-clause-counted
 returns-clause-counted c =
