@@ -11,7 +11,7 @@ ghost use Rattle.x_item.specs.Reading.{IsRead, Fails};
 use super::ParseError;
 use super::declaration::{body, declared};
 use super::program::{numbered, versions};
-use super::words::{Word, expect, first, name, stuck_at, value};
+use super::words::{Word, closed, expect, first, name, stuck_at, value};
 use crate::mark::{Ending, Mark};
 use crate::trees::{Definition, Tag};
 use std::alloc::Global;
@@ -75,7 +75,7 @@ fn new_type<'w, 't>(
 {
     let (name, rest) = name(alloc, tokens)?;
     let (body, rest) = body(alloc, tag, 32, rest)?;
-    let rest = expect(Mark::Semicolon, rest)?;
+    let (body, rest) = closed(body, Mark::Semicolon, rest)?;
     Ok((Definition::NewType { name, body }, rest))
 }
 
