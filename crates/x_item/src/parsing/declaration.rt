@@ -120,26 +120,10 @@ fn tagged<'w, 't>(
             if depth == 0 {
                 return Err(stuck_at(tokens));
             }
-            inlined(alloc, tag, depth - 1, tokens)
+            let (body, rest) = body(alloc, tag, depth - 1, tokens)?;
+            Ok((inline(alloc, body)?, rest))
         }
     }
-}
-
-/// Reads the body after `enum`, `struct` or `union`, of a type without a name.
-#[cycle(parser)]
-fn inlined<'w, 't>(
-    alloc: Global,
-    tag: Tag,
-    depth: u32,
-    tokens: &'w [Token<'t>],
-) -> Result<(DataType, &'w [Token<'t>]), ParseError>
-    ensures read { IfOk result (λ x. IsRead (Fixed (tag_mark tag) ∷ []) (AnyBody tag depth ∷ []) tokens.now
-        (spell_type (view_type x.0)) [] x.1.now) }
-    ensures fits { IfOk result (λ x. TypeFits (view_type x.0) (depth + 1)) }
-    ensures stuck { IfErr result (λ e. Fails (AnyBody tag depth ∷ []) tokens.now e) }
-{
-    let (body, rest) = body(alloc, tag, depth, tokens)?;
-    Ok((inline(alloc, body)?, rest))
 }
 
 /// Reads the body of an enum, a struct or a union.

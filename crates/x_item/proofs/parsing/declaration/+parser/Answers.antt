@@ -1,15 +1,15 @@
-use Rattle.std.proofs.Common.{ℕ, ◌+◌, ◌-◌, [], ◌∷◌, ap, sym, ◌∙◌, append_assoc}
+use Rattle.std.proofs.Common.{ℕ, ◌-◌, [], ◌∷◌, ap, sym, ◌∙◌, append_assoc}
 use Rattle.std.proofs.lemmas.Result.{IfOk-weaker, IfErr-weaker}
 use Rattle.x_item.specs.Words.{Fixed}
 use Rattle.x_item.specs.Gloss.{tag_mark}
 use Rattle.x_item.specs.Spell.{spell_body, spell_type, spell_named, TypeFits}
-use Rattle.x_item.specs.View.{view_type, view_shape, view_declaration}
+use Rattle.x_item.specs.View.{view_type, view_body, view_shape, view_declaration}
 use Rattle.x_item.specs.declared.mark.Mark.TheVariants as marks
 use Rattle.x_item.specs.declared.mark.Ending.TheVariants as endings
-use Rattle.x_item.specs.Symbols.{Context, AnyValue, Token, AfterCase, MoreArms, Declared, Declarations, MoreDeclarations, Arms, InDeclaration, AfterType, AfterTag, AnyBody, Typed, ending_mark}
+use Rattle.x_item.specs.Symbols.{Context, AnyValue, Token, AfterCase, MoreArms, Declared, Declarations, MoreDeclarations, Arms, InDeclaration, AfterType, Typed, ending_mark}
 use Rattle.x_item.specs.Reading.{spell_ended, IsRead, Fails}
-use Rattle.x_item.proofs.ReadLemmas.{exit, not_mark, fails_alike, fails_more, fails_then, read_alike, read_as, read_more, read_on, read_then, read_after, ok_alike, err_alike}
-use Rattle.x_item.proofs.LoopLemmas.{one_only, other_mark, no_mark, of_struct, of_union, union_words, of_declarations, more_declarations, declarations_more, has_declaration, fits_declaration, of_arms, more_arms, arms_more, has_arm, fits_arm, no_keyword, no_tag_name, fits_one_more}
+use Rattle.x_item.proofs.ReadLemmas.{exit, not_mark, fails_alike, fails_more, fails_then, read_alike, read_as, read_more, read_on, read_then, read_after, ok_alike, err_alike, read_after_word}
+use Rattle.x_item.proofs.LoopLemmas.{one_only, other_mark, no_mark, of_struct, of_union, union_words, of_declarations, more_declarations, declarations_more, has_declaration, fits_declaration, of_arms, more_arms, arms_more, has_arm, fits_arm, no_keyword, no_tag_name, fits_one_more, fits_inline}
 use Rattle.x_item.proofs.parsing.declaration.+parser.Goals as goal
 
 pub body_of_struct-returns-in_err-rest-clause-stuck : goal.body_of_struct-returns-in_err-rest-clause-stuck
@@ -208,17 +208,22 @@ declared-returns-in_default t c =
       stuck = err_alike (Declared n e ∷ []) (Typed n (InDeclaration e) ∷ []) c.args.tokens.now last.result same last.ensures.stuck;
     }
 
-pub tagged-returns-else-depth-eq0 : goal.tagged-returns-else-depth-eq0
-tagged-returns-else-depth-eq0 t c =
-    let n = c.args.depth in
+pub tagged-returns-in_err-body-in_default-clause-stuck : goal.tagged-returns-in_err-body-in_default-clause-stuck
+tagged-returns-in_err-body-in_default-clause-stuck t c =
+    let same = no_tag_name c.args.tag c.args.depth c.in_ok-word.word c.in_ok-word.ensures.word c.in_default.not-Name c.if-depth-eq0.false in
+    exit _ _ c.from_residual-in_err-body-in_default.ensures.1 (fails_alike same c.in_err-body-in_default.ensures.stuck)
+
+pub tagged-returns-in_ok-inline-in_default-clause-read : goal.tagged-returns-in_ok-inline-in_default-clause-read
+tagged-returns-in_ok-inline-in_default-clause-read t c =
     let tag = c.args.tag in
-    let some = c.if-depth-eq0.false in
-    let same = no_tag_name tag n c.in_ok-word.word c.in_ok-word.ensures.word c.in_default.not-Name some in
-    record {
-      read = ok_alike (Fixed (tag_mark tag) ∷ []) (AfterTag tag n ∷ []) (AnyBody tag (n - 1) ∷ []) [] c.args.tokens.now (λ x. spell_type (view_type x.0)) (λ x. x.1.now) c.inlined.result same c.inlined.ensures.read;
-      fits = IfOk-weaker c.inlined.result (λ x. TypeFits (view_type x.0) (n - 1 + 1)) (λ x. TypeFits (view_type x.0) n) (λ x f. fits_one_more (view_type x.0) n some f) c.inlined.ensures.fits;
-      stuck = err_alike (AfterTag tag n ∷ []) (AnyBody tag (n - 1) ∷ []) c.args.tokens.now c.inlined.result same c.inlined.ensures.stuck;
-    }
+    let made = c.in_ok-inline-in_default.ensures in
+    let read = c.in_ok-body-in_default.ensures in
+    let same = no_tag_name tag c.args.depth c.in_ok-word.word c.in_ok-word.ensures.word c.in_default.not-Name c.if-depth-eq0.false in
+    read_alike same (read_as (ap (λ m. Fixed m ∷ spell_body (view_body c.in_ok-body-in_default.body)) (sym read.of) ∙ ap spell_type (sym made)) (read_after_word (Fixed (tag_mark tag)) read.read))
+
+pub tagged-returns-in_ok-inline-in_default-clause-fits : goal.tagged-returns-in_ok-inline-in_default-clause-fits
+tagged-returns-in_ok-inline-in_default-clause-fits t c =
+    fits_one_more _ c.args.depth c.if-depth-eq0.false (fits_inline _ _ (c.args.depth - 1) c.in_ok-inline-in_default.ensures c.in_ok-body-in_default.ensures.fits)
 
 pub typed-returns-in_err-name-clause-stuck : goal.typed-returns-in_err-name-clause-stuck
 typed-returns-in_err-name-clause-stuck t c =
