@@ -6,6 +6,7 @@ use rpcx::{
     tell_of_file,
 };
 use std::fs;
+use std::mem;
 use std::process::ExitCode;
 use x_text::{Out, Sink};
 
@@ -45,7 +46,10 @@ fn run(rt: &HostRuntime) -> Result<Status, Status> {
     };
     let bytes = read_text(rt, "rpcgen", args.file, &mut err)?;
     let session = gen_open(rt.alloc(), args.file, &bytes, &mut err)?;
-    Ok(write(rt, which, &session, args.output, &mut err))
+    let status = write(rt, which, &session, args.output, &mut err);
+    // The process ends next, and gives all memory back at once.
+    mem::forget(session);
+    Ok(status)
 }
 
 fn main(rt: HostRuntime) -> ExitCode {

@@ -12,7 +12,12 @@ use super::ParseError;
 use super::declaration::{body, declared};
 use super::ending::Ending;
 use super::program::{numbered, versions};
+<<<<<<< HEAD
 use super::words::{Word, expect, first, name, stuck_at, value};
+=======
+use super::words::{Word, closed, expect, first, name, stuck_at, value};
+use crate::mark::{Ending, Mark};
+>>>>>>> h2/main
 use crate::trees::{Definition, Tag};
 use std::alloc::Global;
 use x_lex::{Mark, Token};
@@ -75,7 +80,7 @@ fn new_type<'w, 't>(
 {
     let (name, rest) = name(alloc, tokens)?;
     let (body, rest) = body(alloc, tag, 32, rest)?;
-    let rest = expect(Mark::Semicolon, rest)?;
+    let (body, rest) = closed(body, Mark::Semicolon, rest)?;
     Ok((Definition::NewType { name, body }, rest))
 }
 
