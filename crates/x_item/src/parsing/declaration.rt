@@ -20,12 +20,7 @@ use super::cases::cases;
 use super::declarator::{array_length, most, named};
 use super::ending::Ending;
 use super::enumerators::enumerators;
-<<<<<<< HEAD
-use super::words::{Word, expect, first, is_mark, name, stuck_at};
-=======
 use super::words::{Word, closed, expect, first, is_mark, name, stuck_at};
-use crate::mark::{Ending, Mark};
->>>>>>> h2/main
 use crate::trees::{Arm, Basic, Body, DataType, Declaration, Tag, inline, struct_body, union_body};
 use std::alloc::Global;
 use x_lex::{Mark, Token};

@@ -12,12 +12,7 @@ use super::ParseError;
 use super::declaration::{body, declared};
 use super::ending::Ending;
 use super::program::{numbered, versions};
-<<<<<<< HEAD
-use super::words::{Word, expect, first, name, stuck_at, value};
-=======
 use super::words::{Word, closed, expect, first, name, stuck_at, value};
-use crate::mark::{Ending, Mark};
->>>>>>> h2/main
 use crate::trees::{Definition, Tag};
 use std::alloc::Global;
 use x_lex::{Mark, Token};

@@ -3,23 +3,13 @@ use Rattle.std.proofs.lemmas.Result.{IfOk-weaker, IfErr-weaker}
 use Rattle.x_item.specs.Words.{Fixed}
 use Rattle.x_item.specs.Gloss.{tag_mark}
 use Rattle.x_item.specs.Spell.{spell_body, spell_type, spell_named, TypeFits}
-<<<<<<< HEAD
-use Rattle.x_item.specs.View.{view_type, view_shape, view_declaration}
+use Rattle.x_item.specs.View.{view_type, view_body, view_shape, view_declaration}
 use Rattle.x_lex.specs.declared.mark.Mark.TheVariants as marks
 use Rattle.x_item.specs.declared.parsing.ending.Ending.TheVariants as endings
-use Rattle.x_item.specs.Symbols.{AnyValue, Token, AfterCase, MoreArms, Declared, Declarations, MoreDeclarations, Arms, InDeclaration, AfterType, AfterTag, AnyBody, Typed, ending_mark}
-use Rattle.x_item.specs.Reading.{view_word, spell_ended}
-use Rattle.x_item.proofs.ReadLemmas.{exit, not_mark, fails_alike, fails_more, fails_then, read_alike, read_as, read_more, read_on, read_then, read_after, ok_alike, err_alike}
-use Rattle.x_item.proofs.LoopLemmas.{one_only, other_mark, no_mark, of_struct, of_union, union_words, of_declarations, more_declarations, declarations_more, has_declaration, fits_declaration, of_arms, more_arms, arms_more, has_arm, fits_arm, read_unsigned, stuck_unsigned, no_keyword, no_tag_name, fits_one_more}
-=======
-use Rattle.x_item.specs.View.{view_type, view_body, view_shape, view_declaration}
-use Rattle.x_item.specs.declared.mark.Mark.TheVariants as marks
-use Rattle.x_item.specs.declared.mark.Ending.TheVariants as endings
 use Rattle.x_item.specs.Symbols.{Context, AnyValue, Token, AfterCase, MoreArms, Declared, Declarations, MoreDeclarations, Arms, InDeclaration, AfterType, Typed, ending_mark}
 use Rattle.x_item.specs.Reading.{spell_ended, IsRead, Fails}
 use Rattle.x_item.proofs.ReadLemmas.{exit, not_mark, fails_alike, fails_more, fails_then, read_alike, read_as, read_more, read_on, read_then, read_after, ok_alike, err_alike, read_after_word}
 use Rattle.x_item.proofs.LoopLemmas.{one_only, other_mark, no_mark, of_struct, of_union, union_words, of_declarations, more_declarations, declarations_more, has_declaration, fits_declaration, of_arms, more_arms, arms_more, has_arm, fits_arm, no_keyword, no_tag_name, fits_one_more, fits_inline}
->>>>>>> h2/main
 use Rattle.x_item.proofs.parsing.declaration.+parser.Goals as goal
 
 pub body_of_struct-returns-in_err-rest-clause-stuck : goal.body_of_struct-returns-in_err-rest-clause-stuck
