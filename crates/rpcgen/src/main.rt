@@ -2,7 +2,7 @@
 #![tactic(auto)]
 
 use rpcx::{
-    GeneratedText, Session, Status, gen_args, gen_mode, gen_open, gen_write, read_text, read_words,
+    Which, Session, Status, gen_args, gen_mode, gen_open, gen_write, read_text, read_words,
     tell_of_file,
 };
 use std::fs;
@@ -13,7 +13,7 @@ use x_text::{Out, Sink};
 /// Writes a generated text to the file, or to standard output where none is named.
 fn write<E: Sink>(
     rt: &HostRuntime,
-    which: GeneratedText,
+    which: Which,
     session: &Session,
     output: Option<&str>,
     err: &mut E,
