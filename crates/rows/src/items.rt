@@ -1,6 +1,6 @@
 //! The items of a text, and what an edit does to them.
 ghost use Rattle.std.specs.Prelude.{◌≡◌, IfOk, OnOk, OnErr};
-ghost use Rattle.x_text.specs.Edits.{edited, LiesWithin};
+ghost use Rattle.x_text.specs.Edits.{change_of, edited_by, LiesWithin};
 ghost use Rattle.x_lex.specs.Tiling.{AreTokens};
 ghost use Rattle.x_lex.specs.Places.{lexemes};
 ghost use Rattle.x_item.specs.Items.{IsCut};
@@ -52,8 +52,8 @@ fn follow(
 ) -> Result<Carried, NoMemory>
     requires tokens { AreTokens old.now tokens.old.list }
     requires items { IsCut (lexemes old.now tokens.old.list) (counts items.old.list) }
-    requires within { LiesWithin old.now edit.now.start edit.now.end }
-    requires edited { new.now ≡ edited old.now edit.now.start edit.now.end edit.now.insert.now }
+    requires within { LiesWithin (change_of old.now edit.now) }
+    requires edited { new.now ≡ edited_by (change_of old.now edit.now) }
     ensures tokens { OnOk result (AreTokens new.now tokens.new.list) }
     ensures items { OnOk result (IsCut (lexemes new.now tokens.new.list) (counts items.new.list)) }
     ensures no_tokens { OnErr result (tokens.new.list ≡ tokens.old.list) }
@@ -166,8 +166,8 @@ fn fresh_items(
 ) -> Result<ItemPatch<u8>, NoMemory>
     requires tokens { AreTokens old.now tokens.now.list }
     requires items { IsCut (lexemes old.now tokens.now.list) (counts items.now.list) }
-    requires within { LiesWithin old.now edit.now.start edit.now.end }
-    requires edited { new.now ≡ edited old.now edit.now.start edit.now.end edit.now.insert.now }
+    requires within { LiesWithin (change_of old.now edit.now) }
+    requires edited { new.now ≡ edited_by (change_of old.now edit.now) }
     ensures among { IfOk result (λ fresh. LiesAmong items.now.list fresh) }
     ensures of_text { IfOk result (λ fresh. AreOfText (counts (patched items.now.list fresh))) }
 {

@@ -1,6 +1,6 @@
 //! The tokens of a text, and what an edit does to them.
 ghost use Rattle.std.specs.Prelude.{◌≡◌, OnOk, OnErr, IfOk};
-ghost use Rattle.x_text.specs.Edits.{edited, LiesWithin};
+ghost use Rattle.x_text.specs.Edits.{change_of, edited_by, LiesWithin};
 ghost use Rattle.x_lex.specs.Tiling.{AreTokens};
 
 use crate::case::Case;
@@ -91,8 +91,8 @@ fn follow(
     new: &Source,
 ) -> Result<Carried, NoMemory>
     requires tokens { AreTokens old.now tokens.old.list }
-    requires within { LiesWithin old.now edit.now.start edit.now.end }
-    requires edited { new.now ≡ edited old.now edit.now.start edit.now.end edit.now.insert.now }
+    requires within { LiesWithin (change_of old.now edit.now) }
+    requires edited { new.now ≡ edited_by (change_of old.now edit.now) }
     ensures tokens { OnOk result (AreTokens new.now tokens.new.list) }
     ensures err { OnErr result (tokens.new.list ≡ tokens.old.list) }
 {

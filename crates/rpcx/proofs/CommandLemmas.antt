@@ -12,7 +12,8 @@ use Rattle.memchr.specs.Find.{IsFirstByte, is_byte}
 use Rattle.rpcx.proofs.Parting.{unsplit, split_at}
 use Rattle.std.proofs.lemmas.List.Recursion.{and_at}
 use Rattle.std.proofs.lemmas.List.Splits.{slice_split_none, length-slice_split, join_with_byte-slice_split}
-use Rattle.rpcx.specs.Commands.{Nothing, words_of, is_hex, bytes_of, edit_of, edit_by, asked_by, command_of}
+use Rattle.rpcx.specs.declared.script.command.Command.TheVariants.{Bad}
+use Rattle.rpcx.specs.Commands.{words_of, is_hex, bytes_of, edit_of, edit_by, asked_by, command_of}
 
 own : IsNumeralModel (λ ds. list_all is_ascii_digit ds ≡ true) (digits_value 10)
 own = numerals_by_value _ (search rules)
@@ -64,18 +65,18 @@ first_space line r at first some = split_at 32 line r at first some
 
 -- what a line of several words asks for
 pub asked_by_more : (line name rest : List ℕ) → words_of line ≡ name ∷ words_of rest
-    → command_of line ≡ (if bytes_eq name (codes "edit") then edit_by (words_of rest) else Nothing)
+    → command_of line ≡ (if bytes_eq name (codes "edit") then edit_by (words_of rest) else Bad)
 asked_by_more line name rest parts = ap asked_by parts ∙ more (words_of rest) (rw length-slice_split (omega arith))
   where
-    more : (words : List (List ℕ)) → 0 < length words → asked_by (name ∷ words) ≡ (if bytes_eq name (codes "edit") then edit_by words else Nothing)
+    more : (words : List (List ℕ)) → 0 < length words → asked_by (name ∷ words) ≡ (if bytes_eq name (codes "edit") then edit_by words else Bad)
     more [] some = absurd (omega arith)
     more (word ∷ words) some = refl
 
 pub asked_by_edit : (line name rest : List ℕ) → words_of line ≡ name ∷ words_of rest → bytes_eq name (codes "edit") ≡ true → command_of line ≡ edit_by (words_of rest)
-asked_by_edit line name rest parts is = asked_by_more line name rest parts ∙ ap (λ b. if b then edit_by (words_of rest) else Nothing) is
+asked_by_edit line name rest parts is = asked_by_more line name rest parts ∙ ap (λ b. if b then edit_by (words_of rest) else Bad) is
 
-pub asked_by_other : (line name rest : List ℕ) → words_of line ≡ name ∷ words_of rest → bytes_eq name (codes "edit") ≡ false → command_of line ≡ Nothing
-asked_by_other line name rest parts is = asked_by_more line name rest parts ∙ ap (λ b. if b then edit_by (words_of rest) else Nothing) is
+pub asked_by_other : (line name rest : List ℕ) → words_of line ≡ name ∷ words_of rest → bytes_eq name (codes "edit") ≡ false → command_of line ≡ Bad
+asked_by_other line name rest parts is = asked_by_more line name rest parts ∙ ap (λ b. if b then edit_by (words_of rest) else Bad) is
 
 -- a space is no hexadecimal digit
 no_digit : (c : ℕ) → is_ascii_hexdigit c ≡ true → eqb c 32 ≡ false
@@ -90,20 +91,20 @@ hex_is_word hex is = slice_split_none (λ b. eqb b 32) hex (λ k d lt. no_digit 
 pub edit_by_hex : (words start rest end hex : List ℕ) → words_of words ≡ start ∷ words_of rest → words_of rest ≡ end ∷ words_of hex → is_hex hex ≡ true
     → edit_by (words_of words) ≡ edit_of start end (bytes_of hex)
 edit_by_hex words start rest end hex first second is =
-    ap edit_by (first ∙ ap (λ l. start ∷ l) (second ∙ ap (λ l. end ∷ l) (hex_is_word hex is))) ∙ ap (λ b. if b then edit_of start end (bytes_of hex) else Nothing) is
+    ap edit_by (first ∙ ap (λ l. start ∷ l) (second ∙ ap (λ l. end ∷ l) (hex_is_word hex is))) ∙ ap (λ b. if b then edit_of start end (bytes_of hex) else Bad) is
 
 -- a list that one word spells is that word
 one_is_all : (hex word : List ℕ) → words_of hex ≡ word ∷ [] → word ≡ hex
 one_is_all hex word is = sym (ap (join_with_byte 32) is) ∙ join_with_byte-slice_split 32 hex
 
 pub edit_by_other : (words start rest end hex : List ℕ) → words_of words ≡ start ∷ words_of rest → words_of rest ≡ end ∷ words_of hex → is_hex hex ≡ false
-    → edit_by (words_of words) ≡ Nothing
+    → edit_by (words_of words) ≡ Bad
 edit_by_other words start rest end hex first second is =
     ap edit_by (first ∙ ap (λ l. start ∷ l) second) ∙ other (words_of hex) (rw length-slice_split (omega arith)) (one_is_all hex)
   where
-    other : (parts : List (List ℕ)) → 0 < length parts → ((word : List ℕ) → parts ≡ word ∷ [] → word ≡ hex) → edit_by (start ∷ end ∷ parts) ≡ Nothing
+    other : (parts : List (List ℕ)) → 0 < length parts → ((word : List ℕ) → parts ≡ word ∷ [] → word ≡ hex) → edit_by (start ∷ end ∷ parts) ≡ Bad
     other [] some one = absurd (omega arith)
-    other (word ∷ []) some one = ap (λ w. if is_hex w then edit_of start end (bytes_of w) else Nothing) (one word refl) ∙ ap (λ b. if b then edit_of start end (bytes_of hex) else Nothing) is
+    other (word ∷ []) some one = ap (λ w. if is_hex w then edit_of start end (bytes_of w) else Bad) (one word refl) ∙ ap (λ b. if b then edit_of start end (bytes_of hex) else Bad) is
     other (word ∷ next ∷ parts) some one = refl
 
 pub edit_by_two : (words start end : List ℕ) → words_of words ≡ start ∷ words_of end → words_of end ≡ end ∷ [] → edit_by (words_of words) ≡ edit_of start end []

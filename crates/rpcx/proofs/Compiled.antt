@@ -10,14 +10,16 @@ use Rattle.x_item.specs.Parse.{Parse, IsParse}
 use Rattle.x_item.specs.Items.{AreItems, joined, IsCut}
 use Rattle.x_item.proofs.ParseLaws.{one_parse}
 use Rattle.x_item.proofs.CuttingLemmas.{same_cut}
-use Rattle.rpcx.specs.Cut.{AreEach, AreParsed}
+use Rattle.rpcx.specs.ItemView.{AreEach, AreParsed}
 use Rattle.rpcx.proofs.ItemLemmas.{take_part, drop_part}
-use Rattle.rpcx.specs.Names.{first_declarer}
-use Rattle.rpcx.specs.Kept.{view_item, view_parse, kept_definition}
+use Rattle.rpcx.specs.Declarers.{FirstIs, first_declarer}
+use Rattle.rpcx.specs.DeclarerTable.{first_in}
+use Rattle.rpcx.proofs.DeclarerLaws.{as_found}
+use Rattle.rpcx.specs.ItemView.{view_item, view_parse, kept_definition}
 use Rattle.rpcx.specs.Compile.{Item, parts, definitions_of, definition_at, first_of, faults_from, faults_of, tokens_of, IsCompilation, AreParses}
 use Rattle.rpcx.specs.Header.{body_from, body_of}
-use Rattle.rpcx.specs.declared.item.Item as rust
-use Rattle.rpcx.specs.declared.names.Declarer.{Declarer}
+use Rattle.rpcx.specs.declared.compile.item.Item as rust
+use Rattle.rpcx.specs.declared.compile.names.Declarer.{Declarer}
 
 pub length-lexemes : (text : List ℕ) (at : ℕ) (ts : List (Kind × ℕ)) → length (lexemes_from text at ts) ≡ length ts
 length-lexemes text at [] = refl
@@ -35,6 +37,13 @@ definitions-parts tokens (i ∷ is) = ap (λ ds. kept_definition i ∷ ds) (defi
 pub same_first : (find : List ℕ → Option Declarer) (tokens : List Lexeme) (items : List rust.Item) → ((name : List ℕ) → find name ≡ first_declarer (map kept_definition items) name)
     → find ≡ first_of (parts tokens (map view_item items))
 same_first find tokens items h = λ i name. (h name ∙ ap (λ ds. first_declarer ds name) (sym (definitions-parts tokens items))) i
+
+-- the same by what the table of names promises
+pub first_by_table : (tokens : List Lexeme) (items lent : List rust.Item) (table : List (List ℕ × Declarer)) → ((name : List ℕ) → FirstIs (map kept_definition lent) name (first_in table name))
+    → lent ≡ items → first_in table ≡ first_of (parts tokens (map view_item items))
+first_by_table tokens items lent table h same =
+    same_first (first_in table) tokens items
+    (λ name. as_found (map kept_definition lent) name (first_in table name) (h name) ∙ ap (λ is. first_declarer (map kept_definition is) name) same)
 
 pub same_faults : (text : List ℕ) (find : List ℕ → Option Declarer) (items : List Item) → find ≡ first_of items → faults_from text find 0 items ≡ faults_of text items
 same_faults text find items h = ap (λ f. faults_from text f 0 items) h

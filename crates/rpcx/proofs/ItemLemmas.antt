@@ -1,25 +1,15 @@
 -- Items that are parsed one after another.
-use Rattle.std.proofs.Common.{◌≡◌, ℕ, zero, suc, ◌+◌, ◌<◌, ◌≤◌, inl, inr, List, [], ◌∷◌, ◌++◌, length, map, take, drop, refl, ap, sym, ◌∙◌, subst, append_assoc, arith}
+use Rattle.std.proofs.Common.{◌≡◌, ℕ, zero, suc, ◌+◌, ◌<◌, ◌≤◌, inl, inr, Bool, true, false, List, [], ◌∷◌, ◌++◌, length, map, take, drop, refl, ap, sym, ◌∙◌, subst, append_assoc, arith}
 use Rattle.std.proofs.lemmas.List.{append-nil, length_push, length-append}
 use Rattle.std.proofs.Math.Seq.{take-append_seam, drop-append_seam}
 use Rattle.x_text.specs.Counts.{Counts, raised}
 use Rattle.x_lex.specs.Places.{Lexeme}
 use Rattle.x_item.specs.Parse.{Fault, IsParse}
-use Rattle.x_item.specs.Items.{AreItems, joined, IsCut}
+use Rattle.x_item.specs.Items.{AreItems, joined, AreWhole, IsNext}
 use Rattle.x_item.specs.declared.parsing.fault_code.FaultCode.{FaultCode}
-use Rattle.rpcx.specs.Cut.{IsItem, AreEach, AreParsed}
-use Rattle.rpcx.specs.declared.item.Item.{Item}
-
--- these items are of the first parts of all tokens; parts with so many tokens are left, and the tokens of these
-pub record HasParsed (all left : List Lexeme) (counts : List ℕ) (items : List Item) : Type 0 where
-  pub parts : List (List Lexeme)
-  pub are : AreItems all parts
-  pub done : List (List Lexeme)
-  pub rest : List (List Lexeme)
-  pub split : done ++ rest ≡ parts
-  pub each : AreEach done items
-  pub left_is : left ≡ joined rest
-  pub counts_are : counts ≡ map length rest
+use Rattle.x_item.proofs.ItemListLemmas.{joined_push, whole_push}
+use Rattle.rpcx.specs.ItemView.{IsItem, AreEach, AreParsed}
+use Rattle.rpcx.specs.declared.compile.item.Item.{Item}
 
 each_push : (parts : List (List Lexeme)) (items : List Item) (part : List Lexeme) (item : Item) → AreEach parts items → IsItem part item → AreEach (parts ++ part ∷ []) (items ++ item ∷ [])
 each_push [] [] part item each this = (this, tt)
@@ -33,59 +23,99 @@ take_part part rest n e = ap (λ k. take k (part ++ rest)) e ∙ take-append_sea
 pub drop_part : (part rest : List Lexeme) (n : ℕ) → n ≡ length part → drop n (part ++ rest) ≡ rest
 drop_part part rest n e = ap (λ k. drop k (part ++ rest)) e ∙ drop-append_seam part rest
 
--- no item is parsed yet
-pub parsed_none : (all left : List Lexeme) (counts : List ℕ) → IsCut all counts → left ≡ all → HasParsed all left counts []
-parsed_none all left counts cut is = record {
-  parts = cut.items;
-  are = cut.are;
-  done = [];
-  rest = cut.items;
-  split = refl;
-  each = tt;
-  left_is = is ∙ sym cut.are.all;
-  counts_are = cut.lengths;
-}
+-- whole items of the first tokens are parsed, and those of `left` are not yet
+pub record AreParsedSoFar (all left : List Lexeme) (items : List Item) : Type 0 where
+  pub done : List (List Lexeme)
+  pub split : joined done ++ left ≡ all
+  pub whole : AreWhole done
+  pub each : AreEach done items
 
--- the parts that are left, by how many tokens they have
-data Front (left : List Lexeme) (n : ℕ) (counts : List ℕ) (rest : List (List Lexeme)) : Type 0 where
-  Some : (part : List Lexeme) (others : List (List Lexeme)) → rest ≡ part ∷ others → n ≡ length part → counts ≡ map length others
-      → take n left ≡ part → drop n left ≡ joined others → Front left n counts rest
+-- the same where items are left, and all are parsed where none is
+abbrev pub Parsing : Bool → List Lexeme → List Lexeme → List Item → Type 0
+Parsing true all left items = AreParsedSoFar all left items
+Parsing false all left items = AreParsed all items
 
-front : (left : List Lexeme) (n : ℕ) (counts : List ℕ) (rest : List (List Lexeme)) → left ≡ joined rest → n ∷ counts ≡ map length rest → Front left n counts rest
-front left n counts [] is e = absurd (cc)
-front left n counts (part ∷ others) is e =
-    let count : n ≡ length part = cc in
-    let more : counts ≡ map length others = cc in
-    Some part others refl count more (ap (take n) is ∙ take_part part (joined others) n count) (ap (drop n) is ∙ drop_part part (joined others) n count)
+pub parsing_none : (all left : List Lexeme) → left ≡ all → Parsing true all left []
+parsing_none all left is = record { done = []; split = is; whole = tt; each = tt }
+
+split_more : (done : List (List Lexeme)) (part left left' all : List Lexeme) → left ≡ part ++ left' → joined done ++ left ≡ all → joined (done ++ part ∷ []) ++ left' ≡ all
+split_more done part left left' all is split =
+    ap (λ l. l ++ left') (joined_push done part) ∙ append_assoc (joined done) part left' ∙ ap (λ l. joined done ++ l) (sym is) ∙ split
 
 -- one item more
-pub parsed_more : (all left : List Lexeme) (n : ℕ) (counts : List ℕ) (items : List Item) (item : Item) → HasParsed all left (n ∷ counts) items → IsItem (take n left) item
-    → HasParsed all (drop n left) counts (items ++ item ∷ [])
-parsed_more all left n counts items item h this = by (front left n counts h.rest h.left_is h.counts_are)
-  where
-    by : Front left n counts h.rest → HasParsed all (drop n left) counts (items ++ item ∷ [])
-    by (Some part others rest_is count counts_are taken dropped) = record {
-      parts = h.parts;
-      are = h.are;
-      done = h.done ++ part ∷ [];
-      rest = others;
-      split = append_assoc h.done (part ∷ []) others ∙ ap (λ ps. h.done ++ ps) (sym rest_is) ∙ h.split;
-      each = each_push h.done items part item h.each (subst (λ ts. IsItem ts item) taken this);
-      left_is = dropped;
-      counts_are = counts_are;
-    }
-
-no_more : (rest : List (List Lexeme)) → [] ≡ map length rest → rest ≡ []
-no_more [] e = refl
-no_more (p ∷ ps) e = absurd (cc)
-
--- no part is left
-pub parsed_all : (all left : List Lexeme) (counts : List ℕ) (items : List Item) → counts ≡ [] → HasParsed all left counts items → AreParsed all items
-parsed_all all left counts items none h = record {
-  parts = h.parts;
-  are = h.are;
-  each = subst (λ ps. AreEach ps items) (sym (append-nil h.done) ∙ ap (λ ps. h.done ++ ps) (sym (no_more h.rest (sym none ∙ h.counts_are))) ∙ h.split) h.each;
+pub parsing_more : (whole : Bool) (all left part left' : List Lexeme) (items : List Item) (item : Item) → Parsing true all left items → IsNext whole left part left' → IsItem part item
+    → Parsing whole all left' (items ++ item ∷ [])
+parsing_more true all left part left' items item h next this = record {
+  done = h.done ++ part ∷ [];
+  split = split_more h.done part left left' all next.1 h.split;
+  whole = whole_push h.done part h.whole next.0;
+  each = each_push h.done items part item h.each this;
 }
+parsing_more false all left part left' items item h next this = record {
+  parts = h.done ++ part ∷ [];
+  are = record {
+    whole = h.done;
+    last = part;
+    parts = refl;
+    all = joined_push h.done part ∙ ap (λ l. joined h.done ++ l) (sym next.1) ∙ h.split;
+    each = h.whole;
+    rest = next.0;
+  };
+  each = each_push h.done items part item h.each this;
+}
+
+-- a part is no longer than what was left, and what is left then is shorter, or nothing
+pub part_short : (whole : Bool) (left part left' : List Lexeme) → IsNext whole left part left' → length part ≤ length left
+part_short true left part left' next = let l = ap length next.1 ∙ length-append part left' in omega (arith, l)
+part_short false left part left' next = let l = ap length next.1 in omega (arith, l)
+
+pub rest_short : (whole : Bool) (left part left' : List Lexeme) → IsNext whole left part left' → length left' ≤ length left
+rest_short true left part left' next = let l = ap length next.1 ∙ length-append part left' in omega (arith, l)
+rest_short false left part left' next = let l = ap length next.2 in omega (arith, l)
+
+-- how many steps are left at the most
+abbrev pub steps_left : Bool → List Lexeme → ℕ
+steps_left true left = length left + 1
+steps_left false left = 0
+
+pub fewer_steps : (whole : Bool) (left part left' : List Lexeme) → IsNext whole left part left' → steps_left whole left' < steps_left true left
+fewer_steps true left part left' next =
+    let l = ap length next.1 ∙ length-append part left' in
+    let w = next.0 in
+    let p = ap length w.parts ∙ length_push w.front w.token in
+    omega (arith, l, p)
+fewer_steps false left part left' next = omega arith
+
+same_many : (parts : List (List Lexeme)) (items : List Item) → AreEach parts items → length items ≡ length parts
+same_many [] [] each = refl
+same_many [] (x ∷ items) each = absurd each
+same_many (p ∷ parts) [] each = absurd each
+same_many (p ∷ parts) (x ∷ items) each = ap suc (same_many parts items each.1)
+
+many_tokens : (whole : List (List Lexeme)) → AreWhole whole → length whole ≤ length (joined whole)
+many_tokens [] each = omega arith
+many_tokens (part ∷ whole) each =
+    let w = each.0 in
+    let p = ap length w.parts ∙ length_push w.front w.token in
+    let l = length-append part (joined whole) in
+    let h = many_tokens whole each.1 in
+    omega (arith, p, l, h)
+
+-- there is an item
+pub some_items : (all : List Lexeme) (items : List Item) → AreParsed all items → 0 < length items
+some_items all items h =
+    let same = same_many h.parts items h.each in
+    let parts = ap length h.are.parts ∙ length_push h.are.whole h.are.last in
+    omega (arith, same, parts)
+
+-- there is at most one item more than there are tokens
+pub few_items : (all : List Lexeme) (items : List Item) → AreParsed all items → length items ≤ length all + 1
+few_items all items h =
+    let same = same_many h.parts items h.each in
+    let parts = ap length h.are.parts ∙ length_push h.are.whole h.are.last in
+    let tokens = ap length (sym h.are.all) ∙ ap (λ ps. length (joined ps)) h.are.parts ∙ ap length (joined_push h.are.whole h.are.last) ∙ length-append (joined h.are.whole) h.are.last in
+    let many = many_tokens h.are.whole h.are.each in
+    omega (arith, same, parts, tokens, many)
 
 -- a fault stands at a token of the item
 pub fault_within : (tokens : List Lexeme) (token : ℕ) (code : FaultCode) → IsParse tokens (Fault token code) → token ≤ length tokens

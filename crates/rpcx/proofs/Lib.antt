@@ -3,6 +3,7 @@ pub mod Bases
 pub mod CommandLemmas
 pub mod Commands
 pub mod Compiled
+pub mod DeclarerLaws
 pub mod DefinitionLemmas
 pub mod Digits
 pub mod EditLists
@@ -15,8 +16,10 @@ pub mod NameLemmas
 pub mod Parting
 pub mod QueueLemmas
 pub mod ReadingLemmas
+pub mod RuleTexts
 pub mod Running
 pub mod Scripts
 pub mod SearchLemmas
 pub mod Stopped
+pub mod TextLemmas
 pub mod WalkLemmas

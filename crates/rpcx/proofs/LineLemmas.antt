@@ -4,10 +4,10 @@ use Rattle.std.specs.Prelude.{filter, nat_lt, ⊤, IfSome}
 use Rattle.std.specs.List.{slice_split}
 use Rattle.std.proofs.lemmas.List.Splits.{slice_split_none, slice_split_at, slice_split-cons_yes, length-slice_split}
 use Rattle.std.specs.Io.KnownBytes.{Consumes, IsAtEnd}
-use Rattle.rpcx.specs.declared.lines.Found.{Found}
-use Rattle.rpcx.specs.declared.lines.Found.TheVariants.{Line, TooLong, End}
-use Rattle.rpcx.specs.declared.lines.State.{State}
-use Rattle.rpcx.specs.declared.lines.State.TheVariants.{Ended}
+use Rattle.rpcx.specs.declared.script.lines.Found.{Found}
+use Rattle.rpcx.specs.declared.script.lines.Found.TheVariants.{Line, TooLong, End}
+use Rattle.rpcx.specs.declared.script.lines.State.{State}
+use Rattle.rpcx.specs.declared.script.lines.State.TheVariants.{Ended}
 use Rattle.rpcx.specs.Lines.{is_feed, script_lines, all_but_last, whole_lines, AreFeeds, HasNoFeed, Reading, IsNextLine, HasNoLine, ReadsOn}
 
 -- ---- line feeds in front

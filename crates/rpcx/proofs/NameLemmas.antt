@@ -5,8 +5,8 @@ use Rattle.std.specs.Map.{lookup}
 use Rattle.std.specs.Str.{bytes_eq}
 use Rattle.std.proofs.lemmas.Slice.Eq.{bytes_eq-Decides}
 use Rattle.x_item.specs.Tree.{Definition}
-use Rattle.rpcx.specs.Names.{or_else, in_item, word_declaring, first_from}
-use Rattle.rpcx.specs.declared.names.Declarer.{Declarer}
+use Rattle.rpcx.specs.Declarers.{or_else, in_item, word_declaring, first_from}
+use Rattle.rpcx.specs.declared.compile.names.Declarer.{Declarer}
 
 -- an entry more at the end
 pub lookup_more : {K X : Type 0} (test : K → Bool) (es : List (K × X)) (k : K) (x : X) → lookup test (es ++ (k, x) ∷ []) ≡ or_else (lookup test es) (cond (test k) (Some x) None)

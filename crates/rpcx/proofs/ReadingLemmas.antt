@@ -5,11 +5,12 @@ use Rattle.std.proofs.lemmas.List.{take-append-drop, take-take}
 use Rattle.std.proofs.lemmas.List.Elements.{All-append, All-take, All-nil}
 use Rattle.std.proofs.lemmas.Result.{MatchResult-from_err, MatchResult-weaker}
 use Rattle.std.proofs.KnownBytes.{Consumes-trans}
-use Rattle.rpcx.specs.declared.lines.LineFault.{LineFault}
-use Rattle.rpcx.specs.declared.lines.Found.{Found}
-use Rattle.rpcx.specs.declared.lines.Found.TheVariants.{Line, TooLong, End}
-use Rattle.rpcx.specs.declared.lines.State.{State}
-use Rattle.rpcx.specs.declared.lines.State.TheVariants.{Between, WithinLong, Ended}
+use Rattle.rpcx.specs.declared.script.lines.TheConstants.{LONGEST}
+use Rattle.rpcx.specs.declared.script.lines.LineFault.{LineFault}
+use Rattle.rpcx.specs.declared.script.lines.Found.{Found}
+use Rattle.rpcx.specs.declared.script.lines.Found.TheVariants.{Line, TooLong, End}
+use Rattle.rpcx.specs.declared.script.lines.State.{State}
+use Rattle.rpcx.specs.declared.script.lines.State.TheVariants.{Between, WithinLong, Ended}
 use Rattle.rpcx.specs.Lines.{is_feed, AreFeeds, HasNoFeed, EndsAt, HasSearched, HasPassed, Reading, InState, IsUnread, IsNextLine, Tells, HasNoLine, ReadsOn, Advances}
 
 -- the unread text, where the reader's state and bytes are known
@@ -27,11 +28,11 @@ front_of bytes most len far h = (
 )
 
 -- the front of a line that is too long is too long, and holds no line feed
-pub far_front : (bytes : List ℕ) (len : ℕ) → 33600000 < len → EndsAt bytes len → HasNoFeed (take 33600001 bytes) × (33600000 < length bytes)
-far_front bytes len far h = front_of bytes 33600000 len far h
+pub far_front : (bytes : List ℕ) (len : ℕ) → LONGEST < len → EndsAt bytes len → HasNoFeed (take (LONGEST + 1) bytes) × (LONGEST < length bytes)
+far_front bytes len far h = front_of bytes LONGEST len far h
 
-pub none_in_front : (bytes : List ℕ) → HasNoFeed bytes → HasNoFeed (take 33600001 bytes)
-none_in_front bytes h = All-take (λ b. is_feed b ≡ false) 33600001 bytes h
+pub none_in_front : (bytes : List ℕ) → HasNoFeed bytes → HasNoFeed (take (LONGEST + 1) bytes)
+none_in_front bytes h = All-take (λ b. is_feed b ≡ false) (LONGEST + 1) bytes h
 
 -- ---- line feeds in front
 
@@ -68,7 +69,7 @@ module _ (old new unread : List ℕ) (left left' : Option (List ℕ)) (is : InSt
   whole : unread ++ searched.come ≡ searched.trimmed.feeds ++ new
   whole = ap (λ l. l ++ searched.come) is ∙ searched.trimmed.text_is
 
-  pub reads_line : (state : State) (len : ℕ) → state ≡ Between → EndsAt new len → len ≤ 33600000
+  pub reads_line : (state : State) (len : ℕ) → state ≡ Between → EndsAt new len → len ≤ LONGEST
       → ReadsOn unread (record { line = take len new; bytes = drop (len + 1) new; state = state }) left left' (Ok Line)
   reads_line state len between ends short = record {
     come = searched.come;
@@ -100,10 +101,10 @@ module _ (old new unread : List ℕ) (left left' : Option (List ℕ)) (is : InSt
   }
 
   -- the front of a line that is too long was dropped, and a call went on from there
-  pub reads_on : (mid after : Reading) (left'' : Option (List ℕ)) (result : Result Found LineFault) → mid.state ≡ WithinLong → mid.bytes ≡ drop 33600001 new → HasNoFeed (take 33600001 new) → 33600000 < length new
+  pub reads_on : (mid after : Reading) (left'' : Option (List ℕ)) (result : Result Found LineFault) → mid.state ≡ WithinLong → mid.bytes ≡ drop (LONGEST + 1) new → HasNoFeed (take (LONGEST + 1) new) → LONGEST < length new
       → Advances mid after left' left'' result → ReadsOn unread after left left'' result
   reads_on mid after left'' result state bytes none far on =
-      let more = on new (unread_from mid WithinLong (drop 33600001 new) left' new state bytes (take 33600001 new, omega (arith, length-take 33600001 new), none, sym (take-append-drop 33600001 new))) in
+      let more = on new (unread_from mid WithinLong (drop (LONGEST + 1) new) left' new state bytes (take (LONGEST + 1) new, omega (arith, length-take (LONGEST + 1) new), none, sym (take-append-drop (LONGEST + 1) new))) in
       let feeds = searched.trimmed.feeds in
       let text : feeds ++ (new ++ more.come) ≡ unread ++ (searched.come ++ more.come) = sym (append_assoc feeds new more.come) ∙ ap (λ l. l ++ more.come) (sym whole) ∙ append_assoc unread searched.come more.come in
       record {

@@ -2,35 +2,37 @@
 use Rattle.std.proofs.Common.{◌≡◌, ◌≤◌, ℕ, arith, Bool, true, false, ◌||◌, List, [], ◌∷◌, ◌++◌, length, Option, Some, None, Ok, Err, refl, sym, ap, subst, ◌∙◌, append-nil, ◌⊎◌, inl, inr}
 use Rattle.std.specs.Prelude.{MatchOption}
 use Rattle.std.specs.Io.KnownBytes.{Appends}
+use Rattle.x_text.specs.Streams.{Stream}
 use Rattle.x_text.specs.Writing.{Inked, Writes, Adds, counted}
-use Rattle.x_text.proofs.Pens.{writes_none, all_written, front_written}
-use Rattle.rpcx.specs.Session.{Opened, Compiles}
+use Rattle.x_text.proofs.Pens.{writes_none, all_written, counted_all, front_written}
+use Rattle.rpcx.specs.Session.{Document, LeavesText, Compiles}
 use Rattle.rpcx.specs.Answers.{Answer, line_answer}
 use Rattle.rpcx.specs.Lines.{Reading, IsUnread, script_lines}
 use Rattle.x_lex.specs.declared.kind.Kind.{Kind}
 use Rattle.rpcx.specs.Compile.{Item, IsCompilation}
-use Rattle.rpcx.specs.declared.lines.State.TheVariants.{Between}
+use Rattle.rpcx.specs.declared.script.lines.State.TheVariants.{Between}
 use Rattle.rpcx.specs.Script.{then_answer, AreAnswered, IsGiven, HasGiven, IsAsBefore, HasRun, HasStopped, HasFailed, IsFrontOf, Runs, Answers, is_refused, status_of, WorksOn, AddsIfFound, EndsEarly, IsUntouched}
+use Rattle.rpcx.specs.declared.program.status.Status.{Status}
 use Rattle.rpcx.specs.declared.script.Outcome.{Outcome}
 use Rattle.rpcx.specs.declared.script.EngineFault.{EngineFault}
 use Rattle.rpcx.proofs.Scripts.{answered_more}
 
 -- between two lines: the lines that were given are answered, and their answers are written
-pub record IsBetween (script : List ℕ) (old : Opened) (start : Option (List ℕ)) (session : Opened) (reader : Reading) (left : Option (List ℕ)) (refused : Bool) (pen : Inked) (now : Option (List ℕ)) (failed : Bool) : Type 0 where
+pub record IsBetween (script : List ℕ) (old : Document) (start : Stream) (session : Document) (reader : Reading) (left : Option (List ℕ)) (refused : Bool) (pen : Inked) (now : Stream) : Type 0 where
   pub given : List (List ℕ)
   pub all : Answer
   pub reads : HasGiven script reader left given
   pub answered : AreAnswered old.base old.text given all
-  pub session_is : session ≡ record old { text = all.text }
+  pub session_is : LeavesText old session all.text
   pub refused_is : refused ≡ all.refused
-  pub writes : Writes start all.told pen now failed
+  pub writes : Writes start all.told pen now
   pub goes : pen.stopped ≡ false
   pub empty : pen.pending ≡ []
 
-pub at_start : (script : List ℕ) (old : Opened) (start : Option (List ℕ)) (reader : Reading) (left : Option (List ℕ)) (pen : Inked) (failed : Bool)
+pub at_start : (script : List ℕ) (old : Document) (start : Stream) (reader : Reading) (left : Option (List ℕ)) (pen : Inked)
     → left ≡ Some script → reader ≡ record { line = []; bytes = []; state = Between } → pen ≡ record { pending = []; written = 0; stopped = false }
-    → IsBetween script old start old reader left false pen start failed
-at_start script old start reader left pen failed left_is reader_is pen_is = record {
+    → IsBetween script old start old reader left false pen start
+at_start script old start reader left pen left_is reader_is pen_is = record {
   given = [];
   all = record { told = []; refused = false; text = old.text };
   reads = record {
@@ -44,15 +46,15 @@ at_start script old start reader left pen failed left_is reader_is pen_is = reco
     whole_are = λ goes next. refl;
   };
   answered = refl;
-  session_is = refl;
+  session_is = record { text_is = refl; base_is = refl };
   refused_is = refl;
-  writes = subst (λ (p : Inked). Writes start [] p start failed) (sym pen_is) (writes_none start failed);
+  writes = subst (λ (p : Inked). Writes start [] p start) (sym pen_is) (writes_none start);
   goes = ap (λ (p : Inked). p.stopped) pen_is;
   empty = ap (λ (p : Inked). p.pending) pen_is;
 }
 
 -- a line is answered behind the others, and its answer is passed on, or the sink has failed
-pub record IsBehind (script : List ℕ) (old : Opened) (start : Option (List ℕ)) (session : Opened) (reader : Reading) (left : Option (List ℕ)) (refused : Bool) (pen : Inked) (now : Option (List ℕ)) (failed : Bool) : Type 0 where
+pub record IsBehind (script : List ℕ) (old : Document) (start : Stream) (session : Document) (reader : Reading) (left : Option (List ℕ)) (refused : Bool) (pen : Inked) (now : Stream) : Type 0 where
   pub earlier : List (List ℕ)
   pub last : List ℕ
   pub all : Answer
@@ -61,35 +63,27 @@ pub record IsBehind (script : List ℕ) (old : Opened) (start : Option (List ℕ
   pub reads : HasGiven script reader left (earlier ++ last ∷ [])
   pub answered : AreAnswered old.base old.text earlier all
   pub compiled : IsCompilation all.text tokens items
-  pub session_is : session ≡ record old { text = (line_answer old.base all.text items last).text }
+  pub session_is : LeavesText old session (line_answer old.base all.text items last).text
   pub refused_is : refused ≡ (all.refused || (line_answer old.base all.text items last).refused)
-  pub writes : Writes start (all.told ++ (line_answer old.base all.text items last).told) pen now failed
+  pub writes : Writes start (all.told ++ (line_answer old.base all.text items last).told) pen now
   pub whole : counted (length all.told) ≤ pen.written
-
--- a pen that holds nothing back has counted all that was written
-counted_all : (p : Inked) (start now : Option (List ℕ)) (text : List ℕ) (failed : Bool) → p.stopped ≡ false → p.pending ≡ [] → Writes start text p now failed → p.written ≡ counted (length text)
-counted_all p start now text failed e empty w = on (p.stopped) e w
-  where
-    on : (s : Bool) → s ≡ false → Writes start text (record p { stopped = s }) now failed → p.written ≡ counted (length text)
-    on true e w = absurd (cc)
-    on false e w = w.written_is ∙ ap (λ t. counted (length t)) (sym (w.text_is ∙ ap (λ l. w.front ++ l) empty ∙ append-nil w.front))
 
 no_fewer_then : (a b c d : ℕ) → b ≡ a → b ≤ c → c ≤ d → a ≤ d
 no_fewer_then a b c d is first second = omega (arith, is, first, second)
 
-pub behind : (script : List ℕ) (old : Opened) (start : Option (List ℕ)) (session new : Opened) (reader reader' : Reading) (left left' : Option (List ℕ)) (refused refuses : Bool)
-    (p q r : Inked) (now now' now'' : Option (List ℕ)) (failed failed' failed'' : Bool) → (h : IsBetween script old start session reader left refused p now failed)
-    → ((line : List ℕ) × HasGiven script reader' left' (h.given ++ line ∷ []) × Compiles session.text (λ items. IsGiven (line_answer session.base session.text items line) session new refuses p now failed q now' failed'))
-    → Adds q now' failed' r now'' failed'' []
-    → IsBehind script old start new reader' left' (refused || refuses) r now'' failed''
-behind script old start session new reader reader' left left' refused refuses p q r now now' now'' failed failed' failed'' h k flushed =
+pub behind : (script : List ℕ) (old : Document) (start : Stream) (session new : Document) (reader reader' : Reading) (left left' : Option (List ℕ)) (refused refuses : Bool)
+    (p q r : Inked) (now now' now'' : Stream) → (h : IsBetween script old start session reader left refused p now)
+    → ((line : List ℕ) × HasGiven script reader' left' (h.given ++ line ∷ []) × Compiles session.text (λ items. IsGiven (line_answer session.base session.text items line) session new refuses p now q now'))
+    → Adds q now' r now'' []
+    → IsBehind script old start new reader' left' (refused || refuses) r now''
+behind script old start session new reader reader' left left' refused refuses p q r now now' now'' h k flushed =
     let line = k.0 in
     let items = k.2.1 in
-    let text_is : session.text ≡ h.all.text = ap (λ s. s.text) h.session_is in
-    let base_is : session.base ≡ old.base = ap (λ s. s.base) h.session_is in
+    let text_is : session.text ≡ h.all.text = h.session_is.text_is in
+    let base_is : session.base ≡ old.base = h.session_is.base_is in
     let a = line_answer old.base h.all.text items line in
     let same : line_answer session.base session.text items line ≡ a = λ i. line_answer (base_is i) (text_is i) items line in
-    let given : IsGiven a session new refuses p now failed q now' failed' = subst (λ b. IsGiven b session new refuses p now failed q now' failed') same k.2.3 in
+    let given : IsGiven a session new refuses p now q now' = subst (λ b. IsGiven b session new refuses p now q now') same k.2.3 in
     let told = flushed.goes_on start (h.all.told ++ a.told) (given.added.goes_on start h.all.told h.writes) in
     record {
       earlier = h.given;
@@ -100,15 +94,15 @@ behind script old start session new reader reader' left left' refused refuses p 
       reads = k.1;
       answered = h.answered;
       compiled = subst (λ t. IsCompilation t k.2.0 items) text_is k.2.2;
-      session_is = given.session_is ∙ (λ i. record (h.session_is i) { text = a.text });
+      session_is = record { text_is = given.session_is.text_is; base_is = given.session_is.base_is ∙ base_is };
       refused_is = λ i. h.refused_is i || given.refused_is i;
-      writes = subst (λ t. Writes start t r now'' failed'') (append-nil (h.all.told ++ a.told)) told;
-      whole = no_fewer_then (counted (length h.all.told)) p.written q.written r.written (counted_all p start now h.all.told failed h.goes h.empty h.writes) given.added.no_fewer flushed.no_fewer;
+      writes = subst (λ t. Writes start t r now'') (append-nil (h.all.told ++ a.told)) told;
+      whole = no_fewer_then (counted (length h.all.told)) p.written q.written r.written (counted_all p start now h.all.told h.goes h.empty h.writes) given.added.no_fewer flushed.no_fewer;
     }
 
-pub between : (script : List ℕ) (old : Opened) (start : Option (List ℕ)) (session : Opened) (reader : Reading) (left : Option (List ℕ)) (refused : Bool) (pen : Inked) (now : Option (List ℕ)) (failed : Bool)
-    → IsBehind script old start session reader left refused pen now failed → pen.stopped ≡ false → pen.pending ≡ [] → IsBetween script old start session reader left refused pen now failed
-between script old start session reader left refused pen now failed h goes empty = record {
+pub between : (script : List ℕ) (old : Document) (start : Stream) (session : Document) (reader : Reading) (left : Option (List ℕ)) (refused : Bool) (pen : Inked) (now : Stream)
+    → IsBehind script old start session reader left refused pen now → pen.stopped ≡ false → pen.pending ≡ [] → IsBetween script old start session reader left refused pen now
+between script old start session reader left refused pen now h goes empty = record {
   given = h.earlier ++ h.last ∷ [];
   all = then_answer h.all (line_answer old.base h.all.text h.items h.last);
   reads = h.reads;
@@ -121,127 +115,127 @@ between script old start session reader left refused pen now failed h goes empty
 }
 
 -- the sink failed
-pub at_stop : (script : List ℕ) (old : Opened) (start : Option (List ℕ)) (session : Opened) (reader : Reading) (left : Option (List ℕ)) (refused : Bool) (pen : Inked) (now : Option (List ℕ)) (failed : Bool)
-    → IsBehind script old start session reader left refused pen now failed → pen.stopped ≡ true → IsFrontOf script (λ lines. HasFailed lines old session start now pen.written) × (failed ≡ true)
-at_stop script old start session reader left refused pen now failed h stops =
+pub at_stop : (script : List ℕ) (old : Document) (start : Stream) (session : Document) (reader : Reading) (left : Option (List ℕ)) (refused : Bool) (pen : Inked) (now : Stream)
+    → IsBehind script old start session reader left refused pen now → pen.stopped ≡ true → IsFrontOf script (λ lines. HasFailed lines old session start now pen.written) × (now.failed ≡ true)
+at_stop script old start session reader left refused pen now h stops =
     let last = line_answer old.base h.all.text h.items h.last in
-    let front = front_written pen start now (h.all.told ++ last.told) failed stops h.writes in
+    let front = front_written pen start now (h.all.told ++ last.told) stops h.writes in
     let fails : HasFailed (h.earlier ++ h.last ∷ []) old session start now pen.written = record {
       earlier = h.earlier;
       last = h.last;
       lines_are = refl;
       all = h.all;
       answered = h.answered;
-      within = (h.tokens, h.items, h.compiled, record { front = front.0; whole = h.whole; session_is = h.session_is });
+      within = (h.tokens, h.items, h.compiled, record { front = front.front; whole = h.whole; session_is = h.session_is });
     } in
-    ((h.earlier ++ h.last ∷ [], script_lines (h.reads.unread ++ h.reads.later), h.reads.lines_are, fails), front.1)
+    ((h.earlier ++ h.last ∷ [], script_lines (h.reads.unread ++ h.reads.later), h.reads.lines_are, fails), front.failed)
 
 -- all lines that were given are answered
-pub so_far : (script : List ℕ) (old : Opened) (start : Option (List ℕ)) (session : Opened) (reader : Reading) (left : Option (List ℕ)) (refused : Bool) (pen : Inked) (now : Option (List ℕ)) (failed : Bool)
-    → (h : IsBetween script old start session reader left refused pen now failed) → HasRun h.given old session start now refused
-so_far script old start session reader left refused pen now failed h = record {
+pub so_far : (script : List ℕ) (old : Document) (start : Stream) (session : Document) (reader : Reading) (left : Option (List ℕ)) (refused : Bool) (pen : Inked) (now : Stream)
+    → (h : IsBetween script old start session reader left refused pen now) → HasRun h.given old session start now refused
+so_far script old start session reader left refused pen now h = record {
   all = h.all;
   answered = h.answered;
-  written = all_written pen start now h.all.told failed h.goes h.empty h.writes;
+  written = all_written pen start now h.all.told h.goes h.empty h.writes;
   refused_is = h.refused_is;
   session_is = h.session_is;
 }
 
 -- nothing more was done, so all lines that were given are still answered
-pub so_still : (script : List ℕ) (old : Opened) (start : Option (List ℕ)) (session new : Opened) (reader : Reading) (left : Option (List ℕ)) (refused : Bool) (p q : Inked) (now now' : Option (List ℕ)) (failed failed' : Bool)
-    → (h : IsBetween script old start session reader left refused p now failed) → IsAsBefore session new p now failed q now' failed' → HasRun h.given old new start now' refused
-so_still script old start session new reader left refused p q now now' failed failed' h same =
+pub so_still : (script : List ℕ) (old : Document) (start : Stream) (session new : Document) (reader : Reading) (left : Option (List ℕ)) (refused : Bool) (p q : Inked) (now now' : Stream)
+    → (h : IsBetween script old start session reader left refused p now) → IsAsBefore session new p now q now' → HasRun h.given old new start now' refused
+so_still script old start session new reader left refused p q now now' h same =
     subst (λ s. HasRun h.given old s start now' refused) (sym same.session_same)
-    (subst (λ n. HasRun h.given old session start n refused) (sym same.contents_same) (so_far script old start session reader left refused p now failed h))
+    (subst (λ (n : Stream). HasRun h.given old session start n refused) (sym same.sink_same) (so_far script old start session reader left refused p now h))
 
 pub match_some : {X : Type 0} (o : Option X) (P : X → Type 0) → ((x : X) → o ≡ Some x → P x) → MatchOption o (Unit {0}) P
 match_some None P h = tt
 match_some (Some x) P h = h x refl
 
 -- a fault that is not the sink's
-pub at_fault : (script : List ℕ) (old : Opened) (start : Option (List ℕ)) (session new : Opened) (reader : Reading) (left : Option (List ℕ)) (refused : Bool) (p q : Inked) (now now' : Option (List ℕ)) (failed failed' : Bool)
-    (written : ℕ) → (h : IsBetween script old start session reader left refused p now failed) → IsAsBefore session new p now failed q now' failed' → written ≡ q.written → HasStopped h.given old new start now' written
-at_fault script old start session new reader left refused p q now now' failed failed' written h same is = record {
+pub at_fault : (script : List ℕ) (old : Document) (start : Stream) (session new : Document) (reader : Reading) (left : Option (List ℕ)) (refused : Bool) (p q : Inked) (now now' : Stream)
+    (written : ℕ) → (h : IsBetween script old start session reader left refused p now) → IsAsBefore session new p now q now' → written ≡ q.written → HasStopped h.given old new start now' written
+at_fault script old start session new reader left refused p q now now' written h same is = record {
   refused = refused;
   run = record {
     all = h.all;
     answered = h.answered;
     refused_is = h.refused_is;
-    written = subst (λ n. Appends start n h.all.told) (sym same.contents_same) (all_written p start now h.all.told failed h.goes h.empty h.writes);
-    session_is = same.session_same ∙ h.session_is;
+    written = subst (λ (n : Stream). Appends start.bytes n.bytes h.all.told) (sym same.sink_same) (all_written p start now h.all.told h.goes h.empty h.writes);
+    session_is = subst (λ s. LeavesText old s h.all.text) (sym same.session_same) h.session_is;
   };
-  written_is = is ∙ ap (λ (p : Inked). p.written) same.pen_same ∙ counted_all p start now h.all.told failed h.goes h.empty h.writes;
+  written_is = is ∙ ap (λ (p : Inked). p.written) same.pen_same ∙ counted_all p start now h.all.told h.goes h.empty h.writes;
 }
 
 one_status : (a b : Bool) → status_of a ≡ status_of b → a ≡ b
 one_status true true e = refl
-one_status true false e = absurd (omega (arith, e))
-one_status false true e = absurd (omega (arith, e))
+one_status true false e = absurd (cc)
+one_status false true e = absurd (cc)
 one_status false false e = refl
 
 -- a run without a fault answers its script
-pub answers_all : (tap : Option (List ℕ)) (left : Option (List ℕ)) (old new : Opened) (before after : Option (List ℕ)) (failed : Bool) (outcome : Outcome) (status : ℕ) → status ≡ status_of (is_refused outcome)
-    → MatchOption tap (Unit {0}) (λ script. Runs script left old new before after failed (Ok outcome)) → MatchOption tap (Unit {0}) (λ script. Answers script old.base old.text before after status)
-answers_all None left old new before after failed outcome status is run = tt
-answers_all (Some script) left old new before after failed outcome status is run =
-    λ refused e. (new, subst (λ r. HasRun (script_lines script) old new before after r) (one_status (is_refused outcome) refused (sym is ∙ e)) run)
+pub answers_all : (tap : Option (List ℕ)) (left : Option (List ℕ)) (old new : Document) (before after : Stream) (outcome : Outcome) (status : Status) → status ≡ status_of (is_refused outcome)
+    → MatchOption tap (Unit {0}) (λ script. Runs script left old new before after (Ok outcome)) → MatchOption tap (Unit {0}) (λ script. Answers script old.base old.text before after status)
+answers_all None left old new before after outcome status is run = tt
+answers_all (Some script) left old new before after outcome status is run =
+    λ refused e. (old, new, record { base_is = refl; text_is = refl }, subst (λ r. HasRun (script_lines script) old new before after r) (one_status (is_refused outcome) refused (sym is ∙ e)) run)
 
 -- ---- what failed
 
 -- between two lines the pen works, and the sink and the tap have failed no more than at the start
-pub record IsWorking (start : Option (List ℕ)) (pen : Inked) (now : Option (List ℕ)) (tap tap' sink sink' : Bool) : Type 0 where
+pub record IsWorking (start : Stream) (pen : Inked) (now : Stream) (tap tap' : Bool) : Type 0 where
   pub text : List ℕ
-  pub writes : Writes start text pen now sink'
+  pub writes : Writes start text pen now
   pub goes : pen.stopped ≡ false
-  pub works : WorksOn sink sink'
+  pub works : WorksOn start.failed now.failed
   pub tap_is : tap' ≡ tap
 
-pub works_at_start : (start : Option (List ℕ)) (pen : Inked) (tap sink : Bool) → pen ≡ record { pending = []; written = 0; stopped = false } → IsWorking start pen start tap tap sink sink
-works_at_start start pen tap sink is = record {
+pub works_at_start : (start : Stream) (pen : Inked) (tap : Bool) → pen ≡ record { pending = []; written = 0; stopped = false } → IsWorking start pen start tap tap
+works_at_start start pen tap is = record {
   text = [];
-  writes = subst (λ (p : Inked). Writes start [] p start sink) (sym is) (writes_none start sink);
+  writes = subst (λ (p : Inked). Writes start [] p start) (sym is) (writes_none start);
   goes = ap (λ (p : Inked). p.stopped) is;
   works = λ e. e;
   tap_is = refl;
 }
 
 -- what was added and passed on
-passed : (start : Option (List ℕ)) (p q r : Inked) (now now' now'' : Option (List ℕ)) (tap tap' sink f g k : Bool) → (h : IsWorking start p now tap tap' sink f)
-    → (added : (told : List ℕ) × Adds p now f q now' g told) → Adds q now' g r now'' k [] → Writes start (h.text ++ added.0 ++ []) r now'' k
-passed start p q r now now' now'' tap tap' sink f g k h added flushed = flushed.goes_on start (h.text ++ added.0) (added.1.goes_on start h.text h.writes)
+passed : (start : Stream) (p q r : Inked) (now now' now'' : Stream) (tap tap' : Bool) → (h : IsWorking start p now tap tap')
+    → (added : (told : List ℕ) × Adds p now q now' told) → Adds q now' r now'' [] → Writes start (h.text ++ added.0 ++ []) r now''
+passed start p q r now now' now'' tap tap' h added flushed = flushed.goes_on start (h.text ++ added.0) (added.1.goes_on start h.text h.writes)
 
-pub works_on : (start : Option (List ℕ)) (p q r : Inked) (now now' now'' : Option (List ℕ)) (tap tap' tap'' sink f g k : Bool) → (h : IsWorking start p now tap tap' sink f)
-    → ((told : List ℕ) × Adds p now f q now' g told) → Adds q now' g r now'' k [] → r.stopped ≡ false → (r.stopped ≡ false → k ≡ false) → tap'' ≡ tap' → IsWorking start r now'' tap tap'' sink k
-works_on start p q r now now' now'' tap tap' tap'' sink f g k h added flushed goes works same = record {
+pub works_on : (start : Stream) (p q r : Inked) (now now' now'' : Stream) (tap tap' tap'' : Bool) → (h : IsWorking start p now tap tap')
+    → ((told : List ℕ) × Adds p now q now' told) → Adds q now' r now'' [] → r.stopped ≡ false → (r.stopped ≡ false → now''.failed ≡ false) → tap'' ≡ tap' → IsWorking start r now'' tap tap''
+works_on start p q r now now' now'' tap tap' tap'' h added flushed goes works same = record {
   text = h.text ++ added.0 ++ [];
-  writes = passed start p q r now now' now'' tap tap' sink f g k h added flushed;
+  writes = passed start p q r now now' now'' tap tap' h added flushed;
   goes = goes;
   works = λ e. works goes;
   tap_is = same ∙ h.tap_is;
 }
 
-pub fails_at_stop : (start : Option (List ℕ)) (p q r : Inked) (now now' now'' : Option (List ℕ)) (tap tap' sink f g k : Bool) → (h : IsWorking start p now tap tap' sink f)
-    → ((told : List ℕ) × Adds p now f q now' g told) → Adds q now' g r now'' k [] → r.stopped ≡ true → k ≡ true
-fails_at_stop start p q r now now' now'' tap tap' sink f g k h added flushed stops =
-    (front_written r start now'' (h.text ++ added.0 ++ []) k stops (passed start p q r now now' now'' tap tap' sink f g k h added flushed)).1
+pub fails_at_stop : (start : Stream) (p q r : Inked) (now now' now'' : Stream) (tap tap' : Bool) → (h : IsWorking start p now tap tap')
+    → ((told : List ℕ) × Adds p now q now' told) → Adds q now' r now'' [] → r.stopped ≡ true → now''.failed ≡ true
+fails_at_stop start p q r now now' now'' tap tap' h added flushed stops =
+    (front_written r start now'' (h.text ++ added.0 ++ []) stops (passed start p q r now now' now'' tap tap' h added flushed)).failed
 
 pub added_some : {S : Type 0} (found : Option Bool) (refused : Bool) (s s' : S) (Added : Type 0) → found ≡ Some refused → AddsIfFound (Ok found) s s' Added → Added
 added_some found refused s s' Added is h = subst (λ f. AddsIfFound (Ok f) s s' Added) is h
 
 -- what a run says where a fault ended it
-pub ends_early : (at left : Option (List ℕ)) (old new : Opened) (before after : Option (List ℕ)) (failed : Bool) (fault : EngineFault) → MatchOption at (Unit {0}) (λ script. Runs script left old new before after failed (Err fault))
-    → MatchOption at (Unit {0}) (λ script. EndsEarly script left old.base old.text before after failed)
-ends_early None left old new before after failed fault h = h
-ends_early (Some script) left old new before after failed fault h = (fault, new, h)
+pub ends_early : (at left : Option (List ℕ)) (old new : Document) (before after : Stream) (fault : EngineFault) → MatchOption at (Unit {0}) (λ script. Runs script left old new before after (Err fault))
+    → MatchOption at (Unit {0}) (λ script. EndsEarly script left old.base old.text before after)
+ends_early None left old new before after fault h = h
+ends_early (Some script) left old new before after fault h = (fault, old, new, record { base_is = refl; text_is = refl }, h)
 
 -- a run that was not begun
-pub not_begun : (at : Option (List ℕ)) (base text : List ℕ) (contents : Option (List ℕ)) (failed : Bool)
-    → MatchOption at (Unit {0}) (λ script. IsUntouched script at contents contents ⊎ EndsEarly script at base text contents contents failed)
-not_begun None base text contents failed = tt
-not_begun (Some script) base text contents failed = inl (record { unread = refl; unwritten = refl })
+pub not_begun : (at : Option (List ℕ)) (base text : List ℕ) (contents : Stream)
+    → MatchOption at (Unit {0}) (λ script. IsUntouched script at contents contents ⊎ EndsEarly script at base text contents contents)
+not_begun None base text contents = tt
+not_begun (Some script) base text contents = inl (record { unread = refl; unwritten = refl })
 
 -- a run that was begun
-pub begun : (at left : Option (List ℕ)) (base text : List ℕ) (before after : Option (List ℕ)) (failed : Bool) → MatchOption at (Unit {0}) (λ script. EndsEarly script left base text before after failed)
-    → MatchOption at (Unit {0}) (λ script. IsUntouched script left before after ⊎ EndsEarly script left base text before after failed)
-begun None left base text before after failed h = h
-begun (Some script) left base text before after failed h = inr h
+pub begun : (at left : Option (List ℕ)) (base text : List ℕ) (before after : Stream) → MatchOption at (Unit {0}) (λ script. EndsEarly script left base text before after)
+    → MatchOption at (Unit {0}) (λ script. IsUntouched script left before after ⊎ EndsEarly script left base text before after)
+begun None left base text before after h = h
+begun (Some script) left base text before after h = inr h

@@ -7,14 +7,14 @@ use Rattle.x_lex.specs.declared.kind.Kind.{Kind}
 use Rattle.rpcx.specs.Compile.{Item, IsCompilation}
 use Rattle.rpcx.specs.Answers.{Answer, answer, line_answer, refused}
 use Rattle.rpcx.specs.Commands.{command_of}
-use Rattle.rpcx.specs.declared.lines.TheConstants.{LONGEST}
+use Rattle.rpcx.specs.declared.script.lines.TheConstants.{LONGEST}
 use Rattle.rpcx.specs.Script.{then_answer, AreAnswered, HasGiven}
-use Rattle.rpcx.specs.declared.lines.Found.{Found}
-use Rattle.rpcx.specs.declared.lines.Found.TheVariants.{Line, TooLong, End}
-use Rattle.rpcx.specs.declared.lines.State.{State}
-use Rattle.rpcx.specs.declared.lines.State.TheVariants.{Ended}
-use Rattle.rpcx.specs.declared.lines.LineFault.{LineFault}
-use Rattle.rpcx.specs.declared.lines.LineFault.TheVariants.{Read, NoMemory}
+use Rattle.rpcx.specs.declared.script.lines.Found.{Found}
+use Rattle.rpcx.specs.declared.script.lines.Found.TheVariants.{Line, TooLong, End}
+use Rattle.rpcx.specs.declared.script.lines.State.{State}
+use Rattle.rpcx.specs.declared.script.lines.State.TheVariants.{Ended}
+use Rattle.rpcx.specs.declared.script.lines.LineFault.{LineFault}
+use Rattle.rpcx.specs.declared.script.lines.LineFault.TheVariants.{Read, NoMemory}
 use Rattle.rpcx.specs.Lines.{Reading, IsUnread, Advances, Tells, HasNoLine, IsNextLine, AreFeeds, StopsBehind, script_lines, whole_lines}
 use Rattle.rpcx.proofs.LineLemmas.{given_line, given_whole_line, given_none, given_end}
 

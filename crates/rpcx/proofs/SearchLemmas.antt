@@ -10,7 +10,7 @@ use Rattle.std.specs.Io.KnownBytes.{Keeps}
 use Rattle.std.proofs.KnownBytes.{Consumes-nil, Consumes-trans, Consumes-kept}
 use Rattle.memchr.specs.Find.{IsFirstByte, is_byte}
 use Rattle.rpcx.proofs.Parting.{has_none, first_is}
-use Rattle.rpcx.specs.declared.lines.LineFault.TheVariants.{NoMemory}
+use Rattle.rpcx.specs.declared.script.lines.LineFault.TheVariants.{NoMemory}
 use Rattle.rpcx.specs.Lines.{is_feed, HasNoFeed, HasCome, IsTrimmed, EndsAt, IsBehindFeed, HasSearched, HasPassed}
 
 -- ---- the first line feed

@@ -1,5 +1,6 @@
 -- Why a run of a program does not go on.
-use Rattle.std.proofs.Common.{◌↔◌, ℕ, ◌+◌, ◌<◌, ◌≤◌, Bool, List, Option, Result, Err, length, codes, refl, arith}
+use Rattle.std.proofs.Common.{◌↔◌, ℕ, ◌+◌, ◌<◌, ◌≤◌, Bool, List, Result, Err, length, codes, refl, arith}
+use Rattle.x_text.specs.Streams.{Stream}
 use Rattle.std.specs.Prelude.{IsErrOf}
 use Rattle.std.proofs.Math.Nat.{lt_of_not-le}
 use Rattle.x_text.specs.declared.fault.TextFault.{TextFault}
@@ -12,11 +13,11 @@ use Rattle.rpcx.specs.declared.script.EngineFault.{EngineFault}
 use Rattle.rpcx.specs.declared.script.EngineFault.TheVariants.{Read, Write, NoMemory}
 
 -- the fault that a run answers names what has failed
-pub stops_by : (fault : EngineFault) (before after : Option (List ℕ)) (failed tap tap' sink sink' : Bool) → NamesCause (Err fault) tap tap' sink sink' → IsTold before after failed (stop_told fault)
-    → Stops before after failed tap' sink'
-stops_by (Read written) before after failed tap tap' sink sink' cause told = Unread cause.0 told
-stops_by (Write written) before after failed tap tap' sink sink' cause told = Unwritten cause.1 told
-stops_by (NoMemory written) before after failed tap tap' sink sink' cause told = OutOfMemory told
+pub stops_by : (fault : EngineFault) (before after : Stream) (tap tap' sink sink' : Bool) → NamesCause (Err fault) tap tap' sink sink' → IsTold before after (stop_told fault)
+    → Stops before after tap' sink'
+stops_by (Read written) before after tap tap' sink sink' cause told = Unread cause.0 told
+stops_by (Write written) before after tap tap' sink sink' cause told = Unwritten cause.1 told
+stops_by (NoMemory written) before after tap tap' sink sink' cause told = OutOfMemory told
 
 fits : (n : ℕ) → (MAX_TEXT < n → ⊥) → n ≤ MAX_TEXT
 fits n none = let h = lt_of_not-le {n = MAX_TEXT + 1} {m = n} (λ le. none (omega (arith, le))) in omega (arith, h)
@@ -25,14 +26,14 @@ abbrev Failed : TextFault → TextFault → Type 0
 Failed fault other = let r : Result Session TextFault = Err fault in IsErrOf r other
 
 -- a text that is not opened is too large, or memory ran out
-pub not_opened : (file text : List ℕ) (before after : Option (List ℕ)) (failed : Bool) (fault : TextFault) → (Failed fault faults.TooLarge ↔ (MAX_TEXT < length text)) → (Failed fault faults.BadRange → ⊥)
-    → IsTold before after failed (unopened_told (codes "rpcgen") file fault) → NotOpened file text before after failed
-not_opened file text before after failed faults.TooLarge large range told = TooLarge (large.0 refl) told
-not_opened file text before after failed faults.BadRange large range told = absurd (range refl)
-not_opened file text before after failed faults.NoMemory large range told = NoRoom (fits (length text) (λ more. let no = large.1 more in cc)) told
+pub not_opened : (file text : List ℕ) (before after : Stream) (fault : TextFault) → (Failed fault faults.TooLarge ↔ (MAX_TEXT < length text)) → (Failed fault faults.BadRange → ⊥)
+    → IsTold before after (unopened_told (codes "rpcgen") file fault) → NotOpened file text before after
+not_opened file text before after faults.TooLarge large range told = TooLarge (large.0 refl) told
+not_opened file text before after faults.BadRange large range told = absurd (range refl)
+not_opened file text before after faults.NoMemory large range told = NoRoom (fits (length text) (λ more. let no = large.1 more in cc)) told
 
-pub not_run : (file text : List ℕ) (before after : Option (List ℕ)) (failed reader writer : Bool) (fault : TextFault) → (Failed fault faults.TooLarge ↔ (MAX_TEXT < length text)) → (Failed fault faults.BadRange → ⊥)
-    → IsTold before after failed (unopened_told (codes "rpcedit") file fault) → NotRun file text before after failed reader writer
-not_run file text before after failed reader writer faults.TooLarge large range told = TextTooLarge (large.0 refl) told
-not_run file text before after failed reader writer faults.BadRange large range told = absurd (range refl)
-not_run file text before after failed reader writer faults.NoMemory large range told = Stopped (fits (length text) (λ more. let no = large.1 more in cc)) (OutOfMemory told)
+pub not_run : (file text : List ℕ) (before after : Stream) (reader writer : Bool) (fault : TextFault) → (Failed fault faults.TooLarge ↔ (MAX_TEXT < length text)) → (Failed fault faults.BadRange → ⊥)
+    → IsTold before after (unopened_told (codes "rpcedit") file fault) → NotRun file text before after reader writer
+not_run file text before after reader writer faults.TooLarge large range told = TextTooLarge (large.0 refl) told
+not_run file text before after reader writer faults.BadRange large range told = absurd (range refl)
+not_run file text before after reader writer faults.NoMemory large range told = Stopped (fits (length text) (λ more. let no = large.1 more in cc)) (OutOfMemory told)

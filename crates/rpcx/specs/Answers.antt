@@ -1,19 +1,22 @@
 -- What a script of edits and questions is answered, over a text and its items.
-use Rattle.std.specs.Prelude.{ℕ, Bool, true, false, ◌&&◌, nat_le, List, ◌++◌, Option, length, codes, if◌then◌else◌}
+use Rattle.std.specs.Prelude.{ℕ, Bool, true, false, ◌&&◌, nat_le, List, ◌++◌, Option, Some, None, length, codes, if◌then◌else◌}
 use Rattle.std.specs.List.{flat_map}
 use Rattle.std.specs.Fmt.{decimal}
 use Rattle.x_text.specs.Edits.{edited}
 use Rattle.x_text.specs.declared.source.TheConstants.{MAX_TEXT}
 use Rattle.x_lex.specs.Places.{Lexeme}
 use Rattle.x_lex.specs.Names.{kind_name}
-use Rattle.rpcx.specs.declared.fault.Fault.{Fault}
+use Rattle.rpcx.specs.declared.compile.fault.Fault.{Fault}
 use Rattle.rpcx.specs.Faults.{fault_text}
-use Rattle.rpcx.specs.declared.lines.TheConstants.{LONGEST}
-use Rattle.rpcx.specs.Commands.{Asked, ToEdit, ForTokens, ForDefinitions, ForFaults, ForHeader, Nothing, command_of}
+use Rattle.rpcx.specs.declared.script.lines.TheConstants.{LONGEST}
+use Rattle.rpcx.specs.declared.script.command.Command.{Command}
+use Rattle.rpcx.specs.declared.script.command.Command.TheVariants as commands
+use Rattle.rpcx.specs.declared.session.generated_text.GeneratedText.TheVariants as texts
+use Rattle.rpcx.specs.Commands.{command_of}
 use Rattle.rpcx.specs.Compile.{Item, tokens_of, definitions_of, faults_of}
-use Rattle.rpcx.specs.Listings.{numbered, definition_line}
-use Rattle.x_item.specs.Tree.{Definition}
-use Rattle.rpcx.specs.Header.{header}
+use Rattle.rpcx.specs.Definitions.{numbered}
+use Rattle.x_item.specs.Tree.{Body, Enum, Struct, Union, Declaration, Void, Of, Opaque, String, Definition, Const, Typedef, NewType, Program}
+use Rattle.rpcx.specs.Header.{text_of}
 
 -- what a line is answered, whether that refuses it, and the text that it leaves
 pub record Answer : Type 0 where
@@ -31,6 +34,41 @@ counted_line name count = counted_by name (decimal count)
 -- `START END KIND`
 abbrev pub token_line : Lexeme → List ℕ
 token_line t = decimal t.start ++ codes " " ++ decimal t.end ++ codes " " ++ kind_name t.kind ++ codes "\n"
+
+abbrev pub body_keyword : Body → List ℕ
+body_keyword (Enum enumerators) = codes "enum"
+body_keyword (Struct declarations) = codes "struct"
+body_keyword (Union discriminant arms other) = codes "union"
+
+-- the word that the definition begins with
+abbrev pub keyword_of : Definition → List ℕ
+keyword_of (Const name value) = codes "const"
+keyword_of (Typedef declaration) = codes "typedef"
+keyword_of (NewType name body) = body_keyword body
+keyword_of (Program name versions number) = codes "program"
+
+-- the name that a declaration gives; `void` gives none
+abbrev pub given_name : Declaration → Option (List ℕ)
+given_name Void = None
+given_name (Of type name shape) = Some name
+given_name (Opaque name length) = Some name
+given_name (String name most) = Some name
+
+-- the definition's own name
+abbrev pub own_name : Definition → Option (List ℕ)
+own_name (Const name value) = Some name
+own_name (Typedef declaration) = given_name declaration
+own_name (NewType name body) = Some name
+own_name (Program name versions number) = Some name
+
+-- `-` stands for a name that is not there
+abbrev pub shown_name : Option (List ℕ) → List ℕ
+shown_name (Some name) = name
+shown_name None = codes "-"
+
+-- `ITEM KEYWORD NAME`
+abbrev pub definition_line : ℕ × Definition → List ℕ
+definition_line d = decimal d.0 ++ codes " " ++ keyword_of d.1 ++ codes " " ++ shown_name (own_name d.1) ++ codes "\n"
 
 -- `LINE:COL`
 abbrev pub fault_place : Fault → List ℕ
@@ -69,13 +107,13 @@ edit_answer text start end insert =
     else refused text (codes "refused 2 TooLarge\n"))
     else refused text (codes "refused 1 BadRange\n")
 
-abbrev pub answer : List ℕ → List ℕ → List Item → Asked → Answer
-answer base text items (ToEdit start end insert) = edit_answer text start end insert
-answer base text items ForTokens = answered text (tokens_answer (tokens_of items))
-answer base text items ForDefinitions = answered text (definitions_answer (definitions_of items))
-answer base text items ForFaults = answered text (faults_answer (faults_of text items))
-answer base text items ForHeader = answered text (text_answer (header base items))
-answer base text items Nothing = refused text (codes "refused 43 BadLine\n")
+abbrev pub answer : List ℕ → List ℕ → List Item → Command → Answer
+answer base text items (commands.Edit start end insert) = edit_answer text start end insert
+answer base text items commands.Tokens = answered text (tokens_answer (tokens_of items))
+answer base text items commands.Definitions = answered text (definitions_answer (definitions_of items))
+answer base text items commands.Faults = answered text (faults_answer (faults_of text items))
+answer base text items commands.Header = answered text (text_answer (text_of texts.Header base items))
+answer base text items commands.Bad = refused text (codes "refused 43 BadLine\n")
 
 -- what a line is answered, over a text that has these items
 abbrev pub line_answer : List ℕ → List ℕ → List Item → List ℕ → Answer

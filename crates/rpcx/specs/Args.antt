@@ -10,8 +10,8 @@ use Rattle.clap.specs.declared.builder.command.Command.{Command}
 use Rattle.clap.specs.declared.parser.matches.ArgMatches.{ArgMatches}
 use Rattle.clap.specs.declared.parser.matches.ValueSource.{ValueSource}
 use Rattle.clap.specs.declared.parser.matches.ValueSource.TheVariants.{CommandLine}
-use Rattle.rpcx.specs.declared.editing.EditArgs.{EditArgs}
-use Rattle.rpcx.specs.declared.args.GenArgs.{GenArgs}
+use Rattle.rpcx.specs.declared.program.editing_args.EditArgs.{EditArgs}
+use Rattle.rpcx.specs.declared.program.generating_args.GenArgs.{GenArgs}
 
 -- `-h`, a flag
 abbrev pub header_rule : Rule

@@ -3,26 +3,8 @@ use Rattle.std.specs.Prelude.{ℕ, ◌+◌, ◌*◌, ◌%◌, Bool, ◌&&◌, �
 use Rattle.std.specs.List.{list_all, slice_split}
 use Rattle.std.specs.Char.{is_ascii_digit, is_ascii_hexdigit, digit_value}
 use Rattle.std.specs.Str.Parse.{digits_value}
-use Rattle.rpcx.specs.declared.command.Command.{Command}
-use Rattle.rpcx.specs.declared.command.Command.TheVariants.{Edit, Tokens, Definitions, Faults, Header, Bad}
-
--- what a line can ask for
-pub data Asked : Type 0 where
-  ToEdit : (start end : ℕ) (insert : List ℕ) → Asked
-  ForTokens : Asked
-  ForDefinitions : Asked
-  ForFaults : Asked
-  ForHeader : Asked
-  Nothing : Asked
-
--- what a command asks for
-abbrev pub asked : Command → Asked
-asked (Edit start end insert) = ToEdit start end insert.items
-asked Tokens = ForTokens
-asked Definitions = ForDefinitions
-asked Faults = ForFaults
-asked Header = ForHeader
-asked Bad = Nothing
+use Rattle.rpcx.specs.declared.script.command.Command.{Command}
+use Rattle.rpcx.specs.declared.script.command.Command.TheVariants.{Edit, Tokens, Definitions, Faults, Header, Bad}
 
 -- the words of a line; each space parts two, so that one of them may be empty
 abbrev pub words_of : List ℕ → List (List ℕ)
@@ -42,30 +24,30 @@ bytes_of (high ∷ low ∷ rest) = (16 * digit_value high + digit_value low) ∷
 bytes_of _ = []
 
 -- an edit from one number to another
-abbrev pub edit_of : List ℕ → List ℕ → List ℕ → Asked
-edit_of start end insert = if is_number start && is_number end then ToEdit (digits_value 10 start) (digits_value 10 end) insert else Nothing
+abbrev pub edit_of : List ℕ → List ℕ → List ℕ → Command
+edit_of start end insert = if is_number start && is_number end then Edit (digits_value 10 start) (digits_value 10 end) insert else Bad
 
 -- a line that is one word
-abbrev pub one_word : List ℕ → Asked
+abbrev pub one_word : List ℕ → Command
 one_word name =
-    if bytes_eq name (codes "tokens") then ForTokens
-    else if bytes_eq name (codes "definitions") then ForDefinitions
-    else if bytes_eq name (codes "faults") then ForFaults
-    else if bytes_eq name (codes "header") then ForHeader
-    else Nothing
+    if bytes_eq name (codes "tokens") then Tokens
+    else if bytes_eq name (codes "definitions") then Definitions
+    else if bytes_eq name (codes "faults") then Faults
+    else if bytes_eq name (codes "header") then Header
+    else Bad
 
 -- what the words behind `edit` ask for
-abbrev pub edit_by : List (List ℕ) → Asked
+abbrev pub edit_by : List (List ℕ) → Command
 edit_by (start ∷ end ∷ []) = edit_of start end []
-edit_by (start ∷ end ∷ hex ∷ []) = if is_hex hex then edit_of start end (bytes_of hex) else Nothing
-edit_by _ = Nothing
+edit_by (start ∷ end ∷ hex ∷ []) = if is_hex hex then edit_of start end (bytes_of hex) else Bad
+edit_by _ = Bad
 
 -- what the words of a line ask for
-abbrev pub asked_by : List (List ℕ) → Asked
-asked_by [] = Nothing
+abbrev pub asked_by : List (List ℕ) → Command
+asked_by [] = Bad
 asked_by (name ∷ []) = one_word name
-asked_by (name ∷ words) = if bytes_eq name (codes "edit") then edit_by words else Nothing
+asked_by (name ∷ words) = if bytes_eq name (codes "edit") then edit_by words else Bad
 
 -- what a line asks for
-abbrev pub command_of : List ℕ → Asked
+abbrev pub command_of : List ℕ → Command
 command_of line = asked_by (words_of line)

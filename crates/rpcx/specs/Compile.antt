@@ -9,13 +9,13 @@ use Rattle.x_item.specs.Words.{is_significant}
 use Rattle.x_item.specs.Tree.{Definition}
 use Rattle.x_item.specs.Parse.{Parse, Nothing, Def, Fault, IsParse}
 use Rattle.x_item.specs.Items.{AreItems, joined}
-use Rattle.rpcx.specs.Faults.{of_syntax}
-use Rattle.rpcx.specs.Names.{first_declarer}
+use Rattle.rpcx.specs.declared.compile.fault.FaultCode.TheVariants as codes
+use Rattle.rpcx.specs.Declarers.{first_declarer}
 use Rattle.rpcx.specs.Rules.{rules}
-use Rattle.rpcx.specs.declared.names.Declarer.{Declarer}
-use Rattle.rpcx.specs.declared.check.WordFault.{WordFault}
-use Rattle.rpcx.specs.declared.findings.TokenFault.{TokenFault}
-use Rattle.rpcx.specs.declared.fault as rust
+use Rattle.rpcx.specs.declared.compile.names.Declarer.{Declarer}
+use Rattle.rpcx.specs.declared.compile.fault.WordFault.{WordFault}
+use Rattle.rpcx.specs.declared.compile.fault.TokenFault.{TokenFault}
+use Rattle.rpcx.specs.declared.compile.fault as rust
 
 pub record Item : Type 0 where
   pub tokens : List Lexeme
@@ -66,7 +66,7 @@ at_token tokens f = record { token = token_of_word tokens f.word; code = f.code 
 -- the faults of an item at its tokens: that of its parse, or those of its definition
 abbrev pub token_faults : (List ℕ → Option Declarer) → ℕ → List Lexeme → Parse → List TokenFault
 token_faults first index tokens Nothing = []
-token_faults first index tokens (Fault token code) = record { token = token; code = of_syntax code } ∷ []
+token_faults first index tokens (Fault token code) = record { token = token; code = codes.Syntax code } ∷ []
 token_faults first index tokens (Def d) = map (at_token tokens) (rules first index d)
 
 -- where a token of an item starts

@@ -1,15 +1,16 @@
 -- What runs of `rpcgen` and `rpcedit` do, and what they tell.
-use Rattle.std.specs.Prelude.{◌≡◌, ℕ, Bool, true, false, MatchBool, ◌-◌, ◌<◌, ◌≤◌, ◌==◌, List, [], ◌++◌, Option, length, take, drop, codes, if◌then◌else◌}
+use Rattle.std.specs.Prelude.{◌≡◌, ℕ, Bool, true, false, MatchBool, ◌-◌, ◌<◌, ◌≤◌, ◌==◌, List, [], ◌++◌, length, take, drop, codes, if◌then◌else◌}
 use Rattle.std.specs.List.{after_last, flat_map}
 use Rattle.std.specs.Io.KnownBytes.{Appends}
 use Rattle.std.specs.Str.{bytes_eq}
-use Rattle.rpcx.specs.declared.fault.Fault.{Fault}
+use Rattle.x_text.specs.Streams.{Stream}
+use Rattle.rpcx.specs.declared.compile.fault.Fault.{Fault}
 use Rattle.rpcx.specs.Faults.{fault_text}
 use Rattle.rpcx.specs.declared.script.EngineFault.{EngineFault}
 use Rattle.rpcx.specs.declared.script.EngineFault.TheVariants.{Read, Write, NoMemory}
 use Rattle.rpcx.specs.Answers.{fault_place}
 use Rattle.rpcx.specs.Compile.{definitions_of, faults_of}
-use Rattle.rpcx.specs.Listings.{are_constants}
+use Rattle.rpcx.specs.Definitions.{are_constants}
 use Rattle.rpcx.specs.Session.{Compiles}
 use Rattle.x_text.specs.declared.fault.TextFault.{TextFault}
 use Rattle.x_text.specs.declared.fault.TextFault.TheVariants as faults
@@ -24,12 +25,12 @@ abbrev pub base_of : List ℕ → List ℕ
 base_of file = without_x (after_last (λ b. b == 47) file)
 
 -- what a sink holds grew by the text, or by a front of it
-abbrev pub Grows : Option (List ℕ) → Option (List ℕ) → List ℕ → Type 0
-Grows before after text = (count : ℕ) × (count ≤ length text) × Appends before after (take count text)
+abbrev pub Grows : Stream → Stream → List ℕ → Type 0
+Grows before after text = (count : ℕ) × (count ≤ length text) × Appends before.bytes after.bytes (take count text)
 
 -- a sink was told a text: it took all, or it has failed with a front
-abbrev pub IsTold : Option (List ℕ) → Option (List ℕ) → Bool → List ℕ → Type 0
-IsTold before after failed text = MatchBool failed (Grows before after text) (Appends before after text)
+abbrev pub IsTold : Stream → Stream → List ℕ → Type 0
+IsTold before after text = MatchBool after.failed (Grows before after text) (Appends before.bytes after.bytes text)
 
 -- `FILE:LINE:COL: CODE NAME`
 abbrev pub told_fault : List ℕ → Fault → List ℕ
@@ -39,18 +40,22 @@ told_fault file f = file ++ codes ":" ++ fault_place f ++ codes ": " ++ fault_te
 abbrev pub told_faults : List ℕ → List Fault → List ℕ
 told_faults file fs = flat_map (told_fault file) fs
 
+-- `PROGRAM: WHAT`
+abbrev pub told_of : List ℕ → List ℕ → List ℕ
+told_of program what = program ++ codes ": " ++ what ++ codes "\n"
+
 -- why a file's text is not opened, as a program tells it
 abbrev pub unopened_told : List ℕ → List ℕ → TextFault → List ℕ
 unopened_told program file faults.TooLarge = program ++ codes ": " ++ file ++ codes ": 2 TooLarge\n"
-unopened_told program file fault = program ++ codes ": " ++ codes "out of memory" ++ codes "\n"
+unopened_told program file fault = told_of program (codes "out of memory")
 
 -- Why `rpcgen` opens no session of a file's text that it can read, as it tells it: the text is too large, or it has no fault and another definition than
 -- constants, or memory ran out. A text with faults has them told.
-pub data NotOpened (file text : List ℕ) (before after : Option (List ℕ)) (failed : Bool) : Type 0 where
-  TooLarge : MAX_TEXT < length text → IsTold before after failed (codes "rpcgen: " ++ file ++ codes ": 2 TooLarge\n") → NotOpened file text before after failed
+pub data NotOpened (file text : List ℕ) (before after : Stream) : Type 0 where
+  TooLarge : MAX_TEXT < length text → IsTold before after (codes "rpcgen: " ++ file ++ codes ": 2 TooLarge\n") → NotOpened file text before after
   OtherDefinitions : Compiles text (λ items. (faults_of text items ≡ []) × (are_constants (definitions_of items) ≡ false))
-      → IsTold before after failed (codes "rpcgen: " ++ file ++ codes ": only const definitions yet\n") → NotOpened file text before after failed
-  NoRoom : length text ≤ MAX_TEXT → IsTold before after failed (codes "rpcgen: out of memory\n") → NotOpened file text before after failed
+      → IsTold before after (codes "rpcgen: " ++ file ++ codes ": only const definitions yet\n") → NotOpened file text before after
+  NoRoom : length text ≤ MAX_TEXT → IsTold before after (codes "rpcgen: out of memory\n") → NotOpened file text before after
 
 -- what `rpcedit` tells where a script stops
 abbrev pub stop_told : EngineFault → List ℕ
@@ -59,12 +64,12 @@ stop_told (Write written) = codes "rpcedit: output cannot be written\n"
 stop_told (NoMemory written) = codes "rpcedit: out of memory\n"
 
 -- why a script stops, as it is told: the reader of the script has failed, or the writer of the answers, or memory ran out
-pub data Stops (before after : Option (List ℕ)) (failed reader_failed writer_failed : Bool) : Type 0 where
-  Unread : reader_failed ≡ true → IsTold before after failed (codes "rpcedit: -: cannot be read\n") → Stops before after failed reader_failed writer_failed
-  Unwritten : writer_failed ≡ true → IsTold before after failed (codes "rpcedit: output cannot be written\n") → Stops before after failed reader_failed writer_failed
-  OutOfMemory : IsTold before after failed (codes "rpcedit: out of memory\n") → Stops before after failed reader_failed writer_failed
+pub data Stops (before after : Stream) (reader_failed writer_failed : Bool) : Type 0 where
+  Unread : reader_failed ≡ true → IsTold before after (codes "rpcedit: -: cannot be read\n") → Stops before after reader_failed writer_failed
+  Unwritten : writer_failed ≡ true → IsTold before after (codes "rpcedit: output cannot be written\n") → Stops before after reader_failed writer_failed
+  OutOfMemory : IsTold before after (codes "rpcedit: out of memory\n") → Stops before after reader_failed writer_failed
 
 -- why `rpcedit` does not carry a script out on a file's text that it can read, as it tells it: the text is too large, or the script stops
-pub data NotRun (file text : List ℕ) (before after : Option (List ℕ)) (failed reader_failed writer_failed : Bool) : Type 0 where
-  TextTooLarge : MAX_TEXT < length text → IsTold before after failed (codes "rpcedit: " ++ file ++ codes ": 2 TooLarge\n") → NotRun file text before after failed reader_failed writer_failed
-  Stopped : length text ≤ MAX_TEXT → Stops before after failed reader_failed writer_failed → NotRun file text before after failed reader_failed writer_failed
+pub data NotRun (file text : List ℕ) (before after : Stream) (reader_failed writer_failed : Bool) : Type 0 where
+  TextTooLarge : MAX_TEXT < length text → IsTold before after (codes "rpcedit: " ++ file ++ codes ": 2 TooLarge\n") → NotRun file text before after reader_failed writer_failed
+  Stopped : length text ≤ MAX_TEXT → Stops before after reader_failed writer_failed → NotRun file text before after reader_failed writer_failed

@@ -1,4 +1,4 @@
--- The header that is generated of a text.
+-- The texts that are generated of a text: so far the header alone.
 use Rattle.std.specs.Prelude.{ℕ, suc, ◌-◌, Bool, true, false, ◌||◌, nat_le, ◌&&◌, List, [], ◌∷◌, ◌++◌, map, drop, Option, codes, if◌then◌else◌}
 use Rattle.std.specs.List.{filter, flat_map}
 use Rattle.x_lex.specs.declared.kind.Kind.{Kind}
@@ -7,8 +7,10 @@ use Rattle.x_lex.specs.Places.{Lexeme}
 use Rattle.x_item.specs.Tree.{Definition, Const, Value, Number, Named}
 use Rattle.x_item.specs.Parse.{Parse, Nothing, Def, Fault}
 use Rattle.rpcx.specs.Compile.{Item, first_of, token_faults}
-use Rattle.rpcx.specs.declared.names.Declarer.{Declarer}
-use Rattle.rpcx.specs.declared.findings.TokenFault.{TokenFault}
+use Rattle.rpcx.specs.declared.compile.names.Declarer.{Declarer}
+use Rattle.rpcx.specs.declared.compile.fault.TokenFault.{TokenFault}
+use Rattle.rpcx.specs.declared.session.generated_text.GeneratedText.{GeneratedText}
+use Rattle.rpcx.specs.declared.session.generated_text.GeneratedText.TheVariants as texts
 
 abbrev pub is_between : ℕ → ℕ → ℕ → Bool
 is_between low high b = nat_le low b && nat_le b high
@@ -70,3 +72,7 @@ body_of items = body_from (first_of items) 0 items
 -- the header of a text with these items
 abbrev pub header : List ℕ → List Item → List ℕ
 header base items = prologue base ++ body_of items ++ epilogue
+
+-- this generated text of a text with these items, whose names have this base
+abbrev pub text_of : GeneratedText → List ℕ → List Item → List ℕ
+text_of texts.Header base items = header base items

@@ -1,5 +1,5 @@
 -- The numbers of the language, as they are spelled (RFC 4506, section 6.2).
-use Rattle.std.specs.Prelude.{ℕ, ◌+◌, ◌-◌, ◌*◌, ◌^◌, Bool, ◌&&◌, ◌||◌, ◌==◌, nat_le, nat_lt, List, [], ◌∷◌, drop, slice_index, if◌then◌else◌}
+use Rattle.std.specs.Prelude.{ℕ, ◌+◌, ◌-◌, ◌*◌, ◌^◌, Bool, ◌&&◌, ◌||◌, ◌==◌, nat_le, nat_lt, List, [], ◌∷◌, drop, slice_index, ℤ, pos, neg_ℤ, if◌then◌else◌}
 
 -- the value of a digit: 0 to 9, a to f or A to F
 abbrev pub digit_value : ℕ → ℕ
@@ -31,3 +31,7 @@ magnitude text =
 -- whether the number is one that a constant may have: from -2^63 to 2^64-1
 unfoldable pub in_range : List ℕ → Bool
 in_range text = if is_negative text then nat_le (magnitude text) (2 ^ 63) else nat_lt (magnitude text) (2 ^ 64)
+
+-- the number that the text stands for
+unfoldable pub value : List ℕ → ℤ
+value text = if is_negative text then neg_ℤ (pos (magnitude text)) else pos (magnitude text)

@@ -1,10 +1,13 @@
 -- What a script does with a text.
 use Rattle.std.specs.Prelude.{◌≡◌, ◌≤◌, ℕ, Bool, true, false, ◌||◌, List, [], ◌∷◌, ◌++◌, length, Option, Some, None, Result, Ok, Err, if◌then◌else◌}
+use Rattle.x_text.specs.Streams.{Stream}
 use Rattle.x_text.specs.Writing.{Inked, Adds}
-use Rattle.rpcx.specs.Session.{Opened, Compiles}
+use Rattle.rpcx.specs.Session.{Document, LeavesText, IsOpenOf, Compiles}
 use Rattle.rpcx.specs.Answers.{Answer, line_answer}
-use Rattle.rpcx.specs.declared.lines.LineFault.{LineFault}
-use Rattle.rpcx.specs.declared.lines.State.TheVariants.{Ended}
+use Rattle.rpcx.specs.declared.script.lines.LineFault.{LineFault}
+use Rattle.rpcx.specs.declared.script.lines.State.TheVariants.{Ended}
+use Rattle.rpcx.specs.declared.program.status.Status.{Status}
+use Rattle.rpcx.specs.declared.program.status.Status.TheVariants.{Done, Faulty}
 use Rattle.rpcx.specs.declared.script.Outcome.{Outcome}
 use Rattle.rpcx.specs.declared.script.Outcome.TheVariants.{Clean, Refused}
 use Rattle.rpcx.specs.declared.script.EngineFault.{EngineFault}
@@ -24,10 +27,10 @@ AreAnswered base text (line ∷ lines) all = Compiles text (λ items. (rest : An
     × AreAnswered base (line_answer base text items line).text lines rest × (all ≡ then_answer (line_answer base text items line) rest))
 
 -- an answer was given: it was added to what is written, and the session has the text that it leaves
-pub record IsGiven (a : Answer) (old new : Opened) (refused : Bool) (p : Inked) (now : Option (List ℕ)) (failed : Bool) (q : Inked) (now' : Option (List ℕ)) (failed' : Bool) : Type 0 where
-  pub added : Adds p now failed q now' failed' a.told
+pub record IsGiven (a : Answer) (old new : Document) (refused : Bool) (p : Inked) (now : Stream) (q : Inked) (now' : Stream) : Type 0 where
+  pub added : Adds p now q now' a.told
   pub refused_is : refused ≡ a.refused
-  pub session_is : new ≡ record old { text = a.text }
+  pub session_is : LeavesText old new a.text
 
 -- Of the script, which the tap told at first, the reader has given these lines; what is left stands unread in the reader and in the tap.
 -- Except at the end, they and those of what is unread are also the lines that line feeds end, whatever comes behind what was read.
@@ -42,46 +45,45 @@ pub record HasGiven (script : List ℕ) (reader : Reading) (left : Option (List 
   pub whole_are : (reader.state ≡ Ended → ⊥) → (next : List ℕ) → whole_lines (read ++ next) ≡ given ++ whole_lines (unread ++ next)
 
 -- nothing was done
-pub record IsAsBefore (old new : Opened) (p : Inked) (now : Option (List ℕ)) (failed : Bool) (q : Inked) (now' : Option (List ℕ)) (failed' : Bool) : Type 0 where
+pub record IsAsBefore (old new : Document) (p : Inked) (now : Stream) (q : Inked) (now' : Stream) : Type 0 where
   pub session_same : new ≡ old
   pub pen_same : q ≡ p
-  pub contents_same : now' ≡ now
-  pub failed_same : failed' ≡ failed
+  pub sink_same : now' ≡ now
 
 -- A script goes on behind the lines that were given: the next one is answered, or there is none, or nothing is done.
-abbrev pub GoesOn : (old new : Opened) (script : List ℕ) (reader : Reading) (left : Option (List ℕ)) (given : List (List ℕ)) → Result (Option Bool) LineFault
-    → (p : Inked) (now : Option (List ℕ)) (failed : Bool) (q : Inked) (now' : Option (List ℕ)) (failed' : Bool) → Type 0
-GoesOn old new script reader left given (Ok (Some refused)) p now failed q now' failed' =
-    (line : List ℕ) × HasGiven script reader left (given ++ line ∷ []) × Compiles old.text (λ items. IsGiven (line_answer old.base old.text items line) old new refused p now failed q now' failed')
-GoesOn old new script reader left given (Ok None) p now failed q now' failed' = (script_lines script ≡ given) × IsAsBefore old new p now failed q now' failed'
-GoesOn old new script reader left given (Err fault) p now failed q now' failed' = StopsBehind fault script left given × IsAsBefore old new p now failed q now' failed'
+abbrev pub GoesOn : (old new : Document) (script : List ℕ) (reader : Reading) (left : Option (List ℕ)) (given : List (List ℕ)) → Result (Option Bool) LineFault
+    → (p : Inked) (now : Stream) (q : Inked) (now' : Stream) → Type 0
+GoesOn old new script reader left given (Ok (Some refused)) p now q now' =
+    (line : List ℕ) × HasGiven script reader left (given ++ line ∷ []) × Compiles old.text (λ items. IsGiven (line_answer old.base old.text items line) old new refused p now q now')
+GoesOn old new script reader left given (Ok None) p now q now' = (script_lines script ≡ given) × IsAsBefore old new p now q now'
+GoesOn old new script reader left given (Err fault) p now q now' = StopsBehind fault script left given × IsAsBefore old new p now q now'
 
 -- this holds of some of the script's lines, from the first on
 abbrev pub IsFrontOf : List ℕ → (List (List ℕ) → Type 0) → Type 0
 IsFrontOf script P = (lines : List (List ℕ)) × (rest : List (List ℕ)) × (script_lines script ≡ lines ++ rest) × P lines
 
 -- These lines are answered: the sink, which held `before`, has their answers, and the session has the text that they leave.
-pub record HasRun (lines : List (List ℕ)) (old new : Opened) (before after : Option (List ℕ)) (refused : Bool) : Type 0 where
+pub record HasRun (lines : List (List ℕ)) (old new : Document) (before after : Stream) (refused : Bool) : Type 0 where
   pub all : Answer
   pub answered : AreAnswered old.base old.text lines all
-  pub written : Appends before after all.told
+  pub written : Appends before.bytes after.bytes all.told
   pub refused_is : refused ≡ all.refused
-  pub session_is : new ≡ record old { text = all.text }
+  pub session_is : LeavesText old new all.text
 
 -- These lines are answered, and so many bytes were written.
-pub record HasStopped (lines : List (List ℕ)) (old new : Opened) (before after : Option (List ℕ)) (written : ℕ) : Type 0 where
+pub record HasStopped (lines : List (List ℕ)) (old new : Document) (before after : Stream) (written : ℕ) : Type 0 where
   pub refused : Bool
   pub run : HasRun lines old new before after refused
   pub written_is : written ≡ counted (length run.all.told)
 
 -- The earlier lines have these answers in all, and the sink has them whole; it failed within the last line's answer, and the session has the text that this leaves.
-pub record FailsWithin (all last : Answer) (old new : Opened) (before after : Option (List ℕ)) (written : ℕ) : Type 0 where
+pub record FailsWithin (all last : Answer) (old new : Document) (before after : Stream) (written : ℕ) : Type 0 where
   pub front : HasFront before after (all.told ++ last.told) written
   pub whole : counted (length all.told) ≤ written
-  pub session_is : new ≡ record old { text = last.text }
+  pub session_is : LeavesText old new last.text
 
 -- These lines are carried out, and the sink failed within the answer of the last of them.
-pub record HasFailed (lines : List (List ℕ)) (old new : Opened) (before after : Option (List ℕ)) (written : ℕ) : Type 0 where
+pub record HasFailed (lines : List (List ℕ)) (old new : Document) (before after : Stream) (written : ℕ) : Type 0 where
   pub earlier : List (List ℕ)
   pub last : List ℕ
   pub lines_are : lines ≡ earlier ++ last ∷ []
@@ -95,11 +97,11 @@ is_refused Refused = true
 
 -- What a run of a script does, of which the tap has `left` then. A fault of the reader comes behind the answers of all lines that a line feed ends
 -- in what was read, want of memory behind those of some lines, from the first on, and a fault of the sink within an answer.
-abbrev pub Runs : (script : List ℕ) (left : Option (List ℕ)) (old new : Opened) (before after : Option (List ℕ)) (failed : Bool) → Result Outcome EngineFault → Type 0
-Runs script left old new before after failed (Ok outcome) = HasRun (script_lines script) old new before after (is_refused outcome)
-Runs script left old new before after failed (Err (Read written)) = (read : List ℕ) × Consumes (Some script) left read × HasStopped (whole_lines read) old new before after written
-Runs script left old new before after failed (Err (NoMemory written)) = IsFrontOf script (λ lines. HasStopped lines old new before after written)
-Runs script left old new before after failed (Err (Write written)) = IsFrontOf script (λ lines. HasFailed lines old new before after written) × (failed ≡ true)
+abbrev pub Runs : (script : List ℕ) (left : Option (List ℕ)) (old new : Document) (before after : Stream) → Result Outcome EngineFault → Type 0
+Runs script left old new before after (Ok outcome) = HasRun (script_lines script) old new before after (is_refused outcome)
+Runs script left old new before after (Err (Read written)) = (read : List ℕ) × Consumes (Some script) left read × HasStopped (whole_lines read) old new before after written
+Runs script left old new before after (Err (NoMemory written)) = IsFrontOf script (λ lines. HasStopped lines old new before after written)
+Runs script left old new before after (Err (Write written)) = IsFrontOf script (λ lines. HasFailed lines old new before after written) × (after.failed ≡ true)
 
 -- a sink that worked still works
 abbrev pub WorksOn : Bool → Bool → Type 0
@@ -119,20 +121,21 @@ AddsIfFound (Ok None) sink sink' Added = sink' ≡ sink
 AddsIfFound (Err fault) sink sink' Added = sink' ≡ sink
 
 -- the status of a run that carried out each line, whether or not one was refused
-abbrev pub status_of : Bool → ℕ
-status_of refused = if refused then 1 else 0
+abbrev pub status_of : Bool → Status
+status_of refused = if refused then Faulty else Done
 
 -- A run over a text answers the script: where its status tells of no fault, the sink has the answers of all lines, and the status says whether one was refused.
-abbrev pub Answers : (script base text : List ℕ) (before after : Option (List ℕ)) (status : ℕ) → Type 0
+abbrev pub Answers : (script base text : List ℕ) (before after : Stream) (status : Status) → Type 0
 Answers script base text before after status =
-    (refused : Bool) → status ≡ status_of refused → (new : Opened) × HasRun (script_lines script) (record { base = base; text = text }) new before after refused
+    (refused : Bool) → status ≡ status_of refused → (old new : Document) × IsOpenOf old base text
+    × HasRun (script_lines script) old new before after refused
 
 -- nothing of the script was read, and nothing was written
-pub record IsUntouched (script : List ℕ) (left before after : Option (List ℕ)) : Type 0 where
+pub record IsUntouched (script : List ℕ) (left : Option (List ℕ)) (before after : Stream) : Type 0 where
   pub unread : left ≡ Some script
   pub unwritten : after ≡ before
 
 -- A run over a text that a fault ends: the sink has what the run of the script says of that fault.
-abbrev pub EndsEarly : (script : List ℕ) (left : Option (List ℕ)) (base text : List ℕ) (before after : Option (List ℕ)) (failed : Bool) → Type 0
-EndsEarly script left base text before after failed =
-    (fault : EngineFault) × (new : Opened) × Runs script left (record { base = base; text = text }) new before after failed (Err fault)
+abbrev pub EndsEarly : (script : List ℕ) (left : Option (List ℕ)) (base text : List ℕ) (before after : Stream) → Type 0
+EndsEarly script left base text before after =
+    (fault : EngineFault) × (old new : Document) × IsOpenOf old base text × Runs script left old new before after (Err fault)

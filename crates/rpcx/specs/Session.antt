@@ -8,9 +8,19 @@ use Rattle.x_text.specs.declared.source.TheConstants.{MAX_TEXT}
 use Rattle.x_lex.specs.declared.kind.Kind.{Kind}
 use Rattle.rpcx.specs.Compile.{Item, IsCompilation}
 
-pub record Opened : Type 0 where
+pub record Document : Type 0 where
   pub base : List ℕ
   pub text : List ℕ
+
+-- the session has this text now, and the base that it had
+pub record LeavesText (old new : Document) (text : List ℕ) : Type 0 where
+  pub text_is : new.text ≡ text
+  pub base_is : new.base ≡ old.base
+
+-- the session is one of this base and this text
+pub record IsOpenOf (session : Document) (base text : List ℕ) : Type 0 where
+  pub base_is : session.base ≡ base
+  pub text_is : session.text ≡ text
 
 -- this holds of what compiling the text from scratch gives
 abbrev pub Compiles : List ℕ → (List Item → Type 0) → Type 0

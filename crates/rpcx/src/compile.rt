@@ -3,47 +3,68 @@
 ghost use Rattle.std.specs.Prelude.{◌≡◌, ℕ, List, map, IfOk};
 ghost use Rattle.x_lex.specs.Tiling.{AreTokens};
 ghost use Rattle.x_lex.specs.Places.{lexemes};
-ghost use Rattle.rpcx.specs.Kept.{view_item, kept_definition};
-ghost use Rattle.rpcx.specs.Names.{first_declarer};
-ghost use Rattle.rpcx.specs.NamesTable.{first_in};
+ghost use Rattle.rpcx.specs.ItemView.{view_item, kept_definition};
+ghost use Rattle.rpcx.specs.Declarers.{FirstIs};
+ghost use Rattle.rpcx.specs.DeclarerTable.{first_in};
 ghost use Rattle.rpcx.specs.Compile.{IsCompilation, parts, faults_of};
 ghost use Rattle.rpcx.specs.Header.{body_of};
 
-use crate::findings::{Findings, find};
-use crate::items::items_of;
-use crate::{Item, Names};
+mod fault;
+mod header;
+mod item;
+mod names;
+mod number;
+mod output;
+mod parsing;
+mod placing;
+mod rules;
+
+pub use fault::{Fault, FaultCode, RuleCode};
+pub(crate) use header::{EPILOGUE, prologue};
+pub(crate) use item::{Item, is_constant};
+pub use names::{Declared, Declarer, Names, declares};
+pub use number::number_value;
+use output::{Output, output_of};
+use parsing::parse_items;
 use std::alloc::Global;
 use x_lex::{Tokens, lex};
 use x_text::{Meter, NoMemory, Source};
 
 /// What compiling a text gives.
 #[derive(Drop)]
-pub struct Compiled {
+pub struct Compilation {
     pub tokens: Tokens,
     pub items: Vec<Item>,
-    pub findings: Findings,
+    pub output: Output,
 }
 
 /// Compiles a text from scratch.
-pub fn compile(alloc: Global, source: &Source, meter: &mut Meter) -> Result<Compiled, NoMemory>
-    ensures items { IfOk result (λ c. IsCompilation source.now c.tokens.list (parts (lexemes source.now c.tokens.list) (map view_item c.items.items))) }
-    ensures faults { IfOk result (λ c. c.findings.faults.items ≡ faults_of source.now (parts (lexemes source.now c.tokens.list) (map view_item c.items.items))) }
-    ensures body { IfOk result (λ c. c.findings.body.items ≡ body_of (parts (lexemes source.now c.tokens.list) (map view_item c.items.items))) }
+pub fn compile(alloc: Global, source: &Source, meter: &mut Meter) -> Result<Compilation, NoMemory>
+    ensures items { IfOk result
+        (λ c. IsCompilation source.now c.tokens.list
+        (parts (lexemes source.now c.tokens.list) (map view_item c.items.items))) }
+    ensures faults { IfOk result
+        (λ c. c.output.faults.items
+        ≡ faults_of source.now (parts (lexemes source.now c.tokens.list) (map view_item c.items.items))) }
+    ensures body { IfOk result
+        (λ c. c.output.body.items
+        ≡ body_of (parts (lexemes source.now c.tokens.list) (map view_item c.items.items))) }
 {
     let tokens = lex(alloc, source, meter)?;
-    let items = items_of(alloc, &tokens, source, meter)?;
+    let items = parse_items(alloc, &tokens, source, meter)?;
     let names = names_of(alloc, &items)?;
-    let findings = find(alloc, &tokens, source, &items, &names, meter)?;
-    Ok(Compiled {
+    let output = output_of(alloc, &tokens, source, &items, &names, meter)?;
+    Ok(Compilation {
         tokens,
         items,
-        findings,
+        output,
     })
 }
 
 /// The table of the names that the items declare.
 fn names_of(alloc: Global, items: &[Item]) -> Result<Names, NoMemory>
-    ensures { IfOk result (λ names. (name : List ℕ) → first_in names name ≡ first_declarer (map kept_definition items.now) name) }
+    ensures { IfOk result
+        (λ names. (name : List ℕ) → FirstIs (map kept_definition items.now) name (first_in names name)) }
 {
     let mut definitions = Vec::with_capacity(alloc, items.len())?;
     for item in items {

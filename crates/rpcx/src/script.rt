@@ -3,14 +3,21 @@
 ghost use Rattle.std.specs.Prelude.{◌≡◌, ◌≤◌, ◌||◌, ℕ, List, length, IfOk, IfErr, OnErr, MatchOption, IsTrue};
 ghost use Rattle.x_text.specs.Writing.{Adds};
 ghost use Rattle.rpcx.specs.Session.{Compiles};
-ghost use Rattle.rpcx.specs.Commands.{asked};
 ghost use Rattle.rpcx.specs.Answers.{answer, edit_answer, line_answer};
-ghost use Rattle.rpcx.specs.declared.lines.TheConstants.{LONGEST};
+ghost use Rattle.rpcx.specs.declared.script.lines.TheConstants.{LONGEST};
 ghost use Rattle.rpcx.specs.Script.{AddsIfFound, IsGiven, HasGiven, GoesOn, NamesCause, Runs, is_refused};
 ghost use Rattle.rpcx.specs.Lines.{FailsBy};
 
-use crate::answer::{add_counted, add_definitions, add_faults, add_text, add_tokens};
-use crate::{Command, Found, LineFault, LineReader, Session, Which, parse_command};
+mod answer;
+mod byte_queue;
+mod command;
+mod lines;
+
+use crate::{GeneratedText, Session};
+pub(crate) use answer::add_place;
+use answer::{add_counted, add_definitions, add_faults, add_text, add_tokens};
+pub use command::{Command, Insert, parse_command};
+pub use lines::{Found, LONGEST, LineFault, LineReader};
 use std::alloc::Global;
 use thiserror::Error;
 use x_text::{Edit, NoMemory, Pen, Sink, Tap, TextFault};
@@ -58,8 +65,11 @@ pub fn run_script<R: Tap, S: Sink>(
     tap: &mut R,
     sink: &mut S,
 ) -> Result<Outcome, EngineFault>
-    ensures runs { MatchOption (R.remaining tap.old) (Unit {0}) (λ script. Runs script (R.remaining tap.new) session.old session.new (S.contents sink.old) (S.contents sink.new) (S.has_failed sink.new) result) }
-    ensures cause { NamesCause result (R.has_failed tap.old) (R.has_failed tap.new) (S.has_failed sink.old) (S.has_failed sink.new) }
+    ensures runs { MatchOption (R.state tap.old).bytes (Unit {0})
+        (λ script. Runs script (R.state tap.new).bytes session.old session.new (S.state sink.old)
+        (S.state sink.new) result) }
+    ensures cause { NamesCause result (R.state tap.old).failed (R.state tap.new).failed
+        (S.state sink.old).failed (S.state sink.new).failed }
 {
     let mut reader = LineReader::new(alloc);
     let mut pen = Pen::new();
@@ -101,10 +111,13 @@ fn next_answer<R: Tap, S: Sink>(
     pen: &mut Pen,
     sink: &mut S,
 ) -> Result<Option<bool>, LineFault>
-    ensures given { (script : List ℕ) (given : List (List ℕ)) → HasGiven script reader.old (R.remaining tap.old) given →
-        GoesOn session.old session.new script reader.new (R.remaining tap.new) given result pen.old (S.contents sink.old) (S.has_failed sink.old) pen.new (S.contents sink.new) (S.has_failed sink.new) }
-    ensures adds { AddsIfFound result sink.old sink.new ((told : List ℕ) × Adds pen.old (S.contents sink.old) (S.has_failed sink.old) pen.new (S.contents sink.new) (S.has_failed sink.new) told) }
-    ensures failed { FailsBy result (R.has_failed tap.old) (R.has_failed tap.new) }
+    ensures given { (script : List ℕ) (given : List (List ℕ))
+        → HasGiven script reader.old (R.state tap.old).bytes given →
+        GoesOn session.old session.new script reader.new (R.state tap.new).bytes given result
+        pen.old (S.state sink.old) pen.new (S.state sink.new) }
+    ensures adds { AddsIfFound result sink.old sink.new
+        ((told : List ℕ) × Adds pen.old (S.state sink.old) pen.new (S.state sink.new) told) }
+    ensures failed { FailsBy result (R.state tap.old).failed (R.state tap.new).failed }
 {
     // So that the contract of `item_count` says that the text has items, of which a line that is too long asks nothing.
     let _items = session.item_count();
@@ -129,21 +142,27 @@ fn carry_out<S: Sink>(
     pen: &mut Pen,
     sink: &mut S,
 ) -> Result<bool, NoMemory>
-    ensures given { IfOk result (λ refused. Compiles session.old.text (λ items. IsGiven (answer session.old.base session.old.text items (asked command.now)) session.old session.new refused
-        pen.old (S.contents sink.old) (S.has_failed sink.old) pen.new (S.contents sink.new) (S.has_failed sink.new))) }
+    ensures given { IfOk result
+        (λ refused. Compiles session.old.text
+        (λ items. IsGiven (answer session.old.base session.old.text items command.now)
+        session.old session.new refused pen.old (S.state sink.old) pen.new (S.state sink.new))) }
     ensures same { OnErr result ((session.new ≡ session.old) × (pen.new ≡ pen.old) × (sink.new ≡ sink.old)) }
 {
     // So that the contract of `item_count` says that the text has items, of which an edit asks nothing.
     let _items = session.item_count();
     match command {
         Command::Edit { start, end, insert } => {
-            let (start, end) = (*start, *end);
-            return carry_out_edit(session, &Edit { start, end, insert }, pen, sink);
+            let edit = Edit {
+                start: *start,
+                end: *end,
+                insert: insert.bytes(),
+            };
+            return carry_out_edit(session, &edit, pen, sink);
         }
         Command::Tokens => add_tokens(session, pen, sink),
         Command::Definitions => add_definitions(session, pen, sink),
         Command::Faults => add_faults(session, pen, sink),
-        Command::Header => add_text(Which::Header, session, pen, sink),
+        Command::Header => add_text(GeneratedText::Header, session, pen, sink),
         Command::Bad => {
             pen.add(b"refused 43 BadLine\n", sink);
             return Ok(true);
@@ -161,8 +180,10 @@ fn answer_line<S: Sink>(
     sink: &mut S,
 ) -> Result<bool, NoMemory>
     requires { length line.now ≤ LONGEST }
-    ensures given { IfOk result (λ refused. Compiles session.old.text (λ items. IsGiven (line_answer session.old.base session.old.text items line.now) session.old session.new refused
-        pen.old (S.contents sink.old) (S.has_failed sink.old) pen.new (S.contents sink.new) (S.has_failed sink.new))) }
+    ensures given { IfOk result
+        (λ refused. Compiles session.old.text
+        (λ items. IsGiven (line_answer session.old.base session.old.text items line.now)
+        session.old session.new refused pen.old (S.state sink.old) pen.new (S.state sink.new))) }
     ensures same { OnErr result ((session.new ≡ session.old) × (pen.new ≡ pen.old) × (sink.new ≡ sink.old)) }
 {
     let command = parse_command(alloc, line)?;
@@ -176,8 +197,9 @@ fn carry_out_edit<S: Sink>(
     pen: &mut Pen,
     sink: &mut S,
 ) -> Result<bool, NoMemory>
-    ensures given { IfOk result (λ refused. IsGiven (edit_answer session.old.text edit.now.start edit.now.end edit.now.insert.now) session.old session.new refused
-        pen.old (S.contents sink.old) (S.has_failed sink.old) pen.new (S.contents sink.new) (S.has_failed sink.new)) }
+    ensures given { IfOk result
+        (λ refused. IsGiven (edit_answer session.old.text edit.now.start edit.now.end edit.now.insert.now)
+        session.old session.new refused pen.old (S.state sink.old) pen.new (S.state sink.new)) }
     ensures same { OnErr result ((session.new ≡ session.old) × (pen.new ≡ pen.old) × (sink.new ≡ sink.old)) }
 {
     match session.apply(edit) {

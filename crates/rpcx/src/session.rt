@@ -3,70 +3,24 @@
 ghost use Rattle.std.specs.Prelude.{◌≡◌, ◌↔◌, ◌<◌, ◌≤◌, ℕ, List, Option, length, map, option_map, option_and_then, slice_get, IfOk, OnOk, OnErr, IfErr, IsErrOf, IsTrue, Some, None};
 ghost use Rattle.x_text.specs.Counts.{raised};
 ghost use Rattle.x_text.specs.Edits.{edited, LiesWithin};
-ghost use Rattle.x_text.specs.Writing.{Adds, IsWritten};
 ghost use Rattle.x_text.specs.declared.source.TheConstants.{MAX_TEXT};
 ghost use Rattle.x_lex.specs.Places.{lexeme};
-ghost use Rattle.rpcx.specs.Session.{Opened, Compiles, edited_by_all, TakesAll, StopsAt};
+ghost use Rattle.rpcx.specs.Session.{Document, Compiles, edited_by_all, TakesAll, StopsAt};
 ghost use Rattle.rpcx.specs.Compile.{tokens_of, definitions_of, definition_at, faults_of};
-ghost use Rattle.rpcx.specs.Kept.{kept_definition, tree_at};
-ghost use Rattle.rpcx.specs.Listings.{numbered, are_constants};
-ghost use Rattle.rpcx.specs.Header.{header};
+ghost use Rattle.rpcx.specs.ItemView.{kept_definition, tree_at};
+ghost use Rattle.rpcx.specs.Definitions.{numbered, are_constants};
 
-use crate::compile::{Compiled, compile};
-use crate::definition::is_constant;
-use crate::header::{EPILOGUE, prologue};
-use crate::{Fault, Item};
+mod generated_text;
+mod work;
+
+use crate::compile::{Compilation, Fault, Item, compile, is_constant, prologue};
+pub use generated_text::GeneratedText;
 use std::alloc::Global;
 use std::marker::Model;
+pub use work::Work;
 use x_item::Definition;
 use x_lex::{Token, Tokens, Walk};
-use x_text::{Edit, Meter, NoMemory, Pen, Sink, Source, TextFault, WriteFault};
-
-/// A text that is generated.
-#[derive(Clone, Copy, Debug, PartialEq, Eq)]
-pub enum Which {
-    /// The header, `BASE.h`.
-    Header,
-}
-
-/// What work an edit took.
-#[derive(Clone, Copy, Debug, Default, PartialEq, Eq)]
-pub struct Work {
-    /// How many tokens were lexed.
-    pub lexed: u64,
-    /// How many items were parsed.
-    pub parsed: u64,
-    /// How many items were checked.
-    pub checked: u64,
-    /// How many kept entries were moved.
-    pub moved: u64,
-}
-
-impl Work {
-    /// What a meter counted.
-    fn of(meter: &Meter) -> Work
-        ensures { result ≡ record { lexed = meter.now.lexed; parsed = meter.now.parsed; checked = meter.now.checked; moved = meter.now.moved } }
-    {
-        Work {
-            lexed: meter.lexed(),
-            parsed: meter.parsed(),
-            checked: meter.checked(),
-            moved: meter.moved(),
-        }
-    }
-
-    /// This work and other work. Each count stays at the greatest number.
-    fn with(self, other: &Work) -> Work
-        ensures { result ≡ record { lexed = raised self.lexed other.now.lexed; parsed = raised self.parsed other.now.parsed; checked = raised self.checked other.now.checked; moved = raised self.moved other.now.moved } }
-    {
-        Work {
-            lexed: self.lexed.saturating_add(other.lexed),
-            parsed: self.parsed.saturating_add(other.parsed),
-            checked: self.checked.saturating_add(other.checked),
-            moved: self.moved.saturating_add(other.moved),
-        }
-    }
-}
+use x_text::{Edit, Meter, NoMemory, Source, TextFault};
 
 /// A text that stays open: its tokens, definitions and faults, and what is generated of it.
 #[derive(Drop)]
@@ -82,20 +36,22 @@ pub struct Session {
 }
 
 impl Model for Session {
-    ghost use Rattle.rpcx.specs.Session.{Opened};
-    ghost use Rattle.rpcx.specs.Keeps.{AreKept};
+    ghost use Rattle.rpcx.specs.Session.{Document};
+    ghost use Rattle.rpcx.specs.SessionState.{IsUpToDate};
 
-    ghost Value = { Opened };
+    ghost Value = { Document };
 
     ghost view = { λ s. record { base = s.base.items; text = s.source } };
 
-    ghost invariant = { λ s. AreKept s.base.items s.source s.tokens.list s.items.items s.faults.items s.prologue.items s.body.items };
+    ghost invariant = { λ s. IsUpToDate s.base.items s.source s.tokens.list s.items.items s.faults.items
+        s.prologue.items s.body.items };
 }
 
 impl Session {
     /// Opens a text: [`TextFault::TooLarge`] or [`TextFault::NoMemory`]. `base` is the name that the generated texts use.
     pub fn open(alloc: Global, base: &[u8], bytes: &[u8]) -> Result<Session, TextFault>
-        ensures opened { IfOk result (λ s. s ≡ record { base = base.now; text = bytes.now }) }
+        ensures base { IfOk result (λ s. s.base ≡ base.now) }
+        ensures text { IfOk result (λ s. s.text ≡ bytes.now) }
         ensures too_large { IsErrOf result TextFault.TooLarge ↔ (MAX_TEXT < length bytes.now) }
         ensures in_range { IsErrOf result TextFault.BadRange → ⊥ }
     {
@@ -108,15 +64,16 @@ impl Session {
 
     /// The session of a text.
     fn compiled(alloc: Global, base: &[u8], source: Source) -> Result<Session, NoMemory>
-        ensures { IfOk result (λ s. s ≡ record { base = base.now; text = source }) }
+        ensures base { IfOk result (λ s. s.base ≡ base.now) }
+        ensures text { IfOk result (λ s. s.text ≡ source) }
     {
         let mut meter = Meter::new();
         let base = Vec::from_slice(alloc, base)?;
         let prologue = prologue(alloc, &base)?;
-        let Compiled {
+        let Compilation {
             tokens,
             items,
-            findings,
+            output,
         } = compile(alloc, &source, &mut meter)?;
         Ok(Session {
             alloc,
@@ -124,28 +81,32 @@ impl Session {
             source,
             tokens,
             items,
-            faults: findings.faults,
+            faults: output.faults,
             prologue,
-            body: findings.body,
+            body: output.body,
         })
     }
 
     /// Carries an edit out, with the faults of [`Source::replace`], and answers what work it took. After a fault all is as before.
     pub fn apply(&mut self, edit: &Edit) -> Result<Work, TextFault>
-        ensures text { OnOk result (self.new ≡ record self.old { text = edited self.old.text edit.now.start edit.now.end edit.now.insert.now }) }
+        ensures text { OnOk result
+            (self.new.text ≡ edited self.old.text edit.now.start edit.now.end edit.now.insert.now) }
+        ensures base { self.new.base ≡ self.old.base }
         ensures fits { OnOk result (LiesWithin self.old.text edit.now.start edit.now.end
             × (length (edited self.old.text edit.now.start edit.now.end edit.now.insert.now) ≤ MAX_TEXT)) }
-        ensures bad_range { IsErrOf result TextFault.BadRange ↔ ¬ (LiesWithin self.old.text edit.now.start edit.now.end) }
+        ensures bad_range { IsErrOf result TextFault.BadRange
+            ↔ ¬ (LiesWithin self.old.text edit.now.start edit.now.end) }
         ensures too_large { IsErrOf result TextFault.TooLarge ↔
-            (LiesWithin self.old.text edit.now.start edit.now.end × (MAX_TEXT < length (edited self.old.text edit.now.start edit.now.end edit.now.insert.now))) }
+            (LiesWithin self.old.text edit.now.start edit.now.end
+            × (MAX_TEXT < length (edited self.old.text edit.now.start edit.now.end edit.now.insert.now))) }
         ensures same { OnErr result (self.new ≡ self.old) }
     {
         let source = self.source.edited(self.alloc, edit)?;
         let mut meter = Meter::new();
-        let Compiled {
+        let Compilation {
             tokens,
             items,
-            findings,
+            output,
         } = match compile(self.alloc, &source, &mut meter) {
             Ok(compiled) => compiled,
             Err(NoMemory) => return Err(TextFault::NoMemory),
@@ -153,17 +114,18 @@ impl Session {
         self.source = source;
         self.tokens = tokens;
         self.items = items;
-        self.faults = findings.faults;
-        self.body = findings.body;
+        self.faults = output.faults;
+        self.body = output.body;
         Ok(Work::of(&meter))
     }
 
     /// Carries the edits out in order, and answers what work they took. At the first that is refused it stops and answers its index,
     /// from 0, and the fault: the edits before it are done.
     pub fn apply_all(&mut self, edits: &[Edit]) -> Result<Work, (usize, TextFault)>
-        ensures text { OnOk result (self.new ≡ record self.old { text = edited_by_all self.old.text edits.now }) }
+        ensures text { OnOk result (self.new.text ≡ edited_by_all self.old.text edits.now) }
         ensures takes { OnOk result (TakesAll self.old.text edits.now) }
-        ensures stops { IfErr result (λ fault. StopsAt self.old.text edits.now self.new.text fault.0 fault.1) }
+        ensures stops { IfErr result
+            (λ fault. StopsAt self.old.text edits.now self.new.text fault.0 fault.1) }
         ensures base { self.new.base ≡ self.old.base }
     {
         let mut total = Work::default();
@@ -192,7 +154,8 @@ impl Session {
 
     /// The token at an index.
     pub fn token(&self, index: usize) -> Option<Token<'_>>
-        ensures { Compiles self.now.text (λ items. option_map lexeme result ≡ slice_get (tokens_of items) index) }
+        ensures { Compiles self.now.text
+            (λ items. option_map lexeme result ≡ slice_get (tokens_of items) index) }
     {
         self.tokens.token(index, &self.source)
     }
@@ -251,39 +214,6 @@ impl Session {
         ensures { Compiles self.now.text (λ items. result.now ≡ faults_of self.now.text items) }
     {
         &self.faults
-    }
-
-    /// Writes a generated text. After a fault the sink has exactly its first `written` bytes.
-    pub fn write_text<S: Sink>(&self, which: Which, sink: &mut S) -> Result<(), WriteFault>
-        ensures { Compiles self.now.text (λ items. IsWritten result (S.contents sink.old) (S.contents sink.new) (S.has_failed sink.new) (header self.now.base items)) }
-    {
-        let mut pen = Pen::new();
-        self.add_text(which, &mut pen, sink);
-        pen.finish(sink)
-    }
-
-    /// Adds a generated text.
-    pub(crate) fn add_text<S: Sink>(&self, which: Which, pen: &mut Pen, sink: &mut S)
-        ensures { Compiles self.now.text (λ items. Adds pen.old (S.contents sink.old) (S.has_failed sink.old) pen.new (S.contents sink.new) (S.has_failed sink.new) (header self.now.base items)) }
-    {
-        match which {
-            Which::Header => {
-                pen.add(&self.prologue, sink);
-                pen.add(&self.body, sink);
-                pen.add(EPILOGUE, sink);
-            }
-        }
-    }
-
-    /// How many bytes a generated text has.
-    pub(crate) fn text_length(&self, which: Which) -> u128
-        ensures { Compiles self.now.text (λ items. result ≡ length (header self.now.base items)) }
-    {
-        match which {
-            Which::Header => {
-                self.prologue.len() as u128 + self.body.len() as u128 + EPILOGUE.len() as u128
-            }
-        }
     }
 }
 

@@ -21,7 +21,10 @@ fn expect_fault(rt: &impl Abort, session: &Session) {
     let place = fault.map(|fault| (fault.item, fault.token));
     assert_eq!(rt; place, Some((1, 0)));
     let told = fault.map(|fault| (fault.line, fault.col, fault.code));
-    assert_eq!(rt; told, Some((1, 14, FaultCode::Syntax)));
+    assert_eq!(rt;
+        told,
+        Some((1, 14, FaultCode::Syntax(x_item::FaultCode::Syntax)))
+    );
 }
 
 #[test]

@@ -1,17 +1,29 @@
-use rpcx::{EngineFault, FaultCode, LineFault, one_compilation};
+use rpcx::{EngineFault, FaultCode, LineFault, RuleCode, one_compilation, one_first_declarer};
 use std::test::Fail;
 
 #[test]
 fn faults_have_their_texts(rt: HostRuntime) -> Result<(), Fail> {
     let rows = [
-        (FaultCode::Syntax, "10 Syntax"),
-        (FaultCode::BadByte, "11 BadByte"),
-        (FaultCode::BadNumber, "12 BadNumber"),
-        (FaultCode::OpenComment, "13 OpenComment"),
-        (FaultCode::Directive, "14 Directive"),
-        (FaultCode::Unfinished, "15 Unfinished"),
-        (FaultCode::Duplicate, "20 Duplicate"),
-        (FaultCode::Range, "25 Range"),
+        (FaultCode::Syntax(x_item::FaultCode::Syntax), "10 Syntax"),
+        (FaultCode::Syntax(x_item::FaultCode::BadByte), "11 BadByte"),
+        (
+            FaultCode::Syntax(x_item::FaultCode::BadNumber),
+            "12 BadNumber",
+        ),
+        (
+            FaultCode::Syntax(x_item::FaultCode::OpenComment),
+            "13 OpenComment",
+        ),
+        (
+            FaultCode::Syntax(x_item::FaultCode::Directive),
+            "14 Directive",
+        ),
+        (
+            FaultCode::Syntax(x_item::FaultCode::Unfinished),
+            "15 Unfinished",
+        ),
+        (FaultCode::Rule(RuleCode::Duplicate), "20 Duplicate"),
+        (FaultCode::Rule(RuleCode::Range), "25 Range"),
     ];
     for (code, wanted) in rows {
         assert_eq!(rt; code.to_string(rt.alloc())?.as_str(), wanted);
@@ -45,6 +57,7 @@ fn faults_of_a_run_have_their_texts(rt: HostRuntime) -> Result<(), Fail> {
 }
 
 #[test]
-fn the_law_does_nothing(_rt: HostRuntime) {
+fn the_laws_do_nothing(_rt: HostRuntime) {
     one_compilation();
+    one_first_declarer();
 }

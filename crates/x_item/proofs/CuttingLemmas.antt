@@ -15,7 +15,7 @@ use Rattle.x_item.proofs.RoleLemmas.{role_is}
 use Rattle.x_item.proofs.ItemListLemmas.{depth-open, depth-close, depth-other, Cuts, cuts_none, cuts_on, cuts_end, cuts_all}
 
 -- the depth one token on
-depth_next : (part : List Lexeme) (t : Lexeme) → depth (part ++ t ∷ []) ≡ depth_after (depth part) (role_of t)
+pub depth_next : (part : List Lexeme) (t : Lexeme) → depth (part ++ t ∷ []) ≡ depth_after (depth part) (role_of t)
 depth_next part t = by (is_open t) refl (is_close t) refl (is_semicolon t) ∙ ap (depth_after (depth part)) (sym (role_is t.kind t.text))
   where
     by : (p : Bool) → p ≡ is_open t → (q : Bool) → q ≡ is_close t → (r : Bool) → depth (part ++ t ∷ []) ≡ depth_after (depth part) (chosen p q r)
@@ -44,10 +44,10 @@ zero_from : (n : ℕ) → (n == 0) ≡ true → n ≡ 0
 zero_from n h = grind (arith, nat_tests)
 
 -- the token ends the item
-ends_yes : (part : List Lexeme) (t : Lexeme) → Ends part t → ends_at (depth part) (role_of t) ≡ true
+pub ends_yes : (part : List Lexeme) (t : Lexeme) → Ends part t → ends_at (depth part) (role_of t) ≡ true
 ends_yes part t e = ap (ends_at (depth part)) (semicolon_role t e.semicolon) ∙ ap (λ d. d == 0) e.outside
 
-ends_from : (part : List Lexeme) (t : Lexeme) → ends_at (depth part) (role_of t) ≡ true → Ends part t
+pub ends_from : (part : List Lexeme) (t : Lexeme) → ends_at (depth part) (role_of t) ≡ true → Ends part t
 ends_from part t h = by (is_open t) (is_close t) (is_semicolon t) refl (ap (ends_at (depth part)) (sym (role_is t.kind t.text)) ∙ h)
   where
     by : (p q r : Bool) → r ≡ is_semicolon t → ends_at (depth part) (chosen p q r) ≡ true → Ends part t

@@ -3,7 +3,7 @@ use Rattle.std.proofs.Common.{◌≡◌, ℕ, ◌+◌, Bool, true, false, List, 
 use Rattle.std.proofs.lemmas.List.{map-append, length-map}
 use Rattle.x_item.specs.Tree as tree
 use Rattle.x_item.specs.Words.{Word, Fixed}
-use Rattle.x_item.specs.declared.mark.Mark.{Mark}
+use Rattle.x_lex.specs.declared.mark.Mark.{Mark}
 use Rattle.x_item.specs.declared.names.mention.Use.{Use}
 use Rattle.x_item.specs.Gloss.{Role, Gloss, Place, InTypedef, AsField, AsDiscriminant, AsArm, glossed, worded, basic_marks, leading_roles, usage_at, name_inside, name_roles, lifted_roles, place_in, roles_where, argument_roles, VoidResult, VoidArgument, marks_by, most_by, length_by, named_by, given_by, enumerator_by, other_enumerators_by, enumerators_by, cases_by, type_by, body_by, declaration_by, declarations_by, arms_by, default_by, argument_by, passed_by, others_by, procedure_by, procedures_by, version_by, versions_by, gloss, told_of}
 use Rattle.x_item.specs.Spell.{spell, spell_most, spell_length, spell_named, spell_given, spell_enumerator, spell_other_enumerators, spell_enumerators, spell_cases, spell_type, spell_body, spell_declaration, spell_declarations, spell_arms, spell_default, spell_argument, spell_passed, spell_others, spell_procedure, spell_procedures, spell_version, spell_versions}

@@ -112,7 +112,7 @@ cut_before (p ∷ part) t (y ∷ front) x rear e =
     (λ h. inr (h.0, same_cons (same_head e) h.1))
     (cut_before part t front x rear (same_tail e))
 
-no_end_on : (part : List Lexeme) (t : Lexeme) → HasNoEnd part → (Ends part t → ⊥) → HasNoEnd (part ++ t ∷ [])
+pub no_end_on : (part : List Lexeme) (t : Lexeme) → HasNoEnd part → (Ends part t → ⊥) → HasNoEnd (part ++ t ∷ [])
 no_end_on part t none here = record {
   never = λ front x rear e ends.
       ⊎_elim
@@ -121,14 +121,14 @@ no_end_on part t none here = record {
       (cut_before part t front x rear e);
 }
 
-no_end_none : HasNoEnd []
+pub no_end_none : HasNoEnd []
 no_end_none = record { never = λ front x rear e ends. never front x rear e }
   where
     never : (front : List Lexeme) (x : Lexeme) (rear : List Lexeme) → [] ≡ front ++ x ∷ rear → ⊥
     never [] x rear e = cc
     never (y ∷ front) x rear e = cc
 
-whole_push : (whole : List (List Lexeme)) (item : List Lexeme) → AreWhole whole → IsWhole item → AreWhole (whole ++ item ∷ [])
+pub whole_push : (whole : List (List Lexeme)) (item : List Lexeme) → AreWhole whole → IsWhole item → AreWhole (whole ++ item ∷ [])
 whole_push [] item each this = (this, tt)
 whole_push (x ∷ whole) item each this = (each.0, whole_push whole item each.1 this)
 

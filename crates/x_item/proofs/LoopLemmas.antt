@@ -9,10 +9,10 @@ use Rattle.x_item.specs.Tree as tree
 use Rattle.x_item.specs.Gloss.{tag_mark, spell_value, body_mark}
 use Rattle.x_item.specs.Spell.{spell_enumerator, spell_other_enumerators, spell_enumerators, spell_cases, spell_declaration, spell_declarations, spell_arms, spell_type, spell_body, HasOne, HasDeclaration, HasArm, DeclarationFits, DeclarationsFit, ArmsFit, BodyFits, TypeFits}
 use Rattle.x_item.specs.View.{view_value, view_enumerator, view_declaration, view_declarations, view_arms}
-use Rattle.x_item.specs.declared.mark.Mark.{Mark}
-use Rattle.x_item.specs.declared.mark.Mark.TheVariants as marks
-use Rattle.x_item.specs.declared.mark.Ending.{Ending}
-use Rattle.x_item.specs.declared.mark.Ending.TheVariants as endings
+use Rattle.x_lex.specs.declared.mark.Mark.{Mark}
+use Rattle.x_lex.specs.declared.mark.Mark.TheVariants as marks
+use Rattle.x_item.specs.declared.parsing.ending.Ending.{Ending}
+use Rattle.x_item.specs.declared.parsing.ending.Ending.TheVariants as endings
 use Rattle.x_item.specs.declared.trees.declaration.Enumerator.{Enumerator}
 use Rattle.x_item.specs.declared.trees.value.Value.{Value}
 use Rattle.x_item.specs.declared.trees.declaration.Tag.{Tag}

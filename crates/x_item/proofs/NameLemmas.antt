@@ -2,8 +2,8 @@
 use Rattle.std.proofs.Common.{◌≡◌, ℕ, ◌+◌, ◌^◌, ◌<◌, List, [], ◌∷◌, ◌++◌, map, Option, Some, None, true, false, length, refl, ap, sym, subst, ◌∙◌, length-append, arith}
 use Rattle.std.proofs.lemmas.List.{append-nil}
 use Rattle.x_item.specs.Tree as tree
-use Rattle.x_item.specs.declared.mark.Mark.{Mark}
-use Rattle.x_item.specs.declared.mark.Mark.TheVariants as marks
+use Rattle.x_lex.specs.declared.mark.Mark.{Mark}
+use Rattle.x_lex.specs.declared.mark.Mark.TheVariants as marks
 use Rattle.x_item.specs.Words.{Fixed, Name}
 use Rattle.x_item.specs.Gloss.{Role, Declares, FixedSize, GreatestSize, ConstantValue, VoidResult, VoidArgument, EnumeratorValue, CaseValue, Place, InTypedef, Inside, AsField, AsDiscriminant, AsArm, Gloss, glossed, body_kind, body_mark, basic_marks, value_roles, leading_roles, usage_at, name_inside, name_roles, lifted_roles, marks_by, length_by, named_by, argument_by, passed_by, others_by, procedure_by, procedures_by, version_by, versions_by, spell_value, given_by, enumerator_by, cases_by, type_by, body_by, declaration_by, told_of, gloss}
 use Rattle.x_item.specs.Spell.{spell_type, spell_named, spell_length, spell_enumerator, spell}

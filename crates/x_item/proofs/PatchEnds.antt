@@ -1,8 +1,9 @@
 -- Where the fresh tokens of a patch start and end, in both texts.
-use Rattle.std.proofs.Common.{◌≡◌, ℕ, zero, suc, ◌+◌, ◌-◌, ◌≤◌, ◌<◌, ◌⊎◌, inl, inr, ⊎_elim, Bool, true, false, List, [], ◌∷◌, ◌++◌, length, take, drop, refl, ap, sym, ◌∙◌, arith, append_assoc, length-append, length-drop, length-take-le}
+use Rattle.std.proofs.Common.{◌≡◌, ℕ, zero, suc, ◌+◌, ◌-◌, ◌≤◌, ◌<◌, ◌⊎◌, inl, inr, ⊎_elim, Bool, true, false, List, [], ◌∷◌, ◌++◌, length, take, drop, refl, ap, sym, subst, ◌∙◌, arith, append_assoc, length-append, length-drop, length-take-le}
 use Rattle.std.specs.Prelude.{◌||◌, nat_lt, nat_le}
 use Rattle.std.proofs.lemmas.Bool.{cases_lt, le-ltb, lt-leb, cond-true, cond-false, or_from}
 use Rattle.std.proofs.lemmas.List.{take-append-drop, take_at, drop_at, take-append-le}
+use Rattle.x_text.specs.Edits.{Change, edited_by}
 use Rattle.x_lex.specs.declared.kind.Kind.{Kind}
 use Rattle.x_lex.specs.Tiling.{Tiles, AreTokens, starts_after, span, end_of}
 use Rattle.x_lex.specs.TokenList.{TokenPatch, patched}
@@ -83,7 +84,7 @@ fresh_few a q at (x ∷ xs) ys le = by (nat_lt (at + x.1) a || nat_le q at) refl
     by true e r = let c = ap length (cond-true (nat_lt (at + x.1) a || nat_le q at) (fresh_from a q (at + x.1) (xs ++ ys)) (x ∷ fresh_from a q (at + x.1) (xs ++ ys)) e) in omega (arith, c, r)
     by false e r = let c = ap length (cond-false (nat_lt (at + x.1) a || nat_le q at) (fresh_from a q (at + x.1) (xs ++ ys)) (x ∷ fresh_from a q (at + x.1) (xs ++ ys)) e) in omega (arith, c, r)
 
-module _ (old new ins : List ℕ) (a b : ℕ) (change : IsEdit old new ins a b) (ts : List (Kind × ℕ)) (tiles : AreTokens old ts) (patch : TokenPatch) (is : IsPatch old new ts a b (length ins) patch) where
+module _ (change : Change) (new : List ℕ) (edit : IsEdit change new) (ts : List (Kind × ℕ)) (tiles : AreTokens change.old ts) (patch : TokenPatch) (is : IsPatch change ts patch) where
   abbrev us : List (Kind × ℕ)
   us = patched ts patch
 
@@ -93,15 +94,25 @@ module _ (old new ins : List ℕ) (a b : ℕ) (change : IsEdit old new ins a b) 
   front_length : length (take patch.at ts) ≡ patch.at
   front_length = length-take-le patch.at ts is.front.within
 
-  pub meeting_late : a + length ins ≤ is.place
-  meeting_late = ⊎_elim (λ h. h.behind) (λ e. let n = new_length old new ins a b change in omega (arith, e, n)) is.meeting.meets
+  pub new_tokens : AreTokens new us
+  new_tokens = subst (λ text. AreTokens text us) (sym edit.result) is.tokens
+
+  meets : Agrees change ts us is.place ⊎ (is.place ≡ length new)
+  meets = by is.meeting.meets
+    where
+      by : Agrees change ts us is.place ⊎ (is.place ≡ length (edited_by change)) → Agrees change ts us is.place ⊎ (is.place ≡ length new)
+      by (inl h) = inl h
+      by (inr e) = inr (e ∙ ap length (sym edit.result))
+
+  pub meeting_late : change.start + length change.insert ≤ is.place
+  meeting_late = ⊎_elim (λ h. h.behind) (λ e. let n = new_length change new edit in omega (arith, e, n)) meets
 
   old_meeting : ℕ
-  old_meeting = old_place a b (length ins) is.place
+  old_meeting = old_place change is.place
 
   -- the tokens that go end where the old ones hold again
-  rear : Rear a (old_place a b (length ins) is.place) (end_of ts patch.at) (drop patch.at ts)
-  rear = rear_of a (old_place a b (length ins) is.place) (end_of ts patch.at) (drop patch.at ts) (λ some.
+  rear : Rear change.start (old_place change is.place) (end_of ts patch.at) (drop patch.at ts)
+  rear = rear_of change.start (old_place change is.place) (end_of ts patch.at) (drop patch.at ts) (λ some.
       let d = length-drop patch.at ts in
       let n = is.front.next (omega (arith, some, d)) in
       let s = end_sum ts patch.at 1 in
@@ -109,11 +120,11 @@ module _ (old new ins : List ℕ) (a b : ℕ) (change : IsEdit old new ins a b) 
 
   gone_is : rear.gone ≡ patch.removed
   gone_is =
-      let q = old_place a b (length ins) is.place in
-      let k : kept_from a q 0 ts ≡ take patch.at ts ++ drop rear.gone (drop patch.at ts) =
-      ap (kept_from a q 0) (sym (take-append-drop patch.at ts))
-      ∙ kept_front a q 0 (take patch.at ts) (drop patch.at ts) (λ some. let f = front_length in let l = is.front.before (omega (arith, some, f)) in omega (arith, l))
-      ∙ ap (λ n. take patch.at ts ++ kept_from a q n (drop patch.at ts)) (let z : 0 + span (take patch.at ts) ≡ end_of ts patch.at = omega arith in z)
+      let q = old_place change is.place in
+      let k : kept_from change.start q 0 ts ≡ take patch.at ts ++ drop rear.gone (drop patch.at ts) =
+      ap (kept_from change.start q 0) (sym (take-append-drop patch.at ts))
+      ∙ kept_front change.start q 0 (take patch.at ts) (drop patch.at ts) (λ some. let f = front_length in let l = is.front.before (omega (arith, some, f)) in omega (arith, l))
+      ∙ ap (λ n. take patch.at ts ++ kept_from change.start q n (drop patch.at ts)) (let z : 0 + span (take patch.at ts) ≡ end_of ts patch.at = omega arith in z)
       ∙ ap (λ l. take patch.at ts ++ l) rear.left in
       let l = ap length (is.kept_are ∙ k) in
       let m = length-append (take patch.at ts) (drop (patch.at + patch.removed) ts) in
@@ -127,27 +138,27 @@ module _ (old new ins : List ℕ) (a b : ℕ) (change : IsEdit old new ins a b) 
 
   -- the old place is a boundary
   abbrev OldBoundary : Type 0
-  OldBoundary = (i : ℕ) × (i ≤ length ts) × (end_of ts i ≡ old_place a b (length ins) is.place)
+  OldBoundary = (i : ℕ) × (i ≤ length ts) × (end_of ts i ≡ old_place change is.place)
 
   old_boundary : OldBoundary
-  old_boundary = by is.meeting.meets
+  old_boundary = by meets
     where
-      by : Agrees old new ts us a b (length ins) is.place ⊎ (is.place ≡ length new) → OldBoundary
+      by : Agrees change ts us is.place ⊎ (is.place ≡ length new) → OldBoundary
       by (inl h) = (h.in_old.index, h.in_old.within, h.in_old.ends)
       by (inr e) =
-          let n = new_length old new ins a b change in
-          let s = span_tiles true old ts tiles in
+          let n = new_length change new edit in
+          let s = span_tiles true change.old ts tiles in
           let l = end_all ts in
-          let o = change.order in
-          let w = change.within in
+          let o = edit.lies.forward in
+          let w = edit.lies.within in
           (length ts, omega arith, omega (arith, e, n, s, l, o, w))
 
-  pub old_end : end_of ts (patch.at + patch.removed) ≡ old_place a b (length ins) is.place
+  pub old_end : end_of ts (patch.at + patch.removed) ≡ old_place change is.place
   old_end =
       let h = old_boundary in
       let among : patch.at + patch.removed ≤ length ts = is.among in
       let g = gone_is in
-      let o = change.order in
+      let o = edit.lies.forward in
       let late = meeting_late in
       let ends = h.2 in
       let not_less : h.0 < patch.at + patch.removed → ⊥ = λ lt.
@@ -169,7 +180,7 @@ module _ (old new ins : List ℕ) (a b : ℕ) (change : IsEdit old new ins a b) 
       let r = rear.after (omega (arith, g, d, w)) in
       let s = end_sum ts patch.at patch.removed in
       let same = ap (end_of (drop patch.at ts)) g in
-      let m = end_strict old ts (patch.at + patch.removed) h.0 tiles lt w in
+      let m = end_strict change.old ts (patch.at + patch.removed) h.0 tiles lt w in
       omega (arith, r, s, same, m, ends) in
       let index : patch.at + patch.removed ≡ h.0 = ⊎_elim (λ lt. absurd (not_more lt)) (λ le. ⊎_elim (λ lt. absurd (not_less lt)) (λ ge. let r : patch.at + patch.removed ≡ h.0 = omega arith in r) (cases_lt h.0 (patch.at + patch.removed))) (cases_lt (patch.at + patch.removed) h.0) in
       ap (end_of ts) index ∙ ends
@@ -186,13 +197,13 @@ module _ (old new ins : List ℕ) (a b : ℕ) (change : IsEdit old new ins a b) 
   -- the fresh tokens end where the old ones hold again
   pub new_end : end_of us (patch.at + length patch.fresh) ≡ is.place
   new_end =
-      let n = new_length old new ins a b change in
-      let s = span_tiles true old ts tiles in
-      let t = span_tiles true new us is.tokens in
+      let n = new_length change new edit in
+      let s = span_tiles true change.old ts tiles in
+      let t = span_tiles true new us new_tokens in
       let e = old_end in
       let late = meeting_late in
-      let o = change.order in
-      let w = change.within in
+      let o = edit.lies.forward in
+      let w = edit.lies.within in
       let u = ap span (take-append-drop (patch.at + patch.removed) ts) in
       let v = span-append (take (patch.at + patch.removed) ts) rest in
       let x = ap span (take-append-drop (patch.at + length patch.fresh) us) in
@@ -203,12 +214,12 @@ module _ (old new ins : List ℕ) (a b : ℕ) (change : IsEdit old new ins a b) 
     where
       place_le : is.place ≤ length new
       place_le = ⊎_elim
-          (λ h. let i = h.in_new.ends in let l = end_le_span us h.in_new.index in let t = span_tiles true new us is.tokens in omega (arith, i, l, t))
+          (λ h. let i = h.in_new.ends in let l = end_le_span us h.in_new.index in let t = span_tiles true new us new_tokens in omega (arith, i, l, t))
           (λ e. omega (arith, e))
-          is.meeting.meets
+          meets
 
   -- the boundaries from there on
-  pub shifted : (i : ℕ) → old_place a b (length ins) (end_of us (patch.at + length patch.fresh + i)) ≡ end_of ts (patch.at + patch.removed + i)
+  pub shifted : (i : ℕ) → old_place change (end_of us (patch.at + length patch.fresh + i)) ≡ end_of ts (patch.at + patch.removed + i)
   shifted i =
       let s = end_sum us (patch.at + length patch.fresh) i in
       let t = end_sum ts (patch.at + patch.removed) i in
@@ -225,10 +236,10 @@ module _ (old new ins : List ℕ) (a b : ℕ) (change : IsEdit old new ins a b) 
       ap span (take-append-le i (take patch.at ts) (patch.fresh ++ rest) (omega (arith, f))) ∙ sym (ap span (take-append-le i (take patch.at ts) (drop patch.at ts) (omega (arith, f)))) ∙ ap (λ l. end_of l i) (take-append-drop patch.at ts)
 
   -- a fresh token doesn't end before a
-  pub late_new : patch.at < length us → a ≤ end_of us (patch.at + 1)
-  late_new some = ⊎_elim (λ lt. absurd (not_before patch.fresh refl lt)) (λ le. le) (cases_lt (end_of us (patch.at + 1)) a)
+  pub late_new : patch.at < length us → change.start ≤ end_of us (patch.at + 1)
+  late_new some = ⊎_elim (λ lt. absurd (not_before patch.fresh refl lt)) (λ le. le) (cases_lt (end_of us (patch.at + 1)) change.start)
     where
-      not_before : (news : List (Kind × ℕ)) → patch.fresh ≡ news → end_of us (patch.at + 1) < a → ⊥
+      not_before : (news : List (Kind × ℕ)) → patch.fresh ≡ news → end_of us (patch.at + 1) < change.start → ⊥
       not_before [] e lt =
           let n = new_end in
           let l = ap (λ k. end_of us (patch.at + k)) (ap length e) in
@@ -249,9 +260,9 @@ module _ (old new ins : List ℕ) (a b : ℕ) (change : IsEdit old new ins a b) 
           ap (λ l. end_of l (patch.at + suc (length fs))) (here ∙ sym (append_assoc (take patch.at ts ++ f ∷ []) fs rest)) ∙ ap span (take_at ((take patch.at ts ++ f ∷ []) ++ fs) rest (patch.at + suc (length fs)) two) in
           let s = span-append (take patch.at ts ++ f ∷ []) fs in
           omega (arith, n, l, all, s) in
-          let fresh_is : patch.fresh ≡ fresh_from a q (0 + span (take patch.at ts ++ f ∷ [])) (fs ++ rest) =
-          is.fresh_are ∙ ap (fresh_from a q 0) here ∙ fresh_front a q 0 (take patch.at ts ++ f ∷ []) (fs ++ rest) (λ some. omega (arith, ends)) in
-          let few = fresh_few a q (0 + span (take patch.at ts ++ f ∷ [])) fs rest far in
+          let fresh_is : patch.fresh ≡ fresh_from change.start q (0 + span (take patch.at ts ++ f ∷ [])) (fs ++ rest) =
+          is.fresh_are ∙ ap (fresh_from change.start q 0) here ∙ fresh_front change.start q 0 (take patch.at ts ++ f ∷ []) (fs ++ rest) (λ some. omega (arith, ends)) in
+          let few = fresh_few change.start q (0 + span (take patch.at ts ++ f ∷ [])) fs rest far in
           let count = ap length fresh_is in
           let all = ap length e in
           omega (arith, few, count, all)

@@ -5,7 +5,7 @@ use Rattle.x_lex.specs.declared.token.Token.{Token as LexToken}
 use Rattle.x_item.specs.Words.{Word, Fixed}
 use Rattle.x_item.specs.Tree as tree
 use Rattle.x_item.specs.Spell.{spell_argument, spell_passed, spell_others, spell_procedure, spell_procedures, spell_version, spell_versions, ArgumentFits, OthersFit, ProcedureFits, ProceduresFit, VersionFits, VersionsFit}
-use Rattle.x_item.specs.declared.mark.Mark.TheVariants as marks
+use Rattle.x_lex.specs.declared.mark.Mark.TheVariants as marks
 use Rattle.x_item.specs.View.{view_argument}
 use Rattle.x_item.specs.declared.trees.program.Argument.{Argument}
 use Rattle.x_item.specs.declared.parsing.fault_code.FaultCode.{FaultCode}

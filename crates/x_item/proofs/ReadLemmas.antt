@@ -5,8 +5,9 @@ use Rattle.std.proofs.lemmas.Bool.{eq-eqb}
 use Rattle.std.proofs.lemmas.Result.{err_from_is_err_and, IfOk-weaker, IfErr-weaker}
 use Rattle.x_lex.specs.declared.token.Token.{Token}
 use Rattle.x_item.specs.Words.{Word, Fixed}
-use Rattle.x_item.specs.declared.mark.Mark.{Mark}
-use Rattle.x_item.specs.Symbols.{Symbol, Token as OfMark, mark_code, go}
+use Rattle.x_lex.specs.declared.mark.Mark.{Mark}
+use Rattle.x_lex.specs.Marks.{place_of}
+use Rattle.x_item.specs.Symbols.{Symbol, Token as OfMark, go}
 use Rattle.x_item.specs.declared.parsing.fault_code.FaultCode.{FaultCode}
 use Rattle.x_item.specs.Reading.{Place, IsAt, Fails, IsRead, IsPart, HasFirst, ahead, words_at, left_in, code_in, read}
 use Rattle.x_item.specs.declared.parsing.parse_error.ParseError.{ParseError}
@@ -100,7 +101,7 @@ fails_then b c {rest = rest} {e = e} r f = record {
 -- the symbol of a mark takes it
 pub takes_mark : (m : Mark) (left : ℕ) (code : FaultCode) (ps : List Place) (ss : List Symbol) → read (OfMark m ∷ ss) (headed (Fixed m) left code ps) ≡ read ss ps
 takes_mark m left code ps ss =
-    ap (λ b. go (cond b (Some []) None) (λ symbols. read (symbols ++ ss) ps) (Err (errors.Stuck left code))) (eq-eqb (mark_code m) (mark_code m) refl)
+    ap (λ b. go (cond b (Some []) None) (λ symbols. read (symbols ++ ss) ps) (Err (errors.Stuck left code))) (eq-eqb (place_of m) (place_of m) refl)
 
 -- a mark told by another name
 pub part_along : {m k : Mark} {tokens rest : List Token} → m ≡ k → IsPart (OfMark m) tokens (Fixed m ∷ []) rest → IsPart (OfMark k) tokens (Fixed k ∷ []) rest

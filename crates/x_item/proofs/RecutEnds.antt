@@ -6,6 +6,7 @@ use Rattle.std.specs.List.{splice}
 use Rattle.std.proofs.lemmas.Bool.{cond-true, cond-false}
 use Rattle.std.proofs.lemmas.List.{length-map}
 use Rattle.x_text.specs.declared.source.TheConstants.{MAX_TEXT}
+use Rattle.x_text.specs.Edits.{Change}
 use Rattle.x_lex.specs.declared.kind.Kind.{Kind}
 use Rattle.x_lex.specs.Tiling.{end_of}
 use Rattle.x_lex.specs.TokenList.{TokenPatch}
@@ -16,14 +17,15 @@ use Rattle.x_lex.proofs.RelexEnds.{tokens_fit}
 use Rattle.x_lex.proofs.RelexRun.{IsEdit}
 use Rattle.x_item.specs.declared.cutting.entry.Entry.{Entry}
 use Rattle.x_item.specs.ItemList.{total, counts, tokens_before, ItemChange, patched, AreOfText}
+use Rattle.x_item.specs.Items.{IsCut}
 use Rattle.x_item.specs.Cutting.{Role, roles, counts_from, ends_at, depth_after}
-use Rattle.x_item.specs.Recut.{Change, IsRelexed, IsItemPatch, start_of, EndsBefore, IsBehind, IsRejoining, IsRecut, IsAmong}
+use Rattle.x_item.specs.Recut.{IsRelexed, IsItemPatch, start_of, EndsBefore, IsBehind, IsRejoining, IsRecut, IsAmong}
 use Rattle.x_item.proofs.CountLemmas.{counts-splice}
 use Rattle.x_item.proofs.CuttingLemmas.{cut_counts, counts_cut}
 use Rattle.x_item.proofs.FirstLemmas.{cut_of, cut_some, total_counts}
 use Rattle.x_item.proofs.PatchedLemmas.{length-roles}
 use Rattle.x_item.proofs.CutRun.{counts_pushed}
-use Rattle.x_item.proofs.PatchEnds.{front_end}
+use Rattle.x_item.proofs.PatchEnds.{new_tokens, front_end}
 use Rattle.x_item.proofs.RecutRun.{Meet, Keeps, Recut, Stays, Goes, Recutting, Advanced, Moved, recutting_none, recutting_more, advanced, item_some, recut_joined, recut_ended, both_zero}
 use Rattle.x_item.proofs.RecutPlaces.{texts_meet, rejoins, rejoins_first, rejoins_none, recut_stays, recut_goes, rear_stays, front_items}
 
@@ -40,11 +42,11 @@ module _ {K : Type 0} (change : Change) (new : List ℕ) (ts : List (Kind × ℕ
   abbrev us : List (Kind × ℕ)
   us = tokens.patched ts patch
 
-  pub edit : IsEdit change.old new change.insert change.start change.end
-  edit = record { order = rel.within.0; within = rel.within.1; result = rel.edited }
+  pub edit : IsEdit change new
+  edit = record { lies = rel.within; result = rel.edited }
 
   pub meet : Meet (roles change.old ts) (roles new us) patch.at (length patch.fresh) patch.removed
-  meet = texts_meet change.old new change.insert change.start change.end edit ts rel.tokens patch rel.patch
+  meet = texts_meet change new edit ts rel.tokens patch rel.patch
 
   pub items_are : counts items ≡ cut_of (roles change.old ts)
   items_are = cut_counts (lexemes change.old ts) (counts items) rel.items
@@ -95,7 +97,7 @@ module _ {K : Type 0} (change : Change) (new : List ℕ) (ts : List (Kind × ℕ
     -- the items of the new text are as few as a text can have
     made_fits : TheRecut → length new ≤ MAX_TEXT → AreOfText (counts (patched items made))
     made_fits h small =
-        let fit = tokens_fit new us rel.patch.tokens small in
+        let fit = tokens_fit new us (new_tokens change new edit ts rel.tokens patch rel.patch) small in
         let few = fit.few in
         let l = length-roles new us in
         subst AreOfText (sym (left_are h)) (record {
@@ -106,11 +108,11 @@ module _ {K : Type 0} (change : Change) (new : List ℕ) (ts : List (Kind × ℕ
 
     -- the parts of the definition that a place, if there is one, decides
     record Decided (join : Option ℕ) : Type 0 where
-      rejoining : IsRejoining change.old new ts us (cut_of (roles change.old ts)) (cut_of (roles new us)) change.start change.end (length change.insert) rel.patch.place join
+      rejoining : IsRejoining change ts us (cut_of (roles change.old ts)) (cut_of (roles new us)) rel.patch.place join
       recut : (i : ℕ) → i < length (cut_of (roles new us)) → IsAmong i k (k + length (counts fresh)) ↔ IsRecut us (cut_of (roles new us)) change.start join i
-      rear : (i : ℕ) → i < length (cut_of (roles change.old ts)) → (end ≤ i) ↔ IsBehind (option_map (old_place change.start change.end (length change.insert)) join) (start_of ts (cut_of (roles change.old ts)) i)
+      rear : (i : ℕ) → i < length (cut_of (roles change.old ts)) → (end ≤ i) ↔ IsBehind (option_map (old_place change) join) (start_of ts (cut_of (roles change.old ts)) i)
 
-    decided : (join : Option ℕ) → TheRecut → Decided join → IsItemPatch change new ts us items made
+    decided : (join : Option ℕ) → TheRecut → Decided join → IsItemPatch change ts us items made
     decided join h d =
         let left = left_are h in
         let n = item_count in
@@ -118,34 +120,34 @@ module _ {K : Type 0} (change : Change) (new : List ℕ) (ts : List (Kind × ℕ
         record {
           among = let w = h.within in omega (arith, w, n, e);
           start = kept.start_is ∙ ap (λ l. tokens_before l k) (sym items_are);
-          cut = counts_cut (lexemes new us) (counts (patched items made)) left;
+          cut = subst (λ text. IsCut (lexemes text us) (counts (patched items made))) rel.edited (counts_cut (lexemes new us) (counts (patched items made)) left);
           place = rel.patch.place;
           meeting = rel.patch.meeting;
           join = join;
-          rejoining = subst (λ l. IsRejoining change.old new ts us (counts items) l change.start change.end (length change.insert) rel.patch.place join) (sym left)
-              (subst (λ l. IsRejoining change.old new ts us l (cut_of (roles new us)) change.start change.end (length change.insert) rel.patch.place join) (sym items_are) d.rejoining);
+          rejoining = subst (λ l. IsRejoining change ts us (counts items) l rel.patch.place join) (sym left)
+              (subst (λ l. IsRejoining change ts us l (cut_of (roles new us)) rel.patch.place join) (sym items_are) d.rejoining);
           fresh = λ i lt.
               subst (λ l. IsAmong i k (k + length fresh) ↔ IsRecut us l change.start join i) (sym left)
               (subst (λ m. IsAmong i k (k + m) ↔ IsRecut us (cut_of (roles new us)) change.start join i) fresh_count (d.recut i (let c = left_count h in omega (arith, lt, c))));
           front = λ i lt.
               subst (λ l. (i < k) ↔ EndsBefore ts l change.start i) (sym items_are)
-              (front_items change.old new change.insert change.start change.end edit ts rel.tokens patch rel.patch k start kept i (omega (arith, lt, n)));
+              (front_items change new edit ts rel.tokens patch rel.patch k start kept i (omega (arith, lt, n)));
           rear = λ i lt.
-              subst (λ l. (k + (end - k) ≤ i) ↔ IsBehind (option_map (old_place change.start change.end (length change.insert)) join) (start_of ts l i)) (sym items_are)
-              (subst (λ m. (m ≤ i) ↔ IsBehind (option_map (old_place change.start change.end (length change.insert)) join) (start_of ts (cut_of (roles change.old ts)) i)) (sym e)
+              subst (λ l. (k + (end - k) ≤ i) ↔ IsBehind (option_map (old_place change) join) (start_of ts l i)) (sym items_are)
+              (subst (λ m. (m ≤ i) ↔ IsBehind (option_map (old_place change) join) (start_of ts (cut_of (roles change.old ts)) i)) (sym e)
               (d.rear i (omega (arith, lt, n))));
         }
 
-    pub stays_made : Stays (cut_of (roles change.old ts)) (roles new us) patch.at (length patch.fresh) patch.removed k (counts fresh) end → IsItemPatch change new ts us items made
+    pub stays_made : Stays (cut_of (roles change.old ts)) (roles new us) patch.at (length patch.fresh) patch.removed k (counts fresh) end → IsItemPatch change ts us items made
     stays_made h =
         let there = some_left h in
         decided (Some (start_of us (cut_of (roles new us)) (k + length (counts fresh)))) h.recut (record {
           rejoining = (
-            rejoins change.old new change.insert change.start change.end edit ts rel.tokens patch rel.patch k start kept (counts fresh) end there h,
-            λ other lt r. rejoins_first change.old new change.insert change.start change.end edit ts rel.tokens patch rel.patch k start kept (counts fresh) end other h.recut there lt r,
+            rejoins change new edit ts rel.tokens patch rel.patch k start kept (counts fresh) end there h,
+            λ other lt r. rejoins_first change new edit ts rel.tokens patch rel.patch k start kept (counts fresh) end other h.recut there lt r,
           );
-          recut = λ i lt. recut_stays change.old new change.insert change.start change.end edit ts rel.tokens patch rel.patch k start kept (counts fresh) end i there lt;
-          rear = λ i lt. rear_stays change.old new change.insert change.start change.end edit ts rel.tokens patch rel.patch k start kept (counts fresh) end i h lt;
+          recut = λ i lt. recut_stays change new edit ts rel.tokens patch rel.patch k start kept (counts fresh) end i there lt;
+          rear = λ i lt. rear_stays change new edit ts rel.tokens patch rel.patch k start kept (counts fresh) end i h lt;
         })
       where
         some_left : Stays (cut_of (roles change.old ts)) (roles new us) patch.at (length patch.fresh) patch.removed k (counts fresh) end → k + length (counts fresh) < length (cut_of (roles new us))
@@ -160,10 +162,10 @@ module _ {K : Type 0} (change : Change) (new : List ℕ) (ts : List (Kind × ℕ
             let r = length-drop end cs in
             omega (arith, a, t, m, n, f, r)
 
-    pub goes_made : Goes (cut_of (roles change.old ts)) (roles new us) patch.at (length patch.fresh) patch.removed k (counts fresh) end → IsItemPatch change new ts us items made
+    pub goes_made : Goes (cut_of (roles change.old ts)) (roles new us) patch.at (length patch.fresh) patch.removed k (counts fresh) end → IsItemPatch change ts us items made
     goes_made h = decided None h.recut (record {
-      rejoining = λ other r. rejoins_none change.old new change.insert change.start change.end edit ts rel.tokens patch rel.patch k start kept (counts fresh) end other h r;
-      recut = λ i lt. recut_goes change.old new change.insert change.start change.end edit ts rel.tokens patch rel.patch k start kept (counts fresh) i h.last lt;
+      rejoining = λ other r. rejoins_none change new edit ts rel.tokens patch rel.patch k start kept (counts fresh) end other h r;
+      recut = λ i lt. recut_goes change new edit ts rel.tokens patch rel.patch k start kept (counts fresh) i h.last lt;
       rear = λ i lt. (λ le. let t = h.there in omega (arith, le, lt, t), λ none. absurd none);
     })
 
@@ -217,7 +219,7 @@ module _ {K : Type 0} (change : Change) (text : List ℕ) (ts : List (Kind × �
   run_moved index back to to_index h = subst (λ cs. Moved cs patch.at (length patch.fresh) patch.removed index back to to_index) are h
 
   pub few_tokens : length (tokens.patched ts patch) ≤ MAX_TEXT
-  few_tokens = (tokens_fit text (tokens.patched ts patch) known.rel.patch.tokens known.small).few
+  few_tokens = (tokens_fit text (tokens.patched ts patch) (new_tokens change text (edit change text ts items patch known.rel) ts known.rel.tokens patch known.rel.patch) known.small).few
 
   pub fresh_within : patch.at + length patch.fresh ≤ length (tokens.patched ts patch)
   fresh_within = let i = all_meet.in_new in let l = length-roles text (tokens.patched ts patch) in omega (arith, i, l)
@@ -238,7 +240,7 @@ module _ {K : Type 0} (change : Change) (text : List ℕ) (ts : List (Kind × �
   state_none fresh e = state fresh start k start (recutting_none (roles change.old ts) (roles text (tokens.patched ts patch)) patch.at (length patch.fresh) patch.removed all_meet k start known.kept (counts fresh) (ap counts e))
 
   pub place_start : (place : ℕ) → place ≡ end_of ts start → place ≡ end_of (tokens.patched ts patch) start
-  place_start place e = e ∙ sym (front_end change.old text change.insert change.start change.end (edit change text ts items patch known.rel) ts known.rel.tokens patch known.rel.patch start known.kept.before)
+  place_start place e = e ∙ sym (front_end change text (edit change text ts items patch known.rel) ts known.rel.tokens patch known.rel.patch start known.kept.before)
 
   -- an item of the old ones was reached
   pub reached : (fresh : List (Entry K)) (index back back_index to to_index target : ℕ) → State fresh index back back_index → target ≡ patch.at + patch.removed + (index - (patch.at + length patch.fresh)) → to < length items → to_index ≡ tokens_before (counts items) to
@@ -280,9 +282,9 @@ module _ {K : Type 0} (change : Change) (text : List ℕ) (ts : List (Kind × �
       item_some (roles change.old ts) S patch.at (length patch.fresh) patch.removed all_meet k start known.kept index count (item ∙ ap (λ b. count ∷ cond b (cut_of (drop (index + count) S)) []) is)
 
   -- the patch that is made where old items hold again, and where none does
-  module _ (new : List ℕ) (same : text ≡ new) (made : ItemChange K) where
+  module _ (made : ItemChange K) where
     pub record IsMade : Type 0 where
-      pub patch_is : IsItemPatch change new ts (tokens.patched ts patch) items made
+      pub patch_is : IsItemPatch change ts (tokens.patched ts patch) items made
       pub fits : AreOfText (counts (patched items made))
 
     pub made_joined : (fresh : List (Entry K)) (index back back_index to to_index target : ℕ) → State fresh index back back_index → back ≤ to → to < length items → to_index ≡ tokens_before (counts items) to
@@ -290,9 +292,9 @@ module _ {K : Type 0} (change : Change) (text : List ℕ) (ts : List (Kind × �
     made_joined fresh index back back_index to to_index target h forth within at far is there nil made_is =
         let stays = recut_joined (roles change.old ts) (roles text (tokens.patched ts patch)) patch.at (length patch.fresh) patch.removed all_meet k start known.kept (counts fresh) index back back_index to to_index (run fresh index back back_index h) forth (there_within to within) (there_is to to_index at) far (there ∙ is)
         (subst (λ n. (index ≡ 0) ↔ (n ≡ 0)) (sym there) (both_zero index target nil)) in
-        let item_patch : IsItemPatch change text ts (tokens.patched ts patch) items (record { at = k; removed = to - k; start = start; fresh = fresh }) = stays_made change text ts items patch known.rel k start known.kept fresh to stays in
+        let item_patch : IsItemPatch change ts (tokens.patched ts patch) items (record { at = k; removed = to - k; start = start; fresh = fresh }) = stays_made change text ts items patch known.rel k start known.kept fresh to stays in
         record {
-          patch_is = subst (λ t. IsItemPatch change t ts (tokens.patched ts patch) items made) same (subst (λ p. IsItemPatch change text ts (tokens.patched ts patch) items p) (sym made_is) item_patch);
+          patch_is = subst (λ p. IsItemPatch change ts (tokens.patched ts patch) items p) (sym made_is) item_patch;
           fits = subst (λ p. AreOfText (counts (patched items p))) (sym made_is) (stays_fits change text ts items patch known.rel k start known.kept fresh to stays known.small);
         }
 
@@ -305,8 +307,8 @@ module _ {K : Type 0} (change : Change) (text : List ℕ) (ts : List (Kind × �
         (item ∙ ap (λ b. count ∷ cond b (cut_of (drop (index + count) S)) []) is)
         (counts_pushed fresh more entry count pushed as_many)
         (all ∙ item_count change text ts items patch known.rel) in
-        let item_patch : IsItemPatch change text ts (tokens.patched ts patch) items (record { at = k; removed = end - k; start = start; fresh = more }) = goes_made change text ts items patch known.rel k start known.kept more end goes in
+        let item_patch : IsItemPatch change ts (tokens.patched ts patch) items (record { at = k; removed = end - k; start = start; fresh = more }) = goes_made change text ts items patch known.rel k start known.kept more end goes in
         record {
-          patch_is = subst (λ t. IsItemPatch change t ts (tokens.patched ts patch) items made) same (subst (λ p. IsItemPatch change text ts (tokens.patched ts patch) items p) (sym made_is) item_patch);
+          patch_is = subst (λ p. IsItemPatch change ts (tokens.patched ts patch) items p) (sym made_is) item_patch;
           fits = subst (λ p. AreOfText (counts (patched items p))) (sym made_is) (goes_fits change text ts items patch known.rel k start known.kept more end goes known.small);
         }

@@ -4,6 +4,7 @@ use Rattle.std.specs.Prelude.{◌↔◌, option_map}
 use Rattle.std.specs.List.{splice}
 use Rattle.std.proofs.lemmas.Bool.{cases_order}
 use Rattle.std.proofs.lemmas.List.{append_cancel_left, append_cancel_right}
+use Rattle.x_text.specs.Edits.{Change, edited_by}
 use Rattle.x_lex.specs.declared.kind.Kind.{Kind}
 use Rattle.x_lex.specs.TokenList.{TokenPatch}
 use Rattle.x_lex.specs.TokenList as tokens
@@ -12,16 +13,16 @@ use Rattle.x_lex.specs.Relex.{old_place}
 use Rattle.x_lex.proofs.MeetingLemmas.{same_meeting}
 use Rattle.x_item.specs.declared.cutting.entry.Entry.{Entry}
 use Rattle.x_item.specs.ItemList.{ItemChange, counts, patched, tokens_before}
-use Rattle.x_item.specs.Recut.{Change, IsRelexed, IsItemPatch, IsRejoining, IsBehind, EndsBefore, AreOne, start_of}
+use Rattle.x_item.specs.Recut.{IsRelexed, IsItemPatch, IsRejoining, IsBehind, EndsBefore, AreOne, start_of}
 use Rattle.x_item.proofs.CountLemmas.{counts-splice}
 use Rattle.x_item.proofs.CuttingLemmas.{same_cut}
 
 -- the place that rejoins first is one
-same_join : (old new : List ℕ) (ts us : List (Kind × ℕ)) (cs ds : List ℕ) (a b n q : ℕ) (y z : Option ℕ) → IsRejoining old new ts us cs ds a b n q y → IsRejoining old new ts us cs ds a b n q z → y ≡ z
-same_join old new ts us cs ds a b n q None None h g = refl
-same_join old new ts us cs ds a b n q None (Some z) h g = absurd (h z g.0)
-same_join old new ts us cs ds a b n q (Some y) None h g = absurd (g y h.0)
-same_join old new ts us cs ds a b n q (Some y) (Some z) h g =
+same_join : (change : Change) (ts us : List (Kind × ℕ)) (cs ds : List ℕ) (q : ℕ) (y z : Option ℕ) → IsRejoining change ts us cs ds q y → IsRejoining change ts us cs ds q z → y ≡ z
+same_join change ts us cs ds q None None h g = refl
+same_join change ts us cs ds q None (Some z) h g = absurd (h z g.0)
+same_join change ts us cs ds q (Some y) None h g = absurd (g y h.0)
+same_join change ts us cs ds q (Some y) (Some z) h g =
     ap Some (⊎_elim (λ e. e) (λ o. ⊎_elim (λ lt. absurd (g.1 y lt h.0)) (λ gt. absurd (h.1 z gt g.0)) o) (cases_order y z))
 
 -- the first indices that a condition holds for are as many
@@ -40,7 +41,7 @@ same_rear n x y P le ge h g =
     o) (cases_order x y)
 
 pub same_item_patch : {K : Type 0} (change : Change) (new : List ℕ) (ts : List (Kind × ℕ)) (items : List (Entry K)) (patch : TokenPatch) (p q : ItemChange K) → IsRelexed change new ts (counts items) patch
-    → IsItemPatch change new ts (tokens.patched ts patch) items p → IsItemPatch change new ts (tokens.patched ts patch) items q → AreOne p q
+    → IsItemPatch change ts (tokens.patched ts patch) items p → IsItemPatch change ts (tokens.patched ts patch) items q → AreOne p q
 same_item_patch {K} change new ts items patch p q rel h g = record {
   at = same_at;
   removed = let a = same_at in let e = same_end in omega (arith, a, e);
@@ -61,22 +62,22 @@ same_item_patch {K} change new ts items patch p q rel h g = record {
     same_at = let a = h_among in let b = g_among in same_front (length items) p.at q.at (EndsBefore ts (counts items) change.start) (omega (arith, a)) (omega (arith, b)) h.front g.front
 
     same_left : counts (patched items p) ≡ counts (patched items q)
-    same_left = same_cut (lexemes new (tokens.patched ts patch)) (counts (patched items p)) (counts (patched items q)) h.cut g.cut
+    same_left = same_cut (lexemes (edited_by change) (tokens.patched ts patch)) (counts (patched items p)) (counts (patched items q)) h.cut g.cut
 
     same_place : h.place ≡ g.place
-    same_place = same_meeting change.old new ts (tokens.patched ts patch) change.start change.end (length change.insert) rel.patch.tokens h.place g.place h.meeting g.meeting
+    same_place = same_meeting change ts (tokens.patched ts patch) rel.patch.tokens h.place g.place h.meeting g.meeting
 
     join_is : h.join ≡ g.join
     join_is =
-        same_join change.old new ts (tokens.patched ts patch) (counts items) (counts (patched items q)) change.start change.end (length change.insert) g.place h.join g.join
-        (subst (λ r. IsRejoining change.old new ts (tokens.patched ts patch) (counts items) (counts (patched items q)) change.start change.end (length change.insert) r h.join) same_place
-        (subst (λ ds. IsRejoining change.old new ts (tokens.patched ts patch) (counts items) ds change.start change.end (length change.insert) h.place h.join) same_left h.rejoining))
+        same_join change ts (tokens.patched ts patch) (counts items) (counts (patched items q)) g.place h.join g.join
+        (subst (λ r. IsRejoining change ts (tokens.patched ts patch) (counts items) (counts (patched items q)) r h.join) same_place
+        (subst (λ ds. IsRejoining change ts (tokens.patched ts patch) (counts items) ds h.place h.join) same_left h.rejoining))
         g.rejoining
 
     same_end : p.at + p.removed ≡ q.at + q.removed
     same_end =
-        same_rear (length items) (p.at + p.removed) (q.at + q.removed) (λ i. IsBehind (option_map (old_place change.start change.end (length change.insert)) g.join) (start_of ts (counts items) i)) h_among g_among
-        (λ i lt. subst (λ z. (p.at + p.removed ≤ i) ↔ IsBehind (option_map (old_place change.start change.end (length change.insert)) z) (start_of ts (counts items) i)) join_is (h.rear i lt))
+        same_rear (length items) (p.at + p.removed) (q.at + q.removed) (λ i. IsBehind (option_map (old_place change) g.join) (start_of ts (counts items) i)) h_among g_among
+        (λ i lt. subst (λ z. (p.at + p.removed ≤ i) ↔ IsBehind (option_map (old_place change) z) (start_of ts (counts items) i)) join_is (h.rear i lt))
         g.rear
 
     same_fresh : counts p.fresh ≡ counts q.fresh

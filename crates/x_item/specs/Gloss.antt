@@ -6,8 +6,8 @@
 use Rattle.std.specs.Prelude.{ℕ, ◌+◌, Bool, true, false, List, [], ◌∷◌, ◌++◌, length, map, Option, Some, None, is_some, codes}
 use Rattle.x_item.specs.Tree as tree
 use Rattle.x_item.specs.Words.{Word, Fixed, Name, Number}
-use Rattle.x_item.specs.declared.mark.Mark.{Mark}
-use Rattle.x_item.specs.declared.mark.Mark.TheVariants as marks
+use Rattle.x_lex.specs.declared.mark.Mark.{Mark}
+use Rattle.x_lex.specs.declared.mark.Mark.TheVariants as marks
 use Rattle.x_item.specs.declared.trees.declaration.Basic.{Basic}
 use Rattle.x_item.specs.declared.trees.declaration.Basic.TheVariants as basics
 use Rattle.x_item.specs.declared.trees.declaration.Tag.{Tag}

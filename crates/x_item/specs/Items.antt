@@ -1,5 +1,5 @@
 -- How the tokens of a text are written as items.
-use Rattle.std.specs.Prelude.{◌≡◌, ℕ, ◌-◌, max, Bool, false, IsTrue, List, [], ◌∷◌, ◌++◌, count_by, length, map}
+use Rattle.std.specs.Prelude.{◌≡◌, ℕ, ◌-◌, max, Bool, true, false, IsTrue, List, [], ◌∷◌, ◌++◌, count_by, length, map}
 use Rattle.std.specs.List.{flat_map}
 use Rattle.std.specs.Str.{bytes_eq}
 use Rattle.x_lex.specs.declared.kind.Kind.{Kind}
@@ -66,6 +66,11 @@ pub record AreItems (tokens : List Lexeme) (items : List (List Lexeme)) : Type 0
   pub all : joined items ≡ tokens
   pub each : AreWhole whole
   pub rest : HasNoEnd last
+
+-- the first item of the tokens that are left, and those behind it: a whole one, or else the last
+abbrev pub IsNext : Bool → List Lexeme → List Lexeme → List Lexeme → Type 0
+IsNext true left item rest = IsWhole item × (left ≡ item ++ rest)
+IsNext false left item rest = HasNoEnd item × (left ≡ item) × (rest ≡ [])
 
 -- how many tokens each item of the tokens has
 pub record IsCut (tokens : List Lexeme) (counts : List ℕ) : Type 0 where

@@ -8,8 +8,8 @@ use Rattle.x_item.specs.Tree.{Definition}
 use Rattle.x_item.specs.Spell.{spell, spell_cases, spell_declaration, KeepsLimits, Begins}
 use Rattle.x_item.specs.Parse.{code_of, IsStuck}
 use Rattle.x_item.specs.Symbols.{Symbol, ending_mark, go, step}
-use Rattle.x_item.specs.declared.mark.Mark.TheVariants as marks
-use Rattle.x_item.specs.declared.mark.Ending.{Ending}
+use Rattle.x_lex.specs.declared.mark.Mark.TheVariants as marks
+use Rattle.x_item.specs.declared.parsing.ending.Ending.{Ending}
 use Rattle.x_item.specs.declared.parsing.fault_code.FaultCode.{FaultCode}
 use Rattle.x_item.specs.declared.parsing.fault_code.FaultCode.TheVariants as codes
 use Rattle.x_item.specs.declared.parsing.words.Word as source

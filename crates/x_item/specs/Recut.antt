@@ -1,7 +1,7 @@
--- What an edit leaves of a text's items. It compares the items of two texts, each cut from its start: `ts` are the tokens of the
--- old text and `cs` says how many of them each item has; `us` and `ds` are those of the new text.
+-- What a change of a text leaves of its items. It compares the items of two texts, each cut from its start: `ts` are the tokens of
+-- the old text and `cs` says how many of them each item has; `us` and `ds` are those of the text that the change leaves.
 use Rattle.std.specs.Prelude.{◌≡◌, ℕ, ◌+◌, ◌<◌, ◌≤◌, ◌↔◌, List, length, Option, None, Some, option_map}
-use Rattle.x_text.specs.Edits.{edited, LiesWithin}
+use Rattle.x_text.specs.Edits.{Change, edited_by, LiesWithin}
 use Rattle.x_lex.specs.declared.kind.Kind.{Kind}
 use Rattle.x_lex.specs.Tiling.{AreTokens, end_of}
 use Rattle.x_lex.specs.Places.{lexemes}
@@ -11,20 +11,13 @@ use Rattle.x_item.specs.Items.{IsCut}
 use Rattle.x_item.specs.ItemList.{ItemChange, patched, LiesAmong, tokens_before, counts}
 use Rattle.x_item.specs.declared.cutting.entry.Entry.{Entry}
 
--- the bytes from `start` to before `end` of the text `old` went, and those of `insert` came in their place
-pub record Change : Type 0 where
-  pub old : List ℕ
-  pub start : ℕ
-  pub end : ℕ
-  pub insert : List ℕ
-
 -- the old text has these tokens, they are cut so, and the patch is what the change, which makes `new` of it, does to them
 pub record IsRelexed (change : Change) (new : List ℕ) (ts : List (Kind × ℕ)) (cs : List ℕ) (fresh : TokenPatch) : Type 0 where
-  pub within : LiesWithin change.old change.start change.end
-  pub edited : new ≡ edited change.old change.start change.end change.insert
+  pub within : LiesWithin change
+  pub edited : new ≡ edited_by change
   pub tokens : AreTokens change.old ts
   pub items : IsCut (lexemes change.old ts) cs
-  pub patch : IsPatch change.old new ts change.start change.end (length change.insert) fresh
+  pub patch : IsPatch change ts fresh
 
 -- the tokens, items and patch are those of some change that makes `new` of another text
 pub record AreRelexed (new : List ℕ) (ts : List (Kind × ℕ)) (cs : List ℕ) (fresh : TokenPatch) : Type 0 where
@@ -47,16 +40,16 @@ pub record IsItemBoundary (ts : List (Kind × ℕ)) (cs : List ℕ) (place : ℕ
   pub starts : start_of ts cs index ≡ place
 
 -- the place agrees, it is q or behind it, and items of both texts start there
-pub record Rejoins (old new : List ℕ) (ts us : List (Kind × ℕ)) (cs ds : List ℕ) (a b n q place : ℕ) : Type 0 where
-  pub agrees : Agrees old new ts us a b n place
+pub record Rejoins (change : Change) (ts us : List (Kind × ℕ)) (cs ds : List ℕ) (q place : ℕ) : Type 0 where
+  pub agrees : Agrees change ts us place
   pub late : q ≤ place
   pub in_new : IsItemBoundary us ds place
-  pub in_old : IsItemBoundary ts cs (old_place a b n place)
+  pub in_old : IsItemBoundary ts cs (old_place change place)
 
 -- the least place that rejoins, if there is one
-abbrev pub IsRejoining : List ℕ → List ℕ → List (Kind × ℕ) → List (Kind × ℕ) → List ℕ → List ℕ → ℕ → ℕ → ℕ → ℕ → Option ℕ → Type 0
-IsRejoining old new ts us cs ds a b n q None = (other : ℕ) → Rejoins old new ts us cs ds a b n q other → ⊥
-IsRejoining old new ts us cs ds a b n q (Some z) = Rejoins old new ts us cs ds a b n q z × ((other : ℕ) → other < z → Rejoins old new ts us cs ds a b n q other → ⊥)
+abbrev pub IsRejoining : Change → (ts us : List (Kind × ℕ)) (cs ds : List ℕ) (q : ℕ) → Option ℕ → Type 0
+IsRejoining change ts us cs ds q None = (other : ℕ) → Rejoins change ts us cs ds q other → ⊥
+IsRejoining change ts us cs ds q (Some z) = Rejoins change ts us cs ds q z × ((other : ℕ) → other < z → Rejoins change ts us cs ds q other → ⊥)
 
 -- the place is z or behind it, where there is a z
 abbrev pub IsBehind : Option ℕ → ℕ → Type 0
@@ -75,17 +68,17 @@ pub record IsAmong (i at end : ℕ) : Type 0 where
 
 -- the patch leaves the items of the new text; its fresh items are those that are recut; and of the old items it leaves those
 -- that end before a, in front, and those that start at the old place of z or behind it
-pub record IsItemPatch {K : Type 0} (change : Change) (new : List ℕ) (ts us : List (Kind × ℕ)) (items : List (Entry K)) (patch : ItemChange K) : Type 0 where
+pub record IsItemPatch {K : Type 0} (change : Change) (ts us : List (Kind × ℕ)) (items : List (Entry K)) (patch : ItemChange K) : Type 0 where
   pub among : LiesAmong items patch
   pub start : patch.start ≡ tokens_before (counts items) patch.at
-  pub cut : IsCut (lexemes new us) (counts (patched items patch))
+  pub cut : IsCut (lexemes (edited_by change) us) (counts (patched items patch))
   pub place : ℕ
-  pub meeting : IsMeeting change.old new ts us change.start change.end (length change.insert) place
+  pub meeting : IsMeeting change ts us place
   pub join : Option ℕ
-  pub rejoining : IsRejoining change.old new ts us (counts items) (counts (patched items patch)) change.start change.end (length change.insert) place join
+  pub rejoining : IsRejoining change ts us (counts items) (counts (patched items patch)) place join
   pub fresh : (i : ℕ) → i < length (patched items patch) → IsAmong i patch.at (patch.at + length patch.fresh) ↔ IsRecut us (counts (patched items patch)) change.start join i
   pub front : (i : ℕ) → i < length items → (i < patch.at) ↔ EndsBefore ts (counts items) change.start i
-  pub rear : (i : ℕ) → i < length items → (patch.at + patch.removed ≤ i) ↔ IsBehind (option_map (old_place change.start change.end (length change.insert)) join) (start_of ts (counts items) i)
+  pub rear : (i : ℕ) → i < length items → (patch.at + patch.removed ≤ i) ↔ IsBehind (option_map (old_place change) join) (start_of ts (counts items) i)
 
 -- the two patches take out and put in the same items, whatever is kept with them
 pub record AreOne {K : Type 0} (p q : ItemChange K) : Type 0 where

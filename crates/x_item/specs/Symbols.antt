@@ -1,10 +1,11 @@
 -- The grammar as symbols, each of which takes one word and leaves symbols for what may follow it.
 use Rattle.std.specs.Prelude.{ℕ, zero, suc, List, [], ◌∷◌, ◌++◌, Option, Some, None, nat_eq, if◌then◌else◌}
 use Rattle.x_item.specs.Words.{Word, Fixed, Name, Number}
-use Rattle.x_item.specs.declared.mark.Mark.{Mark}
-use Rattle.x_item.specs.declared.mark.Mark.TheVariants as marks
-use Rattle.x_item.specs.declared.mark.Ending.{Ending}
-use Rattle.x_item.specs.declared.mark.Ending.TheVariants as endings
+use Rattle.x_lex.specs.Marks.{place_of}
+use Rattle.x_lex.specs.declared.mark.Mark.{Mark}
+use Rattle.x_lex.specs.declared.mark.Mark.TheVariants as marks
+use Rattle.x_item.specs.declared.parsing.ending.Ending.{Ending}
+use Rattle.x_item.specs.declared.parsing.ending.Ending.TheVariants as endings
 use Rattle.x_item.specs.declared.trees.declaration.Tag.{Tag}
 use Rattle.x_item.specs.declared.trees.declaration.Tag.TheVariants as tags
 
@@ -62,43 +63,6 @@ abbrev pub go : {S : Type 0} {X : Type 0} → Option (List S) → (List S → X)
 go None next stop = stop
 go (Some symbols) next stop = next symbols
 
--- a number for each mark
-abbrev pub mark_code : Mark → ℕ
-mark_code marks.Bool = 0
-mark_code marks.Case = 1
-mark_code marks.Const = 2
-mark_code marks.Default = 3
-mark_code marks.Double = 4
-mark_code marks.Enum = 5
-mark_code marks.Float = 6
-mark_code marks.Hyper = 7
-mark_code marks.Int = 8
-mark_code marks.Long = 9
-mark_code marks.Opaque = 10
-mark_code marks.Program = 11
-mark_code marks.Quadruple = 12
-mark_code marks.String = 13
-mark_code marks.Struct = 14
-mark_code marks.Switch = 15
-mark_code marks.Typedef = 16
-mark_code marks.Union = 17
-mark_code marks.Unsigned = 18
-mark_code marks.Version = 19
-mark_code marks.Void = 20
-mark_code marks.OpenBrace = 21
-mark_code marks.CloseBrace = 22
-mark_code marks.OpenBracket = 23
-mark_code marks.CloseBracket = 24
-mark_code marks.OpenParenthesis = 25
-mark_code marks.CloseParenthesis = 26
-mark_code marks.Less = 27
-mark_code marks.Greater = 28
-mark_code marks.Comma = 29
-mark_code marks.Semicolon = 30
-mark_code marks.Colon = 31
-mark_code marks.Equals = 32
-mark_code marks.Star = 33
-
 abbrev pub ending_mark : Ending → Mark
 ending_mark endings.Semicolon = marks.Semicolon
 ending_mark endings.Parenthesis = marks.CloseParenthesis
@@ -119,7 +83,7 @@ step_item (Fixed marks.Program) =
 step_item w = None
 
 abbrev pub step_token : Mark → Word → Option (List Symbol)
-step_token mark (Fixed other) = if nat_eq (mark_code mark) (mark_code other) then Some [] else None
+step_token mark (Fixed other) = if nat_eq (place_of mark) (place_of other) then Some [] else None
 step_token mark w = None
 
 abbrev pub step_name : Word → Option (List Symbol)

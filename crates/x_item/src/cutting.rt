@@ -5,6 +5,7 @@ mod cutter;
 mod entry;
 mod item_patch;
 mod items;
+pub mod next_item;
 pub mod recut;
 
 pub use entry::Entry;

@@ -1,4 +1,5 @@
 ghost use Rattle.std.specs.Prelude.{◌≡◌, ℕ, List, map};
+ghost use Rattle.x_text.specs.Edits.{Change};
 ghost use Rattle.x_lex.specs.declared.kind.Kind.{Kind};
 ghost use Rattle.x_lex.specs.Places.{Lexeme};
 ghost use Rattle.x_lex.specs.TokenList.{TokenPatch, patched};
@@ -6,7 +7,7 @@ ghost use Rattle.x_item.specs.Tree.{Definition};
 ghost use Rattle.x_item.specs.declared.cutting.entry.Entry.{Entry};
 ghost use Rattle.x_item.specs.Items.{IsCut};
 ghost use Rattle.x_item.specs.ItemList.{ItemChange, counts};
-ghost use Rattle.x_item.specs.Recut.{Change, IsRelexed, IsItemPatch, AreOne};
+ghost use Rattle.x_item.specs.Recut.{IsRelexed, IsItemPatch, AreOne};
 ghost use Rattle.x_item.specs.Gloss.{gloss};
 ghost use Rattle.x_item.specs.Spell.{spell, KeepsLimits};
 ghost use Rattle.x_item.specs.Parse.{Parse, IsParse};
@@ -34,11 +35,11 @@ pub fn one_cut()
     ensures some { (tokens : List Lexeme) → (cs : List ℕ) × IsCut tokens cs }
 {}
 
-/// What an edit does to the items of a text is determined by the items, the two texts and the edit.
+/// What an edit does to the items of a text is determined by the items and the change.
 pub fn one_recut<K>()
     ensures { (change : Change) (new : List ℕ) (ts : List (Kind × ℕ)) (items : List (Entry K))
         (patch : TokenPatch) (p q : ItemChange K)
         → IsRelexed change new ts (counts items) patch
-        → IsItemPatch change new ts (patched ts patch) items p
-        → IsItemPatch change new ts (patched ts patch) items q → AreOne p q }
+        → IsItemPatch change ts (patched ts patch) items p
+        → IsItemPatch change ts (patched ts patch) items q → AreOne p q }
 {}

@@ -4,16 +4,15 @@
 
 mod cutting;
 mod laws;
-mod mark;
 mod names;
 mod parsing;
 mod trees;
 
 pub use cutting::cut::cut;
+pub use cutting::next_item::next_item;
 pub use cutting::recut::recut;
 pub use cutting::{Entry, ItemPatch, Items};
 pub use laws::{gloss_law, one_cut, one_parse, one_recut, spell_law};
-pub use mark::Mark;
 pub use names::declares::declares;
 pub use names::mentions::mentions;
 pub use names::{DeclaredName, Mention, NameKind, Use};

@@ -4,6 +4,7 @@ mod cases;
 mod declaration;
 mod declarator;
 mod definition;
+mod ending;
 mod enumerators;
 mod fault_code;
 mod parse_error;

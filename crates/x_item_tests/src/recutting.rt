@@ -1,5 +1,5 @@
 ghost use Rattle.std.specs.Prelude.{◌≡◌, length, OnOk, OnErr};
-ghost use Rattle.x_text.specs.Edits.{edited, LiesWithin};
+ghost use Rattle.x_text.specs.Edits.{change_of, edited_by, LiesWithin};
 ghost use Rattle.x_lex.specs.Tiling.{AreTokens};
 ghost use Rattle.x_lex.specs.Places.{lexemes};
 ghost use Rattle.x_item.specs.Items.{IsCut};
@@ -23,8 +23,8 @@ fn follow(
 ) -> Result<usize, NoMemory>
     requires tokens { AreTokens old.now tokens.old.list }
     requires items { IsCut (lexemes old.now tokens.old.list) (counts items.old.list) }
-    requires within { LiesWithin old.now edit.now.start edit.now.end }
-    requires edited { new.now ≡ edited old.now edit.now.start edit.now.end edit.now.insert.now }
+    requires within { LiesWithin (change_of old.now edit.now) }
+    requires edited { new.now ≡ edited_by (change_of old.now edit.now) }
     ensures tokens { OnOk result (AreTokens new.now tokens.new.list) }
     ensures items { OnOk result (IsCut (lexemes new.now tokens.new.list) (counts items.new.list)) }
     ensures no_tokens { OnErr result (tokens.new.list ≡ tokens.old.list) }

@@ -1,9 +1,11 @@
 -- The class of a place, which decides the kinds that a word there may have.
-use Rattle.std.proofs.Common.{◌≡◌, ℕ, Bool, true, false, arith, refl}
+use Rattle.std.proofs.Common.{◌≡◌, ℕ, Bool, true, false, arith, refl, sym, subst}
 use Rattle.std.specs.Prelude.{◌==◌, ◌&&◌}
 use Rattle.std.proofs.lemmas.Bool.Decides.{nat_tests}
 use Rattle.x_lex.specs.Scan.{Class, blank, letters, digits, signed, mark, remark, percent, hash, other, chosen, class_of}
 use Rattle.x_lex.specs.Bytes.{is_space, is_digit, is_letter, is_punct}
+use Rattle.x_lex.specs.Marks.{mark_of}
+use Rattle.x_lex.proofs.MarkLemmas.{punct_apart}
 
 -- what the class tells of the tests
 abbrev pub Tells : Class → Bool → Bool → Bool → Bool → Bool → Bool → Bool → Bool → Type 0
@@ -46,8 +48,8 @@ unfolding class_of
 class_letters start b c h = grind (arith, nat_tests)
 
 pub class_remark : (start : Bool) (b c : ℕ) → b ≡ 47 → c ≡ 42 → class_of start b c ≡ remark
-unfolding class_of
-class_remark start b c h k = grind (arith, nat_tests)
+unfolding class_of mark_of
+class_remark start b c h k = subst (λ x. class_of start x c ≡ remark) (sym h) (subst (λ y. class_of start 47 y ≡ remark) (sym k) refl)
 
 pub class_digits : (start : Bool) (b c : ℕ) → is_digit b ≡ true → class_of start b c ≡ digits
 unfolding class_of
@@ -59,12 +61,12 @@ class_signed start b c h k = grind (arith, nat_tests)
 
 pub class_mark : (start : Bool) (b c : ℕ) → is_punct b ≡ true → class_of start b c ≡ mark
 unfolding class_of
-class_mark start b c h = grind (arith, nat_tests)
+class_mark start b c h = let apart = punct_apart b h in grind (arith, nat_tests)
 
 pub class_percent : (start : Bool) (b c : ℕ) → start ≡ true → b ≡ 37 → class_of start b c ≡ percent
-unfolding class_of
-class_percent start b c s h = grind (arith, nat_tests)
+unfolding class_of mark_of
+class_percent start b c s h = subst (λ x. class_of x b c ≡ percent) (sym s) (subst (λ y. class_of true y c ≡ percent) (sym h) refl)
 
 pub class_hash : (start : Bool) (b c : ℕ) → start ≡ true → b ≡ 35 → class_of start b c ≡ hash
-unfolding class_of
-class_hash start b c s h = grind (arith, nat_tests)
+unfolding class_of mark_of
+class_hash start b c s h = subst (λ x. class_of x b c ≡ hash) (sym s) (subst (λ y. class_of true y c ≡ hash) (sym h) refl)

@@ -1,3 +1,4 @@
+pub mod MarkLemmas
 pub mod ClassLemmas
 pub mod CloseLemmas
 pub mod ScanLemmas

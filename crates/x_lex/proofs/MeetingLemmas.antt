@@ -1,6 +1,7 @@
 -- There is one place where the old tokens hold again, and so one patch.
 use Rattle.std.proofs.Common.{◌≡◌, ℕ, ◌+◌, ◌<◌, ◌≤◌, ◌⊎◌, inl, inr, ⊎_elim, true, List, ◌++◌, length, take, drop, arith, sym, ap, subst, ◌∙◌, length-append, length-take-le, length-drop}
 use Rattle.std.proofs.lemmas.Bool.{cases_order}
+use Rattle.x_text.specs.Edits.{Change, edited_by}
 use Rattle.x_lex.specs.declared.kind.Kind.{Kind}
 use Rattle.x_lex.specs.Tiling.{AreTokens, end_of}
 use Rattle.x_lex.specs.TokenList.{TokenPatch, patched}
@@ -9,24 +10,24 @@ use Rattle.x_lex.proofs.TilingLemmas.{same_tiles}
 use Rattle.x_lex.proofs.SpanLemmas.{span_tiles}
 use Rattle.x_lex.proofs.EndLemmas.{end_le_span, end_mono}
 
-module _ (old new : List ℕ) (ts us : List (Kind × ℕ)) (a b n : ℕ) (tiles : AreTokens new us) where
+module _ (change : Change) (ts us : List (Kind × ℕ)) (tiles : AreTokens (edited_by change) us) where
   -- no meeting lies behind another
-  not_behind : (q r : ℕ) → IsMeeting old new ts us a b n q → IsMeeting old new ts us a b n r → q < r → ⊥
+  not_behind : (q r : ℕ) → IsMeeting change ts us q → IsMeeting change ts us r → q < r → ⊥
   not_behind q r h k lt = first h.meets
     where
-      second : q ≡ length new → Agrees old new ts us a b n r ⊎ (r ≡ length new) → ⊥
+      second : q ≡ length (edited_by change) → Agrees change ts us r ⊎ (r ≡ length (edited_by change)) → ⊥
       second e (inl g) =
           let l = end_le_span us g.in_new.index in
-          let s = span_tiles true new us tiles in
+          let s = span_tiles true (edited_by change) us tiles in
           let f = g.in_new.ends in
           omega (arith, e, l, s, f)
       second e (inr f) = omega (arith, e, f)
 
-      first : Agrees old new ts us a b n q ⊎ (q ≡ length new) → ⊥
+      first : Agrees change ts us q ⊎ (q ≡ length (edited_by change)) → ⊥
       first (inl g) = k.least q lt g
       first (inr e) = second e k.meets
 
-  pub same_meeting : (q r : ℕ) → IsMeeting old new ts us a b n q → IsMeeting old new ts us a b n r → q ≡ r
+  pub same_meeting : (q r : ℕ) → IsMeeting change ts us q → IsMeeting change ts us r → q ≡ r
   same_meeting q r h k =
       ⊎_elim (λ e. e) (λ o. ⊎_elim (λ lt. absurd (not_behind q r h k lt)) (λ gt. absurd (not_behind r q k h gt)) o) (cases_order q r)
 
@@ -50,27 +51,27 @@ kept_length ts at removed within =
     let d = length-drop (at + removed) ts in
     omega (arith, l, t, d)
 
-pub same_patch : (old new : List ℕ) (ts : List (Kind × ℕ)) (a b n : ℕ) (p q : TokenPatch) → IsPatch old new ts a b n p → IsPatch old new ts a b n q → p ≡ q
-same_patch old new ts a b n p q h k = λ i. record { at = at i; removed = removed i; start = start i; fresh = news i }
+pub same_patch : (change : Change) (ts : List (Kind × ℕ)) (p q : TokenPatch) → IsPatch change ts p → IsPatch change ts q → p ≡ q
+same_patch change ts p q h k = λ i. record { at = at i; removed = removed i; start = start i; fresh = news i }
   where
     at : p.at ≡ q.at
-    at = same_front ts a p.at q.at h.front k.front
+    at = same_front ts change.start p.at q.at h.front k.front
 
     start : p.start ≡ q.start
     start = h.start ∙ ap (end_of ts) at ∙ sym k.start
 
     tokens : patched ts p ≡ patched ts q
-    tokens = same_tiles true new (patched ts p) (patched ts q) h.tokens k.tokens
+    tokens = same_tiles true (edited_by change) (patched ts p) (patched ts q) h.tokens k.tokens
 
     place : h.place ≡ k.place
-    place = same_meeting old new ts (patched ts p) a b n h.tokens h.place k.place h.meeting (subst (λ us. IsMeeting old new ts us a b n k.place) (sym tokens) k.meeting)
+    place = same_meeting change ts (patched ts p) h.tokens h.place k.place h.meeting (subst (λ us. IsMeeting change ts us k.place) (sym tokens) k.meeting)
 
     news : p.fresh ≡ q.fresh
-    news = h.fresh_are ∙ (λ i. fresh a (place i) (tokens i)) ∙ sym k.fresh_are
+    news = h.fresh_are ∙ (λ i. fresh change.start (place i) (tokens i)) ∙ sym k.fresh_are
 
     removed : p.removed ≡ q.removed
     removed =
-        let same = ap length (h.kept_are ∙ ap (λ r. kept a (old_place a b n r) ts) place ∙ sym k.kept_are) in
+        let same = ap length (h.kept_are ∙ ap (λ r. kept change.start (old_place change r) ts) place ∙ sym k.kept_are) in
         let left = kept_length ts p.at p.removed h.among in
         let right = kept_length ts q.at q.removed k.among in
         omega (arith, same, left, right)

@@ -2,6 +2,7 @@
 use mathlib.Core.Bool.{beq}
 use Rattle.std.proofs.Common.{◌≡◌, ℕ, zero, suc, ◌+◌, ◌-◌, ◌<◌, ◌≤◌, ◌⊎◌, inl, inr, Result, Ok, Err, Bool, true, false, List, [], ◌∷◌, ◌++◌, length, get_or, take, drop, arith, refl, sym, ap, subst, ◌∙◌, length-drop, length-append, length-take-le, append_assoc, take-append-drop}
 use Rattle.std.proofs.lemmas.List.{drop-drop, drop_all, take_at, take-take, append-nil}
+use Rattle.x_text.specs.Edits.{Change, edited_by}
 use Rattle.x_lex.specs.declared.kind.Kind.{Kind}
 use Rattle.x_lex.specs.Word.{IsToken}
 use Rattle.std.specs.Prelude.{◌==◌, IfOk}
@@ -22,10 +23,10 @@ abbrev pub made : List (Kind × ℕ) → ℕ → ℕ → List (Kind × ℕ) → 
 made ts x removed news = record { at = x; removed = removed; start = end_of ts x; fresh = news }
 
 -- the same with the place as it was found
-pub patch_is : (old new : List ℕ) (ts : List (Kind × ℕ)) (a b n x removed start : ℕ) (news : List (Kind × ℕ)) (patch : TokenPatch) →
-    patch ≡ record { at = x; removed = removed; start = start; fresh = news } → start ≡ end_of ts x → IsPatch old new ts a b n (made ts x removed news) → IsPatch old new ts a b n patch
-patch_is old new ts a b n x removed start news patch is at h =
-    subst (λ p. IsPatch old new ts a b n p) (sym (is ∙ λ i. record { at = x; removed = removed; start = at i; fresh = news })) h
+pub patch_is : (change : Change) (ts : List (Kind × ℕ)) (x removed start : ℕ) (news : List (Kind × ℕ)) (patch : TokenPatch) →
+    patch ≡ record { at = x; removed = removed; start = start; fresh = news } → start ≡ end_of ts x → IsPatch change ts (made ts x removed news) → IsPatch change ts patch
+patch_is change ts x removed start news patch is at h =
+    subst (λ p. IsPatch change ts p) (sym (is ∙ λ i. record { at = x; removed = removed; start = at i; fresh = news })) h
 
 end_nil : (i : ℕ) → end_of [] i ≡ 0
 end_nil zero = refl
@@ -46,8 +47,8 @@ end_lt_span start rest [] h j lt = absurd (omega arith)
 end_lt_span start rest (t ∷ ts) h zero lt = let s = (token_spans t.0 start rest t.1 h.0).some in omega (arith, s)
 end_lt_span start rest (t ∷ ts) h (suc j) lt = let r = end_lt_span (starts_after rest t.1) (drop t.1 rest) ts h.1 j (omega arith) in omega (arith, r)
 
-module _ (old new ins : List ℕ) (a b : ℕ) (change : IsEdit old new ins a b) (ts : List (Kind × ℕ)) (tiles : AreTokens old ts) (x : ℕ) (front : IsFront ts a x) where
-  module _ (news : List (Kind × ℕ)) (start : Bool) (at : ℕ) (h : Relexing old new ts a b (length ins) x news start at) (back : ℕ) (from : x ≤ back) (within : back ≤ length ts) where
+module _ (change : Change) (new : List ℕ) (edit : IsEdit change new) (ts : List (Kind × ℕ)) (tiles : AreTokens change.old ts) (x : ℕ) (front : IsFront ts change.start x) where
+  module _ (news : List (Kind × ℕ)) (start : Bool) (at : ℕ) (h : Relexing change new ts x news start at) (back : ℕ) (from : x ≤ back) (within : back ≤ length ts) where
     back_is : x + (back - x) ≡ back
     back_is = omega arith
 
@@ -75,40 +76,40 @@ module _ (old new ins : List ℕ) (a b : ℕ) (change : IsEdit old new ins a b) 
     mid_span : end_of ts x + span (take (back - x) (drop x ts)) ≡ end_of ts back
     mid_span = end_drop ts x (back - x) ∙ ap (λ i. end_of ts i) back_is
 
-    pub fresh_is : news ≡ fresh a at (patched ts (made ts x (back - x) news))
+    pub fresh_is : news ≡ fresh change.start at (patched ts (made ts x (back - x) news))
     fresh_is =
         let z : 0 + end_of ts x ≡ end_of ts x = omega arith in
         sym (
-        ap (λ l. fresh a at l) (patched_is ∙ append_assoc (take x ts) news (drop back ts))
-        ∙ fresh_front a at 0 (take x ts) (news ++ drop back ts) before
-        ∙ ap (λ n. fresh_from a at n (news ++ drop back ts)) z
-        ∙ fresh_between a at (end_of ts x) news (drop back ts) h.between
-        ∙ ap (λ l. news ++ l) (fresh_back a at (end_of ts x + span news) (drop back ts) (let s = sums in omega (arith, s)))
+        ap (λ l. fresh change.start at l) (patched_is ∙ append_assoc (take x ts) news (drop back ts))
+        ∙ fresh_front change.start at 0 (take x ts) (news ++ drop back ts) before
+        ∙ ap (λ n. fresh_from change.start at n (news ++ drop back ts)) z
+        ∙ fresh_between change.start at (end_of ts x) news (drop back ts) h.between
+        ∙ ap (λ l. news ++ l) (fresh_back change.start at (end_of ts x + span news) (drop back ts) (let s = sums in omega (arith, s)))
         ∙ append-nil news
         )
       where
-        before : 0 < length (take x ts) → 0 + span (take x ts) < a
+        before : 0 < length (take x ts) → 0 + span (take x ts) < change.start
         before p = let l = length-take-le x ts front.within in let f = front.before (omega (arith, l)) in omega (arith, f)
 
-    pub kept_is : (q : ℕ) → end_of ts back ≡ q → ((j : ℕ) → j < back → end_of ts j < q) → take x ts ++ drop (x + (back - x)) ts ≡ kept a q ts
+    pub kept_is : (q : ℕ) → end_of ts back ≡ q → ((j : ℕ) → j < back → end_of ts j < q) → take x ts ++ drop (x + (back - x)) ts ≡ kept change.start q ts
     kept_is q e below =
         let z : 0 + end_of ts x ≡ end_of ts x = omega arith in
         let m = mid_span in
         ap (λ i. take x ts ++ drop i ts) back_is
         ∙ sym (
-        ap (λ l. kept a q l) (sym split)
-        ∙ kept_front a q 0 (take x ts) (take (back - x) (drop x ts) ++ drop back ts) before
+        ap (λ l. kept change.start q l) (sym split)
+        ∙ kept_front change.start q 0 (take x ts) (take (back - x) (drop x ts) ++ drop back ts) before
         ∙ ap (λ l. take x ts ++ l) (
-        ap (λ n. kept_from a q n (take (back - x) (drop x ts) ++ drop back ts)) z
-        ∙ kept_between a q (end_of ts x) (take (back - x) (drop x ts)) (drop back ts) between
-        ∙ kept_back a q (end_of ts x + span (take (back - x) (drop x ts))) (drop back ts) (omega (arith, m, e))
+        ap (λ n. kept_from change.start q n (take (back - x) (drop x ts) ++ drop back ts)) z
+        ∙ kept_between change.start q (end_of ts x) (take (back - x) (drop x ts)) (drop back ts) between
+        ∙ kept_back change.start q (end_of ts x + span (take (back - x) (drop x ts))) (drop back ts) (omega (arith, m, e))
         )
         )
       where
-        before : 0 < length (take x ts) → 0 + span (take x ts) < a
+        before : 0 < length (take x ts) → 0 + span (take x ts) < change.start
         before p = let l = length-take-le x ts front.within in let f = front.before (omega (arith, l)) in omega (arith, f)
 
-        between : Between a q (end_of ts x) (take (back - x) (drop x ts))
+        between : Between change.start q (end_of ts x) (take (back - x) (drop x ts))
         between = record {
           late = λ i lt.
               let l = mids_length in
@@ -123,16 +124,16 @@ module _ (old new ins : List ℕ) (a b : ℕ) (change : IsEdit old new ins a b) 
               omega (arith, k, g);
         }
 
-    pub patch_at : AreTokens new (patched ts (made ts x (back - x) news)) → (Meets old new ts a b (length ins) at ⊎ (at ≡ length new)) → end_of ts back ≡ old_place a b (length ins) at → ((j : ℕ) → j < back → end_of ts j < old_place a b (length ins) at) → IsPatch old new ts a b (length ins) (made ts x (back - x) news)
+    pub patch_at : AreTokens new (patched ts (made ts x (back - x) news)) → (Meets change new ts at ⊎ (at ≡ length new)) → end_of ts back ≡ old_place change at → ((j : ℕ) → j < back → end_of ts j < old_place change at) → IsPatch change ts (made ts x (back - x) news)
     patch_at tokens meets e below = record {
       front = front;
       start = refl;
       among = omega arith;
-      tokens = tokens;
+      tokens = subst (λ text. AreTokens text (patched ts (made ts x (back - x) news))) edit.result tokens;
       place = at;
       meeting = record { meets = agrees meets; least = least };
       fresh_are = fresh_is;
-      kept_are = kept_is (old_place a b (length ins) at) e below;
+      kept_are = kept_is (old_place change at) e below;
     }
       where
         boundary : IsBoundary (take x ts ++ news ++ drop back ts) at
@@ -142,44 +143,49 @@ module _ (old new ins : List ℕ) (a b : ℕ) (change : IsEdit old new ins a b) 
           ends = ap span (take_at (take x ts ++ news) (drop back ts) (length (take x ts ++ news)) refl) ∙ h.spans;
         }
 
-        agrees : Meets old new ts a b (length ins) at ⊎ (at ≡ length new) → Agrees old new ts (patched ts (made ts x (back - x) news)) a b (length ins) at ⊎ (at ≡ length new)
-        agrees (inr end) = inr end
-        agrees (inl m) = inl (record { behind = m.behind; in_new = subst (λ l. IsBoundary l at) (sym patched_is) boundary; in_old = m.in_old; starts = m.starts })
+        agrees : Meets change new ts at ⊎ (at ≡ length new) → Agrees change ts (patched ts (made ts x (back - x) news)) at ⊎ (at ≡ length (edited_by change))
+        agrees (inr end) = inr (end ∙ ap length edit.result)
+        agrees (inl m) = inl (record {
+          behind = m.behind;
+          in_new = subst (λ l. IsBoundary l at) (sym patched_is) boundary;
+          in_old = m.in_old;
+          starts = m.starts ∙ ap (λ text. is_line_start text at) edit.result;
+        })
 
-        least : (p : ℕ) → p < at → Agrees old new ts (patched ts (made ts x (back - x) news)) a b (length ins) p → ⊥
+        least : (p : ℕ) → p < at → Agrees change ts (patched ts (made ts x (back - x) news)) p → ⊥
         least p lt g =
             let s = h.spans in
             let i : IsBoundary (take x ts ++ news) p = boundary_front (take x ts ++ news) (drop back ts) p (subst (λ l. IsBoundary l p) patched_is g.in_new) (omega (arith, s)) in
-            h.none p lt i (record { behind = g.behind; in_old = g.in_old; starts = g.starts })
+            h.none p lt i (record { behind = g.behind; in_old = g.in_old; starts = g.starts ∙ ap (λ text. is_line_start text p) (sym edit.result) })
 
     -- where the place agrees
-    pub patch_agreed : a + length ins ≤ at → end_of ts back ≡ old_place a b (length ins) at → is_line_start old (old_place a b (length ins) at) ≡ start → ((j : ℕ) → j < back → end_of ts j < old_place a b (length ins) at) → IsPatch old new ts a b (length ins) (made ts x (back - x) news)
+    pub patch_agreed : change.start + length change.insert ≤ at → end_of ts back ≡ old_place change at → is_line_start change.old (old_place change at) ≡ start → ((j : ℕ) → j < back → end_of ts j < old_place change at) → IsPatch change ts (made ts x (back - x) news)
     patch_agreed behind e starts below = patch_at tokens (inl (record { behind = behind; in_old = record { index = back; within = within; ends = e }; starts = starts ∙ h.bit })) e below
       where
-        rest : Tiles (is_line_start old (end_of ts back)) (drop (end_of ts back) old) (drop back ts)
-        rest = tiles_from back old ts tiles within
+        rest : Tiles (is_line_start change.old (end_of ts back)) (drop (end_of ts back) change.old) (drop back ts)
+        rest = tiles_from back change.old ts tiles within
 
-        moved : Tiles (is_line_start old (old_place a b (length ins) at)) (drop (old_place a b (length ins) at) old) (drop back ts)
-        moved = subst (λ p. Tiles (is_line_start old p) (drop p old) (drop back ts)) e rest
+        moved : Tiles (is_line_start change.old (old_place change at)) (drop (old_place change at) change.old) (drop back ts)
+        moved = subst (λ p. Tiles (is_line_start change.old p) (drop p change.old) (drop back ts)) e rest
 
         here : Tiles start (drop at new) (drop back ts)
-        here = subst (λ s. Tiles s (drop at new) (drop back ts)) starts (subst (λ l. Tiles (is_line_start old (old_place a b (length ins) at)) l (drop back ts)) (sym (drop_new old new ins a b change at behind)) moved)
+        here = subst (λ s. Tiles s (drop at new) (drop back ts)) starts (subst (λ l. Tiles (is_line_start change.old (old_place change at)) l (drop back ts)) (sym (drop_new change new edit at behind)) moved)
 
         tokens : AreTokens new (patched ts (made ts x (back - x) news))
         tokens = subst (λ l. Tiles true new l) (sym patched_is) (h.leads.goes_on (drop back ts) here)
 
   -- where no place agrees
-  pub patch_ended : (news : List (Kind × ℕ)) (start : Bool) → Relexing old new ts a b (length ins) x news start (length new) → IsPatch old new ts a b (length ins) (made ts x (length ts - x) news)
+  pub patch_ended : (news : List (Kind × ℕ)) (start : Bool) → Relexing change new ts x news start (length new) → IsPatch change ts (made ts x (length ts - x) news)
   patch_ended news start h =
-      patch_at news start (length new) h (length ts) front.within (omega arith) tokens (inr refl) whole (λ j lt. let l = end_lt_span true old ts tiles j lt in omega (arith, l, whole, end_all ts))
+      patch_at news start (length new) h (length ts) front.within (omega arith) tokens (inr refl) whole (λ j lt. let l = end_lt_span true change.old ts tiles j lt in omega (arith, l, whole, end_all ts))
     where
-      whole : end_of ts (length ts) ≡ old_place a b (length ins) (length new)
+      whole : end_of ts (length ts) ≡ old_place change (length new)
       whole =
           let e = end_all ts in
-          let s = span_tiles true old ts tiles in
-          let n = new_length old new ins a b change in
-          let o = change.order in
-          let w = change.within in
+          let s = span_tiles true change.old ts tiles in
+          let n = new_length change new edit in
+          let o = edit.lies.forward in
+          let w = edit.lies.within in
           omega (arith, e, s, n, o, w)
 
       tokens : AreTokens new (patched ts (made ts x (length ts - x) news))
@@ -187,19 +193,19 @@ module _ (old new ins : List ℕ) (a b : ℕ) (change : IsEdit old new ins a b) 
           subst (λ l. Tiles true new l) (sym (patched_is news start (length new) h (length ts) front.within (omega arith)))
           (h.leads.goes_on (drop (length ts) ts) (subst (λ l. Tiles start (drop (length new) new) l) (sym (drop_all (length ts) ts (omega arith))) (drop_all (length new) new (omega arith))))
 
-module _ (old new ins : List ℕ) (a b : ℕ) (change : IsEdit old new ins a b) (ts : List (Kind × ℕ)) (tiles : AreTokens old ts) (x : ℕ) (front : IsFront ts a x) where
+module _ (change : Change) (new : List ℕ) (edit : IsEdit change new) (ts : List (Kind × ℕ)) (tiles : AreTokens change.old ts) (x : ℕ) (front : IsFront ts change.start x) where
   -- before the loop
-  pub relexing_start : (news : List (Kind × ℕ)) (start : Bool) (at : ℕ) → news ≡ [] → start ≡ is_line_start new at → at ≡ end_of ts x → Relexing old new ts a b (length ins) x news start at
+  pub relexing_start : (news : List (Kind × ℕ)) (start : Bool) (at : ℕ) → news ≡ [] → start ≡ is_line_start new at → at ≡ end_of ts x → Relexing change new ts x news start at
   relexing_start news start at e s p =
       let q : start ≡ is_line_start new (end_of ts x) = s ∙ ap (λ i. is_line_start new i) p in
-      subst (λ l. Relexing old new ts a b (length ins) x l start at) (sym e)
-      (subst (λ i. Relexing old new ts a b (length ins) x [] start i) (sym p)
-      (subst (λ c. Relexing old new ts a b (length ins) x [] c (end_of ts x)) (sym q) (relexing_none old new ins a b change ts tiles x front)))
+      subst (λ l. Relexing change new ts x l start at) (sym e)
+      (subst (λ i. Relexing change new ts x [] start i) (sym p)
+      (subst (λ c. Relexing change new ts x [] c (end_of ts x)) (sym q) (relexing_none change new edit ts tiles x front)))
 
   -- after a push
-  pub relexing_pushed : (news pushed : List (Kind × ℕ)) (start : Bool) (at end : ℕ) (k : Kind) → Relexing old new ts a b (length ins) x news start at → (Meets old new ts a b (length ins) at → ⊥) → at < end → end ≤ length new → IsToken k start (drop at new) (end - at) → pushed ≡ news ++ (k, end - at) ∷ [] → Relexing old new ts a b (length ins) x pushed (get_or new (end - 1) 0 == 10) end
+  pub relexing_pushed : (news pushed : List (Kind × ℕ)) (start : Bool) (at end : ℕ) (k : Kind) → Relexing change new ts x news start at → (Meets change new ts at → ⊥) → at < end → end ≤ length new → IsToken k start (drop at new) (end - at) → pushed ≡ news ++ (k, end - at) ∷ [] → Relexing change new ts x pushed (get_or new (end - 1) 0 == 10) end
   relexing_pushed news pushed start at end k h apart lt fit t e =
-      subst (λ l. Relexing old new ts a b (length ins) x l (get_or new (end - 1) 0 == 10) end) (sym e) (relexing_more old new ins a b change ts tiles x front news start at end k h apart lt fit t)
+      subst (λ l. Relexing change new ts x l (get_or new (end - 1) 0 == 10) end) (sym e) (relexing_more change new edit ts tiles x front news start at end k h apart lt fit t)
 
 pub same_from_beq : (x y : Bool) → beq x y ≡ true → x ≡ y
 same_from_beq true true h = refl

@@ -5,7 +5,7 @@ use Rattle.std.proofs.lemmas.Bool.{cases_lt, cases_order}
 use Rattle.std.proofs.lemmas.List.{drop-drop, drop_at, take-append-le, append-nil, get_or_append_left, length_push}
 use Rattle.x_lex.specs.declared.kind.Kind.{Kind}
 use Rattle.x_lex.specs.Word.{IsToken}
-use Rattle.x_text.specs.Edits.{edited}
+use Rattle.x_text.specs.Edits.{Change, edited_by, LiesWithin}
 use Rattle.x_lex.specs.Tiling.{Tiles, AreTokens, span, end_of}
 use Rattle.x_lex.specs.Places.{is_line_start}
 use Rattle.x_lex.specs.Relex.{IsBoundary, old_place, IsFront}
@@ -15,62 +15,61 @@ use Rattle.x_lex.proofs.SpanLemmas.{span-append}
 use Rattle.x_lex.proofs.EndLemmas.{end_le_span, end_more, end_all, tiles_from, Same, same_line_starts, front_stays, starts_behind}
 use Rattle.x_lex.proofs.RelexLemmas.{boundary_pushed, Between}
 
-pub record IsEdit (old new ins : List ℕ) (a b : ℕ) : Type 0 where
-  pub order : a ≤ b
-  pub within : b ≤ length old
-  pub result : new ≡ edited old a b ins
+-- new is what the change, which lies within its text, leaves of it
+pub record IsEdit (change : Change) (new : List ℕ) : Type 0 where
+  pub lies : LiesWithin change
+  pub result : new ≡ edited_by change
 
 -- p agrees, were it a boundary of the new text
-pub record Meets (old new : List ℕ) (ts : List (Kind × ℕ)) (a b n p : ℕ) : Type 0 where
-  pub behind : a + n ≤ p
-  pub in_old : IsBoundary ts (old_place a b n p)
-  pub starts : is_line_start old (old_place a b n p) ≡ is_line_start new p
+pub record Meets (change : Change) (new : List ℕ) (ts : List (Kind × ℕ)) (p : ℕ) : Type 0 where
+  pub behind : change.start + length change.insert ≤ p
+  pub in_old : IsBoundary ts (old_place change p)
+  pub starts : is_line_start change.old (old_place change p) ≡ is_line_start new p
 
 -- behind the first x old tokens the tokens `news` have been lexed, up to `at`
-pub record Relexing (old new : List ℕ) (ts : List (Kind × ℕ)) (a b n x : ℕ) (news : List (Kind × ℕ)) (start : Bool) (at : ℕ) : Type 0 where
+pub record Relexing (change : Change) (new : List ℕ) (ts : List (Kind × ℕ)) (x : ℕ) (news : List (Kind × ℕ)) (start : Bool) (at : ℕ) : Type 0 where
   pub leads : Leads new (take x ts ++ news) start at
   pub spans : span (take x ts ++ news) ≡ at
   pub bit : start ≡ is_line_start new at
-  pub between : Between a at (end_of ts x) news
-  pub none : (p : ℕ) → p < at → IsBoundary (take x ts ++ news) p → Meets old new ts a b n p → ⊥
+  pub between : Between change.start at (end_of ts x) news
+  pub none : (p : ℕ) → p < at → IsBoundary (take x ts ++ news) p → Meets change new ts p → ⊥
 
-module _ (old new ins : List ℕ) (a b : ℕ) (change : IsEdit old new ins a b) where
-  front_length : length (take a old) ≡ a
-  front_length = let o = change.order in let w = change.within in length-take-le a old (omega (arith, o, w))
+module _ (change : Change) (new : List ℕ) (edit : IsEdit change new) where
+  front_length : length (take change.start change.old) ≡ change.start
+  front_length = let o = edit.lies.forward in let w = edit.lies.within in length-take-le change.start change.old (omega (arith, o, w))
 
-  pub new_length : length new ≡ a + length ins + (length old - b)
+  pub new_length : length new ≡ change.start + length change.insert + (length change.old - change.end)
   new_length =
-      let e = ap length change.result in
-      let f = length-append (take a old ++ ins) (drop b old) in
-      let g = length-append (take a old) ins in
+      let e = ap length edit.result in
+      let f = length-append (take change.start change.old ++ change.insert) (drop change.end change.old) in
+      let g = length-append (take change.start change.old) change.insert in
       let h = front_length in
-      let d = length-drop b old in
+      let d = length-drop change.end change.old in
       omega (arith, e, f, g, h, d)
 
-  pub same_front : Same old new a
+  pub same_front : Same change.old new change.start
   same_front = record {
-    left = let o = change.order in let w = change.within in omega (arith, o, w);
+    left = let o = edit.lies.forward in let w = edit.lies.within in omega (arith, o, w);
     right = let e = new_length in omega (arith, e);
     bytes = λ i lt.
         let l = front_length in
-        let m = length-append (take a old) ins in
-        let r : get_or new i 0 ≡ get_or (edited old a b ins) i 0 = ap (λ t. get_or t i 0) change.result in
-        sym (r ∙ get_or_append_left (take a old ++ ins) (drop b old) 0 i (omega (arith, l, m)) ∙ get_or_append_left (take a old) ins 0 i (omega (arith, l)) ∙ get_or-take a old i 0 lt);
+        let m = length-append (take change.start change.old) change.insert in
+        let r : get_or new i 0 ≡ get_or (edited_by change) i 0 = ap (λ t. get_or t i 0) edit.result in
+        sym (r ∙ get_or_append_left (take change.start change.old ++ change.insert) (drop change.end change.old) 0 i (omega (arith, l, m)) ∙ get_or_append_left (take change.start change.old) change.insert 0 i (omega (arith, l)) ∙ get_or-take change.start change.old i 0 lt);
   }
 
   -- behind the edited the texts are the same
-  pub drop_new : (p : ℕ) → a + length ins ≤ p → drop p new ≡ drop (old_place a b (length ins) p) old
+  pub drop_new : (p : ℕ) → change.start + length change.insert ≤ p → drop p new ≡ drop (old_place change p) change.old
   drop_new p le =
-      let n = length ins in
-      let l : length (take a old ++ ins) ≡ a + length ins = length-append (take a old) ins ∙ ap (λ k. k + length ins) front_length in
-      let e : a + length ins + (p - (a + length ins)) ≡ p = omega arith in
+      let l : length (take change.start change.old ++ change.insert) ≡ change.start + length change.insert = length-append (take change.start change.old) change.insert ∙ ap (λ k. k + length change.insert) front_length in
+      let e : change.start + length change.insert + (p - (change.start + length change.insert)) ≡ p = omega arith in
       ap (λ i. drop i new) (sym e)
-      ∙ sym (drop-drop (p - (a + n)) (a + n) new)
-      ∙ ap (λ t. drop (p - (a + n)) (drop (a + n) t)) change.result
-      ∙ ap (λ t. drop (p - (a + n)) t) (drop_at (take a old ++ ins) (drop b old) (a + n) l)
-      ∙ drop-drop (p - (a + n)) b old
+      ∙ sym (drop-drop (p - (change.start + length change.insert)) (change.start + length change.insert) new)
+      ∙ ap (λ t. drop (p - (change.start + length change.insert)) (drop (change.start + length change.insert) t)) edit.result
+      ∙ ap (λ t. drop (p - (change.start + length change.insert)) t) (drop_at (take change.start change.old ++ change.insert) (drop change.end change.old) (change.start + length change.insert) l)
+      ∙ drop-drop (p - (change.start + length change.insert)) change.end change.old
 
-  module _ (ts : List (Kind × ℕ)) (tiles : AreTokens old ts) (x : ℕ) (front : IsFront ts a x) where
+  module _ (ts : List (Kind × ℕ)) (tiles : AreTokens change.old ts) (x : ℕ) (front : IsFront ts change.start x) where
     take_span : span (take x ts) ≡ end_of ts x
     take_span = refl
 
@@ -82,9 +81,9 @@ module _ (old new ins : List ℕ) (a b : ℕ) (change : IsEdit old new ins a b) 
         (cases_lt 0 x)
 
     front_leads : Leads new (take x ts) (is_line_start new (end_of ts x)) (end_of ts x)
-    front_leads = record { within = front_le; goes_on = λ us h. front_stays x old new ts a same_front tiles front.within front.before us h }
+    front_leads = record { within = front_le; goes_on = λ us h. front_stays x change.old new ts change.start same_front tiles front.within front.before us h }
 
-    pub relexing_none : Relexing old new ts a b (length ins) x [] (is_line_start new (end_of ts x)) (end_of ts x)
+    pub relexing_none : Relexing change new ts x [] (is_line_start new (end_of ts x)) (end_of ts x)
     relexing_none = record {
       leads = subst (λ l. Leads new l (is_line_start new (end_of ts x)) (end_of ts x)) (sym (append-nil (take x ts))) front_leads;
       spans = ap span (append-nil (take x ts));
@@ -99,34 +98,34 @@ module _ (old new ins : List ℕ) (a b : ℕ) (change : IsEdit old new ins a b) 
     }
 
     -- a new token right behind the kept ones doesn't end before the edited, or it were an old one
-    first_far : (k : Kind) (len : ℕ) → IsToken k (is_line_start new (end_of ts x)) (drop (end_of ts x) new) len → end_of ts x + len < a → ⊥
+    first_far : (k : Kind) (len : ℕ) → IsToken k (is_line_start new (end_of ts x)) (drop (end_of ts x) new) len → end_of ts x + len < change.start → ⊥
     first_far k len t lt = at_rest (drop x ts) refl rest
       where
-        bits : is_line_start new (end_of ts x) ≡ is_line_start old (end_of ts x)
-        bits = sym (same_line_starts old new a (end_of ts x) (omega arith) same_front)
+        bits : is_line_start new (end_of ts x) ≡ is_line_start change.old (end_of ts x)
+        bits = sym (same_line_starts change.old new change.start (end_of ts x) (omega arith) same_front)
 
-        there : IsToken k (is_line_start old (end_of ts x)) (drop (end_of ts x) old) len
+        there : IsToken k (is_line_start change.old (end_of ts x)) (drop (end_of ts x) change.old) len
         there =
-            local_token k (is_line_start old (end_of ts x)) (drop (end_of ts x) new) (drop (end_of ts x) old) len
+            local_token k (is_line_start change.old (end_of ts x)) (drop (end_of ts x) new) (drop (end_of ts x) change.old) len
             (subst (λ s. IsToken k s (drop (end_of ts x) new) len) bits t)
             (record {
               left = let r = same_front.right in rw length-drop (omega (arith, r));
               right = let r = same_front.left in rw length-drop (omega (arith, r));
-              same = λ i le. get_or-drop (end_of ts x) new i 0 ∙ sym (same_front.bytes (end_of ts x + i) (omega arith)) ∙ sym (get_or-drop (end_of ts x) old i 0);
+              same = λ i le. get_or-drop (end_of ts x) new i 0 ∙ sym (same_front.bytes (end_of ts x + i) (omega arith)) ∙ sym (get_or-drop (end_of ts x) change.old i 0);
             })
 
-        rest : Tiles (is_line_start old (end_of ts x)) (drop (end_of ts x) old) (drop x ts)
-        rest = tiles_from x old ts tiles front.within
+        rest : Tiles (is_line_start change.old (end_of ts x)) (drop (end_of ts x) change.old) (drop x ts)
+        rest = tiles_from x change.old ts tiles front.within
 
-        at_rest : (us : List (Kind × ℕ)) → drop x ts ≡ us → Tiles (is_line_start old (end_of ts x)) (drop (end_of ts x) old) us → ⊥
+        at_rest : (us : List (Kind × ℕ)) → drop x ts ≡ us → Tiles (is_line_start change.old (end_of ts x)) (drop (end_of ts x) change.old) us → ⊥
         at_rest [] e h =
-            let s = token_spans k (is_line_start old (end_of ts x)) (drop (end_of ts x) old) len there in
+            let s = token_spans k (is_line_start change.old (end_of ts x)) (drop (end_of ts x) change.old) len there in
             let some = s.some in
             let w = s.within in
             let z = ap length h in
             omega (arith, some, w, z)
         at_rest (u ∷ us) e h =
-            let same = same_token (is_line_start old (end_of ts x)) (drop (end_of ts x) old) (k, len) u there h.0 in
+            let same = same_token (is_line_start change.old (end_of ts x)) (drop (end_of ts x) change.old) (k, len) u there h.0 in
             let l = ap length e in
             let d = length-drop x ts in
             let more : x < length ts = omega (arith, l, d) in
@@ -137,7 +136,7 @@ module _ (old new ins : List ℕ) (a b : ℕ) (change : IsEdit old new ins a b) 
             omega (arith, far, m, lens)
 
     -- one token more
-    pub relexing_more : (news : List (Kind × ℕ)) (start : Bool) (at end : ℕ) (k : Kind) → Relexing old new ts a b (length ins) x news start at → (Meets old new ts a b (length ins) at → ⊥) → at < end → end ≤ length new → IsToken k start (drop at new) (end - at) → Relexing old new ts a b (length ins) x (news ++ (k, end - at) ∷ []) (get_or new (end - 1) 0 == 10) end
+    pub relexing_more : (news : List (Kind × ℕ)) (start : Bool) (at end : ℕ) (k : Kind) → Relexing change new ts x news start at → (Meets change new ts at → ⊥) → at < end → end ≤ length new → IsToken k start (drop at new) (end - at) → Relexing change new ts x (news ++ (k, end - at) ∷ []) (get_or new (end - 1) 0 == 10) end
     relexing_more news start at end k h apart lt fit t = record {
       leads = subst (λ l. Leads new l (get_or new (end - 1) 0 == 10) end) assoc (leads_more new (take x ts ++ news) start at end k h.leads lt fit t);
       spans = whole;
@@ -164,7 +163,7 @@ module _ (old new ins : List ℕ) (a b : ℕ) (change : IsEdit old new ins a b) 
             let s = span-append news ((k, end - at) ∷ []) in
             ap (λ i. end_of (news ++ (k, end - at) ∷ []) i) (sym e) ∙ end_all (news ++ (k, end - at) ∷ []) ∙ (omega (arith, s))
 
-        far_empty : news ≡ [] → a ≤ end
+        far_empty : news ≡ [] → change.start ≤ end
         far_empty e =
             let at_is : at ≡ end_of ts x = let s = sums in let z : span news ≡ 0 = ap span e in omega (arith, s, z) in
             ⊎_elim
@@ -172,20 +171,20 @@ module _ (old new ins : List ℕ) (a b : ℕ) (change : IsEdit old new ins a b) 
             (subst (λ p. IsToken k (is_line_start new p) (drop p new) (end - at)) at_is (subst (λ s. IsToken k s (drop at new) (end - at)) h.bit t))
             (omega arith)))
             (λ le. le)
-            (cases_lt end a)
+            (cases_lt end change.start)
 
-        far_some : (m : ℕ) → length news ≡ suc m → a ≤ end
+        far_some : (m : ℕ) → length news ≡ suc m → change.start ≤ end
         far_some m e =
             let l = h.between.late m (omega arith) in
             let i : end_of news (m + 1) ≡ span news = ap (λ j. end_of news j) (let z : m + 1 ≡ length news = omega arith in z) ∙ end_all news in
             let s = sums in
             omega (arith, l, i, s)
 
-        far : (us : List (Kind × ℕ)) → news ≡ us → a ≤ end
+        far : (us : List (Kind × ℕ)) → news ≡ us → change.start ≤ end
         far [] e = far_empty e
         far (u ∷ us) e = far_some (length us) (ap length e)
 
-        late : (i : ℕ) → i < length (news ++ (k, end - at) ∷ []) → a ≤ end_of ts x + end_of (news ++ (k, end - at) ∷ []) (i + 1)
+        late : (i : ℕ) → i < length (news ++ (k, end - at) ∷ []) → change.start ≤ end_of ts x + end_of (news ++ (k, end - at) ∷ []) (i + 1)
         late i l =
             ⊎_elim
             (λ less. let e = inside (i + 1) (omega arith) in let g = h.between.late i less in omega (arith, e, g))
@@ -205,13 +204,13 @@ module _ (old new ins : List ℕ) (a b : ℕ) (change : IsEdit old new ins a b) 
             let s = sums in
             omega (arith, e, m, s)
 
-        none : (p : ℕ) → p < end → IsBoundary (take x ts ++ (news ++ (k, end - at) ∷ [])) p → Meets old new ts a b (length ins) p → ⊥
+        none : (p : ℕ) → p < end → IsBoundary (take x ts ++ (news ++ (k, end - at) ∷ [])) p → Meets change new ts p → ⊥
         none p l i m =
             let j : IsBoundary ((take x ts ++ news) ++ (k, end - at) ∷ []) p = subst (λ us. IsBoundary us p) (sym assoc) i in
             let e = h.spans in
             let c : IsBoundary (take x ts ++ news) p = boundary_pushed (take x ts ++ news) (k, end - at) p j (omega (arith, e)) in
             ⊎_elim
-            (λ same. apart (subst (λ q. Meets old new ts a b (length ins) q) same m))
+            (λ same. apart (subst (λ q. Meets change new ts q) same m))
             (λ o. ⊎_elim
             (λ less. h.none p less c m)
             (λ more. let w = end_le_span (take x ts ++ news) c.index in let f = c.ends in absurd (omega (arith, w, f, e)))

@@ -1,7 +1,7 @@
 -- The classes of bytes, and what the spelling of a word says of its kind (RFC 4506, section 6.2).
-use Rattle.std.specs.Prelude.{ℕ, Bool, ◌||◌, ◌&&◌, ◌==◌, nat_le, nat_lt, List, [], ◌∷◌, codes, length, drop, slice_index}
-use Rattle.std.specs.List.{list_all, list_any, prefix_len}
-use Rattle.std.specs.Str.{bytes_eq}
+use Rattle.std.specs.Prelude.{ℕ, Bool, ◌||◌, ◌&&◌, ◌==◌, nat_le, nat_lt, List, [], ◌∷◌, codes, length, drop, slice_index, is_some}
+use Rattle.std.specs.List.{list_all, prefix_len}
+use Rattle.x_lex.specs.Marks.{mark_of}
 
 -- the byte is one of those from low to high
 abbrev pub is_between : ℕ → ℕ → ℕ → Bool
@@ -23,9 +23,9 @@ is_letter b = is_between 65 90 b || is_between 97 122 b || b == 95
 abbrev pub is_word_byte : ℕ → Bool
 is_word_byte b = is_letter b || is_digit b
 
--- one of `{ } ( ) [ ] < > , ; : = *`
+-- the byte alone is a mark: of bytes those of punctuation are
 abbrev pub is_punct : ℕ → Bool
-is_punct b = b == 123 || b == 125 || b == 40 || b == 41 || b == 91 || b == 93 || b == 60 || b == 62 || b == 44 || b == 59 || b == 58 || b == 61 || b == 42
+is_punct b = is_some (mark_of (b ∷ []))
 
 -- a space or a tab
 abbrev pub is_blank : ℕ → Bool
@@ -67,34 +67,9 @@ is_number w = is_decimal w || is_negative w || is_octal w || is_hex w
 unfoldable pub is_marker : List ℕ → Bool
 is_marker w = is_digit (slice_index (drop 1 w) (prefix_len is_blank (drop 1 w)))
 
--- the words that the language keeps for itself: those of RFC 4506, section 6.2, those of RFC 5531, section 12, and `long`
-abbrev pub keywords : List (List ℕ)
-keywords =
-    codes "bool" ∷
-    codes "case" ∷
-    codes "const" ∷
-    codes "default" ∷
-    codes "double" ∷
-    codes "enum" ∷
-    codes "float" ∷
-    codes "hyper" ∷
-    codes "int" ∷
-    codes "long" ∷
-    codes "opaque" ∷
-    codes "program" ∷
-    codes "quadruple" ∷
-    codes "string" ∷
-    codes "struct" ∷
-    codes "switch" ∷
-    codes "typedef" ∷
-    codes "union" ∷
-    codes "unsigned" ∷
-    codes "version" ∷
-    codes "void" ∷ []
-
--- the word is one of the keywords
-unfoldable pub is_keyword : List ℕ → Bool
-is_keyword w = list_any (λ k. bytes_eq k w) keywords
+-- the word is a mark: of words of letters the keywords are
+abbrev pub is_keyword : List ℕ → Bool
+is_keyword w = is_some (mark_of w)
 
 -- `*/`
 abbrev pub close : List ℕ

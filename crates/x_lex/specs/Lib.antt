@@ -5,5 +5,6 @@ pub mod Scan
 pub mod Tiling
 pub mod Places
 pub mod Entries
+pub mod Marks
 pub mod TokenList
 pub mod Relex

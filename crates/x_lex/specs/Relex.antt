@@ -1,6 +1,7 @@
--- What an edit leaves of a text's tokens. It compares the tokens of two texts, each lexed from its start: `ts` of the old text
--- and `us` of the new one. The bytes from a to before b of the old text went, and n bytes came in their place.
+-- What a change of a text leaves of its tokens. It compares the tokens of two texts, each lexed from its start: `ts` of the old
+-- text and `us` of the one that the change leaves.
 use Rattle.std.specs.Prelude.{◌≡◌, ℕ, ◌+◌, ◌-◌, ◌<◌, ◌≤◌, ◌||◌, ◌⊎◌, nat_lt, nat_le, List, [], ◌∷◌, ◌++◌, length, take, drop, if◌then◌else◌}
+use Rattle.x_text.specs.Edits.{Change, edited_by}
 use Rattle.x_lex.specs.declared.kind.Kind.{Kind}
 use Rattle.x_lex.specs.Tiling.{AreTokens, end_of}
 use Rattle.x_lex.specs.Places.{is_line_start}
@@ -13,20 +14,20 @@ pub record IsBoundary (ts : List (Kind × ℕ)) (place : ℕ) : Type 0 where
   pub ends : end_of ts index ≡ place
 
 -- where a place behind the new bytes was in the old text: as far behind the bytes that went
-abbrev pub old_place : ℕ → ℕ → ℕ → ℕ → ℕ
-old_place a b n place = b + (place - (a + n))
+abbrev pub old_place : Change → ℕ → ℕ
+old_place change place = change.end + (place - (change.start + length change.insert))
 
 -- the place is behind the new bytes, it is a boundary of both texts, and it is a line start in both or in neither
-pub record Agrees (old new : List ℕ) (ts us : List (Kind × ℕ)) (a b n place : ℕ) : Type 0 where
-  pub behind : a + n ≤ place
+pub record Agrees (change : Change) (ts us : List (Kind × ℕ)) (place : ℕ) : Type 0 where
+  pub behind : change.start + length change.insert ≤ place
   pub in_new : IsBoundary us place
-  pub in_old : IsBoundary ts (old_place a b n place)
-  pub starts : is_line_start old (old_place a b n place) ≡ is_line_start new place
+  pub in_old : IsBoundary ts (old_place change place)
+  pub starts : is_line_start change.old (old_place change place) ≡ is_line_start (edited_by change) place
 
 -- the place is the least that agrees, or the end of the new text where none does
-pub record IsMeeting (old new : List ℕ) (ts us : List (Kind × ℕ)) (a b n place : ℕ) : Type 0 where
-  pub meets : Agrees old new ts us a b n place ⊎ (place ≡ length new)
-  pub least : (other : ℕ) → other < place → Agrees old new ts us a b n other → ⊥
+pub record IsMeeting (change : Change) (ts us : List (Kind × ℕ)) (place : ℕ) : Type 0 where
+  pub meets : Agrees change ts us place ⊎ (place ≡ length (edited_by change))
+  pub least : (other : ℕ) → other < place → Agrees change ts us other → ⊥
 
 -- those of the tokens, the first of which starts at `at`, that neither end before a nor start at q or behind it
 abbrev pub fresh_from : ℕ → ℕ → ℕ → List (Kind × ℕ) → List (Kind × ℕ)
@@ -53,12 +54,12 @@ pub record IsFront (ts : List (Kind × ℕ)) (a x : ℕ) : Type 0 where
   pub next : x < length ts → a ≤ end_of ts (x + 1)
 
 -- the patch puts the fresh tokens, and no others, in place of the old ones that are not kept, and leaves the tokens of the new text
-pub record IsPatch (old new : List ℕ) (ts : List (Kind × ℕ)) (a b n : ℕ) (patch : TokenPatch) : Type 0 where
-  pub front : IsFront ts a patch.at
+pub record IsPatch (change : Change) (ts : List (Kind × ℕ)) (patch : TokenPatch) : Type 0 where
+  pub front : IsFront ts change.start patch.at
   pub start : patch.start ≡ end_of ts patch.at
   pub among : LiesAmong ts patch
-  pub tokens : AreTokens new (patched ts patch)
+  pub tokens : AreTokens (edited_by change) (patched ts patch)
   pub place : ℕ
-  pub meeting : IsMeeting old new ts (patched ts patch) a b n place
-  pub fresh_are : patch.fresh ≡ fresh a place (patched ts patch)
-  pub kept_are : take patch.at ts ++ drop (patch.at + patch.removed) ts ≡ kept a (old_place a b n place) ts
+  pub meeting : IsMeeting change ts (patched ts patch) place
+  pub fresh_are : patch.fresh ≡ fresh change.start place (patched ts patch)
+  pub kept_are : take patch.at ts ++ drop (patch.at + patch.removed) ts ≡ kept change.start (old_place change place) ts

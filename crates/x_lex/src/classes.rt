@@ -3,6 +3,7 @@ ghost use Rattle.std.specs.Prelude.{◌≡◌, ◌≤◌, length};
 ghost use Rattle.std.specs.List.{prefix_len};
 ghost use Rattle.x_lex.specs.Bytes.{is_space, is_digit, is_letter, is_word_byte, is_punct, is_in_line, is_blank};
 
+use crate::Mark;
 use memchr::memchr;
 
 pub(crate) fn is_space(byte: u8) -> bool
@@ -32,10 +33,7 @@ fn is_word_byte(byte: u8) -> bool
 pub(crate) fn is_punct(byte: u8) -> bool
     ensures { result ≡ is_punct byte }
 {
-    matches!(
-        byte,
-        b'{' | b'}' | b'(' | b')' | b'[' | b']' | b'<' | b'>' | b',' | b';' | b':' | b'=' | b'*'
-    )
+    Mark::of(&[byte]).is_some()
 }
 
 /// How many white bytes `rest` begins with.

@@ -1,5 +1,6 @@
 //! Laws of the definitions that the contracts of this crate speak of, each a function that does nothing and ensures the law.
 ghost use Rattle.std.specs.Prelude.{◌≡◌, ℕ, List, ◌↔◌};
+ghost use Rattle.x_text.specs.Edits.{Change, edited_by};
 ghost use Rattle.x_lex.specs.declared.kind.Kind.{Kind};
 ghost use Rattle.x_lex.specs.Tiling.{AreTokens};
 ghost use Rattle.x_lex.specs.TokenList.{TokenPatch};
@@ -23,13 +24,13 @@ pub fn tokens_by_place()
     ensures only { (text : List ℕ) (ls : List Lexeme) → TilesByPlace text ls → (ts : List (Kind × ℕ)) × AreTokens text ts × (ls ≡ lexemes text ts) }
 {}
 
-/// The place from which the tokens of a text hold again behind an edit is determined by the two texts and the edit.
+/// The place from which the tokens of a text hold again behind an edit is determined by the change.
 pub fn one_meeting()
-    ensures { (old new : List ℕ) (ts vs us ws : List (Kind × ℕ)) (a b n p q : ℕ) → AreTokens old ts → AreTokens old vs → AreTokens new us → AreTokens new ws
-        → IsMeeting old new ts us a b n p → IsMeeting old new vs ws a b n q → p ≡ q }
+    ensures { (change : Change) (ts vs us ws : List (Kind × ℕ)) (p q : ℕ) → AreTokens change.old ts → AreTokens change.old vs
+        → AreTokens (edited_by change) us → AreTokens (edited_by change) ws → IsMeeting change ts us p → IsMeeting change vs ws q → p ≡ q }
 {}
 
-/// What an edit does to the tokens of a text is determined by the tokens, the two texts and the edit.
+/// What an edit does to the tokens of a text is determined by the tokens and the change.
 pub fn one_patch()
-    ensures { (old new : List ℕ) (ts : List (Kind × ℕ)) (a b n : ℕ) (p q : TokenPatch) → IsPatch old new ts a b n p → IsPatch old new ts a b n q → p ≡ q }
+    ensures { (change : Change) (ts : List (Kind × ℕ)) (p q : TokenPatch) → IsPatch change ts p → IsPatch change ts q → p ≡ q }
 {}

@@ -2,7 +2,7 @@
 ghost use Rattle.std.specs.Prelude.{◌≡◌, ℕ, ◌+◌, ◌<◌, ◌≤◌, [], length, IfOk, IsOk};
 ghost use Rattle.x_text.specs.declared.source.TheConstants.{MAX_TEXT};
 ghost use Rattle.x_text.specs.Counts.{raised};
-ghost use Rattle.x_text.specs.Edits.{edited, LiesWithin};
+ghost use Rattle.x_text.specs.Edits.{change_of, edited_by, LiesWithin};
 ghost use Rattle.x_lex.specs.Tiling.{AreTokens, span, end_of};
 ghost use Rattle.x_lex.specs.Places.{is_line_start};
 ghost use Rattle.x_lex.specs.TokenList.{patched, IsOfText};
@@ -27,9 +27,9 @@ pub fn relex(
     meter: &mut Meter,
 ) -> Result<Patch, NoMemory>
     requires tokens { AreTokens old.now tokens.now.list }
-    requires within { LiesWithin old.now edit.now.start edit.now.end }
-    requires edited { new.now ≡ edited old.now edit.now.start edit.now.end edit.now.insert.now }
-    ensures patch { IfOk result (λ patch. IsPatch old.now new.now tokens.now.list edit.now.start edit.now.end (length edit.now.insert.now) patch) }
+    requires within { LiesWithin (change_of old.now edit.now) }
+    requires edited { new.now ≡ edited_by (change_of old.now edit.now) }
+    ensures patch { IfOk result (λ patch. IsPatch (change_of old.now edit.now) tokens.now.list patch) }
     ensures of_text { IfOk result (λ patch. IsOfText (patched tokens.now.list patch)) }
     ensures ticks { IfOk result (λ patch. meter.new.lexed ≡ raised meter.old.lexed (length patch.fresh)) }
     ensures no_fewer { meter.old.lexed ≤ meter.new.lexed }
@@ -49,10 +49,10 @@ fn relex_bytes(
     meter: &mut Meter,
 ) -> Result<Patch, NoMemory>
     requires tokens { AreTokens old.now tokens.now.list }
-    requires within { LiesWithin old.now edit.now.start edit.now.end }
-    requires edited { new.now ≡ edited old.now edit.now.start edit.now.end edit.now.insert.now }
+    requires within { LiesWithin (change_of old.now edit.now) }
+    requires edited { new.now ≡ edited_by (change_of old.now edit.now) }
     requires small { length new.now ≤ MAX_TEXT }
-    ensures patch { IfOk result (λ patch. IsPatch old.now new.now tokens.now.list edit.now.start edit.now.end (length edit.now.insert.now) patch) }
+    ensures patch { IfOk result (λ patch. IsPatch (change_of old.now edit.now) tokens.now.list patch) }
     ensures ticks { IfOk result (λ patch. meter.new.lexed ≡ raised meter.old.lexed (length patch.fresh)) }
     ensures no_fewer { meter.old.lexed ≤ meter.new.lexed }
     ensures no_memory { new.now ≡ [] → IsOk result }

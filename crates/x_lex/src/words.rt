@@ -1,47 +1,15 @@
 //! What the spelling of a word says of its kind.
 ghost use Rattle.std.specs.Prelude.{◌≡◌, ◌<◌, length};
-ghost use Rattle.std.specs.List.{list_all, list_any};
-ghost use Rattle.std.specs.Str.{bytes_eq};
+ghost use Rattle.std.specs.List.{list_all};
 ghost use Rattle.x_lex.specs.Bytes.{is_digit, is_octal_digit, is_hex_digit, is_decimal, is_negative, is_octal, is_hex, is_number, is_marker, is_keyword};
 
+use crate::Mark;
 use crate::classes::{blank_len, is_digit};
 
-/// In the order of the alphabet.
-const KEYWORDS: [&[u8]; 21] = [
-    b"bool",
-    b"case",
-    b"const",
-    b"default",
-    b"double",
-    b"enum",
-    b"float",
-    b"hyper",
-    b"int",
-    b"long",
-    b"opaque",
-    b"program",
-    b"quadruple",
-    b"string",
-    b"struct",
-    b"switch",
-    b"typedef",
-    b"union",
-    b"unsigned",
-    b"version",
-    b"void",
-];
-
-fn is_one_of(word: &[u8], table: &[&[u8]]) -> bool
-    ensures { result ≡ list_any (λ entry. bytes_eq entry.now word.now) table.now }
-{
-    table.iter().any(|entry| *entry == word)
-}
-
-#[tactic(auto, unfolding(crate::specs::Bytes::is_keyword))]
 pub(crate) fn is_keyword(word: &[u8]) -> bool
     ensures { result ≡ is_keyword word.now }
 {
-    is_one_of(word, &KEYWORDS)
+    Mark::of(word).is_some()
 }
 
 fn all_digits(word: &[u8]) -> bool

@@ -4,89 +4,136 @@ use Rattle.std.proofs.lemmas.List.{take-append-le, take_rest}
 use Rattle.std.proofs.Math.Seq.{take-append-add, take-add}
 use Rattle.std.specs.Io.KnownBytes.{Appends}
 use Rattle.std.proofs.KnownBytes.{Appends-trans, Appends-nil}
-use Rattle.x_text.specs.Writing.{Inked, counted, HasFront, Writes, Adds}
+use Rattle.x_text.specs.Streams.{Stream}
+use Rattle.x_text.specs.Writing.{Inked, counted, HasAllBut, StopsWithin, Writes, Adds}
 
-pub adds_trans : (p q r : Inked) (a b c : Option (List ℕ)) (f g h : Bool) (xs ys : List ℕ) → Adds p a f q b g xs → Adds q b g r c h ys → Adds p a f r c h (xs ++ ys)
-adds_trans p q r a b c f g h xs ys first second = record {
+pub adds_none : (p : Inked) (now : Stream) → Adds p now p now []
+adds_none p now = record { no_fewer = omega arith; goes_on = λ start text w. subst (λ t. Writes start t p now) (sym (append-nil text)) w }
+
+pub adds_trans : (p q r : Inked) (a b c : Stream) (xs ys : List ℕ) → Adds p a q b xs → Adds q b r c ys → Adds p a r c (xs ++ ys)
+adds_trans p q r a b c xs ys first second = record {
   no_fewer = let m = first.no_fewer in let n = second.no_fewer in omega (arith, m, n);
-  goes_on = λ start text w. subst (λ t. Writes start t r c h) (append_assoc text xs ys) (second.goes_on start (text ++ xs) (first.goes_on start text w));
+  goes_on = λ start text w. subst (λ t. Writes start t r c) (append_assoc text xs ys) (second.goes_on start (text ++ xs) (first.goes_on start text w));
 }
+
+-- a pen that works has written all but what it holds back
+written_so_far : (p : Inked) (start now : Stream) (text : List ℕ) → p.stopped ≡ false → Writes start text p now → HasAllBut start now text p
+written_so_far p start now text e w = on (p.stopped) e w
+  where
+    on : (s : Bool) → s ≡ false → Writes start text (record p { stopped = s }) now → HasAllBut start now text (record p { stopped = s })
+    on true e w = absurd (cc)
+    on false e w = w
+
+pub front_written : (p : Inked) (start now : Stream) (text : List ℕ) → p.stopped ≡ true → Writes start text p now → StopsWithin start now text p.written
+front_written p start now text e w = on (p.stopped) e w
+  where
+    on : (s : Bool) → s ≡ true → Writes start text (record p { stopped = s }) now → StopsWithin start now text p.written
+    on true e w = w
+    on false e w = absurd (cc)
+
+writes_all_but : (p : Inked) (start now : Stream) (text : List ℕ) → p.stopped ≡ false → HasAllBut start now text p → Writes start text p now
+writes_all_but p start now text e h = on (p.stopped) e h
+  where
+    on : (s : Bool) → s ≡ false → HasAllBut start now text (record p { stopped = s }) → Writes start text (record p { stopped = s }) now
+    on true e h = absurd (cc)
+    on false e h = h
+
+writes_front : (p : Inked) (start now : Stream) (text : List ℕ) → p.stopped ≡ true → StopsWithin start now text p.written → Writes start text p now
+writes_front p start now text e h = on (p.stopped) e
+  where
+    on : (s : Bool) → s ≡ true → Writes start text (record p { stopped = s }) now
+    on true e = h
+    on false e = absurd (cc)
 
 -- nothing more goes to a sink that has failed
-front_more : (start now : Option (List ℕ)) (text bytes : List ℕ) (written : ℕ) → HasFront start now text written → HasFront start now (text ++ bytes) written
-front_more start now text bytes written h = record {
-  count = h.count;
-  within = let w = h.within in omega (arith, w, length-append text bytes);
-  taken = subst (λ t. Appends start now t) (sym (take-append-le h.count text bytes h.within)) h.taken;
-  written_is = h.written_is;
+front_more : (start now : Stream) (text bytes : List ℕ) (written : ℕ) → StopsWithin start now text written → StopsWithin start now (text ++ bytes) written
+front_more start now text bytes written h =
+    let front = h.front in
+    record {
+      front = record {
+        count = front.count;
+        within = let w = front.within in omega (arith, w, length-append text bytes);
+        taken = subst (λ t. Appends start.bytes now.bytes t) (sym (take-append-le front.count text bytes front.within)) front.taken;
+        written_is = front.written_is;
+      };
+      failed = h.failed;
+    }
+
+pub stopped_on : (p : Inked) (now : Stream) (bytes : List ℕ) → p.stopped ≡ true → Adds p now p now bytes
+stopped_on p now bytes e = record {
+  no_fewer = omega arith;
+  goes_on = λ start text w. writes_front p start now (text ++ bytes) e (front_more start now text bytes p.written (front_written p start now text e w));
 }
 
-pub stopped_on : (p : Inked) (now : Option (List ℕ)) (failed : Bool) (bytes : List ℕ) → p.stopped ≡ true → Adds p now failed p now failed bytes
-stopped_on p now failed bytes e = record { no_fewer = omega arith; goes_on = λ start text w. back start text (p.stopped) e w }
-  where
-    back : (start : Option (List ℕ)) (text : List ℕ) (s : Bool) → s ≡ true → Writes start text (record p { stopped = s }) now failed → Writes start (text ++ bytes) (record p { stopped = s }) now failed
-    back start text true e w = (front_more start now text bytes p.written w.0, w.1)
-    back start text false e w = absurd (cc)
-
-pub held_on : (p : Inked) (now : Option (List ℕ)) (failed : Bool) (bytes : List ℕ) → p.stopped ≡ false → Adds p now failed (record p { pending = p.pending ++ bytes }) now failed bytes
-held_on p now failed bytes e = record { no_fewer = omega arith; goes_on = λ start text w. on start text (p.stopped) e w }
-  where
-    on : (start : Option (List ℕ)) (text : List ℕ) (s : Bool) → s ≡ false → Writes start text (record p { stopped = s }) now failed → Writes start (text ++ bytes) (record p { stopped = s; pending = p.pending ++ bytes }) now failed
-    on start text true e w = absurd (cc)
-    on start text false e w = record { front = w.front; taken = w.taken; text_is = ap (λ t. t ++ bytes) w.text_is ∙ append_assoc w.front p.pending bytes; written_is = w.written_is }
+pub held_on : (p : Inked) (now : Stream) (bytes : List ℕ) → p.stopped ≡ false → Adds p now (record p { pending = p.pending ++ bytes }) now bytes
+held_on p now bytes e = record {
+  no_fewer = omega arith;
+  goes_on = λ start text w. let h = written_so_far p start now text e w in
+      writes_all_but (record p { pending = p.pending ++ bytes }) start now (text ++ bytes) e (record {
+        front = h.front;
+        taken = h.taken;
+        text_is = ap (λ t. t ++ bytes) h.text_is ∙ append_assoc h.front p.pending bytes;
+        written_is = h.written_is;
+      });
+}
 
 counted_more : (n m : ℕ) → min (counted n + m) (2 ^ 64 - 1) ≡ counted (n + m)
 counted_more n m = omega arith
 
+-- the text that was given, by what the sink took and what it is put next
+given : (p : Inked) (start now : Stream) (text bytes more : List ℕ) → (h : HasAllBut start now text p) → more ≡ p.pending ++ bytes → text ++ bytes ≡ h.front ++ more
+given p start now text bytes more h is = ap (λ t. t ++ bytes) h.text_is ∙ append_assoc h.front p.pending bytes ∙ ap (λ l. h.front ++ l) (sym is)
+
+-- the count after the sink took so many more
+count_more : (p : Inked) (start now : Stream) (text more : List ℕ) (written : ℕ) → (h : HasAllBut start now text p) → written ≡ min (p.written + length more) (2 ^ 64 - 1) → written ≡ counted (length (h.front ++ more))
+count_more p start now text more written h is =
+    is ∙ ap (λ n. min (n + length more) (2 ^ 64 - 1)) h.written_is ∙ counted_more (length h.front) (length more) ∙ ap counted (sym (length-append h.front more))
+
 -- the sink took what was held back, and these bytes
-pub passed_on : (p : Inked) (now now' : Option (List ℕ)) (failed failed' : Bool) (bytes more : List ℕ) (written : ℕ) → p.stopped ≡ false → more ≡ p.pending ++ bytes → Appends now now' more
-    → p.written ≤ written → written ≡ min (p.written + length more) (2 ^ 64 - 1) → (left : List ℕ) → left ≡ [] → (stopped : Bool) → stopped ≡ false → Adds p now failed (record { pending = left; written = written; stopped = stopped }) now' failed' bytes
-passed_on p now now' failed failed' bytes more written e is taken fits count left none stopped goes = record { no_fewer = fits; goes_on = λ start text w. on start text (p.stopped) e stopped goes w }
-  where
-    on : (start : Option (List ℕ)) (text : List ℕ) (s : Bool) → s ≡ false → (t : Bool) → t ≡ false → Writes start text (record p { stopped = s }) now failed → Writes start (text ++ bytes) (record { pending = left; written = written; stopped = t }) now' failed'
-    on start text true e t goes w = absurd (cc)
-    on start text false e true goes w = absurd (cc)
-    on start text false e false goes w = record {
-      front = w.front ++ more;
-      taken = Appends-trans start now now' w.front more w.taken taken;
-      text_is = ap (λ t. t ++ bytes) w.text_is ∙ append_assoc w.front p.pending bytes ∙ ap (λ l. w.front ++ l) (sym is) ∙ sym (append-nil (w.front ++ more)) ∙ ap (λ l. (w.front ++ more) ++ l) (sym none);
-      written_is = count ∙ ap (λ n. min (n + length more) (2 ^ 64 - 1)) w.written_is ∙ counted_more (length w.front) (length more) ∙ ap counted (sym (length-append w.front more));
-    }
+pub passed_on : (p q : Inked) (now now' : Stream) (bytes more : List ℕ) → p.stopped ≡ false → q.stopped ≡ false → q.pending ≡ [] → more ≡ p.pending ++ bytes
+    → Appends now.bytes now'.bytes more → p.written ≤ q.written → q.written ≡ min (p.written + length more) (2 ^ 64 - 1) → Adds p now q now' bytes
+passed_on p q now now' bytes more e goes none is taken fits count = record {
+  no_fewer = fits;
+  goes_on = λ start text w. let h = written_so_far p start now text e w in
+      writes_all_but q start now' (text ++ bytes) goes (record {
+        front = h.front ++ more;
+        taken = Appends-trans start.bytes now.bytes now'.bytes h.front more h.taken taken;
+        text_is = given p start now text bytes more h is ∙ sym (append-nil (h.front ++ more)) ∙ ap (λ l. (h.front ++ more) ++ l) (sym none);
+        written_is = count_more p start now text more q.written h count;
+      });
+}
 
 -- the sink took the first n of what was held back and these bytes, and failed
-pub stopped_at : (p : Inked) (now now' : Option (List ℕ)) (failed failed' : Bool) (bytes more pending : List ℕ) (written n : ℕ) → p.stopped ≡ false → more ≡ p.pending ++ bytes → n ≤ length more
-    → Appends now now' (take n more) → p.written ≤ written → written ≡ min (p.written + n) (2 ^ 64 - 1) → failed' ≡ true
-    → Adds p now failed (record { pending = pending; written = written; stopped = true }) now' failed' bytes
-stopped_at p now now' failed failed' bytes more pending written n e is le taken fits count fails = record { no_fewer = fits; goes_on = λ start text w. on start text (p.stopped) e w }
-  where
-    on : (start : Option (List ℕ)) (text : List ℕ) (s : Bool) → s ≡ false → Writes start text (record p { stopped = s }) now failed → Writes start (text ++ bytes) (record { pending = pending; written = written; stopped = true }) now' failed'
-    on start text true e w = absurd (cc)
-    on start text false e w =
-        let text_is : text ++ bytes ≡ w.front ++ more = ap (λ t. t ++ bytes) w.text_is ∙ append_assoc w.front p.pending bytes ∙ ap (λ l. w.front ++ l) (sym is) in
-        let cut : take (length w.front + n) (text ++ bytes) ≡ w.front ++ take n more = ap (take (length w.front + n)) text_is ∙ take-append-add w.front more n in (
-          record {
-            count = length w.front + n;
-            within = omega (arith, le, ap length text_is, length-append w.front more);
-            taken = subst (λ t. Appends start now' t) (sym cut) (Appends-trans start now now' w.front (take n more) w.taken taken);
-            written_is = count ∙ ap (λ m. min (m + n) (2 ^ 64 - 1)) w.written_is ∙ counted_more (length w.front) n;
-          },
-          fails,
-        )
+pub stopped_at : (p q : Inked) (now now' : Stream) (bytes more : List ℕ) (n : ℕ) → p.stopped ≡ false → q.stopped ≡ true → more ≡ p.pending ++ bytes → n ≤ length more
+    → Appends now.bytes now'.bytes (take n more) → p.written ≤ q.written → q.written ≡ min (p.written + n) (2 ^ 64 - 1) → now'.failed ≡ true → Adds p now q now' bytes
+stopped_at p q now now' bytes more n e stops is le taken fits count fails = record {
+  no_fewer = fits;
+  goes_on = λ start text w.
+      let h = written_so_far p start now text e w in
+      let text_is = given p start now text bytes more h is in
+      let cut : take (length h.front + n) (text ++ bytes) ≡ h.front ++ take n more = ap (take (length h.front + n)) text_is ∙ take-append-add h.front more n in
+      writes_front q start now' (text ++ bytes) stops (record {
+        front = record {
+          count = length h.front + n;
+          within = omega (arith, le, ap length text_is, length-append h.front more);
+          taken = subst (λ t. Appends start.bytes now'.bytes t) (sym cut) (Appends-trans start.bytes now.bytes now'.bytes h.front (take n more) h.taken taken);
+          written_is = count ∙ ap (λ m. min (m + n) (2 ^ 64 - 1)) h.written_is ∙ counted_more (length h.front) n;
+        };
+        failed = fails;
+      });
+}
 
 -- the end: nothing is held back
-pub all_written : (p : Inked) (start now : Option (List ℕ)) (text : List ℕ) (failed : Bool) → p.stopped ≡ false → p.pending ≡ [] → Writes start text p now failed → Appends start now text
-all_written p start now text failed e empty w = on (p.stopped) e w
-  where
-    on : (s : Bool) → s ≡ false → Writes start text (record p { stopped = s }) now failed → Appends start now text
-    on true e w = absurd (cc)
-    on false e w = subst (λ t. Appends start now t) (sym (w.text_is ∙ ap (λ l. w.front ++ l) empty ∙ append-nil w.front)) w.taken
+pub all_written : (p : Inked) (start now : Stream) (text : List ℕ) → p.stopped ≡ false → p.pending ≡ [] → Writes start text p now → Appends start.bytes now.bytes text
+all_written p start now text e empty w =
+    let h = written_so_far p start now text e w in
+    subst (λ t. Appends start.bytes now.bytes t) (sym (h.text_is ∙ ap (λ l. h.front ++ l) empty ∙ append-nil h.front)) h.taken
 
-pub front_written : (p : Inked) (start now : Option (List ℕ)) (text : List ℕ) (failed : Bool) → p.stopped ≡ true → Writes start text p now failed → HasFront start now text p.written × (failed ≡ true)
-front_written p start now text failed e w = on (p.stopped) e w
-  where
-    on : (s : Bool) → s ≡ true → Writes start text (record p { stopped = s }) now failed → HasFront start now text p.written × (failed ≡ true)
-    on true e w = w
-    on false e w = absurd (cc)
+-- a pen that holds nothing back has counted all that was written
+pub counted_all : (p : Inked) (start now : Stream) (text : List ℕ) → p.stopped ≡ false → p.pending ≡ [] → Writes start text p now → p.written ≡ counted (length text)
+counted_all p start now text e empty w =
+    let h = written_so_far p start now text e w in
+    h.written_is ∙ ap (λ t. counted (length t)) (sym (h.text_is ∙ ap (λ l. h.front ++ l) empty ∙ append-nil h.front))
 
 -- one put more
 pub put_more : (old mid new : Option (List ℕ)) (bytes : List ℕ) (done count : ℕ) → Appends old mid (take done bytes) → Appends mid new (take count (take (length bytes - done) (drop done bytes)))
@@ -96,5 +143,5 @@ put_more old mid new bytes done count first second =
     subst (λ l. Appends old new l) (sym (take-add done count bytes)) (Appends-trans old mid new (take done bytes) (take count (drop done bytes)) first rest)
 
 -- a pen that was given nothing
-pub writes_none : (start : Option (List ℕ)) (failed : Bool) → Writes start [] (record { pending = []; written = 0; stopped = false }) start failed
-writes_none start failed = record { front = []; taken = Appends-nil start; text_is = refl; written_is = refl }
+pub writes_none : (start : Stream) → Writes start [] (record { pending = []; written = 0; stopped = false }) start
+writes_none start = record { front = []; taken = Appends-nil start.bytes; text_is = refl; written_is = refl }

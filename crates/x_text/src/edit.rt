@@ -1,5 +1,5 @@
 ghost use Rattle.std.specs.Prelude.{◌≡◌, ◌+◌, ◌-◌, ◌≤◌, ◌++◌, IfOk, length, take, drop, vec_len, vec_capacity};
-ghost use Rattle.x_text.specs.Edits.{edited, LiesWithin};
+ghost use Rattle.x_text.specs.Edits.{change_of, edited_by, LiesWithin};
 
 use crate::NoMemory;
 use std::alloc::Global;
@@ -15,8 +15,8 @@ pub struct Edit<'e> {
 
 /// The bytes that the edit leaves of these.
 pub(crate) fn edited(alloc: Global, bytes: &[u8], edit: &Edit) -> Result<Vec<u8>, NoMemory>
-    requires within { LiesWithin bytes.now edit.now.start edit.now.end }
-    ensures { IfOk result (λ left. left.items ≡ edited bytes.now edit.now.start edit.now.end edit.now.insert.now) }
+    requires within { LiesWithin (change_of bytes.now edit.now) }
+    ensures { IfOk result (λ left. left.items ≡ edited_by (change_of bytes.now edit.now)) }
 {
     let length = bytes.len() - (edit.end - edit.start);
     let mut left = Vec::with_capacity(alloc, length.saturating_add(edit.insert.len()))?;
@@ -27,11 +27,10 @@ pub(crate) fn edited(alloc: Global, bytes: &[u8], edit: &Edit) -> Result<Vec<u8>
 }
 
 /// Carries the edit out where there is room for the text that it leaves, and takes no memory.
-#[tactic(auto, using(crate::proofs::Edits::closed))]
 pub(crate) fn edit_in_room(bytes: &mut Vec<u8>, edit: &Edit)
-    requires within { LiesWithin bytes.old.items edit.now.start edit.now.end }
+    requires within { LiesWithin (change_of bytes.old.items edit.now) }
     requires room { vec_len bytes.old + length edit.now.insert.now ≤ vec_capacity bytes.old + (edit.now.end - edit.now.start) }
-    ensures { bytes.new.items ≡ edited bytes.old.items edit.now.start edit.now.end edit.now.insert.now }
+    ensures { bytes.new.items ≡ edited_by (change_of bytes.old.items edit.now) }
 {
     // First bytes are written over others. Then there is a gap to close, or there are bytes left to insert, or neither.
     let over = edit.insert.len().min(edit.end - edit.start);
@@ -48,7 +47,7 @@ pub(crate) fn edit_in_room(bytes: &mut Vec<u8>, edit: &Edit)
 /// Writes these bytes over as many others.
 fn write_over(bytes: &mut Vec<u8>, at: usize, front: &[u8])
     requires { at + length front.now ≤ vec_len bytes.old }
-    ensures items { bytes.new.items ≡ edited bytes.old.items at (at + length front.now) front.now }
+    ensures items { bytes.new.items ≡ take at bytes.old.items ++ front.now ++ drop (at + length front.now) bytes.old.items }
     ensures capacity { vec_capacity bytes.new ≡ vec_capacity bytes.old }
 {
     bytes[at..at + front.len()].copy_from_slice(front);
@@ -69,7 +68,7 @@ fn close_gap(bytes: &mut Vec<u8>, at: usize, end: usize)
 fn insert_in_room(bytes: &mut Vec<u8>, at: usize, more: &[u8])
     requires within { at ≤ vec_len bytes.old }
     requires room { vec_len bytes.old + length more.now ≤ vec_capacity bytes.old }
-    ensures { bytes.new.items ≡ edited bytes.old.items at at more.now }
+    ensures { bytes.new.items ≡ take at bytes.old.items ++ more.now ++ drop at bytes.old.items }
 {
     bytes.extend_from_slice(more).unwrap();
     bytes[at..].rotate_right(more.len());

@@ -13,8 +13,7 @@ pub struct In<R> {
 impl<R: Read> In<R> {
     /// A tap over the reader, which hasn't failed.
     pub fn new(reader: R) -> In<R>
-        ensures remaining { ⟦<In<R> as Tap>⟧.remaining result ≡ R.remaining reader }
-        ensures has_failed { ⟦<In<R> as Tap>⟧.has_failed result ≡ false }
+        ensures { ⟦<In<R> as Tap>⟧.state result ≡ record { bytes = R.remaining reader; failed = false } }
     {
         In {
             reader,
@@ -24,9 +23,7 @@ impl<R: Read> In<R> {
 }
 
 impl<R: Read> Tap for In<R> {
-    ghost remaining = { λ t. R.remaining t.reader };
-
-    ghost has_failed = { λ t. t.failed };
+    ghost state = { λ t. record { bytes = R.remaining t.reader; failed = t.failed } };
 
     fn take(&mut self, buffer: &mut [u8]) -> Result<usize, Broken> {
         if self.failed {

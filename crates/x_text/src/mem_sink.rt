@@ -1,6 +1,7 @@
-ghost use Rattle.std.specs.Prelude.{◌≡◌, ◌↔◌, ◌+◌, ◌<◌, ◌≤◌, [], Some, false, min, length, IfOk, MatchResult, IsTrue, IsErr, is_err};
-ghost use Rattle.std.specs.Io.KnownBytes.{WriteAppends, Keeps};
-ghost use Rattle.x_text.specs.Memory.{share, Fails};
+ghost use Rattle.std.specs.Prelude.{◌≡◌, ◌↔◌, ◌+◌, ◌<◌, [], false, min, length, IfOk, MatchResult, IsErr};
+ghost use Rattle.std.specs.Io.KnownBytes.{Keeps};
+ghost use Rattle.x_text.specs.Memory.{in_memory, share, Fails};
+ghost use Rattle.x_text.specs.Streams.{FailsForGood, Puts};
 
 use crate::{Broken, Sink};
 use std::marker::Model;
@@ -32,8 +33,7 @@ impl<'b> MemSink<'b> {
     pub fn new(bytes: &'b mut [u8], most: usize, left: usize) -> MemSink<'b>
         requires { 0 < most }
         ensures state { result ≡ record { bytes = []; most = most; left = min left (length bytes.old); failed = false } }
-        ensures contents { ⟦<MemSink<'b> as Sink>⟧.contents result ≡ Some [] }
-        ensures has_failed { ⟦<MemSink<'b> as Sink>⟧.has_failed result ≡ false }
+        ensures sink { ⟦<MemSink<'b> as Sink>⟧.state result ≡ in_memory result }
     {
         let left = left.min(bytes.len());
         MemSink {
@@ -48,28 +48,21 @@ impl<'b> MemSink<'b> {
     /// The bytes that it took.
     pub fn bytes(&self) -> &[u8]
         ensures taken { result.now ≡ self.now.bytes }
-        ensures contents { ⟦<MemSink<'b> as Sink>⟧.contents self.now ≡ Some result.now }
+        ensures sink { ⟦<MemSink<'b> as Sink>⟧.state self.now ≡ in_memory self.now }
     {
         &self.bytes[..self.used]
     }
 }
 
 impl Sink for MemSink<'_> {
-    ghost use Rattle.std.specs.Prelude.{Some};
-
-    ghost contents = { λ s. Some s.bytes };
-
-    ghost has_failed = { λ s. s.failed };
+    ghost state = { in_memory };
 
     fn put(&mut self, bytes: &[u8]) -> Result<usize, Broken>
-        ensures taken { WriteAppends (Some self.old.bytes) (Some self.new.bytes) result bytes.now }
-        ensures within { IfOk result (λ n. n ≤ length bytes.now) }
-        ensures some { IfOk result (λ n. 0 < length bytes.now → 0 < n) }
-        ensures failed { self.new.failed ≡ is_err result }
-        ensures for_good { IsTrue self.old.failed → IsErr result }
+        ensures taken { Puts (in_memory self.old) (in_memory self.new) result bytes.now }
+        ensures fails { FailsForGood (in_memory self.old) (in_memory self.new) result }
 
         ensures count { IfOk result (λ n. n ≡ share self.old (length bytes.now)) }
-        ensures fails { IsErr result ↔ Fails self.old (length bytes.now) }
+        ensures refuses { IsErr result ↔ Fails self.old (length bytes.now) }
         ensures left { MatchResult result (λ n. self.new.left + n ≡ self.old.left) (λ _. self.new.left ≡ self.old.left) }
         ensures most { self.new.most ≡ self.old.most }
     {
@@ -85,9 +78,8 @@ impl Sink for MemSink<'_> {
     }
 
     fn flush(&mut self) -> Result<(), Broken>
-        ensures same { Keeps (Some self.old.bytes) (Some self.new.bytes) }
-        ensures failed { self.new.failed ≡ is_err result }
-        ensures for_good { IsTrue self.old.failed → IsErr result }
+        ensures same { Keeps (in_memory self.old).bytes (in_memory self.new).bytes }
+        ensures fails { FailsForGood (in_memory self.old) (in_memory self.new) result }
 
         ensures unchanged { self.new ≡ self.old }
     {

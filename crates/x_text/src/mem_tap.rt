@@ -1,6 +1,6 @@
-ghost use Rattle.std.specs.Prelude.{◌≡◌, ◌↔◌, ◌+◌, ◌<◌, ◌≤◌, Some, false, min, length, IfOk, MatchResult, IsTrue, IsErr, is_err};
-ghost use Rattle.std.specs.Io.KnownBytes.{ReadConsumes};
-ghost use Rattle.x_text.specs.Memory.{share, Fails};
+ghost use Rattle.std.specs.Prelude.{◌≡◌, ◌↔◌, ◌+◌, ◌<◌, false, min, length, IfOk, MatchResult, IsErr};
+ghost use Rattle.x_text.specs.Memory.{in_memory, share, Fails};
+ghost use Rattle.x_text.specs.Streams.{FailsForGood, Takes};
 
 use crate::{Broken, Tap};
 use std::marker::Model;
@@ -31,8 +31,7 @@ impl<'b> MemTap<'b> {
     pub fn new(bytes: &'b [u8], most: usize, left: usize) -> MemTap<'b>
         requires { 0 < most }
         ensures state { result ≡ record { bytes = bytes.now; most = most; left = left; failed = false } }
-        ensures remaining { ⟦<MemTap<'b> as Tap>⟧.remaining result ≡ Some bytes.now }
-        ensures has_failed { ⟦<MemTap<'b> as Tap>⟧.has_failed result ≡ false }
+        ensures tap { ⟦<MemTap<'b> as Tap>⟧.state result ≡ in_memory result }
     {
         MemTap {
             bytes,
@@ -44,20 +43,14 @@ impl<'b> MemTap<'b> {
 }
 
 impl Tap for MemTap<'_> {
-    ghost use Rattle.std.specs.Prelude.{Some};
-
-    ghost remaining = { λ t. Some t.bytes };
-
-    ghost has_failed = { λ t. t.failed };
+    ghost state = { in_memory };
 
     fn take(&mut self, buffer: &mut [u8]) -> Result<usize, Broken>
-        ensures taken { ReadConsumes (Some self.old.bytes) (Some self.new.bytes) result buffer.new }
-        ensures within { IfOk result (λ n. n ≤ length buffer.new) }
-        ensures failed { self.new.failed ≡ is_err result }
-        ensures for_good { IsTrue self.old.failed → IsErr result }
+        ensures taken { Takes (in_memory self.old) (in_memory self.new) result buffer.new }
+        ensures fails { FailsForGood (in_memory self.old) (in_memory self.new) result }
 
         ensures count { IfOk result (λ n. n ≡ share self.old (min (length buffer.old) (length self.old.bytes))) }
-        ensures fails { IsErr result ↔ Fails self.old (length buffer.old) }
+        ensures refuses { IsErr result ↔ Fails self.old (length buffer.old) }
         ensures left { MatchResult result (λ n. self.new.left + n ≡ self.old.left) (λ _. self.new.left ≡ self.old.left) }
         ensures most { self.new.most ≡ self.old.most }
     {

@@ -15,8 +15,7 @@ pub struct Out<W> {
 impl<W: Write> Out<W> {
     /// A sink over the writer, which hasn't failed.
     pub fn new(writer: W) -> Out<W>
-        ensures contents { ⟦<Out<W> as Sink>⟧.contents result ≡ W.contents writer }
-        ensures has_failed { ⟦<Out<W> as Sink>⟧.has_failed result ≡ false }
+        ensures { ⟦<Out<W> as Sink>⟧.state result ≡ record { bytes = W.contents writer; failed = false } }
     {
         Out {
             writer,
@@ -26,9 +25,7 @@ impl<W: Write> Out<W> {
 }
 
 impl<W: Write> Sink for Out<W> {
-    ghost contents = { λ s. W.contents s.writer };
-
-    ghost has_failed = { λ s. s.failed };
+    ghost state = { λ s. record { bytes = W.contents s.writer; failed = s.failed } };
 
     fn put(&mut self, bytes: &[u8]) -> Result<usize, Broken> {
         if self.failed {

@@ -1,6 +1,7 @@
-ghost use Rattle.std.specs.Prelude.{◌≡◌, ◌≤◌, [], false, Bool, ℕ, List, Option, IsTrue, OnOk, IfErr, take, length};
+ghost use Rattle.std.specs.Prelude.{◌≡◌, ◌≤◌, [], false, ℕ, List, IsTrue, OnOk, IfErr, take, length};
 ghost use Rattle.std.specs.Io.KnownBytes.{Appends};
 ghost use Rattle.x_text.specs.Counts.{raised};
+ghost use Rattle.x_text.specs.Streams.{Stream};
 ghost use Rattle.x_text.specs.Writing.{Writes, Adds, IsWritten};
 
 use crate::Sink;
@@ -51,7 +52,7 @@ impl Pen {
 
     /// Writes these bytes, some of them perhaps later.
     pub fn add<S: Sink>(&mut self, bytes: &[u8], sink: &mut S)
-        ensures { Adds self.old (S.contents sink.old) (S.has_failed sink.old) self.new (S.contents sink.new) (S.has_failed sink.new) bytes.now }
+        ensures { Adds self.old (S.state sink.old) self.new (S.state sink.new) bytes.now }
     {
         if self.holds(bytes) {
             return;
@@ -65,7 +66,7 @@ impl Pen {
 
     /// Holds the bytes back if there is room for them, or if nothing more goes to the sink, and answers whether it does.
     fn holds(&mut self, bytes: &[u8]) -> bool
-        ensures holds { IsTrue result → (now : Option (List ℕ)) (failed : Bool) → Adds self.old now failed self.new now failed bytes.now }
+        ensures holds { IsTrue result → (now : Stream) → Adds self.old now self.new now bytes.now }
         ensures same { result ≡ false → self.new ≡ self.old }
         ensures goes_on { result ≡ false → self.new.stopped ≡ false }
     {
@@ -74,7 +75,7 @@ impl Pen {
 
     /// Writes what is held back.
     fn pass_on<S: Sink>(&mut self, sink: &mut S)
-        ensures adds { Adds self.old (S.contents sink.old) (S.has_failed sink.old) self.new (S.contents sink.new) (S.has_failed sink.new) [] }
+        ensures adds { Adds self.old (S.state sink.old) self.new (S.state sink.new) [] }
         ensures empty { self.new.stopped ≡ false → self.new.pending ≡ [] }
     {
         if self.stopped {
@@ -96,7 +97,7 @@ impl Pen {
     fn write_through<S: Sink>(&mut self, bytes: &[u8], sink: &mut S)
         requires empty { self.old.pending ≡ [] }
         requires goes_on { self.old.stopped ≡ false }
-        ensures { Adds self.old (S.contents sink.old) (S.has_failed sink.old) self.new (S.contents sink.new) (S.has_failed sink.new) bytes.now }
+        ensures { Adds self.old (S.state sink.old) self.new (S.state sink.new) bytes.now }
     {
         match put_all(bytes, sink) {
             Ok(()) => self.written = raised(self.written, bytes.len()),
@@ -109,9 +110,9 @@ impl Pen {
 
     /// Writes what was held back, and has the sink pass it on.
     pub fn flush<S: Sink>(&mut self, sink: &mut S)
-        ensures adds { Adds self.old (S.contents sink.old) (S.has_failed sink.old) self.new (S.contents sink.new) (S.has_failed sink.new) [] }
+        ensures adds { Adds self.old (S.state sink.old) self.new (S.state sink.new) [] }
         ensures empty { self.new.stopped ≡ false → self.new.pending ≡ [] }
-        ensures working { self.new.stopped ≡ false → S.has_failed sink.new ≡ false }
+        ensures working { self.new.stopped ≡ false → (S.state sink.new).failed ≡ false }
     {
         self.pass_on(sink);
         if !self.stopped {
@@ -135,8 +136,7 @@ impl Pen {
 
     /// Writes what was held back.
     pub fn finish<S: Sink>(self, sink: &mut S) -> Result<(), WriteFault>
-        ensures { (start : Option (List ℕ)) (text : List ℕ) → Writes start text self (S.contents sink.old) (S.has_failed sink.old) →
-            IsWritten result start (S.contents sink.new) (S.has_failed sink.new) text }
+        ensures { (start : Stream) (text : List ℕ) → Writes start text self (S.state sink.old) → IsWritten result start (S.state sink.new) text }
     {
         let mut pen = self;
         pen.pass_on(sink);
@@ -160,10 +160,10 @@ fn raised(count: u64, more: usize) -> u64
 
 /// Puts all the bytes, or answers how many the sink took before it failed.
 fn put_all<S: Sink>(bytes: &[u8], sink: &mut S) -> Result<(), usize>
-    ensures all { OnOk result (Appends (S.contents sink.old) (S.contents sink.new) bytes.now) }
-    ensures front { IfErr result (λ taken. Appends (S.contents sink.old) (S.contents sink.new) (take taken bytes.now)) }
+    ensures all { OnOk result (Appends (S.state sink.old).bytes (S.state sink.new).bytes bytes.now) }
+    ensures front { IfErr result (λ taken. Appends (S.state sink.old).bytes (S.state sink.new).bytes (take taken bytes.now)) }
     ensures within { IfErr result (λ taken. taken ≤ length bytes.now) }
-    ensures failed { IfErr result (λ _. IsTrue (S.has_failed sink.new)) }
+    ensures failed { IfErr result (λ _. IsTrue (S.state sink.new).failed) }
 {
     let mut done = 0;
     while done < bytes.len() {

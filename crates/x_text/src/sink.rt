@@ -1,5 +1,5 @@
-ghost use Rattle.std.specs.Prelude.{◌≡◌, ◌<◌, ◌≤◌, ℕ, List, Option, Bool, IsTrue, IfOk, IsErr, is_err, length};
-ghost use Rattle.std.specs.Io.KnownBytes.{WriteAppends, Keeps};
+ghost use Rattle.x_text.specs.Streams.{Stream, FailsForGood, Puts};
+ghost use Rattle.std.specs.Io.KnownBytes.{Keeps};
 
 use thiserror::Error;
 
@@ -10,25 +10,18 @@ pub struct Broken;
 
 /// Where text goes.
 pub trait Sink {
-    /// The bytes that it holds, where it tells them.
-    ghost contents: { Self → Option (List ℕ) };
-
-    /// Whether it has failed.
-    ghost has_failed: { Self → Bool };
+    /// The bytes that it holds, where it tells them, and whether it has failed.
+    ghost state: { Self → Stream };
 
     /// Takes bytes from the front of these, at least one where there is one, and answers how many.
     ///
     /// After `Err` none was taken, and the sink has failed for good.
     fn put(&mut self, bytes: &[u8]) -> Result<usize, Broken>
-        ensures taken { WriteAppends (contents self.old) (contents self.new) result bytes.now }
-        ensures within { IfOk result (λ n. n ≤ length bytes.now) }
-        ensures some { IfOk result (λ n. 0 < length bytes.now → 0 < n) }
-        ensures failed { has_failed self.new ≡ is_err result }
-        ensures for_good { IsTrue (has_failed self.old) → IsErr result };
+        ensures taken { Puts (state self.old) (state self.new) result bytes.now }
+        ensures fails { FailsForGood (state self.old) (state self.new) result };
 
     /// Passes on what it holds back, if it does that. After `Err` it has failed for good.
     fn flush(&mut self) -> Result<(), Broken>
-        ensures same { Keeps (contents self.old) (contents self.new) }
-        ensures failed { has_failed self.new ≡ is_err result }
-        ensures for_good { IsTrue (has_failed self.old) → IsErr result };
+        ensures same { Keeps (state self.old).bytes (state self.new).bytes }
+        ensures fails { FailsForGood (state self.old) (state self.new) result };
 }

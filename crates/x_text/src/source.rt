@@ -1,5 +1,5 @@
 ghost use Rattle.std.specs.Prelude.{◌≡◌, ◌↔◌, ◌<◌, ◌≤◌, [], length, IfOk, OnOk, OnErr, IsErrOf};
-ghost use Rattle.x_text.specs.Edits.{edited, LiesWithin};
+ghost use Rattle.x_text.specs.Edits.{change_of, edited_by, Judges};
 ghost use Rattle.x_text.specs.Text.{line_of, column_of};
 
 use crate::edit::{edit_in_room, edited};
@@ -63,10 +63,8 @@ impl Source {
     /// Carries an edit out: [`TextFault::BadRange`] where its range does not lie within the text, and [`TextFault::TooLarge`]
     /// where the text would have more than [`MAX_TEXT`] bytes, which take no memory. After a fault the text is as before.
     pub fn replace(&mut self, edit: &Edit) -> Result<(), TextFault>
-        ensures text { OnOk result (self.new ≡ edited self.old edit.now.start edit.now.end edit.now.insert.now) }
-        ensures bad_range { IsErrOf result TextFault.BadRange ↔ ¬ (LiesWithin self.old edit.now.start edit.now.end) }
-        ensures too_large { IsErrOf result TextFault.TooLarge ↔
-            (LiesWithin self.old edit.now.start edit.now.end × (MAX_TEXT < length (edited self.old edit.now.start edit.now.end edit.now.insert.now))) }
+        ensures text { OnOk result (self.new ≡ edited_by (change_of self.old edit.now)) }
+        ensures fault { Judges (change_of self.old edit.now) result }
         ensures err { OnErr result (self.new ≡ self.old) }
     {
         self.accepts(edit)?;
@@ -80,12 +78,8 @@ impl Source {
 
     /// The text that an edit would leave, with the faults of [`Source::replace`].
     pub fn edited(&self, alloc: Global, edit: &Edit) -> Result<Source, TextFault>
-        ensures text { IfOk result (λ s. s ≡ edited self.now edit.now.start edit.now.end edit.now.insert.now) }
-        ensures fits { OnOk result (LiesWithin self.now edit.now.start edit.now.end
-            × (length (edited self.now edit.now.start edit.now.end edit.now.insert.now) ≤ MAX_TEXT)) }
-        ensures bad_range { IsErrOf result TextFault.BadRange ↔ ¬ (LiesWithin self.now edit.now.start edit.now.end) }
-        ensures too_large { IsErrOf result TextFault.TooLarge ↔
-            (LiesWithin self.now edit.now.start edit.now.end × (MAX_TEXT < length (edited self.now edit.now.start edit.now.end edit.now.insert.now))) }
+        ensures text { IfOk result (λ s. s ≡ edited_by (change_of self.now edit.now)) }
+        ensures fault { Judges (change_of self.now edit.now) result }
     {
         self.accepts(edit)?;
         match edited(alloc, &self.bytes, edit) {
@@ -96,11 +90,7 @@ impl Source {
 
     /// Whether the range of an edit lies within the text and the text that it leaves is not too large.
     fn accepts(&self, edit: &Edit) -> Result<(), TextFault>
-        ensures fits { OnOk result (LiesWithin self.now edit.now.start edit.now.end
-            × (length (edited self.now edit.now.start edit.now.end edit.now.insert.now) ≤ MAX_TEXT)) }
-        ensures bad_range { IsErrOf result TextFault.BadRange ↔ ¬ (LiesWithin self.now edit.now.start edit.now.end) }
-        ensures too_large { IsErrOf result TextFault.TooLarge ↔
-            (LiesWithin self.now edit.now.start edit.now.end × (MAX_TEXT < length (edited self.now edit.now.start edit.now.end edit.now.insert.now))) }
+        ensures fault { Judges (change_of self.now edit.now) result }
         ensures no_memory { IsErrOf result TextFault.NoMemory → ⊥ }
     {
         if edit.start > edit.end || edit.end > self.bytes.len() {

@@ -53,5 +53,5 @@ impl Cutter {
 fn is_punct(kind: Kind, text: &[u8], byte: u8) -> bool
     ensures { result ≡ is_punct byte kind text.now }
 {
-    kind == Kind::Punct && text == [byte].as_slice()
+    kind == Kind::Punct && matches!(text, [only] if *only == byte)
 }

@@ -2,12 +2,13 @@
 ghost use Rattle.std.specs.Prelude.{◌≡◌, ◌+◌, ◌-◌, ◌<◌, ◌≤◌, ◌∷◌, ◌↔◌, [], All, IfOk, cond, length, drop};
 ghost use Rattle.std.specs.Prelude.{slice_get};
 ghost use Rattle.x_text.specs.declared.source.TheConstants.{MAX_TEXT};
+ghost use Rattle.x_text.specs.Edits.{Change};
 ghost use Rattle.x_lex.specs.Tiling.{AreTokens, end_of};
 ghost use Rattle.x_lex.specs.TokenList.{patched, LiesAmong, IsOfText};
 ghost use Rattle.x_item.specs.ItemList.{AreOfText, counts};
 ghost use Rattle.x_item.specs.ItemList as lists;
 ghost use Rattle.x_item.specs.Cutting.{roles, counts_from};
-ghost use Rattle.x_item.specs.Recut.{Change, IsRelexed, AreRelexed, IsItemPatch};
+ghost use Rattle.x_item.specs.Recut.{IsRelexed, AreRelexed, IsItemPatch};
 
 use super::cutter::Cutter;
 use super::{Entry, ItemPatch, Items};
@@ -28,7 +29,7 @@ pub fn recut<K: Default + Drop>(
 ) -> Result<ItemPatch<K>, NoMemory>
     requires { AreRelexed new.now tokens.now.list (counts items.now.list) patch.now }
     ensures patch { IfOk result (λ fresh. (change : Change) → IsRelexed change new.now tokens.now.list
-        (counts items.now.list) patch.now → IsItemPatch change new.now tokens.now.list
+        (counts items.now.list) patch.now → IsItemPatch change tokens.now.list
         (patched tokens.now.list patch.now) items.now.list fresh) }
     ensures among { IfOk result (λ fresh. lists.LiesAmong items.now.list fresh) }
     ensures of_text { IfOk result (λ fresh. AreOfText (counts (lists.patched items.now.list fresh))) }

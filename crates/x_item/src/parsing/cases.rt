@@ -9,11 +9,11 @@ ghost use Rattle.x_item.specs.Symbols.{Token as OfMark, AnyValue, Declared, Afte
 ghost use Rattle.x_item.specs.Reading.{IsRead, Fails};
 
 use super::ParseError;
+use super::ending::Ending;
 use super::words::{expect, first, is_mark, value};
-use crate::mark::{Ending, Mark};
 use crate::trees::Value;
 use std::alloc::Global;
-use x_lex::Token;
+use x_lex::{Mark, Token};
 
 /// Reads the values of an arm after its first `case`, each with its `:`.
 pub fn cases<'w, 't>(

@@ -18,12 +18,12 @@ ghost use Rattle.x_item.specs.Reading.{IsRead, IsPart, Fails, spell_ended, spell
 use super::ParseError;
 use super::cases::cases;
 use super::declarator::{array_length, most, named};
+use super::ending::Ending;
 use super::enumerators::enumerators;
 use super::words::{Word, closed, expect, first, is_mark, name, stuck_at};
-use crate::mark::{Ending, Mark};
 use crate::trees::{Arm, Basic, Body, DataType, Declaration, Tag, inline, struct_body, union_body};
 use std::alloc::Global;
-use x_lex::Token;
+use x_lex::{Mark, Token};
 
 /// Reads a type.
 #[cycle(parser)]

@@ -9,11 +9,11 @@ ghost use Rattle.x_item.specs.Symbols.{ending_mark};
 ghost use Rattle.x_item.specs.Reading.{IsRead, IsPart, Fails};
 
 use super::ParseError;
+use super::ending::Ending;
 use super::words::{expect, first, is_mark, name, value};
-use crate::mark::{Ending, Mark};
 use crate::trees::{Length, Shape, Value};
 use std::alloc::Global;
-use x_lex::Token;
+use x_lex::{Mark, Token};
 
 /// Reads what stands between `<` and `>`, and the `>`.
 pub fn most<'w, 't>(

@@ -10,12 +10,12 @@ ghost use Rattle.x_item.specs.Reading.{IsRead, Fails};
 
 use super::ParseError;
 use super::declaration::{body, declared};
+use super::ending::Ending;
 use super::program::{numbered, versions};
 use super::words::{Word, closed, expect, first, name, stuck_at, value};
-use crate::mark::{Ending, Mark};
 use crate::trees::{Definition, Tag};
 use std::alloc::Global;
-use x_lex::Token;
+use x_lex::{Mark, Token};
 
 /// Reads a definition.
 pub fn definition<'w, 't>(

@@ -9,10 +9,9 @@ ghost use Rattle.x_item.specs.Reading.{IsRead, IsPart, Fails};
 
 use super::ParseError;
 use super::words::{expect, first, is_mark, name, value};
-use crate::mark::Mark;
 use crate::trees::{Enumerator, Value};
 use std::alloc::Global;
-use x_lex::Token;
+use x_lex::{Mark, Token};
 
 /// Reads the enumerators of an enum, and its `}`.
 pub fn enumerators<'w, 't>(

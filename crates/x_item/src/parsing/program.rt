@@ -15,10 +15,9 @@ ghost use Rattle.x_item.specs.Reading.{IsRead, IsPart, Fails};
 use super::ParseError;
 use super::declaration::data_type;
 use super::words::{Word, expect, first, is_mark, name, number, stuck_at};
-use crate::mark::Mark;
 use crate::trees::{Argument, Procedure, Version};
 use std::alloc::Global;
-use x_lex::Token;
+use x_lex::{Mark, Token};
 
 /// Reads an argument: `string` or a type.
 fn argument<'w, 't>(

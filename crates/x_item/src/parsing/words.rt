@@ -3,17 +3,16 @@
 ghost use Rattle.std.specs.Prelude.{◌≡◌, ◌∷◌, [], Ok, Err, IfOk, IfErr, IfSome, IfNone, ◌+◌, IsTrue, ◌↔◌};
 ghost use Rattle.x_lex.specs.Places.{lexeme};
 ghost use Rattle.x_item.specs.Gloss.{spell_value};
-ghost use Rattle.x_item.specs.Words.{Fixed, Name, Number, word_of, mark_among, is_significant};
+ghost use Rattle.x_item.specs.Words.{Fixed, Name, Number, word_of, is_significant};
 ghost use Rattle.x_item.specs.View.{view_value};
 ghost use Rattle.x_item.specs.Symbols.{Symbol, Token as OfMark, AnyName, AnyNumber, AnyValue};
 ghost use Rattle.x_item.specs.Reading.{view_word, ahead, left_in, code_in, IsSplit, HasFirst, IsBefore, Fails};
 ghost use Rattle.x_item.specs.Reading.{IsPart};
 
 use super::{FaultCode, ParseError};
-use crate::mark::{KEYWORDS, Mark, PUNCTS};
 use crate::trees::Value;
 use std::alloc::Global;
-use x_lex::{Kind, Token};
+use x_lex::{Kind, Mark, Token};
 
 /// What a token is to the parser.
 #[derive(Clone, Copy)]
@@ -31,8 +30,7 @@ impl<'t> Word<'t> {
         ensures { view_word result ≡ word_of (lexeme token.now) }
     {
         match token.kind {
-            Kind::Keyword => marked(mark_among(&KEYWORDS, token.text)),
-            Kind::Punct => marked(mark_among(&PUNCTS, token.text)),
+            Kind::Keyword | Kind::Punct => marked(Mark::of(token.text)),
             Kind::Name => Word::Name(token.text),
             Kind::Number => Word::Number(token.text),
             _ => Word::Other,
@@ -48,13 +46,6 @@ fn marked<'t>(mark: Option<Mark>) -> Word<'t>
         Some(mark) => Word::Mark(mark),
         None => Word::Other,
     }
-}
-
-/// The mark of these that is written so.
-fn mark_among(marks: &[Mark], text: &[u8]) -> Option<Mark>
-    ensures { result ≡ mark_among marks.now text.now }
-{
-    marks.iter().copied().find(|mark| mark.text() == text)
 }
 
 /// Whether tokens of the kind are words.

@@ -1,6 +1,6 @@
 use Rattle.std.proofs.Common.{◌≡◌, map, take}
-use Rattle.rpcx.specs.Kept.{tree_at}
-use Rattle.rpcx.specs.Kept.{kept_definition}
+use Rattle.rpcx.specs.ItemView.{tree_at}
+use Rattle.rpcx.specs.ItemView.{kept_definition}
 use Rattle.rpcx.proofs.compile.names_of.Given as goal
 
 abbrev pub invariant-loop-item : goal.invariant-loop-item

@@ -2,7 +2,6 @@ use Rattle.std.proofs.Common.{◌≡◌, ℕ, List, Bool, true, Result, Ok, Err,
 use Rattle.std.specs.Prelude.{IfOk}
 use Rattle.x_text.specs.declared.no_memory.NoMemory.{NoMemory}
 use Rattle.rpcx.specs.Session.{Compiles}
-use Rattle.rpcx.specs.Commands.{asked}
 use Rattle.rpcx.specs.Compile.{Item}
 use Rattle.rpcx.specs.Answers.{Answer, answer, edit_answer}
 use Rattle.rpcx.specs.Script.{IsGiven}
@@ -18,12 +17,12 @@ pub returns-in-Edit-clause-given : goal.returns-in-Edit-clause-given
 returns-in-Edit-clause-given g c =
     let text = c.args.session.now.text in
     let base = c.args.session.now.base in
-    let given : Answer → Bool → Type 0 = λ a refused. IsGiven a c.args.session.now c.carry_out_edit.new.session refused c.args.pen.now (g.S.Sink.contents c.args.sink.now) (g.S.Sink.has_failed c.args.sink.now)
-    c.carry_out_edit.new.pen (g.S.Sink.contents c.carry_out_edit.new.sink) (g.S.Sink.has_failed c.carry_out_edit.new.sink) in
-    let same : (items : List Item) → edit_answer text c.in-Edit.start c.in-Edit.end c.deref.result.now ≡ answer base text items (asked c.args.command.now) =
-    λ items. (λ i. edit_answer text c.in-Edit.start c.in-Edit.end (c.deref.ensures.value i)) ∙ sym (ap (λ command. answer base text items (asked command)) c.in-Edit.is) in
-    over_items _ text c.item_count-items.ensures (λ items refused. given (answer base text items (asked c.args.command.now)) refused)
-    (given (edit_answer text c.in-Edit.start c.in-Edit.end c.deref.result.now)) c.carry_out_edit.result
+    let given : Answer → Bool → Type 0 = λ a refused. IsGiven a c.args.session.now c.carry_out_edit.new.session refused c.args.pen.now (g.S.Sink.state c.args.sink.now)
+    c.carry_out_edit.new.pen (g.S.Sink.state c.carry_out_edit.new.sink) in
+    let same : (items : List Item) → edit_answer text c.in-Edit.start c.in-Edit.end c.bytes.result.now ≡ answer base text items c.args.command.now =
+    λ items. (λ i. edit_answer text c.in-Edit.start c.in-Edit.end (c.bytes.ensures i)) ∙ sym (ap (λ command. answer base text items command) c.in-Edit.is) in
+    over_items _ text c.item_count-items.ensures (λ items refused. given (answer base text items c.args.command.now) refused)
+    (given (edit_answer text c.in-Edit.start c.in-Edit.end c.bytes.result.now)) c.carry_out_edit.result
     (λ items b h. subst (λ a. given a b) (same items) h) c.carry_out_edit.ensures.given
 
 pub returns-in-Bad-clause-given : goal.returns-in-Bad-clause-given
@@ -31,10 +30,10 @@ returns-in-Bad-clause-given g c =
     let items = c.item_count-items.ensures.1 in
     let text = c.args.session.now.text in
     let base = c.args.session.now.base in
-    let given : Answer → Type 0 = λ a. IsGiven a c.args.session.now c.args.session.now true c.args.pen.now (g.S.Sink.contents c.args.sink.now) (g.S.Sink.has_failed c.args.sink.now)
-    c.add.new.self (g.S.Sink.contents c.add.new.sink) (g.S.Sink.has_failed c.add.new.sink) in (
+    let given : Answer → Type 0 = λ a. IsGiven a c.args.session.now c.args.session.now true c.args.pen.now (g.S.Sink.state c.args.sink.now)
+    c.add.new.self (g.S.Sink.state c.add.new.sink) in (
       c.item_count-items.ensures.0,
       items,
       c.item_count-items.ensures.2,
-      subst given (sym (ap (λ command. answer base text items (asked command)) c.in-Bad.is)) (record { added = c.add.ensures; refused_is = refl; session_is = refl }),
+      subst given (sym (ap (λ command. answer base text items command) c.in-Bad.is)) (record { added = c.add.ensures; refused_is = refl; session_is = record { text_is = refl; base_is = refl } }),
     )

@@ -1,6 +1,6 @@
 use Rattle.std.proofs.Common.{◌≡◌, map, drop}
-use Rattle.rpcx.specs.Kept.{kept_definition}
-use Rattle.rpcx.specs.Listings.{are_constants}
+use Rattle.rpcx.specs.ItemView.{kept_definition}
+use Rattle.rpcx.specs.Definitions.{are_constants}
 use Rattle.rpcx.proofs.session.are_constants.Given as goal
 
 -- the items that are left decide

@@ -1,6 +1,6 @@
 use Rattle.std.proofs.Common.{◌≡◌, ◌+◌, ◌≤◌, map, drop, length}
-use Rattle.rpcx.specs.Kept.{kept_definition}
-use Rattle.rpcx.specs.Listings.{numbered}
+use Rattle.rpcx.specs.ItemView.{kept_definition}
+use Rattle.rpcx.specs.Definitions.{numbered}
 use Rattle.rpcx.proofs.session.count_definitions.Given as goal
 
 -- how many there are so far, and how many among the items that are left

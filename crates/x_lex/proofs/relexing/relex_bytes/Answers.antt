@@ -1,6 +1,7 @@
 use Rattle.std.proofs.Common.{◌≡◌, ℕ, ◌+◌, ◌-◌, ◌<◌, true, length, map, arith, sym, ap, subst, ◌∙◌, ⊎_elim}
 use Rattle.std.proofs.lemmas.Bool.{cases_lt}
 use Rattle.std.proofs.lemmas.List.{length_push}
+use Rattle.x_text.specs.Edits.{change_of}
 use Rattle.x_lex.specs.Tiling.{end_of}
 use Rattle.x_lex.specs.Places.{is_line_start}
 use Rattle.x_lex.specs.Relex.{old_place}
@@ -15,21 +16,21 @@ use Rattle.x_lex.proofs.RelexEnds.{relexing_start, relexing_pushed, patch_agreed
 use Rattle.x_lex.proofs.relexing.relex_bytes.Goals as goal
 use Rattle.x_lex.proofs.relexing.relex_bytes.Goals.{After-is_line_start-line_start, After-advance-index, else-shift-at-via-then-shift-at+then-end-target+else-is_line_start-line_start, else-shift-at-via-then-shift-at+else-end-target, else-shift-at-via-else-shift-at}
 
-is_edit : (c : After-is_line_start-line_start) → IsEdit c.args.old.now c.args.new.now c.args.edit.now.insert.now c.args.edit.now.start c.args.edit.now.end
-is_edit c = record { order = c.requires.within.0; within = c.requires.within.1; result = c.requires.edited }
+is_edit : (c : After-is_line_start-line_start) → IsEdit (change_of c.args.old.now c.args.edit.now) c.args.new.now
+is_edit c = record { lies = c.requires.within; result = c.requires.edited }
 
-is_edit_at : (c : After-advance-index) → IsEdit c.args.old.now c.args.new.now c.args.edit.now.insert.now c.args.edit.now.start c.args.edit.now.end
-is_edit_at c = record { order = c.requires.within.0; within = c.requires.within.1; result = c.requires.edited }
+is_edit_at : (c : After-advance-index) → IsEdit (change_of c.args.old.now c.args.edit.now) c.args.new.now
+is_edit_at c = record { lies = c.requires.within; result = c.requires.edited }
 
 -- where the old place of `at` is
 abbrev place_of : (c : After-advance-index) → ℕ
-place_of c = old_place c.args.edit.now.start c.args.edit.now.end (length c.args.edit.now.insert.now) c.lexing.at
+place_of c = old_place (change_of c.args.old.now c.args.edit.now) c.lexing.at
 
-target_is : (c : After-advance-index) → c.args.edit.now.end + c.saturating_sub.result ≡ old_place c.args.edit.now.start c.args.edit.now.end (length c.args.edit.now.insert.now) c.lexing.at
+target_is : (c : After-advance-index) → c.args.edit.now.end + c.saturating_sub.result ≡ old_place (change_of c.args.old.now c.args.edit.now) c.lexing.at
 target_is c = let e = c.saturating_sub.ensures in omega (arith, e)
 
 -- every boundary before the one that was walked to lies before the old place
-below : (c : After-advance-index) → (j : ℕ) → j < c.advance-index.result.0 → end_of c.args.tokens.now.list j < old_place c.args.edit.now.start c.args.edit.now.end (length c.args.edit.now.insert.now) c.lexing.at
+below : (c : After-advance-index) → (j : ℕ) → j < c.advance-index.result.0 → end_of c.args.tokens.now.list j < old_place (change_of c.args.old.now c.args.edit.now) c.lexing.at
 below c j lt =
     ⊎_elim
     (λ less. c.lexing.invariant.below j less)
@@ -42,7 +43,7 @@ lexing-init c = record {
       let f = c.lexed-counted.type_inv in
       let e = c.lexed-counted.ensures in
       counted_none c.args.meter.now (length c.new-fresh.result.items) (ap length c.new-fresh.ensures.items) (omega (arith, f, e));
-  relexing = relexing_start c.args.old.now c.args.new.now c.args.edit.now.insert.now c.args.edit.now.start c.args.edit.now.end (is_edit c) c.args.tokens.now.list c.requires.tokens c.front_before-kept.result.0 c.front_before-kept.ensures.front
+  relexing = relexing_start (change_of c.args.old.now c.args.edit.now) c.args.new.now (is_edit c) c.args.tokens.now.list c.requires.tokens c.front_before-kept.result.0 c.front_before-kept.ensures.front
       (map pair_of c.new-fresh.result.items) c.is_line_start-line_start.result c.front_before-kept.result.1 (ap (map pair_of) c.new-fresh.ensures.items) c.is_line_start-line_start.ensures c.front_before-kept.ensures.place;
   forward = omega arith;
   within = c.front_before-kept.ensures.front.within;
@@ -50,7 +51,7 @@ lexing-init c = record {
   below = λ j lt.
       let f = c.front_before-kept.ensures.front.before (omega arith) in
       let m = end_mono c.args.tokens.now.list j c.front_before-kept.result.0 (omega arith) in
-      let o = c.requires.within.0 in
+      let o = c.requires.within.forward in
       omega (arith, f, m, o);
 }
 
@@ -63,9 +64,9 @@ new-requires-in-lexing c = let w = c.lex_one-kind.ensures.within in let s = c.re
 pub returns-then-is_line_start-line_start-clause-patch : goal.returns-then-is_line_start-line_start-clause-patch
 returns-then-is_line_start-line_start-clause-patch c =
     let after = (goal.at.returns-then-is_line_start-line_start-clause-patch c).After-advance-index in
-    patch_is c.args.old.now c.args.new.now c.args.tokens.now.list c.args.edit.now.start c.args.edit.now.end (length c.args.edit.now.insert.now) c.front_before-kept.result.0 (c.advance-index.result.0 - c.front_before-kept.result.0) c.front_before-kept.result.1
+    patch_is (change_of c.args.old.now c.args.edit.now) c.args.tokens.now.list c.front_before-kept.result.0 (c.advance-index.result.0 - c.front_before-kept.result.0) c.front_before-kept.result.1
     (map pair_of c.lexing.fresh.items) c.new.result c.new.ensures c.front_before-kept.ensures.place
-    (patch_agreed c.args.old.now c.args.new.now c.args.edit.now.insert.now c.args.edit.now.start c.args.edit.now.end (is_edit_at after) c.args.tokens.now.list c.requires.tokens c.front_before-kept.result.0 c.front_before-kept.ensures.front
+    (patch_agreed (change_of c.args.old.now c.args.edit.now) c.args.new.now (is_edit_at after) c.args.tokens.now.list c.requires.tokens c.front_before-kept.result.0 c.front_before-kept.ensures.front
     (map pair_of c.lexing.fresh.items) c.lexing.line_start c.lexing.at c.lexing.invariant.relexing c.advance-index.result.0 (omega arith) c.advance-index.ensures.within
     c.if-shift-at.true
     (sym c.advance-index.ensures.place ∙ c.if-end-target.true ∙ target_is after)
@@ -75,13 +76,13 @@ returns-then-is_line_start-line_start-clause-patch c =
 pub returns-then-at-new-clause-patch : goal.returns-then-at-new-clause-patch
 returns-then-at-new-clause-patch c =
     let after = (goal.at.returns-then-at-new-clause-patch c).After-advance-index in
-    patch_is c.args.old.now c.args.new.now c.args.tokens.now.list c.args.edit.now.start c.args.edit.now.end (length c.args.edit.now.insert.now) c.front_before-kept.result.0 (length c.args.tokens.now.list - c.front_before-kept.result.0) c.front_before-kept.result.1
+    patch_is (change_of c.args.old.now c.args.edit.now) c.args.tokens.now.list c.front_before-kept.result.0 (length c.args.tokens.now.list - c.front_before-kept.result.0) c.front_before-kept.result.1
     (map pair_of c.lexing.fresh.items) c.new-then-at-new.result
     (c.new-then-at-new.ensures ∙ λ i. record { at = c.front_before-kept.result.0; removed = c.len.ensures.count i - c.front_before-kept.result.0; start = c.front_before-kept.result.1; fresh = map pair_of c.lexing.fresh.items })
     c.front_before-kept.ensures.place
-    (patch_ended c.args.old.now c.args.new.now c.args.edit.now.insert.now c.args.edit.now.start c.args.edit.now.end (is_edit_at after) c.args.tokens.now.list c.requires.tokens c.front_before-kept.result.0 c.front_before-kept.ensures.front
+    (patch_ended (change_of c.args.old.now c.args.edit.now) c.args.new.now (is_edit_at after) c.args.tokens.now.list c.requires.tokens c.front_before-kept.result.0 c.front_before-kept.ensures.front
     (map pair_of c.lexing.fresh.items) c.lexing.line_start
-    (subst (λ p. Relexing c.args.old.now c.args.new.now c.args.tokens.now.list c.args.edit.now.start c.args.edit.now.end (length c.args.edit.now.insert.now) c.front_before-kept.result.0 (map pair_of c.lexing.fresh.items) c.lexing.line_start p) c.if-at-new.true c.lexing.invariant.relexing))
+    (subst (λ p. Relexing (change_of c.args.old.now c.args.edit.now) c.args.new.now c.args.tokens.now.list c.front_before-kept.result.0 (map pair_of c.lexing.fresh.items) c.lexing.line_start p) c.if-at-new.true c.lexing.invariant.relexing))
 
 pub lexing-preserved : goal.lexing-preserved
 lexing-preserved c =
@@ -91,7 +92,7 @@ lexing-preserved c =
       counted =
           let one = ap length c.in_ok-push.ensures.items ∙ length_push c.lexing.fresh.items c.new-in-lexing.result in
           counted_more c.args.meter.now c.lexing.meter c.lex_one-kind.new.meter (length c.lexing.fresh.items) (length c.push.new.self.items) c.lexing.invariant.counted one c.lex_one-kind.ensures.meter;
-      relexing = relexing_pushed c.args.old.now c.args.new.now c.args.edit.now.insert.now c.args.edit.now.start c.args.edit.now.end (is_edit_at after) c.args.tokens.now.list c.requires.tokens c.front_before-kept.result.0 c.front_before-kept.ensures.front
+      relexing = relexing_pushed (change_of c.args.old.now c.args.edit.now) c.args.new.now (is_edit_at after) c.args.tokens.now.list c.requires.tokens c.front_before-kept.result.0 c.front_before-kept.ensures.front
           (map pair_of c.lexing.fresh.items) (map pair_of c.push.new.self.items) c.lexing.line_start c.lexing.at c.lex_one-kind.result.1 c.lex_one-kind.result.0 c.lexing.invariant.relexing
           (λ m.
           elim c.else-shift-at.branch [

@@ -5,7 +5,7 @@ use Rattle.x_text.proofs.pen.put_all.Given as goal
 abbrev pub invariant-loop-done : goal.invariant-loop-done
 invariant-loop-done g l = record {
   within : l.done ≤ length l.bytes;
-  taken : Appends (g.S.Sink.contents l.fn.sink) (g.S.Sink.contents l.sink) (take l.done l.bytes);
+  taken : Appends (g.S.Sink.state l.fn.sink).bytes (g.S.Sink.state l.sink).bytes (take l.done l.bytes);
 }
 
 abbrev pub decreases-loop-done : goal.decreases-loop-done

@@ -15,8 +15,8 @@ loop-index-preserved c =
     let index = c.loop-index.index in
     let now = c.loop-index.self.text in
     let taken = subst (λ es. HasTaken text edits es now index) (drop_one edits index none c.loop-index-test.true) c.loop-index.invariant.0 in (
-      taken_more text edits (drop (index + 1) edits) (get_or edits index none) now c.apply.new.self.text index taken c.in-Ok.ensures.fits.0 c.in-Ok.ensures.fits.1 (ap (λ s. s.text) c.in-Ok.ensures.text),
-      ap (λ s. s.base) c.in-Ok.ensures.text ∙ c.loop-index.invariant.1,
+      taken_more text edits (drop (index + 1) edits) (get_or edits index none) now c.apply.new.self.text index taken c.in-Ok.ensures.fits.0 c.in-Ok.ensures.fits.1 c.in-Ok.ensures.text,
+      c.in-Ok.ensures.base ∙ c.loop-index.invariant.1,
     )
 
 pub returns-in-Err-clause-stops : goal.returns-in-Err-clause-stops

@@ -1,9 +1,9 @@
 use Rattle.std.proofs.Common.{◌≡◌, map, ap, subst, ◌∙◌}
 use Rattle.std.specs.Prelude.{slice_get, option_and_then}
 use Rattle.x_lex.specs.Places.{lexemes}
-use Rattle.rpcx.specs.Kept.{view_item, kept_definition}
+use Rattle.rpcx.specs.ItemView.{view_item, kept_definition}
 use Rattle.rpcx.specs.Session.{Compiles}
-use Rattle.rpcx.specs.Kept.{tree_at}
+use Rattle.rpcx.specs.ItemView.{tree_at}
 use Rattle.rpcx.specs.Compile.{parts, definition_at}
 use Rattle.rpcx.proofs.Compiled.{definition_found}
 use Rattle.rpcx.proofs.session.Session.definition.Goals as goal

@@ -1,7 +1,7 @@
 use Rattle.std.proofs.Common.{◌≡◌, map, ap, subst, ◌∙◌}
 use Rattle.std.specs.Prelude.{slice_get}
 use Rattle.x_lex.specs.Places.{lexemes}
-use Rattle.rpcx.specs.Kept.{view_item}
+use Rattle.rpcx.specs.ItemView.{view_item}
 use Rattle.rpcx.specs.Session.{Compiles}
 use Rattle.rpcx.specs.Compile.{parts, faults_of}
 use Rattle.rpcx.proofs.session.Session.fault.Goals as goal

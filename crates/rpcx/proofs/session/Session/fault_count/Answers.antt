@@ -1,6 +1,6 @@
 use Rattle.std.proofs.Common.{◌≡◌, map, length, ap, subst, ◌∙◌}
 use Rattle.x_lex.specs.Places.{lexemes}
-use Rattle.rpcx.specs.Kept.{view_item}
+use Rattle.rpcx.specs.ItemView.{view_item}
 use Rattle.rpcx.specs.Session.{Compiles}
 use Rattle.rpcx.specs.Compile.{parts, faults_of}
 use Rattle.rpcx.proofs.session.Session.fault_count.Goals as goal

@@ -1,9 +1,9 @@
 use Rattle.std.proofs.Common.{◌≡◌, map, ap, sym, subst, ◌∙◌}
 use Rattle.x_lex.specs.Places.{lexemes}
-use Rattle.rpcx.specs.Kept.{view_item, kept_definition}
+use Rattle.rpcx.specs.ItemView.{view_item, kept_definition}
 use Rattle.rpcx.specs.Session.{Compiles}
 use Rattle.rpcx.specs.Compile.{parts, definitions_of}
-use Rattle.rpcx.specs.Listings.{are_constants}
+use Rattle.rpcx.specs.Definitions.{are_constants}
 use Rattle.rpcx.proofs.Compiled.{definitions-parts}
 use Rattle.rpcx.proofs.session.Session.has_constants_alone.Goals as goal
 

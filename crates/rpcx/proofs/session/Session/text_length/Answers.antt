@@ -1,10 +1,12 @@
 use Rattle.std.proofs.Common.{◌≡◌, ◌+◌, ◌++◌, map, length, length-append, arith, refl, ap, subst, ◌∙◌}
 use Rattle.x_lex.specs.Places.{lexemes}
-use Rattle.rpcx.specs.Kept.{view_item}
+use Rattle.rpcx.specs.ItemView.{view_item}
 use Rattle.rpcx.specs.Session.{Compiles}
 use Rattle.rpcx.specs.Compile.{parts}
 use Rattle.rpcx.specs.Header.{header}
-use Rattle.rpcx.specs.declared.header.TheConstants.{EPILOGUE}
+use Rattle.rpcx.specs.declared.compile.header.TheConstants.{EPILOGUE}
+use Rattle.rpcx.specs.Header.{text_of}
+use Rattle.rpcx.proofs.TextLemmas.{is_header}
 use Rattle.rpcx.proofs.Ends.{epilogue_is}
 use Rattle.rpcx.proofs.session.Session.text_length.Goals as goal
 
@@ -24,5 +26,5 @@ returns c =
     let split = length-append (front ++ body) EPILOGUE.now in
     let parted = length-append front body in
     let size : c.len.result + c.len-2.result + 7 ≡ length (front ++ body ++ EPILOGUE.now) = omega (arith, seven, one, two, first.0, second.0, split, parted) in
-    subst (λ v. Compiles v.text (λ is. c.len.result + c.len-2.result + 7 ≡ length (header v.base is))) c.self.view_is
-    (c.self.inside.tokens.list, items, c.self.invariant.compiles, size ∙ ap length text)
+    subst (λ v. Compiles v.text (λ is. c.len.result + c.len-2.result + 7 ≡ length (text_of c.args.which v.base is))) c.self.view_is
+    (c.self.inside.tokens.list, items, c.self.invariant.compiles, size ∙ ap length (text ∙ is_header c.args.which c.self.inside.base.items items))

@@ -1,7 +1,7 @@
 use Rattle.std.proofs.Common.{◌≡◌, map, ap, sym, subst, ◌∙◌}
 use Rattle.std.specs.Prelude.{slice_get, option_map}
 use Rattle.x_lex.specs.Places.{lexeme, lexemes}
-use Rattle.rpcx.specs.Kept.{view_item}
+use Rattle.rpcx.specs.ItemView.{view_item}
 use Rattle.rpcx.specs.Session.{Compiles}
 use Rattle.rpcx.specs.Compile.{parts, tokens_of}
 use Rattle.rpcx.proofs.Compiled.{tokens_are}

@@ -111,7 +111,7 @@ returns-then-index-target-clause-patch g c =
     c.at.ensures c.whole_within-kept.ensures.within c.whole_within-kept.ensures.tokens c.whole_within-kept.ensures.before c.whole_within-kept.ensures.next in
     let target : c.at-3.result + c.removed.result + (c.cutting.index - (c.at-2.result + c.len-2.result)) ≡ patch.at + patch.removed + (c.cutting.index - (patch.at + length patch.fresh)) =
     let x = c.at-2.ensures in let f = c.len-2.ensures in let y = c.at-3.ensures in let m = c.removed.ensures in omega (arith, x, f, y, m) in
-    let made = made_joined change text ts items patch k start known c.args.new.now c.bytes-text.ensures.text c.new.result c.cutting.fresh.items c.cutting.index c.cutting.back c.cutting.back_index c.advance.result.0 c.advance.result.1 (c.at-3.result + c.removed.result + (c.cutting.index - (c.at-2.result + c.len-2.result))) c.cutting.invariant.recutting
+    let made = made_joined change text ts items patch k start known c.new.result c.cutting.fresh.items c.cutting.index c.cutting.back c.cutting.back_index c.advance.result.0 c.advance.result.1 (c.at-3.result + c.removed.result + (c.cutting.index - (c.at-2.result + c.len-2.result))) c.cutting.invariant.recutting
     c.advance.ensures.forward c.advance.ensures.within c.advance.ensures.tokens
     (let far = c.if-behind-index.true in let x = c.at-2.ensures in let f = c.len-2.ensures in omega (arith, far, x, f))
     target c.if-back_index-target.true c.if-index-target.true c.new.ensures in
@@ -129,7 +129,7 @@ returns-then-index-target-clause-among g c =
     c.at.ensures c.whole_within-kept.ensures.within c.whole_within-kept.ensures.tokens c.whole_within-kept.ensures.before c.whole_within-kept.ensures.next in
     let target : c.at-3.result + c.removed.result + (c.cutting.index - (c.at-2.result + c.len-2.result)) ≡ patch.at + patch.removed + (c.cutting.index - (patch.at + length patch.fresh)) =
     let x = c.at-2.ensures in let f = c.len-2.ensures in let y = c.at-3.ensures in let m = c.removed.ensures in omega (arith, x, f, y, m) in
-    let made = made_joined c.requires.change text ts items patch k start known c.args.new.now c.bytes-text.ensures.text c.new.result c.cutting.fresh.items c.cutting.index c.cutting.back c.cutting.back_index c.advance.result.0 c.advance.result.1 (c.at-3.result + c.removed.result + (c.cutting.index - (c.at-2.result + c.len-2.result))) c.cutting.invariant.recutting
+    let made = made_joined c.requires.change text ts items patch k start known c.new.result c.cutting.fresh.items c.cutting.index c.cutting.back c.cutting.back_index c.advance.result.0 c.advance.result.1 (c.at-3.result + c.removed.result + (c.cutting.index - (c.at-2.result + c.len-2.result))) c.cutting.invariant.recutting
     c.advance.ensures.forward c.advance.ensures.within c.advance.ensures.tokens
     (let far = c.if-behind-index.true in let x = c.at-2.ensures in let f = c.len-2.ensures in omega (arith, far, x, f))
     target c.if-back_index-target.true c.if-index-target.true c.new.ensures in
@@ -147,7 +147,7 @@ returns-then-index-target-clause-of_text g c =
     c.at.ensures c.whole_within-kept.ensures.within c.whole_within-kept.ensures.tokens c.whole_within-kept.ensures.before c.whole_within-kept.ensures.next in
     let target : c.at-3.result + c.removed.result + (c.cutting.index - (c.at-2.result + c.len-2.result)) ≡ patch.at + patch.removed + (c.cutting.index - (patch.at + length patch.fresh)) =
     let x = c.at-2.ensures in let f = c.len-2.ensures in let y = c.at-3.ensures in let m = c.removed.ensures in omega (arith, x, f, y, m) in
-    let made = made_joined c.requires.change text ts items patch k start known c.args.new.now c.bytes-text.ensures.text c.new.result c.cutting.fresh.items c.cutting.index c.cutting.back c.cutting.back_index c.advance.result.0 c.advance.result.1 (c.at-3.result + c.removed.result + (c.cutting.index - (c.at-2.result + c.len-2.result))) c.cutting.invariant.recutting
+    let made = made_joined c.requires.change text ts items patch k start known c.new.result c.cutting.fresh.items c.cutting.index c.cutting.back c.cutting.back_index c.advance.result.0 c.advance.result.1 (c.at-3.result + c.removed.result + (c.cutting.index - (c.at-2.result + c.len-2.result))) c.cutting.invariant.recutting
     c.advance.ensures.forward c.advance.ensures.within c.advance.ensures.tokens
     (let far = c.if-behind-index.true in let x = c.at-2.ensures in let f = c.len-2.ensures in omega (arith, far, x, f))
     target c.if-back_index-target.true c.if-index-target.true c.new.ensures in
@@ -218,7 +218,7 @@ returns-then-not-whole-clause-patch g c =
           moved_not (counts items) (roles text (patched ts patch)) patch.at (length patch.fresh) patch.removed k start (counts c.cutting.fresh.items) c.cutting.index c.cutting.back c.cutting.back_index c.if-behind-index.back c.if-behind-index.back_index c.cutting.invariant.recutting
           (let near = w.if-behind-index.false in let x = c.at-2.ensures in let f = c.len-2.ensures in omega (arith, near, x, f)) w.back-is w.back_index-is
     ] in
-    let made = made_ended change text ts items patch k start known c.args.new.now c.bytes-text.ensures.text c.new-then-not-whole.result c.cutting.fresh.items c.push.new.self.items c.new-in-cutting.result c.cutting.index c.item_from-count.result.0 c.cutting.back c.cutting.back_index
+    let made = made_ended change text ts items patch k start known c.new-then-not-whole.result c.cutting.fresh.items c.push.new.self.items c.new-in-cutting.result c.cutting.index c.item_from-count.result.0 c.cutting.back c.cutting.back_index
     c.if-behind-index.back c.if-behind-index.back_index c.len-then-not-whole.result c.item_from-count.result.2 c.cutting.invariant.recutting moved c.item_from-count.ensures.counts c.if-not-whole.true c.in_ok-push.ensures.items c.new-in-cutting.ensures.tokens c.len-then-not-whole.ensures.count c.new-then-not-whole.ensures in
     made.patch_is
 
@@ -251,7 +251,7 @@ returns-then-not-whole-clause-among g c =
           moved_not (counts items) (roles text (patched ts patch)) patch.at (length patch.fresh) patch.removed k start (counts c.cutting.fresh.items) c.cutting.index c.cutting.back c.cutting.back_index c.if-behind-index.back c.if-behind-index.back_index c.cutting.invariant.recutting
           (let near = w.if-behind-index.false in let x = c.at-2.ensures in let f = c.len-2.ensures in omega (arith, near, x, f)) w.back-is w.back_index-is
     ] in
-    let made = made_ended c.requires.change text ts items patch k start known c.args.new.now c.bytes-text.ensures.text c.new-then-not-whole.result c.cutting.fresh.items c.push.new.self.items c.new-in-cutting.result c.cutting.index c.item_from-count.result.0 c.cutting.back c.cutting.back_index
+    let made = made_ended c.requires.change text ts items patch k start known c.new-then-not-whole.result c.cutting.fresh.items c.push.new.self.items c.new-in-cutting.result c.cutting.index c.item_from-count.result.0 c.cutting.back c.cutting.back_index
     c.if-behind-index.back c.if-behind-index.back_index c.len-then-not-whole.result c.item_from-count.result.2 c.cutting.invariant.recutting moved c.item_from-count.ensures.counts c.if-not-whole.true c.in_ok-push.ensures.items c.new-in-cutting.ensures.tokens c.len-then-not-whole.ensures.count c.new-then-not-whole.ensures in
     made.patch_is.among
 
@@ -284,7 +284,7 @@ returns-then-not-whole-clause-of_text g c =
           moved_not (counts items) (roles text (patched ts patch)) patch.at (length patch.fresh) patch.removed k start (counts c.cutting.fresh.items) c.cutting.index c.cutting.back c.cutting.back_index c.if-behind-index.back c.if-behind-index.back_index c.cutting.invariant.recutting
           (let near = w.if-behind-index.false in let x = c.at-2.ensures in let f = c.len-2.ensures in omega (arith, near, x, f)) w.back-is w.back_index-is
     ] in
-    let made = made_ended c.requires.change text ts items patch k start known c.args.new.now c.bytes-text.ensures.text c.new-then-not-whole.result c.cutting.fresh.items c.push.new.self.items c.new-in-cutting.result c.cutting.index c.item_from-count.result.0 c.cutting.back c.cutting.back_index
+    let made = made_ended c.requires.change text ts items patch k start known c.new-then-not-whole.result c.cutting.fresh.items c.push.new.self.items c.new-in-cutting.result c.cutting.index c.item_from-count.result.0 c.cutting.back c.cutting.back_index
     c.if-behind-index.back c.if-behind-index.back_index c.len-then-not-whole.result c.item_from-count.result.2 c.cutting.invariant.recutting moved c.item_from-count.ensures.counts c.if-not-whole.true c.in_ok-push.ensures.items c.new-in-cutting.ensures.tokens c.len-then-not-whole.ensures.count c.new-then-not-whole.ensures in
     made.fits
 

@@ -1,6 +1,6 @@
 use Rattle.std.proofs.Common.{ℕ, [], ◌∷◌, refl}
 use Rattle.x_item.specs.Words.{Fixed}
-use Rattle.x_item.specs.declared.mark.Mark.TheVariants as marks
+use Rattle.x_lex.specs.declared.mark.Mark.TheVariants as marks
 use Rattle.x_item.specs.Symbols.{AnyValue, Token, AfterCase}
 use Rattle.x_item.specs.View.{view_value}
 use Rattle.x_item.specs.Reading.{Fails}

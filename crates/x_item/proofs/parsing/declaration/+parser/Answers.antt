@@ -4,8 +4,8 @@ use Rattle.x_item.specs.Words.{Fixed}
 use Rattle.x_item.specs.Gloss.{tag_mark}
 use Rattle.x_item.specs.Spell.{spell_body, spell_type, spell_named, TypeFits}
 use Rattle.x_item.specs.View.{view_type, view_body, view_shape, view_declaration}
-use Rattle.x_item.specs.declared.mark.Mark.TheVariants as marks
-use Rattle.x_item.specs.declared.mark.Ending.TheVariants as endings
+use Rattle.x_lex.specs.declared.mark.Mark.TheVariants as marks
+use Rattle.x_item.specs.declared.parsing.ending.Ending.TheVariants as endings
 use Rattle.x_item.specs.Symbols.{Context, AnyValue, Token, AfterCase, MoreArms, Declared, Declarations, MoreDeclarations, Arms, InDeclaration, AfterType, Typed, ending_mark}
 use Rattle.x_item.specs.Reading.{spell_ended, IsRead, Fails}
 use Rattle.x_item.proofs.ReadLemmas.{exit, not_mark, fails_alike, fails_more, fails_then, read_alike, read_as, read_more, read_on, read_then, read_after, ok_alike, err_alike, read_after_word}

@@ -1,5 +1,5 @@
 use Rattle.std.proofs.Common.{[], ◌∷◌}
-use Rattle.x_item.specs.declared.mark.Mark.TheVariants as marks
+use Rattle.x_lex.specs.declared.mark.Mark.TheVariants as marks
 use Rattle.x_item.specs.Symbols.{AnyValue, Token}
 use Rattle.x_item.proofs.ReadLemmas.{exit, not_mark, fails_alike, fails_more, fails_then, read_alike, read_more, read_then}
 use Rattle.x_item.proofs.LoopLemmas.{any_length}

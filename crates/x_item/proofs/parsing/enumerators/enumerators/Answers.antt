@@ -1,5 +1,5 @@
 use Rattle.std.proofs.Common.{[], ◌∷◌}
-use Rattle.x_item.specs.declared.mark.Mark.TheVariants as marks
+use Rattle.x_lex.specs.declared.mark.Mark.TheVariants as marks
 use Rattle.x_item.specs.Symbols.{Enumerators, MoreEnumerators, Token}
 use Rattle.x_item.specs.View.{view_enumerator}
 use Rattle.x_item.proofs.ReadLemmas.{exit, not_mark, fails_then, read_as, read_on, read_then}

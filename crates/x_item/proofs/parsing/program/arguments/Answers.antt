@@ -2,7 +2,7 @@ use Rattle.std.proofs.Common.{rules, ◌≡◌, [], ◌∷◌, refl, subst, sym,
 use Rattle.x_item.specs.Words.{Fixed}
 use Rattle.x_item.specs.Spell.{ArgumentFits, OthersFit}
 use Rattle.x_item.specs.View.{view_argument}
-use Rattle.x_item.specs.declared.mark.Mark.TheVariants as marks
+use Rattle.x_lex.specs.declared.mark.Mark.TheVariants as marks
 use Rattle.x_item.specs.Symbols.{InArguments, AfterType, Arguments}
 use Rattle.x_item.specs.Reading.{view_word}
 use Rattle.x_item.proofs.ReadLemmas.{exit, fails_then, read_as, read_first, read_then}

@@ -4,7 +4,7 @@ use Rattle.std.proofs.lemmas.Result.{on_ok_weaker}
 use Rattle.x_item.specs.Tree.{Struct, Union, Simple, Name, Tagged}
 use Rattle.x_item.specs.View.{view_shape, view_body, view_enumerator, view_value, view_declaration, view_declarations, view_arms, view_default}
 use Rattle.x_item.specs.Words.{Fixed}
-use Rattle.x_item.specs.declared.mark.Mark.TheVariants as marks
+use Rattle.x_lex.specs.declared.mark.Mark.TheVariants as marks
 use Rattle.x_item.specs.Gloss.{Gloss, AsField, AsDiscriminant, AsArm, Inside, glossed, enumerators_by, cases_by, body_by, declaration_by, declarations_by, arms_by, default_by}
 use Rattle.x_item.specs.Names.{Declared}
 use Rattle.x_item.specs.Named.{NamesIn, view_names, star}

@@ -4,7 +4,7 @@ use Rattle.std.proofs.lemmas.Result.{on_ok_weaker}
 use Rattle.x_item.specs.Tree.{Of, Struct, Union}
 use Rattle.x_item.specs.View.{view_type, view_shape, view_body, view_enumerator, view_value, view_declaration, view_declarations, view_arms, view_default}
 use Rattle.x_item.specs.Words.{Fixed}
-use Rattle.x_item.specs.declared.mark.Mark.TheVariants as marks
+use Rattle.x_lex.specs.declared.mark.Mark.TheVariants as marks
 use Rattle.x_item.specs.Gloss.{Gloss, Role, AsField, AsDiscriminant, AsArm, Inside, glossed, use_by, enumerators_by, cases_by, type_by, named_by, body_by, declaration_by, declarations_by, arms_by, default_by}
 use Rattle.x_item.specs.Mentions.{mentioned_at}
 use Rattle.x_item.specs.Collected.{IsSilent, FindsIn, view_walk}

@@ -1,0 +1,28 @@
+use Rattle.std.proofs.Common.{◌≡◌, ◌+◌, suc, ◌∷◌, map, drop, ap, sym, ◌∙◌, arith}
+use Rattle.rpcx.specs.ItemView.{tree_at}
+use Rattle.rpcx.specs.Declarers.{or_else, in_item, word_declaring, first_from}
+use Rattle.rpcx.specs.DeclarerTable.{entry_in}
+use Rattle.rpcx.proofs.Listing.{drop_one}
+use Rattle.rpcx.proofs.NameLemmas.{item_more, none_more}
+use Rattle.rpcx.proofs.compile.names.table_of.Goals as goal
+use Rattle.rpcx.proofs.compile.names.table_of.Goals.{in-Some+in_ok-add, in_default}
+
+pub loop-item-preserved : goal.loop-item-preserved
+loop-item-preserved c =
+    let item = c.loop-item.item in
+    let all = c.args.definitions.now in
+    let here = c.index-definitions-item.result in
+    let next : item + 1 ≡ suc item = omega arith in
+    let is : drop item all ≡ here ∷ drop (item + 1) all = drop_one all item here c.loop-item-test.true ∙ ap (λ d. d ∷ drop (item + 1) all) (sym c.index-definitions-item.is) in
+    let more = item_more (entry_in c.loop-item.table.entries) (entry_in c.match-definition.table.entries) item (item + 1) (map tree_at (drop item all)) (tree_at here) (map tree_at (drop (item + 1) all))
+    (first_from 0 (map tree_at all)) next (ap (map tree_at) is) in
+    elim c.match-definition.branch [
+      | in-Some+in_ok-add w ↦
+          more
+          (λ name. ap (λ t. entry_in t.entries name) w.table-is ∙ w.in_ok-add.ensures name ∙ ap (λ d. or_else (entry_in c.loop-item.table.entries name) (in_item item (word_declaring name (tree_at d)))) (sym w.in-Some.is))
+          c.loop-item.invariant
+      | in_default w ↦
+          more
+          (λ name. ap (λ t. entry_in t.entries name) w.table-is ∙ none_more (entry_in c.loop-item.table.entries) item name ∙ ap (λ d. or_else (entry_in c.loop-item.table.entries name) (in_item item (word_declaring name (tree_at d)))) (sym w.in_default.is))
+          c.loop-item.invariant
+    ]

@@ -1,0 +1,7 @@
+use Rattle.std.proofs.Common.{◌≡◌, map, take}
+use Rattle.x_lex.specs.Places.{lexeme}
+use Rattle.rpcx.specs.Compile.{at_token}
+use Rattle.rpcx.proofs.compile.placing.at_tokens.Given as goal
+
+abbrev pub invariant-loop-fault : goal.invariant-loop-fault
+invariant-loop-fault l = l.found.items ≡ map (at_token (map lexeme l.tokens)) (take l.fault-index l.faults)

@@ -1,9 +1,0 @@
-use Rattle.std.proofs.Common.{drop}
-use Rattle.rpcx.specs.Generate.{told_fault}
-use Rattle.rpcx.specs.declared.fault.Fault.{Fault}
-use Rattle.rpcx.proofs.Listing.{HasListed}
-use Rattle.rpcx.proofs.generate.tell_faults.Given as goal
-
-abbrev pub invariant-loop-fault : goal.invariant-loop-fault
-invariant-loop-fault g l = HasListed Fault (told_fault l.file) l.faults (drop l.fault-index l.faults)
-    l.initial.pen (g.E.Sink.contents l.initial.err) (g.E.Sink.has_failed l.initial.err) l.pen (g.E.Sink.contents l.err) (g.E.Sink.has_failed l.err)

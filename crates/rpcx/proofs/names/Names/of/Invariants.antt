@@ -1,9 +1,0 @@
-use Rattle.std.proofs.Common.{◌≡◌, ℕ, List, map, drop}
-use Rattle.rpcx.specs.Kept.{tree_at}
-use Rattle.rpcx.specs.Names.{first_from, or_else}
-use Rattle.rpcx.specs.NamesTable.{entry_in}
-use Rattle.rpcx.proofs.names.Names.of.Given as goal
-
--- with the items that are left, the table has what it is to have
-abbrev pub invariant-loop-item : goal.invariant-loop-item
-invariant-loop-item l = (name : List ℕ) → or_else (entry_in l.names name) (first_from l.item (map tree_at (drop l.item l.definitions)) name) ≡ first_from 0 (map tree_at l.definitions) name

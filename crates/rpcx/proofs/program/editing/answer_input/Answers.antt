@@ -1,0 +1,17 @@
+use Rattle.std.proofs.Common.{ap, sym}
+use Rattle.rpcx.specs.Script.{is_refused, status_of}
+use Rattle.rpcx.specs.declared.program.status.Status.TheVariants.{Done, Faulty}
+use Rattle.rpcx.proofs.Running.{answers_all, ends_early}
+use Rattle.rpcx.proofs.program.editing.answer_input.Goals as goal
+
+pub returns-in-Ok-Clean-clause-answers : goal.returns-in-Ok-Clean-clause-answers
+returns-in-Ok-Clean-clause-answers g c =
+    answers_all (g.I.Tap.state c.args.input.now).bytes (g.I.Tap.state c.run_script.new.tap).bytes c.args.session.now c.run_script.new.session (g.O.Sink.state c.args.out.now) (g.O.Sink.state c.run_script.new.sink) c.in-Ok-Clean.field-0 Done (ap (λ o. status_of (is_refused o)) (sym c.in-Ok-Clean.field-0-is)) c.in-Ok-Clean.ensures.runs
+
+pub returns-in-Ok-Refused-clause-answers : goal.returns-in-Ok-Refused-clause-answers
+returns-in-Ok-Refused-clause-answers g c =
+    answers_all (g.I.Tap.state c.args.input.now).bytes (g.I.Tap.state c.run_script.new.tap).bytes c.args.session.now c.run_script.new.session (g.O.Sink.state c.args.out.now) (g.O.Sink.state c.run_script.new.sink) c.in-Ok-Refused.field-0 Faulty (ap (λ o. status_of (is_refused o)) (sym c.in-Ok-Refused.field-0-is)) c.in-Ok-Refused.ensures.runs
+
+pub returns-in-Err-clause-ended : goal.returns-in-Err-clause-ended
+returns-in-Err-clause-ended g c e =
+    ends_early (g.I.Tap.state c.args.input.now).bytes (g.I.Tap.state c.run_script.new.tap).bytes c.args.session.now c.run_script.new.session (g.O.Sink.state c.args.out.now) (g.O.Sink.state c.run_script.new.sink) c.in-Err.fault c.in-Err.ensures.runs

@@ -1,0 +1,18 @@
+//! What the programs do, over texts that were read, taps and sinks.
+
+mod base;
+mod complaint;
+mod editing;
+mod editing_args;
+mod generating;
+mod generating_args;
+mod reading;
+mod status;
+
+pub use complaint::{complain, tell_of_file};
+pub use editing::edit_run;
+pub use editing_args::{EditArgs, edit_args};
+pub use generating::{gen_open, gen_write};
+pub use generating_args::{GenArgs, gen_args, gen_mode};
+pub use reading::{read_text, read_words};
+pub use status::Status;

@@ -1,0 +1,88 @@
+//! What `rpcedit` does over a text that was read, a tap and sinks.
+
+ghost use Rattle.std.specs.Prelude.{◌≡◌, ◌≢◌, ◌⊎◌, ◌<◌, MatchOption, length};
+ghost use Rattle.x_text.specs.declared.source.TheConstants.{MAX_TEXT};
+ghost use Rattle.rpcx.specs.Generate.{base_of, stop_told, IsTold, NotRun, Stops};
+ghost use Rattle.rpcx.specs.Script.{Answers, EndsEarly, IsUntouched, WorksOn};
+
+use crate::program::base::base_of_file;
+use crate::program::complaint::{complain, tell_unopened};
+use crate::program::editing_args::EditArgs;
+use crate::program::status::Status;
+use crate::{EngineFault, Outcome, Session, run_script};
+use std::alloc::Global;
+use x_text::{Sink, Tap};
+
+/// Opens the text of a file, carries out the script of the input, and answers the status: `Done` where each line was
+/// carried out, `Faulty` where one was refused, and `Failed` where the run could not be carried out, which it tells.
+pub fn edit_run<I: Tap, O: Sink, E: Sink>(
+    alloc: Global,
+    args: &EditArgs,
+    bytes: &[u8],
+    input: &mut I,
+    out: &mut O,
+    err: &mut E,
+) -> Status
+    ensures too_large { MAX_TEXT < length bytes.now → result ≡ Status.Failed }
+    ensures failed { result ≡ Status.Failed
+        → NotRun args.now.file.now bytes.now (E.state err.old) (E.state err.new) (I.state input.new).failed
+        (O.state out.new).failed }
+    ensures quiet { result ≢ Status.Failed → err.new ≡ err.old }
+    ensures working { result ≢ Status.Failed → WorksOn (O.state out.old).failed (O.state out.new).failed }
+    ensures answers { MatchOption (I.state input.old).bytes (Unit {0})
+        (λ script. Answers script (base_of args.now.file.now) bytes.now (O.state out.old)
+        (O.state out.new) result) }
+    ensures ended { result ≡ Status.Failed → MatchOption (I.state input.old).bytes (Unit {0}) (λ script.
+        IsUntouched script (I.state input.new).bytes (O.state out.old) (O.state out.new)
+        ⊎ EndsEarly script (I.state input.new).bytes (base_of args.now.file.now) bytes.now
+        (O.state out.old) (O.state out.new)) }
+{
+    let mut session = match Session::open(alloc, base_of_file(args.file), bytes) {
+        Ok(session) => session,
+        Err(fault) => {
+            tell_unopened("rpcedit", args.file, fault, err);
+            return Status::Failed;
+        }
+    };
+    answer_input(alloc, &mut session, input, out, err)
+}
+
+/// Carries out the script of the input, and answers the status.
+fn answer_input<I: Tap, O: Sink, E: Sink>(
+    alloc: Global,
+    session: &mut Session,
+    input: &mut I,
+    out: &mut O,
+    err: &mut E,
+) -> Status
+    ensures failed { result ≡ Status.Failed
+        → Stops (E.state err.old) (E.state err.new) (I.state input.new).failed (O.state out.new).failed }
+    ensures quiet { result ≢ Status.Failed → err.new ≡ err.old }
+    ensures working { result ≢ Status.Failed → WorksOn (O.state out.old).failed (O.state out.new).failed }
+    ensures answers { MatchOption (I.state input.old).bytes (Unit {0})
+        (λ script. Answers script session.old.base session.old.text (O.state out.old)
+        (O.state out.new) result) }
+    ensures ended { result ≡ Status.Failed → MatchOption (I.state input.old).bytes (Unit {0}) (λ script.
+        EndsEarly script (I.state input.new).bytes session.old.base session.old.text
+        (O.state out.old) (O.state out.new)) }
+{
+    match run_script(alloc, session, input, out) {
+        Ok(Outcome::Clean) => Status::Done,
+        Ok(Outcome::Refused) => Status::Faulty,
+        Err(fault) => {
+            tell_fault(fault, err);
+            Status::Failed
+        }
+    }
+}
+
+/// Writes why a script stopped.
+fn tell_fault<E: Sink>(fault: EngineFault, err: &mut E)
+    ensures { IsTold (E.state err.old) (E.state err.new) (stop_told fault) }
+{
+    match fault {
+        EngineFault::Read { .. } => complain("rpcedit: -: cannot be read\n", err),
+        EngineFault::Write { .. } => complain("rpcedit: output cannot be written\n", err),
+        EngineFault::NoMemory { .. } => complain("rpcedit: out of memory\n", err),
+    }
+}

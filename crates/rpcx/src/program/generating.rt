@@ -1,0 +1,127 @@
+//! What `rpcgen` does, over a text that was read and sinks.
+
+ghost use Rattle.std.specs.Prelude.{◌≡◌, ◌≢◌, ◌⊎◌, true, false, not, ◌<◌, codes, [], IsTrue, IfOk, OnOk, IfErr, IsErrOf, length, if◌then◌else◌};
+ghost use Rattle.std.specs.Io.KnownBytes.{Appends};
+ghost use Rattle.x_text.specs.Writing.{Adds};
+ghost use Rattle.x_text.specs.declared.source.TheConstants.{MAX_TEXT};
+ghost use Rattle.rpcx.specs.Generate.{base_of, told_fault, told_faults, Grows, IsTold, NotOpened};
+ghost use Rattle.rpcx.specs.Session.{Compiles};
+ghost use Rattle.rpcx.specs.Compile.{definitions_of, faults_of};
+ghost use Rattle.rpcx.specs.Definitions.{are_constants};
+ghost use Rattle.rpcx.specs.Header.{text_of};
+
+use crate::program::base::base_of_file;
+use crate::program::complaint::{complain, tell_of_file, tell_unopened};
+use crate::program::status::Status;
+use crate::script::add_place;
+use crate::{Fault, GeneratedText, Session};
+use std::alloc::Global;
+use x_text::{Pen, Sink};
+
+/// Opens the text of a file for a run, or tells what is wrong with it and answers the status: `Faulty` where the text has faults,
+/// which are written one a line, and `Failed` where it is too large, has a definition of which nothing is generated yet, or memory
+/// runs out.
+pub fn gen_open<E: Sink>(
+    alloc: Global,
+    file: &str,
+    bytes: &[u8],
+    err: &mut E,
+) -> Result<Session, Status>
+    ensures base { IfOk result (λ s. s.base ≡ base_of file.now) }
+    ensures text { IfOk result (λ s. s.text ≡ bytes.now) }
+    ensures clean { OnOk result (Compiles bytes.now (λ items. faults_of bytes.now items ≡ [])) }
+    ensures constants { OnOk result
+        (Compiles bytes.now (λ items. are_constants (definitions_of items) ≡ true)) }
+    ensures faulty { IsErrOf result Status.Faulty
+        → Compiles bytes.now (λ items. (0 < length (faults_of bytes.now items))
+        × IsTold (E.state err.old) (E.state err.new) (told_faults file.now (faults_of bytes.now items))) }
+    ensures too_large { MAX_TEXT < length bytes.now → IsErrOf result Status.Failed }
+    ensures failed { IsErrOf result Status.Failed
+        → NotOpened file.now bytes.now (E.state err.old) (E.state err.new) }
+    ensures others { IfErr result (λ status. (status ≡ Status.Faulty) ⊎ (status ≡ Status.Failed)) }
+    ensures quiet { OnOk result (err.new ≡ err.old) }
+{
+    match Session::open(alloc, base_of_file(file), bytes) {
+        Ok(session) => {
+            if session.fault_count() > 0 {
+                tell_faults(file, session.faults(), err);
+                return Err(Status::Faulty);
+            }
+            if !session.has_constants_alone() {
+                tell_of_file("rpcgen", file, ": only const definitions yet\n", err);
+                return Err(Status::Failed);
+            }
+            Ok(session)
+        }
+        Err(fault) => {
+            tell_unopened("rpcgen", file, fault, err);
+            Err(Status::Failed)
+        }
+    }
+}
+
+/// Writes the faults of a file's text, one a line.
+fn tell_faults<E: Sink>(file: &str, faults: &[Fault], err: &mut E)
+    ensures { IsTold (E.state err.old) (E.state err.new) (told_faults file.now faults.now) }
+{
+    let mut pen = Pen::new();
+    for fault in faults {
+        add_fault(file, fault, &mut pen, err);
+    }
+    let _ = pen.finish(err);
+}
+
+/// Adds the line that tells a fault of a file's text.
+fn add_fault<E: Sink>(file: &str, fault: &Fault, pen: &mut Pen, err: &mut E)
+    ensures { Adds pen.old (E.state err.old) pen.new (E.state err.new) (told_fault file.now fault.now) }
+{
+    pen.add(file.as_bytes(), err);
+    pen.add(b":", err);
+    add_place(fault, pen, err);
+    pen.add(b": ", err);
+    pen.add(fault.code.text().as_bytes(), err);
+    pen.add(b"\n", err);
+}
+
+/// Writes a generated text and flushes the output, and answers whether it took all.
+fn is_written<O: Sink>(which: GeneratedText, session: &Session, out: &mut O) -> bool
+    ensures written { IsTrue result
+        → Compiles session.now.text
+        (λ items. Appends (O.state out.old).bytes (O.state out.new).bytes
+        (text_of which session.now.base items)) }
+    ensures front { result ≡ false
+        → Compiles session.now.text
+        (λ items. Grows (O.state out.old) (O.state out.new) (text_of which session.now.base items)) }
+    ensures working { result ≡ not (O.state out.new).failed }
+{
+    if session.write_text(which, out).is_err() {
+        return false;
+    }
+    out.flush().is_ok()
+}
+
+/// Writes a generated text, and answers the status: `Failed` where the output fails, which it tells.
+pub fn gen_write<O: Sink, E: Sink>(
+    which: GeneratedText,
+    session: &Session,
+    out: &mut O,
+    err: &mut E,
+) -> Status
+    ensures written { result ≡ Status.Done
+        → Compiles session.now.text
+        (λ items. Appends (O.state out.old).bytes (O.state out.new).bytes
+        (text_of which session.now.base items)) }
+    ensures front { result ≢ Status.Done
+        → Compiles session.now.text
+        (λ items. Grows (O.state out.old) (O.state out.new) (text_of which session.now.base items)) }
+    ensures status { result ≡ (if (O.state out.new).failed then Status.Failed else Status.Done) }
+    ensures told { result ≢ Status.Done
+        → IsTold (E.state err.old) (E.state err.new) (codes "rpcgen: output cannot be written\n") }
+    ensures quiet { result ≡ Status.Done → err.new ≡ err.old }
+{
+    if is_written(which, session, out) {
+        return Status::Done;
+    }
+    complain("rpcgen: output cannot be written\n", err);
+    Status::Failed
+}

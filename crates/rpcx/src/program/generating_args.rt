@@ -1,0 +1,81 @@
+//! The command line of `rpcgen`, and the text that it asks for.
+
+ghost use Rattle.std.specs.Prelude.{◌≡◌, ◌≢◌, None, Some, IfOk, codes, map, if◌then◌else◌};
+ghost use Rattle.clap.specs.Words.{FailsBy, app_of, fault_of, found_of, matches_of, rows_of};
+ghost use Rattle.rpcx.specs.Generate.{IsTold};
+ghost use Rattle.rpcx.specs.Args.{AlwaysHas, IsGenArgs, gen_app, is_in_words};
+
+use crate::GeneratedText;
+use crate::program::complaint::complain;
+use clap::parser::ValueSource;
+use clap::{Arg, ArgAction, ArgMatches, Command, Error};
+use std::alloc::{AllocError, Global};
+use std::convert::AsStr;
+use x_text::Sink;
+
+/// What a command line of `rpcgen` asks for.
+#[derive(Clone, Copy, Debug, PartialEq, Eq)]
+pub struct GenArgs<'a> {
+    /// `-h`: the header is wanted.
+    pub header: bool,
+    /// `-o OUT`: the file that the text goes to, in place of standard output.
+    pub output: Option<&'a str>,
+    /// FILE: the text that is read.
+    pub file: &'a str,
+}
+
+/// Reads a command line of `rpcgen`; the first of `words` is the program's name, as in `env::args`.
+///
+/// # Errors
+/// The words are no command line of `rpcgen`, or memory ran out.
+pub fn gen_args<'a, S: AsStr>(alloc: Global, words: &'a [S]) -> Result<GenArgs<'a>, Error>
+    ensures reads { IfOk result (IsGenArgs (matches_of gen_app (map S.text words.entry.now))) }
+    ensures refuses { FailsBy (fault_of gen_app (map S.text words.entry.now)) result }
+{
+    let matches = gen_command(alloc)?.try_get_matches_from(words)?;
+    Ok(GenArgs {
+        header: is_given(&matches, "header"),
+        output: matches.get_str("output"),
+        file: matches.get_str("file").unwrap(),
+    })
+}
+
+// Whether the words themselves have the flag.
+fn is_given(matches: &ArgMatches<'_>, id: &str) -> bool
+    ensures { result ≡ is_in_words id.now (rows_of (found_of matches.now)) }
+{
+    matches.value_source(id) == Some(ValueSource::CommandLine)
+}
+
+// The letters and values of `rpcgen`. Its `-h` is a mode, so clap's own help flag is off.
+fn gen_command<'a>(alloc: Global) -> Result<Command<'a>, AllocError>
+    ensures app { IfOk result (λ c. app_of c ≡ gen_app) }
+    ensures file { IfOk result (AlwaysHas (codes "file")) }
+{
+    let header = Arg::new(alloc, "header")
+        .short('h')
+        .action(ArgAction::SetTrue);
+    let output = Arg::new(alloc, "output").short('o').action(ArgAction::Set);
+    let file = Arg::new(alloc, "file")
+        .required(true)
+        .action(ArgAction::Set);
+    Command::new(alloc, "rpcgen")
+        .disable_help_flag(true)
+        .arg(header)?
+        .arg(output)?
+        .arg(file)
+}
+
+/// The text that a command line asks for: exactly one letter tells it.
+pub fn gen_mode<E: Sink>(args: &GenArgs, err: &mut E) -> Option<GeneratedText>
+    ensures mode { result ≡ (if args.now.header then Some GeneratedText.Header else None) }
+    ensures told { result ≡ None
+        → IsTold (E.state err.old) (E.state err.new) (codes "rpcgen: exactly one of -c, -h, -l, -t\n") }
+    ensures quiet { result ≢ None → err.new ≡ err.old }
+{
+    if args.header {
+        return Some(GeneratedText::Header);
+    }
+    complain("rpcgen: exactly one of -c, -h, -l, -t\n", err);
+    None
+}
