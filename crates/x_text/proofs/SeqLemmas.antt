@@ -41,7 +41,7 @@ spliced front rear last cut new list at end middle e lf lo hi w el ec =
     let d : drop end list ≡ drop (end - middle) (reverse rear) = ap (drop end) (sym e) ∙ ap (λ i. drop i (front ++ reverse rear)) k ∙ drop_part front (reverse rear) (end - middle) in
     rw (el, r, t, d) (append_assoc (take at front) new (drop (end - middle) (reverse rear)))
 
-drop_front : {X : Type 0} → (xs ys : List X) (m : ℕ) → m ≤ length xs → drop m (xs ++ ys) ≡ drop m xs ++ ys
+pub drop_front : {X : Type 0} → (xs ys : List X) (m : ℕ) → m ≤ length xs → drop m (xs ++ ys) ≡ drop m xs ++ ys
 drop_front xs ys zero le = refl
 drop_front [] ys (suc m) le = absurd (omega arith)
 drop_front (x ∷ xs) ys (suc m) le = drop_front xs ys m (omega arith)

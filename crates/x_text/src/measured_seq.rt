@@ -5,7 +5,7 @@ ghost use Rattle.x_text.specs.Seqs.{distance};
 ghost use Rattle.x_text.specs.Lengths.{total_length, length_before, IsCountBefore, patched, LiesAmong, HasRoom};
 
 use crate::measured::total_length;
-use crate::{GapIter, GapSeq, Measured, NoMemory, Seq, SeqPatch};
+use crate::{GapIter, GapSeq, Measured, NoMemory, PatchedIter, Seq, SeqPatch};
 use std::alloc::Global;
 use std::marker::Model;
 
@@ -84,6 +84,22 @@ impl<T: Measured + Drop> MeasuredSeq<T> {
         ensures small { length result < 2 ^ 64 }
     {
         self.entries.iter_from(index)
+    }
+
+    /// Goes over the entries that the patch will leave, from that at `index` on.
+    pub fn iter_patched<'a>(&'a self, patch: &'a SeqPatch<T>, index: usize) -> PatchedIter<'a, T>
+        requires among { LiesAmong self.now.list patch.now }
+        requires within { index ≤ length (patched self.now.list patch.now) }
+        ensures { result ≡ drop index (patched self.now.list patch.now) }
+    {
+        let at = patch.at();
+        let from = index.min(at);
+        let into = index - from;
+        let fresh = &patch.fresh()[into.min(patch.len())..];
+        let rest = self.len() - at - patch.removed();
+        let left = rest - into.saturating_sub(patch.len());
+        let rear = self.iter_from(self.len() - left);
+        PatchedIter::new(at - from, self.iter_from(from), fresh, rear)
     }
 
     /// Where the entry at `index` starts, or where the last one ends.
