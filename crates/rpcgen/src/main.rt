@@ -2,17 +2,18 @@
 #![tactic(auto)]
 
 use rpcx::{
-    GeneratedText, Session, Status, gen_args, gen_mode, gen_open, gen_write, read_text, read_words,
+    Which, Session, Status, gen_args, gen_mode, gen_open, gen_write, read_text, read_words,
     tell_of_file,
 };
 use std::fs;
+use std::mem;
 use std::process::ExitCode;
 use x_text::{Out, Sink};
 
 /// Writes a generated text to the file, or to standard output where none is named.
 fn write<E: Sink>(
     rt: &HostRuntime,
-    which: GeneratedText,
+    which: Which,
     session: &Session,
     output: Option<&str>,
     err: &mut E,
@@ -45,7 +46,10 @@ fn run(rt: &HostRuntime) -> Result<Status, Status> {
     };
     let bytes = read_text(rt, "rpcgen", args.file, &mut err)?;
     let session = gen_open(rt.alloc(), args.file, &bytes, &mut err)?;
-    Ok(write(rt, which, &session, args.output, &mut err))
+    let status = write(rt, which, &session, args.output, &mut err);
+    // The process ends next, and gives all memory back at once.
+    mem::forget(session);
+    Ok(status)
 }
 
 fn main(rt: HostRuntime) -> ExitCode {

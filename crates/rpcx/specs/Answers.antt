@@ -11,7 +11,7 @@ use Rattle.rpcx.specs.Faults.{fault_text}
 use Rattle.rpcx.specs.declared.script.lines.TheConstants.{LONGEST}
 use Rattle.rpcx.specs.declared.script.command.Command.{Command}
 use Rattle.rpcx.specs.declared.script.command.Command.TheVariants as commands
-use Rattle.rpcx.specs.declared.session.generated_text.GeneratedText.TheVariants as texts
+use Rattle.rpcx.specs.declared.session.which.Which.TheVariants as texts
 use Rattle.rpcx.specs.Commands.{command_of}
 use Rattle.rpcx.specs.Compile.{Item, tokens_of, definitions_of, faults_of}
 use Rattle.rpcx.specs.Definitions.{numbered}

@@ -9,8 +9,8 @@ use Rattle.x_item.specs.Parse.{Parse, Nothing, Def, Fault}
 use Rattle.rpcx.specs.Compile.{Item, first_of, token_faults}
 use Rattle.rpcx.specs.declared.compile.names.Declarer.{Declarer}
 use Rattle.rpcx.specs.declared.compile.fault.TokenFault.{TokenFault}
-use Rattle.rpcx.specs.declared.session.generated_text.GeneratedText.{GeneratedText}
-use Rattle.rpcx.specs.declared.session.generated_text.GeneratedText.TheVariants as texts
+use Rattle.rpcx.specs.declared.session.which.Which.{Which}
+use Rattle.rpcx.specs.declared.session.which.Which.TheVariants as texts
 
 abbrev pub is_between : ℕ → ℕ → ℕ → Bool
 is_between low high b = nat_le low b && nat_le b high
@@ -74,5 +74,5 @@ abbrev pub header : List ℕ → List Item → List ℕ
 header base items = prologue base ++ body_of items ++ epilogue
 
 -- this generated text of a text with these items, whose names have this base
-abbrev pub text_of : GeneratedText → List ℕ → List Item → List ℕ
+abbrev pub text_of : Which → List ℕ → List Item → List ℕ
 text_of texts.Header base items = header base items

@@ -10,11 +10,11 @@ ghost use Rattle.rpcx.specs.Compile.{tokens_of, definitions_of, definition_at, f
 ghost use Rattle.rpcx.specs.ItemView.{kept_definition, tree_at};
 ghost use Rattle.rpcx.specs.Definitions.{numbered, are_constants};
 
-mod generated_text;
+mod which;
 mod work;
 
 use crate::compile::{Compilation, Fault, Item, compile, is_constant, prologue};
-pub use generated_text::GeneratedText;
+pub use which::Which;
 use std::alloc::Global;
 use std::marker::Model;
 pub use work::Work;

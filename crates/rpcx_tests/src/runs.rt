@@ -1,4 +1,4 @@
-use rpcx::{EditArgs, GeneratedText, Session, Status, edit_run, gen_write};
+use rpcx::{EditArgs, Which, Session, Status, edit_run, gen_write};
 use std::test::Fail;
 use x_text::{MemSink, MemTap, WriteFault};
 
@@ -7,7 +7,7 @@ fn a_sink_of_ten_bytes_has_the_first_ten(rt: HostRuntime) -> Result<(), Fail> {
     let session = Session::open(rt.alloc(), b"t", b"const A = 12;")?;
     let mut room = [0u8; 10];
     let mut sink = MemSink::new(&mut room, 256, 256);
-    let answer = session.write_text(GeneratedText::Header, &mut sink);
+    let answer = session.write_text(Which::Header, &mut sink);
     assert_eq!(rt; answer, Err(WriteFault { written: 10 }));
     assert_eq!(rt; sink.bytes(), b"/* Generat".as_slice());
     Ok(())
@@ -19,7 +19,7 @@ fn a_generator_tells_of_a_full_sink(rt: HostRuntime) -> Result<(), Fail> {
     let mut full = MemSink::new(&mut [], 256, 256);
     let mut told = [0u8; 64];
     let mut err = MemSink::new(&mut told, 64, 64);
-    let status = gen_write(GeneratedText::Header, &session, &mut full, &mut err);
+    let status = gen_write(Which::Header, &session, &mut full, &mut err);
     assert_eq!(rt; status, Status::Failed);
     assert_eq!(rt;
         err.bytes(),

@@ -334,16 +334,16 @@ union_words d rest =
     (append_assoc (d ++ Fixed marks.CloseParenthesis ∷ []) (Fixed marks.OpenBrace ∷ []) rest ∙ append_assoc d (Fixed marks.CloseParenthesis ∷ []) (Fixed marks.OpenBrace ∷ rest))
 
 -- what follows `unsigned`
-module _ {T : Type 0} (n : ℕ) {tokens left : List LexToken} {w : Word} (first : HasFirst tokens w left) (is : w ≡ Fixed marks.Unsigned) (r : Result T ParseError) where
-  start : (c : Context) → IsRead [] (Typed n c ∷ []) tokens (Fixed marks.Unsigned ∷ []) (AfterUnsigned c ∷ []) left
-  start c = read_first (Fixed marks.Unsigned) first is (λ l code ps ss. refl)
+module _ {T : Type 0} {tokens left : List LexToken} {w : Word} (first : HasFirst tokens w left) (is : w ≡ Fixed marks.Unsigned) (r : Result T ParseError) where
+  start : (n : ℕ) (c : Context) → IsRead [] (Typed n c ∷ []) tokens (Fixed marks.Unsigned ∷ []) (AfterUnsigned c ∷ []) left
+  start n c = read_first (Fixed marks.Unsigned) first is (λ l code ps ss. refl)
 
-  pub read_unsigned : (spelled : T → List Word) (rest : T → List LexToken) → IfOk r (λ x. (c : Context) → IsRead (Fixed marks.Unsigned ∷ []) (AfterUnsigned c ∷ []) left (spelled x) (AfterType c ∷ []) (rest x)) → IfOk r (λ x. (c : Context) → IsRead [] (Typed n c ∷ []) tokens (spelled x) (AfterType c ∷ []) (rest x))
+  pub read_unsigned : (spelled : T → List Word) (rest : T → List LexToken) → IfOk r (λ x. (c : Context) → IsRead (Fixed marks.Unsigned ∷ []) (AfterUnsigned c ∷ []) left (spelled x) (AfterType c ∷ []) (rest x)) → IfOk r (λ x. (n : ℕ) (c : Context) → IsRead [] (Typed n c ∷ []) tokens (spelled x) (AfterType c ∷ []) (rest x))
   read_unsigned spelled rest h =
-      IfOk-weaker r (λ x. (c : Context) → IsRead (Fixed marks.Unsigned ∷ []) (AfterUnsigned c ∷ []) left (spelled x) (AfterType c ∷ []) (rest x)) (λ x. (c : Context) → IsRead [] (Typed n c ∷ []) tokens (spelled x) (AfterType c ∷ []) (rest x))
-      (λ x p c. read_after (AfterUnsigned c ∷ []) [] [] (Fixed marks.Unsigned) (start c) (p c)) h
+      IfOk-weaker r (λ x. (c : Context) → IsRead (Fixed marks.Unsigned ∷ []) (AfterUnsigned c ∷ []) left (spelled x) (AfterType c ∷ []) (rest x)) (λ x. (n : ℕ) (c : Context) → IsRead [] (Typed n c ∷ []) tokens (spelled x) (AfterType c ∷ []) (rest x))
+      (λ x p n c. read_after (AfterUnsigned c ∷ []) [] [] (Fixed marks.Unsigned) (start n c) (p c)) h
 
-  pub stuck_unsigned : IfErr r (λ e. (c : Context) → Fails (AfterUnsigned c ∷ []) left e) → IfErr r (λ e. (c : Context) → Fails (Typed n c ∷ []) tokens e)
+  pub stuck_unsigned : IfErr r (λ e. (c : Context) → Fails (AfterUnsigned c ∷ []) left e) → IfErr r (λ e. (n : ℕ) (c : Context) → Fails (Typed n c ∷ []) tokens e)
   stuck_unsigned h =
-      IfErr-weaker r (λ e. (c : Context) → Fails (AfterUnsigned c ∷ []) left e) (λ e. (c : Context) → Fails (Typed n c ∷ []) tokens e)
-      (λ e f c. fails_then (AfterUnsigned c ∷ []) [] (start c) (f c)) h
+      IfErr-weaker r (λ e. (c : Context) → Fails (AfterUnsigned c ∷ []) left e) (λ e. (n : ℕ) (c : Context) → Fails (Typed n c ∷ []) tokens e)
+      (λ e f n c. fails_then (AfterUnsigned c ∷ []) [] (start n c) (f c)) h

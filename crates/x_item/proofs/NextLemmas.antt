@@ -39,9 +39,10 @@ within_on all part part' left left' t reached next ends is more tells moved goes
 -- a token that ends the item
 pub whole_here : (all part part' left left' : List Lexeme) (t : Lexeme) (reached : ℕ) (ends : Bool) → left ≡ t ∷ left' → part' ≡ part ++ t ∷ [] → ends ≡ ends_at reached (role_of t)
     → ends ≡ true → IsWithin all part left reached → IsNext true all part' left'
-whole_here all part part' left left' t reached ends is more tells stops h = subst (λ p. IsNext true all p left') (sym more)
-    (record { front = part; token = t; parts = refl; ends = ends_from part t (says part t reached ends tells h.reached_is ∙ stops); before = h.endless },
-     split_on all part left left' t is h.split)
+whole_here all part part' left left' t reached ends is more tells stops h = subst (λ p. IsNext true all p left') (sym more) (
+  record { front = part; token = t; parts = refl; ends = ends_from part t (says part t reached ends tells h.reached_is ∙ stops); before = h.endless },
+  split_on all part left left' t is h.split,
+)
 
 -- no token is left
 pub last_here : (all part left left' : List Lexeme) (reached : ℕ) → left ≡ [] → left' ≡ [] → IsWithin all part left reached → IsNext false all part left'

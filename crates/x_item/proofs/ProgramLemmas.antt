@@ -7,6 +7,7 @@ use Rattle.x_item.specs.Tree as tree
 use Rattle.x_item.specs.Spell.{spell_argument, spell_passed, spell_others, spell_procedure, spell_procedures, spell_version, spell_versions, ArgumentFits, OthersFit, ProcedureFits, ProceduresFit, VersionFits, VersionsFit}
 use Rattle.x_lex.specs.declared.mark.Mark.TheVariants as marks
 use Rattle.x_item.specs.View.{view_argument}
+use Rattle.x_item.specs.declared.trees.declaration.TheConstants.{MOST_INLINE}
 use Rattle.x_item.specs.declared.trees.program.Argument.{Argument}
 use Rattle.x_item.specs.declared.parsing.fault_code.FaultCode.{FaultCode}
 use Rattle.x_item.specs.Symbols.{Symbol, Token, AnyName, Typed, InArguments, InResult, AfterType, Arguments, Parameters, Procedures, MoreProcedures, Versions, MoreVersions, go, followed, step_result, of_number, of_procedure, of_version}
@@ -17,11 +18,11 @@ use Rattle.x_item.specs.declared.parsing.parse_error.ParseError.TheVariants as e
 use Rattle.x_item.proofs.ReadLemmas.{Alike, alike, alike_first, headed}
 
 -- an argument that is no `string`
-arguments_is : (w : Word) (left : ℕ) (code : FaultCode) (ps : List Place) (ss : List Symbol) → w ≢ Fixed marks.String → read (Arguments ∷ ss) (headed w left code ps) ≡ read (Typed 32 InArguments ∷ ss) (headed w left code ps)
+arguments_is : (w : Word) (left : ℕ) (code : FaultCode) (ps : List Place) (ss : List Symbol) → w ≢ Fixed marks.String → read (Arguments ∷ ss) (headed w left code ps) ≡ read (Typed MOST_INLINE InArguments ∷ ss) (headed w left code ps)
 arguments_is (Fixed marks.String) left code ps ss h = absurd (h refl)
 arguments_is w left code ps ss h = refl
 
-pub no_string : {tokens rest : List LexToken} {w : Word} → HasFirst tokens w rest → w ≢ Fixed marks.String → Alike (Arguments ∷ []) (Typed 32 InArguments ∷ []) tokens
+pub no_string : {tokens rest : List LexToken} {w : Word} → HasFirst tokens w rest → w ≢ Fixed marks.String → Alike (Arguments ∷ []) (Typed MOST_INLINE InArguments ∷ []) tokens
 no_string {w = w} first h = alike_first first (λ left code ps ss. arguments_is w left code ps ss h)
 
 -- a first argument that is not `void`
@@ -33,12 +34,12 @@ pub no_void : {tokens rest : List LexToken} {w : Word} → HasFirst tokens w res
 no_void {w = w} first h = alike_first first (λ left code ps ss. parameters_is w left code ps ss h)
 
 -- a result that is neither
-result_is : (w : Word) (left : ℕ) (code : FaultCode) (ps : List Place) (ss : List Symbol) → w ≢ Fixed marks.Void → w ≢ Fixed marks.String → read (AnyResult ∷ ss) (headed w left code ps) ≡ read (Typed 32 InResult ∷ ss) (headed w left code ps)
+result_is : (w : Word) (left : ℕ) (code : FaultCode) (ps : List Place) (ss : List Symbol) → w ≢ Fixed marks.Void → w ≢ Fixed marks.String → read (AnyResult ∷ ss) (headed w left code ps) ≡ read (Typed MOST_INLINE InResult ∷ ss) (headed w left code ps)
 result_is (Fixed marks.Void) left code ps ss h g = absurd (h refl)
 result_is (Fixed marks.String) left code ps ss h g = absurd (g refl)
 result_is w left code ps ss h g = refl
 
-pub typed_result : {tokens rest : List LexToken} {w : Word} → HasFirst tokens w rest → w ≢ Fixed marks.Void → w ≢ Fixed marks.String → Alike (AnyResult ∷ []) (Typed 32 InResult ∷ []) tokens
+pub typed_result : {tokens rest : List LexToken} {w : Word} → HasFirst tokens w rest → w ≢ Fixed marks.Void → w ≢ Fixed marks.String → Alike (AnyResult ∷ []) (Typed MOST_INLINE InResult ∷ []) tokens
 typed_result {w = w} first h g = alike_first first (λ left code ps ss. result_is w left code ps ss h g)
 
 after_result_is : (ps : List Place) (ss : List Symbol) → read (AfterType InResult ∷ ss) ps ≡ read (AnyName ∷ ss) ps

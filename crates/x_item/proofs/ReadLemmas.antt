@@ -1,5 +1,5 @@
 -- Reading of parts, one after another.
-use Rattle.std.proofs.Common.{◌≡◌, ◌≢◌, ◌↔◌, ℕ, Bool, false, IsTrue, List, [], ◌∷◌, ◌++◌, cond, Some, None, Result, Err, refl, ap, sym, ◌∙◌, subst, append_assoc, arith}
+use Rattle.std.proofs.Common.{◌≡◌, ◌≢◌, ◌↔◌, ℕ, Bool, false, IsTrue, List, [], ◌∷◌, ◌++◌, cond, Some, None, Result, Ok, Err, refl, ap, sym, ◌∙◌, subst, append_assoc, arith}
 use Rattle.std.specs.Result.{IsErrAnd, IfOk, IfErr}
 use Rattle.std.proofs.lemmas.Bool.{eq-eqb}
 use Rattle.std.proofs.lemmas.Result.{err_from_is_err_and, IfOk-weaker, IfErr-weaker}
@@ -125,3 +125,8 @@ ok_alike before from by to tokens words rest r same h =
 
 pub err_alike : (from by : List Symbol) (tokens : List Token) {T : Type 0} (r : Result T ParseError) → Alike from by tokens → IfErr r (λ e. Fails by tokens e) → IfErr r (λ e. Fails from tokens e)
 err_alike from by tokens r same h = IfErr-weaker r (λ e. Fails by tokens e) (λ e. Fails from tokens e) (λ e f. fails_alike same f) h
+
+-- what holds of a value that is given back
+pub ok_of : {T E Q : Type 0} (P : T → Type 0) (r : Result T E) (value : T) → IfOk r (λ x. x ≡ value) → IfOk r (λ x. Q) → (Q → P value) → IfOk r P
+ok_of P (Ok x) value is q p = subst P (sym is) (p q)
+ok_of P (Err e) value is q p = tt

@@ -169,7 +169,7 @@ name_roles None name = []
 name_roles (Some InTypedef) name = Declares name kinds.Typedef false ∷ []
 name_roles (Some (Inside position around)) name = FieldName name ∷ []
 
--- the roles of the name of a declaration of an inline type, which it is the name of
+-- what the name of a declaration declares beside: its inline type, by the lifted name
 abbrev pub lifted_roles : Option (List ℕ) → tree.DataType → List Role
 lifted_roles None type = []
 lifted_roles (Some lifted) (tree.Inline body) = Declares lifted (body_kind body) true ∷ []

@@ -98,6 +98,13 @@ pub record IsSplit (tokens : List Token) (token : Token) (rest : List Token) : T
   pub code : code_in tokens ≡ code_of token.kind
   pub shorter : length rest < length tokens
 
+-- the error stands at the first word
+pub record IsBefore (tokens : List Token) (e : ParseError) : Type 0 where
+  pub token : Token
+  pub rest : List Token
+  pub split : IsSplit tokens token rest
+  pub is : e ≡ errors.Stuck (left_in tokens) (code_in tokens)
+
 -- the first word, and what stands after it
 pub record HasFirst (tokens : List Token) (word : Word) (rest : List Token) : Type 0 where
   pub found : ahead tokens ≡ record { word = word; left = left_in tokens; code = code_in tokens } ∷ ahead rest

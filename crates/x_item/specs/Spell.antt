@@ -3,6 +3,7 @@ use Rattle.std.specs.Prelude.{◌≡◌, ℕ, zero, suc, List, [], ◌∷◌, �
 use Rattle.x_item.specs.Tree as tree
 use Rattle.x_item.specs.Words.{Word}
 use Rattle.x_item.specs.Gloss as by
+use Rattle.x_item.specs.declared.trees.declaration.TheConstants.{MOST_INLINE}
 use Rattle.x_item.specs.declared.trees.declaration.Basic.{Basic}
 
 -- the words of a definition
@@ -125,7 +126,7 @@ abbrev mutual
 
 abbrev pub ArgumentFits : tree.Argument → Type 0
 ArgumentFits tree.Text = Unit {0}
-ArgumentFits (tree.Typed type) = TypeFits type 32
+ArgumentFits (tree.Typed type) = TypeFits type MOST_INLINE
 
 abbrev pub PassedFits : Option tree.Argument → Type 0
 PassedFits None = Unit {0}
@@ -149,11 +150,11 @@ abbrev pub VersionsFit : List tree.Version → Type 0
 VersionsFit [] = Unit {0}
 VersionsFit (v ∷ vs) = VersionFits v × VersionsFit vs
 
--- at most 32 inline bodies inside one another, and no body and no list of cases is empty
+-- at most MOST_INLINE inline bodies inside one another, and no body and no list of cases is empty
 abbrev pub KeepsLimits : tree.Definition → Type 0
 KeepsLimits (tree.Const name value) = Unit {0}
-KeepsLimits (tree.Typedef d) = DeclarationFits d 32
-KeepsLimits (tree.NewType name body) = BodyFits body 32
+KeepsLimits (tree.Typedef d) = DeclarationFits d MOST_INLINE
+KeepsLimits (tree.NewType name body) = BodyFits body MOST_INLINE
 KeepsLimits (tree.Program name versions number) = HasOne versions × VersionsFit versions
 
 -- some definition's spelling begins with these words

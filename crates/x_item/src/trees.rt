@@ -6,7 +6,7 @@ mod program;
 mod value;
 
 pub use declaration::{
-    Arm, Basic, Body, DataType, Declaration, Enumerator, Length, Shape, Tag, UnionBody,
+    Arm, Basic, Body, DataType, Declaration, Enumerator, Length, MOST_INLINE, Shape, Tag, UnionBody,
 };
 pub(crate) use declaration::{inline, struct_body, union_body};
 pub use definition::Definition;

@@ -11,6 +11,7 @@ use crate::program::editing_args::EditArgs;
 use crate::program::status::Status;
 use crate::{EngineFault, Outcome, Session, run_script};
 use std::alloc::Global;
+use std::mem;
 use x_text::{Sink, Tap};
 
 /// Opens the text of a file, carries out the script of the input, and answers the status: `Done` where each line was
@@ -44,7 +45,10 @@ pub fn edit_run<I: Tap, O: Sink, E: Sink>(
             return Status::Failed;
         }
     };
-    answer_input(alloc, &mut session, input, out, err)
+    let status = answer_input(alloc, &mut session, input, out, err);
+    // The process ends next, and gives all memory back at once.
+    mem::forget(session);
+    status
 }
 
 /// Carries out the script of the input, and answers the status.

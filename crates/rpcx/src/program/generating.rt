@@ -14,7 +14,7 @@ use crate::program::base::base_of_file;
 use crate::program::complaint::{complain, tell_of_file, tell_unopened};
 use crate::program::status::Status;
 use crate::script::add_place;
-use crate::{Fault, GeneratedText, Session};
+use crate::{Fault, Which, Session};
 use std::alloc::Global;
 use x_text::{Pen, Sink};
 
@@ -84,7 +84,7 @@ fn add_fault<E: Sink>(file: &str, fault: &Fault, pen: &mut Pen, err: &mut E)
 }
 
 /// Writes a generated text and flushes the output, and answers whether it took all.
-fn is_written<O: Sink>(which: GeneratedText, session: &Session, out: &mut O) -> bool
+fn is_written<O: Sink>(which: Which, session: &Session, out: &mut O) -> bool
     ensures written { IsTrue result
         → Compiles session.now.text
         (λ items. Appends (O.state out.old).bytes (O.state out.new).bytes
@@ -102,7 +102,7 @@ fn is_written<O: Sink>(which: GeneratedText, session: &Session, out: &mut O) -> 
 
 /// Writes a generated text, and answers the status: `Failed` where the output fails, which it tells.
 pub fn gen_write<O: Sink, E: Sink>(
-    which: GeneratedText,
+    which: Which,
     session: &Session,
     out: &mut O,
     err: &mut E,

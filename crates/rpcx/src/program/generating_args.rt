@@ -5,7 +5,7 @@ ghost use Rattle.clap.specs.Words.{FailsBy, app_of, fault_of, found_of, matches_
 ghost use Rattle.rpcx.specs.Generate.{IsTold};
 ghost use Rattle.rpcx.specs.Args.{AlwaysHas, IsGenArgs, gen_app, is_in_words};
 
-use crate::GeneratedText;
+use crate::Which;
 use crate::program::complaint::complain;
 use clap::parser::ValueSource;
 use clap::{Arg, ArgAction, ArgMatches, Command, Error};
@@ -67,14 +67,14 @@ fn gen_command<'a>(alloc: Global) -> Result<Command<'a>, AllocError>
 }
 
 /// The text that a command line asks for: exactly one letter tells it.
-pub fn gen_mode<E: Sink>(args: &GenArgs, err: &mut E) -> Option<GeneratedText>
-    ensures mode { result ≡ (if args.now.header then Some GeneratedText.Header else None) }
+pub fn gen_mode<E: Sink>(args: &GenArgs, err: &mut E) -> Option<Which>
+    ensures mode { result ≡ (if args.now.header then Some Which.Header else None) }
     ensures told { result ≡ None
         → IsTold (E.state err.old) (E.state err.new) (codes "rpcgen: exactly one of -c, -h, -l, -t\n") }
     ensures quiet { result ≢ None → err.new ≡ err.old }
 {
     if args.header {
-        return Some(GeneratedText::Header);
+        return Some(Which::Header);
     }
     complain("rpcgen: exactly one of -c, -h, -l, -t\n", err);
     None

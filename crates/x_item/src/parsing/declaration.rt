@@ -1,7 +1,7 @@
 //! Reading of types and declarations, and of all that stands inside them. Each function takes the tokens that are
 //! ahead, of which some may be no words, and gives back those after what it read; `depth` is how many inline bodies
 //! may stand inside one another.
-ghost use Rattle.std.specs.Prelude.{◌≡◌, ℕ, [], ◌∷◌, ◌++◌, ◌+◌, map, IfOk, IfErr};
+ghost use Rattle.std.specs.Prelude.{◌≡◌, ◌≢◌, ℕ, [], ◌∷◌, ◌++◌, ◌+◌, map, IfOk, IfErr};
 ghost use Rattle.x_item.specs.Words.{Fixed, Name};
 ghost use Rattle.x_item.specs.Tree.{default as one_default};
 ghost use Rattle.x_item.specs.View.{view_value, view_type, view_body, view_declaration, view_declarations};
@@ -13,14 +13,14 @@ ghost use Rattle.x_item.specs.Spell.{BodyFits, DeclarationFits, DeclarationsFit,
 ghost use Rattle.x_item.specs.Symbols.{Context, InDeclaration, Token as OfMark, AnyName, AnyValue, AnyLength};
 ghost use Rattle.x_item.specs.Symbols.{AfterLess, Typed, AfterType, AfterTag, AnyBody, Declared};
 ghost use Rattle.x_item.specs.Symbols.{Declarations, Arms, AfterCase, ending_mark, AfterUnsigned};
-ghost use Rattle.x_item.specs.Reading.{IsRead, IsPart, Fails, spell_ended, spell_arm};
+ghost use Rattle.x_item.specs.Reading.{IsRead, IsPart, Fails, spell_ended, spell_arm, HasFirst};
 
 use super::ParseError;
 use super::cases::cases;
 use super::declarator::{array_length, most, named};
 use super::ending::Ending;
 use super::enumerators::enumerators;
-use super::words::{Word, expect, first, is_mark, name, stuck_at};
+use super::words::{Word, closed, expect, first, is_mark, name, stuck_at};
 use crate::trees::{Arm, Basic, Body, DataType, Declaration, Tag, inline, struct_body, union_body};
 use std::alloc::Global;
 use x_lex::{Mark, Token};
@@ -40,20 +40,40 @@ pub fn data_type<'w, 't>(
     let (word, rest) = first(tokens)?;
     match word {
         Word::Mark(mark) => match mark {
-            Mark::Int => Ok((DataType::Basic(Basic::Int), rest)),
-            Mark::Long => Ok((DataType::Basic(Basic::Long), rest)),
-            Mark::Hyper => Ok((DataType::Basic(Basic::Hyper), rest)),
-            Mark::Float => Ok((DataType::Basic(Basic::Float), rest)),
-            Mark::Double => Ok((DataType::Basic(Basic::Double), rest)),
-            Mark::Quadruple => Ok((DataType::Basic(Basic::Quadruple), rest)),
-            Mark::Bool => Ok((DataType::Basic(Basic::Bool), rest)),
-            Mark::Unsigned => unsigned(rest),
             Mark::Enum => tagged(alloc, Tag::Enum, depth, rest),
             Mark::Struct => tagged(alloc, Tag::Struct, depth, rest),
             Mark::Union => tagged(alloc, Tag::Union, depth, rest),
-            _ => Err(stuck_at(tokens)),
+            _ => basic(mark, tokens, rest),
         },
         Word::Name(text) => Ok((DataType::Named(text.to_vec(alloc)?), rest)),
+        _ => Err(stuck_at(tokens)),
+    }
+}
+
+/// Reads a type that begins with the mark, if it is one of keywords alone.
+fn basic<'w, 't>(
+    mark: Mark,
+    tokens: &'w [Token<'t>],
+    rest: &'w [Token<'t>],
+) -> Result<(DataType, &'w [Token<'t>]), ParseError>
+    requires first { HasFirst tokens.now (Fixed mark) rest.now }
+    requires no_enum { mark ≢ Mark.Enum }
+    requires no_struct { mark ≢ Mark.Struct }
+    requires no_union { mark ≢ Mark.Union }
+    ensures read { IfOk result (λ x. (n : ℕ) (c : Context) → IsRead [] (Typed n c ∷ []) tokens.now
+        (spell_type (view_type x.0)) (AfterType c ∷ []) x.1.now) }
+    ensures fits { IfOk result (λ x. (n : ℕ) → TypeFits (view_type x.0) n) }
+    ensures stuck { IfErr result (λ e. (n : ℕ) (c : Context) → Fails (Typed n c ∷ []) tokens.now e) }
+{
+    match mark {
+        Mark::Int => Ok((DataType::Basic(Basic::Int), rest)),
+        Mark::Long => Ok((DataType::Basic(Basic::Long), rest)),
+        Mark::Hyper => Ok((DataType::Basic(Basic::Hyper), rest)),
+        Mark::Float => Ok((DataType::Basic(Basic::Float), rest)),
+        Mark::Double => Ok((DataType::Basic(Basic::Double), rest)),
+        Mark::Quadruple => Ok((DataType::Basic(Basic::Quadruple), rest)),
+        Mark::Bool => Ok((DataType::Basic(Basic::Bool), rest)),
+        Mark::Unsigned => unsigned(rest),
         _ => Err(stuck_at(tokens)),
     }
 }
@@ -100,26 +120,10 @@ fn tagged<'w, 't>(
             if depth == 0 {
                 return Err(stuck_at(tokens));
             }
-            inlined(alloc, tag, depth - 1, tokens)
+            let (body, rest) = body(alloc, tag, depth - 1, tokens)?;
+            Ok((inline(alloc, body)?, rest))
         }
     }
-}
-
-/// Reads the body after `enum`, `struct` or `union`, of a type without a name.
-#[cycle(parser)]
-fn inlined<'w, 't>(
-    alloc: Global,
-    tag: Tag,
-    depth: u32,
-    tokens: &'w [Token<'t>],
-) -> Result<(DataType, &'w [Token<'t>]), ParseError>
-    ensures read { IfOk result (λ x. IsRead (Fixed (tag_mark tag) ∷ []) (AnyBody tag depth ∷ []) tokens.now
-        (spell_type (view_type x.0)) [] x.1.now) }
-    ensures fits { IfOk result (λ x. TypeFits (view_type x.0) (depth + 1)) }
-    ensures stuck { IfErr result (λ e. Fails (AnyBody tag depth ∷ []) tokens.now e) }
-{
-    let (body, rest) = body(alloc, tag, depth, tokens)?;
-    Ok((inline(alloc, body)?, rest))
 }
 
 /// Reads the body of an enum, a struct or a union.
@@ -194,7 +198,7 @@ fn body_of_union<'w, 't>(
     let rest = expect(Mark::Switch, tokens)?;
     let rest = expect(Mark::OpenParenthesis, rest)?;
     let (discriminant, rest) = declared(alloc, depth, Ending::Parenthesis, rest)?;
-    let rest = expect(Mark::OpenBrace, rest)?;
+    let (discriminant, rest) = closed(discriminant, Mark::OpenBrace, rest)?;
     let (arms, default, rest) = arms(alloc, depth, rest)?;
     Ok((union_body(discriminant, arms, default), rest))
 }
@@ -373,7 +377,7 @@ fn default_arm<'w, 't>(
 {
     let rest = expect(Mark::Colon, tokens)?;
     let (declaration, rest) = declared(alloc, depth, Ending::Semicolon, rest)?;
-    let rest = expect(Mark::CloseBrace, rest)?;
+    let (declaration, rest) = closed(declaration, Mark::CloseBrace, rest)?;
     Ok((declaration, rest))
 }
 

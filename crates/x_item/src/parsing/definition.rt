@@ -12,8 +12,8 @@ use super::ParseError;
 use super::declaration::{body, declared};
 use super::ending::Ending;
 use super::program::{numbered, versions};
-use super::words::{Word, expect, first, name, stuck_at, value};
-use crate::trees::{Definition, Tag};
+use super::words::{Word, closed, expect, first, name, stuck_at, value};
+use crate::trees::{Definition, MOST_INLINE, Tag};
 use std::alloc::Global;
 use x_lex::{Mark, Token};
 
@@ -32,7 +32,7 @@ pub fn definition<'w, 't>(
         Word::Mark(mark) => match mark {
             Mark::Const => constant(alloc, rest),
             Mark::Typedef => {
-                let (declaration, rest) = declared(alloc, 32, Ending::Semicolon, rest)?;
+                let (declaration, rest) = declared(alloc, MOST_INLINE, Ending::Semicolon, rest)?;
                 Ok((Definition::Typedef(declaration), rest))
             }
             Mark::Enum => new_type(alloc, Tag::Enum, rest),
@@ -74,8 +74,8 @@ fn new_type<'w, 't>(
     ensures stuck { IfErr result (λ e. Fails (of_new_type tag) tokens.now e) }
 {
     let (name, rest) = name(alloc, tokens)?;
-    let (body, rest) = body(alloc, tag, 32, rest)?;
-    let rest = expect(Mark::Semicolon, rest)?;
+    let (body, rest) = body(alloc, tag, MOST_INLINE, rest)?;
+    let (body, rest) = closed(body, Mark::Semicolon, rest)?;
     Ok((Definition::NewType { name, body }, rest))
 }
 

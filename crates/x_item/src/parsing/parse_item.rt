@@ -11,7 +11,7 @@ ghost use Rattle.x_item.specs.Parse.{view_parsed};
 ghost use Rattle.x_item.specs.Reading.{IsRefused};
 
 use super::definition::definition;
-use super::words::{is_significant, split_word, stuck_at};
+use super::words::{is_significant, only};
 use super::{FaultCode, ParseError};
 use crate::trees::Definition;
 use std::alloc::Global;
@@ -58,10 +58,7 @@ fn whole(alloc: Global, tokens: &[Token]) -> Result<Definition, ParseError>
     ensures stuck { IfErr result (λ e. IsRefused (map lexeme tokens.now) e) }
 {
     let (definition, rest) = definition(alloc, tokens)?;
-    match split_word(rest) {
-        Some(_) => Err(stuck_at(rest)),
-        None => Ok(definition),
-    }
+    only(definition, rest)
 }
 
 /// What an item is whose words are a prefix of a spelling: nothing, or a fault at the last of them.

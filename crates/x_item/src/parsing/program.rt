@@ -15,7 +15,7 @@ ghost use Rattle.x_item.specs.Reading.{IsRead, IsPart, Fails};
 use super::ParseError;
 use super::declaration::data_type;
 use super::words::{Word, expect, first, is_mark, name, number, stuck_at};
-use crate::trees::{Argument, Procedure, Version};
+use crate::trees::{Argument, MOST_INLINE, Procedure, Version};
 use std::alloc::Global;
 use x_lex::{Mark, Token};
 
@@ -33,7 +33,7 @@ fn argument<'w, 't>(
     if is_mark(&word, Mark::String) {
         return Ok((Argument::String, rest));
     }
-    let (data, rest) = data_type(alloc, 32, tokens)?;
+    let (data, rest) = data_type(alloc, MOST_INLINE, tokens)?;
     Ok((Argument::Of(data), rest))
 }
 
@@ -72,7 +72,7 @@ fn returned<'w, 't>(
     if is_mark(&word, Mark::String) {
         return Ok((Some(Argument::String), rest));
     }
-    let (data, rest) = data_type(alloc, 32, tokens)?;
+    let (data, rest) = data_type(alloc, MOST_INLINE, tokens)?;
     Ok((Some(Argument::Of(data)), rest))
 }
 

@@ -1,12 +1,13 @@
 //! Reading of single words. Each function takes the tokens that are ahead, of which some may be no words,
 //! and gives back those after what it read.
-ghost use Rattle.std.specs.Prelude.{◌≡◌, ◌∷◌, [], IfOk, IfErr, IfSome, IfNone, ◌+◌, IsTrue, ◌↔◌};
+ghost use Rattle.std.specs.Prelude.{◌≡◌, ◌∷◌, [], Ok, Err, IfOk, IfErr, IfSome, IfNone, ◌+◌, IsTrue, ◌↔◌};
 ghost use Rattle.x_lex.specs.Places.{lexeme};
 ghost use Rattle.x_item.specs.Gloss.{spell_value};
 ghost use Rattle.x_item.specs.Words.{Fixed, Name, Number, word_of, is_significant};
 ghost use Rattle.x_item.specs.View.{view_value};
 ghost use Rattle.x_item.specs.Symbols.{Symbol, Token as OfMark, AnyName, AnyNumber, AnyValue};
-ghost use Rattle.x_item.specs.Reading.{view_word, ahead, left_in, code_in, IsSplit, HasFirst, Fails, IsPart};
+ghost use Rattle.x_item.specs.Reading.{view_word, ahead, left_in, code_in, IsSplit, HasFirst, IsBefore, Fails};
+ghost use Rattle.x_item.specs.Reading.{IsPart};
 
 use super::{FaultCode, ParseError};
 use crate::trees::Value;
@@ -115,6 +116,44 @@ pub fn expect<'w, 't>(mark: Mark, tokens: &'w [Token<'t>]) -> Result<&'w [Token<
             }
         }
         _ => Err(stuck_at(tokens)),
+    }
+}
+
+/// Reads the mark behind a value that was read, which it gives back.
+pub fn closed<'w, 't, T: Drop>(
+    value: T,
+    mark: Mark,
+    tokens: &'w [Token<'t>],
+) -> Result<(T, &'w [Token<'t>]), ParseError>
+    ensures value { IfOk result (λ x. x.0 ≡ value) }
+    ensures read { IfOk result (λ x. IsPart (OfMark mark) tokens.now (Fixed mark ∷ []) x.1.now) }
+    ensures stuck { IfErr result (λ e. Fails (OfMark mark ∷ []) tokens.now e) }
+{
+    let rest = expect(mark, tokens)?;
+    Ok((value, rest))
+}
+
+/// A value that was read, and what was read behind it.
+pub fn both<T: Drop, U: Drop>(value: T, behind: Result<U, ParseError>) -> Result<(T, U), ParseError>
+    ensures value { IfOk result (λ x. x.0 ≡ value) }
+    ensures ok { IfOk result (λ x. behind ≡ Ok x.1) }
+    ensures err { IfErr result (λ e. behind ≡ Err e) }
+{
+    match behind {
+        Ok(behind) => Ok((value, behind)),
+        Err(error) => Err(error),
+    }
+}
+
+/// The value that was read, where no word stands behind it.
+pub fn only<T: Drop>(value: T, tokens: &[Token]) -> Result<T, ParseError>
+    ensures value { IfOk result (λ x. x ≡ value) }
+    ensures end { IfOk result (λ x. ahead tokens.now ≡ []) }
+    ensures stuck { IfErr result (λ e. IsBefore tokens.now e) }
+{
+    match split_word(tokens) {
+        Some(_) => Err(stuck_at(tokens)),
+        None => Ok(value),
     }
 }
 

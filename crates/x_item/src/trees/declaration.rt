@@ -7,6 +7,9 @@ ghost use Rattle.x_item.specs.View.{view_default};
 use super::Value;
 use std::alloc::{AllocError, Global};
 
+/// How many inline bodies may stand inside one another at the most.
+pub const MOST_INLINE: u32 = 32;
+
 /// How many elements an array has.
 #[derive(Debug, Drop)]
 pub enum Length {

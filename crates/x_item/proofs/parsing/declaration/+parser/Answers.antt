@@ -1,15 +1,15 @@
-use Rattle.std.proofs.Common.{rules, ◌≡◌, ◌+◌, ◌-◌, [], ◌∷◌, ap, sym, ◌∙◌, append_assoc}
-use Rattle.std.proofs.lemmas.Result.{IfOk-weaker}
+use Rattle.std.proofs.Common.{ℕ, ◌-◌, [], ◌∷◌, ap, sym, ◌∙◌, append_assoc}
+use Rattle.std.proofs.lemmas.Result.{IfOk-weaker, IfErr-weaker}
 use Rattle.x_item.specs.Words.{Fixed}
 use Rattle.x_item.specs.Gloss.{tag_mark}
 use Rattle.x_item.specs.Spell.{spell_body, spell_type, spell_named, TypeFits}
-use Rattle.x_item.specs.View.{view_type, view_shape, view_declaration}
+use Rattle.x_item.specs.View.{view_type, view_body, view_shape, view_declaration}
 use Rattle.x_lex.specs.declared.mark.Mark.TheVariants as marks
 use Rattle.x_item.specs.declared.parsing.ending.Ending.TheVariants as endings
-use Rattle.x_item.specs.Symbols.{AnyValue, Token, AfterCase, MoreArms, Declared, Declarations, MoreDeclarations, Arms, InDeclaration, AfterType, AfterTag, AnyBody, Typed, ending_mark}
-use Rattle.x_item.specs.Reading.{view_word, spell_ended}
-use Rattle.x_item.proofs.ReadLemmas.{exit, not_mark, fails_alike, fails_more, fails_then, read_alike, read_as, read_more, read_on, read_then, read_after, ok_alike, err_alike}
-use Rattle.x_item.proofs.LoopLemmas.{one_only, other_mark, no_mark, of_struct, of_union, union_words, of_declarations, more_declarations, declarations_more, has_declaration, fits_declaration, of_arms, more_arms, arms_more, has_arm, fits_arm, read_unsigned, stuck_unsigned, no_keyword, no_tag_name, fits_one_more}
+use Rattle.x_item.specs.Symbols.{Context, AnyValue, Token, AfterCase, MoreArms, Declared, Declarations, MoreDeclarations, Arms, InDeclaration, AfterType, Typed, ending_mark}
+use Rattle.x_item.specs.Reading.{spell_ended, IsRead, Fails}
+use Rattle.x_item.proofs.ReadLemmas.{exit, not_mark, fails_alike, fails_more, fails_then, read_alike, read_as, read_more, read_on, read_then, read_after, ok_alike, err_alike, read_after_word}
+use Rattle.x_item.proofs.LoopLemmas.{one_only, other_mark, no_mark, of_struct, of_union, union_words, of_declarations, more_declarations, declarations_more, has_declaration, fits_declaration, of_arms, more_arms, arms_more, has_arm, fits_arm, no_keyword, no_tag_name, fits_one_more, fits_inline}
 use Rattle.x_item.proofs.parsing.declaration.+parser.Goals as goal
 
 pub body_of_struct-returns-in_err-rest-clause-stuck : goal.body_of_struct-returns-in_err-rest-clause-stuck
@@ -140,13 +140,13 @@ body_of_union-returns-in_err-discriminant-clause-stuck t c =
     let opened = read_then (Token marks.OpenParenthesis ∷ []) (Declared n endings.Parenthesis ∷ Token marks.OpenBrace ∷ Arms n ∷ []) start c.in_ok-rest-2.ensures.read in
     exit _ _ c.from_residual-in_err-discriminant.ensures.1 (fails_then (Declared n endings.Parenthesis ∷ []) (Token marks.OpenBrace ∷ Arms n ∷ []) opened c.in_err-discriminant.ensures.stuck)
 
-pub body_of_union-returns-in_err-rest-3-clause-stuck : goal.body_of_union-returns-in_err-rest-3-clause-stuck
-body_of_union-returns-in_err-rest-3-clause-stuck t c =
+pub body_of_union-returns-in_err-discriminant-2-clause-stuck : goal.body_of_union-returns-in_err-discriminant-2-clause-stuck
+body_of_union-returns-in_err-discriminant-2-clause-stuck t c =
     let n = c.args.depth in
     let start = read_alike (of_union n c.args.tokens.now) (read_more (Token marks.Switch ∷ []) (Token marks.OpenParenthesis ∷ Declared n endings.Parenthesis ∷ Token marks.OpenBrace ∷ Arms n ∷ []) c.in_ok-rest.ensures.read) in
     let opened = read_then (Token marks.OpenParenthesis ∷ []) (Declared n endings.Parenthesis ∷ Token marks.OpenBrace ∷ Arms n ∷ []) start c.in_ok-rest-2.ensures.read in
     let told = read_then (Declared n endings.Parenthesis ∷ []) (Token marks.OpenBrace ∷ Arms n ∷ []) opened c.in_ok-discriminant.ensures.read in
-    exit _ _ c.from_residual-in_err-rest-3.ensures.1 (fails_then (Token marks.OpenBrace ∷ []) (Arms n ∷ []) told c.in_err-rest-3.ensures.stuck)
+    exit _ _ c.from_residual-in_err-discriminant-2.ensures.1 (fails_then (Token marks.OpenBrace ∷ []) (Arms n ∷ []) told c.in_err-discriminant-2.ensures.stuck)
 
 pub body_of_union-returns-in_err-arms-clause-stuck : goal.body_of_union-returns-in_err-arms-clause-stuck
 body_of_union-returns-in_err-arms-clause-stuck t c =
@@ -154,7 +154,7 @@ body_of_union-returns-in_err-arms-clause-stuck t c =
     let start = read_alike (of_union n c.args.tokens.now) (read_more (Token marks.Switch ∷ []) (Token marks.OpenParenthesis ∷ Declared n endings.Parenthesis ∷ Token marks.OpenBrace ∷ Arms n ∷ []) c.in_ok-rest.ensures.read) in
     let opened = read_then (Token marks.OpenParenthesis ∷ []) (Declared n endings.Parenthesis ∷ Token marks.OpenBrace ∷ Arms n ∷ []) start c.in_ok-rest-2.ensures.read in
     let told = read_then (Declared n endings.Parenthesis ∷ []) (Token marks.OpenBrace ∷ Arms n ∷ []) opened c.in_ok-discriminant.ensures.read in
-    let within = read_then (Token marks.OpenBrace ∷ []) (Arms n ∷ []) told c.in_ok-rest-3.ensures.read in
+    let within = read_then (Token marks.OpenBrace ∷ []) (Arms n ∷ []) told c.in_ok-discriminant-2.ensures.read in
     exit _ _ c.from_residual-in_err-arms.ensures.1 (fails_then (Arms n ∷ []) [] within c.in_err-arms.ensures.stuck)
 
 pub body_of_union-returns-clause-read : goal.body_of_union-returns-clause-read
@@ -163,18 +163,20 @@ body_of_union-returns-clause-read t c =
     let start = read_alike (of_union n c.args.tokens.now) (read_more (Token marks.Switch ∷ []) (Token marks.OpenParenthesis ∷ Declared n endings.Parenthesis ∷ Token marks.OpenBrace ∷ Arms n ∷ []) c.in_ok-rest.ensures.read) in
     let opened = read_then (Token marks.OpenParenthesis ∷ []) (Declared n endings.Parenthesis ∷ Token marks.OpenBrace ∷ Arms n ∷ []) start c.in_ok-rest-2.ensures.read in
     let told = read_then (Declared n endings.Parenthesis ∷ []) (Token marks.OpenBrace ∷ Arms n ∷ []) opened c.in_ok-discriminant.ensures.read in
-    let within = read_then (Token marks.OpenBrace ∷ []) (Arms n ∷ []) told c.in_ok-rest-3.ensures.read in
-    read_as (union_words _ _ ∙ ap spell_body (sym c.union_body.ensures)) (read_then (Arms n ∷ []) [] within c.in_ok-arms.ensures.read)
+    let within = read_then (Token marks.OpenBrace ∷ []) (Arms n ∷ []) told c.in_ok-discriminant-2.ensures.read in
+    let made = rw c.in_ok-discriminant-2.ensures.value at c.union_body.ensures in
+    read_as (union_words _ _ ∙ ap spell_body (sym made)) (read_then (Arms n ∷ []) [] within c.in_ok-arms.ensures.read)
 
-pub data_type-returns-in-Unsigned-clause-read : goal.data_type-returns-in-Unsigned-clause-read
-data_type-returns-in-Unsigned-clause-read t c =
-    let here : view_word c.in_ok-word.word ≡ Fixed marks.Unsigned = search rules in
-    read_unsigned c.args.depth c.in_ok-word.ensures.word here c.unsigned.result (λ x. spell_type (view_type x.0)) (λ x. x.1.now) c.unsigned.ensures.read
-
-pub data_type-returns-in-Unsigned-clause-stuck : goal.data_type-returns-in-Unsigned-clause-stuck
-data_type-returns-in-Unsigned-clause-stuck t c =
-    let here : view_word c.in_ok-word.word ≡ Fixed marks.Unsigned = search rules in
-    stuck_unsigned c.args.depth c.in_ok-word.ensures.word here c.unsigned.result c.unsigned.ensures.stuck
+pub data_type-returns-in_default-mark : goal.data_type-returns-in_default-mark
+data_type-returns-in_default-mark t c =
+    let n = c.args.depth in
+    let tokens = c.args.tokens.now in
+    record {
+      read = IfOk-weaker c.basic.result (λ x. (n : ℕ) (at : Context) → IsRead [] (Typed n at ∷ []) tokens (spell_type (view_type x.0)) (AfterType at ∷ []) x.1.now)
+          (λ x. (at : Context) → IsRead [] (Typed n at ∷ []) tokens (spell_type (view_type x.0)) (AfterType at ∷ []) x.1.now) (λ x r. r n) c.basic.ensures.read;
+      fits = IfOk-weaker c.basic.result (λ x. (n : ℕ) → TypeFits (view_type x.0) n) (λ x. TypeFits (view_type x.0) n) (λ x f. f n) c.basic.ensures.fits;
+      stuck = IfErr-weaker c.basic.result (λ e. (n : ℕ) (at : Context) → Fails (Typed n at ∷ []) tokens e) (λ e. (at : Context) → Fails (Typed n at ∷ []) tokens e) (λ e f. f n) c.basic.ensures.stuck;
+    }
 
 pub declared-returns-in_default-mark : goal.declared-returns-in_default-mark
 declared-returns-in_default-mark t c =
@@ -206,17 +208,22 @@ declared-returns-in_default t c =
       stuck = err_alike (Declared n e ∷ []) (Typed n (InDeclaration e) ∷ []) c.args.tokens.now last.result same last.ensures.stuck;
     }
 
-pub tagged-returns-else-depth-eq0 : goal.tagged-returns-else-depth-eq0
-tagged-returns-else-depth-eq0 t c =
-    let n = c.args.depth in
+pub tagged-returns-in_err-body-in_default-clause-stuck : goal.tagged-returns-in_err-body-in_default-clause-stuck
+tagged-returns-in_err-body-in_default-clause-stuck t c =
+    let same = no_tag_name c.args.tag c.args.depth c.in_ok-word.word c.in_ok-word.ensures.word c.in_default.not-Name c.if-depth-eq0.false in
+    exit _ _ c.from_residual-in_err-body-in_default.ensures.1 (fails_alike same c.in_err-body-in_default.ensures.stuck)
+
+pub tagged-returns-in_ok-inline-in_default-clause-read : goal.tagged-returns-in_ok-inline-in_default-clause-read
+tagged-returns-in_ok-inline-in_default-clause-read t c =
     let tag = c.args.tag in
-    let some = c.if-depth-eq0.false in
-    let same = no_tag_name tag n c.in_ok-word.word c.in_ok-word.ensures.word c.in_default.not-Name some in
-    record {
-      read = ok_alike (Fixed (tag_mark tag) ∷ []) (AfterTag tag n ∷ []) (AnyBody tag (n - 1) ∷ []) [] c.args.tokens.now (λ x. spell_type (view_type x.0)) (λ x. x.1.now) c.inlined.result same c.inlined.ensures.read;
-      fits = IfOk-weaker c.inlined.result (λ x. TypeFits (view_type x.0) (n - 1 + 1)) (λ x. TypeFits (view_type x.0) n) (λ x f. fits_one_more (view_type x.0) n some f) c.inlined.ensures.fits;
-      stuck = err_alike (AfterTag tag n ∷ []) (AnyBody tag (n - 1) ∷ []) c.args.tokens.now c.inlined.result same c.inlined.ensures.stuck;
-    }
+    let made = c.in_ok-inline-in_default.ensures in
+    let read = c.in_ok-body-in_default.ensures in
+    let same = no_tag_name tag c.args.depth c.in_ok-word.word c.in_ok-word.ensures.word c.in_default.not-Name c.if-depth-eq0.false in
+    read_alike same (read_as (ap (λ m. Fixed m ∷ spell_body (view_body c.in_ok-body-in_default.body)) (sym read.of) ∙ ap spell_type (sym made)) (read_after_word (Fixed (tag_mark tag)) read.read))
+
+pub tagged-returns-in_ok-inline-in_default-clause-fits : goal.tagged-returns-in_ok-inline-in_default-clause-fits
+tagged-returns-in_ok-inline-in_default-clause-fits t c =
+    fits_one_more _ c.args.depth c.if-depth-eq0.false (fits_inline _ _ (c.args.depth - 1) c.in_ok-inline-in_default.ensures c.in_ok-body-in_default.ensures.fits)
 
 pub typed-returns-in_err-name-clause-stuck : goal.typed-returns-in_err-name-clause-stuck
 typed-returns-in_err-name-clause-stuck t c =

@@ -38,9 +38,6 @@ decreases-body_of_union l = 11 * l.depth + 6
 abbrev pub decreases-body : goal.decreases-body
 decreases-body l = 11 * l.depth + 7
 
-abbrev pub decreases-inlined : goal.decreases-inlined
-decreases-inlined l = 11 * l.depth + 8
-
 abbrev pub invariant-declarations-loop-members : goal.invariant-declarations-loop-members
 invariant-declarations-loop-members l = record {
   read : IsRead [] (Declarations l.depth ∷ []) l.tokens (spell_declarations (view_declarations l.members.items)) (MoreDeclarations l.depth ∷ []) l.left;

@@ -11,14 +11,14 @@ use x_text::{Pen, Sink, WriteFault};
 
 /// A text that is generated.
 #[derive(Clone, Copy, Debug, PartialEq, Eq)]
-pub enum GeneratedText {
+pub enum Which {
     /// The header, `BASE.h`.
     Header,
 }
 
 impl Session {
     /// Writes a generated text. After a fault the sink has exactly its first `written` bytes.
-    pub fn write_text<S: Sink>(&self, which: GeneratedText, sink: &mut S) -> Result<(), WriteFault>
+    pub fn write_text<S: Sink>(&self, which: Which, sink: &mut S) -> Result<(), WriteFault>
         ensures { Compiles self.now.text
             (λ items. IsWritten result (S.state sink.old) (S.state sink.new)
             (text_of which self.now.base items)) }
@@ -29,13 +29,13 @@ impl Session {
     }
 
     /// Adds a generated text.
-    pub(crate) fn add_text<S: Sink>(&self, which: GeneratedText, pen: &mut Pen, sink: &mut S)
+    pub(crate) fn add_text<S: Sink>(&self, which: Which, pen: &mut Pen, sink: &mut S)
         ensures { Compiles self.now.text
             (λ items. Adds pen.old (S.state sink.old) pen.new (S.state sink.new)
             (text_of which self.now.base items)) }
     {
         match which {
-            GeneratedText::Header => {
+            Which::Header => {
                 pen.add(&self.prologue, sink);
                 pen.add(&self.body, sink);
                 pen.add(EPILOGUE, sink);
@@ -44,11 +44,11 @@ impl Session {
     }
 
     /// How many bytes a generated text has.
-    pub(crate) fn text_length(&self, which: GeneratedText) -> u128
+    pub(crate) fn text_length(&self, which: Which) -> u128
         ensures { Compiles self.now.text (λ items. result ≡ length (text_of which self.now.base items)) }
     {
         match which {
-            GeneratedText::Header => {
+            Which::Header => {
                 self.prologue.len() as u128 + self.body.len() as u128 + EPILOGUE.len() as u128
             }
         }
