@@ -116,6 +116,7 @@ one_left word mark is = by_test (bytes_eq (text_of mark) word) refl
     by_mark : (o : Option Mark) → mark_of word ≡ o → bytes_eq (text_of mark) word ≡ false → None ≡ o
     by_mark None h differs = refl
     by_mark (Some other) h differs = absurd (false≢true (sym differs ∙ (bytes_eq-Decides (text_of mark) word).1 (ap text_of (sym (same_Some other mark (sym (found word other h) ∙ is))) ∙ written word other h)))
+
     by_test : (b : Bool) → bytes_eq (text_of mark) word ≡ b → then_some b mark ≡ mark_of word
     by_test true same = sym (ap mark_of (sym ((bytes_eq-Decides (text_of mark) word).0 same)) ∙ (stands mark).found)
     by_test false differs = by_mark (mark_of word) refl differs

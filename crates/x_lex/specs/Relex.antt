@@ -61,4 +61,5 @@ pub record IsPatch (change : Change) (ts : List (Kind × ℕ)) (patch : TokenPat
   pub place : ℕ
   pub meeting : IsMeeting change ts (patched ts patch) place
   pub fresh_are : patch.fresh ≡ fresh change.start place (patched ts patch)
-  pub kept_are : take patch.at ts ++ drop (patch.at + patch.removed) ts ≡ kept change.start (old_place change place) ts
+  pub kept_are : take patch.at ts ++ drop (patch.at + patch.removed) ts
+      ≡ kept change.start (old_place change place) ts

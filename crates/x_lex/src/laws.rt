@@ -20,17 +20,22 @@ pub fn has_tokens()
 /// The tokens of a text are those that follow one another from its start to its end, none of them empty, each the word with the
 /// greatest end of those that begin at its place.
 pub fn tokens_by_place()
-    ensures same { (text : List ℕ) (ts : List (Kind × ℕ)) → AreTokens text ts ↔ TilesByPlace text (lexemes text ts) }
-    ensures only { (text : List ℕ) (ls : List Lexeme) → TilesByPlace text ls → (ts : List (Kind × ℕ)) × AreTokens text ts × (ls ≡ lexemes text ts) }
+    ensures same { (text : List ℕ) (ts : List (Kind × ℕ))
+        → AreTokens text ts ↔ TilesByPlace text (lexemes text ts) }
+    ensures only { (text : List ℕ) (ls : List Lexeme) → TilesByPlace text ls
+        → (ts : List (Kind × ℕ)) × AreTokens text ts × (ls ≡ lexemes text ts) }
 {}
 
 /// The place from which the tokens of a text hold again behind an edit is determined by the change.
 pub fn one_meeting()
-    ensures { (change : Change) (ts vs us ws : List (Kind × ℕ)) (p q : ℕ) → AreTokens change.old ts → AreTokens change.old vs
-        → AreTokens (edited_by change) us → AreTokens (edited_by change) ws → IsMeeting change ts us p → IsMeeting change vs ws q → p ≡ q }
+    ensures { (change : Change) (ts vs us ws : List (Kind × ℕ)) (p q : ℕ)
+        → AreTokens change.old ts → AreTokens change.old vs
+        → AreTokens (edited_by change) us → AreTokens (edited_by change) ws
+        → IsMeeting change ts us p → IsMeeting change vs ws q → p ≡ q }
 {}
 
 /// What an edit does to the tokens of a text is determined by the tokens and the change.
 pub fn one_patch()
-    ensures { (change : Change) (ts : List (Kind × ℕ)) (p q : TokenPatch) → IsPatch change ts p → IsPatch change ts q → p ≡ q }
+    ensures { (change : Change) (ts : List (Kind × ℕ)) (p q : TokenPatch)
+        → IsPatch change ts p → IsPatch change ts q → p ≡ q }
 {}

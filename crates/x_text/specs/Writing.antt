@@ -36,13 +36,16 @@ pub record HasAllBut (start now : Stream) (text : List ℕ) (pen : Inked) : Type
 -- Of the text that the pen was given so far, since the sink was as at the start, the sink has all but what the pen holds back;
 -- or it has failed, with the front of the text that the pen counted.
 abbrev pub Writes : Stream → List ℕ → Inked → Stream → Type 0
-Writes start text pen now = MatchBool pen.stopped (StopsWithin start now text pen.written) (HasAllBut start now text pen)
+Writes start text pen now =
+    MatchBool pen.stopped (StopsWithin start now text pen.written) (HasAllBut start now text pen)
 
 -- the pen was given these bytes more, and the sink took no fewer than before
 pub record Adds (pen : Inked) (now : Stream) (pen' : Inked) (now' : Stream) (bytes : List ℕ) : Type 0 where
   pub no_fewer : pen.written ≤ pen'.written
-  pub goes_on : (start : Stream) (text : List ℕ) → Writes start text pen now → Writes start (text ++ bytes) pen' now'
+  pub goes_on : (start : Stream) (text : List ℕ) → Writes start text pen now
+      → Writes start (text ++ bytes) pen' now'
 
 -- At Ok the sink took the text; at Err it has failed, with the first bytes of the text that the fault counts.
 abbrev pub IsWritten : {T : Type 0} → Result T WriteFault → Stream → Stream → List ℕ → Type 0
-IsWritten result start now text = MatchResult result (λ _. Appends start.bytes now.bytes text) (λ fault. StopsWithin start now text fault.written)
+IsWritten result start now text =
+    MatchResult result (λ _. Appends start.bytes now.bytes text) (λ fault. StopsWithin start now text fault.written)

@@ -29,7 +29,8 @@ pub(crate) fn edited(alloc: Global, bytes: &[u8], edit: &Edit) -> Result<Vec<u8>
 /// Carries the edit out where there is room for the text that it leaves, and takes no memory.
 pub(crate) fn edit_in_room(bytes: &mut Vec<u8>, edit: &Edit)
     requires within { LiesWithin (change_of bytes.old.items edit.now) }
-    requires room { vec_len bytes.old + length edit.now.insert.now ≤ vec_capacity bytes.old + (edit.now.end - edit.now.start) }
+    requires room { vec_len bytes.old + length edit.now.insert.now
+        ≤ vec_capacity bytes.old + (edit.now.end - edit.now.start) }
     ensures { bytes.new.items ≡ edited_by (change_of bytes.old.items edit.now) }
 {
     // First bytes are written over others. Then there is a gap to close, or there are bytes left to insert, or neither.
@@ -47,7 +48,8 @@ pub(crate) fn edit_in_room(bytes: &mut Vec<u8>, edit: &Edit)
 /// Writes these bytes over as many others.
 fn write_over(bytes: &mut Vec<u8>, at: usize, front: &[u8])
     requires { at + length front.now ≤ vec_len bytes.old }
-    ensures items { bytes.new.items ≡ take at bytes.old.items ++ front.now ++ drop (at + length front.now) bytes.old.items }
+    ensures items { bytes.new.items
+        ≡ take at bytes.old.items ++ front.now ++ drop (at + length front.now) bytes.old.items }
     ensures capacity { vec_capacity bytes.new ≡ vec_capacity bytes.old }
 {
     bytes[at..at + front.len()].copy_from_slice(front);

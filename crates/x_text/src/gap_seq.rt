@@ -31,7 +31,8 @@ impl<T> Model for GapSeq<T> {
     } };
 
     // So that entries can go from stack to stack.
-    ghost invariant = { λ s. (vec_len s.front + vec_len s.rear ≤ vec_capacity s.front) × (vec_len s.front + vec_len s.rear ≤ vec_capacity s.rear) };
+    ghost invariant = { λ s. (vec_len s.front + vec_len s.rear ≤ vec_capacity s.front)
+        × (vec_len s.front + vec_len s.rear ≤ vec_capacity s.rear) };
 }
 
 impl<T> GapSeq<T> {

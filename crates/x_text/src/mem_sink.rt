@@ -23,7 +23,12 @@ impl<'b> Model for MemSink<'b> {
 
     ghost Value = { MemState };
 
-    ghost view = { λ s. record { bytes = take s.used s.bytes.now; most = s.most; left = s.left; failed = s.failed } };
+    ghost view = { λ s. record {
+      bytes = take s.used s.bytes.now;
+      most = s.most;
+      left = s.left;
+      failed = s.failed;
+    } };
 
     ghost invariant = { λ s. (s.used + s.left ≤ length s.bytes.now) × (0 < s.most) };
 }
@@ -32,7 +37,8 @@ impl<'b> MemSink<'b> {
     /// An empty sink that takes at most `most` bytes a call, and fails after `left` bytes.
     pub fn new(bytes: &'b mut [u8], most: usize, left: usize) -> MemSink<'b>
         requires { 0 < most }
-        ensures state { result ≡ record { bytes = []; most = most; left = min left (length bytes.old); failed = false } }
+        ensures state { result
+            ≡ record { bytes = []; most = most; left = min left (length bytes.old); failed = false } }
         ensures sink { ⟦<MemSink<'b> as Sink>⟧.state result ≡ in_memory result }
     {
         let left = left.min(bytes.len());
@@ -63,7 +69,8 @@ impl Sink for MemSink<'_> {
 
         ensures count { IfOk result (λ n. n ≡ share self.old (length bytes.now)) }
         ensures refuses { IsErr result ↔ Fails self.old (length bytes.now) }
-        ensures left { MatchResult result (λ n. self.new.left + n ≡ self.old.left) (λ _. self.new.left ≡ self.old.left) }
+        ensures left { MatchResult result
+            (λ n. self.new.left + n ≡ self.old.left) (λ _. self.new.left ≡ self.old.left) }
         ensures most { self.new.most ≡ self.old.most }
     {
         let count = bytes.len().min(self.most).min(self.left);

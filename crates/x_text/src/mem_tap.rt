@@ -49,9 +49,11 @@ impl Tap for MemTap<'_> {
         ensures taken { Takes (in_memory self.old) (in_memory self.new) result buffer.new }
         ensures fails { FailsForGood (in_memory self.old) (in_memory self.new) result }
 
-        ensures count { IfOk result (λ n. n ≡ share self.old (min (length buffer.old) (length self.old.bytes))) }
+        ensures count { IfOk result
+            (λ n. n ≡ share self.old (min (length buffer.old) (length self.old.bytes))) }
         ensures refuses { IsErr result ↔ Fails self.old (length buffer.old) }
-        ensures left { MatchResult result (λ n. self.new.left + n ≡ self.old.left) (λ _. self.new.left ≡ self.old.left) }
+        ensures left { MatchResult result
+            (λ n. self.new.left + n ≡ self.old.left) (λ _. self.new.left ≡ self.old.left) }
         ensures most { self.new.most ≡ self.old.most }
     {
         if self.failed || (self.left == 0 && !buffer.is_empty()) {

@@ -136,7 +136,8 @@ impl Pen {
 
     /// Writes what was held back.
     pub fn finish<S: Sink>(self, sink: &mut S) -> Result<(), WriteFault>
-        ensures { (start : Stream) (text : List ℕ) → Writes start text self (S.state sink.old) → IsWritten result start (S.state sink.new) text }
+        ensures { (start : Stream) (text : List ℕ) → Writes start text self (S.state sink.old)
+            → IsWritten result start (S.state sink.new) text }
     {
         let mut pen = self;
         pen.pass_on(sink);
@@ -161,7 +162,8 @@ fn raised(count: u64, more: usize) -> u64
 /// Puts all the bytes, or answers how many the sink took before it failed.
 fn put_all<S: Sink>(bytes: &[u8], sink: &mut S) -> Result<(), usize>
     ensures all { OnOk result (Appends (S.state sink.old).bytes (S.state sink.new).bytes bytes.now) }
-    ensures front { IfErr result (λ taken. Appends (S.state sink.old).bytes (S.state sink.new).bytes (take taken bytes.now)) }
+    ensures front { IfErr result
+        (λ taken. Appends (S.state sink.old).bytes (S.state sink.new).bytes (take taken bytes.now)) }
     ensures within { IfErr result (λ taken. taken ≤ length bytes.now) }
     ensures failed { IfErr result (λ _. IsTrue (S.state sink.new).failed) }
 {

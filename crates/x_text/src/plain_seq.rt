@@ -18,7 +18,10 @@ impl<T> Model for PlainSeq<T> {
 
     ghost Value = { Roomy T };
 
-    ghost view = { λ s. record { list = s.entries.items; spare = vec_capacity s.entries - vec_len s.entries } };
+    ghost view = { λ s. record {
+      list = s.entries.items;
+      spare = vec_capacity s.entries - vec_len s.entries;
+    } };
 }
 
 impl<T> PlainSeq<T> {
@@ -79,7 +82,8 @@ impl<T: Drop> Seq<T> for PlainSeq<T> {
 /// Moves `count` entries, from `at` on, behind all that follow them.
 fn rotate_behind<T>(entries: &mut Vec<T>, at: usize, count: usize)
     requires { at + count ≤ vec_len entries.old }
-    ensures items { entries.new.items ≡ take at entries.old.items ++ (drop (at + count) entries.old.items ++ take count (drop at entries.old.items)) }
+    ensures items { entries.new.items ≡ take at entries.old.items
+        ++ (drop (at + count) entries.old.items ++ take count (drop at entries.old.items)) }
     ensures len { vec_len entries.new ≡ vec_len entries.old }
     ensures capacity { vec_capacity entries.new ≡ vec_capacity entries.old }
 {

@@ -133,18 +133,6 @@ pub fn closed<'w, 't, T: Drop>(
     Ok((value, rest))
 }
 
-/// A value that was read, and what was read behind it.
-pub fn both<T: Drop, U: Drop>(value: T, behind: Result<U, ParseError>) -> Result<(T, U), ParseError>
-    ensures value { IfOk result (λ x. x.0 ≡ value) }
-    ensures ok { IfOk result (λ x. behind ≡ Ok x.1) }
-    ensures err { IfErr result (λ e. behind ≡ Err e) }
-{
-    match behind {
-        Ok(behind) => Ok((value, behind)),
-        Err(error) => Err(error),
-    }
-}
-
 /// The value that was read, where no word stands behind it.
 pub fn only<T: Drop>(value: T, tokens: &[Token]) -> Result<T, ParseError>
     ensures value { IfOk result (λ x. x ≡ value) }

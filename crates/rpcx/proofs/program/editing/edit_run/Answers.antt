@@ -8,8 +8,8 @@ use Rattle.rpcx.proofs.program.editing.edit_run.Goals as goal
 
 pub returns-clause-answers : goal.returns-clause-answers
 returns-clause-answers g c =
-    subst (λ (p : List ℕ × List ℕ). MatchOption (g.I.Tap.state c.args.input.now).bytes (Unit {0}) (λ script. Answers script p.0 p.1 (g.O.Sink.state c.args.out.now) (g.O.Sink.state c.answer_input.new.out) c.answer_input.result))
-    (λ i. ((c.in-Ok.ensures.base ∙ c.base_of_file.ensures) i, c.in-Ok.ensures.text i)) c.answer_input.ensures.answers
+    subst (λ (p : List ℕ × List ℕ). MatchOption (g.I.Tap.state c.args.input.now).bytes (Unit {0}) (λ script. Answers script p.0 p.1 (g.O.Sink.state c.args.out.now) (g.O.Sink.state c.answer_input-status.new.out) c.answer_input-status.result))
+    (λ i. ((c.in-Ok.ensures.base ∙ c.base_of_file.ensures) i, c.in-Ok.ensures.text i)) c.answer_input-status.ensures.answers
 
 pub returns-in-Err-clause-failed : goal.returns-in-Err-clause-failed
 returns-in-Err-clause-failed g c e =
@@ -18,9 +18,9 @@ returns-in-Err-clause-failed g c e =
 
 pub returns-clause-ended : goal.returns-clause-ended
 returns-clause-ended g c e =
-    begun (g.I.Tap.state c.args.input.now).bytes (g.I.Tap.state c.answer_input.new.input).bytes (base_of c.args.args.now.file.now) c.args.bytes.now (g.O.Sink.state c.args.out.now) (g.O.Sink.state c.answer_input.new.out)
-    (subst (λ (p : List ℕ × List ℕ). MatchOption (g.I.Tap.state c.args.input.now).bytes (Unit {0}) (λ script. EndsEarly script (g.I.Tap.state c.answer_input.new.input).bytes p.0 p.1 (g.O.Sink.state c.args.out.now) (g.O.Sink.state c.answer_input.new.out)))
-    (λ i. ((c.in-Ok.ensures.base ∙ c.base_of_file.ensures) i, c.in-Ok.ensures.text i)) (c.answer_input.ensures.ended e))
+    begun (g.I.Tap.state c.args.input.now).bytes (g.I.Tap.state c.answer_input-status.new.input).bytes (base_of c.args.args.now.file.now) c.args.bytes.now (g.O.Sink.state c.args.out.now) (g.O.Sink.state c.answer_input-status.new.out)
+    (subst (λ (p : List ℕ × List ℕ). MatchOption (g.I.Tap.state c.args.input.now).bytes (Unit {0}) (λ script. EndsEarly script (g.I.Tap.state c.answer_input-status.new.input).bytes p.0 p.1 (g.O.Sink.state c.args.out.now) (g.O.Sink.state c.answer_input-status.new.out)))
+    (λ i. ((c.in-Ok.ensures.base ∙ c.base_of_file.ensures) i, c.in-Ok.ensures.text i)) (c.answer_input-status.ensures.ended e))
 
 pub returns-in-Err-clause-ended : goal.returns-in-Err-clause-ended
 returns-in-Err-clause-ended g c e =
