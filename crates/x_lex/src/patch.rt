@@ -71,6 +71,13 @@ impl Patch {
         Some(entry.kind_and_length())
     }
 
+    /// The entries of the fresh tokens, and what they take the place of, as they are kept.
+    pub(crate) fn entries(&self) -> &SeqPatch<Entry>
+        ensures { result.now ≡ self.now }
+    {
+        &self.entries
+    }
+
     /// The entries of the fresh tokens, and what they take the place of.
     pub(crate) fn into_entries(self) -> SeqPatch<Entry>
         ensures { result ≡ self }

@@ -9,7 +9,7 @@ ghost use Rattle.x_lex.specs.Places.{places, lexeme, lexeme_at, lexemes};
 ghost use Rattle.x_lex.specs.Relex.{IsFront};
 
 use crate::entry::Entry;
-use crate::{Kind, Patch, Token};
+use crate::{Kind, Patch, PatchedWalk, Token};
 use std::alloc::Global;
 use std::marker::Model;
 use x_text::{GapIter, MeasuredSeq, NoMemory, Source};
@@ -117,6 +117,27 @@ impl Tokens {
             text: source.bytes(),
             at: self.entries.start_of(index),
         }
+    }
+
+    /// Goes over the tokens that the patch will leave, which are those of the text, from that at `index` on.
+    ///
+    /// Looks first at no more tokens than three calls of [`Tokens::iter_from`] do, and at the fresh ones.
+    pub fn iter_patched<'a>(
+        &'a self,
+        patch: &'a Patch,
+        index: usize,
+        source: &'a Source,
+    ) -> PatchedWalk<'a>
+        requires among { LiesAmong self.now.list patch.now }
+        requires tokens { AreTokens source.now (patched self.now.list patch.now) }
+        requires within { index ≤ length (patched self.now.list patch.now) }
+        ensures tokens { result ≡ drop index (lexemes source.now (patched self.now.list patch.now)) }
+        ensures small { length result ≤ MAX_TEXT }
+    {
+        let text = source.bytes();
+        let start = self.entries.start_patched(patch.entries(), index);
+        let entries = self.entries.iter_patched(patch.entries(), index);
+        PatchedWalk::new(entries, text, start)
     }
 
     /// Makes room for the fresh tokens of the patch. After [`NoMemory`], too, all is as before but the room, which never shrinks.

@@ -102,6 +102,23 @@ impl<T: Measured + Drop> MeasuredSeq<T> {
         PatchedIter::new(at - from, self.iter_from(from), fresh, rear)
     }
 
+    /// Where the entry at `index` of those that the patch will leave starts, or where the last of them ends.
+    ///
+    /// Looks at no more entries than three calls of [`MeasuredSeq::start_of`] do, and at the fresh ones.
+    pub fn start_patched(&self, patch: &SeqPatch<T>, index: usize) -> usize
+        requires among { LiesAmong self.now.list patch.now }
+        requires within { index ≤ length (patched self.now.list patch.now) }
+        requires short { total_length T.length (patched self.now.list patch.now) < 2 ^ 64 }
+        ensures { result ≡ length_before T.length (patched self.now.list patch.now) index }
+    {
+        let from = index.min(patch.at());
+        let into = (index - from).min(patch.len());
+        let rest = self.len() - patch.at() - patch.removed();
+        let left = rest - (index - from - into);
+        let behind = self.start_of(self.len() - left) - self.start_of(self.len() - rest);
+        self.start_of(from) + total_length(&patch.fresh()[..into]) + behind
+    }
+
     /// Where the entry at `index` starts, or where the last one ends.
     ///
     /// Looks at each entry between it and the seat or the first one.
