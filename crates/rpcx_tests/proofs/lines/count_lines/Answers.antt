@@ -1,6 +1,6 @@
 use Rattle.std.proofs.Common.{◌≡◌, [], ◌∷◌, ◌++◌, ◌+◌, List, ℕ, Ok, refl, subst, ap, ◌∙◌, length, length-append, sym, Option, None, Some}
 use Rattle.std.specs.Option.{IfSome}
-use Rattle.rpcx.specs.declared.lines.Found.TheVariants.{End}
+use Rattle.rpcx.specs.declared.script.lines.Found.TheVariants.{End}
 use Rattle.rpcx.specs.Lines.{IsUnread, ReadsOn, script_lines}
 use Rattle.rpcx.proofs.LineLemmas.{given_start, given_all, found_more}
 use Rattle.rpcx_tests.proofs.lines.count_lines.Goals as goal
