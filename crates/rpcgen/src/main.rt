@@ -2,12 +2,11 @@
 #![tactic(auto)]
 
 use rpcx::{
-    Which, Session, Status, gen_args, gen_mode, gen_open, gen_write, read_text, read_words,
+    Session, Status, Which, gen_args, gen_mode, gen_open, gen_write, read_text, read_words,
     tell_of_file,
 };
-use std::fs;
-use std::mem;
 use std::process::ExitCode;
+use std::{fs, mem};
 use x_text::{Out, Sink};
 
 /// Writes a generated text to the file, or to standard output where none is named.

@@ -105,9 +105,10 @@ marked_parts : (parts : List (List Lexeme)) (items : List Item) → AreEach part
 marked_parts [] [] each = tt
 marked_parts [] (x ∷ items) each = absurd each
 marked_parts (p ∷ parts) [] each = tt
-marked_parts (p ∷ parts) (x ∷ items) each =
-    (each.0.lines ∙ ap has_lines (sym (take_part p (joined parts) x.tokens each.0.count)),
-     subst (λ w. AreMarked w items) (sym (drop_part p (joined parts) x.tokens each.0.count)) (marked_parts parts items each.1))
+marked_parts (p ∷ parts) (x ∷ items) each = (
+  each.0.lines ∙ ap has_lines (sym (take_part p (joined parts) x.tokens each.0.count)),
+  subst (λ w. AreMarked w items) (sym (drop_part p (joined parts) x.tokens each.0.count)) (marked_parts parts items each.1),
+)
 
 -- the items say which of them have lines
 pub marked_items : (all : List Lexeme) (items : List Item) → AreParsed all items → AreMarked all items

@@ -17,4 +17,4 @@ pub use script::{
     Command, EngineFault, Found, Insert, LONGEST, LineFault, LineReader, Outcome, parse_command,
     run_script,
 };
-pub use session::{Which, Session, Work};
+pub use session::{Session, Which, Work};

@@ -14,7 +14,7 @@ mod byte_queue;
 mod command;
 mod lines;
 
-use crate::{Which, Session};
+use crate::{Session, Which};
 pub(crate) use answer::add_place;
 use answer::{add_counted, add_definitions, add_faults, add_text, add_tokens};
 pub use command::{Command, Insert, parse_command};

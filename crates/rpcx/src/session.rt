@@ -14,9 +14,9 @@ mod which;
 mod work;
 
 use crate::compile::{Compilation, Fault, Item, compile, is_constant, prologue};
-pub use which::Which;
 use std::alloc::Global;
 use std::marker::Model;
+pub use which::Which;
 pub use work::Work;
 use x_item::Definition;
 use x_lex::{Token, Tokens, Walk};

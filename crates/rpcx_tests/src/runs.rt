@@ -1,4 +1,4 @@
-use rpcx::{EditArgs, Which, Session, Status, edit_run, gen_write};
+use rpcx::{EditArgs, Session, Status, Which, edit_run, gen_write};
 use std::test::Fail;
 use x_text::{MemSink, MemTap, WriteFault};
 

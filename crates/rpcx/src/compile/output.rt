@@ -148,7 +148,15 @@ pub fn output_of(
     let mut walk = tokens.iter(source);
     for (index, item) in items.iter().enumerate() {
         let ruled = rule_faults(alloc, index, &item.parse, names, meter)?;
-        add_output(alloc, &mut output, index as u32, item, &ruled, &mut walk, &mut lines)?;
+        add_output(
+            alloc,
+            &mut output,
+            index as u32,
+            item,
+            &ruled,
+            &mut walk,
+            &mut lines,
+        )?;
     }
     Ok(output)
 }

@@ -14,7 +14,7 @@ use crate::program::base::base_of_file;
 use crate::program::complaint::{complain, tell_of_file, tell_unopened};
 use crate::program::status::Status;
 use crate::script::add_place;
-use crate::{Fault, Which, Session};
+use crate::{Fault, Session, Which};
 use std::alloc::Global;
 use x_text::{Pen, Sink};
 

@@ -9,7 +9,7 @@ ghost use Rattle.rpcx.specs.Compile.{tokens_of, definitions_of, faults_of};
 ghost use Rattle.rpcx.specs.Header.{text_of};
 ghost use Rattle.rpcx.specs.Answers.{counted_by, body_keyword, keyword_of, given_name, own_name, shown_name, definition_line, token_line, fault_line, tokens_answer, definitions_answer, fault_place, faults_answer, text_answer};
 
-use crate::{Fault, Which, Session};
+use crate::{Fault, Session, Which};
 use itoa::{Buffer, Integer};
 use x_item::{Body, Declaration, Definition};
 use x_lex::Token;
@@ -178,12 +178,7 @@ pub(crate) fn add_faults<S: Sink>(session: &Session, pen: &mut Pen, sink: &mut S
 }
 
 /// Adds a generated text.
-pub(crate) fn add_text<S: Sink>(
-    which: Which,
-    session: &Session,
-    pen: &mut Pen,
-    sink: &mut S,
-)
+pub(crate) fn add_text<S: Sink>(which: Which, session: &Session, pen: &mut Pen, sink: &mut S)
     ensures { Compiles session.now.text
         (λ items. Adds pen.old (S.state sink.old) pen.new (S.state sink.new)
         (text_answer (text_of which session.now.base items))) }
