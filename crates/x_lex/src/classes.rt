@@ -33,7 +33,7 @@ fn is_word_byte(byte: u8) -> bool
 pub(crate) fn is_punct(byte: u8) -> bool
     ensures { result ≡ is_punct byte }
 {
-    Mark::of(&[byte]).is_some()
+    Mark::of_byte(byte).is_some()
 }
 
 /// How many white bytes `rest` begins with.

@@ -32,5 +32,5 @@ pub fn lex(alloc: Global, source: &Source, meter: &mut Meter) -> Result<Tokens, 
         line_start = bytes[end - 1] == b'\n';
         at = end;
     }
-    Tokens::from_entries(alloc, entries)
+    Tokens::from_entries(alloc, entries, bytes.len())
 }

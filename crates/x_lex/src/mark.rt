@@ -1,5 +1,5 @@
 //! The marks: the words that have one spelling each.
-ghost use Rattle.std.specs.Prelude.{◌≡◌, ◌<◌, [], map, length, slice_index, slice_index_or};
+ghost use Rattle.std.specs.Prelude.{◌≡◌, ◌<◌, [], ◌∷◌, map, length, slice_index, slice_index_or};
 ghost use Rattle.x_lex.specs.Marks.{mark_of, text_of, place_of, candidate};
 
 /// A word with one spelling: a keyword (RFC 4506, section 6.2, and RFC 5531, section 12; `long` is one of this project) or a
@@ -150,11 +150,23 @@ impl Mark {
         text_in(&MARKS, self)
     }
 
+    /// The mark that is this byte alone, if one is.
+    #[tactic(auto, using(crate::proofs::MarkLemmas::none_left, crate::proofs::MarkLemmas::one_left_of_byte))]
+    pub(crate) fn of_byte(byte: u8) -> Option<Mark>
+        ensures { result ≡ mark_of (byte ∷ []) }
+    {
+        let mark = candidate(&[byte])?;
+        (mark.text().len() == 1).then_some(mark)
+    }
+
     /// The mark that is written so, if one is.
     #[tactic(auto, using(crate::proofs::MarkLemmas::none_left, crate::proofs::MarkLemmas::one_left))]
     pub fn of(text: &[u8]) -> Option<Mark>
         ensures { result ≡ mark_of text.now }
     {
+        if let [byte] = text {
+            return Mark::of_byte(*byte);
+        }
         let mark = candidate(text)?;
         (mark.text() == text).then_some(mark)
     }

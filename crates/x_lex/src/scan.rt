@@ -77,20 +77,26 @@ fn hash_line(rest: &[u8]) -> (Kind, usize)
     (kind, len)
 }
 
+/// The second byte, or 0 where there is none.
+fn second(rest: &[u8]) -> u8
+    ensures { result ≡ slice_index rest.now 1 }
+{
+    rest.get(1).copied().unwrap_or(0)
+}
+
 /// The kind and length of the token at the front.
 #[tactic(auto, unfolding(crate::specs::Scan::scan, crate::specs::Scan::class_of))]
 fn first_token(rest: &[u8], line_start: bool) -> (Kind, usize)
     requires { 0 < length rest.now }
     ensures { result ≡ scan line_start rest.now }
 {
-    let next = rest.get(1).copied().unwrap_or(0);
     match rest[0] {
         byte if is_space(byte) => (Kind::Space, space_len(rest)),
         byte if is_letter(byte) => name(rest),
         byte if is_digit(byte) => number(rest),
-        b'-' if is_digit(next) => signed_number(rest),
+        b'-' if is_digit(second(rest)) => signed_number(rest),
         byte if is_punct(byte) => (Kind::Punct, 1),
-        b'/' if next == b'*' => comment(rest),
+        b'/' if second(rest) == b'*' => comment(rest),
         b'%' if line_start => (Kind::Percent, line_len(rest)),
         b'#' if line_start => hash_line(rest),
         _ => (Kind::BadByte, 1),

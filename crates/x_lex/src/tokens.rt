@@ -34,14 +34,19 @@ impl Model for Tokens {
 }
 
 impl Tokens {
-    /// The tokens with these entries.
-    pub(crate) fn from_entries(alloc: Global, entries: Vec<Entry>) -> Result<Tokens, NoMemory>
+    /// The tokens with these entries, which have so many bytes together.
+    pub(crate) fn from_entries(
+        alloc: Global,
+        entries: Vec<Entry>,
+        total: usize,
+    ) -> Result<Tokens, NoMemory>
         requires of_text { IsOfText entries.items }
+        requires total { total ≡ span entries.items }
         ensures list { IfOk result (λ tokens. tokens.list ≡ entries.items) }
         ensures seat { IfOk result (λ tokens. tokens.seat ≡ length entries.items) }
         ensures no_memory { entries.items ≡ [] → IsOk result }
     {
-        let entries = MeasuredSeq::from_entries(alloc, entries)?;
+        let entries = MeasuredSeq::of_length(alloc, entries, total)?;
         Ok(Tokens { entries })
     }
 

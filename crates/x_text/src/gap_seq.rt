@@ -1,4 +1,4 @@
-ghost use Rattle.std.specs.Prelude.{◌≡◌, ◌↔◌, ◌+◌, ◌<◌, ◌≤◌, ◌^◌, [], Some, OnOk, OnErr, length, drop, slice_get, slice_set, option_copied};
+ghost use Rattle.std.specs.Prelude.{◌≡◌, ◌↔◌, ◌+◌, ◌<◌, ◌≤◌, ◌^◌, [], Some, IfOk, IsOk, OnOk, OnErr, length, drop, slice_get, slice_set, option_copied};
 ghost use Rattle.std.specs.List.{splice};
 ghost use Rattle.x_text.specs.Seqs.{distance};
 
@@ -76,6 +76,20 @@ impl<T> GapSeq<T> {
 }
 
 impl<T: Drop> GapSeq<T> {
+    /// The list of these entries, which stay where they are, with the seat behind the last of them.
+    pub fn from_entries(alloc: Global, entries: Vec<T>) -> Result<GapSeq<T>, NoMemory>
+        ensures list { IfOk result (λ s. s.list ≡ entries.items) }
+        ensures seat { IfOk result (λ s. s.seat ≡ length entries.items) }
+        ensures no_memory { entries.items ≡ [] → IsOk result }
+    {
+        let mut rear = Vec::new(alloc);
+        rear.reserve(entries.len())?;
+        Ok(GapSeq {
+            front: entries,
+            rear,
+        })
+    }
+
     /// Puts an entry in the place of the one at `at`, and gives that one back, with how many others moved. It takes no memory.
     pub fn exchange(&mut self, at: usize, new: T) -> (T, u64)
         requires { at < length self.old.list }

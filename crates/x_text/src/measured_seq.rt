@@ -38,13 +38,25 @@ impl<T: Measured + Drop> MeasuredSeq<T> {
         ensures seat { IfOk result (λ s. s.seat ≡ length entries.items) }
         ensures no_memory { entries.items ≡ [] → IsOk result }
     {
-        let place = total_length(&entries);
-        let mut seq = GapSeq::new(alloc);
-        seq.reserve(entries.len())?;
-        let _moved = seq.splice(0, 0, entries);
+        let total = total_length(&entries);
+        MeasuredSeq::of_length(alloc, entries, total)
+    }
+
+    /// The list of these entries, which are so long together, with the seat behind the last of them.
+    pub fn of_length(
+        alloc: Global,
+        entries: Vec<T>,
+        total: usize,
+    ) -> Result<MeasuredSeq<T>, NoMemory>
+        requires total { total ≡ total_length T.length entries.items }
+        ensures list { IfOk result (λ s. s.list ≡ entries.items) }
+        ensures seat { IfOk result (λ s. s.seat ≡ length entries.items) }
+        ensures no_memory { entries.items ≡ [] → IsOk result }
+    {
+        let entries = GapSeq::from_entries(alloc, entries)?;
         Ok(MeasuredSeq {
-            entries: seq,
-            place,
+            entries,
+            place: total,
         })
     }
 
