@@ -20,5 +20,5 @@ pub use parsing::parse_item::{Parsed, parse_item};
 pub use parsing::{FaultCode, is_significant};
 pub use trees::{
     Argument, Arm, Basic, Body, DataType, Declaration, Definition, Enumerator, Length, MOST_INLINE,
-    Procedure, Shape, Tag, UnionBody, Value, Version,
+    Procedure, Shape, Spelling, Tag, UnionBody, Value, Version,
 };

@@ -3,6 +3,7 @@
 mod declaration;
 mod definition;
 mod program;
+mod spelling;
 mod value;
 
 pub use declaration::{
@@ -11,4 +12,5 @@ pub use declaration::{
 pub(crate) use declaration::{inline, struct_body, union_body};
 pub use definition::Definition;
 pub use program::{Argument, Procedure, Version};
+pub use spelling::Spelling;
 pub use value::Value;

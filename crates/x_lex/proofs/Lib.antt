@@ -1,5 +1,6 @@
 pub mod MarkLemmas
 pub mod ClassLemmas
+pub mod WordTable
 pub mod CloseLemmas
 pub mod ScanLemmas
 pub mod LineLemmas

@@ -1,6 +1,6 @@
 -- The search for a mark: the first bytes of a word leave one candidate.
-use Rattle.std.proofs.Common.{◌≡◌, ℕ, ◌<◌, Bool, true, false, cond, List, [], ◌∷◌, map, length, Option, None, Some, refl, sym, ap, subst, ◌∙◌, lit<, arith}
-use Rattle.std.specs.Prelude.{if◌then◌else◌, option_map, is_some, not, slice_index, ◌||◌, ◌==◌}
+use Rattle.std.proofs.Common.{◌≡◌, ◌≢◌, ℕ, ◌<◌, Bool, true, false, cond, List, [], ◌∷◌, map, length, Option, None, Some, refl, sym, ap, subst, ◌∙◌, lit<}
+use Rattle.std.specs.Prelude.{if◌then◌else◌, option_map, is_some, not, ◌||◌, ◌==◌}
 use Rattle.std.specs.List.{find}
 use Rattle.std.specs.Str.{bytes_eq}
 use Rattle.std.specs.Bool.{then_some}
@@ -8,7 +8,7 @@ use Rattle.std.proofs.lemmas.Bool.{false≢true, eqb-true}
 use Rattle.std.proofs.lemmas.Option.{none-some, same_Some}
 use Rattle.std.proofs.lemmas.Slice.Eq.{bytes_eq-Decides}
 use Rattle.x_lex.specs.Bytes.{is_space, is_letter, is_digit, is_punct}
-use Rattle.x_lex.specs.Marks.{mark_of, text_of, place_of, candidate}
+use Rattle.x_lex.specs.Marks.{mark_of, text_of, place_of, punctuation, keyword, candidate}
 use Rattle.x_lex.specs.declared.mark.Mark.{Mark}
 use Rattle.x_lex.specs.declared.mark.Mark.TheVariants as marks
 use Rattle.x_lex.specs.declared.mark.TheConstants.{MARKS}
@@ -34,7 +34,7 @@ within mark = (stands mark).within
 
 -- the candidate of each text in the table is the mark that is written so
 candidates : map (λ entry. candidate entry.0.now) MARKS ≡ map (λ entry. Some entry.1) MARKS
-unfolding candidate
+unfolding punctuation keyword
 candidates = refl
 
 abbrev head_or : {X : Type 0} → X → List X → X
@@ -121,78 +121,64 @@ one_left word mark is = by_test (bytes_eq (text_of mark) word) refl
     by_test true same = sym (ap mark_of (sym ((bytes_eq-Decides (text_of mark) word).0 same)) ∙ (stands mark).found)
     by_test false differs = by_mark (mark_of word) refl differs
 
--- what a search may find begins with the byte
-Begins : ℕ → Option Mark → Type 0
-Begins b o = (mark : Mark) → o ≡ Some mark → slice_index (text_of mark) 0 ≡ b
+-- a word of one byte is punctuation, all others are keywords
+as_keyword : (word : List ℕ) → length word ≢ 1 → keyword word ≡ candidate word
+unfolding keyword
+as_keyword [] longer = refl
+as_keyword (b ∷ []) longer = absurd (longer refl)
+as_keyword (b ∷ c ∷ bs) longer = refl
 
-begins_with : (b : ℕ) (mark : Mark) → slice_index (text_of mark) 0 ≡ b → Begins b (Some mark)
-unfolding Begins
-begins_with b mark is other same = ap (λ m. slice_index (text_of m) 0) (sym (same_Some mark other same)) ∙ is
+pub no_word_left : (word : List ℕ) → length word ≢ 1 → keyword word ≡ None → None ≡ mark_of word
+no_word_left word longer none = none_left word (sym (as_keyword word longer) ∙ none)
 
+pub one_word_left : (word : List ℕ) (mark : Mark) → length word ≢ 1 → keyword word ≡ Some mark → then_some (bytes_eq (text_of mark) word) mark ≡ mark_of word
+one_word_left word mark longer is = one_left word mark (sym (as_keyword word longer) ∙ is)
 
-begins_if : (b k : ℕ) (mark : Mark) (rest : Option Mark) (test : Bool) → (b == k) ≡ test → slice_index (text_of mark) 0 ≡ k → Begins b rest
-    → Begins b (if test then Some mark else rest)
-begins_if b k mark rest true is first others = begins_with b mark (first ∙ sym (eqb-true b k is))
-begins_if b k mark rest false is first others = others
+-- what a search may find is the byte alone
+IsByte : ℕ → Option Mark → Type 0
+IsByte b o = (mark : Mark) → o ≡ Some mark → text_of mark ≡ b ∷ []
 
-begins_at : (b k : ℕ) (mark : Mark) (rest : Option Mark) → slice_index (text_of mark) 0 ≡ k → Begins b rest → Begins b (if b == k then Some mark else rest)
-begins_at b k mark rest first others = begins_if b k mark rest (b == k) refl first others
+is_byte_if : (b k : ℕ) (mark : Mark) (rest : Option Mark) (test : Bool) → (b == k) ≡ test → text_of mark ≡ k ∷ [] → IsByte b rest
+    → IsByte b (if test then Some mark else rest)
+unfolding IsByte
+is_byte_if b k mark rest true is first others other same =
+    ap text_of (sym (same_Some mark other same)) ∙ first ∙ ap (λ n. n ∷ []) (sym (eqb-true b k is))
+is_byte_if b k mark rest false is first others other same = others other same
 
-begins_none : (b : ℕ) → Begins b None
-unfolding Begins
-begins_none b mark is = absurd (none-some mark is)
+is_byte_at : (b k : ℕ) (mark : Mark) (rest : Option Mark) → text_of mark ≡ k ∷ [] → IsByte b rest → IsByte b (if b == k then Some mark else rest)
+is_byte_at b k mark rest first others = is_byte_if b k mark rest (b == k) refl first others
 
--- the candidate of a byte begins with it
-begins : (b : ℕ) → Begins b (candidate (b ∷ []))
-unfolding candidate text_of
-begins b =
-    begins_at b 98 marks.Bool _ refl (
-    begins_at b 99 marks.Const _ refl (
-    begins_at b 100 marks.Double _ refl (
-    begins_at b 101 marks.Enum _ refl (
-    begins_at b 102 marks.Float _ refl (
-    begins_at b 104 marks.Hyper _ refl (
-    begins_at b 105 marks.Int _ refl (
-    begins_at b 108 marks.Long _ refl (
-    begins_at b 111 marks.Opaque _ refl (
-    begins_at b 112 marks.Program _ refl (
-    begins_at b 113 marks.Quadruple _ refl (
-    begins_at b 115 marks.Struct _ refl (
-    begins_at b 116 marks.Typedef _ refl (
-    begins_at b 117 marks.Unsigned _ refl (
-    begins_at b 118 marks.Void _ refl (
-    begins_at b 123 marks.OpenBrace _ refl (
-    begins_at b 125 marks.CloseBrace _ refl (
-    begins_at b 91 marks.OpenBracket _ refl (
-    begins_at b 93 marks.CloseBracket _ refl (
-    begins_at b 40 marks.OpenParenthesis _ refl (
-    begins_at b 41 marks.CloseParenthesis _ refl (
-    begins_at b 60 marks.Less _ refl (
-    begins_at b 62 marks.Greater _ refl (
-    begins_at b 44 marks.Comma _ refl (
-    begins_at b 59 marks.Semicolon _ refl (
-    begins_at b 58 marks.Colon _ refl (
-    begins_at b 61 marks.Equals _ refl (
-    begins_at b 42 marks.Star _ refl (
-    begins_none b))))))))))))))))))))))))))))
+is_byte_none : (b : ℕ) → IsByte b None
+unfolding IsByte
+is_byte_none b mark is = absurd (none-some mark is)
 
-both_false : (p q : Bool) → (p ≡ true → ⊥) → (q ≡ true → ⊥) → p ≡ q
-both_false true q not_p not_q = absurd (not_p refl)
-both_false false true not_p not_q = absurd (not_q refl)
-both_false false false not_p not_q = refl
+-- each mark of punctuation is its byte
+is_byte : (b : ℕ) → IsByte b (punctuation b)
+unfolding punctuation text_of
+is_byte b =
+    is_byte_at b 123 marks.OpenBrace _ refl (
+    is_byte_at b 125 marks.CloseBrace _ refl (
+    is_byte_at b 91 marks.OpenBracket _ refl (
+    is_byte_at b 93 marks.CloseBracket _ refl (
+    is_byte_at b 40 marks.OpenParenthesis _ refl (
+    is_byte_at b 41 marks.CloseParenthesis _ refl (
+    is_byte_at b 60 marks.Less _ refl (
+    is_byte_at b 62 marks.Greater _ refl (
+    is_byte_at b 44 marks.Comma _ refl (
+    is_byte_at b 59 marks.Semicolon _ refl (
+    is_byte_at b 58 marks.Colon _ refl (
+    is_byte_at b 61 marks.Equals _ refl (
+    is_byte_at b 42 marks.Star _ refl (
+    is_byte_none b)))))))))))))
 
--- of the texts that begin with a byte, those of one byte are it
-one_byte : (b : ℕ) (text : List ℕ) → slice_index text 0 ≡ b → (length text == 1) ≡ bytes_eq text (b ∷ [])
-one_byte b [] is = refl
-one_byte b (c ∷ []) is = sym ((bytes_eq-Decides (c ∷ []) (b ∷ [])).1 (ap (λ n. n ∷ []) is))
-one_byte b (c ∷ d ∷ rest) is = both_false (length (c ∷ d ∷ rest) == 1) (bytes_eq (c ∷ d ∷ rest) (b ∷ []))
-    (λ same. let one = eqb-true (length (c ∷ d ∷ rest)) 1 same in omega (arith, one))
-    (λ same. let one = ap length ((bytes_eq-Decides (c ∷ d ∷ rest) (b ∷ [])).0 same) in omega (arith, one))
-
--- of a byte the candidate is the mark, if it is written with one byte
-pub one_left_of_byte : (b : ℕ) (mark : Mark) → candidate (b ∷ []) ≡ Some mark → then_some (length (text_of mark) == 1) mark ≡ mark_of (b ∷ [])
-unfolding Begins
-one_left_of_byte b mark is = ap (λ test. then_some test mark) (one_byte b (text_of mark) (begins b mark is)) ∙ one_left (b ∷ []) mark is
+pub of_byte : (b : ℕ) → punctuation b ≡ mark_of (b ∷ [])
+unfolding IsByte
+of_byte b = by_mark (punctuation b) refl
+  where
+    by_mark : (o : Option Mark) → punctuation b ≡ o → o ≡ mark_of (b ∷ [])
+    by_mark None is = none_left (b ∷ []) is
+    by_mark (Some mark) is =
+        ap (λ test. then_some test mark) (sym ((bytes_eq-Decides (text_of mark) (b ∷ [])).1 (is_byte b mark is))) ∙ one_left (b ∷ []) mark is
 
 -- a byte of punctuation begins no other word, nor white space
 pub punct_apart : (b : ℕ) → is_punct b ≡ true → is_apart (b ∷ []) ≡ true

@@ -22,10 +22,28 @@ text_of mark = slice_index_or (map (λ entry. entry.0.now) MARKS) (place_of mark
 
 -- What follows is for the search alone, and no public clause rests on it.
 
--- the one mark that a word with these first bytes can be
-unfoldable pub candidate : List ℕ → Option Mark
-candidate [] = None
-candidate (b ∷ bs) =
+-- the mark that is this byte alone
+unfoldable pub punctuation : ℕ → Option Mark
+punctuation b =
+    if b == 123 then Some marks.OpenBrace else (
+    if b == 125 then Some marks.CloseBrace else (
+    if b == 91 then Some marks.OpenBracket else (
+    if b == 93 then Some marks.CloseBracket else (
+    if b == 40 then Some marks.OpenParenthesis else (
+    if b == 41 then Some marks.CloseParenthesis else (
+    if b == 60 then Some marks.Less else (
+    if b == 62 then Some marks.Greater else (
+    if b == 44 then Some marks.Comma else (
+    if b == 59 then Some marks.Semicolon else (
+    if b == 58 then Some marks.Colon else (
+    if b == 61 then Some marks.Equals else (
+    if b == 42 then Some marks.Star else (
+    None)))))))))))))
+
+-- the one keyword that a word with these first bytes can be
+unfoldable pub keyword : List ℕ → Option Mark
+keyword [] = None
+keyword (b ∷ bs) =
     if b == 98 then Some marks.Bool else (
     if b == 99 then (if slice_index bs 0 == 97 then Some marks.Case else Some marks.Const) else (
     if b == 100 then (if slice_index bs 0 == 101 then Some marks.Default else Some marks.Double) else (
@@ -41,17 +59,10 @@ candidate (b ∷ bs) =
     if b == 116 then Some marks.Typedef else (
     if b == 117 then (if slice_index bs 1 == 105 then Some marks.Union else Some marks.Unsigned) else (
     if b == 118 then (if slice_index bs 0 == 101 then Some marks.Version else Some marks.Void) else (
-    if b == 123 then Some marks.OpenBrace else (
-    if b == 125 then Some marks.CloseBrace else (
-    if b == 91 then Some marks.OpenBracket else (
-    if b == 93 then Some marks.CloseBracket else (
-    if b == 40 then Some marks.OpenParenthesis else (
-    if b == 41 then Some marks.CloseParenthesis else (
-    if b == 60 then Some marks.Less else (
-    if b == 62 then Some marks.Greater else (
-    if b == 44 then Some marks.Comma else (
-    if b == 59 then Some marks.Semicolon else (
-    if b == 58 then Some marks.Colon else (
-    if b == 61 then Some marks.Equals else (
-    if b == 42 then Some marks.Star else (
-    None))))))))))))))))))))))))))))
+    None)))))))))))))))
+
+-- the one mark that a word with these first bytes can be
+abbrev pub candidate : List ℕ → Option Mark
+candidate [] = None
+candidate (b ∷ []) = punctuation b
+candidate (b ∷ c ∷ bs) = keyword (b ∷ c ∷ bs)

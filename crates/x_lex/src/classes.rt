@@ -1,5 +1,5 @@
 //! The classes of bytes, and how far a run of one class goes.
-ghost use Rattle.std.specs.Prelude.{◌≡◌, ◌≤◌, length};
+ghost use Rattle.std.specs.Prelude.{◌≡◌, ◌==◌, ◌<◌, ◌≤◌, length, not, slice_index};
 ghost use Rattle.std.specs.List.{prefix_len};
 ghost use Rattle.x_lex.specs.Bytes.{is_space, is_digit, is_letter, is_word_byte, is_punct, is_in_line, is_blank};
 
@@ -24,10 +24,24 @@ pub(crate) fn is_letter(byte: u8) -> bool
     byte.is_ascii_alphabetic() || byte == b'_'
 }
 
+/// The bytes of words, each at its own place, among dots: one look at a table takes less than four comparisons.
+const WORD_BYTES: &[u8] = b"................................................0123456789......\
+.ABCDEFGHIJKLMNOPQRSTUVWXYZ...._.abcdefghijklmnopqrstuvwxyz.....\
+................................................................\
+................................................................";
+
+/// Whether the byte stands at its place in the table.
+fn stands_in(table: &[u8], byte: u8) -> bool
+    requires { byte < length table.now }
+    ensures { result ≡ not (slice_index table.now byte == 46) }
+{
+    table[byte as usize] != b'.'
+}
+
 fn is_word_byte(byte: u8) -> bool
     ensures { result ≡ is_word_byte byte }
 {
-    is_letter(byte) || is_digit(byte)
+    stands_in(WORD_BYTES, byte)
 }
 
 pub(crate) fn is_punct(byte: u8) -> bool

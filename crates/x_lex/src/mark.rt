@@ -1,6 +1,6 @@
 //! The marks: the words that have one spelling each.
-ghost use Rattle.std.specs.Prelude.{◌≡◌, ◌<◌, [], ◌∷◌, map, length, slice_index, slice_index_or};
-ghost use Rattle.x_lex.specs.Marks.{mark_of, text_of, place_of, candidate};
+ghost use Rattle.std.specs.Prelude.{◌≡◌, ◌≢◌, ◌<◌, [], ◌∷◌, map, length, slice_index, slice_index_or};
+ghost use Rattle.x_lex.specs.Marks.{mark_of, text_of, place_of, punctuation, keyword};
 
 /// A word with one spelling: a keyword (RFC 4506, section 6.2, and RFC 5531, section 12; `long` is one of this project) or a
 /// punctuation mark of the grammar.
@@ -81,16 +81,42 @@ pub const MARKS: [(&[u8], Mark); 34] = [
 ];
 
 /// The byte at a place, or 0 behind the last.
+#[inline]
 fn byte_at(bytes: &[u8], index: usize) -> u8
     ensures { result ≡ slice_index bytes.now index }
 {
     bytes.get(index).copied().unwrap_or(0)
 }
 
-/// The one mark that a word with these first bytes can be.
-#[tactic(auto, unfolding(crate::specs::Marks::candidate))]
-fn candidate(word: &[u8]) -> Option<Mark>
-    ensures { result ≡ candidate word.now }
+/// The mark that is this byte alone, if one is.
+#[inline]
+#[tactic(auto, unfolding(crate::specs::Marks::punctuation))]
+fn punctuation(byte: u8) -> Option<Mark>
+    ensures { result ≡ punctuation byte }
+{
+    let mark = match byte {
+        b'{' => Mark::OpenBrace,
+        b'}' => Mark::CloseBrace,
+        b'[' => Mark::OpenBracket,
+        b']' => Mark::CloseBracket,
+        b'(' => Mark::OpenParenthesis,
+        b')' => Mark::CloseParenthesis,
+        b'<' => Mark::Less,
+        b'>' => Mark::Greater,
+        b',' => Mark::Comma,
+        b';' => Mark::Semicolon,
+        b':' => Mark::Colon,
+        b'=' => Mark::Equals,
+        b'*' => Mark::Star,
+        _ => return None,
+    };
+    Some(mark)
+}
+
+/// The one keyword that a word with these first bytes can be.
+#[tactic(auto, unfolding(crate::specs::Marks::keyword))]
+fn keyword(word: &[u8]) -> Option<Mark>
+    ensures { result ≡ keyword word.now }
 {
     let (first, rest) = word.split_first()?;
     let mark = match *first {
@@ -115,19 +141,6 @@ fn candidate(word: &[u8]) -> Option<Mark>
         b'u' => Mark::Unsigned,
         b'v' if byte_at(rest, 0) == b'e' => Mark::Version,
         b'v' => Mark::Void,
-        b'{' => Mark::OpenBrace,
-        b'}' => Mark::CloseBrace,
-        b'[' => Mark::OpenBracket,
-        b']' => Mark::CloseBracket,
-        b'(' => Mark::OpenParenthesis,
-        b')' => Mark::CloseParenthesis,
-        b'<' => Mark::Less,
-        b'>' => Mark::Greater,
-        b',' => Mark::Comma,
-        b';' => Mark::Semicolon,
-        b':' => Mark::Colon,
-        b'=' => Mark::Equals,
-        b'*' => Mark::Star,
         _ => return None,
     };
     Some(mark)
@@ -151,23 +164,31 @@ impl Mark {
     }
 
     /// The mark that is this byte alone, if one is.
-    #[tactic(auto, using(crate::proofs::MarkLemmas::none_left, crate::proofs::MarkLemmas::one_left_of_byte))]
+    #[inline]
+    #[tactic(auto, using(crate::proofs::MarkLemmas::of_byte))]
     pub(crate) fn of_byte(byte: u8) -> Option<Mark>
         ensures { result ≡ mark_of (byte ∷ []) }
     {
-        let mark = candidate(&[byte])?;
-        (mark.text().len() == 1).then_some(mark)
+        punctuation(byte)
     }
 
     /// The mark that is written so, if one is.
-    #[tactic(auto, using(crate::proofs::MarkLemmas::none_left, crate::proofs::MarkLemmas::one_left))]
     pub fn of(text: &[u8]) -> Option<Mark>
         ensures { result ≡ mark_of text.now }
     {
-        if let [byte] = text {
-            return Mark::of_byte(*byte);
+        if text.len() == 1 {
+            return Mark::of_byte(text[0]);
         }
-        let mark = candidate(text)?;
+        Mark::of_word(text)
+    }
+
+    /// The keyword that is written so, if one is.
+    #[tactic(auto, using(crate::proofs::MarkLemmas::no_word_left, crate::proofs::MarkLemmas::one_word_left))]
+    fn of_word(text: &[u8]) -> Option<Mark>
+        requires { length text.now ≢ 1 }
+        ensures { result ≡ mark_of text.now }
+    {
+        let mark = keyword(text)?;
         (mark.text() == text).then_some(mark)
     }
 }

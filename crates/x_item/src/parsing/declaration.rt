@@ -21,7 +21,9 @@ use super::declarator::{array_length, most, named};
 use super::ending::Ending;
 use super::enumerators::enumerators;
 use super::words::{Word, closed, expect, first, is_mark, name, stuck_at};
-use crate::trees::{Arm, Basic, Body, DataType, Declaration, Tag, inline, struct_body, union_body};
+use crate::trees::{
+    Arm, Basic, Body, DataType, Declaration, Spelling, Tag, inline, struct_body, union_body,
+};
 use std::alloc::Global;
 use x_lex::{Mark, Token};
 
@@ -45,7 +47,7 @@ pub fn data_type<'w, 't>(
             Mark::Union => tagged(alloc, Tag::Union, depth, rest),
             _ => basic(mark, tokens, rest),
         },
-        Word::Name(text) => Ok((DataType::Named(text.to_vec(alloc)?), rest)),
+        Word::Name(text) => Ok((DataType::Named(Spelling::from_slice(alloc, text)?), rest)),
         _ => Err(stuck_at(tokens)),
     }
 }
@@ -113,7 +115,7 @@ fn tagged<'w, 't>(
     let (word, rest) = first(tokens)?;
     match word {
         Word::Name(text) => {
-            let name = text.to_vec(alloc)?;
+            let name = Spelling::from_slice(alloc, text)?;
             Ok((DataType::Tagged { tag, name }, rest))
         }
         _ => {

@@ -11,7 +11,7 @@ ghost use Rattle.x_item.specs.Reading.{IsRead, IsPart, Fails};
 use super::ParseError;
 use super::ending::Ending;
 use super::words::{expect, first, is_mark, name, value};
-use crate::trees::{Length, Shape, Value};
+use crate::trees::{Length, Shape, Spelling, Value};
 use std::alloc::Global;
 use x_lex::{Mark, Token};
 
@@ -77,7 +77,7 @@ pub fn named<'w, 't>(
     alloc: Global,
     ending: Ending,
     tokens: &'w [Token<'t>],
-) -> Result<(Vec<u8>, Shape, &'w [Token<'t>]), ParseError>
+) -> Result<(Spelling, Shape, &'w [Token<'t>]), ParseError>
     ensures read { IfOk result (λ x. IsPart (AfterType (InDeclaration ending)) tokens.now
         (spell_named x.0.items (view_shape x.1) ++ Fixed (ending_mark ending) ∷ []) x.2.now) }
     ensures stuck { IfErr result (λ e. Fails (AfterType (InDeclaration ending) ∷ []) tokens.now e) }

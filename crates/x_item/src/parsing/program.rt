@@ -15,7 +15,7 @@ ghost use Rattle.x_item.specs.Reading.{IsRead, IsPart, Fails};
 use super::ParseError;
 use super::declaration::data_type;
 use super::words::{Word, expect, first, is_mark, name, number, stuck_at};
-use crate::trees::{Argument, MOST_INLINE, Procedure, Version};
+use crate::trees::{Argument, MOST_INLINE, Procedure, Spelling, Version};
 use std::alloc::Global;
 use x_lex::{Mark, Token};
 
@@ -110,7 +110,7 @@ fn arguments<'w, 't>(
 pub fn numbered<'w, 't>(
     alloc: Global,
     tokens: &'w [Token<'t>],
-) -> Result<(Vec<u8>, &'w [Token<'t>]), ParseError>
+) -> Result<(Spelling, &'w [Token<'t>]), ParseError>
     ensures read { IfOk result (λ x. IsRead [] of_number tokens.now
         (Fixed Mark.Equals ∷ Number x.0.items ∷ Fixed Mark.Semicolon ∷ []) [] x.1.now) }
     ensures stuck { IfErr result (λ e. Fails of_number tokens.now e) }

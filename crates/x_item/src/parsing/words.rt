@@ -10,7 +10,7 @@ ghost use Rattle.x_item.specs.Reading.{view_word, ahead, left_in, code_in, IsSpl
 ghost use Rattle.x_item.specs.Reading.{IsPart};
 
 use super::{FaultCode, ParseError};
-use crate::trees::Value;
+use crate::trees::{Spelling, Value};
 use std::alloc::Global;
 use x_lex::{Kind, Mark, Token};
 
@@ -149,13 +149,13 @@ pub fn only<T: Drop>(value: T, tokens: &[Token]) -> Result<T, ParseError>
 pub fn name<'w, 't>(
     alloc: Global,
     tokens: &'w [Token<'t>],
-) -> Result<(Vec<u8>, &'w [Token<'t>]), ParseError>
+) -> Result<(Spelling, &'w [Token<'t>]), ParseError>
     ensures read { IfOk result (λ x. IsPart AnyName tokens.now (Name x.0.items ∷ []) x.1.now) }
     ensures stuck { IfErr result (λ e. Fails (AnyName ∷ []) tokens.now e) }
 {
     let (word, rest) = first(tokens)?;
     match word {
-        Word::Name(text) => Ok((text.to_vec(alloc)?, rest)),
+        Word::Name(text) => Ok((Spelling::from_slice(alloc, text)?, rest)),
         _ => Err(stuck_at(tokens)),
     }
 }
@@ -164,13 +164,13 @@ pub fn name<'w, 't>(
 pub fn number<'w, 't>(
     alloc: Global,
     tokens: &'w [Token<'t>],
-) -> Result<(Vec<u8>, &'w [Token<'t>]), ParseError>
+) -> Result<(Spelling, &'w [Token<'t>]), ParseError>
     ensures read { IfOk result (λ x. IsPart AnyNumber tokens.now (Number x.0.items ∷ []) x.1.now) }
     ensures stuck { IfErr result (λ e. Fails (AnyNumber ∷ []) tokens.now e) }
 {
     let (word, rest) = first(tokens)?;
     match word {
-        Word::Number(text) => Ok((text.to_vec(alloc)?, rest)),
+        Word::Number(text) => Ok((Spelling::from_slice(alloc, text)?, rest)),
         _ => Err(stuck_at(tokens)),
     }
 }
@@ -185,8 +185,8 @@ pub fn value<'w, 't>(
 {
     let (word, rest) = first(tokens)?;
     match word {
-        Word::Name(text) => Ok((Value::Named(text.to_vec(alloc)?), rest)),
-        Word::Number(text) => Ok((Value::Number(text.to_vec(alloc)?), rest)),
+        Word::Name(text) => Ok((Value::Named(Spelling::from_slice(alloc, text)?), rest)),
+        Word::Number(text) => Ok((Value::Number(Spelling::from_slice(alloc, text)?), rest)),
         _ => Err(stuck_at(tokens)),
     }
 }

@@ -4,7 +4,7 @@ ghost use Rattle.x_item.specs.Tree.{Inline, Struct, Union};
 ghost use Rattle.x_item.specs.View.{view_type, view_body, view_declaration, view_declarations, view_arms};
 ghost use Rattle.x_item.specs.View.{view_default};
 
-use super::Value;
+use super::{Spelling, Value};
 use std::alloc::{AllocError, Global};
 
 /// How many inline bodies may stand inside one another at the most.
@@ -72,7 +72,7 @@ pub enum Tag {
 #[derive(Debug, Drop)]
 pub struct Enumerator {
     /// Its name.
-    pub name: Vec<u8>,
+    pub name: Spelling,
     /// Its value, where it is given.
     pub value: Option<Value>,
 }
@@ -84,9 +84,9 @@ pub enum DataType {
     /// `int`, `unsigned hyper`, `bool` and the like
     Basic(Basic),
     /// `colour`
-    Named(Vec<u8>),
+    Named(Spelling),
     /// `enum colour`
-    Tagged { tag: Tag, name: Vec<u8> },
+    Tagged { tag: Tag, name: Spelling },
     /// A type without a name: its keyword and its body.
     Inline(Box<Body>),
 }
@@ -112,17 +112,17 @@ pub enum Declaration {
     /// `int x`, `int *x`, `int x[12]` or `int x<12>`
     Of {
         data: DataType,
-        name: Vec<u8>,
+        name: Spelling,
         shape: Shape,
     },
     /// `opaque x[12]` or `opaque x<12>`
     Opaque {
-        name: Vec<u8>,
+        name: Spelling,
         length: Length,
     },
     /// `string x<12>` or `string x<>`
     String {
-        name: Vec<u8>,
+        name: Spelling,
         most: Option<Value>,
     },
 }

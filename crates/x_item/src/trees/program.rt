@@ -1,6 +1,6 @@
 //! What stands in programs.
 
-use super::DataType;
+use super::{DataType, Spelling};
 
 /// What is passed to a procedure, or comes back from it.
 #[derive(Drop)]
@@ -17,22 +17,22 @@ pub struct Procedure {
     /// `None` where it is `void`.
     pub result: Option<Argument>,
     /// Its name.
-    pub name: Vec<u8>,
+    pub name: Spelling,
     /// The first argument: `None` where it is `void`.
     pub first: Option<Argument>,
     /// The arguments behind the first, in order.
     pub others: Vec<Argument>,
     /// Its number in the version.
-    pub number: Vec<u8>,
+    pub number: Spelling,
 }
 
 /// A version of a program.
 #[derive(Drop)]
 pub struct Version {
     /// Its name.
-    pub name: Vec<u8>,
+    pub name: Spelling,
     /// The procedures, in order.
     pub procedures: Vec<Procedure>,
     /// Its number in the program.
-    pub number: Vec<u8>,
+    pub number: Spelling,
 }

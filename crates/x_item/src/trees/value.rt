@@ -1,8 +1,10 @@
+use super::Spelling;
+
 /// A number, or the name of a constant.
 #[derive(Debug, Drop)]
 pub enum Value {
     /// `12`
-    Number(Vec<u8>),
+    Number(Spelling),
     /// `LIMIT`
-    Named(Vec<u8>),
+    Named(Spelling),
 }

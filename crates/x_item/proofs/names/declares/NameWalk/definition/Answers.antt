@@ -18,10 +18,10 @@ pub returns-in_ok-named-in-NewType : goal.returns-in_ok-named-in-NewType
 returns-in_ok-named-in-NewType c =
     let name = c.in-NewType.name.items in
     let body = view_body c.in-NewType.body in
-    let own = covers_own _ name _ c.deref-in-NewType.ensures.value c.of_body.ensures c.in_ok-named-in-NewType.ensures in
+    let own = covers_own _ name _ c.deref-in-NewType.ensures c.of_body.ensures c.in_ok-named-in-NewType.ensures in
     subst (λ x. OnOk c.body.result (NamesAll c.args.self.now c.body.new.self (view_definition x))) (sym c.in-NewType.is)
     (on_ok_weaker c.body.result
-    (λ x. let inside : NamesIn c.named-in-NewType.new.self c.body.new.self (body_by glossed (Some name) body) = rw c.deref-in-NewType-2.ensures.value at x in
+    (λ x. let inside : NamesIn c.named-in-NewType.new.self c.body.new.self (body_by glossed (Some name) body) = rw c.deref-in-NewType-2.ensures at x in
     names_all (NewType name body) (_ ∷ _ ∷ body_by glossed (Some name) body) (_ ∷ []) refl (covers_then own inside) (λ k. refl))
     c.body.ensures)
 
@@ -30,5 +30,5 @@ returns-in-Program c =
     let name = c.in-Program.name.items in
     subst (λ x. OnOk c.named-in-Program.result (NamesAll c.args.self.now c.named-in-Program.new.self (view_definition x))) (sym c.in-Program.is)
     (on_ok_weaker c.named-in-Program.result
-    (λ x. names_program name (map view_version c.in-Program.versions.items) c.in-Program.number.items (covers_own _ name _ c.deref-in-Program.ensures.value refl x))
+    (λ x. names_program name (map view_version c.in-Program.versions.items) c.in-Program.number.items (covers_own _ name _ c.deref-in-Program.ensures refl x))
     c.named-in-Program.ensures)

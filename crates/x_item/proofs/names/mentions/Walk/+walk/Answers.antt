@@ -88,7 +88,7 @@ declaration-returns-in_ok-data_type-in-Of t c =
     let is : view_declaration c.args.declaration.now ≡ Of type c.in-Of.name.items shape = ap view_declaration c.in-Of.is in
     let front : (first : List Role) (inside : List ℕ) → IsSilent mentioned_at first → FindsIn c.args.self.now c.data_type.new.self (type_by glossed first (Some (use_by shape)) (Some inside) type) = rw c.of_type.ensures at c.in_ok-data_type-in-Of.ensures in
     on_ok_weaker c.shape.result
-    (λ last place. let behind : (roles : List Role) → IsSilent mentioned_at roles → FindsIn c.data_type.new.self c.shape.new.self (named_by glossed true roles c.in-Of.name.items shape) = rw c.deref.ensures.value at last in
+    (λ last place. let behind : (roles : List Role) → IsSilent mentioned_at roles → FindsIn c.data_type.new.self c.shape.new.self (named_by glossed true roles c.in-Of.name.items shape) = rw c.deref.ensures at last in
     covers_as (covers_typed place type c.in-Of.name.items shape front behind) (ap (declaration_by glossed (Some place)) (sym is)))
     c.shape.ensures
 
