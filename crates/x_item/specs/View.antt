@@ -11,7 +11,7 @@ use Rattle.x_item.specs.declared.trees.declaration.Enumerator.{Enumerator}
 use Rattle.x_item.specs.declared.trees.declaration.DataType.{DataType}
 use Rattle.x_item.specs.declared.trees.declaration.DataType.TheVariants.{Basic, Named, Tagged, Inline'}
 use Rattle.x_item.specs.declared.trees.declaration.Body.{Body, Row_of-Declaration, end_of-Declaration, more_of-Declaration}
-use Rattle.x_item.specs.declared.trees.declaration.Body.TheVariants.{Enum, Struct', Union}
+use Rattle.x_item.specs.declared.trees.declaration.Body.TheVariants.{Enum, Struct', Union'}
 use Rattle.x_item.specs.declared.trees.declaration.Declaration.{Declaration}
 use Rattle.x_item.specs.declared.trees.declaration.Declaration.TheVariants.{Void, Of, Opaque, String}
 use Rattle.x_item.specs.declared.trees.declaration.UnionBody.{UnionBody, UnionBody', Row_of-Arm, end_of-Arm, more_of-Arm, Held-UnionBody-default, None', Some'}
@@ -54,7 +54,7 @@ abbrev mutual
   pub view_body : Body → tree.Body
   view_body (Enum es) = tree.Enum (map view_enumerator es.items)
   view_body (Struct' shape all) = tree.Struct (view_row all)
-  view_body (Union u) = view_union u
+  view_body (Union' p u) = view_union u
 
   pub view_declaration : Declaration → tree.Declaration
   view_declaration Void = tree.Void
@@ -113,6 +113,6 @@ view_version v = record { name = v.name.items; procedures = map view_procedure v
 
 abbrev pub view_definition : Definition → tree.Definition
 view_definition (definitions.Const name value) = tree.Const name.items (view_value value)
-view_definition (definitions.Typedef d) = tree.Typedef (view_declaration d)
+view_definition (definitions.Typedef d) = tree.Typedef (view_declaration d.value)
 view_definition (definitions.NewType name body) = tree.NewType name.items (view_body body)
 view_definition (definitions.Program name versions number) = tree.Program name.items (map view_version versions.items) number.items

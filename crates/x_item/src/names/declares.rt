@@ -14,7 +14,7 @@ ghost use Rattle.x_item.specs.Named.{view_name, Names, NamesIn, NamesAll, star};
 use super::mentions::words_of;
 use super::{DeclaredName, NameKind};
 use crate::trees::{
-    Arm, Basic, Body, DataType, Declaration, Definition, Enumerator, Length, Shape,
+    Arm, Basic, Body, DataType, Declaration, Definition, Enumerator, Length, Shape, UnionBody,
 };
 use std::alloc::Global;
 use x_text::NoMemory;
@@ -157,6 +157,7 @@ impl NameWalk {
                 Ok(())
             }
             Body::Union(body) => {
+                let body: &UnionBody = body;
                 self.skip(2);
                 self.declaration(alloc, around, &body.discriminant)?;
                 self.skip(2);

@@ -18,7 +18,7 @@ ghost use Rattle.x_item.specs.Collected.{IsSilent, view_mention, Finds, FindsIn,
 use super::{Mention, Use};
 use crate::trees::{
     Argument, Arm, Basic, Body, DataType, Declaration, Definition, Enumerator, Length, Procedure,
-    Shape, Tag, Value, Version,
+    Shape, Tag, UnionBody, Value, Version,
 };
 use std::alloc::Global;
 use x_text::NoMemory;
@@ -216,6 +216,7 @@ impl<'d> Walk<'d> {
                 Ok(())
             }
             Body::Union(body) => {
+                let body: &UnionBody = body;
                 self.skip(2);
                 self.declaration(&body.discriminant)?;
                 self.skip(2);

@@ -202,7 +202,7 @@ fn body_of_union<'w, 't>(
     let (discriminant, rest) = declared(alloc, depth, Ending::Parenthesis, rest)?;
     let (discriminant, rest) = closed(discriminant, Mark::OpenBrace, rest)?;
     let (arms, default, rest) = arms(alloc, depth, rest)?;
-    Ok((union_body(discriminant, arms, default), rest))
+    Ok((union_body(alloc, discriminant, arms, default)?, rest))
 }
 
 /// Reads a declaration and its ending.

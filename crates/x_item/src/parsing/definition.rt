@@ -33,7 +33,7 @@ pub fn definition<'w, 't>(
             Mark::Const => constant(alloc, rest),
             Mark::Typedef => {
                 let (declaration, rest) = declared(alloc, MOST_INLINE, Ending::Semicolon, rest)?;
-                Ok((Definition::Typedef(declaration), rest))
+                Ok((Definition::Typedef(Box::new(alloc, declaration)?), rest))
             }
             Mark::Enum => new_type(alloc, Tag::Enum, rest),
             Mark::Struct => new_type(alloc, Tag::Struct, rest),

@@ -100,7 +100,7 @@ pub enum Body {
     /// `{ int x; int y; }`, of a struct
     Struct(Vec<Declaration>),
     /// `switch (int kind) { case 1: int x; default: void; }`, of a union
-    Union(UnionBody),
+    Union(Box<UnionBody>),
 }
 
 /// A declaration.
@@ -165,16 +165,18 @@ pub(crate) fn struct_body(declarations: Vec<Declaration>) -> Body
 
 /// The body of a union.
 pub(crate) fn union_body(
+    alloc: Global,
     discriminant: Declaration,
     arms: Vec<Arm>,
     default: Option<Declaration>,
-) -> Body
-    ensures { view_body result ≡ Union (view_declaration discriminant) (view_arms arms.items)
-        (view_default default) }
+) -> Result<Body, AllocError>
+    ensures { IfOk result (λ body. view_body body ≡ Union (view_declaration discriminant)
+        (view_arms arms.items) (view_default default)) }
 {
-    Body::Union(UnionBody {
+    let body = UnionBody {
         discriminant,
         arms,
         default,
-    })
+    };
+    Ok(Body::Union(Box::new(alloc, body)?))
 }

@@ -9,7 +9,7 @@ pub enum Definition {
         value: Value,
     },
     /// `typedef int row<12>;`
-    Typedef(Declaration),
+    Typedef(Box<Declaration>),
     /// `enum colour { RED, GREEN };`, and structs and unions likewise
     NewType {
         name: Spelling,

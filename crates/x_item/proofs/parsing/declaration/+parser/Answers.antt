@@ -164,7 +164,7 @@ body_of_union-returns-clause-read t c =
     let opened = read_then (Token marks.OpenParenthesis ∷ []) (Declared n endings.Parenthesis ∷ Token marks.OpenBrace ∷ Arms n ∷ []) start c.in_ok-rest-2.ensures.read in
     let told = read_then (Declared n endings.Parenthesis ∷ []) (Token marks.OpenBrace ∷ Arms n ∷ []) opened c.in_ok-discriminant.ensures.read in
     let within = read_then (Token marks.OpenBrace ∷ []) (Arms n ∷ []) told c.in_ok-discriminant-2.ensures.read in
-    let made = rw c.in_ok-discriminant-2.ensures.value at c.union_body.ensures in
+    let made = rw c.in_ok-discriminant-2.ensures.value at c.in_ok-union_body.ensures in
     read_as (union_words _ _ ∙ ap spell_body (sym made)) (read_then (Arms n ∷ []) [] within c.in_ok-arms.ensures.read)
 
 pub data_type-returns-in_default-mark : goal.data_type-returns-in_default-mark

@@ -1,5 +1,7 @@
+use Rattle.std.proofs.Common.{ap, ◌∙◌}
+use Rattle.x_item.specs.View.{view_union}
 use Rattle.x_item.proofs.Rows.{union_view}
 use Rattle.x_item.proofs.trees.declaration.union_body.Goals as goal
 
 pub returns : goal.returns
-returns c = union_view c.args.discriminant c.args.arms c.args.default
+returns c = ap view_union c.in_ok-new.ensures.ok ∙ union_view c.args.discriminant c.args.arms c.args.default

@@ -5,4 +5,4 @@ use Rattle.x_item.proofs.Rows.{union_parts}
 use Rattle.x_item.proofs.names.declared_name.NameKind.of_body.Goals as goal
 
 pub returns-in-Union : goal.returns-in-Union
-returns-in-Union c = sym (ap body_kind (ap view_body c.in-Union.is ∙ union_parts c.in-Union.field-0))
+returns-in-Union c = sym (ap body_kind (ap view_body c.in-Union.is ∙ union_parts c.in-Union.field-0.value))

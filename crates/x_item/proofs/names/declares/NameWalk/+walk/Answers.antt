@@ -2,7 +2,7 @@ use Rattle.std.proofs.Common.{◌≡◌, ℕ, List, ◌+◌, ◌∷◌, [], ◌+
 use Rattle.std.proofs.lemmas.List.{drop_all, drop_more, length-map}
 use Rattle.std.proofs.lemmas.Result.{on_ok_weaker}
 use Rattle.x_item.specs.Tree.{Struct, Union, Simple, Name, Tagged}
-use Rattle.x_item.specs.View.{view_shape, view_body, view_enumerator, view_value, view_declaration, view_declarations, view_arms, view_default}
+use Rattle.x_item.specs.View.{view_shape, view_body, view_enumerator, view_value, view_declaration, view_declarations, view_arms, view_default, view_union}
 use Rattle.x_item.specs.Words.{Fixed}
 use Rattle.x_lex.specs.declared.mark.Mark.TheVariants as marks
 use Rattle.x_item.specs.Gloss.{Gloss, AsField, AsDiscriminant, AsArm, Inside, glossed, enumerators_by, cases_by, body_by, declaration_by, declarations_by, arms_by, default_by}
@@ -81,9 +81,9 @@ body-returns-in_ok-enumerators-in-Enum t c =
 pub body-returns-in_ok-arms-in-Union : goal.body-returns-in_ok-arms-in-Union
 body-returns-in_ok-arms-in-Union t c =
     let around = Some c.args.around.now in
-    let u = out-UnionBody c.in-Union.body in
+    let u = out-UnionBody c.deref-body.result.now in
     let arms = view_arms u.arms.items in
-    let is : view_body c.args.body.now ≡ Union (view_declaration u.discriminant) arms (view_default u.default) = ap view_body c.in-Union.is ∙ union_parts c.in-Union.body in
+    let is : view_body c.args.body.now ≡ Union (view_declaration u.discriminant) arms (view_default u.default) = ap view_body c.in-Union.is ∙ ap view_union (sym c.deref-body.ensures) ∙ union_parts c.deref-body.result.now in
     let inside : NamesIn c.skip-in-Union-2.new.self c.arms.new.self (arms_by glossed around arms) = rw c.deref-in-Union.ensures.value at c.in_ok-arms-in-Union.ensures in
     on_ok_weaker c.default.result
     (λ last. covers_as (covers_two record { all = c.skip-in-Union.ensures } (covers_then (c.in_ok-declaration-in-Union.ensures AsDiscriminant)

@@ -2,7 +2,7 @@ use Rattle.std.proofs.Common.{◌∷◌, [], map, OnOk, Some, refl, sym, subst}
 use Rattle.std.proofs.lemmas.Result.{on_ok_weaker}
 use Rattle.x_item.specs.Tree.{Typedef, NewType}
 use Rattle.x_item.specs.View.{view_declaration, view_body, view_version, view_definition}
-use Rattle.x_item.specs.Gloss.{glossed, body_by}
+use Rattle.x_item.specs.Gloss.{InTypedef, glossed, body_by, declaration_by}
 use Rattle.x_item.specs.Named.{NamesIn, NamesAll}
 use Rattle.x_item.proofs.CollectLemmas.{covers_next, covers_then}
 use Rattle.x_item.proofs.NameLemmas.{covers_own, names_all, names_program}
@@ -10,9 +10,11 @@ use Rattle.x_item.proofs.names.declares.NameWalk.definition.Goals as goal
 
 pub returns-in-Typedef : goal.returns-in-Typedef
 returns-in-Typedef c =
-    let d = Typedef (view_declaration c.in-Typedef.declaration) in
+    let d = view_declaration c.in-Typedef.declaration.value in
     subst (λ x. OnOk c.typedef.result (NamesAll c.args.self.now c.typedef.new.self (view_definition x))) (sym c.in-Typedef.is)
-    (on_ok_weaker c.typedef.result (λ x. names_all d _ (_ ∷ []) refl (covers_next record { all = c.skip.ensures } x) (λ k. refl)) c.typedef.ensures)
+    (on_ok_weaker c.typedef.result
+    (λ x. let inside : NamesIn c.skip.new.self c.typedef.new.self (declaration_by glossed (Some InTypedef) d) = rw c.deref-in-Typedef.ensures at x in
+    names_all (Typedef d) _ (_ ∷ []) refl (covers_next record { all = c.skip.ensures } inside) (λ k. refl)) c.typedef.ensures)
 
 pub returns-in_ok-named-in-NewType : goal.returns-in_ok-named-in-NewType
 returns-in_ok-named-in-NewType c =

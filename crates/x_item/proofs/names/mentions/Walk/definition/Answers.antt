@@ -18,10 +18,11 @@ returns-in-Const c =
 
 pub returns-in-Typedef : goal.returns-in-Typedef
 returns-in-Typedef c =
-    let d = view_declaration c.in-Typedef.declaration in
+    let d = view_declaration c.in-Typedef.declaration.value in
     subst (λ x. OnOk c.declaration.result (FindsAll c.args.self.now c.declaration.new.self (view_definition x))) (sym c.in-Typedef.is)
     (on_ok_weaker c.declaration.result
-    (λ x. mentions_all (Typedef d) (_ ∷ declaration_by glossed (Some InTypedef) d) (_ ∷ []) refl (covers_next record { all = c.skip-in-Typedef.ensures } (x InTypedef)) (λ k. refl))
+    (λ x. let inside : FindsIn c.skip-in-Typedef.new.self c.declaration.new.self (declaration_by glossed (Some InTypedef) d) = rw c.deref.ensures at x InTypedef in
+    mentions_all (Typedef d) (_ ∷ declaration_by glossed (Some InTypedef) d) (_ ∷ []) refl (covers_next record { all = c.skip-in-Typedef.ensures } inside) (λ k. refl))
     c.declaration.ensures)
 
 pub returns-in-NewType : goal.returns-in-NewType
@@ -38,6 +39,6 @@ returns-in-Program c =
     let versions = map view_version c.in-Program.versions.items in
     subst (λ x. OnOk c.versions.result (FindsAll c.args.self.now c.versions.new.self (view_definition x))) (sym c.in-Program.is)
     (on_ok_weaker c.versions.result
-    (λ x. let inside : FindsIn c.skip-in-Program.new.self c.versions.new.self (versions_by glossed true versions) = rw c.deref.ensures.value at x in
+    (λ x. let inside : FindsIn c.skip-in-Program.new.self c.versions.new.self (versions_by glossed true versions) = rw c.deref-in-Program.ensures.value at x in
     mentions_all (Program c.in-Program.name.items versions c.in-Program.number.items) (_ ∷ _ ∷ _ ∷ versions_by glossed true versions) _ refl (covers_three record { all = c.skip-in-Program.ensures } inside) (λ k. refl))
     c.versions.ensures)
