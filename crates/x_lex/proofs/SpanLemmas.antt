@@ -64,7 +64,7 @@ pub place_fits : (text : List ℕ) (ts : List (Kind × ℕ)) (i : ℕ) (p : Kind
 place_fits text ts i p h e = let r = places_fit 0 ts i p e in let s = span_tiles true text ts h in (r.0, (let b = r.1 in omega (arith, b, s)))
 
 -- the tokens from an index on stand behind those before it
-lexemes_drop : (text : List ℕ) (at : ℕ) (ts : List (Kind × ℕ)) (i : ℕ) → drop i (lexemes_from text at ts) ≡ lexemes_from text (at + end_of ts i) (drop i ts)
+pub lexemes_drop : (text : List ℕ) (at : ℕ) (ts : List (Kind × ℕ)) (i : ℕ) → drop i (lexemes_from text at ts) ≡ lexemes_from text (at + end_of ts i) (drop i ts)
 lexemes_drop text at ts zero = let e : at ≡ at + 0 = omega arith in ap (λ n. lexemes_from text n ts) e
 lexemes_drop text at [] (suc i) = refl
 lexemes_drop text at (t ∷ ts) (suc i) =

@@ -228,6 +228,15 @@ impl<'a> Model for Walk<'a> {
     ghost invariant = { λ walk. walk.at + span walk.entries ≤ length walk.text.now };
 }
 
+impl<'a> Walk<'a> {
+    /// Passes over the next tokens, or over all that are left where there are fewer. It looks at their lengths alone.
+    pub fn pass(&mut self, count: usize)
+        ensures { self.new ≡ drop count self.old }
+    {
+        self.at += self.entries.pass(count);
+    }
+}
+
 impl<'a> Iterator for Walk<'a> {
     type Item = Token<'a>;
 

@@ -4,3 +4,4 @@ pub mod LengthLemmas
 pub mod Pens
 pub mod PatchLemmas
 pub mod SeqLemmas
+pub mod PassLemmas

@@ -1,6 +1,9 @@
-ghost use Rattle.std.specs.Prelude.{◌≡◌, ◌++◌, reverse};
+ghost use Rattle.std.specs.Prelude.{◌≡◌, ◌<◌, ◌^◌, ◌++◌, reverse, drop};
 ghost use Rattle.std.specs.Iterator.{YieldsFirstRef, item_count};
+ghost use Rattle.x_text.specs.Lengths.{total_length, length_before};
 
+use crate::Measured;
+use crate::measured::total_length;
 use std::marker::Model;
 
 /// Goes over the entries of a [`crate::GapSeq`] in order, seen as the list of those that are left.
@@ -24,6 +27,22 @@ impl<'a, T> GapIter<'a, T> {
         ensures { result ≡ front.now ++ reverse rear.now }
     {
         GapIter { front, rear }
+    }
+}
+
+impl<'a, T: Measured> GapIter<'a, T> {
+    /// Passes over the next entries, or over all that are left where there are fewer, and answers how long they are together.
+    pub fn pass(&mut self, count: usize) -> usize
+        requires short { total_length T.length self.old < 2 ^ 64 }
+        ensures left { self.new ≡ drop count self.old }
+        ensures length { result ≡ length_before T.length self.old count }
+    {
+        let (passed, front) = self.front.split_at(count.min(self.front.len()));
+        let kept = self.rear.len().saturating_sub(count - passed.len());
+        let (rear, others) = self.rear.split_at(kept);
+        self.front = front;
+        self.rear = rear;
+        total_length(passed) + total_length(others)
     }
 }
 

@@ -13,7 +13,7 @@ use crate::compile::fault::{Fault, FaultCode, TokenFault, WordFault};
 use crate::compile::header::{add_clean, add_item};
 use crate::compile::item::{Item, Parse};
 use crate::compile::names::Names;
-use crate::compile::parsing::{pass_tokens, take_tokens};
+use crate::compile::parsing::take_tokens;
 use crate::compile::placing::{at_tokens, placed};
 use crate::compile::rules::check_item;
 use std::alloc::Global;
@@ -111,7 +111,7 @@ fn add_output(
     ensures lines { lines.new ≡ lines.old }
 {
     if item.is_plain(ruled) {
-        pass_tokens(walk, item.tokens as usize);
+        walk.pass(item.tokens as usize);
         return add_clean(&mut output.body, &item.parse);
     }
     let mut part = Vec::new(alloc);

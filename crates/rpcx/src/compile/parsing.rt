@@ -56,13 +56,3 @@ pub fn take_tokens<'a>(
     }
     Ok(())
 }
-
-/// Passes over the next tokens of a walk, or all that are left where there are fewer.
-pub fn pass_tokens(walk: &mut Walk, count: usize)
-    ensures { walk.new ≡ drop count walk.old }
-{
-    let mut left = count;
-    while left > 0 && walk.next().is_some() {
-        left -= 1;
-    }
-}
