@@ -25,8 +25,8 @@ use Rattle.x_item.specs.declared.parsing.words.Word.TheVariants as words
 use Rattle.x_item.specs.declared.parsing.parse_error.ParseError.{ParseError}
 use Rattle.x_item.specs.declared.parsing.parse_error.ParseError.TheVariants as errors
 use Rattle.x_item.specs.Symbols.{Symbol, Context, InDeclaration, Token, AnyName, AnyValue, AnyLength, AfterLess, AfterName, AfterType, AfterUnsigned, Typed, AfterTag, AnyBody, Enumerators, AfterEnumerator, MoreEnumerators, Declared, Declarations, MoreDeclarations, Arms, AfterCase, MoreArms, ending_mark, followed, go, step_declared}
-use Rattle.x_item.specs.Reading.{view_word, Place, HasFirst, IsRead, Fails, read, spell_ended, spell_arm}
-use Rattle.x_item.proofs.ReadLemmas.{Alike, alike, alike_first, headed, read_first, read_after, fails_then}
+use Rattle.x_item.specs.Reading.{view_word, Place, HasFirst, LacksFirst, IsRead, Fails, read, spell_ended, spell_arm}
+use Rattle.x_item.proofs.ReadLemmas.{Alike, alike, alike_first, alike_other, alike_neither, headed, read_as, read_first, read_then, read_after, fails_then}
 
 -- no mark is another, and no word that is no mark is one
 pub other_mark : (w : source.Word) (m k : Mark) → w ≡ words.Mark m → m ≢ k → view_word w ≢ Fixed k
@@ -160,8 +160,8 @@ more_is : (n : ℕ) (w : Word) (left : ℕ) (code : FaultCode) (ps : List Place)
 more_is n (Fixed marks.CloseBrace) left code ps ss h = absurd (h refl)
 more_is n w left code ps ss h = go_followed (step_declared n endings.Semicolon w) (MoreDeclarations n ∷ []) ss ps (errors.Stuck left code)
 
-pub more_declarations : (n : ℕ) {tokens rest : List LexToken} {w : Word} → HasFirst tokens w rest → w ≢ Fixed marks.CloseBrace → Alike (MoreDeclarations n ∷ []) (Declared n endings.Semicolon ∷ MoreDeclarations n ∷ []) tokens
-more_declarations n {w = w} first h = alike_first first (λ left code ps ss. more_is n w left code ps ss h)
+pub more_declarations : (n : ℕ) {tokens : List LexToken} → LacksFirst tokens (Fixed marks.CloseBrace) → Alike (MoreDeclarations n ∷ []) (Declared n endings.Semicolon ∷ MoreDeclarations n ∷ []) tokens
+more_declarations n other = alike_other other (more_is n)
 
 -- one more declaration
 declarations_push : (xs : List Declaration) (x : Declaration) → spell_declarations (view_declarations (xs ++ x ∷ [])) ≡ spell_declarations (view_declarations xs) ++ spell_ended (view_declaration x) endings.Semicolon
@@ -226,8 +226,8 @@ more_arms_is n (Fixed marks.Default) left code ps ss a b = absurd (b refl)
 more_arms_is n (Fixed m) left code ps ss a b = refl
 more_arms_is n w left code ps ss a b = refl
 
-pub more_arms : (n : ℕ) {tokens rest : List LexToken} {w : Word} → HasFirst tokens w rest → w ≢ Fixed marks.CloseBrace → w ≢ Fixed marks.Default → Alike (MoreArms n ∷ []) (Token marks.Case ∷ AnyValue ∷ Token marks.Colon ∷ AfterCase n ∷ MoreArms n ∷ []) tokens
-more_arms n {w = w} first a b = alike_first first (λ left code ps ss. more_arms_is n w left code ps ss a b)
+pub more_arms : (n : ℕ) {tokens : List LexToken} → LacksFirst tokens (Fixed marks.CloseBrace) → LacksFirst tokens (Fixed marks.Default) → Alike (MoreArms n ∷ []) (Token marks.Case ∷ AnyValue ∷ Token marks.Colon ∷ AfterCase n ∷ MoreArms n ∷ []) tokens
+more_arms n other second = alike_neither other second (λ w left code ps ss h. more_arms_is n w left code ps ss h.0 h.1)
 
 -- one more arm
 abbrev pub arm_words : Arm → List Word
@@ -253,6 +253,19 @@ has_arm xs x ys is = subst (λ z. HasArm (view_arms z)) (sym is) (has_arm_snoc x
 
 pub fits_arm : (n : ℕ) (xs : List Arm) (x : Arm) (ys : List Arm) → ys ≡ xs ++ x ∷ [] → ArmsFit (view_arms xs) n → HasOne (map view_value x.cases.items) → DeclarationFits (view_declaration x.declaration) n → ArmsFit (view_arms ys) n
 fits_arm n xs x ys is h c d = subst (λ z. ArmsFit (view_arms z) n) (sym is) (arms_snoc n xs x h c d)
+
+-- what follows `default`
+abbrev pub default_symbols : ℕ → List Symbol
+default_symbols n = Token marks.Colon ∷ Declared n endings.Semicolon ∷ Token marks.CloseBrace ∷ []
+
+-- a struct and one more declaration, and a union's arms and one more
+pub struct_read : (n : ℕ) (xs : List Declaration) (x : Declaration) (ys : List Declaration) {tokens left rest : List LexToken} → ys ≡ xs ++ x ∷ [] → IsRead [] (AnyBody tags.Struct n ∷ []) tokens (Fixed marks.OpenBrace ∷ spell_declarations (view_declarations xs)) (Declared n endings.Semicolon ∷ MoreDeclarations n ∷ []) left → IsRead [] (Declared n endings.Semicolon ∷ []) left (spell_ended (view_declaration x) endings.Semicolon) [] rest → IsRead [] (AnyBody tags.Struct n ∷ []) tokens (Fixed marks.OpenBrace ∷ spell_declarations (view_declarations ys)) (MoreDeclarations n ∷ []) rest
+struct_read n xs x ys is h r =
+    read_as (ap (λ t. Fixed marks.OpenBrace ∷ t) (declarations_more xs x ys is)) (read_then (Declared n endings.Semicolon ∷ []) (MoreDeclarations n ∷ []) h r)
+
+pub arms_read : (n : ℕ) (xs : List Arm) (x : Arm) (ys : List Arm) {tokens left rest : List LexToken} → ys ≡ xs ++ x ∷ [] → IsRead [] (Arms n ∷ []) tokens (spell_arms (view_arms xs) ++ Fixed marks.Case ∷ []) (AnyValue ∷ Token marks.Colon ∷ AfterCase n ∷ MoreArms n ∷ []) left → IsRead (Fixed marks.Case ∷ []) (AnyValue ∷ Token marks.Colon ∷ AfterCase n ∷ []) left (arm_words x) [] rest → IsRead [] (Arms n ∷ []) tokens (spell_arms (view_arms ys)) (MoreArms n ∷ []) rest
+arms_read n xs x ys is h r =
+    read_as (arms_more xs x ys is) (read_after (AnyValue ∷ Token marks.Colon ∷ AfterCase n ∷ []) (MoreArms n ∷ []) (spell_arms (view_arms xs)) (Fixed marks.Case) h r)
 
 -- bodies
 enum_is : (n : ℕ) (ps : List Place) (ss : List Symbol) → read (AnyBody tags.Enum n ∷ ss) ps ≡ read (Token marks.OpenBrace ∷ Enumerators ∷ ss) ps

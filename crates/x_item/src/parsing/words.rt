@@ -7,7 +7,7 @@ ghost use Rattle.x_item.specs.Words.{Fixed, Name, Number, word_of, is_significan
 ghost use Rattle.x_item.specs.View.{view_value};
 ghost use Rattle.x_item.specs.Symbols.{Symbol, Token as OfMark, AnyName, AnyNumber, AnyValue};
 ghost use Rattle.x_item.specs.Reading.{view_word, ahead, left_in, code_in, IsSplit, HasFirst, IsBefore, Fails};
-ghost use Rattle.x_item.specs.Reading.{IsPart};
+ghost use Rattle.x_item.specs.Reading.{IsPart, LacksFirst};
 
 use super::{FaultCode, ParseError};
 use crate::trees::Value;
@@ -82,6 +82,22 @@ pub fn first<'w, 't>(tokens: &'w [Token<'t>]) -> Result<(Word<'t>, &'w [Token<'t
     match split_word(tokens) {
         Some((token, rest)) => Ok((Word::of(&token), rest)),
         None => Err(ParseError::AtEnd),
+    }
+}
+
+/// The tokens after the mark, if it is the first word.
+pub fn after<'w, 't>(mark: Mark, tokens: &'w [Token<'t>]) -> Option<&'w [Token<'t>]>
+    ensures some { IfSome result (λ rest. HasFirst tokens.now (Fixed mark) rest.now) }
+    ensures none { IfNone result (LacksFirst tokens.now (Fixed mark)) }
+{
+    match split_word(tokens) {
+        Some((token, rest)) => {
+            if is_mark(&Word::of(&token), mark) {
+                return Some(rest);
+            }
+            None
+        }
+        None => None,
     }
 }
 
