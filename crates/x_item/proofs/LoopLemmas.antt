@@ -53,8 +53,8 @@ after_less_is : (w : Word) (left : ℕ) (code : FaultCode) (ps : List Place) (ss
 after_less_is (Fixed marks.Greater) left code ps ss h = absurd (h refl)
 after_less_is w left code ps ss h = refl
 
-pub after_less : {tokens rest : List LexToken} {w : Word} → HasFirst tokens w rest → w ≢ Fixed marks.Greater → Alike (AfterLess ∷ []) (AnyValue ∷ Token marks.Greater ∷ []) tokens
-after_less {w = w} first h = alike_first first (λ left code ps ss. after_less_is w left code ps ss h)
+pub after_less : {tokens : List LexToken} → LacksFirst tokens (Fixed marks.Greater) → Alike (AfterLess ∷ []) (AnyValue ∷ Token marks.Greater ∷ []) tokens
+after_less other = alike_other other after_less_is
 
 -- a length that is no `<`
 any_length_is : (w : Word) (left : ℕ) (code : FaultCode) (ps : List Place) (ss : List Symbol) → w ≢ Fixed marks.Less → read (AnyLength ∷ ss) (headed w left code ps) ≡ read (Token marks.OpenBracket ∷ AnyValue ∷ Token marks.CloseBracket ∷ ss) (headed w left code ps)
@@ -62,31 +62,32 @@ any_length_is (Fixed marks.Less) left code ps ss h = absurd (h refl)
 any_length_is (Fixed m) left code ps ss h = refl
 any_length_is w left code ps ss h = refl
 
-pub any_length : {tokens rest : List LexToken} {w : Word} → HasFirst tokens w rest → w ≢ Fixed marks.Less → Alike (AnyLength ∷ []) (Token marks.OpenBracket ∷ AnyValue ∷ Token marks.CloseBracket ∷ []) tokens
-any_length {w = w} first h = alike_first first (λ left code ps ss. any_length_is w left code ps ss h)
+pub any_length : {tokens : List LexToken} → LacksFirst tokens (Fixed marks.Less) → Alike (AnyLength ∷ []) (Token marks.OpenBracket ∷ AnyValue ∷ Token marks.CloseBracket ∷ []) tokens
+any_length other = alike_other other any_length_is
 
--- after a name, at a bracket and at none
-pub length_after_less : (e : Ending) {tokens rest : List LexToken} {w : Word} → HasFirst tokens w rest → w ≡ Fixed marks.Less → Alike (AfterName e ∷ []) (AnyLength ∷ Token (ending_mark e) ∷ []) tokens
-length_after_less e {w = w} first is = alike_first first (λ left code ps ss. subst (λ x. read (AfterName e ∷ ss) (headed x left code ps) ≡ read (AnyLength ∷ Token (ending_mark e) ∷ ss) (headed x left code ps)) (sym is) refl)
+-- after a name, at an ending and at none
+pub ended_name : (e : Ending) {m : Mark} {tokens rest : List LexToken} → m ≡ ending_mark e → HasFirst tokens (Fixed m) rest → IsRead [] (AfterName e ∷ []) tokens (Fixed (ending_mark e) ∷ []) [] rest
+ended_name endings.Semicolon is first = read_first (Fixed marks.Semicolon) first (ap Fixed is) (λ left code ps ss. refl)
+ended_name endings.Parenthesis is first = read_first (Fixed marks.CloseParenthesis) first (ap Fixed is) (λ left code ps ss. refl)
 
-pub length_after_bracket : (e : Ending) {tokens rest : List LexToken} {w : Word} → HasFirst tokens w rest → w ≡ Fixed marks.OpenBracket → Alike (AfterName e ∷ []) (AnyLength ∷ Token (ending_mark e) ∷ []) tokens
-length_after_bracket e {w = w} first is = alike_first first (λ left code ps ss. subst (λ x. read (AfterName e ∷ ss) (headed x left code ps) ≡ read (AnyLength ∷ Token (ending_mark e) ∷ ss) (headed x left code ps)) (sym is) refl)
+after_name_is : (e : Ending) (w : Word) (left : ℕ) (code : FaultCode) (ps : List Place) (ss : List Symbol) → w ≢ Fixed (ending_mark e) → read (AfterName e ∷ ss) (headed w left code ps) ≡ read (AnyLength ∷ Token (ending_mark e) ∷ ss) (headed w left code ps)
+after_name_is endings.Semicolon (Fixed marks.Semicolon) left code ps ss h = absurd (h refl)
+after_name_is endings.Semicolon (Fixed m) left code ps ss h = refl
+after_name_is endings.Parenthesis (Fixed marks.CloseParenthesis) left code ps ss h = absurd (h refl)
+after_name_is endings.Parenthesis (Fixed m) left code ps ss h = refl
+after_name_is e w left code ps ss h = refl
 
-after_name_is : (e : Ending) (w : Word) (left : ℕ) (code : FaultCode) (ps : List Place) (ss : List Symbol) → w ≢ Fixed marks.Less → w ≢ Fixed marks.OpenBracket → read (AfterName e ∷ ss) (headed w left code ps) ≡ read (Token (ending_mark e) ∷ ss) (headed w left code ps)
-after_name_is e (Fixed marks.Less) left code ps ss a b = absurd (a refl)
-after_name_is e (Fixed marks.OpenBracket) left code ps ss a b = absurd (b refl)
-after_name_is e w left code ps ss a b = refl
-
-pub after_name : (e : Ending) {tokens rest : List LexToken} {w : Word} → HasFirst tokens w rest → w ≢ Fixed marks.Less → w ≢ Fixed marks.OpenBracket → Alike (AfterName e ∷ []) (Token (ending_mark e) ∷ []) tokens
-after_name e {w = w} first a b = alike_first first (λ left code ps ss. after_name_is e w left code ps ss a b)
+pub after_name : (e : Ending) {m : Mark} {tokens : List LexToken} → m ≡ ending_mark e → LacksFirst tokens (Fixed m) → Alike (AfterName e ∷ []) (AnyLength ∷ Token (ending_mark e) ∷ []) tokens
+after_name e {tokens = tokens} is other =
+    alike_other (subst (λ k. LacksFirst tokens (Fixed k)) is other) (after_name_is e)
 
 -- a declaration's name, with no star
 named_is : (e : Ending) (w : Word) (left : ℕ) (code : FaultCode) (ps : List Place) (ss : List Symbol) → w ≢ Fixed marks.Star → read (AfterType (InDeclaration e) ∷ ss) (headed w left code ps) ≡ read (AnyName ∷ AfterName e ∷ ss) (headed w left code ps)
 named_is e (Fixed marks.Star) left code ps ss h = absurd (h refl)
 named_is e w left code ps ss h = refl
 
-pub no_star : (e : Ending) {tokens rest : List LexToken} {w : Word} → HasFirst tokens w rest → w ≢ Fixed marks.Star → Alike (AfterType (InDeclaration e) ∷ []) (AnyName ∷ AfterName e ∷ []) tokens
-no_star e {w = w} first h = alike_first first (λ left code ps ss. named_is e w left code ps ss h)
+pub no_star : (e : Ending) {tokens : List LexToken} → LacksFirst tokens (Fixed marks.Star) → Alike (AfterType (InDeclaration e) ∷ []) (AnyName ∷ AfterName e ∷ []) tokens
+no_star e other = alike_other other (named_is e)
 
 -- enumerators
 enumerators_is : (ps : List Place) (ss : List Symbol) → read (Enumerators ∷ ss) ps ≡ read (AnyName ∷ AfterEnumerator ∷ ss) ps
@@ -104,16 +105,16 @@ no_value_is : (w : Word) (left : ℕ) (code : FaultCode) (ps : List Place) (ss :
 no_value_is (Fixed marks.Equals) left code ps ss h = absurd (h refl)
 no_value_is w left code ps ss h = refl
 
-pub no_value : {tokens rest : List LexToken} {w : Word} → HasFirst tokens w rest → w ≢ Fixed marks.Equals → Alike (AfterEnumerator ∷ []) (MoreEnumerators ∷ []) tokens
-no_value {w = w} first h = alike_first first (λ left code ps ss. no_value_is w left code ps ss h)
+pub no_value : {tokens : List LexToken} → LacksFirst tokens (Fixed marks.Equals) → Alike (AfterEnumerator ∷ []) (MoreEnumerators ∷ []) tokens
+no_value other = alike_other other no_value_is
 
 more_enumerators_is : (w : Word) (left : ℕ) (code : FaultCode) (ps : List Place) (ss : List Symbol) → w ≢ Fixed marks.CloseBrace → read (MoreEnumerators ∷ ss) (headed w left code ps) ≡ read (Token marks.Comma ∷ Enumerators ∷ ss) (headed w left code ps)
 more_enumerators_is (Fixed marks.CloseBrace) left code ps ss h = absurd (h refl)
 more_enumerators_is (Fixed m) left code ps ss h = refl
 more_enumerators_is w left code ps ss h = refl
 
-pub more_enumerators : {tokens rest : List LexToken} {w : Word} → HasFirst tokens w rest → w ≢ Fixed marks.CloseBrace → Alike (MoreEnumerators ∷ []) (Token marks.Comma ∷ Enumerators ∷ []) tokens
-more_enumerators {w = w} first h = alike_first first (λ left code ps ss. more_enumerators_is w left code ps ss h)
+pub more_enumerators : {tokens : List LexToken} → LacksFirst tokens (Fixed marks.CloseBrace) → Alike (MoreEnumerators ∷ []) (Token marks.Comma ∷ Enumerators ∷ []) tokens
+more_enumerators other = alike_other other more_enumerators_is
 
 has_push : {A : Type 0} (xs : List A) (x : A) → HasOne (xs ++ x ∷ [])
 has_push [] x = tt
@@ -204,8 +205,8 @@ no_case_is : (n : ℕ) (w : Word) (left : ℕ) (code : FaultCode) (ps : List Pla
 no_case_is n (Fixed marks.Case) left code ps ss h = absurd (h refl)
 no_case_is n w left code ps ss h = refl
 
-pub no_case : (n : ℕ) {tokens rest : List LexToken} {w : Word} → HasFirst tokens w rest → w ≢ Fixed marks.Case → Alike (AfterCase n ∷ []) (Declared n endings.Semicolon ∷ []) tokens
-no_case n {w = w} first h = alike_first first (λ left code ps ss. no_case_is n w left code ps ss h)
+pub no_case : (n : ℕ) {tokens : List LexToken} → LacksFirst tokens (Fixed marks.Case) → Alike (AfterCase n ∷ []) (Declared n endings.Semicolon ∷ []) tokens
+no_case n other = alike_other other (no_case_is n)
 
 -- the body of a union is an arm and the rest
 arms_is : (n : ℕ) (ps : List Place) (ss : List Symbol) → read (Arms n ∷ ss) ps ≡ read (Token marks.Case ∷ AnyValue ∷ Token marks.Colon ∷ AfterCase n ∷ MoreArms n ∷ ss) ps

@@ -1,12 +1,14 @@
 -- Reading of parts, one after another.
-use Rattle.std.proofs.Common.{◌≡◌, ◌≢◌, ◌↔◌, ℕ, Bool, false, IsTrue, List, [], ◌∷◌, ◌++◌, cond, Some, None, Result, Ok, Err, refl, ap, sym, ◌∙◌, subst, append_assoc, arith}
+use Rattle.std.proofs.Common.{◌≡◌, ◌≢◌, ◌↔◌, ℕ, Bool, true, false, nat_eq, get_or, map, IsTrue, List, [], ◌∷◌, ◌++◌, cond, Some, None, Result, Ok, Err, refl, ap, sym, ◌∙◌, subst, append_assoc, arith}
 use Rattle.std.specs.Result.{IsErrAnd, IfOk, IfErr}
-use Rattle.std.proofs.lemmas.Bool.{eq-eqb}
+use Rattle.std.proofs.lemmas.Bool.{eq-eqb, eqb-true}
 use Rattle.std.proofs.lemmas.Result.{err_from_is_err_and, IfOk-weaker, IfErr-weaker}
 use Rattle.x_lex.specs.declared.token.Token.{Token}
 use Rattle.x_item.specs.Words.{Word, Fixed, word_of}
 use Rattle.x_lex.specs.Places.{lexeme}
 use Rattle.x_lex.specs.declared.mark.Mark.{Mark}
+use Rattle.x_lex.specs.declared.mark.Mark.TheVariants as marks
+use Rattle.x_lex.specs.declared.mark.TheConstants.{MARKS}
 use Rattle.x_lex.specs.Marks.{place_of}
 use Rattle.x_item.specs.Symbols.{Symbol, Token as OfMark, go}
 use Rattle.x_item.specs.declared.parsing.fault_code.FaultCode.{FaultCode}
@@ -144,6 +146,32 @@ err_alike from by tokens r same h = IfErr-weaker r (λ e. Fails by tokens e) (λ
 pub ok_of : {T E Q : Type 0} (P : T → Type 0) (r : Result T E) (value : T) → IfOk r (λ x. x ≡ value) → IfOk r (λ x. Q) → (Q → P value) → IfOk r P
 ok_of P (Ok x) value is q p = subst P (sym is) (p q)
 ok_of P (Err e) value is q p = tt
+
+-- no two marks have one place in the table
+mark_at : ℕ → Mark
+mark_at n = get_or (map (λ entry. entry.1) MARKS) n marks.Bool
+
+mark_at_place : (m : Mark) → mark_at (place_of m) ≡ m
+unfolding mark_at
+mark_at_place marks.Bool = refl
+mark_at_place m = refl
+
+pub one_place : (m k : Mark) → nat_eq (place_of m) (place_of k) ≡ true → m ≡ k
+one_place m k is = sym (mark_at_place m) ∙ ap mark_at (eqb-true (place_of m) (place_of k) is) ∙ mark_at_place k
+
+-- the symbol of a mark takes no other word
+other_taken : (m k : Mark) (b : Bool) → b ≡ nat_eq (place_of m) (place_of k) → Fixed k ≢ Fixed m → (left : ℕ) (code : FaultCode) (ps : List Place) (ss : List Symbol) → go (cond b (Some []) None) (λ symbols. read (symbols ++ ss) ps) (Err (errors.Stuck left code)) ≡ Err (errors.Stuck left code)
+other_taken m k false is other left code ps ss = refl
+other_taken m k true is other left code ps ss = absurd (other (ap Fixed (sym (one_place m k (sym is)))))
+
+takes_no_other : (m : Mark) (w : Word) (left : ℕ) (code : FaultCode) (ps : List Place) (ss : List Symbol) → w ≢ Fixed m → read (OfMark m ∷ ss) (headed w left code ps) ≡ Err (errors.Stuck left code)
+takes_no_other m (Fixed k) left code ps ss other = other_taken m k (nat_eq (place_of m) (place_of k)) refl other left code ps ss
+takes_no_other m w left code ps ss other = refl
+
+pub stuck_other : {tokens rest : List Token} {w : Word} {m : Mark} (e : ParseError) → HasFirst tokens w rest → w ≢ Fixed m → e ≡ errors.Stuck (left_in tokens) (code_in tokens) → Fails (OfMark m ∷ []) tokens e
+stuck_other {tokens} {rest} {w} {m} e first other is =
+    subst (λ x. Fails (OfMark m ∷ []) tokens x) (sym is)
+    (record { by = λ ss. ap (read (OfMark m ∷ ss)) first.found ∙ takes_no_other m w (left_in tokens) (code_in tokens) (ahead rest) ss other })
 
 -- what a word says of the first word
 pub split_first : {tokens rest : List Token} {token : Token} {m : Mark} → IsSplit tokens token rest → word_of (lexeme token) ≡ Fixed m → HasFirst tokens (Fixed m) rest

@@ -6,7 +6,8 @@ mod program;
 mod value;
 
 pub use declaration::{
-    Arm, Basic, Body, DataType, Declaration, Enumerator, Length, MOST_INLINE, Shape, Tag, UnionBody,
+    Arm, BASIC_MARKS, Basic, Body, DataType, Declaration, Enumerator, Length, MOST_INLINE, Shape,
+    Tag, UnionBody,
 };
 pub(crate) use declaration::{inline, struct_body, union_body};
 pub use definition::Definition;

@@ -123,16 +123,10 @@ pub fn expect<'w, 't>(mark: Mark, tokens: &'w [Token<'t>]) -> Result<&'w [Token<
     ensures stuck { IfErr result (λ e. Fails (OfMark mark ∷ []) tokens.now e) }
 {
     let (word, rest) = first(tokens)?;
-    match word {
-        Word::Mark(found) => {
-            if found == mark {
-                Ok(rest)
-            } else {
-                Err(stuck_at(tokens))
-            }
-        }
-        _ => Err(stuck_at(tokens)),
+    if is_mark(&word, mark) {
+        return Ok(rest);
     }
+    Err(stuck_at(tokens))
 }
 
 /// Reads the mark behind a value that was read, which it gives back.
