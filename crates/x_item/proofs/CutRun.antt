@@ -8,7 +8,7 @@ use Rattle.x_lex.specs.Places.{Lexeme}
 use Rattle.x_item.specs.declared.cutting.entry.Entry.{Entry}
 use Rattle.x_item.specs.Items.{IsCut}
 use Rattle.x_item.specs.ItemList.{total, counts, AreOfText}
-use Rattle.x_item.specs.Cutting.{Role, opening, closing, semicolon, plain, role_of, roles_of, depth_after, ends_at, counts_from}
+use Rattle.x_item.specs.Cutting.{DepthRole, opening, closing, semicolon, plain, role_of, roles_of, depth_after, ends_at, counts_from}
 use Rattle.x_item.proofs.CountLemmas.{total-append}
 use Rattle.x_item.proofs.CuttingLemmas.{counts_cut}
 use Rattle.x_item.proofs.PatchedLemmas.{depth_after_le}
@@ -54,7 +54,7 @@ cutting_end all left left' found more depth count next t ends is says moved an_e
   deep = let z = at_zero in omega (arith, z);
 }
   where
-    zero_next : (d : ℕ) (r : Role) → ends_at d r ≡ true → depth_after d r ≡ 0
+    zero_next : (d : ℕ) (r : DepthRole) → ends_at d r ≡ true → depth_after d r ≡ 0
     zero_next d opening e = (cc)
     zero_next d closing e = (cc)
     zero_next d semicolon e = grind (arith, nat_tests)

@@ -1,8 +1,7 @@
 -- What each symbol of the grammar stands for, and that its steps are right.
-use Rattle.std.proofs.Common.{◌≡◌, ℕ, zero, suc, List, [], ◌∷◌, ◌++◌, ◌⊎◌, inl, inr, Option, Some, None, Bool, true, false, nat_eq, refl, ap, sym, ◌∙◌, subst, append_assoc, get_or, map, eq-eqb}
+use Rattle.std.proofs.Common.{◌≡◌, ℕ, zero, suc, List, [], ◌∷◌, ◌++◌, ◌⊎◌, inl, inr, Option, Some, None, Bool, true, false, nat_eq, refl, ap, sym, ◌∙◌, subst, append_assoc, map, eq-eqb}
 use Rattle.std.specs.Prelude.{if◌then◌else◌}
 use Rattle.std.proofs.lemmas.List.{append-nil}
-use Rattle.std.proofs.lemmas.Bool.{eqb-true}
 use Rattle.x_item.specs.Words.{Word, Fixed, Name, Number}
 use Rattle.x_lex.specs.declared.mark.Mark.{Mark}
 use Rattle.x_lex.specs.declared.mark.Mark.TheVariants as marks
@@ -16,9 +15,9 @@ use Rattle.x_item.specs.Tree as tree
 use Rattle.x_item.specs.Gloss.{spell_value, tag_mark}
 use Rattle.x_item.specs.Spell.{spell, spell_most, spell_length, spell_named, spell_basic, spell_given, spell_other_enumerators, spell_enumerators, spell_cases, spell_type, spell_body, spell_declaration, spell_declarations, spell_arms, spell_default, spell_argument, spell_passed, spell_others, spell_procedures, spell_versions, HasOne, HasDeclaration, TypeFits, BodyFits, DeclarationFits, DeclarationsFit, ArmsFit, DefaultFits, ArgumentFits, PassedFits, OthersFit, ProcedureFits, ProceduresFit, VersionFits, VersionsFit, KeepsLimits}
 use Rattle.x_lex.specs.Marks.{place_of}
-use Rattle.x_lex.specs.declared.mark.TheConstants.{MARKS}
 use Rattle.x_item.specs.Symbols.{Context, InDeclaration, InArguments, InResult, Symbol, Item, Token, AnyName, AnyNumber, AnyValue, AnyLength, AfterLess, AfterName, Typed, AfterUnsigned, AfterType, AfterTag, AnyBody, Enumerators, AfterEnumerator, MoreEnumerators, Declared, Declarations, MoreDeclarations, Arms, AfterCase, MoreArms, Parameters, Arguments, Result, Procedures, MoreProcedures, Versions, MoreVersions, ending_mark, followed, step, step_item, step_token, step_name, step_number, step_value, step_length, step_after_less, step_after_name, step_typed, step_named, step_more_arguments, step_after_type, step_after_unsigned, step_body, step_after_tag, step_enumerators, step_more_enumerators, step_after_enumerator, step_declared, step_declarations, step_more_declarations, step_arms, step_after_case, step_more_arms, step_arguments, step_parameters, step_result, step_procedures, step_more_procedures, step_versions, step_more_versions}
 use Rattle.x_item.proofs.Machine.{Vals, Kids, texts, kid_texts, join, front, back, texts_join, join_parts, front_join, back_join}
+use Rattle.x_item.proofs.ReadLemmas.{one_place}
 
 -- what may stand behind `unsigned`
 pub data Width : Type 0 where
@@ -432,17 +431,9 @@ built_item (Fixed marks.Program) k =
     ap (λ t. Fixed marks.Program ∷ Name k.0 ∷ Fixed marks.OpenBrace ∷ t) (sym (append_assoc (spell_versions (v.0.0 ∷ v.1.0)) (Fixed marks.CloseBrace ∷ []) (Fixed marks.Equals ∷ Number k.1.1.1.1.0 ∷ Fixed marks.Semicolon ∷ [])))
 built_item w k = absurd k
 
-mark_at : ℕ → Mark
-mark_at n = get_or (map (λ entry. entry.1) MARKS) n marks.Bool
-
-mark_at_place : (m : Mark) → mark_at (place_of m) ≡ m
-unfolding mark_at
-mark_at_place marks.Bool = refl
-mark_at_place m = refl
-
 pub token_kids : (m x : Mark) (b : Bool) → b ≡ nat_eq (place_of m) (place_of x) → Kids Value (if b then Some [] else None) → m ≡ x
 token_kids m x false e k = absurd k
-token_kids m x true e k = sym (mark_at_place m) ∙ ap mark_at (eqb-true (place_of m) (place_of x) (sym e)) ∙ mark_at_place x
+token_kids m x true e k = one_place m x (sym e)
 
 token_texts : (b : Bool) (k : Kids Value (if b then Some [] else None)) → kid_texts Value text (if b then Some [] else None) k ≡ []
 token_texts false k = absurd k

@@ -25,8 +25,8 @@ use Rattle.x_item.specs.declared.parsing.words.Word.TheVariants as words
 use Rattle.x_item.specs.declared.parsing.parse_error.ParseError.{ParseError}
 use Rattle.x_item.specs.declared.parsing.parse_error.ParseError.TheVariants as errors
 use Rattle.x_item.specs.Symbols.{Symbol, Context, InDeclaration, Token, AnyName, AnyValue, AnyLength, AfterLess, AfterName, AfterType, AfterUnsigned, Typed, AfterTag, AnyBody, Enumerators, AfterEnumerator, MoreEnumerators, Declared, Declarations, MoreDeclarations, Arms, AfterCase, MoreArms, ending_mark, followed, go, step_declared}
-use Rattle.x_item.specs.Reading.{view_word, Place, HasFirst, IsRead, Fails, read, spell_ended, spell_arm}
-use Rattle.x_item.proofs.ReadLemmas.{Alike, alike, alike_first, headed, read_first, read_after, fails_then}
+use Rattle.x_item.specs.Reading.{view_word, Place, HasFirst, LacksFirst, IsRead, Fails, read, spell_ended, spell_arm}
+use Rattle.x_item.proofs.ReadLemmas.{Alike, alike, alike_first, alike_other, alike_neither, headed, read_as, read_first, read_then, read_after, fails_then}
 
 -- no mark is another, and no word that is no mark is one
 pub other_mark : (w : source.Word) (m k : Mark) → w ≡ words.Mark m → m ≢ k → view_word w ≢ Fixed k
@@ -53,8 +53,8 @@ after_less_is : (w : Word) (left : ℕ) (code : FaultCode) (ps : List Place) (ss
 after_less_is (Fixed marks.Greater) left code ps ss h = absurd (h refl)
 after_less_is w left code ps ss h = refl
 
-pub after_less : {tokens rest : List LexToken} {w : Word} → HasFirst tokens w rest → w ≢ Fixed marks.Greater → Alike (AfterLess ∷ []) (AnyValue ∷ Token marks.Greater ∷ []) tokens
-after_less {w = w} first h = alike_first first (λ left code ps ss. after_less_is w left code ps ss h)
+pub after_less : {tokens : List LexToken} → LacksFirst tokens (Fixed marks.Greater) → Alike (AfterLess ∷ []) (AnyValue ∷ Token marks.Greater ∷ []) tokens
+after_less other = alike_other other after_less_is
 
 -- a length that is no `<`
 any_length_is : (w : Word) (left : ℕ) (code : FaultCode) (ps : List Place) (ss : List Symbol) → w ≢ Fixed marks.Less → read (AnyLength ∷ ss) (headed w left code ps) ≡ read (Token marks.OpenBracket ∷ AnyValue ∷ Token marks.CloseBracket ∷ ss) (headed w left code ps)
@@ -62,31 +62,32 @@ any_length_is (Fixed marks.Less) left code ps ss h = absurd (h refl)
 any_length_is (Fixed m) left code ps ss h = refl
 any_length_is w left code ps ss h = refl
 
-pub any_length : {tokens rest : List LexToken} {w : Word} → HasFirst tokens w rest → w ≢ Fixed marks.Less → Alike (AnyLength ∷ []) (Token marks.OpenBracket ∷ AnyValue ∷ Token marks.CloseBracket ∷ []) tokens
-any_length {w = w} first h = alike_first first (λ left code ps ss. any_length_is w left code ps ss h)
+pub any_length : {tokens : List LexToken} → LacksFirst tokens (Fixed marks.Less) → Alike (AnyLength ∷ []) (Token marks.OpenBracket ∷ AnyValue ∷ Token marks.CloseBracket ∷ []) tokens
+any_length other = alike_other other any_length_is
 
--- after a name, at a bracket and at none
-pub length_after_less : (e : Ending) {tokens rest : List LexToken} {w : Word} → HasFirst tokens w rest → w ≡ Fixed marks.Less → Alike (AfterName e ∷ []) (AnyLength ∷ Token (ending_mark e) ∷ []) tokens
-length_after_less e {w = w} first is = alike_first first (λ left code ps ss. subst (λ x. read (AfterName e ∷ ss) (headed x left code ps) ≡ read (AnyLength ∷ Token (ending_mark e) ∷ ss) (headed x left code ps)) (sym is) refl)
+-- after a name, at an ending and at none
+pub ended_name : (e : Ending) {m : Mark} {tokens rest : List LexToken} → m ≡ ending_mark e → HasFirst tokens (Fixed m) rest → IsRead [] (AfterName e ∷ []) tokens (Fixed (ending_mark e) ∷ []) [] rest
+ended_name endings.Semicolon is first = read_first (Fixed marks.Semicolon) first (ap Fixed is) (λ left code ps ss. refl)
+ended_name endings.Parenthesis is first = read_first (Fixed marks.CloseParenthesis) first (ap Fixed is) (λ left code ps ss. refl)
 
-pub length_after_bracket : (e : Ending) {tokens rest : List LexToken} {w : Word} → HasFirst tokens w rest → w ≡ Fixed marks.OpenBracket → Alike (AfterName e ∷ []) (AnyLength ∷ Token (ending_mark e) ∷ []) tokens
-length_after_bracket e {w = w} first is = alike_first first (λ left code ps ss. subst (λ x. read (AfterName e ∷ ss) (headed x left code ps) ≡ read (AnyLength ∷ Token (ending_mark e) ∷ ss) (headed x left code ps)) (sym is) refl)
+after_name_is : (e : Ending) (w : Word) (left : ℕ) (code : FaultCode) (ps : List Place) (ss : List Symbol) → w ≢ Fixed (ending_mark e) → read (AfterName e ∷ ss) (headed w left code ps) ≡ read (AnyLength ∷ Token (ending_mark e) ∷ ss) (headed w left code ps)
+after_name_is endings.Semicolon (Fixed marks.Semicolon) left code ps ss h = absurd (h refl)
+after_name_is endings.Semicolon (Fixed m) left code ps ss h = refl
+after_name_is endings.Parenthesis (Fixed marks.CloseParenthesis) left code ps ss h = absurd (h refl)
+after_name_is endings.Parenthesis (Fixed m) left code ps ss h = refl
+after_name_is e w left code ps ss h = refl
 
-after_name_is : (e : Ending) (w : Word) (left : ℕ) (code : FaultCode) (ps : List Place) (ss : List Symbol) → w ≢ Fixed marks.Less → w ≢ Fixed marks.OpenBracket → read (AfterName e ∷ ss) (headed w left code ps) ≡ read (Token (ending_mark e) ∷ ss) (headed w left code ps)
-after_name_is e (Fixed marks.Less) left code ps ss a b = absurd (a refl)
-after_name_is e (Fixed marks.OpenBracket) left code ps ss a b = absurd (b refl)
-after_name_is e w left code ps ss a b = refl
-
-pub after_name : (e : Ending) {tokens rest : List LexToken} {w : Word} → HasFirst tokens w rest → w ≢ Fixed marks.Less → w ≢ Fixed marks.OpenBracket → Alike (AfterName e ∷ []) (Token (ending_mark e) ∷ []) tokens
-after_name e {w = w} first a b = alike_first first (λ left code ps ss. after_name_is e w left code ps ss a b)
+pub after_name : (e : Ending) {m : Mark} {tokens : List LexToken} → m ≡ ending_mark e → LacksFirst tokens (Fixed m) → Alike (AfterName e ∷ []) (AnyLength ∷ Token (ending_mark e) ∷ []) tokens
+after_name e {tokens = tokens} is other =
+    alike_other (subst (λ k. LacksFirst tokens (Fixed k)) is other) (after_name_is e)
 
 -- a declaration's name, with no star
 named_is : (e : Ending) (w : Word) (left : ℕ) (code : FaultCode) (ps : List Place) (ss : List Symbol) → w ≢ Fixed marks.Star → read (AfterType (InDeclaration e) ∷ ss) (headed w left code ps) ≡ read (AnyName ∷ AfterName e ∷ ss) (headed w left code ps)
 named_is e (Fixed marks.Star) left code ps ss h = absurd (h refl)
 named_is e w left code ps ss h = refl
 
-pub no_star : (e : Ending) {tokens rest : List LexToken} {w : Word} → HasFirst tokens w rest → w ≢ Fixed marks.Star → Alike (AfterType (InDeclaration e) ∷ []) (AnyName ∷ AfterName e ∷ []) tokens
-no_star e {w = w} first h = alike_first first (λ left code ps ss. named_is e w left code ps ss h)
+pub no_star : (e : Ending) {tokens : List LexToken} → LacksFirst tokens (Fixed marks.Star) → Alike (AfterType (InDeclaration e) ∷ []) (AnyName ∷ AfterName e ∷ []) tokens
+no_star e other = alike_other other (named_is e)
 
 -- enumerators
 enumerators_is : (ps : List Place) (ss : List Symbol) → read (Enumerators ∷ ss) ps ≡ read (AnyName ∷ AfterEnumerator ∷ ss) ps
@@ -104,16 +105,16 @@ no_value_is : (w : Word) (left : ℕ) (code : FaultCode) (ps : List Place) (ss :
 no_value_is (Fixed marks.Equals) left code ps ss h = absurd (h refl)
 no_value_is w left code ps ss h = refl
 
-pub no_value : {tokens rest : List LexToken} {w : Word} → HasFirst tokens w rest → w ≢ Fixed marks.Equals → Alike (AfterEnumerator ∷ []) (MoreEnumerators ∷ []) tokens
-no_value {w = w} first h = alike_first first (λ left code ps ss. no_value_is w left code ps ss h)
+pub no_value : {tokens : List LexToken} → LacksFirst tokens (Fixed marks.Equals) → Alike (AfterEnumerator ∷ []) (MoreEnumerators ∷ []) tokens
+no_value other = alike_other other no_value_is
 
 more_enumerators_is : (w : Word) (left : ℕ) (code : FaultCode) (ps : List Place) (ss : List Symbol) → w ≢ Fixed marks.CloseBrace → read (MoreEnumerators ∷ ss) (headed w left code ps) ≡ read (Token marks.Comma ∷ Enumerators ∷ ss) (headed w left code ps)
 more_enumerators_is (Fixed marks.CloseBrace) left code ps ss h = absurd (h refl)
 more_enumerators_is (Fixed m) left code ps ss h = refl
 more_enumerators_is w left code ps ss h = refl
 
-pub more_enumerators : {tokens rest : List LexToken} {w : Word} → HasFirst tokens w rest → w ≢ Fixed marks.CloseBrace → Alike (MoreEnumerators ∷ []) (Token marks.Comma ∷ Enumerators ∷ []) tokens
-more_enumerators {w = w} first h = alike_first first (λ left code ps ss. more_enumerators_is w left code ps ss h)
+pub more_enumerators : {tokens : List LexToken} → LacksFirst tokens (Fixed marks.CloseBrace) → Alike (MoreEnumerators ∷ []) (Token marks.Comma ∷ Enumerators ∷ []) tokens
+more_enumerators other = alike_other other more_enumerators_is
 
 has_push : {A : Type 0} (xs : List A) (x : A) → HasOne (xs ++ x ∷ [])
 has_push [] x = tt
@@ -160,8 +161,8 @@ more_is : (n : ℕ) (w : Word) (left : ℕ) (code : FaultCode) (ps : List Place)
 more_is n (Fixed marks.CloseBrace) left code ps ss h = absurd (h refl)
 more_is n w left code ps ss h = go_followed (step_declared n endings.Semicolon w) (MoreDeclarations n ∷ []) ss ps (errors.Stuck left code)
 
-pub more_declarations : (n : ℕ) {tokens rest : List LexToken} {w : Word} → HasFirst tokens w rest → w ≢ Fixed marks.CloseBrace → Alike (MoreDeclarations n ∷ []) (Declared n endings.Semicolon ∷ MoreDeclarations n ∷ []) tokens
-more_declarations n {w = w} first h = alike_first first (λ left code ps ss. more_is n w left code ps ss h)
+pub more_declarations : (n : ℕ) {tokens : List LexToken} → LacksFirst tokens (Fixed marks.CloseBrace) → Alike (MoreDeclarations n ∷ []) (Declared n endings.Semicolon ∷ MoreDeclarations n ∷ []) tokens
+more_declarations n other = alike_other other (more_is n)
 
 -- one more declaration
 declarations_push : (xs : List Declaration) (x : Declaration) → spell_declarations (view_declarations (xs ++ x ∷ [])) ≡ spell_declarations (view_declarations xs) ++ spell_ended (view_declaration x) endings.Semicolon
@@ -204,8 +205,8 @@ no_case_is : (n : ℕ) (w : Word) (left : ℕ) (code : FaultCode) (ps : List Pla
 no_case_is n (Fixed marks.Case) left code ps ss h = absurd (h refl)
 no_case_is n w left code ps ss h = refl
 
-pub no_case : (n : ℕ) {tokens rest : List LexToken} {w : Word} → HasFirst tokens w rest → w ≢ Fixed marks.Case → Alike (AfterCase n ∷ []) (Declared n endings.Semicolon ∷ []) tokens
-no_case n {w = w} first h = alike_first first (λ left code ps ss. no_case_is n w left code ps ss h)
+pub no_case : (n : ℕ) {tokens : List LexToken} → LacksFirst tokens (Fixed marks.Case) → Alike (AfterCase n ∷ []) (Declared n endings.Semicolon ∷ []) tokens
+no_case n other = alike_other other (no_case_is n)
 
 -- the body of a union is an arm and the rest
 arms_is : (n : ℕ) (ps : List Place) (ss : List Symbol) → read (Arms n ∷ ss) ps ≡ read (Token marks.Case ∷ AnyValue ∷ Token marks.Colon ∷ AfterCase n ∷ MoreArms n ∷ ss) ps
@@ -226,8 +227,8 @@ more_arms_is n (Fixed marks.Default) left code ps ss a b = absurd (b refl)
 more_arms_is n (Fixed m) left code ps ss a b = refl
 more_arms_is n w left code ps ss a b = refl
 
-pub more_arms : (n : ℕ) {tokens rest : List LexToken} {w : Word} → HasFirst tokens w rest → w ≢ Fixed marks.CloseBrace → w ≢ Fixed marks.Default → Alike (MoreArms n ∷ []) (Token marks.Case ∷ AnyValue ∷ Token marks.Colon ∷ AfterCase n ∷ MoreArms n ∷ []) tokens
-more_arms n {w = w} first a b = alike_first first (λ left code ps ss. more_arms_is n w left code ps ss a b)
+pub more_arms : (n : ℕ) {tokens : List LexToken} → LacksFirst tokens (Fixed marks.CloseBrace) → LacksFirst tokens (Fixed marks.Default) → Alike (MoreArms n ∷ []) (Token marks.Case ∷ AnyValue ∷ Token marks.Colon ∷ AfterCase n ∷ MoreArms n ∷ []) tokens
+more_arms n other second = alike_neither other second (λ w left code ps ss h. more_arms_is n w left code ps ss h.0 h.1)
 
 -- one more arm
 abbrev pub arm_words : Arm → List Word
@@ -253,6 +254,19 @@ has_arm xs x ys is = subst (λ z. HasArm (view_arms z)) (sym is) (has_arm_snoc x
 
 pub fits_arm : (n : ℕ) (xs : List Arm) (x : Arm) (ys : List Arm) → ys ≡ xs ++ x ∷ [] → ArmsFit (view_arms xs) n → HasOne (map view_value x.cases.items) → DeclarationFits (view_declaration x.declaration) n → ArmsFit (view_arms ys) n
 fits_arm n xs x ys is h c d = subst (λ z. ArmsFit (view_arms z) n) (sym is) (arms_snoc n xs x h c d)
+
+-- what follows `default`
+abbrev pub default_symbols : ℕ → List Symbol
+default_symbols n = Token marks.Colon ∷ Declared n endings.Semicolon ∷ Token marks.CloseBrace ∷ []
+
+-- a struct and one more declaration, and a union's arms and one more
+pub struct_read : (n : ℕ) (xs : List Declaration) (x : Declaration) (ys : List Declaration) {tokens left rest : List LexToken} → ys ≡ xs ++ x ∷ [] → IsRead [] (AnyBody tags.Struct n ∷ []) tokens (Fixed marks.OpenBrace ∷ spell_declarations (view_declarations xs)) (Declared n endings.Semicolon ∷ MoreDeclarations n ∷ []) left → IsRead [] (Declared n endings.Semicolon ∷ []) left (spell_ended (view_declaration x) endings.Semicolon) [] rest → IsRead [] (AnyBody tags.Struct n ∷ []) tokens (Fixed marks.OpenBrace ∷ spell_declarations (view_declarations ys)) (MoreDeclarations n ∷ []) rest
+struct_read n xs x ys is h r =
+    read_as (ap (λ t. Fixed marks.OpenBrace ∷ t) (declarations_more xs x ys is)) (read_then (Declared n endings.Semicolon ∷ []) (MoreDeclarations n ∷ []) h r)
+
+pub arms_read : (n : ℕ) (xs : List Arm) (x : Arm) (ys : List Arm) {tokens left rest : List LexToken} → ys ≡ xs ++ x ∷ [] → IsRead [] (Arms n ∷ []) tokens (spell_arms (view_arms xs) ++ Fixed marks.Case ∷ []) (AnyValue ∷ Token marks.Colon ∷ AfterCase n ∷ MoreArms n ∷ []) left → IsRead (Fixed marks.Case ∷ []) (AnyValue ∷ Token marks.Colon ∷ AfterCase n ∷ []) left (arm_words x) [] rest → IsRead [] (Arms n ∷ []) tokens (spell_arms (view_arms ys)) (MoreArms n ∷ []) rest
+arms_read n xs x ys is h r =
+    read_as (arms_more xs x ys is) (read_after (AnyValue ∷ Token marks.Colon ∷ AfterCase n ∷ []) (MoreArms n ∷ []) (spell_arms (view_arms xs)) (Fixed marks.Case) h r)
 
 -- bodies
 enum_is : (n : ℕ) (ps : List Place) (ss : List Symbol) → read (AnyBody tags.Enum n ∷ ss) ps ≡ read (Token marks.OpenBrace ∷ Enumerators ∷ ss) ps

@@ -10,7 +10,7 @@ use Rattle.x_lex.specs.TokenList.{TokenPatch, patched, LiesAmong}
 use Rattle.x_lex.specs.Places.{lexemes_from}
 use Rattle.x_lex.proofs.SpanLemmas.{span_tiles}
 use Rattle.x_lex.proofs.EndLemmas.{end_le_span}
-use Rattle.x_item.specs.Cutting.{Role, opening, closing, semicolon, plain, role_by, roles_of, roles, depth_after, ends_at, counts_from}
+use Rattle.x_item.specs.Cutting.{DepthRole, opening, closing, semicolon, plain, role_by, roles_of, roles, depth_after, ends_at, counts_from}
 
 module _ {A : Type 0} where
   get_left : (xs ys : List A) (i : ℕ) → i < length xs → slice_get (xs ++ ys) i ≡ slice_get xs i
@@ -146,11 +146,11 @@ counts_end text us i place k n depth count f e =
 pub counts_none : (text : List ℕ) (us : List (Kind × ℕ)) (i depth count : ℕ) → slice_get us i ≡ None → counts_from depth count (drop i (roles text us)) ≡ count ∷ []
 counts_none text us i depth count e = ap (counts_from depth count) (drop_all i (roles text us) (let p = none_past us i e in let l = length-roles text us in omega (arith, p, l)))
 
-pub depth_after_le : (d : ℕ) (r : Role) → depth_after d r ≤ d + 1
+pub depth_after_le : (d : ℕ) (r : DepthRole) → depth_after d r ≤ d + 1
 depth_after_le d opening = omega arith
 depth_after_le d closing = omega arith
 depth_after_le d semicolon = omega arith
 depth_after_le d plain = omega arith
 
-pub deep_after : (d n next : ℕ) (r : Role) → next ≡ depth_after d r → d ≤ n → next ≤ n + 1
+pub deep_after : (d n next : ℕ) (r : DepthRole) → next ≡ depth_after d r → d ≤ n → next ≤ n + 1
 deep_after d n next r e le = let a = depth_after_le d r in omega (arith, a, e)

@@ -12,26 +12,26 @@ use Rattle.x_item.specs.declared.trees.program.Argument.{Argument}
 use Rattle.x_item.specs.declared.parsing.fault_code.FaultCode.{FaultCode}
 use Rattle.x_item.specs.Symbols.{Symbol, Token, AnyName, Typed, InArguments, InResult, AfterType, Arguments, Parameters, Procedures, MoreProcedures, Versions, MoreVersions, go, followed, step_result, of_number, of_procedure, of_version}
 use Rattle.x_item.specs.Symbols.{Result as AnyResult}
-use Rattle.x_item.specs.Reading.{Place, HasFirst, read}
+use Rattle.x_item.specs.Reading.{Place, LacksFirst, IsRead, read}
 use Rattle.x_item.specs.declared.parsing.parse_error.ParseError.{ParseError}
 use Rattle.x_item.specs.declared.parsing.parse_error.ParseError.TheVariants as errors
-use Rattle.x_item.proofs.ReadLemmas.{Alike, alike, alike_first, headed}
+use Rattle.x_item.proofs.ReadLemmas.{Alike, alike, alike_other, alike_neither, headed, read_as, read_then}
 
 -- an argument that is no `string`
 arguments_is : (w : Word) (left : ℕ) (code : FaultCode) (ps : List Place) (ss : List Symbol) → w ≢ Fixed marks.String → read (Arguments ∷ ss) (headed w left code ps) ≡ read (Typed MOST_INLINE InArguments ∷ ss) (headed w left code ps)
 arguments_is (Fixed marks.String) left code ps ss h = absurd (h refl)
 arguments_is w left code ps ss h = refl
 
-pub no_string : {tokens rest : List LexToken} {w : Word} → HasFirst tokens w rest → w ≢ Fixed marks.String → Alike (Arguments ∷ []) (Typed MOST_INLINE InArguments ∷ []) tokens
-no_string {w = w} first h = alike_first first (λ left code ps ss. arguments_is w left code ps ss h)
+pub no_string : {tokens : List LexToken} → LacksFirst tokens (Fixed marks.String) → Alike (Arguments ∷ []) (Typed MOST_INLINE InArguments ∷ []) tokens
+no_string other = alike_other other arguments_is
 
 -- a first argument that is not `void`
 parameters_is : (w : Word) (left : ℕ) (code : FaultCode) (ps : List Place) (ss : List Symbol) → w ≢ Fixed marks.Void → read (Parameters ∷ ss) (headed w left code ps) ≡ read (Arguments ∷ ss) (headed w left code ps)
 parameters_is (Fixed marks.Void) left code ps ss h = absurd (h refl)
 parameters_is w left code ps ss h = refl
 
-pub no_void : {tokens rest : List LexToken} {w : Word} → HasFirst tokens w rest → w ≢ Fixed marks.Void → Alike (Parameters ∷ []) (Arguments ∷ []) tokens
-no_void {w = w} first h = alike_first first (λ left code ps ss. parameters_is w left code ps ss h)
+pub no_void : {tokens : List LexToken} → LacksFirst tokens (Fixed marks.Void) → Alike (Parameters ∷ []) (Arguments ∷ []) tokens
+no_void other = alike_other other parameters_is
 
 -- a result that is neither
 result_is : (w : Word) (left : ℕ) (code : FaultCode) (ps : List Place) (ss : List Symbol) → w ≢ Fixed marks.Void → w ≢ Fixed marks.String → read (AnyResult ∷ ss) (headed w left code ps) ≡ read (Typed MOST_INLINE InResult ∷ ss) (headed w left code ps)
@@ -39,8 +39,17 @@ result_is (Fixed marks.Void) left code ps ss h g = absurd (h refl)
 result_is (Fixed marks.String) left code ps ss h g = absurd (g refl)
 result_is w left code ps ss h g = refl
 
-pub typed_result : {tokens rest : List LexToken} {w : Word} → HasFirst tokens w rest → w ≢ Fixed marks.Void → w ≢ Fixed marks.String → Alike (AnyResult ∷ []) (Typed MOST_INLINE InResult ∷ []) tokens
-typed_result {w = w} first h g = alike_first first (λ left code ps ss. result_is w left code ps ss h g)
+pub typed_result : {tokens : List LexToken} → LacksFirst tokens (Fixed marks.Void) → LacksFirst tokens (Fixed marks.String) → Alike (AnyResult ∷ []) (Typed MOST_INLINE InResult ∷ []) tokens
+typed_result other second = alike_neither other second (λ w left code ps ss h. result_is w left code ps ss h.0 h.1)
+
+-- after an argument there are others
+more_arguments_is : (w : Word) (left : ℕ) (code : FaultCode) (ps : List Place) (ss : List Symbol) → w ≢ Fixed marks.CloseParenthesis → read (AfterType InArguments ∷ ss) (headed w left code ps) ≡ read (Token marks.Comma ∷ Arguments ∷ ss) (headed w left code ps)
+more_arguments_is (Fixed marks.CloseParenthesis) left code ps ss h = absurd (h refl)
+more_arguments_is (Fixed m) left code ps ss h = refl
+more_arguments_is w left code ps ss h = refl
+
+pub more_arguments : {tokens : List LexToken} → LacksFirst tokens (Fixed marks.CloseParenthesis) → Alike (AfterType InArguments ∷ []) (Token marks.Comma ∷ Arguments ∷ []) tokens
+more_arguments other = alike_other other more_arguments_is
 
 after_result_is : (ps : List Place) (ss : List Symbol) → read (AfterType InResult ∷ ss) ps ≡ read (AnyName ∷ ss) ps
 after_result_is [] ss = refl
@@ -59,15 +68,15 @@ procedures_is [] ss = refl
 procedures_is (p ∷ ps) ss =
     go_followed (step_result p.word) (Token marks.OpenParenthesis ∷ Parameters ∷ (of_number ++ MoreProcedures ∷ [])) ss ps (errors.Stuck p.left p.code)
 
-pub of_procedures : (tokens : List LexToken) → Alike (Procedures ∷ []) (of_procedure ++ MoreProcedures ∷ []) tokens
-of_procedures tokens = alike tokens procedures_is
+pub more_of_procedures : (tokens : List LexToken) → Alike (Procedures ∷ []) (of_procedure ++ MoreProcedures ∷ []) tokens
+more_of_procedures tokens = alike tokens procedures_is
 
 more_procedures_is : (w : Word) (left : ℕ) (code : FaultCode) (ps : List Place) (ss : List Symbol) → w ≢ Fixed marks.CloseBrace → read (MoreProcedures ∷ ss) (headed w left code ps) ≡ read (Procedures ∷ ss) (headed w left code ps)
 more_procedures_is (Fixed marks.CloseBrace) left code ps ss h = absurd (h refl)
 more_procedures_is w left code ps ss h = refl
 
-pub more_procedures : {tokens rest : List LexToken} {w : Word} → HasFirst tokens w rest → w ≢ Fixed marks.CloseBrace → Alike (MoreProcedures ∷ []) (of_procedure ++ MoreProcedures ∷ []) tokens
-more_procedures {w = w} first h = alike_first first (λ left code ps ss. more_procedures_is w left code ps ss h ∙ procedures_is (headed w left code ps) ss)
+pub more_procedures : {tokens : List LexToken} → LacksFirst tokens (Fixed marks.CloseBrace) → Alike (MoreProcedures ∷ []) (of_procedure ++ MoreProcedures ∷ []) tokens
+more_procedures other = alike_other other (λ w left code ps ss h. more_procedures_is w left code ps ss h ∙ procedures_is (headed w left code ps) ss)
 
 -- a version and more of them
 versions_is : (ps : List Place) (ss : List Symbol) → read (Versions ∷ ss) ps ≡ read ((of_version ++ MoreVersions ∷ []) ++ ss) ps
@@ -78,20 +87,25 @@ versions_is (p ∷ ps) ss = by p.word p.left p.code
     by (Fixed marks.Version) left code = refl
     by w left code = refl
 
-pub of_versions : (tokens : List LexToken) → Alike (Versions ∷ []) (of_version ++ MoreVersions ∷ []) tokens
-of_versions tokens = alike tokens versions_is
+pub more_of_versions : (tokens : List LexToken) → Alike (Versions ∷ []) (of_version ++ MoreVersions ∷ []) tokens
+more_of_versions tokens = alike tokens versions_is
 
 more_versions_is : (w : Word) (left : ℕ) (code : FaultCode) (ps : List Place) (ss : List Symbol) → w ≢ Fixed marks.CloseBrace → read (MoreVersions ∷ ss) (headed w left code ps) ≡ read (Versions ∷ ss) (headed w left code ps)
 more_versions_is (Fixed marks.CloseBrace) left code ps ss h = absurd (h refl)
 more_versions_is w left code ps ss h = refl
 
-pub more_versions : {tokens rest : List LexToken} {w : Word} → HasFirst tokens w rest → w ≢ Fixed marks.CloseBrace → Alike (MoreVersions ∷ []) (of_version ++ MoreVersions ∷ []) tokens
-more_versions {w = w} first h = alike_first first (λ left code ps ss. more_versions_is w left code ps ss h ∙ versions_is (headed w left code ps) ss)
+pub more_versions : {tokens : List LexToken} → LacksFirst tokens (Fixed marks.CloseBrace) → Alike (MoreVersions ∷ []) (of_version ++ MoreVersions ∷ []) tokens
+more_versions other = alike_other other (λ w left code ps ss h. more_versions_is w left code ps ss h ∙ versions_is (headed w left code ps) ss)
 
 -- one more element of a list
 pub spelled_more : {A V : Type 0} (view : A → V) (spell : List V → List Word) (one : V → List Word) → ((vs : List V) (v : V) → spell (vs ++ v ∷ []) ≡ spell vs ++ one v) → (xs : List A) (x : A) (ys : List A) → ys ≡ xs ++ x ∷ [] → spell (map view xs) ++ one (view x) ≡ spell (map view ys)
 spelled_more view spell one push xs x ys is =
     sym (push (map view xs) (view x)) ∙ ap spell (sym (ap (map view) is ∙ map-append view xs (x ∷ [])))
+
+-- one more, behind the `{`
+pub braced_more : {A V : Type 0} (view : A → V) (spell : List V → List Word) (one : V → List Word) → ((vs : List V) (v : V) → spell (vs ++ v ∷ []) ≡ spell vs ++ one v) → (each : List Symbol) (more : Symbol) (xs : List A) (x : A) (ys : List A) → ys ≡ xs ++ x ∷ [] → {from : List Symbol} {tokens left rest : List LexToken} → IsRead [] from tokens (Fixed marks.OpenBrace ∷ spell (map view xs)) (each ++ more ∷ []) left → IsRead [] each left (one (view x)) [] rest → IsRead [] from tokens (Fixed marks.OpenBrace ∷ spell (map view ys)) (more ∷ []) rest
+braced_more view spell one push each more xs x ys is h r =
+    read_as (ap (λ t. Fixed marks.OpenBrace ∷ t) (spelled_more view spell one push xs x ys is)) (read_then each (more ∷ []) h r)
 
 pub fits_more : {A V : Type 0} (view : A → V) (Fits : List V → Type 0) (Fit : V → Type 0) → ((vs : List V) (v : V) → Fits vs → Fit v → Fits (vs ++ v ∷ [])) → (xs : List A) (x : A) (ys : List A) → ys ≡ xs ++ x ∷ [] → Fits (map view xs) → Fit (view x) → Fits (map view ys)
 fits_more view Fits Fit push xs x ys is h f =

@@ -1,15 +1,18 @@
 -- Reading of parts, one after another.
-use Rattle.std.proofs.Common.{◌≡◌, ◌≢◌, ◌↔◌, ℕ, Bool, false, IsTrue, List, [], ◌∷◌, ◌++◌, cond, Some, None, Result, Ok, Err, refl, ap, sym, ◌∙◌, subst, append_assoc, arith}
+use Rattle.std.proofs.Common.{◌≡◌, ◌≢◌, ◌↔◌, ℕ, Bool, true, false, nat_eq, get_or, map, IsTrue, List, [], ◌∷◌, ◌++◌, cond, Some, None, Result, Ok, Err, refl, ap, sym, ◌∙◌, subst, append_assoc, arith}
 use Rattle.std.specs.Result.{IsErrAnd, IfOk, IfErr}
-use Rattle.std.proofs.lemmas.Bool.{eq-eqb}
+use Rattle.std.proofs.lemmas.Bool.{eq-eqb, eqb-true}
 use Rattle.std.proofs.lemmas.Result.{err_from_is_err_and, IfOk-weaker, IfErr-weaker}
 use Rattle.x_lex.specs.declared.token.Token.{Token}
-use Rattle.x_item.specs.Words.{Word, Fixed}
+use Rattle.x_item.specs.Words.{Word, Fixed, word_of}
+use Rattle.x_lex.specs.Places.{lexeme}
 use Rattle.x_lex.specs.declared.mark.Mark.{Mark}
+use Rattle.x_lex.specs.declared.mark.Mark.TheVariants as marks
+use Rattle.x_lex.specs.declared.mark.TheConstants.{MARKS}
 use Rattle.x_lex.specs.Marks.{place_of}
 use Rattle.x_item.specs.Symbols.{Symbol, Token as OfMark, go}
 use Rattle.x_item.specs.declared.parsing.fault_code.FaultCode.{FaultCode}
-use Rattle.x_item.specs.Reading.{Place, IsAt, Fails, IsRead, IsPart, HasFirst, ahead, words_at, left_in, code_in, read}
+use Rattle.x_item.specs.Reading.{Place, IsAt, Fails, IsRead, IsPart, HasFirst, IsSplit, LacksFirst, ahead, words_at, left_in, code_in, read}
 use Rattle.x_item.specs.declared.parsing.parse_error.ParseError.{ParseError}
 use Rattle.x_item.specs.declared.parsing.parse_error.ParseError.TheVariants as errors
 
@@ -42,6 +45,19 @@ headed w left code ps = record { word = w; left = left; code = code } ∷ ps
 pub alike_first : {from to : List Symbol} {tokens rest : List Token} {w : Word} → HasFirst tokens w rest → ((left : ℕ) (code : FaultCode) (ps : List Place) (ss : List Symbol) → read (from ++ ss) (headed w left code ps) ≡ read (to ++ ss) (headed w left code ps)) → Alike from to tokens
 alike_first {from} {to} {tokens} {rest} h is = record {
   by = λ ss. ap (read (from ++ ss)) h.found ∙ is (left_in tokens) (code_in tokens) (ahead rest) ss ∙ ap (read (to ++ ss)) (sym h.found);
+}
+
+-- so are tokens that do not begin with this word, or with either of these
+unlike : (s u : Symbol) (from to : List Symbol) (P : Word → Type 0) → ((x : Word) (left : ℕ) (code : FaultCode) (ps : List Place) (ss : List Symbol) → P x → read (s ∷ (from ++ ss)) (headed x left code ps) ≡ read (u ∷ (to ++ ss)) (headed x left code ps)) → (ps : List Place) (ss : List Symbol) → ((p : Place) (qs : List Place) → ps ≡ p ∷ qs → P p.word) → read (s ∷ (from ++ ss)) ps ≡ read (u ∷ (to ++ ss)) ps
+unlike s u from to P is [] ss h = refl
+unlike s u from to P is (p ∷ ps) ss h = is p.word p.left p.code ps ss (h p ps refl)
+
+pub alike_other : {s u : Symbol} {from to : List Symbol} {tokens : List Token} {w : Word} → LacksFirst tokens w → ((x : Word) (left : ℕ) (code : FaultCode) (ps : List Place) (ss : List Symbol) → x ≢ w → read (s ∷ (from ++ ss)) (headed x left code ps) ≡ read (u ∷ (to ++ ss)) (headed x left code ps)) → Alike (s ∷ from) (u ∷ to) tokens
+alike_other {s} {u} {from} {to} {tokens} {w} h is = record { by = λ ss. unlike s u from to (λ x. x ≢ w) is (ahead tokens) ss h.by }
+
+pub alike_neither : {s u : Symbol} {from to : List Symbol} {tokens : List Token} {w v : Word} → LacksFirst tokens w → LacksFirst tokens v → ((x : Word) (left : ℕ) (code : FaultCode) (ps : List Place) (ss : List Symbol) → (x ≢ w) × (x ≢ v) → read (s ∷ (from ++ ss)) (headed x left code ps) ≡ read (u ∷ (to ++ ss)) (headed x left code ps)) → Alike (s ∷ from) (u ∷ to) tokens
+alike_neither {s} {u} {from} {to} {tokens} {w} {v} h g is = record {
+  by = λ ss. unlike s u from to (λ x. (x ≢ w) × (x ≢ v)) is (ahead tokens) ss (λ p ps e. (h.by p ps e, g.by p ps e));
 }
 
 pub fails_alike : {from to : List Symbol} {tokens : List Token} {e : ParseError} → Alike from to tokens → Fails to tokens e → Fails from tokens e
@@ -130,3 +146,44 @@ err_alike from by tokens r same h = IfErr-weaker r (λ e. Fails by tokens e) (λ
 pub ok_of : {T E Q : Type 0} (P : T → Type 0) (r : Result T E) (value : T) → IfOk r (λ x. x ≡ value) → IfOk r (λ x. Q) → (Q → P value) → IfOk r P
 ok_of P (Ok x) value is q p = subst P (sym is) (p q)
 ok_of P (Err e) value is q p = tt
+
+-- no two marks have one place in the table
+mark_at : ℕ → Mark
+mark_at n = get_or (map (λ entry. entry.1) MARKS) n marks.Bool
+
+mark_at_place : (m : Mark) → mark_at (place_of m) ≡ m
+unfolding mark_at
+mark_at_place marks.Bool = refl
+mark_at_place m = refl
+
+pub one_place : (m k : Mark) → nat_eq (place_of m) (place_of k) ≡ true → m ≡ k
+one_place m k is = sym (mark_at_place m) ∙ ap mark_at (eqb-true (place_of m) (place_of k) is) ∙ mark_at_place k
+
+-- the symbol of a mark takes no other word
+other_taken : (m k : Mark) (b : Bool) → b ≡ nat_eq (place_of m) (place_of k) → Fixed k ≢ Fixed m → (left : ℕ) (code : FaultCode) (ps : List Place) (ss : List Symbol) → go (cond b (Some []) None) (λ symbols. read (symbols ++ ss) ps) (Err (errors.Stuck left code)) ≡ Err (errors.Stuck left code)
+other_taken m k false is other left code ps ss = refl
+other_taken m k true is other left code ps ss = absurd (other (ap Fixed (sym (one_place m k (sym is)))))
+
+takes_no_other : (m : Mark) (w : Word) (left : ℕ) (code : FaultCode) (ps : List Place) (ss : List Symbol) → w ≢ Fixed m → read (OfMark m ∷ ss) (headed w left code ps) ≡ Err (errors.Stuck left code)
+takes_no_other m (Fixed k) left code ps ss other = other_taken m k (nat_eq (place_of m) (place_of k)) refl other left code ps ss
+takes_no_other m w left code ps ss other = refl
+
+pub stuck_other : {tokens rest : List Token} {w : Word} {m : Mark} (e : ParseError) → HasFirst tokens w rest → w ≢ Fixed m → e ≡ errors.Stuck (left_in tokens) (code_in tokens) → Fails (OfMark m ∷ []) tokens e
+stuck_other {tokens} {rest} {w} {m} e first other is =
+    subst (λ x. Fails (OfMark m ∷ []) tokens x) (sym is)
+    (record { by = λ ss. ap (read (OfMark m ∷ ss)) first.found ∙ takes_no_other m w (left_in tokens) (code_in tokens) (ahead rest) ss other })
+
+-- what a word says of the first word
+pub split_first : {tokens rest : List Token} {token : Token} {m : Mark} → IsSplit tokens token rest → word_of (lexeme token) ≡ Fixed m → HasFirst tokens (Fixed m) rest
+split_first {tokens} {rest} h is = record {
+  found = h.all ∙ ap (λ w. headed w (left_in tokens) (code_in tokens) (ahead rest)) is;
+  shorter = h.shorter;
+}
+
+pub split_other : {tokens rest : List Token} {token : Token} {m : Mark} → IsSplit tokens token rest → word_of (lexeme token) ≢ Fixed m → LacksFirst tokens (Fixed m)
+split_other {tokens} {rest} {token} {m} h not = record {
+  by = λ p ps e is. let all = sym h.all ∙ e in let same : word_of (lexeme token) ≡ p.word = cc in not (same ∙ is);
+}
+
+pub split_none : {tokens : List Token} {m : Mark} → ahead tokens ≡ [] → LacksFirst tokens (Fixed m)
+split_none h = record { by = λ p ps e is. let never = sym h ∙ e in cc }

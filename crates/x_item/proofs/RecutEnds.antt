@@ -18,7 +18,7 @@ use Rattle.x_lex.proofs.RelexRun.{IsEdit}
 use Rattle.x_item.specs.declared.cutting.entry.Entry.{Entry}
 use Rattle.x_item.specs.ItemList.{total, counts, tokens_before, ItemChange, patched, AreOfText}
 use Rattle.x_item.specs.Items.{IsCut}
-use Rattle.x_item.specs.Cutting.{Role, roles, counts_from, ends_at, depth_after}
+use Rattle.x_item.specs.Cutting.{DepthRole, roles, counts_from, ends_at, depth_after}
 use Rattle.x_item.specs.Recut.{IsRelexed, IsItemPatch, start_of, EndsBefore, IsBehind, IsRejoining, IsRecut, IsAmong}
 use Rattle.x_item.proofs.CountLemmas.{counts-splice}
 use Rattle.x_item.proofs.CuttingLemmas.{cut_counts, counts_cut}
@@ -30,7 +30,7 @@ use Rattle.x_item.proofs.RecutRun.{Meet, Keeps, Recut, Stays, Goes, Recutting, A
 use Rattle.x_item.proofs.RecutPlaces.{texts_meet, rejoins, rejoins_first, rejoins_none, recut_stays, recut_goes, rear_stays, front_items}
 
 -- there is at most one item more than there are tokens
-few_items : (d n : ℕ) (rs : List Role) → length (counts_from d n rs) ≤ length rs + 1
+few_items : (d n : ℕ) (rs : List DepthRole) → length (counts_from d n rs) ≤ length rs + 1
 few_items d n [] = omega arith
 few_items d n (r ∷ rs) = by (ends_at d r) refl (few_items 0 0 rs) (few_items (depth_after d r) (n + 1) rs)
   where

@@ -6,12 +6,12 @@ use Rattle.std.specs.Bool.{beq}
 use Rattle.std.proofs.lemmas.Bool.{cases_lt}
 use Rattle.std.proofs.lemmas.List.{take-append-drop, take_at, drop-drop, take-take, length_push}
 use Rattle.x_item.specs.ItemList.{total, tokens_before}
-use Rattle.x_item.specs.Cutting.{Role}
+use Rattle.x_item.specs.Cutting.{DepthRole}
 use Rattle.x_item.proofs.CountLemmas.{total-append, before_mono}
 use Rattle.x_item.proofs.FirstLemmas.{cut_of, cut_some, split, cut_drop, behind}
 
 -- what the two lists of roles have in common
-pub record Meet (R S : List Role) (x f m : ℕ) : Type 0 where
+pub record Meet (R S : List DepthRole) (x f m : ℕ) : Type 0 where
   pub front : take x S ≡ take x R
   pub rear : drop (x + f) S ≡ drop (x + m) R
   pub in_old : x + m ≤ length R
@@ -33,7 +33,7 @@ pub record Joins (cs : List ℕ) (late old_late i : ℕ) : Type 0 where
   pub both : (i ≡ 0) ↔ (old_late + (i - late) ≡ 0)
 
 -- behind the first k items `news` have been cut, up to the token `index`
-pub record Recutting (cs : List ℕ) (S : List Role) (x f m k start : ℕ) (news : List ℕ) (index back back_index : ℕ) : Type 0 where
+pub record Recutting (cs : List ℕ) (S : List DepthRole) (x f m k start : ℕ) (news : List ℕ) (index back back_index : ℕ) : Type 0 where
   pub index_is : index ≡ start + total news
   pub within : index ≤ length S
   pub goes_on : cut_of S ≡ take k cs ++ (news ++ cut_of (drop index S))
@@ -49,14 +49,14 @@ pub record Advanced (cs : List ℕ) (x f m index back back_index : ℕ) : Type 0
   pub found : Joins cs (x + f) (x + m) index → back_index ≡ x + m + (index - (x + f))
 
 -- the items that are put in place of those from k to before `end` make the items of the new tokens, and no item before joins
-pub record Recut (cs : List ℕ) (S : List Role) (x f m k : ℕ) (news : List ℕ) (end : ℕ) : Type 0 where
+pub record Recut (cs : List ℕ) (S : List DepthRole) (x f m k : ℕ) (news : List ℕ) (end : ℕ) : Type 0 where
   pub order : k ≤ end
   pub within : end ≤ length cs
   pub are : cut_of S ≡ take k cs ++ (news ++ drop end cs)
   pub none : (j : ℕ) → j < k + length news → Joins cs (x + f) (x + m) (tokens_before (cut_of S) j) → ⊥
 
 -- the old items from `end` on stay
-pub record Stays (cs : List ℕ) (S : List Role) (x f m k : ℕ) (news : List ℕ) (end : ℕ) : Type 0 where
+pub record Stays (cs : List ℕ) (S : List DepthRole) (x f m k : ℕ) (news : List ℕ) (end : ℕ) : Type 0 where
   pub recut : Recut cs S x f m k news end
   pub there : end < length cs
   pub far : x + f ≤ tokens_before (cut_of S) (k + length news)
@@ -64,22 +64,22 @@ pub record Stays (cs : List ℕ) (S : List Role) (x f m k : ℕ) (news : List �
   pub both : (tokens_before (cut_of S) (k + length news) ≡ 0) ↔ (tokens_before cs end ≡ 0)
 
 -- none of them does
-pub record Goes (cs : List ℕ) (S : List Role) (x f m k : ℕ) (news : List ℕ) (end : ℕ) : Type 0 where
+pub record Goes (cs : List ℕ) (S : List DepthRole) (x f m k : ℕ) (news : List ℕ) (end : ℕ) : Type 0 where
   pub recut : Recut cs S x f m k news end
   pub there : end ≡ length cs
   pub last : length (cut_of S) ≡ k + length news
 
 -- all items but the last have tokens
-pub before_strict : (rs : List Role) (i j : ℕ) → i < j → j < length (cut_of rs) → tokens_before (cut_of rs) i < tokens_before (cut_of rs) j
+pub before_strict : (rs : List DepthRole) (i j : ℕ) → i < j → j < length (cut_of rs) → tokens_before (cut_of rs) i < tokens_before (cut_of rs) j
 before_strict rs i j lt le =
     let g = (behind i rs (omega arith)).grows in
     let m = before_mono (cut_of rs) (suc i) j (omega arith) in
     omega (arith, g, m)
 
-take_fewer : (n x : ℕ) (S R : List Role) → n ≤ x → take x S ≡ take x R → take n S ≡ take n R
+take_fewer : (n x : ℕ) (S R : List DepthRole) → n ≤ x → take x S ≡ take x R → take n S ≡ take n R
 take_fewer n x S R le e = sym (take-take n x S le) ∙ ap (take n) e ∙ take-take n x R le
 
-module _ (R S : List Role) (x f m : ℕ) (meet : Meet R S x f m) (k start : ℕ) (keeps : Keeps (cut_of R) x k start) where
+module _ (R S : List DepthRole) (x f m : ℕ) (meet : Meet R S x f m) (k start : ℕ) (keeps : Keeps (cut_of R) x k start) where
   front_length : length (take k (cut_of R)) ≡ k
   front_length = let w = keeps.within in length-take-le k (cut_of R) (omega (arith, w))
 
@@ -281,7 +281,7 @@ pub record Moved (cs : List ℕ) (x f m index back to to_index : ℕ) : Type 0 w
   pub apart : Joins cs (x + f) (x + m) index → ⊥
 
 -- the tokens are not behind the fresh ones yet
-pub moved_not : (cs : List ℕ) (S : List Role) (x f m k start : ℕ) (news : List ℕ) (index back back_index to to_index : ℕ) → Recutting cs S x f m k start news index back back_index → index < x + f → to ≡ back → to_index ≡ back_index → Moved cs x f m index back to to_index
+pub moved_not : (cs : List ℕ) (S : List DepthRole) (x f m k start : ℕ) (news : List ℕ) (index back back_index to to_index : ℕ) → Recutting cs S x f m k start news index back back_index → index < x + f → to ≡ back → to_index ≡ back_index → Moved cs x f m index back to to_index
 moved_not cs S x f m k start news index back back_index to to_index h near same same_index = record {
   forth = omega (arith, same);
   within = let w = h.back_within in omega (arith, w, same);

@@ -110,6 +110,10 @@ pub record HasFirst (tokens : List Token) (word : Word) (rest : List Token) : Ty
   pub found : ahead tokens ≡ record { word = word; left = left_in tokens; code = code_in tokens } ∷ ahead rest
   pub shorter : length rest < length tokens
 
+-- no word is ahead, or another one
+pub record LacksFirst (tokens : List Token) (word : Word) : Type 0 where
+  pub by : (p : Place) (ps : List Place) → ahead tokens ≡ p ∷ ps → p.word ≢ word
+
 -- a declaration and its ending
 abbrev pub spell_ended : tree.Declaration → Ending → List Word
 spell_ended d ending = spell_declaration d ++ Fixed (ending_mark ending) ∷ []

@@ -270,13 +270,23 @@ step MoreVersions = step_more_versions
 abbrev pub of_number : List Symbol
 of_number = Token marks.Equals ∷ AnyNumber ∷ Token marks.Semicolon ∷ []
 
--- a procedure
+-- arguments, with the parentheses around them
+abbrev pub of_arguments : List Symbol
+of_arguments = Token marks.OpenParenthesis ∷ Parameters ∷ []
+
+-- a procedure, and procedures with the braces around them
 abbrev pub of_procedure : List Symbol
 of_procedure = Result ∷ Token marks.OpenParenthesis ∷ Parameters ∷ of_number
 
--- a version
+abbrev pub of_procedures : List Symbol
+of_procedures = Token marks.OpenBrace ∷ Procedures ∷ []
+
+-- a version, and versions with the braces around them
 abbrev pub of_version : List Symbol
 of_version = Token marks.Version ∷ AnyName ∷ Token marks.OpenBrace ∷ Procedures ∷ of_number
+
+abbrev pub of_versions : List Symbol
+of_versions = Token marks.OpenBrace ∷ Versions ∷ []
 
 -- what follows the keyword of a constant, of a new type and of a program
 abbrev pub of_constant : List Symbol

@@ -19,6 +19,6 @@ pub use names::{DeclaredName, Mention, NameKind, Use};
 pub use parsing::parse_item::{Parsed, parse_item};
 pub use parsing::{FaultCode, is_significant};
 pub use trees::{
-    Argument, Arm, Basic, Body, DataType, Declaration, Definition, Enumerator, Length, MOST_INLINE,
-    Procedure, Shape, Spelling, Tag, UnionBody, Value, Version,
+    Argument, Arm, BASIC_MARKS, Basic, Body, DataType, Declaration, Definition, Enumerator, Length,
+    MOST_INLINE, Procedure, Shape, Spelling, Tag, UnionBody, Value, Version,
 };

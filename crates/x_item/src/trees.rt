@@ -7,7 +7,8 @@ mod spelling;
 mod value;
 
 pub use declaration::{
-    Arm, Basic, Body, DataType, Declaration, Enumerator, Length, MOST_INLINE, Shape, Tag, UnionBody,
+    Arm, BASIC_MARKS, Basic, Body, DataType, Declaration, Enumerator, Length, MOST_INLINE, Shape,
+    Tag, UnionBody,
 };
 pub(crate) use declaration::{inline, struct_body, union_body};
 pub use definition::Definition;

@@ -10,7 +10,7 @@ ghost use Rattle.x_item.specs.Reading.{IsRead, Fails};
 
 use super::ParseError;
 use super::ending::Ending;
-use super::words::{expect, first, is_mark, value};
+use super::words::{after, expect, value};
 use crate::trees::Value;
 use std::alloc::Global;
 use x_lex::{Mark, Token};
@@ -30,16 +30,12 @@ pub fn cases<'w, 't>(
     let (first_case, mut left) = case(alloc, tokens)?;
     let mut cases = Vec::new(alloc);
     cases.push(first_case)?;
-    loop {
-        let (word, rest) = first(left)?;
-        if is_mark(&word, Mark::Case) {
-            let (next, after) = case(alloc, rest)?;
-            cases.push(next)?;
-            left = after;
-        } else {
-            return Ok((cases, left));
-        }
+    while let Some(rest) = after(Mark::Case, left) {
+        let (next, rest) = case(alloc, rest)?;
+        cases.push(next)?;
+        left = rest;
     }
+    Ok((cases, left))
 }
 
 /// Reads a value and its `:`.

@@ -4,15 +4,15 @@
 ghost use Rattle.std.specs.Prelude.{◌≡◌, ◌≢◌, ℕ, [], ◌∷◌, ◌++◌, ◌+◌, map, IfOk, IfErr};
 ghost use Rattle.x_item.specs.Words.{Fixed, Name};
 ghost use Rattle.x_item.specs.Tree.{default as one_default};
-ghost use Rattle.x_item.specs.View.{view_value, view_type, view_body, view_declaration, view_declarations};
+ghost use Rattle.x_item.specs.View.{view_value, view_type, view_body, view_declaration};
 ghost use Rattle.x_item.specs.View.{view_arms, view_default};
 ghost use Rattle.x_item.specs.Gloss.{tag_mark, body_mark};
-ghost use Rattle.x_item.specs.Spell.{spell_type, spell_body, spell_declarations};
-ghost use Rattle.x_item.specs.Spell.{spell_arms, spell_default, HasOne, HasDeclaration, HasArm, TypeFits};
-ghost use Rattle.x_item.specs.Spell.{BodyFits, DeclarationFits, DeclarationsFit, ArmsFit, DefaultFits};
+ghost use Rattle.x_item.specs.Spell.{spell_type, spell_body};
+ghost use Rattle.x_item.specs.Spell.{spell_arms, spell_default, HasOne, HasArm, TypeFits};
+ghost use Rattle.x_item.specs.Spell.{BodyFits, DeclarationFits, ArmsFit, DefaultFits};
 ghost use Rattle.x_item.specs.Symbols.{Context, InDeclaration, Token as OfMark, AnyName, AnyValue, AnyLength};
 ghost use Rattle.x_item.specs.Symbols.{AfterLess, Typed, AfterType, AfterTag, AnyBody, Declared};
-ghost use Rattle.x_item.specs.Symbols.{Declarations, Arms, AfterCase, ending_mark, AfterUnsigned};
+ghost use Rattle.x_item.specs.Symbols.{Arms, AfterCase, ending_mark, AfterUnsigned};
 ghost use Rattle.x_item.specs.Reading.{IsRead, IsPart, Fails, spell_ended, spell_arm, HasFirst};
 
 use super::ParseError;
@@ -20,7 +20,7 @@ use super::cases::cases;
 use super::declarator::{array_length, most, named};
 use super::ending::Ending;
 use super::enumerators::enumerators;
-use super::words::{Word, closed, expect, first, is_mark, name, stuck_at};
+use super::words::{Word, after, closed, expect, first, name, stuck_at};
 use crate::trees::{
     Arm, Basic, Body, DataType, Declaration, Spelling, Tag, inline, struct_body, union_body,
 };
@@ -179,9 +179,16 @@ fn body_of_struct<'w, 't>(
     ensures fits { IfOk result (λ x. BodyFits (view_body x.0) depth) }
     ensures stuck { IfErr result (λ e. Fails (AnyBody Tag.Struct depth ∷ []) tokens.now e) }
 {
-    let rest = expect(Mark::OpenBrace, tokens)?;
-    let (members, rest) = declarations(alloc, depth, rest)?;
-    Ok((struct_body(members), rest))
+    let mut left = expect(Mark::OpenBrace, tokens)?;
+    let mut members = Vec::new(alloc);
+    loop {
+        let (member, rest) = declared(alloc, depth, Ending::Semicolon, left)?;
+        members.push(member)?;
+        if let Some(rest) = after(Mark::CloseBrace, rest) {
+            return Ok((struct_body(members), rest));
+        }
+        left = rest;
+    }
 }
 
 /// Reads the body of a union.
@@ -302,33 +309,6 @@ fn typed<'w, 't>(
     Ok((Declaration::Of { data, name, shape }, rest))
 }
 
-/// Reads the declarations of a struct, and its `}`.
-#[cycle(parser)]
-fn declarations<'w, 't>(
-    alloc: Global,
-    depth: u32,
-    tokens: &'w [Token<'t>],
-) -> Result<(Vec<Declaration>, &'w [Token<'t>]), ParseError>
-    ensures read { IfOk result (λ x. IsPart (Declarations depth) tokens.now
-        (spell_declarations (view_declarations x.0.items) ++ Fixed Mark.CloseBrace ∷ []) x.1.now) }
-    ensures some { IfOk result (λ x. HasDeclaration (view_declarations x.0.items)) }
-    ensures fits { IfOk result (λ x. DeclarationsFit (view_declarations x.0.items) depth) }
-    ensures stuck { IfErr result (λ e. Fails (Declarations depth ∷ []) tokens.now e) }
-{
-    let (member, mut left) = declared(alloc, depth, Ending::Semicolon, tokens)?;
-    let mut members = Vec::new(alloc);
-    members.push(member)?;
-    loop {
-        let (word, rest) = first(left)?;
-        if is_mark(&word, Mark::CloseBrace) {
-            return Ok((members, rest));
-        }
-        let (next, after) = declared(alloc, depth, Ending::Semicolon, left)?;
-        members.push(next)?;
-        left = after;
-    }
-}
-
 /// Reads the arms of a union, its default arm and its `}`.
 #[cycle(parser)]
 fn arms<'w, 't>(
@@ -343,23 +323,19 @@ fn arms<'w, 't>(
     ensures default_fits { IfOk result (λ x. DefaultFits (view_default x.1) depth) }
     ensures stuck { IfErr result (λ e. Fails (Arms depth ∷ []) tokens.now e) }
 {
-    let rest = expect(Mark::Case, tokens)?;
-    let (member, mut left) = arm(alloc, depth, rest)?;
+    let mut left = expect(Mark::Case, tokens)?;
     let mut arms = Vec::new(alloc);
-    arms.push(member)?;
     loop {
-        let (word, rest) = first(left)?;
-        if is_mark(&word, Mark::CloseBrace) {
+        let (member, rest) = arm(alloc, depth, left)?;
+        arms.push(member)?;
+        if let Some(rest) = after(Mark::CloseBrace, rest) {
             return Ok((arms, None, rest));
         }
-        if is_mark(&word, Mark::Default) {
+        if let Some(rest) = after(Mark::Default, rest) {
             let (default, rest) = default_arm(alloc, depth, rest)?;
             return Ok((arms, Some(default), rest));
         }
-        let rest = expect(Mark::Case, left)?;
-        let (next, after) = arm(alloc, depth, rest)?;
-        arms.push(next)?;
-        left = after;
+        left = expect(Mark::Case, rest)?;
     }
 }
 

@@ -10,7 +10,7 @@ ghost use Rattle.x_item.specs.Reading.{IsRead, IsPart, Fails};
 
 use super::ParseError;
 use super::ending::Ending;
-use super::words::{expect, first, is_mark, name, value};
+use super::words::{after, expect, name, value};
 use crate::trees::{Length, Shape, Spelling, Value};
 use std::alloc::Global;
 use x_lex::{Mark, Token};
@@ -24,8 +24,7 @@ pub fn most<'w, 't>(
         (spell_most (view_most x.0) ++ Fixed Mark.Greater ∷ []) x.1.now) }
     ensures stuck { IfErr result (λ e. Fails (AfterLess ∷ []) tokens.now e) }
 {
-    let (word, rest) = first(tokens)?;
-    if is_mark(&word, Mark::Greater) {
+    if let Some(rest) = after(Mark::Greater, tokens) {
         return Ok((None, rest));
     }
     let (size, rest) = value(alloc, tokens)?;
@@ -41,8 +40,7 @@ pub fn array_length<'w, 't>(
     ensures read { IfOk result (λ x. IsPart AnyLength tokens.now (spell_length (view_length x.0)) x.1.now) }
     ensures stuck { IfErr result (λ e. Fails (AnyLength ∷ []) tokens.now e) }
 {
-    let (word, rest) = first(tokens)?;
-    if is_mark(&word, Mark::Less) {
+    if let Some(rest) = after(Mark::Less, tokens) {
         let (size, rest) = most(alloc, rest)?;
         return Ok((Length::Variable(size), rest));
     }
@@ -62,14 +60,12 @@ fn suffix<'w, 't>(
         tokens.now (spell_named name (view_shape x.0) ++ Fixed (ending_mark ending) ∷ []) [] x.1.now) }
     ensures stuck { IfErr result (λ e. Fails (AfterName ending ∷ []) tokens.now e) }
 {
-    let (word, _) = first(tokens)?;
-    if is_mark(&word, Mark::Less) || is_mark(&word, Mark::OpenBracket) {
-        let (length, rest) = array_length(alloc, tokens)?;
-        let rest = expect(ending.mark(), rest)?;
-        return Ok((Shape::Array(length), rest));
+    if let Some(rest) = after(ending.mark(), tokens) {
+        return Ok((Shape::Plain, rest));
     }
-    let rest = expect(ending.mark(), tokens)?;
-    Ok((Shape::Plain, rest))
+    let (length, rest) = array_length(alloc, tokens)?;
+    let rest = expect(ending.mark(), rest)?;
+    Ok((Shape::Array(length), rest))
 }
 
 /// Reads the name of a declaration, with what stands around it and the ending.
@@ -82,8 +78,7 @@ pub fn named<'w, 't>(
         (spell_named x.0.items (view_shape x.1) ++ Fixed (ending_mark ending) ∷ []) x.2.now) }
     ensures stuck { IfErr result (λ e. Fails (AfterType (InDeclaration ending) ∷ []) tokens.now e) }
 {
-    let (word, rest) = first(tokens)?;
-    if is_mark(&word, Mark::Star) {
+    if let Some(rest) = after(Mark::Star, tokens) {
         let (text, rest) = name(alloc, rest)?;
         let rest = expect(ending.mark(), rest)?;
         return Ok((text, Shape::Optional, rest));

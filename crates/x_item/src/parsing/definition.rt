@@ -90,7 +90,6 @@ fn program<'w, 't>(
     ensures stuck { IfErr result (λ e. Fails of_program tokens.now e) }
 {
     let (name, rest) = name(alloc, tokens)?;
-    let rest = expect(Mark::OpenBrace, rest)?;
     let (versions, rest) = versions(alloc, rest)?;
     let (number, rest) = numbered(alloc, rest)?;
     let definition = Definition::Program {

@@ -8,7 +8,7 @@ ghost use Rattle.x_item.specs.Symbols.{Enumerators, AfterEnumerator, MoreEnumera
 ghost use Rattle.x_item.specs.Reading.{IsRead, IsPart, Fails};
 
 use super::ParseError;
-use super::words::{expect, first, is_mark, name, value};
+use super::words::{after, expect, name, value};
 use crate::trees::{Enumerator, Value};
 use std::alloc::Global;
 use x_lex::{Mark, Token};
@@ -27,14 +27,13 @@ pub fn enumerators<'w, 't>(
     let mut members = Vec::new(alloc);
     members.push(member)?;
     loop {
-        let (word, rest) = first(left)?;
-        if is_mark(&word, Mark::CloseBrace) {
+        if let Some(rest) = after(Mark::CloseBrace, left) {
             return Ok((members, rest));
         }
         let rest = expect(Mark::Comma, left)?;
-        let (next, after) = enumerator(alloc, rest)?;
+        let (next, rest) = enumerator(alloc, rest)?;
         members.push(next)?;
-        left = after;
+        left = rest;
     }
 }
 
@@ -61,8 +60,7 @@ fn given<'w, 't>(
         tokens.now (Name name ∷ spell_given (view_most x.0)) (MoreEnumerators ∷ []) x.1.now) }
     ensures stuck { IfErr result (λ e. Fails (AfterEnumerator ∷ []) tokens.now e) }
 {
-    let (word, rest) = first(tokens)?;
-    if is_mark(&word, Mark::Equals) {
+    if let Some(rest) = after(Mark::Equals, tokens) {
         let (value, rest) = value(alloc, rest)?;
         return Ok((Some(value), rest));
     }

@@ -8,13 +8,13 @@ ghost use Rattle.x_item.specs.Spell.{spell_procedures, spell_version, spell_vers
 ghost use Rattle.x_item.specs.Spell.{PassedFits, OthersFit, ProcedureFits, ProceduresFit, VersionFits};
 ghost use Rattle.x_item.specs.Spell.{VersionsFit};
 ghost use Rattle.x_item.specs.Symbols.{InArguments, AnyName, AfterType, Parameters, Arguments};
-ghost use Rattle.x_item.specs.Symbols.{Result as AnyResult, Procedures, Versions, of_number, of_procedure};
-ghost use Rattle.x_item.specs.Symbols.{of_version};
-ghost use Rattle.x_item.specs.Reading.{IsRead, IsPart, Fails};
+ghost use Rattle.x_item.specs.Symbols.{Result as AnyResult, of_number, of_arguments, of_procedure};
+ghost use Rattle.x_item.specs.Symbols.{of_procedures, of_version, of_versions};
+ghost use Rattle.x_item.specs.Reading.{IsRead, Fails};
 
 use super::ParseError;
 use super::declaration::data_type;
-use super::words::{Word, expect, first, is_mark, name, number, stuck_at};
+use super::words::{after, expect, name, number};
 use crate::trees::{Argument, MOST_INLINE, Procedure, Spelling, Version};
 use std::alloc::Global;
 use x_lex::{Mark, Token};
@@ -29,8 +29,7 @@ fn argument<'w, 't>(
     ensures fits { IfOk result (λ x. ArgumentFits (view_argument x.0)) }
     ensures stuck { IfErr result (λ e. Fails (Arguments ∷ []) tokens.now e) }
 {
-    let (word, rest) = first(tokens)?;
-    if is_mark(&word, Mark::String) {
+    if let Some(rest) = after(Mark::String, tokens) {
         return Ok((Argument::String, rest));
     }
     let (data, rest) = data_type(alloc, MOST_INLINE, tokens)?;
@@ -47,8 +46,7 @@ fn first_argument<'w, 't>(
     ensures fits { IfOk result (λ x. PassedFits (view_passed x.0)) }
     ensures stuck { IfErr result (λ e. Fails (Parameters ∷ []) tokens.now e) }
 {
-    let (word, rest) = first(tokens)?;
-    if is_mark(&word, Mark::Void) {
+    if let Some(rest) = after(Mark::Void, tokens) {
         return Ok((None, rest));
     }
     let (argument, rest) = argument(alloc, tokens)?;
@@ -65,44 +63,39 @@ fn returned<'w, 't>(
     ensures fits { IfOk result (λ x. PassedFits (view_passed x.0)) }
     ensures stuck { IfErr result (λ e. Fails (AnyResult ∷ []) tokens.now e) }
 {
-    let (word, rest) = first(tokens)?;
-    if is_mark(&word, Mark::Void) {
+    if let Some(rest) = after(Mark::Void, tokens) {
         return Ok((None, rest));
     }
-    if is_mark(&word, Mark::String) {
+    if let Some(rest) = after(Mark::String, tokens) {
         return Ok((Some(Argument::String), rest));
     }
     let (data, rest) = data_type(alloc, MOST_INLINE, tokens)?;
     Ok((Some(Argument::Of(data)), rest))
 }
 
-/// Reads the arguments, of which the first may be `void`, and the `)`.
+/// Reads the arguments, of which the first may be `void`, with the parentheses around them.
 fn arguments<'w, 't>(
     alloc: Global,
     tokens: &'w [Token<'t>],
 ) -> Result<(Option<Argument>, Vec<Argument>, &'w [Token<'t>]), ParseError>
-    ensures read { IfOk result (λ x. IsPart Parameters tokens.now ((spell_passed (view_passed x.0)
-        ++ spell_others (map view_argument x.1.items)) ++ Fixed Mark.CloseParenthesis ∷ []) x.2.now) }
+    ensures read { IfOk result (λ x. IsRead [] of_arguments tokens.now (Fixed Mark.OpenParenthesis
+        ∷ ((spell_passed (view_passed x.0) ++ spell_others (map view_argument x.1.items))
+        ++ Fixed Mark.CloseParenthesis ∷ [])) [] x.2.now) }
     ensures first_fits { IfOk result (λ x. PassedFits (view_passed x.0)) }
     ensures others_fit { IfOk result (λ x. OthersFit (map view_argument x.1.items)) }
-    ensures stuck { IfErr result (λ e. Fails (Parameters ∷ []) tokens.now e) }
+    ensures stuck { IfErr result (λ e. Fails of_arguments tokens.now e) }
 {
-    let (head, mut left) = first_argument(alloc, tokens)?;
+    let rest = expect(Mark::OpenParenthesis, tokens)?;
+    let (head, mut left) = first_argument(alloc, rest)?;
     let mut others = Vec::new(alloc);
     loop {
-        let (word, rest) = first(left)?;
-        match word {
-            Word::Mark(mark) => match mark {
-                Mark::Comma => {
-                    let (next, after) = argument(alloc, rest)?;
-                    others.push(next)?;
-                    left = after;
-                }
-                Mark::CloseParenthesis => return Ok((head, others, rest)),
-                _ => return Err(stuck_at(left)),
-            },
-            _ => return Err(stuck_at(left)),
+        if let Some(rest) = after(Mark::CloseParenthesis, left) {
+            return Ok((head, others, rest));
         }
+        let rest = expect(Mark::Comma, left)?;
+        let (next, rest) = argument(alloc, rest)?;
+        others.push(next)?;
+        left = rest;
     }
 }
 
@@ -133,7 +126,6 @@ fn procedure<'w, 't>(
 {
     let (result, rest) = returned(alloc, tokens)?;
     let (name, rest) = name(alloc, rest)?;
-    let rest = expect(Mark::OpenParenthesis, rest)?;
     let (first, others, rest) = arguments(alloc, rest)?;
     let (number, rest) = numbered(alloc, rest)?;
     let procedure = Procedure {
@@ -146,28 +138,26 @@ fn procedure<'w, 't>(
     Ok((procedure, rest))
 }
 
-/// Reads the procedures of a version, and its `}`.
+/// Reads the procedures of a version, with the braces around them.
 fn procedures<'w, 't>(
     alloc: Global,
     tokens: &'w [Token<'t>],
 ) -> Result<(Vec<Procedure>, &'w [Token<'t>]), ParseError>
-    ensures read { IfOk result (λ x. IsPart Procedures tokens.now
-        (spell_procedures (map view_procedure x.0.items) ++ Fixed Mark.CloseBrace ∷ []) x.1.now) }
+    ensures read { IfOk result (λ x. IsRead [] of_procedures tokens.now (Fixed Mark.OpenBrace
+        ∷ (spell_procedures (map view_procedure x.0.items) ++ Fixed Mark.CloseBrace ∷ [])) [] x.1.now) }
     ensures some { IfOk result (λ x. HasOne (map view_procedure x.0.items)) }
     ensures fits { IfOk result (λ x. ProceduresFit (map view_procedure x.0.items)) }
-    ensures stuck { IfErr result (λ e. Fails (Procedures ∷ []) tokens.now e) }
+    ensures stuck { IfErr result (λ e. Fails of_procedures tokens.now e) }
 {
-    let (member, mut left) = procedure(alloc, tokens)?;
+    let mut left = expect(Mark::OpenBrace, tokens)?;
     let mut members = Vec::new(alloc);
-    members.push(member)?;
     loop {
-        let (word, rest) = first(left)?;
-        if is_mark(&word, Mark::CloseBrace) {
+        let (member, rest) = procedure(alloc, left)?;
+        members.push(member)?;
+        if let Some(rest) = after(Mark::CloseBrace, rest) {
             return Ok((members, rest));
         }
-        let (next, after) = procedure(alloc, left)?;
-        members.push(next)?;
-        left = after;
+        left = rest;
     }
 }
 
@@ -183,7 +173,6 @@ fn version<'w, 't>(
 {
     let rest = expect(Mark::Version, tokens)?;
     let (name, rest) = name(alloc, rest)?;
-    let rest = expect(Mark::OpenBrace, rest)?;
     let (procedures, rest) = procedures(alloc, rest)?;
     let (number, rest) = numbered(alloc, rest)?;
     let version = Version {
@@ -194,27 +183,25 @@ fn version<'w, 't>(
     Ok((version, rest))
 }
 
-/// Reads the versions of a program, and its `}`.
+/// Reads the versions of a program, with the braces around them.
 pub fn versions<'w, 't>(
     alloc: Global,
     tokens: &'w [Token<'t>],
 ) -> Result<(Vec<Version>, &'w [Token<'t>]), ParseError>
-    ensures read { IfOk result (λ x. IsPart Versions tokens.now
-        (spell_versions (map view_version x.0.items) ++ Fixed Mark.CloseBrace ∷ []) x.1.now) }
+    ensures read { IfOk result (λ x. IsRead [] of_versions tokens.now (Fixed Mark.OpenBrace
+        ∷ (spell_versions (map view_version x.0.items) ++ Fixed Mark.CloseBrace ∷ [])) [] x.1.now) }
     ensures some { IfOk result (λ x. HasOne (map view_version x.0.items)) }
     ensures fits { IfOk result (λ x. VersionsFit (map view_version x.0.items)) }
-    ensures stuck { IfErr result (λ e. Fails (Versions ∷ []) tokens.now e) }
+    ensures stuck { IfErr result (λ e. Fails of_versions tokens.now e) }
 {
-    let (member, mut left) = version(alloc, tokens)?;
+    let mut left = expect(Mark::OpenBrace, tokens)?;
     let mut members = Vec::new(alloc);
-    members.push(member)?;
     loop {
-        let (word, rest) = first(left)?;
-        if is_mark(&word, Mark::CloseBrace) {
+        let (member, rest) = version(alloc, left)?;
+        members.push(member)?;
+        if let Some(rest) = after(Mark::CloseBrace, rest) {
             return Ok((members, rest));
         }
-        let (next, after) = version(alloc, left)?;
-        members.push(next)?;
-        left = after;
+        left = rest;
     }
 }

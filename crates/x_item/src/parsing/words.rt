@@ -7,7 +7,7 @@ ghost use Rattle.x_item.specs.Words.{Fixed, Name, Number, word_of, is_significan
 ghost use Rattle.x_item.specs.View.{view_value};
 ghost use Rattle.x_item.specs.Symbols.{Symbol, Token as OfMark, AnyName, AnyNumber, AnyValue};
 ghost use Rattle.x_item.specs.Reading.{view_word, ahead, left_in, code_in, IsSplit, HasFirst, IsBefore, Fails};
-ghost use Rattle.x_item.specs.Reading.{IsPart};
+ghost use Rattle.x_item.specs.Reading.{IsPart, LacksFirst};
 
 use super::{FaultCode, ParseError};
 use crate::trees::{Spelling, Value};
@@ -85,6 +85,22 @@ pub fn first<'w, 't>(tokens: &'w [Token<'t>]) -> Result<(Word<'t>, &'w [Token<'t
     }
 }
 
+/// The tokens after the mark, if it is the first word.
+pub fn after<'w, 't>(mark: Mark, tokens: &'w [Token<'t>]) -> Option<&'w [Token<'t>]>
+    ensures some { IfSome result (λ rest. HasFirst tokens.now (Fixed mark) rest.now) }
+    ensures none { IfNone result (LacksFirst tokens.now (Fixed mark)) }
+{
+    match split_word(tokens) {
+        Some((token, rest)) => {
+            if is_mark(&Word::of(&token), mark) {
+                return Some(rest);
+            }
+            None
+        }
+        None => None,
+    }
+}
+
 /// The error where no spelling goes on with the first word.
 pub fn stuck_at(tokens: &[Token]) -> ParseError
     ensures { result ≡ ParseError.Stuck (left_in tokens.now) (code_in tokens.now) }
@@ -107,16 +123,10 @@ pub fn expect<'w, 't>(mark: Mark, tokens: &'w [Token<'t>]) -> Result<&'w [Token<
     ensures stuck { IfErr result (λ e. Fails (OfMark mark ∷ []) tokens.now e) }
 {
     let (word, rest) = first(tokens)?;
-    match word {
-        Word::Mark(found) => {
-            if found == mark {
-                Ok(rest)
-            } else {
-                Err(stuck_at(tokens))
-            }
-        }
-        _ => Err(stuck_at(tokens)),
+    if is_mark(&word, mark) {
+        return Ok(rest);
     }
+    Err(stuck_at(tokens))
 }
 
 /// Reads the mark behind a value that was read, which it gives back.

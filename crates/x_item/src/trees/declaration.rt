@@ -6,6 +6,7 @@ ghost use Rattle.x_item.specs.View.{view_default};
 
 use super::{Spelling, Value};
 use std::alloc::{AllocError, Global};
+use x_lex::Mark;
 
 /// How many inline bodies may stand inside one another at the most.
 pub const MOST_INLINE: u32 = 32;
@@ -56,6 +57,21 @@ pub enum Basic {
     /// `bool`
     Bool,
 }
+
+/// The keywords that spell each type, in the order of [`Basic`].
+pub const BASIC_MARKS: [&[Mark]; 11] = [
+    &[Mark::Int],
+    &[Mark::Unsigned, Mark::Int],
+    &[Mark::Long],
+    &[Mark::Unsigned, Mark::Long],
+    &[Mark::Hyper],
+    &[Mark::Unsigned, Mark::Hyper],
+    &[Mark::Unsigned],
+    &[Mark::Float],
+    &[Mark::Double],
+    &[Mark::Quadruple],
+    &[Mark::Bool],
+];
 
 /// The keyword in front of a body, or of the name of a type that has one.
 #[derive(Clone, Copy, Debug, PartialEq, Eq)]

@@ -4,7 +4,7 @@ use Rattle.x_lex.specs.declared.mark.Mark.TheVariants as marks
 use Rattle.x_item.specs.Symbols.{AnyValue, Token, AfterCase}
 use Rattle.x_item.specs.View.{view_value}
 use Rattle.x_item.specs.Reading.{Fails}
-use Rattle.x_item.proofs.ReadLemmas.{exit_at, not_mark, fails_more, fails_then, read_as, read_on, read_then, read_more, read_after_word, read_first}
+use Rattle.x_item.proofs.ReadLemmas.{exit_at, fails_more, fails_then, read_as, read_on, read_then, read_more, read_after_word, read_first}
 use Rattle.x_item.proofs.LoopLemmas.{one_only, has_pushed, cases_one, cases_more, no_case}
 use Rattle.x_item.proofs.parsing.cases.cases.Goals as goal
 
@@ -13,8 +13,8 @@ returns-in_err-first_case-clause-stuck c =
     exit_at (λ e. (n : ℕ) → Fails (AnyValue ∷ Token marks.Colon ∷ AfterCase n ∷ []) c.args.tokens.now e) _ _ c.from_residual.ensures.1
     (λ n. fails_more (AnyValue ∷ Token marks.Colon ∷ []) (AfterCase n ∷ []) c.in_err-first_case.ensures.stuck)
 
-pub loop-cases-init : goal.loop-cases-init
-loop-cases-init c =
+pub loop-rest-init : goal.loop-rest-init
+loop-rest-init c =
     let case = c.in_ok-first_case in
     let one = one_only _ _ _ c.new-cases.ensures.items c.in_ok-push.ensures.items in
     record {
@@ -22,28 +22,22 @@ loop-cases-init c =
       some = has_pushed view_value [] case.first_case _ one;
     }
 
-pub returns-in_err-word-clause-stuck : goal.returns-in_err-word-clause-stuck
-returns-in_err-word-clause-stuck c =
-    exit_at (λ e. (n : ℕ) → Fails (AnyValue ∷ Token marks.Colon ∷ AfterCase n ∷ []) c.args.tokens.now e) _ _ c.from_residual-in_err-word.ensures.1
-    (λ n. fails_then (AfterCase n ∷ []) [] (c.loop-cases.invariant.read n) (c.in_err-word.ensures.stuck (AfterCase n)))
-
-pub returns-else-is_mark-clause-read : goal.returns-else-is_mark-clause-read
-returns-else-is_mark-clause-read c =
-    λ n. read_on (c.loop-cases.invariant.read n) (no_case n c.in_ok-word.ensures.word (not_mark c.is_mark.ensures c.if-is_mark.false))
+pub returns-clause-read : goal.returns-clause-read
+returns-clause-read c = λ n. read_on (c.loop-rest.invariant.read n) (no_case n c.in_default.ensures.none)
 
 pub returns-in_err-next-clause-stuck : goal.returns-in_err-next-clause-stuck
 returns-in_err-next-clause-stuck c =
-    let read = λ (n : ℕ). read_first {from = AfterCase n ∷ []} {to = AnyValue ∷ Token marks.Colon ∷ AfterCase n ∷ []} (Fixed marks.Case) c.in_ok-word.ensures.word (c.is_mark.ensures.0 c.if-is_mark.true) (λ left code ps ss. refl) in
+    let read = λ (n : ℕ). read_first {from = AfterCase n ∷ []} {to = AnyValue ∷ Token marks.Colon ∷ AfterCase n ∷ []} (Fixed marks.Case) c.in-Some.ensures.some refl (λ left code ps ss. refl) in
     exit_at (λ e. (n : ℕ) → Fails (AnyValue ∷ Token marks.Colon ∷ AfterCase n ∷ []) c.args.tokens.now e) _ _ c.from_residual-in_err-next.ensures.1
-    (λ n. fails_then (AnyValue ∷ Token marks.Colon ∷ []) (AfterCase n ∷ []) (read_then (AfterCase n ∷ []) [] (c.loop-cases.invariant.read n) (read n)) c.in_err-next.ensures.stuck)
+    (λ n. fails_then (AnyValue ∷ Token marks.Colon ∷ []) (AfterCase n ∷ []) (read_then (AfterCase n ∷ []) [] (c.loop-rest.invariant.read n) (read n)) c.in_err-next.ensures.stuck)
 
-pub loop-cases-preserved : goal.loop-cases-preserved
-loop-cases-preserved c =
-    let h = c.loop-cases.invariant in
+pub loop-rest-preserved : goal.loop-rest-preserved
+loop-rest-preserved c =
+    let h = c.loop-rest.invariant in
     let next = c.in_ok-next in
     let pushed = c.in_ok-push-2.ensures.items in
-    let read = λ (n : ℕ). read_first {from = AfterCase n ∷ []} {to = AnyValue ∷ Token marks.Colon ∷ AfterCase n ∷ []} (Fixed marks.Case) c.in_ok-word.ensures.word (c.is_mark.ensures.0 c.if-is_mark.true) (λ left code ps ss. refl) in
+    let read = λ (n : ℕ). read_first {from = AfterCase n ∷ []} {to = AnyValue ∷ Token marks.Colon ∷ AfterCase n ∷ []} (Fixed marks.Case) c.in-Some.ensures.some refl (λ left code ps ss. refl) in
     record {
-      read = λ n. read_as (cases_more c.loop-cases.cases.items next.next _ pushed) (read_then (AnyValue ∷ Token marks.Colon ∷ []) (AfterCase n ∷ []) (read_then (AfterCase n ∷ []) [] (h.read n) (read n)) next.ensures.read);
-      some = has_pushed view_value c.loop-cases.cases.items next.next _ pushed;
+      read = λ n. read_as (cases_more c.loop-rest.cases.items next.next _ pushed) (read_then (AnyValue ∷ Token marks.Colon ∷ []) (AfterCase n ∷ []) (read_then (AfterCase n ∷ []) [] (h.read n) (read n)) next.ensures.read);
+      some = has_pushed view_value c.loop-rest.cases.items next.next _ pushed;
     }

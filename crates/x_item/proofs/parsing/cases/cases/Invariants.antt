@@ -7,11 +7,11 @@ use Rattle.x_item.specs.Symbols.{AnyValue, Token, AfterCase}
 use Rattle.x_item.specs.Reading.{IsRead}
 use Rattle.x_item.proofs.parsing.cases.cases.Given as goal
 
-abbrev pub invariant-loop-cases : goal.invariant-loop-cases
-invariant-loop-cases l = record {
+abbrev pub invariant-loop-rest : goal.invariant-loop-rest
+invariant-loop-rest l = record {
   read : (n : ℕ) → IsRead (Fixed marks.Case ∷ []) (AnyValue ∷ Token marks.Colon ∷ AfterCase n ∷ []) l.tokens (spell_cases (map view_value l.cases.items)) (AfterCase n ∷ []) l.left;
   some : HasOne (map view_value l.cases.items);
 }
 
-abbrev pub decreases-loop-cases : goal.decreases-loop-cases
-decreases-loop-cases l = length l.left
+abbrev pub decreases-loop-rest : goal.decreases-loop-rest
+decreases-loop-rest l = length l.left

@@ -1,125 +1,130 @@
-use Rattle.std.proofs.Common.{ℕ, ◌-◌, [], ◌∷◌, ap, sym, ◌∙◌, append_assoc}
+use Rattle.std.proofs.Common.{ℕ, ◌-◌, [], ◌∷◌, ◌++◌, ap, sym, ◌∙◌, subst, append_assoc, refl}
 use Rattle.std.proofs.lemmas.Result.{IfOk-weaker, IfErr-weaker}
 use Rattle.x_item.specs.Words.{Fixed}
 use Rattle.x_item.specs.Gloss.{tag_mark}
-use Rattle.x_item.specs.Spell.{spell_body, spell_type, spell_named, TypeFits}
-use Rattle.x_item.specs.View.{view_type, view_body, view_shape, view_declaration}
+use Rattle.x_item.specs.Spell.{spell_body, spell_type, spell_named, spell_declaration, spell_declarations, spell_arms, spell_default, TypeFits, BodyFits, ArmsFit, DeclarationsFit}
+use Rattle.x_item.specs.Tree.{default}
+use Rattle.x_item.specs.View.{view_type, view_body, view_shape, view_declaration, view_declarations, view_arms}
 use Rattle.x_lex.specs.declared.mark.Mark.TheVariants as marks
 use Rattle.x_item.specs.declared.parsing.ending.Ending.TheVariants as endings
 use Rattle.x_item.specs.Symbols.{Context, AnyValue, Token, AfterCase, MoreArms, Declared, Declarations, MoreDeclarations, Arms, InDeclaration, AfterType, Typed, ending_mark}
 use Rattle.x_item.specs.Reading.{spell_ended, IsRead, Fails}
-use Rattle.x_item.proofs.ReadLemmas.{exit, not_mark, fails_alike, fails_more, fails_then, read_alike, read_as, read_more, read_on, read_then, read_after, ok_alike, err_alike, read_after_word}
-use Rattle.x_item.proofs.LoopLemmas.{one_only, other_mark, no_mark, of_struct, of_union, union_words, of_declarations, more_declarations, declarations_more, has_declaration, fits_declaration, of_arms, more_arms, arms_more, has_arm, fits_arm, no_keyword, no_tag_name, fits_one_more, fits_inline}
+use Rattle.x_item.proofs.ReadLemmas.{exit, read_first, fails_alike, fails_more, fails_then, read_alike, read_as, read_more, read_on, read_then, read_after, ok_alike, err_alike, read_after_word}
+use Rattle.x_item.proofs.LoopLemmas.{other_mark, no_mark, of_struct, of_union, union_words, of_declarations, more_declarations, default_symbols, struct_read, arms_read, has_declaration, fits_declaration, of_arms, more_arms, arms_more, has_arm, fits_arm, no_keyword, no_tag_name, fits_one_more, fits_inline}
 use Rattle.x_item.proofs.parsing.declaration.+parser.Goals as goal
 
-pub body_of_struct-returns-in_err-rest-clause-stuck : goal.body_of_struct-returns-in_err-rest-clause-stuck
-body_of_struct-returns-in_err-rest-clause-stuck t c =
+pub body_of_struct-returns-in_err-left-clause-stuck : goal.body_of_struct-returns-in_err-left-clause-stuck
+body_of_struct-returns-in_err-left-clause-stuck t c =
     let same = of_struct c.args.depth c.args.tokens.now in
-    exit _ _ c.from_residual.ensures.1 (fails_alike same (fails_more (Token marks.OpenBrace ∷ []) (Declarations c.args.depth ∷ []) c.in_err-rest.ensures.stuck))
+    exit _ _ c.from_residual.ensures.1 (fails_alike same (fails_more (Token marks.OpenBrace ∷ []) (Declarations c.args.depth ∷ []) c.in_err-left.ensures.stuck))
 
-pub body_of_struct-returns-in_err-members-clause-stuck : goal.body_of_struct-returns-in_err-members-clause-stuck
-body_of_struct-returns-in_err-members-clause-stuck t c =
+pub body_of_struct-loop-members-init : goal.body_of_struct-loop-members-init
+body_of_struct-loop-members-init t c =
     let n = c.args.depth in
-    let start = read_alike (of_struct n c.args.tokens.now) (read_more (Token marks.OpenBrace ∷ []) (Declarations n ∷ []) c.in_ok-rest.ensures.read) in
-    exit _ _ c.from_residual-in_err-members.ensures.1 (fails_then (Declarations n ∷ []) [] start c.in_err-members.ensures.stuck)
+    let start = read_alike (of_struct n c.args.tokens.now) (read_more (Token marks.OpenBrace ∷ []) (Declarations n ∷ []) c.in_ok-left.ensures.read) in
+    let none = sym c.new-members.ensures.items in
+    record {
+      read = read_as (ap (λ ds. Fixed marks.OpenBrace ∷ spell_declarations (view_declarations ds)) none) (read_on start (of_declarations n c.in_ok-left.left.now));
+      fits = subst (λ ds. DeclarationsFit (view_declarations ds) n) none tt;
+    }
 
-pub body_of_struct-returns-clause-read : goal.body_of_struct-returns-clause-read
-body_of_struct-returns-clause-read t c =
+pub body_of_struct-returns-in_err-member-clause-stuck : goal.body_of_struct-returns-in_err-member-clause-stuck
+body_of_struct-returns-in_err-member-clause-stuck t c =
     let n = c.args.depth in
-    let start = read_alike (of_struct n c.args.tokens.now) (read_more (Token marks.OpenBrace ∷ []) (Declarations n ∷ []) c.in_ok-rest.ensures.read) in
-    read_as (ap spell_body (sym c.struct_body.ensures)) (read_then (Declarations n ∷ []) [] start c.in_ok-members.ensures.read)
+    exit _ _ c.from_residual-in_err-member.ensures.1 (fails_then (Declared n endings.Semicolon ∷ []) (MoreDeclarations n ∷ []) c.loop-members.invariant.read c.in_err-member.ensures.stuck)
 
-pub declarations-returns-in_err-member-clause-stuck : goal.declarations-returns-in_err-member-clause-stuck
-declarations-returns-in_err-member-clause-stuck t c =
+pub body_of_struct-returns-in-Some-clause-read : goal.body_of_struct-returns-in-Some-clause-read
+body_of_struct-returns-in-Some-clause-read t c =
     let n = c.args.depth in
-    exit _ _ c.from_residual.ensures.1 (fails_alike (of_declarations n c.args.tokens.now) (fails_more (Declared n endings.Semicolon ∷ []) (MoreDeclarations n ∷ []) c.in_err-member.ensures.stuck))
+    let read = struct_read n c.loop-members.members.items c.in_ok-member.member _ c.in_ok-push.ensures.items c.loop-members.invariant.read c.in_ok-member.ensures.read in
+    let closed = read_first {from = MoreDeclarations n ∷ []} {to = []} (Fixed marks.CloseBrace) c.in-Some.ensures.some refl (λ left code ps ss. refl) in
+    read_as (ap spell_body (sym c.struct_body.ensures)) (read_then (MoreDeclarations n ∷ []) [] read closed)
 
-pub declarations-loop-members-init : goal.declarations-loop-members-init
-declarations-loop-members-init t c =
+pub body_of_struct-returns-in-Some-clause-fits : goal.body_of_struct-returns-in-Some-clause-fits
+body_of_struct-returns-in-Some-clause-fits t c =
     let n = c.args.depth in
-    let one = one_only _ _ _ c.new-members.ensures.items c.in_ok-push.ensures.items in
+    let pushed = c.in_ok-push.ensures.items in
     let member = c.in_ok-member in
+    subst (λ body. BodyFits body n) (sym c.struct_body.ensures)
+    (has_declaration c.loop-members.members.items member.member _ pushed, fits_declaration n c.loop-members.members.items member.member _ pushed c.loop-members.invariant.fits member.ensures.fits)
+
+pub body_of_struct-loop-members-preserved : goal.body_of_struct-loop-members-preserved
+body_of_struct-loop-members-preserved t c =
+    let n = c.args.depth in
+    let read = struct_read n c.loop-members.members.items c.in_ok-member.member _ c.in_ok-push.ensures.items c.loop-members.invariant.read c.in_ok-member.ensures.read in
     record {
-      read = read_as (declarations_more [] member.member _ one) (read_alike (of_declarations n c.args.tokens.now) (read_more (Declared n endings.Semicolon ∷ []) (MoreDeclarations n ∷ []) member.ensures.read));
-      some = has_declaration [] member.member _ one;
-      fits = fits_declaration _ [] member.member _ one tt member.ensures.fits;
+      read = read_on read (more_declarations n c.in_default.ensures.none);
+      fits = fits_declaration n c.loop-members.members.items c.in_ok-member.member _ c.in_ok-push.ensures.items c.loop-members.invariant.fits c.in_ok-member.ensures.fits;
     }
 
-pub declarations-returns-in_err-word-clause-stuck : goal.declarations-returns-in_err-word-clause-stuck
-declarations-returns-in_err-word-clause-stuck t c =
-    exit _ _ c.from_residual-in_err-word.ensures.1 (fails_then (MoreDeclarations c.args.depth ∷ []) [] c.loop-members.invariant.read (c.in_err-word.ensures.stuck (MoreDeclarations c.args.depth)))
-
-pub declarations-returns-in_err-next-clause-stuck : goal.declarations-returns-in_err-next-clause-stuck
-declarations-returns-in_err-next-clause-stuck t c =
+pub arms-returns-in_err-left-clause-stuck : goal.arms-returns-in_err-left-clause-stuck
+arms-returns-in_err-left-clause-stuck t c =
     let n = c.args.depth in
-    let on = read_on c.loop-members.invariant.read (more_declarations n c.in_ok-word.ensures.word (not_mark c.is_mark.ensures c.if-is_mark.false)) in
-    exit _ _ c.from_residual-in_err-next.ensures.1 (fails_then (Declared n endings.Semicolon ∷ []) (MoreDeclarations n ∷ []) on c.in_err-next.ensures.stuck)
-
-pub declarations-loop-members-preserved : goal.declarations-loop-members-preserved
-declarations-loop-members-preserved t c =
-    let n = c.args.depth in
-    let h = c.loop-members.invariant in
-    let next = c.in_ok-next in
-    let pushed = c.in_ok-push-2.ensures.items in
-    let on = read_on h.read (more_declarations n c.in_ok-word.ensures.word (not_mark c.is_mark.ensures c.if-is_mark.false)) in
-    record {
-      read = read_as (declarations_more c.loop-members.members.items next.next _ pushed) (read_then (Declared n endings.Semicolon ∷ []) (MoreDeclarations n ∷ []) on next.ensures.read);
-      some = has_declaration c.loop-members.members.items next.next _ pushed;
-      fits = fits_declaration _ c.loop-members.members.items next.next _ pushed h.fits next.ensures.fits;
-    }
-
-pub arms-returns-in_err-rest-clause-stuck : goal.arms-returns-in_err-rest-clause-stuck
-arms-returns-in_err-rest-clause-stuck t c =
-    let n = c.args.depth in
-    exit _ _ c.from_residual.ensures.1 (fails_alike (of_arms n c.args.tokens.now) (fails_more (Token marks.Case ∷ []) (AnyValue ∷ Token marks.Colon ∷ AfterCase n ∷ MoreArms n ∷ []) c.in_err-rest.ensures.stuck))
-
-pub arms-returns-in_err-member-clause-stuck : goal.arms-returns-in_err-member-clause-stuck
-arms-returns-in_err-member-clause-stuck t c =
-    let n = c.args.depth in
-    let start = read_alike (of_arms n c.args.tokens.now) (read_more (Token marks.Case ∷ []) (AnyValue ∷ Token marks.Colon ∷ AfterCase n ∷ MoreArms n ∷ []) c.in_ok-rest.ensures.read) in
-    exit _ _ c.from_residual-in_err-member.ensures.1 (fails_then (AnyValue ∷ Token marks.Colon ∷ AfterCase n ∷ []) (MoreArms n ∷ []) start c.in_err-member.ensures.stuck)
+    exit _ _ c.from_residual.ensures.1 (fails_alike (of_arms n c.args.tokens.now) (fails_more (Token marks.Case ∷ []) (AnyValue ∷ Token marks.Colon ∷ AfterCase n ∷ MoreArms n ∷ []) c.in_err-left.ensures.stuck))
 
 pub arms-loop-arms-init : goal.arms-loop-arms-init
 arms-loop-arms-init t c =
     let n = c.args.depth in
-    let one = one_only _ _ _ c.new-arms.ensures.items c.in_ok-push.ensures.items in
-    let member = c.in_ok-member in
-    let start = read_alike (of_arms n c.args.tokens.now) (read_more (Token marks.Case ∷ []) (AnyValue ∷ Token marks.Colon ∷ AfterCase n ∷ MoreArms n ∷ []) c.in_ok-rest.ensures.read) in
+    let none = sym c.new-arms.ensures.items in
     record {
-      read = read_as (arms_more [] member.member _ one) (read_after (AnyValue ∷ Token marks.Colon ∷ AfterCase n ∷ []) (MoreArms n ∷ []) [] (Fixed marks.Case) start member.ensures.read);
-      some = has_arm [] member.member _ one;
-      fits = fits_arm _ [] member.member _ one tt member.ensures.some member.ensures.fits;
+      read = read_as (ap (λ arms. spell_arms (view_arms arms) ++ Fixed marks.Case ∷ []) none) (read_alike (of_arms n c.args.tokens.now) (read_more (Token marks.Case ∷ []) (AnyValue ∷ Token marks.Colon ∷ AfterCase n ∷ MoreArms n ∷ []) c.in_ok-left.ensures.read));
+      fits = subst (λ arms. ArmsFit (view_arms arms) n) none tt;
     }
 
-pub arms-returns-in_err-word-clause-stuck : goal.arms-returns-in_err-word-clause-stuck
-arms-returns-in_err-word-clause-stuck t c =
-    exit _ _ c.from_residual-in_err-word.ensures.1 (fails_then (MoreArms c.args.depth ∷ []) [] c.loop-arms.invariant.read (c.in_err-word.ensures.stuck (MoreArms c.args.depth)))
-
-pub arms-returns-in_err-rest-2-clause-stuck : goal.arms-returns-in_err-rest-2-clause-stuck
-arms-returns-in_err-rest-2-clause-stuck t c =
+pub arms-returns-in_err-member-clause-stuck : goal.arms-returns-in_err-member-clause-stuck
+arms-returns-in_err-member-clause-stuck t c =
     let n = c.args.depth in
-    let on = read_on c.loop-arms.invariant.read (more_arms n c.in_ok-word.ensures.word (not_mark c.is_mark.ensures c.if-is_mark.false) (not_mark c.is_mark-in-loop-arms.ensures c.if-is_mark-2.false)) in
-    exit _ _ c.from_residual-in_err-rest-2.ensures.1 (fails_then (Token marks.Case ∷ []) (AnyValue ∷ Token marks.Colon ∷ AfterCase n ∷ MoreArms n ∷ []) on c.in_err-rest-2.ensures.stuck)
+    exit _ _ c.from_residual-in_err-member.ensures.1 (fails_then (AnyValue ∷ Token marks.Colon ∷ AfterCase n ∷ []) (MoreArms n ∷ []) c.loop-arms.invariant.read c.in_err-member.ensures.stuck)
 
-pub arms-returns-in_err-next-clause-stuck : goal.arms-returns-in_err-next-clause-stuck
-arms-returns-in_err-next-clause-stuck t c =
+pub arms-returns-in-Some-clause-read : goal.arms-returns-in-Some-clause-read
+arms-returns-in-Some-clause-read t c =
     let n = c.args.depth in
-    let on = read_on c.loop-arms.invariant.read (more_arms n c.in_ok-word.ensures.word (not_mark c.is_mark.ensures c.if-is_mark.false) (not_mark c.is_mark-in-loop-arms.ensures c.if-is_mark-2.false)) in
-    let past = read_then (Token marks.Case ∷ []) (AnyValue ∷ Token marks.Colon ∷ AfterCase n ∷ MoreArms n ∷ []) on c.in_ok-rest-2.ensures.read in
-    exit _ _ c.from_residual-in_err-next.ensures.1 (fails_then (AnyValue ∷ Token marks.Colon ∷ AfterCase n ∷ []) (MoreArms n ∷ []) past c.in_err-next.ensures.stuck)
+    let read = arms_read n c.loop-arms.arms.items c.in_ok-member.member _ c.in_ok-push.ensures.items c.loop-arms.invariant.read c.in_ok-member.ensures.read in
+    read_then (MoreArms n ∷ []) [] read (read_first {from = MoreArms n ∷ []} {to = []} (Fixed marks.CloseBrace) c.in-Some.ensures.some refl (λ left code ps ss. refl))
+
+pub arms-returns-in-Some-clause-some : goal.arms-returns-in-Some-clause-some
+arms-returns-in-Some-clause-some t c = has_arm c.loop-arms.arms.items c.in_ok-member.member _ c.in_ok-push.ensures.items
+
+pub arms-returns-in-Some-clause-fits : goal.arms-returns-in-Some-clause-fits
+arms-returns-in-Some-clause-fits t c =
+    fits_arm c.args.depth c.loop-arms.arms.items c.in_ok-member.member _ c.in_ok-push.ensures.items c.loop-arms.invariant.fits c.in_ok-member.ensures.some c.in_ok-member.ensures.fits
+
+pub arms-returns-in_err-default-clause-stuck : goal.arms-returns-in_err-default-clause-stuck
+arms-returns-in_err-default-clause-stuck t c =
+    let n = c.args.depth in
+    let read = arms_read n c.loop-arms.arms.items c.in_ok-member.member _ c.in_ok-push.ensures.items c.loop-arms.invariant.read c.in_ok-member.ensures.read in
+    let other = read_then (MoreArms n ∷ []) [] read (read_first {from = MoreArms n ∷ []} {to = default_symbols n} (Fixed marks.Default) c.in-Some-after.ensures.some refl (λ left code ps ss. refl)) in
+    exit _ _ c.from_residual-in_err-default.ensures.1 (fails_then (default_symbols n) [] other c.in_err-default.ensures.stuck)
+
+pub arms-returns-in-Some-after-clause-read : goal.arms-returns-in-Some-after-clause-read
+arms-returns-in-Some-after-clause-read t c =
+    let n = c.args.depth in
+    let read = arms_read n c.loop-arms.arms.items c.in_ok-member.member _ c.in_ok-push.ensures.items c.loop-arms.invariant.read c.in_ok-member.ensures.read in
+    let other = read_then (MoreArms n ∷ []) [] read (read_first {from = MoreArms n ∷ []} {to = default_symbols n} (Fixed marks.Default) c.in-Some-after.ensures.some refl (λ left code ps ss. refl)) in
+    read_after (default_symbols n) [] _ (Fixed marks.Default) other c.in_ok-default.ensures.read
+
+pub arms-returns-in-Some-after-clause-some : goal.arms-returns-in-Some-after-clause-some
+arms-returns-in-Some-after-clause-some t c = has_arm c.loop-arms.arms.items c.in_ok-member.member _ c.in_ok-push.ensures.items
+
+pub arms-returns-in-Some-after-clause-fits : goal.arms-returns-in-Some-after-clause-fits
+arms-returns-in-Some-after-clause-fits t c =
+    fits_arm c.args.depth c.loop-arms.arms.items c.in_ok-member.member _ c.in_ok-push.ensures.items c.loop-arms.invariant.fits c.in_ok-member.ensures.some c.in_ok-member.ensures.fits
+
+pub arms-returns-in_err-left-2-clause-stuck : goal.arms-returns-in_err-left-2-clause-stuck
+arms-returns-in_err-left-2-clause-stuck t c =
+    let n = c.args.depth in
+    let read = arms_read n c.loop-arms.arms.items c.in_ok-member.member _ c.in_ok-push.ensures.items c.loop-arms.invariant.read c.in_ok-member.ensures.read in
+    let on = read_on read (more_arms n c.in_default.ensures.none c.in_default-after.ensures.none) in
+    exit _ _ c.from_residual-in_err-left-2.ensures.1 (fails_then (Token marks.Case ∷ []) (AnyValue ∷ Token marks.Colon ∷ AfterCase n ∷ MoreArms n ∷ []) on c.in_err-left-2.ensures.stuck)
 
 pub arms-loop-arms-preserved : goal.arms-loop-arms-preserved
 arms-loop-arms-preserved t c =
     let n = c.args.depth in
-    let h = c.loop-arms.invariant in
-    let next = c.in_ok-next in
-    let pushed = c.in_ok-push-2.ensures.items in
-    let on = read_on h.read (more_arms n c.in_ok-word.ensures.word (not_mark c.is_mark.ensures c.if-is_mark.false) (not_mark c.is_mark-in-loop-arms.ensures c.if-is_mark-2.false)) in
-    let past = read_then (Token marks.Case ∷ []) (AnyValue ∷ Token marks.Colon ∷ AfterCase n ∷ MoreArms n ∷ []) on c.in_ok-rest-2.ensures.read in
+    let read = arms_read n c.loop-arms.arms.items c.in_ok-member.member _ c.in_ok-push.ensures.items c.loop-arms.invariant.read c.in_ok-member.ensures.read in
+    let on = read_on read (more_arms n c.in_default.ensures.none c.in_default-after.ensures.none) in
     record {
-      read = read_as (arms_more c.loop-arms.arms.items next.next _ pushed) (read_after (AnyValue ∷ Token marks.Colon ∷ AfterCase n ∷ []) (MoreArms n ∷ []) _ (Fixed marks.Case) past next.ensures.read);
-      some = has_arm c.loop-arms.arms.items next.next _ pushed;
-      fits = fits_arm _ c.loop-arms.arms.items next.next _ pushed h.fits next.ensures.some next.ensures.fits;
+      read = read_then (Token marks.Case ∷ []) (AnyValue ∷ Token marks.Colon ∷ AfterCase n ∷ MoreArms n ∷ []) on c.in_ok-left-2.ensures.read;
+      fits = fits_arm c.args.depth c.loop-arms.arms.items c.in_ok-member.member _ c.in_ok-push.ensures.items c.loop-arms.invariant.fits c.in_ok-member.ensures.some c.in_ok-member.ensures.fits;
     }
 
 pub body_of_union-returns-in_err-rest-clause-stuck : goal.body_of_union-returns-in_err-rest-clause-stuck
@@ -245,3 +250,14 @@ pub arm-returns-clause-read : goal.arm-returns-clause-read
 arm-returns-clause-read t c =
     let n = c.args.depth in
     read_then (Declared n endings.Semicolon ∷ []) [] (c.in_ok-cases.ensures.read n) c.in_ok-declaration.ensures.read
+
+pub default_arm-returns-clause-read : goal.default_arm-returns-clause-read
+default_arm-returns-clause-read t c =
+    let n = c.args.depth in
+    let d = view_declaration c.in_ok-declaration.declaration in
+    let start = read_more (Token marks.Colon ∷ []) (Declared n endings.Semicolon ∷ Token marks.CloseBrace ∷ []) c.in_ok-rest.ensures.read in
+    let told = read_then (Declared n endings.Semicolon ∷ []) (Token marks.CloseBrace ∷ []) start c.in_ok-declaration.ensures.read in
+    let closed = read_then (Token marks.CloseBrace ∷ []) [] told c.in_ok-declaration-2.ensures.read in
+    let words = append_assoc (spell_declaration d) (Fixed marks.Semicolon ∷ []) (Fixed marks.CloseBrace ∷ []) in
+    let same = ap (λ d. spell_default (default (view_declaration d))) (sym c.in_ok-declaration-2.ensures.value) in
+    read_as (ap (λ t. Fixed marks.Default ∷ Fixed marks.Colon ∷ t) words ∙ same) (read_after_word (Fixed marks.Default) closed)

@@ -5,11 +5,11 @@ use Rattle.x_item.specs.Symbols.{Enumerators, MoreEnumerators}
 use Rattle.x_item.specs.Reading.{IsRead}
 use Rattle.x_item.proofs.parsing.enumerators.enumerators.Given as goal
 
-abbrev pub invariant-loop-members : goal.invariant-loop-members
-invariant-loop-members l = record {
+abbrev pub invariant-loop-rest : goal.invariant-loop-rest
+invariant-loop-rest l = record {
   read : IsRead [] (Enumerators ∷ []) l.tokens (spell_enumerators (map view_enumerator l.members.items)) (MoreEnumerators ∷ []) l.left;
   some : HasOne (map view_enumerator l.members.items);
 }
 
-abbrev pub decreases-loop-members : goal.decreases-loop-members
-decreases-loop-members l = length l.left
+abbrev pub decreases-loop-rest : goal.decreases-loop-rest
+decreases-loop-rest l = length l.left

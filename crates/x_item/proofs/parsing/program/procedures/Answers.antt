@@ -1,43 +1,47 @@
-use Rattle.std.proofs.Common.{[], ◌∷◌}
+use Rattle.std.proofs.Common.{[], ◌∷◌, ap, map, refl, subst, sym}
+use Rattle.x_lex.specs.declared.mark.Mark.TheVariants as marks
+use Rattle.x_item.specs.Words.{Fixed}
 use Rattle.x_item.specs.Spell.{spell_procedure, spell_procedures, ProcedureFits, ProceduresFit}
 use Rattle.x_item.specs.View.{view_procedure}
-use Rattle.x_item.specs.Symbols.{MoreProcedures, of_procedure}
-use Rattle.x_item.proofs.ReadLemmas.{exit, not_mark, fails_alike, fails_more, fails_then, read_alike, read_as, read_more, read_on, read_then}
-use Rattle.x_item.proofs.LoopLemmas.{one_only, has_pushed}
-use Rattle.x_item.proofs.ProgramLemmas.{of_procedures, more_procedures, procedures_push, procedures_fit, spelled_more, fits_more}
+use Rattle.x_item.specs.Symbols.{Token, Procedures, MoreProcedures, of_procedure}
+use Rattle.x_item.proofs.ReadLemmas.{exit, fails_more, fails_then, read_as, read_first, read_more, read_on, read_then}
+use Rattle.x_item.proofs.LoopLemmas.{has_pushed}
+use Rattle.x_item.proofs.ProgramLemmas.{more_of_procedures, more_procedures, procedures_push, procedures_fit, braced_more, fits_more}
 use Rattle.x_item.proofs.parsing.program.procedures.Goals as goal
 
-pub returns-in_err-member-clause-stuck : goal.returns-in_err-member-clause-stuck
-returns-in_err-member-clause-stuck c =
-    exit _ _ c.from_residual.ensures.1 (fails_alike (of_procedures c.args.tokens.now) (fails_more of_procedure (MoreProcedures ∷ []) c.in_err-member.ensures.stuck))
+pub returns-in_err-left-clause-stuck : goal.returns-in_err-left-clause-stuck
+returns-in_err-left-clause-stuck c =
+    exit _ _ c.from_residual.ensures.1 (fails_more (Token marks.OpenBrace ∷ []) (Procedures ∷ []) c.in_err-left.ensures.stuck)
 
 pub loop-members-init : goal.loop-members-init
 loop-members-init c =
-    let first = c.in_ok-member in
-    let one = one_only _ _ _ c.new-members.ensures.items c.in_ok-push.ensures.items in
+    let none = sym c.new-members.ensures.items in
+    let start = read_more (Token marks.OpenBrace ∷ []) (Procedures ∷ []) c.in_ok-left.ensures.read in
     record {
-      read = read_as (spelled_more view_procedure spell_procedures spell_procedure procedures_push [] first.member _ one) (read_alike (of_procedures c.args.tokens.now) (read_more of_procedure (MoreProcedures ∷ []) first.ensures.read));
-      some = has_pushed view_procedure [] first.member _ one;
-      fits = fits_more view_procedure ProceduresFit ProcedureFits procedures_fit [] first.member _ one tt first.ensures.fits;
+      read = read_as (ap (λ ms. Fixed marks.OpenBrace ∷ spell_procedures (map view_procedure ms)) none) (read_on start (more_of_procedures c.in_ok-left.left.now));
+      fits = subst (λ ms. ProceduresFit (map view_procedure ms)) none tt;
     }
 
-pub returns-in_err-word-clause-stuck : goal.returns-in_err-word-clause-stuck
-returns-in_err-word-clause-stuck c =
-    exit _ _ c.from_residual-in_err-word.ensures.1 (fails_then (MoreProcedures ∷ []) [] c.loop-members.invariant.read (c.in_err-word.ensures.stuck MoreProcedures))
+pub returns-in_err-member-clause-stuck : goal.returns-in_err-member-clause-stuck
+returns-in_err-member-clause-stuck c =
+    exit _ _ c.from_residual-in_err-member.ensures.1 (fails_then of_procedure (MoreProcedures ∷ []) c.loop-members.invariant.read c.in_err-member.ensures.stuck)
 
-pub returns-in_err-next-clause-stuck : goal.returns-in_err-next-clause-stuck
-returns-in_err-next-clause-stuck c =
-    let on = read_on c.loop-members.invariant.read (more_procedures c.in_ok-word.ensures.word (not_mark c.is_mark.ensures c.if-is_mark.false)) in
-    exit _ _ c.from_residual-in_err-next.ensures.1 (fails_then of_procedure (MoreProcedures ∷ []) on c.in_err-next.ensures.stuck)
+pub returns-in-Some-clause-read : goal.returns-in-Some-clause-read
+returns-in-Some-clause-read c =
+    let read = braced_more view_procedure spell_procedures spell_procedure procedures_push of_procedure MoreProcedures c.loop-members.members.items c.in_ok-member.member _ c.in_ok-push.ensures.items c.loop-members.invariant.read c.in_ok-member.ensures.read in
+    read_then (MoreProcedures ∷ []) [] read (read_first {from = MoreProcedures ∷ []} {to = []} (Fixed marks.CloseBrace) c.in-Some.ensures.some refl (λ left code ps ss. refl))
+
+pub returns-in-Some-clause-some : goal.returns-in-Some-clause-some
+returns-in-Some-clause-some c = has_pushed view_procedure c.loop-members.members.items c.in_ok-member.member _ c.in_ok-push.ensures.items
+
+pub returns-in-Some-clause-fits : goal.returns-in-Some-clause-fits
+returns-in-Some-clause-fits c =
+    fits_more view_procedure ProceduresFit ProcedureFits procedures_fit c.loop-members.members.items c.in_ok-member.member _ c.in_ok-push.ensures.items c.loop-members.invariant.fits c.in_ok-member.ensures.fits
 
 pub loop-members-preserved : goal.loop-members-preserved
 loop-members-preserved c =
-    let h = c.loop-members.invariant in
-    let next = c.in_ok-next in
-    let pushed = c.in_ok-push-2.ensures.items in
-    let on = read_on h.read (more_procedures c.in_ok-word.ensures.word (not_mark c.is_mark.ensures c.if-is_mark.false)) in
+    let read = braced_more view_procedure spell_procedures spell_procedure procedures_push of_procedure MoreProcedures c.loop-members.members.items c.in_ok-member.member _ c.in_ok-push.ensures.items c.loop-members.invariant.read c.in_ok-member.ensures.read in
     record {
-      read = read_as (spelled_more view_procedure spell_procedures spell_procedure procedures_push c.loop-members.members.items next.next _ pushed) (read_then of_procedure (MoreProcedures ∷ []) on next.ensures.read);
-      some = has_pushed view_procedure c.loop-members.members.items next.next _ pushed;
-      fits = fits_more view_procedure ProceduresFit ProcedureFits procedures_fit c.loop-members.members.items next.next _ pushed h.fits next.ensures.fits;
+      read = read_on read (more_procedures c.in_default.ensures.none);
+      fits = fits_more view_procedure ProceduresFit ProcedureFits procedures_fit c.loop-members.members.items c.in_ok-member.member _ c.in_ok-push.ensures.items c.loop-members.invariant.fits c.in_ok-member.ensures.fits;
     }

@@ -1,14 +1,15 @@
-use Rattle.std.proofs.Common.{[], ◌∷◌, length, map}
-use Rattle.x_item.specs.Spell.{spell_procedures, HasOne, ProceduresFit}
+use Rattle.std.proofs.Common.{[], ◌++◌, ◌∷◌, length, map}
+use Rattle.x_lex.specs.declared.mark.Mark.TheVariants as marks
+use Rattle.x_item.specs.Words.{Fixed}
+use Rattle.x_item.specs.Spell.{spell_procedures, ProceduresFit}
 use Rattle.x_item.specs.View.{view_procedure}
-use Rattle.x_item.specs.Symbols.{Procedures, MoreProcedures}
+use Rattle.x_item.specs.Symbols.{MoreProcedures, of_procedure, of_procedures}
 use Rattle.x_item.specs.Reading.{IsRead}
 use Rattle.x_item.proofs.parsing.program.procedures.Given as goal
 
 abbrev pub invariant-loop-members : goal.invariant-loop-members
 invariant-loop-members l = record {
-  read : IsRead [] (Procedures ∷ []) l.tokens (spell_procedures (map view_procedure l.members.items)) (MoreProcedures ∷ []) l.left;
-  some : HasOne (map view_procedure l.members.items);
+  read : IsRead [] of_procedures l.tokens (Fixed marks.OpenBrace ∷ spell_procedures (map view_procedure l.members.items)) (of_procedure ++ MoreProcedures ∷ []) l.left;
   fits : ProceduresFit (map view_procedure l.members.items);
 }
 

@@ -1,14 +1,14 @@
 use Rattle.x_item.specs.Symbols.{InResult}
-use Rattle.x_item.proofs.ReadLemmas.{exit, not_mark, fails_alike, read_alike, read_on}
+use Rattle.x_item.proofs.ReadLemmas.{exit, fails_alike, read_alike, read_on}
 use Rattle.x_item.proofs.ProgramLemmas.{typed_result, after_result}
 use Rattle.x_item.proofs.parsing.program.returned.Goals as goal
 
 pub returns-in_err-data-clause-stuck : goal.returns-in_err-data-clause-stuck
 returns-in_err-data-clause-stuck c =
-    let same = typed_result c.in_ok-word.ensures.word (not_mark c.is_mark.ensures c.if-is_mark.false) (not_mark c.is_mark-2.ensures c.if-is_mark-2.false) in
-    exit _ _ c.from_residual-in_err-data.ensures.1 (fails_alike same (c.in_err-data.ensures.stuck InResult))
+    let same = typed_result c.in_default.ensures.none c.in_default-after.ensures.none in
+    exit _ _ c.from_residual.ensures.1 (fails_alike same (c.in_err-data.ensures.stuck InResult))
 
 pub returns-clause-read : goal.returns-clause-read
 returns-clause-read c =
-    let same = typed_result c.in_ok-word.ensures.word (not_mark c.is_mark.ensures c.if-is_mark.false) (not_mark c.is_mark-2.ensures c.if-is_mark-2.false) in
+    let same = typed_result c.in_default.ensures.none c.in_default-after.ensures.none in
     read_on (read_alike same (c.in_ok-data.ensures.read InResult)) (after_result c.in_ok-data.rest.now)

@@ -1,14 +1,15 @@
-use Rattle.std.proofs.Common.{[], ◌∷◌, length, map}
-use Rattle.x_item.specs.Spell.{spell_versions, HasOne, VersionsFit}
+use Rattle.std.proofs.Common.{[], ◌++◌, ◌∷◌, length, map}
+use Rattle.x_lex.specs.declared.mark.Mark.TheVariants as marks
+use Rattle.x_item.specs.Words.{Fixed}
+use Rattle.x_item.specs.Spell.{spell_versions, VersionsFit}
 use Rattle.x_item.specs.View.{view_version}
-use Rattle.x_item.specs.Symbols.{Versions, MoreVersions}
+use Rattle.x_item.specs.Symbols.{MoreVersions, of_version, of_versions}
 use Rattle.x_item.specs.Reading.{IsRead}
 use Rattle.x_item.proofs.parsing.program.versions.Given as goal
 
 abbrev pub invariant-loop-members : goal.invariant-loop-members
 invariant-loop-members l = record {
-  read : IsRead [] (Versions ∷ []) l.tokens (spell_versions (map view_version l.members.items)) (MoreVersions ∷ []) l.left;
-  some : HasOne (map view_version l.members.items);
+  read : IsRead [] of_versions l.tokens (Fixed marks.OpenBrace ∷ spell_versions (map view_version l.members.items)) (of_version ++ MoreVersions ∷ []) l.left;
   fits : VersionsFit (map view_version l.members.items);
 }
 
