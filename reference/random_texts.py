@@ -327,7 +327,14 @@ def random_words(chance, care):
     return words
 
 
+def soup(chance):
+    """Pieces of words and spaces in any order."""
+    return b"".join(chance.choice(SPOILS + SPACES + POOL + BASIC) for _ in range(chance.randint(0, 25)))
+
+
 def random_text(chance, care=None, spoiled=None):
+    if spoiled is None and chance.random() < 0.06:
+        return soup(chance)
     if spoiled is None:
         spoiled = chance.random() < 0.35
     words = random_words(chance, chance.choice([0.7, 0.9, 0.97, 1, 1]) if care is None else care)
@@ -364,6 +371,8 @@ def random_edit(chance, text):
         insert = chance.choice(POOL + BASIC)
     elif way < 0.75:
         insert = b"%d" % chance.choice(EDGES)
+    elif way < 0.77:
+        insert = soup(chance)
     elif way < 0.8:
         insert = text[start:end]
     else:
