@@ -1,11 +1,13 @@
 #!/usr/bin/env python3
 """rpcedit FILE: answers the lines of standard input about the text of FILE, and compiles it anew at each question."""
+import os
 import re
 import sys
 
 sys.dont_write_bytecode = True
 
 import rpclang
+import texts
 
 GREATEST_TEXT = 16_777_216
 LONGEST_LINE = 33_600_000
@@ -56,6 +58,9 @@ class Session:
             return b"faults %d\n" % len(faults) + b"".join(
                 b"%d:%d %d %s\n" % (fault.line, fault.column, fault.code, rpclang.CODE_NAMES[fault.code].encode())
                 for fault in faults)
+        if line.decode("latin-1") in texts.KINDS:
+            text = texts.text_of(line.decode(), self.base, self.compiled())
+            return b"text %d\n" % len(text) + text
         return self.refuse(b"refused 43 BadLine\n")
 
     def edit(self, start, end, insert):
@@ -85,7 +90,7 @@ def main(words):
         return stop(f"{words[0]}: cannot be read")
     if len(text) > GREATEST_TEXT:
         return stop(f"{words[0]}: 2 TooLarge")
-    session = Session(base_of(words[0].encode()), text)
+    session = Session(base_of(os.fsencode(words[0])), text)
     try:
         for line in sys.stdin.buffer:
             if line.rstrip(b"\n"):
