@@ -8,6 +8,7 @@ sys.dont_write_bytecode = True
 
 import rpclang
 import texts
+import values
 
 GREATEST_TEXT = 16_777_216
 LONGEST_LINE = 33_600_000
@@ -61,6 +62,9 @@ class Session:
         if line.decode("latin-1") in texts.KINDS:
             text = texts.text_of(line.decode(), self.base, self.compiled())
             return b"text %d\n" % len(text) + text
+        if match := DUMP.fullmatch(line):
+            answer = values.dump_answer(self.compiled(), match[1], bytes.fromhex((match[2] or b"").decode()))
+            return answer if answer.startswith(b"value") else self.refuse(answer)
         return self.refuse(b"refused 43 BadLine\n")
 
     def edit(self, start, end, insert):
