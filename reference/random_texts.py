@@ -393,6 +393,17 @@ def random_case(seed):
     return first, edits
 
 
+def random_line(chance):
+    """A script line that is nearly one of those that are answered."""
+    line = chance.choice([b"tokens", b"definitions", b"faults", b"edit 0 1", b"edit 0 0 2f2A", b"edit 123456789 0",
+                          b"edit 1 2 0", b"edit", b"edit 0000000001 0", b"edit -1 0", b"edit 0x1 2", b"%tokens"])
+    for _ in range(chance.choice([1, 1, 2])):
+        at = chance.randrange(len(line) + 1)
+        piece = chance.choice([b" ", b"\t", b"\r", b"\0", b"0", b"a", b"G", b"\xff", line[at:at + 1]])
+        line = chance.choice([line[:at] + piece + line[at:], line[:at] + line[at + 1:] or b" ", line.upper(), line + piece])
+    return line
+
+
 def main(count, seed):
     import rpclang
     texts, faults, clean = {}, {}, 0
