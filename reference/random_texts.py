@@ -35,8 +35,9 @@ class Maker:
         self.types = []             # pairs of name and tag, "typedef" among the tags
         self.enums = []             # pairs of name and numbers
         self.used = {b"TRUE", b"FALSE"}
-        self.coming = chance.sample([b"list", b"node", b"s_b", b"t_t", b"e"], 2)    # structs and unions to be defined
+        self.coming = chance.sample(POOL, 2)    # structs and unions to be defined
         self.used |= set(self.coming)
+        self.lifted = []            # as types, those lifted from the definition in the making
         self.count = 0
 
     def careful(self):
@@ -47,6 +48,8 @@ class Maker:
 
     def any_name(self):
         """A name that may be of any kind, declared before, later or never."""
+        if self.lifted and self.chance.random() < 0.3:
+            return self.chance.choice(self.lifted)[0]
         return self.chance.choice(sorted(self.used) if self.chance.random() < 0.7 else POOL)
 
     def spelled(self, number):
@@ -108,7 +111,9 @@ class Maker:
     def inline(self, deep, around):
         kind = self.pick(self.enum_body, self.struct_body, self.union_body)
         tag = {"enum_body": b"enum", "struct_body": b"struct", "union_body": b"union"}[kind.__name__]
-        return [tag] + kind(deep, around)
+        words = [tag] + kind(deep, around)
+        self.lifted.append((around, tag))
+        return words
 
     def declaration(self, name, deep, around, void=False):
         if void and self.chance.random() < 0.3 or self.chance.random() < 0.05 * (1 - self.care):
@@ -139,10 +144,10 @@ class Maker:
         for k in range(self.chance.randint(1, 4)):
             name = self.own(self.fresh())
             words += [b","] * (k > 0) + [name]
-            if before is None or before >= 2 ** 31 - 1 or self.chance.random() < 0.6:
+            if (before is None or before >= 2 ** 31 - 1) and self.careful() or self.chance.random() < 0.6:
                 value, before = self.value(-2 ** 31, 2 ** 31 - 1)
                 words += [b"=", value]
-            else:
+            elif before is not None:
                 before += 1
             if before is not None:
                 self.constants.append((name, before))
@@ -166,6 +171,7 @@ class Maker:
             words = [name, discriminant]
         elif choice < 0.4:
             words = [b"enum"] + self.enum_body(deep, around) + [discriminant]
+            self.lifted.append((around + b"_" + discriminant, b"enum"))
             numbers = self.last_numbers
         elif choice < 0.6:
             words, numbers = [b"bool", discriminant], [0, 1]
@@ -210,11 +216,19 @@ class Maker:
                     words += [b","] + self.argument(False, False)
                 number = number if self.careful() else self.chance.choice(EDGES)
                 words += [b")", b"=", self.spelled(number), b";"]
-            version = version + 1 if self.careful() else self.chance.choice(EDGES[:12] + [1, 2, 3])
+            version = version + 1 if self.careful() else self.chance.choice(EDGES + [1, 2, 3])
             words += [b"}", b"=", self.spelled(version), b";"]
         return words + [b"}", b"=", self.spelled(self.number(0, 2 ** 32 - 1)), b";"]
 
     def definition(self):
+        words = self.one_definition()
+        self.types += self.lifted
+        self.enums += [(name, self.last_numbers) for name, tag in self.lifted[-1:] if tag == b"enum"]
+        self.used |= {name for name, tag in self.lifted}
+        self.lifted = []
+        return words
+
+    def one_definition(self):
         kind = self.pick(b"const", b"const", b"typedef", b"typedef", b"enum", b"struct", b"struct", b"union", b"union",
                          b"program")
         name = self.fresh()
@@ -239,13 +253,23 @@ class Maker:
         return [kind, name] + body + [b";"]
 
     def chain(self):
-        """Types one over the other, up to and past the greatest height."""
-        count = self.chance.randint(30, 36)
-        words = [b"struct", b"h1", b"{", b"int", b"a", b";", b"}", b";"]
-        for k in range(2, count):
-            link = [b"*"] if self.chance.random() < 0.02 else []
-            words += self.pick([b"struct", b"h%d" % k, b"{", b"h%d" % (k - 1)] + link + [b"a", b";", b"}", b";"],
-                               [b"typedef", b"h%d" % (k - 1)] + link + [b"h%d" % k, b";"])
+        """Types one over the other up to the greatest height, and then some that may pass it, also inside alone."""
+        top = self.chance.randint(28, 33)
+        words = self.pick([b"struct", b"h1", b"{", b"int", b"a", b";", b"}", b";"], [b"typedef", b"int", b"h1", b";"],
+                          [b"enum", b"h1", b"{", b"H", b"}", b";"])
+        for k in range(2, top + 1):
+            under, name = b"h%d" % (k - 1), b"h%d" % k
+            link = [b"*"] if self.chance.random() < 0.01 else []
+            words += self.pick([b"struct", name, b"{", under] + link + [b"a", b";", b"}", b";"],
+                               [b"typedef", under] + link + [name, b";"], [b"typedef", under, name, b"[", b"2", b"]", b";"],
+                               [b"union", name, b"switch", b"(", b"int", b"d", b")", b"{", b"case", b"1", b":", under]
+                               + link + [b"a", b";", b"}", b";"])
+        for name in [b"k1", b"k2", b"k3"]:
+            inside = [b"h%d" % top] + self.pick([b"a"], [b"*", b"a"], [b"a", b"<", b">"], [b"a", b"[", b"1", b"]"])
+            for _ in range(self.chance.randint(0, 4)):
+                inside = [b"struct", b"{"] + inside + [b";", b"}"]
+                inside += self.pick([b"b"], [b"b"], [b"*", b"b"], [b"b", b"<", b">"])
+            words += self.pick([b"struct", name, b"{"] + inside + [b";", b"}", b";"], [b"typedef"] + inside + [b";"])
         return words
 
     def nest(self):
@@ -272,6 +296,89 @@ class Maker:
         for closer in reversed(closers[:self.pick(len(closers), len(closers), len(closers) - 1)]):
             words += closer
         return words
+
+
+class Crowd:
+    """Makes definitions of very few names and numbers, without care, so that much meets that seldom does."""
+
+    def __init__(self, chance):
+        self.chance = chance
+        edges = [b"2147483647", b"2147483647", b"2147483648", b"-2147483648", b"-2147483649", b"4294967295",
+                 b"4294967296", b"99999999999999999999999", b"99999999999999999999999", b"-1", b"7"]
+        self.numbers = [b"0", b"1"] + chance.sample(edges, 2)
+
+    def pick(self, *choices):
+        return self.chance.choice(choices)
+
+    def name(self):
+        return self.pick(b"a", b"a", b"b", b"b", b"a_a", b"a_b", b"b_a", b"a_b_a")
+
+    def value(self):
+        return self.chance.choice(self.numbers + [b"A", b"A", b"B", b"B", b"C", b"TRUE", self.name()])
+
+    def many(self, most, read):
+        return [word for _ in range(self.chance.randint(1, most)) for word in read()]
+
+    def enum(self):
+        words = [b"{"]
+        for name in self.chance.sample([b"A", b"B", b"C", b"D", b"E", self.name()], self.chance.randint(1, 5)):
+            words += [name] + self.pick([], [b"=", self.value()]) + [b","]
+        return words[:-1] + [b"}"]
+
+    def struct(self, deep):
+        return [b"{"] + self.many(3, lambda: self.declaration(deep) + [b";"]) + [b"}"]
+
+    def pair(self):
+        """An enum, and a union over an enum whose numbers come from the first."""
+        first = [b"enum", b"{", b"A", b"=", self.chance.choice(self.numbers)] + self.pick([], [b",", b"B"]) + [b"}"]
+        second = [b"enum", b"{", b"C", b"=", self.pick(b"A", b"B")] + self.pick([], [b",", b"D"]) + [b"}"]
+        cases = self.many(3, lambda: [b"case", self.value(), b":"])
+        return [b"{"] + first + [b"x", b";", b"union", b"switch", b"("] + second + [b"d", b")", b"{"] + cases + [
+            b"void", b";", b"}", b"y", b";", b"}"]
+
+    def union(self, deep):
+        kind = self.pick(b"int", b"bool", b"unsigned", b"enum", b"enum", b"enum", self.name(), None)
+        switch = [kind] + (self.enum() if kind == b"enum" else []) + [b"d"] if kind else self.declaration(deep)
+        words = [b"switch", b"("] + switch + [b")", b"{"]
+        words += self.many(3, lambda: self.many(2, lambda: [b"case", self.value(), b":"]) + self.declaration(deep) + [b";"])
+        return words + ([b"default", b":"] + self.declaration(deep) + [b";"] if self.pick(True, False) else []) + [b"}"]
+
+    def type(self, deep):
+        tag = self.pick(b"struct", b"union", b"enum")
+        if self.chance.random() < 0.6 or deep > 2 and tag != b"enum":
+            return self.pick([b"int"], [b"bool"], [self.name()], [self.name()], [tag, self.name()])
+        return [tag] + (self.enum() if tag == b"enum" else getattr(self, tag.decode())(deep + 1))
+
+    def declaration(self, deep):
+        name, way = [self.name()], self.chance.random()
+        if way < 0.2:
+            return self.pick([b"void"], [b"opaque", b"a", b"[", self.value(), b"]"], [b"string", b"a", b"<", b">"])
+        return self.type(deep) + self.pick(*[name] * 4, [b"*"] + name, [b"*"] + name, name + [b"<", b">"],
+                                           name + [b"<", self.value(), b">"], name + [b"[", self.value(), b"]"])
+
+    def procedure(self):
+        words = self.type(2) + [self.name(), b"("] + self.pick(self.type(2), [b"void"])
+        return words + self.pick([], [b","] + self.type(2)) + [b")", b"=", self.chance.choice(self.numbers), b";"]
+
+    def version(self):
+        procedures = self.many(3, self.procedure)
+        return [b"version", self.name(), b"{"] + procedures + [b"}", b"=", self.chance.choice(self.numbers), b";"]
+
+    def definition(self):
+        kind, name = self.pick(b"const", b"typedef", b"enum", b"struct", b"struct", b"union", b"program"), self.name()
+        if kind == b"const":
+            words = [self.pick(b"A", b"B", name), b"=", self.value()]
+        elif kind == b"typedef":
+            words = self.declaration(0)
+        elif kind == b"enum":
+            words = [name] + self.enum()
+        elif kind == b"program":
+            words = [name, b"{"] + self.many(3, self.version) + [b"}", b"=", self.chance.choice(self.numbers)]
+        elif kind == b"struct" and self.chance.random() < 0.2:
+            words = [name] + self.pair()
+        else:
+            words = [name] + getattr(self, kind.decode())(0)
+        return [kind] + words + [b";"]
 
 
 def join(chance, words):
@@ -313,6 +420,8 @@ def spoil(chance, words):
 
 
 def random_words(chance, care):
+    if care < 1 and chance.random() < 0.25:
+        return Crowd(chance).many(4, Crowd(chance).definition)
     maker = Maker(chance, care)
     words = []
     for _ in range(chance.choice([1, 1, 2, 2, 3, 3, 4, 5, 6])):
