@@ -76,7 +76,9 @@ class Maker:
         if not self.careful():
             return self.chance.choice(EDGES + [0] * 8)
         inside = [edge for edge in EDGES if low <= edge <= high]
-        return self.chance.choice(inside) if self.chance.random() < 0.2 else self.chance.randint(low, min(high, low + 9))
+        if self.chance.random() < 0.2:
+            return self.chance.choice(inside)
+        return self.chance.randint(low, min(high, low + 9))
 
     def value(self, low, high):
         """A value word and its number, None where it isn't known."""
@@ -261,7 +263,8 @@ class Maker:
             under, name = b"h%d" % (k - 1), b"h%d" % k
             link = [b"*"] if self.chance.random() < 0.01 else []
             words += self.pick([b"struct", name, b"{", under] + link + [b"a", b";", b"}", b";"],
-                               [b"typedef", under] + link + [name, b";"], [b"typedef", under, name, b"[", b"2", b"]", b";"],
+                               [b"typedef", under] + link + [name, b";"],
+                               [b"typedef", under, name, b"[", b"2", b"]", b";"],
                                [b"union", name, b"switch", b"(", b"int", b"d", b")", b"{", b"case", b"1", b":", under]
                                + link + [b"a", b";", b"}", b";"])
         for name in [b"k1", b"k2", b"k3"]:
@@ -328,11 +331,14 @@ class Crowd:
     def struct(self, deep):
         return [b"{"] + self.many(3, lambda: self.declaration(deep) + [b";"]) + [b"}"]
 
+    def case(self):
+        return [b"case", self.value(), b":"]
+
     def pair(self):
         """An enum, and a union over an enum whose numbers come from the first."""
         first = [b"enum", b"{", b"A", b"=", self.chance.choice(self.numbers)] + self.pick([], [b",", b"B"]) + [b"}"]
         second = [b"enum", b"{", b"C", b"=", self.pick(b"A", b"B")] + self.pick([], [b",", b"D"]) + [b"}"]
-        cases = self.many(3, lambda: [b"case", self.value(), b":"])
+        cases = self.many(3, self.case)
         return [b"{"] + first + [b"x", b";", b"union", b"switch", b"("] + second + [b"d", b")", b"{"] + cases + [
             b"void", b";", b"}", b"y", b";", b"}"]
 
@@ -340,7 +346,7 @@ class Crowd:
         kind = self.pick(b"int", b"bool", b"unsigned", b"enum", b"enum", b"enum", self.name(), None)
         switch = [kind] + (self.enum() if kind == b"enum" else []) + [b"d"] if kind else self.declaration(deep)
         words = [b"switch", b"("] + switch + [b")", b"{"]
-        words += self.many(3, lambda: self.many(2, lambda: [b"case", self.value(), b":"]) + self.declaration(deep) + [b";"])
+        words += self.many(3, lambda: self.many(2, self.case) + self.declaration(deep) + [b";"])
         return words + ([b"default", b":"] + self.declaration(deep) + [b";"] if self.pick(True, False) else []) + [b"}"]
 
     def type(self, deep):
@@ -464,7 +470,8 @@ def random_edit(chance, text):
     """A byte range, which may lie outside the text, and what comes into its place."""
     way = chance.random()
     if way < 0.03:
-        return chance.choice([(len(text), len(text) + 1), (5, 4), (len(text) + 3, len(text) + 3), (999999999, 0)]) + (b"",)
+        size = len(text)
+        return chance.choice([(size, size + 1), (5, 4), (size + 3, size + 3), (999999999, 0)]) + (b"",)
     start = chance.randrange(len(text) + 1)
     if chance.random() < 0.15:
         feeds = [k + 1 for k, byte in enumerate(text) if byte == 10] + [0]
@@ -509,7 +516,8 @@ def random_line(chance):
     for _ in range(chance.choice([1, 1, 2])):
         at = chance.randrange(len(line) + 1)
         piece = chance.choice([b" ", b"\t", b"\r", b"\0", b"0", b"a", b"G", b"\xff", line[at:at + 1]])
-        line = chance.choice([line[:at] + piece + line[at:], line[:at] + line[at + 1:] or b" ", line.upper(), line + piece])
+        line = chance.choice([line[:at] + piece + line[at:], line[:at] + line[at + 1:] or b" ", line.upper(),
+                              line + piece])
     return line
 
 

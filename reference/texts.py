@@ -194,8 +194,8 @@ def stubs(definition):
             "    static struct timeval timeout = { 25, 0 };",
             "",
             "    memset((char *)&clnt_res, 0, sizeof (clnt_res));",
-            f"    if (clnt_call(clnt, {call.name}, (xdrproc_t){call.coder}, (char *)argp, (xdrproc_t){call.result_coder}, "
-            "(char *)&clnt_res, timeout) != RPC_SUCCESS)",
+            f"    if (clnt_call(clnt, {call.name}, (xdrproc_t){call.coder}, (char *)argp, "
+            f"(xdrproc_t){call.result_coder}, (char *)&clnt_res, timeout) != RPC_SUCCESS)",
             "        return (NULL);",
             "    return ((void *)&clnt_res);" if void else "    return (&clnt_res);",
             "}",

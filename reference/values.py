@@ -1,4 +1,4 @@
-"""Values of the types of a faultless text: their encodings by RFC 4506 section 4, their lines, and why bytes are refused."""
+"""Values of the types of a faultless text: their encodings (RFC 4506 section 4), lines, and why bytes are refused."""
 import random
 from collections import namedtuple
 
@@ -95,8 +95,8 @@ class Ended(Exception):
 
 
 class Reading:
-    """Reads the first value of a type from the bytes, unit by unit, and keeps its lines. What is still to be read stands
-    in a list, its next part last; links are the number of links open around a part."""
+    """Reads the first value of a type from the bytes, unit by unit, and keeps its lines. What is still to be read
+    stands in a list, its next part last; links are the number of links open around a part."""
 
     def __init__(self, kind, data, label):
         self.data = data
@@ -221,7 +221,7 @@ def reading_of(kind, data, label=b""):
 
 def refusal(kind, data):
     """None for an encoding of the type, else code and place. Three cases, the first that applies: an encoding stands
-    in front of more bytes; there is a first whole unit to whose end the bytes begin no encoding; the bytes are short."""
+    in front of more bytes; there is a first whole unit to whose end the bytes begin no encoding; they are short."""
     front = reading_of(kind, data)
     if isinstance(front, Reading):
         return (57, front.at) if front.at < len(data) else None
