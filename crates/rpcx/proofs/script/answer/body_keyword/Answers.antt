@@ -8,4 +8,4 @@ union : (u : UnionBody) → codes "union" ≡ body_keyword (view_union u)
 union (UnionBody' d shape arms default) = refl
 
 pub returns-in-Union : goal.returns-in-Union
-returns-in-Union c = union c.in-Union.field-0 ∙ ap (λ b. body_keyword (view_body b)) (sym c.in-Union.is)
+returns-in-Union c = union c.in-Union.field-0.value ∙ ap (λ b. body_keyword (view_body b)) (sym c.in-Union.is)
