@@ -26,7 +26,7 @@ use Rattle.x_item.specs.declared.parsing.parse_error.ParseError.{ParseError}
 use Rattle.x_item.specs.declared.parsing.parse_error.ParseError.TheVariants as errors
 use Rattle.x_item.specs.Symbols.{Symbol, Context, InDeclaration, Token, AnyName, AnyValue, AnyLength, AfterLess, AfterName, AfterType, AfterUnsigned, Typed, AfterTag, AnyBody, Enumerators, AfterEnumerator, MoreEnumerators, Declared, Declarations, MoreDeclarations, Arms, AfterCase, MoreArms, ending_mark, followed, go, step_declared}
 use Rattle.x_item.specs.Reading.{view_word, Place, HasFirst, LacksFirst, IsRead, Fails, read, spell_ended, spell_arm}
-use Rattle.x_item.proofs.ReadLemmas.{Alike, alike, alike_first, alike_other, alike_neither, headed, read_as, read_first, read_then, read_after, fails_then}
+use Rattle.x_item.proofs.ReadLemmas.{Alike, alike, alike_first, alike_where, alike_other, alike_neither, headed, read_as, read_first, read_then, read_after, fails_then}
 
 -- no mark is another, and no word that is no mark is one
 pub other_mark : (w : source.Word) (m k : Mark) → w ≡ words.Mark m → m ≢ k → view_word w ≢ Fixed k
@@ -339,8 +339,10 @@ declared_is n e (Fixed marks.Opaque) left code ps ss a b c = absurd (b refl)
 declared_is n e (Fixed marks.String) left code ps ss a b c = absurd (c refl)
 declared_is n e w left code ps ss a b c = refl
 
-pub no_keyword : (n : ℕ) (e : Ending) {tokens rest : List LexToken} {w : Word} → HasFirst tokens w rest → w ≢ Fixed marks.Void → w ≢ Fixed marks.Opaque → w ≢ Fixed marks.String → Alike (Declared n e ∷ []) (Typed n (InDeclaration e) ∷ []) tokens
-no_keyword n e {w = w} first a b c = alike_first first (λ left code ps ss. declared_is n e w left code ps ss a b c)
+pub no_keyword : (n : ℕ) (e : Ending) {tokens : List LexToken} → LacksFirst tokens (Fixed marks.Void) → LacksFirst tokens (Fixed marks.Opaque) → LacksFirst tokens (Fixed marks.String) → Alike (Declared n e ∷ []) (Typed n (InDeclaration e) ∷ []) tokens
+no_keyword n e a b c =
+    alike_where (λ w. (w ≢ Fixed marks.Void) × ((w ≢ Fixed marks.Opaque) × (w ≢ Fixed marks.String)))
+    (λ p ps is. (a.by p ps is, (b.by p ps is, c.by p ps is))) (λ w left code ps ss h. declared_is n e w left code ps ss h.0 h.1.0 h.1.1)
 
 pub union_words : (d rest : List Word) → ((Fixed marks.Switch ∷ Fixed marks.OpenParenthesis ∷ (d ++ Fixed marks.CloseParenthesis ∷ [])) ++ Fixed marks.OpenBrace ∷ []) ++ rest ≡ Fixed marks.Switch ∷ Fixed marks.OpenParenthesis ∷ (d ++ Fixed marks.CloseParenthesis ∷ Fixed marks.OpenBrace ∷ rest)
 union_words d rest =

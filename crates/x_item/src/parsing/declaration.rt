@@ -223,16 +223,18 @@ pub fn declared<'w, 't>(
     ensures fits { IfOk result (λ x. DeclarationFits (view_declaration x.0) depth) }
     ensures stuck { IfErr result (λ e. Fails (Declared depth ending ∷ []) tokens.now e) }
 {
-    let (word, rest) = first(tokens)?;
-    match word {
-        Word::Mark(mark) => match mark {
-            Mark::Void => nothing(ending, rest),
-            Mark::Opaque => opaque(alloc, ending, rest),
-            Mark::String => string(alloc, ending, rest),
-            _ => typed(alloc, depth, ending, tokens),
-        },
-        _ => typed(alloc, depth, ending, tokens),
+    if let Some(rest) = after(Mark::Void, tokens) {
+        return nothing(ending, rest);
     }
+    if let Some(rest) = after(Mark::Opaque, tokens) {
+        return opaque(alloc, ending, rest);
+    }
+    if let Some(rest) = after(Mark::String, tokens) {
+        return string(alloc, ending, rest);
+    }
+    let (data, rest) = data_type(alloc, depth, tokens)?;
+    let (name, shape, rest) = named(alloc, ending, rest)?;
+    Ok((Declaration::Of { data, name, shape }, rest))
 }
 
 /// Reads the ending after `void`.
@@ -287,24 +289,6 @@ fn string<'w, 't>(
     let (most, rest) = most(alloc, rest)?;
     let rest = expect(ending.mark(), rest)?;
     Ok((Declaration::String { name, most }, rest))
-}
-
-/// Reads a declaration that begins with a type, and its ending.
-#[cycle(parser)]
-fn typed<'w, 't>(
-    alloc: Global,
-    depth: u32,
-    ending: Ending,
-    tokens: &'w [Token<'t>],
-) -> Result<(Declaration, &'w [Token<'t>]), ParseError>
-    ensures read { IfOk result (λ x. IsPart (Typed depth (InDeclaration ending)) tokens.now
-        (spell_ended (view_declaration x.0) ending) x.1.now) }
-    ensures fits { IfOk result (λ x. DeclarationFits (view_declaration x.0) depth) }
-    ensures stuck { IfErr result (λ e. Fails (Typed depth (InDeclaration ending) ∷ []) tokens.now e) }
-{
-    let (data, rest) = data_type(alloc, depth, tokens)?;
-    let (name, shape, rest) = named(alloc, ending, rest)?;
-    Ok((Declaration::Of { data, name, shape }, rest))
 }
 
 /// Reads the arms of a union, its default arm and its `}`.

@@ -183,35 +183,29 @@ data_type-returns-in_default-mark t c =
       stuck = IfErr-weaker c.basic.result (λ e. (n : ℕ) (at : Context) → Fails (Typed n at ∷ []) tokens e) (λ e. (at : Context) → Fails (Typed n at ∷ []) tokens e) (λ e f. f n) c.basic.ensures.stuck;
     }
 
-pub declared-returns-in_default-mark : goal.declared-returns-in_default-mark
-declared-returns-in_default-mark t c =
+pub declared-returns-in_err-data-clause-stuck : goal.declared-returns-in_err-data-clause-stuck
+declared-returns-in_err-data-clause-stuck t c =
     let n = c.args.depth in
     let e = c.args.ending in
-    let w = c.in_ok-word.word in
-    let m = c.in-Mark.mark in
-    let same = no_keyword n e c.in_ok-word.ensures.word
-    (other_mark w m marks.Void c.in-Mark.is c.in_default-mark.not-Void)
-    (other_mark w m marks.Opaque c.in-Mark.is c.in_default-mark.not-Opaque)
-    (other_mark w m marks.String c.in-Mark.is c.in_default-mark.not-String) in
-    record {
-      read = ok_alike [] (Declared n e ∷ []) (Typed n (InDeclaration e) ∷ []) [] c.args.tokens.now (λ x. spell_ended (view_declaration x.0) e) (λ x. x.1.now) c.typed.result same c.typed.ensures.read;
-      fits = c.typed.ensures.fits;
-      stuck = err_alike (Declared n e ∷ []) (Typed n (InDeclaration e) ∷ []) c.args.tokens.now c.typed.result same c.typed.ensures.stuck;
-    }
+    let same = no_keyword n e c.in_default.ensures.none c.in_default-after.ensures.none c.in_default-after-2.ensures.none in
+    exit _ _ c.from_residual.ensures.1 (fails_alike same (c.in_err-data.ensures.stuck (InDeclaration e)))
 
-pub declared-returns-in_default : goal.declared-returns-in_default
-declared-returns-in_default t c =
+pub declared-returns-in_err-name-clause-stuck : goal.declared-returns-in_err-name-clause-stuck
+declared-returns-in_err-name-clause-stuck t c =
     let n = c.args.depth in
     let e = c.args.ending in
-    let w = c.in_ok-word.word in
-    let last = c.typed-in_default in
-    let same = no_keyword n e c.in_ok-word.ensures.word
-    (no_mark w marks.Void c.in_default.not-Mark) (no_mark w marks.Opaque c.in_default.not-Mark) (no_mark w marks.String c.in_default.not-Mark) in
-    record {
-      read = ok_alike [] (Declared n e ∷ []) (Typed n (InDeclaration e) ∷ []) [] c.args.tokens.now (λ x. spell_ended (view_declaration x.0) e) (λ x. x.1.now) last.result same last.ensures.read;
-      fits = last.ensures.fits;
-      stuck = err_alike (Declared n e ∷ []) (Typed n (InDeclaration e) ∷ []) c.args.tokens.now last.result same last.ensures.stuck;
-    }
+    let same = no_keyword n e c.in_default.ensures.none c.in_default-after.ensures.none c.in_default-after-2.ensures.none in
+    let typed = read_alike same (c.in_ok-data.ensures.read (InDeclaration e)) in
+    exit _ _ c.from_residual-in_err-name.ensures.1 (fails_then (AfterType (InDeclaration e) ∷ []) [] typed c.in_err-name.ensures.stuck)
+
+pub declared-returns-clause-read : goal.declared-returns-clause-read
+declared-returns-clause-read t c =
+    let n = c.args.depth in
+    let e = c.args.ending in
+    let same = no_keyword n e c.in_default.ensures.none c.in_default-after.ensures.none c.in_default-after-2.ensures.none in
+    let typed = read_alike same (c.in_ok-data.ensures.read (InDeclaration e)) in
+    read_as (sym (append_assoc (spell_type (view_type c.in_ok-data.data)) (spell_named c.in_ok-name.name.items (view_shape c.in_ok-name.shape)) (Fixed (ending_mark e) ∷ [])))
+    (read_then (AfterType (InDeclaration e) ∷ []) [] typed c.in_ok-name.ensures.read)
 
 pub tagged-returns-in_err-body-in_default-clause-stuck : goal.tagged-returns-in_err-body-in_default-clause-stuck
 tagged-returns-in_err-body-in_default-clause-stuck t c =
@@ -229,17 +223,6 @@ tagged-returns-in_ok-inline-in_default-clause-read t c =
 pub tagged-returns-in_ok-inline-in_default-clause-fits : goal.tagged-returns-in_ok-inline-in_default-clause-fits
 tagged-returns-in_ok-inline-in_default-clause-fits t c =
     fits_one_more _ c.args.depth c.if-depth-eq0.false (fits_inline _ _ (c.args.depth - 1) c.in_ok-inline-in_default.ensures c.in_ok-body-in_default.ensures.fits)
-
-pub typed-returns-in_err-name-clause-stuck : goal.typed-returns-in_err-name-clause-stuck
-typed-returns-in_err-name-clause-stuck t c =
-    let e = c.args.ending in
-    exit _ _ c.from_residual-in_err-name.ensures.1 (fails_then (AfterType (InDeclaration e) ∷ []) [] (c.in_ok-data.ensures.read (InDeclaration e)) c.in_err-name.ensures.stuck)
-
-pub typed-returns-clause-read : goal.typed-returns-clause-read
-typed-returns-clause-read t c =
-    let e = c.args.ending in
-    read_as (sym (append_assoc (spell_type (view_type c.in_ok-data.data)) (spell_named c.in_ok-name.name.items (view_shape c.in_ok-name.shape)) (Fixed (ending_mark e) ∷ [])))
-    (read_then (AfterType (InDeclaration e) ∷ []) [] (c.in_ok-data.ensures.read (InDeclaration e)) c.in_ok-name.ensures.read)
 
 pub arm-returns-in_err-declaration-clause-stuck : goal.arm-returns-in_err-declaration-clause-stuck
 arm-returns-in_err-declaration-clause-stuck t c =
