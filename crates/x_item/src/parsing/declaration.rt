@@ -300,9 +300,8 @@ fn arms<'w, 't>(
 ) -> Result<(Vec<Arm>, Option<Declaration>, &'w [Token<'t>]), ParseError>
     ensures read { IfOk result (λ x. IsPart (Arms depth) tokens.now
         (spell_arms (view_arms x.0.items) ++ spell_default (view_default x.1)) x.2.now) }
-    ensures some { IfOk result (λ x. HasArm (view_arms x.0.items)) }
-    ensures fits { IfOk result (λ x. ArmsFit (view_arms x.0.items) depth) }
-    ensures default_fits { IfOk result (λ x. DefaultFits (view_default x.1) depth) }
+    ensures fits { IfOk result (λ x. HasArm (view_arms x.0.items)
+        × (ArmsFit (view_arms x.0.items) depth × DefaultFits (view_default x.1) depth)) }
     ensures stuck { IfErr result (λ e. Fails (Arms depth ∷ []) tokens.now e) }
 {
     let mut left = expect(Mark::Case, tokens)?;

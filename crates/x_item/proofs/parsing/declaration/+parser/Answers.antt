@@ -82,12 +82,9 @@ arms-returns-in-Some-clause-read t c =
     let read = arms_read n c.loop-arms.arms.items c.in_ok-member.member _ c.in_ok-push.ensures.items c.loop-arms.invariant.read c.in_ok-member.ensures.read in
     read_then (MoreArms n ∷ []) [] read (read_first {from = MoreArms n ∷ []} {to = []} (Fixed marks.CloseBrace) c.in-Some.ensures.some refl (λ left code ps ss. refl))
 
-pub arms-returns-in-Some-clause-some : goal.arms-returns-in-Some-clause-some
-arms-returns-in-Some-clause-some t c = has_arm c.loop-arms.arms.items c.in_ok-member.member _ c.in_ok-push.ensures.items
-
 pub arms-returns-in-Some-clause-fits : goal.arms-returns-in-Some-clause-fits
 arms-returns-in-Some-clause-fits t c =
-    fits_arm c.args.depth c.loop-arms.arms.items c.in_ok-member.member _ c.in_ok-push.ensures.items c.loop-arms.invariant.fits c.in_ok-member.ensures.some c.in_ok-member.ensures.fits
+    (has_arm c.loop-arms.arms.items c.in_ok-member.member _ c.in_ok-push.ensures.items, (fits_arm c.args.depth c.loop-arms.arms.items c.in_ok-member.member _ c.in_ok-push.ensures.items c.loop-arms.invariant.fits c.in_ok-member.ensures.some c.in_ok-member.ensures.fits, tt))
 
 pub arms-returns-in_err-default-clause-stuck : goal.arms-returns-in_err-default-clause-stuck
 arms-returns-in_err-default-clause-stuck t c =
@@ -103,12 +100,9 @@ arms-returns-in-Some-after-clause-read t c =
     let other = read_then (MoreArms n ∷ []) [] read (read_first {from = MoreArms n ∷ []} {to = default_symbols n} (Fixed marks.Default) c.in-Some-after.ensures.some refl (λ left code ps ss. refl)) in
     read_after (default_symbols n) [] _ (Fixed marks.Default) other c.in_ok-default.ensures.read
 
-pub arms-returns-in-Some-after-clause-some : goal.arms-returns-in-Some-after-clause-some
-arms-returns-in-Some-after-clause-some t c = has_arm c.loop-arms.arms.items c.in_ok-member.member _ c.in_ok-push.ensures.items
-
 pub arms-returns-in-Some-after-clause-fits : goal.arms-returns-in-Some-after-clause-fits
 arms-returns-in-Some-after-clause-fits t c =
-    fits_arm c.args.depth c.loop-arms.arms.items c.in_ok-member.member _ c.in_ok-push.ensures.items c.loop-arms.invariant.fits c.in_ok-member.ensures.some c.in_ok-member.ensures.fits
+    (has_arm c.loop-arms.arms.items c.in_ok-member.member _ c.in_ok-push.ensures.items, (fits_arm c.args.depth c.loop-arms.arms.items c.in_ok-member.member _ c.in_ok-push.ensures.items c.loop-arms.invariant.fits c.in_ok-member.ensures.some c.in_ok-member.ensures.fits, c.in_ok-default.ensures.fits))
 
 pub arms-returns-in_err-left-2-clause-stuck : goal.arms-returns-in_err-left-2-clause-stuck
 arms-returns-in_err-left-2-clause-stuck t c =
