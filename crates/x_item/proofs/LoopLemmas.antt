@@ -264,9 +264,9 @@ pub struct_read : (n : ℕ) (xs : List Declaration) (x : Declaration) (ys : List
 struct_read n xs x ys is h r =
     read_as (ap (λ t. Fixed marks.OpenBrace ∷ t) (declarations_more xs x ys is)) (read_then (Declared n endings.Semicolon ∷ []) (MoreDeclarations n ∷ []) h r)
 
-pub arms_read : (n : ℕ) (xs : List Arm) (x : Arm) (ys : List Arm) {tokens left rest : List LexToken} → ys ≡ xs ++ x ∷ [] → IsRead [] (Arms n ∷ []) tokens (spell_arms (view_arms xs) ++ Fixed marks.Case ∷ []) (AnyValue ∷ Token marks.Colon ∷ AfterCase n ∷ MoreArms n ∷ []) left → IsRead (Fixed marks.Case ∷ []) (AnyValue ∷ Token marks.Colon ∷ AfterCase n ∷ []) left (arm_words x) [] rest → IsRead [] (Arms n ∷ []) tokens (spell_arms (view_arms ys)) (MoreArms n ∷ []) rest
+pub arms_read : (n : ℕ) (xs : List Arm) (x : Arm) (ys : List Arm) {from : List Symbol} {tokens left rest : List LexToken} → ys ≡ xs ++ x ∷ [] → IsRead [] from tokens (Fixed marks.OpenBrace ∷ (spell_arms (view_arms xs) ++ Fixed marks.Case ∷ [])) (AnyValue ∷ Token marks.Colon ∷ AfterCase n ∷ MoreArms n ∷ []) left → IsRead (Fixed marks.Case ∷ []) (AnyValue ∷ Token marks.Colon ∷ AfterCase n ∷ []) left (arm_words x) [] rest → IsRead [] from tokens (Fixed marks.OpenBrace ∷ spell_arms (view_arms ys)) (MoreArms n ∷ []) rest
 arms_read n xs x ys is h r =
-    read_as (arms_more xs x ys is) (read_after (AnyValue ∷ Token marks.Colon ∷ AfterCase n ∷ []) (MoreArms n ∷ []) (spell_arms (view_arms xs)) (Fixed marks.Case) h r)
+    read_as (ap (λ t. Fixed marks.OpenBrace ∷ t) (arms_more xs x ys is)) (read_after (AnyValue ∷ Token marks.Colon ∷ AfterCase n ∷ []) (MoreArms n ∷ []) (Fixed marks.OpenBrace ∷ spell_arms (view_arms xs)) (Fixed marks.Case) h r)
 
 -- bodies
 enum_is : (n : ℕ) (ps : List Place) (ss : List Symbol) → read (AnyBody tags.Enum n ∷ ss) ps ≡ read (Token marks.OpenBrace ∷ Enumerators ∷ ss) ps
@@ -344,10 +344,9 @@ no_keyword n e a b c =
     alike_where (λ w. (w ≢ Fixed marks.Void) × ((w ≢ Fixed marks.Opaque) × (w ≢ Fixed marks.String)))
     (λ p ps is. (a.by p ps is, (b.by p ps is, c.by p ps is))) (λ w left code ps ss h. declared_is n e w left code ps ss h.0 h.1.0 h.1.1)
 
-pub union_words : (d rest : List Word) → ((Fixed marks.Switch ∷ Fixed marks.OpenParenthesis ∷ (d ++ Fixed marks.CloseParenthesis ∷ [])) ++ Fixed marks.OpenBrace ∷ []) ++ rest ≡ Fixed marks.Switch ∷ Fixed marks.OpenParenthesis ∷ (d ++ Fixed marks.CloseParenthesis ∷ Fixed marks.OpenBrace ∷ rest)
+pub union_words : (d rest : List Word) → (Fixed marks.Switch ∷ Fixed marks.OpenParenthesis ∷ (d ++ Fixed marks.CloseParenthesis ∷ [])) ++ Fixed marks.OpenBrace ∷ rest ≡ Fixed marks.Switch ∷ Fixed marks.OpenParenthesis ∷ (d ++ Fixed marks.CloseParenthesis ∷ Fixed marks.OpenBrace ∷ rest)
 union_words d rest =
-    ap (λ t. Fixed marks.Switch ∷ Fixed marks.OpenParenthesis ∷ t)
-    (append_assoc (d ++ Fixed marks.CloseParenthesis ∷ []) (Fixed marks.OpenBrace ∷ []) rest ∙ append_assoc d (Fixed marks.CloseParenthesis ∷ []) (Fixed marks.OpenBrace ∷ rest))
+    ap (λ t. Fixed marks.Switch ∷ Fixed marks.OpenParenthesis ∷ t) (append_assoc d (Fixed marks.CloseParenthesis ∷ []) (Fixed marks.OpenBrace ∷ rest))
 
 -- what follows `unsigned`
 module _ {T : Type 0} {tokens left : List LexToken} {w : Word} (first : HasFirst tokens w left) (is : w ≡ Fixed marks.Unsigned) (r : Result T ParseError) where

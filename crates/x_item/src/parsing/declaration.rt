@@ -205,7 +205,6 @@ fn body_of_union<'w, 't>(
     let rest = expect(Mark::Switch, tokens)?;
     let rest = expect(Mark::OpenParenthesis, rest)?;
     let (discriminant, rest) = declared(alloc, depth, Ending::Parenthesis, rest)?;
-    let (discriminant, rest) = closed(discriminant, Mark::OpenBrace, rest)?;
     let (arms, default, rest) = arms(alloc, depth, rest)?;
     Ok((union_body(discriminant, arms, default), rest))
 }
@@ -291,20 +290,21 @@ fn string<'w, 't>(
     Ok((Declaration::String { name, most }, rest))
 }
 
-/// Reads the arms of a union, its default arm and its `}`.
+/// Reads the arms of a union and its default arm, with the braces around them.
 #[cycle(parser)]
 fn arms<'w, 't>(
     alloc: Global,
     depth: u32,
     tokens: &'w [Token<'t>],
 ) -> Result<(Vec<Arm>, Option<Declaration>, &'w [Token<'t>]), ParseError>
-    ensures read { IfOk result (λ x. IsPart (Arms depth) tokens.now
-        (spell_arms (view_arms x.0.items) ++ spell_default (view_default x.1)) x.2.now) }
+    ensures read { IfOk result (λ x. IsRead [] (OfMark Mark.OpenBrace ∷ Arms depth ∷ []) tokens.now (Fixed
+        Mark.OpenBrace ∷ (spell_arms (view_arms x.0.items) ++ spell_default (view_default x.1))) [] x.2.now) }
     ensures fits { IfOk result (λ x. HasArm (view_arms x.0.items)
         × (ArmsFit (view_arms x.0.items) depth × DefaultFits (view_default x.1) depth)) }
-    ensures stuck { IfErr result (λ e. Fails (Arms depth ∷ []) tokens.now e) }
+    ensures stuck { IfErr result (λ e. Fails (OfMark Mark.OpenBrace ∷ Arms depth ∷ []) tokens.now e) }
 {
-    let mut left = expect(Mark::Case, tokens)?;
+    let rest = expect(Mark::OpenBrace, tokens)?;
+    let mut left = expect(Mark::Case, rest)?;
     let mut arms = Vec::new(alloc);
     loop {
         let (member, rest) = arm(alloc, depth, left)?;

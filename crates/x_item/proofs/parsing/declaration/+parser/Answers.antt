@@ -57,17 +57,24 @@ body_of_struct-loop-members-preserved t c =
       fits = fits_declaration n c.loop-members.members.items c.in_ok-member.member _ c.in_ok-push.ensures.items c.loop-members.invariant.fits c.in_ok-member.ensures.fits;
     }
 
+pub arms-returns-in_err-rest-clause-stuck : goal.arms-returns-in_err-rest-clause-stuck
+arms-returns-in_err-rest-clause-stuck t c =
+    exit _ _ c.from_residual.ensures.1 (fails_more (Token marks.OpenBrace ∷ []) (Arms c.args.depth ∷ []) c.in_err-rest.ensures.stuck)
+
 pub arms-returns-in_err-left-clause-stuck : goal.arms-returns-in_err-left-clause-stuck
 arms-returns-in_err-left-clause-stuck t c =
     let n = c.args.depth in
-    exit _ _ c.from_residual.ensures.1 (fails_alike (of_arms n c.args.tokens.now) (fails_more (Token marks.Case ∷ []) (AnyValue ∷ Token marks.Colon ∷ AfterCase n ∷ MoreArms n ∷ []) c.in_err-left.ensures.stuck))
+    let start = read_on (read_more (Token marks.OpenBrace ∷ []) (Arms n ∷ []) c.in_ok-rest.ensures.read) (of_arms n c.in_ok-rest.rest.now) in
+    exit _ _ c.from_residual-in_err-left.ensures.1 (fails_then (Token marks.Case ∷ []) (AnyValue ∷ Token marks.Colon ∷ AfterCase n ∷ MoreArms n ∷ []) start c.in_err-left.ensures.stuck)
 
 pub arms-loop-arms-init : goal.arms-loop-arms-init
 arms-loop-arms-init t c =
     let n = c.args.depth in
     let none = sym c.new-arms.ensures.items in
+    let start = read_on (read_more (Token marks.OpenBrace ∷ []) (Arms n ∷ []) c.in_ok-rest.ensures.read) (of_arms n c.in_ok-rest.rest.now) in
+    let case = read_then (Token marks.Case ∷ []) (AnyValue ∷ Token marks.Colon ∷ AfterCase n ∷ MoreArms n ∷ []) start c.in_ok-left.ensures.read in
     record {
-      read = read_as (ap (λ arms. spell_arms (view_arms arms) ++ Fixed marks.Case ∷ []) none) (read_alike (of_arms n c.args.tokens.now) (read_more (Token marks.Case ∷ []) (AnyValue ∷ Token marks.Colon ∷ AfterCase n ∷ MoreArms n ∷ []) c.in_ok-left.ensures.read));
+      read = read_as (ap (λ arms. Fixed marks.OpenBrace ∷ (spell_arms (view_arms arms) ++ Fixed marks.Case ∷ [])) none) case;
       fits = subst (λ arms. ArmsFit (view_arms arms) n) none tt;
     }
 
@@ -98,7 +105,7 @@ arms-returns-in-Some-after-clause-read t c =
     let n = c.args.depth in
     let read = arms_read n c.loop-arms.arms.items c.in_ok-member.member _ c.in_ok-push.ensures.items c.loop-arms.invariant.read c.in_ok-member.ensures.read in
     let other = read_then (MoreArms n ∷ []) [] read (read_first {from = MoreArms n ∷ []} {to = default_symbols n} (Fixed marks.Default) c.in-Some-after.ensures.some refl (λ left code ps ss. refl)) in
-    read_after (default_symbols n) [] _ (Fixed marks.Default) other c.in_ok-default.ensures.read
+    read_after (default_symbols n) [] (Fixed marks.OpenBrace ∷ spell_arms (view_arms c.push.new.self.items)) (Fixed marks.Default) other c.in_ok-default.ensures.read
 
 pub arms-returns-in-Some-after-clause-fits : goal.arms-returns-in-Some-after-clause-fits
 arms-returns-in-Some-after-clause-fits t c =
@@ -139,22 +146,13 @@ body_of_union-returns-in_err-discriminant-clause-stuck t c =
     let opened = read_then (Token marks.OpenParenthesis ∷ []) (Declared n endings.Parenthesis ∷ Token marks.OpenBrace ∷ Arms n ∷ []) start c.in_ok-rest-2.ensures.read in
     exit _ _ c.from_residual-in_err-discriminant.ensures.1 (fails_then (Declared n endings.Parenthesis ∷ []) (Token marks.OpenBrace ∷ Arms n ∷ []) opened c.in_err-discriminant.ensures.stuck)
 
-pub body_of_union-returns-in_err-discriminant-2-clause-stuck : goal.body_of_union-returns-in_err-discriminant-2-clause-stuck
-body_of_union-returns-in_err-discriminant-2-clause-stuck t c =
-    let n = c.args.depth in
-    let start = read_alike (of_union n c.args.tokens.now) (read_more (Token marks.Switch ∷ []) (Token marks.OpenParenthesis ∷ Declared n endings.Parenthesis ∷ Token marks.OpenBrace ∷ Arms n ∷ []) c.in_ok-rest.ensures.read) in
-    let opened = read_then (Token marks.OpenParenthesis ∷ []) (Declared n endings.Parenthesis ∷ Token marks.OpenBrace ∷ Arms n ∷ []) start c.in_ok-rest-2.ensures.read in
-    let told = read_then (Declared n endings.Parenthesis ∷ []) (Token marks.OpenBrace ∷ Arms n ∷ []) opened c.in_ok-discriminant.ensures.read in
-    exit _ _ c.from_residual-in_err-discriminant-2.ensures.1 (fails_then (Token marks.OpenBrace ∷ []) (Arms n ∷ []) told c.in_err-discriminant-2.ensures.stuck)
-
 pub body_of_union-returns-in_err-arms-clause-stuck : goal.body_of_union-returns-in_err-arms-clause-stuck
 body_of_union-returns-in_err-arms-clause-stuck t c =
     let n = c.args.depth in
     let start = read_alike (of_union n c.args.tokens.now) (read_more (Token marks.Switch ∷ []) (Token marks.OpenParenthesis ∷ Declared n endings.Parenthesis ∷ Token marks.OpenBrace ∷ Arms n ∷ []) c.in_ok-rest.ensures.read) in
     let opened = read_then (Token marks.OpenParenthesis ∷ []) (Declared n endings.Parenthesis ∷ Token marks.OpenBrace ∷ Arms n ∷ []) start c.in_ok-rest-2.ensures.read in
     let told = read_then (Declared n endings.Parenthesis ∷ []) (Token marks.OpenBrace ∷ Arms n ∷ []) opened c.in_ok-discriminant.ensures.read in
-    let within = read_then (Token marks.OpenBrace ∷ []) (Arms n ∷ []) told c.in_ok-discriminant-2.ensures.read in
-    exit _ _ c.from_residual-in_err-arms.ensures.1 (fails_then (Arms n ∷ []) [] within c.in_err-arms.ensures.stuck)
+    exit _ _ c.from_residual-in_err-arms.ensures.1 (fails_then (Token marks.OpenBrace ∷ Arms n ∷ []) [] told c.in_err-arms.ensures.stuck)
 
 pub body_of_union-returns-clause-read : goal.body_of_union-returns-clause-read
 body_of_union-returns-clause-read t c =
@@ -162,9 +160,11 @@ body_of_union-returns-clause-read t c =
     let start = read_alike (of_union n c.args.tokens.now) (read_more (Token marks.Switch ∷ []) (Token marks.OpenParenthesis ∷ Declared n endings.Parenthesis ∷ Token marks.OpenBrace ∷ Arms n ∷ []) c.in_ok-rest.ensures.read) in
     let opened = read_then (Token marks.OpenParenthesis ∷ []) (Declared n endings.Parenthesis ∷ Token marks.OpenBrace ∷ Arms n ∷ []) start c.in_ok-rest-2.ensures.read in
     let told = read_then (Declared n endings.Parenthesis ∷ []) (Token marks.OpenBrace ∷ Arms n ∷ []) opened c.in_ok-discriminant.ensures.read in
-    let within = read_then (Token marks.OpenBrace ∷ []) (Arms n ∷ []) told c.in_ok-discriminant-2.ensures.read in
-    let made = rw c.in_ok-discriminant-2.ensures.value at c.union_body.ensures in
-    read_as (union_words _ _ ∙ ap spell_body (sym made)) (read_then (Arms n ∷ []) [] within c.in_ok-arms.ensures.read)
+    read_as (union_words _ _ ∙ ap spell_body (sym c.union_body.ensures)) (read_then (Token marks.OpenBrace ∷ Arms n ∷ []) [] told c.in_ok-arms.ensures.read)
+
+pub body_of_union-returns-clause-fits : goal.body_of_union-returns-clause-fits
+body_of_union-returns-clause-fits t c =
+    subst (λ body. BodyFits body c.args.depth) (sym c.union_body.ensures) (c.in_ok-discriminant.ensures.fits, c.in_ok-arms.ensures.fits)
 
 pub data_type-returns-in_default-mark : goal.data_type-returns-in_default-mark
 data_type-returns-in_default-mark t c =

@@ -47,7 +47,7 @@ decreases-body_of_struct-loop-members l = length l.left
 
 abbrev pub invariant-arms-loop-arms : goal.invariant-arms-loop-arms
 invariant-arms-loop-arms l = record {
-  read : IsRead [] (Arms l.depth ∷ []) l.tokens (spell_arms (view_arms l.arms.items) ++ Fixed marks.Case ∷ []) (AnyValue ∷ Token marks.Colon ∷ AfterCase l.depth ∷ MoreArms l.depth ∷ []) l.left;
+  read : IsRead [] (Token marks.OpenBrace ∷ Arms l.depth ∷ []) l.tokens (Fixed marks.OpenBrace ∷ (spell_arms (view_arms l.arms.items) ++ Fixed marks.Case ∷ [])) (AnyValue ∷ Token marks.Colon ∷ AfterCase l.depth ∷ MoreArms l.depth ∷ []) l.left;
   fits : ArmsFit (view_arms l.arms.items) l.depth;
 }
 
