@@ -8,9 +8,9 @@ use Rattle.x_item.specs.View.{view_type, view_body, view_shape, view_declaration
 use Rattle.x_lex.specs.declared.mark.Mark.TheVariants as marks
 use Rattle.x_item.specs.declared.parsing.ending.Ending.TheVariants as endings
 use Rattle.x_item.specs.Symbols.{Context, AnyValue, Token, AfterCase, MoreArms, Declared, Declarations, MoreDeclarations, Arms, InDeclaration, AfterType, Typed, ending_mark}
-use Rattle.x_item.specs.Reading.{spell_ended, IsRead, Fails}
-use Rattle.x_item.proofs.ReadLemmas.{exit, read_first, fails_alike, fails_more, fails_then, read_alike, read_as, read_more, read_on, read_then, read_after, ok_alike, err_alike, read_after_word}
-use Rattle.x_item.proofs.LoopLemmas.{other_mark, no_mark, of_struct, of_union, union_words, of_declarations, more_declarations, default_symbols, struct_read, arms_read, has_declaration, fits_declaration, of_arms, more_arms, arms_more, has_arm, fits_arm, no_keyword, no_tag_name, fits_one_more, fits_inline}
+use Rattle.x_item.specs.Reading.{IsRead, Fails}
+use Rattle.x_item.proofs.ReadLemmas.{exit, read_first, fails_alike, fails_more, fails_then, read_alike, read_as, read_more, read_on, read_then, read_after, read_after_word}
+use Rattle.x_item.proofs.LoopLemmas.{of_struct, of_union, union_words, of_declarations, more_declarations, default_symbols, struct_read, arms_read, has_declaration, fits_declaration, of_arms, more_arms, has_arm, fits_arm, no_keyword, no_tag_name, fits_one_more, fits_inline}
 use Rattle.x_item.proofs.parsing.declaration.+parser.Goals as goal
 
 pub body_of_struct-returns-in_err-left-clause-stuck : goal.body_of_struct-returns-in_err-left-clause-stuck
