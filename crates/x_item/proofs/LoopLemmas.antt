@@ -28,16 +28,7 @@ use Rattle.x_item.specs.Symbols.{Symbol, Context, InDeclaration, Token, AnyName,
 use Rattle.x_item.specs.Reading.{view_word, Place, HasFirst, LacksFirst, IsRead, Fails, read, spell_ended, spell_arm}
 use Rattle.x_item.proofs.ReadLemmas.{Alike, alike, alike_first, alike_where, alike_other, alike_neither, headed, read_as, read_first, read_then, read_after, fails_then}
 
--- no mark is another, and no word that is no mark is one
-pub other_mark : (w : source.Word) (m k : Mark) → w ≡ words.Mark m → m ≢ k → view_word w ≢ Fixed k
-other_mark w m k is h e = let same : Fixed m ≡ Fixed k = sym (ap view_word is) ∙ e in h cc
-
-pub no_mark : (w : source.Word) (k : Mark) → ((m : Mark) → w ≢ words.Mark m) → view_word w ≢ Fixed k
-no_mark (words.Mark m) k h e = h m refl
-no_mark (words.Name t) k h e = cc
-no_mark (words.Number t) k h e = cc
-no_mark words.Other k h e = cc
-
+-- no word that is no name is one
 not_name : (w : source.Word) → ((t : _) → w ≢ words.Name t) → (u : List ℕ) → view_word w ≢ Name u
 not_name (words.Name t) h u e = h t refl
 not_name (words.Mark t) h u e = cc
@@ -100,13 +91,6 @@ enumerators_is (p ∷ ps) ss = by p.word p.left p.code
 
 pub of_enumerator : (tokens : List LexToken) → Alike (Enumerators ∷ []) (AnyName ∷ AfterEnumerator ∷ []) tokens
 of_enumerator tokens = alike tokens enumerators_is
-
-no_value_is : (w : Word) (left : ℕ) (code : FaultCode) (ps : List Place) (ss : List Symbol) → w ≢ Fixed marks.Equals → read (AfterEnumerator ∷ ss) (headed w left code ps) ≡ read (MoreEnumerators ∷ ss) (headed w left code ps)
-no_value_is (Fixed marks.Equals) left code ps ss h = absurd (h refl)
-no_value_is w left code ps ss h = refl
-
-pub no_value : {tokens : List LexToken} → LacksFirst tokens (Fixed marks.Equals) → Alike (AfterEnumerator ∷ []) (MoreEnumerators ∷ []) tokens
-no_value other = alike_other other no_value_is
 
 more_enumerators_is : (w : Word) (left : ℕ) (code : FaultCode) (ps : List Place) (ss : List Symbol) → w ≢ Fixed marks.CloseBrace → read (MoreEnumerators ∷ ss) (headed w left code ps) ≡ read (Token marks.Comma ∷ Enumerators ∷ ss) (headed w left code ps)
 more_enumerators_is (Fixed marks.CloseBrace) left code ps ss h = absurd (h refl)
@@ -323,10 +307,6 @@ pub fits_one_more : (t : tree.DataType) (n : ℕ) → n ≢ 0 → TypeFits t (n 
 fits_one_more t n some h = let e : n - 1 + 1 ≡ n = omega arith in subst (TypeFits t) e h
 
 -- an inline type
-pub found_inline : (t : tree.DataType) (b : tree.Body) (tag : Tag) (ws rest : List Word) → t ≡ tree.Inline b → body_mark b ≡ tag_mark tag → ws ≡ spell_body b ++ rest → Fixed (tag_mark tag) ∷ ws ≡ spell_type t ++ rest
-found_inline t b tag ws rest is of found =
-    ap (λ m. Fixed m ∷ ws) (sym of) ∙ ap (λ x. Fixed (body_mark b) ∷ x) found ∙ ap (λ y. spell_type y ++ rest) (sym is)
-
 pub fits_inline : (t : tree.DataType) (b : tree.Body) (n : ℕ) → t ≡ tree.Inline b → BodyFits b n → TypeFits t (n + 1)
 fits_inline t b n is fits =
     let e : suc n ≡ n + 1 = omega arith in

@@ -135,14 +135,6 @@ read_after_word x r = record { found = ap (λ t. x ∷ t) r.found; leads = r.lea
 pub not_mark : {r : Bool} {w : Word} {m : Mark} → IsTrue r ↔ (w ≡ Fixed m) → r ≡ false → w ≢ Fixed m
 not_mark both off is = let on = both.1 is in cc
 
--- what a last call says, of symbols by which the tokens are read alike
-pub ok_alike : (before : List Word) (from by to : List Symbol) (tokens : List Token) {T : Type 0} (words : T → List Word) (rest : T → List Token) (r : Result T ParseError) → Alike from by tokens → IfOk r (λ x. IsRead before by tokens (words x) to (rest x)) → IfOk r (λ x. IsRead before from tokens (words x) to (rest x))
-ok_alike before from by to tokens words rest r same h =
-    IfOk-weaker r (λ x. IsRead before by tokens (words x) to (rest x)) (λ x. IsRead before from tokens (words x) to (rest x)) (λ x p. read_alike same p) h
-
-pub err_alike : (from by : List Symbol) (tokens : List Token) {T : Type 0} (r : Result T ParseError) → Alike from by tokens → IfErr r (λ e. Fails by tokens e) → IfErr r (λ e. Fails from tokens e)
-err_alike from by tokens r same h = IfErr-weaker r (λ e. Fails by tokens e) (λ e. Fails from tokens e) (λ e f. fails_alike same f) h
-
 -- what holds of a value that is given back
 pub ok_of : {T E Q : Type 0} (P : T → Type 0) (r : Result T E) (value : T) → IfOk r (λ x. x ≡ value) → IfOk r (λ x. Q) → (Q → P value) → IfOk r P
 ok_of P (Ok x) value is q p = subst P (sym is) (p q)
