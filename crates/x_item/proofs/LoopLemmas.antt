@@ -26,18 +26,9 @@ use Rattle.x_item.specs.declared.parsing.parse_error.ParseError.{ParseError}
 use Rattle.x_item.specs.declared.parsing.parse_error.ParseError.TheVariants as errors
 use Rattle.x_item.specs.Symbols.{Symbol, Context, InDeclaration, Token, AnyName, AnyValue, AnyLength, AfterLess, AfterName, AfterType, AfterUnsigned, Typed, AfterTag, AnyBody, Enumerators, AfterEnumerator, MoreEnumerators, Declared, Declarations, MoreDeclarations, Arms, AfterCase, MoreArms, ending_mark, followed, go, step_declared}
 use Rattle.x_item.specs.Reading.{view_word, Place, HasFirst, LacksFirst, IsRead, Fails, read, spell_ended, spell_arm}
-use Rattle.x_item.proofs.ReadLemmas.{Alike, alike, alike_first, alike_other, alike_neither, headed, read_as, read_first, read_then, read_after, fails_then}
+use Rattle.x_item.proofs.ReadLemmas.{Alike, alike, alike_first, alike_where, alike_other, alike_neither, headed, read_as, read_first, read_then, read_after, fails_then}
 
--- no mark is another, and no word that is no mark is one
-pub other_mark : (w : source.Word) (m k : Mark) → w ≡ words.Mark m → m ≢ k → view_word w ≢ Fixed k
-other_mark w m k is h e = let same : Fixed m ≡ Fixed k = sym (ap view_word is) ∙ e in h cc
-
-pub no_mark : (w : source.Word) (k : Mark) → ((m : Mark) → w ≢ words.Mark m) → view_word w ≢ Fixed k
-no_mark (words.Mark m) k h e = h m refl
-no_mark (words.Name t) k h e = cc
-no_mark (words.Number t) k h e = cc
-no_mark words.Other k h e = cc
-
+-- no word that is no name is one
 not_name : (w : source.Word) → ((t : _) → w ≢ words.Name t) → (u : List ℕ) → view_word w ≢ Name u
 not_name (words.Name t) h u e = h t refl
 not_name (words.Mark t) h u e = cc
@@ -100,13 +91,6 @@ enumerators_is (p ∷ ps) ss = by p.word p.left p.code
 
 pub of_enumerator : (tokens : List LexToken) → Alike (Enumerators ∷ []) (AnyName ∷ AfterEnumerator ∷ []) tokens
 of_enumerator tokens = alike tokens enumerators_is
-
-no_value_is : (w : Word) (left : ℕ) (code : FaultCode) (ps : List Place) (ss : List Symbol) → w ≢ Fixed marks.Equals → read (AfterEnumerator ∷ ss) (headed w left code ps) ≡ read (MoreEnumerators ∷ ss) (headed w left code ps)
-no_value_is (Fixed marks.Equals) left code ps ss h = absurd (h refl)
-no_value_is w left code ps ss h = refl
-
-pub no_value : {tokens : List LexToken} → LacksFirst tokens (Fixed marks.Equals) → Alike (AfterEnumerator ∷ []) (MoreEnumerators ∷ []) tokens
-no_value other = alike_other other no_value_is
 
 more_enumerators_is : (w : Word) (left : ℕ) (code : FaultCode) (ps : List Place) (ss : List Symbol) → w ≢ Fixed marks.CloseBrace → read (MoreEnumerators ∷ ss) (headed w left code ps) ≡ read (Token marks.Comma ∷ Enumerators ∷ ss) (headed w left code ps)
 more_enumerators_is (Fixed marks.CloseBrace) left code ps ss h = absurd (h refl)
@@ -264,9 +248,9 @@ pub struct_read : (n : ℕ) (xs : List Declaration) (x : Declaration) (ys : List
 struct_read n xs x ys is h r =
     read_as (ap (λ t. Fixed marks.OpenBrace ∷ t) (declarations_more xs x ys is)) (read_then (Declared n endings.Semicolon ∷ []) (MoreDeclarations n ∷ []) h r)
 
-pub arms_read : (n : ℕ) (xs : List Arm) (x : Arm) (ys : List Arm) {tokens left rest : List LexToken} → ys ≡ xs ++ x ∷ [] → IsRead [] (Arms n ∷ []) tokens (spell_arms (view_arms xs) ++ Fixed marks.Case ∷ []) (AnyValue ∷ Token marks.Colon ∷ AfterCase n ∷ MoreArms n ∷ []) left → IsRead (Fixed marks.Case ∷ []) (AnyValue ∷ Token marks.Colon ∷ AfterCase n ∷ []) left (arm_words x) [] rest → IsRead [] (Arms n ∷ []) tokens (spell_arms (view_arms ys)) (MoreArms n ∷ []) rest
+pub arms_read : (n : ℕ) (xs : List Arm) (x : Arm) (ys : List Arm) {from : List Symbol} {tokens left rest : List LexToken} → ys ≡ xs ++ x ∷ [] → IsRead [] from tokens (Fixed marks.OpenBrace ∷ (spell_arms (view_arms xs) ++ Fixed marks.Case ∷ [])) (AnyValue ∷ Token marks.Colon ∷ AfterCase n ∷ MoreArms n ∷ []) left → IsRead (Fixed marks.Case ∷ []) (AnyValue ∷ Token marks.Colon ∷ AfterCase n ∷ []) left (arm_words x) [] rest → IsRead [] from tokens (Fixed marks.OpenBrace ∷ spell_arms (view_arms ys)) (MoreArms n ∷ []) rest
 arms_read n xs x ys is h r =
-    read_as (arms_more xs x ys is) (read_after (AnyValue ∷ Token marks.Colon ∷ AfterCase n ∷ []) (MoreArms n ∷ []) (spell_arms (view_arms xs)) (Fixed marks.Case) h r)
+    read_as (ap (λ t. Fixed marks.OpenBrace ∷ t) (arms_more xs x ys is)) (read_after (AnyValue ∷ Token marks.Colon ∷ AfterCase n ∷ []) (MoreArms n ∷ []) (Fixed marks.OpenBrace ∷ spell_arms (view_arms xs)) (Fixed marks.Case) h r)
 
 -- bodies
 enum_is : (n : ℕ) (ps : List Place) (ss : List Symbol) → read (AnyBody tags.Enum n ∷ ss) ps ≡ read (Token marks.OpenBrace ∷ Enumerators ∷ ss) ps
@@ -323,10 +307,6 @@ pub fits_one_more : (t : tree.DataType) (n : ℕ) → n ≢ 0 → TypeFits t (n 
 fits_one_more t n some h = let e : n - 1 + 1 ≡ n = omega arith in subst (TypeFits t) e h
 
 -- an inline type
-pub found_inline : (t : tree.DataType) (b : tree.Body) (tag : Tag) (ws rest : List Word) → t ≡ tree.Inline b → body_mark b ≡ tag_mark tag → ws ≡ spell_body b ++ rest → Fixed (tag_mark tag) ∷ ws ≡ spell_type t ++ rest
-found_inline t b tag ws rest is of found =
-    ap (λ m. Fixed m ∷ ws) (sym of) ∙ ap (λ x. Fixed (body_mark b) ∷ x) found ∙ ap (λ y. spell_type y ++ rest) (sym is)
-
 pub fits_inline : (t : tree.DataType) (b : tree.Body) (n : ℕ) → t ≡ tree.Inline b → BodyFits b n → TypeFits t (n + 1)
 fits_inline t b n is fits =
     let e : suc n ≡ n + 1 = omega arith in
@@ -339,13 +319,14 @@ declared_is n e (Fixed marks.Opaque) left code ps ss a b c = absurd (b refl)
 declared_is n e (Fixed marks.String) left code ps ss a b c = absurd (c refl)
 declared_is n e w left code ps ss a b c = refl
 
-pub no_keyword : (n : ℕ) (e : Ending) {tokens rest : List LexToken} {w : Word} → HasFirst tokens w rest → w ≢ Fixed marks.Void → w ≢ Fixed marks.Opaque → w ≢ Fixed marks.String → Alike (Declared n e ∷ []) (Typed n (InDeclaration e) ∷ []) tokens
-no_keyword n e {w = w} first a b c = alike_first first (λ left code ps ss. declared_is n e w left code ps ss a b c)
+pub no_keyword : (n : ℕ) (e : Ending) {tokens : List LexToken} → LacksFirst tokens (Fixed marks.Void) → LacksFirst tokens (Fixed marks.Opaque) → LacksFirst tokens (Fixed marks.String) → Alike (Declared n e ∷ []) (Typed n (InDeclaration e) ∷ []) tokens
+no_keyword n e a b c =
+    alike_where (λ w. (w ≢ Fixed marks.Void) × ((w ≢ Fixed marks.Opaque) × (w ≢ Fixed marks.String)))
+    (λ p ps is. (a.by p ps is, (b.by p ps is, c.by p ps is))) (λ w left code ps ss h. declared_is n e w left code ps ss h.0 h.1.0 h.1.1)
 
-pub union_words : (d rest : List Word) → ((Fixed marks.Switch ∷ Fixed marks.OpenParenthesis ∷ (d ++ Fixed marks.CloseParenthesis ∷ [])) ++ Fixed marks.OpenBrace ∷ []) ++ rest ≡ Fixed marks.Switch ∷ Fixed marks.OpenParenthesis ∷ (d ++ Fixed marks.CloseParenthesis ∷ Fixed marks.OpenBrace ∷ rest)
+pub union_words : (d rest : List Word) → (Fixed marks.Switch ∷ Fixed marks.OpenParenthesis ∷ (d ++ Fixed marks.CloseParenthesis ∷ [])) ++ Fixed marks.OpenBrace ∷ rest ≡ Fixed marks.Switch ∷ Fixed marks.OpenParenthesis ∷ (d ++ Fixed marks.CloseParenthesis ∷ Fixed marks.OpenBrace ∷ rest)
 union_words d rest =
-    ap (λ t. Fixed marks.Switch ∷ Fixed marks.OpenParenthesis ∷ t)
-    (append_assoc (d ++ Fixed marks.CloseParenthesis ∷ []) (Fixed marks.OpenBrace ∷ []) rest ∙ append_assoc d (Fixed marks.CloseParenthesis ∷ []) (Fixed marks.OpenBrace ∷ rest))
+    ap (λ t. Fixed marks.Switch ∷ Fixed marks.OpenParenthesis ∷ t) (append_assoc d (Fixed marks.CloseParenthesis ∷ []) (Fixed marks.OpenBrace ∷ rest))
 
 -- what follows `unsigned`
 module _ {T : Type 0} {tokens left : List LexToken} {w : Word} (first : HasFirst tokens w left) (is : w ≡ Fixed marks.Unsigned) (r : Result T ParseError) where

@@ -47,18 +47,19 @@ alike_first {from} {to} {tokens} {rest} h is = record {
   by = λ ss. ap (read (from ++ ss)) h.found ∙ is (left_in tokens) (code_in tokens) (ahead rest) ss ∙ ap (read (to ++ ss)) (sym h.found);
 }
 
--- so are tokens that do not begin with this word, or with either of these
+-- so are tokens whose first word, if there is one, is of a kind; and those that do not begin with this word, or with either of these
 unlike : (s u : Symbol) (from to : List Symbol) (P : Word → Type 0) → ((x : Word) (left : ℕ) (code : FaultCode) (ps : List Place) (ss : List Symbol) → P x → read (s ∷ (from ++ ss)) (headed x left code ps) ≡ read (u ∷ (to ++ ss)) (headed x left code ps)) → (ps : List Place) (ss : List Symbol) → ((p : Place) (qs : List Place) → ps ≡ p ∷ qs → P p.word) → read (s ∷ (from ++ ss)) ps ≡ read (u ∷ (to ++ ss)) ps
 unlike s u from to P is [] ss h = refl
 unlike s u from to P is (p ∷ ps) ss h = is p.word p.left p.code ps ss (h p ps refl)
 
+pub alike_where : (P : Word → Type 0) {s u : Symbol} {from to : List Symbol} {tokens : List Token} → ((p : Place) (qs : List Place) → ahead tokens ≡ p ∷ qs → P p.word) → ((x : Word) (left : ℕ) (code : FaultCode) (ps : List Place) (ss : List Symbol) → P x → read (s ∷ (from ++ ss)) (headed x left code ps) ≡ read (u ∷ (to ++ ss)) (headed x left code ps)) → Alike (s ∷ from) (u ∷ to) tokens
+alike_where P {s} {u} {from} {to} {tokens} h is = record { by = λ ss. unlike s u from to P is (ahead tokens) ss h }
+
 pub alike_other : {s u : Symbol} {from to : List Symbol} {tokens : List Token} {w : Word} → LacksFirst tokens w → ((x : Word) (left : ℕ) (code : FaultCode) (ps : List Place) (ss : List Symbol) → x ≢ w → read (s ∷ (from ++ ss)) (headed x left code ps) ≡ read (u ∷ (to ++ ss)) (headed x left code ps)) → Alike (s ∷ from) (u ∷ to) tokens
-alike_other {s} {u} {from} {to} {tokens} {w} h is = record { by = λ ss. unlike s u from to (λ x. x ≢ w) is (ahead tokens) ss h.by }
+alike_other {w = w} h is = alike_where (λ x. x ≢ w) h.by is
 
 pub alike_neither : {s u : Symbol} {from to : List Symbol} {tokens : List Token} {w v : Word} → LacksFirst tokens w → LacksFirst tokens v → ((x : Word) (left : ℕ) (code : FaultCode) (ps : List Place) (ss : List Symbol) → (x ≢ w) × (x ≢ v) → read (s ∷ (from ++ ss)) (headed x left code ps) ≡ read (u ∷ (to ++ ss)) (headed x left code ps)) → Alike (s ∷ from) (u ∷ to) tokens
-alike_neither {s} {u} {from} {to} {tokens} {w} {v} h g is = record {
-  by = λ ss. unlike s u from to (λ x. (x ≢ w) × (x ≢ v)) is (ahead tokens) ss (λ p ps e. (h.by p ps e, g.by p ps e));
-}
+alike_neither {w = w} {v} h g is = alike_where (λ x. (x ≢ w) × (x ≢ v)) (λ p ps e. (h.by p ps e, g.by p ps e)) is
 
 pub fails_alike : {from to : List Symbol} {tokens : List Token} {e : ParseError} → Alike from to tokens → Fails to tokens e → Fails from tokens e
 fails_alike {e = e} is f = record { by = λ ss. at_along e _ _ (is.by ss) (f.by ss) }
@@ -133,14 +134,6 @@ read_after_word x r = record { found = ap (λ t. x ∷ t) r.found; leads = r.lea
 -- what a test for a mark says
 pub not_mark : {r : Bool} {w : Word} {m : Mark} → IsTrue r ↔ (w ≡ Fixed m) → r ≡ false → w ≢ Fixed m
 not_mark both off is = let on = both.1 is in cc
-
--- what a last call says, of symbols by which the tokens are read alike
-pub ok_alike : (before : List Word) (from by to : List Symbol) (tokens : List Token) {T : Type 0} (words : T → List Word) (rest : T → List Token) (r : Result T ParseError) → Alike from by tokens → IfOk r (λ x. IsRead before by tokens (words x) to (rest x)) → IfOk r (λ x. IsRead before from tokens (words x) to (rest x))
-ok_alike before from by to tokens words rest r same h =
-    IfOk-weaker r (λ x. IsRead before by tokens (words x) to (rest x)) (λ x. IsRead before from tokens (words x) to (rest x)) (λ x p. read_alike same p) h
-
-pub err_alike : (from by : List Symbol) (tokens : List Token) {T : Type 0} (r : Result T ParseError) → Alike from by tokens → IfErr r (λ e. Fails by tokens e) → IfErr r (λ e. Fails from tokens e)
-err_alike from by tokens r same h = IfErr-weaker r (λ e. Fails by tokens e) (λ e. Fails from tokens e) (λ e f. fails_alike same f) h
 
 -- what holds of a value that is given back
 pub ok_of : {T E Q : Type 0} (P : T → Type 0) (r : Result T E) (value : T) → IfOk r (λ x. x ≡ value) → IfOk r (λ x. Q) → (Q → P value) → IfOk r P

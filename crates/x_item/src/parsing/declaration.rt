@@ -207,7 +207,6 @@ fn body_of_union<'w, 't>(
     let rest = expect(Mark::Switch, tokens)?;
     let rest = expect(Mark::OpenParenthesis, rest)?;
     let (discriminant, rest) = declared(alloc, depth, Ending::Parenthesis, rest)?;
-    let (discriminant, rest) = closed(discriminant, Mark::OpenBrace, rest)?;
     let (arms, default, rest) = arms(alloc, depth, rest)?;
     Ok((union_body(alloc, discriminant, arms, default)?, rest))
 }
@@ -225,16 +224,18 @@ pub fn declared<'w, 't>(
     ensures fits { IfOk result (λ x. DeclarationFits (view_declaration x.0) depth) }
     ensures stuck { IfErr result (λ e. Fails (Declared depth ending ∷ []) tokens.now e) }
 {
-    let (word, rest) = first(tokens)?;
-    match word {
-        Word::Mark(mark) => match mark {
-            Mark::Void => nothing(ending, rest),
-            Mark::Opaque => opaque(alloc, ending, rest),
-            Mark::String => string(alloc, ending, rest),
-            _ => typed(alloc, depth, ending, tokens),
-        },
-        _ => typed(alloc, depth, ending, tokens),
+    if let Some(rest) = after(Mark::Void, tokens) {
+        return nothing(ending, rest);
     }
+    if let Some(rest) = after(Mark::Opaque, tokens) {
+        return opaque(alloc, ending, rest);
+    }
+    if let Some(rest) = after(Mark::String, tokens) {
+        return string(alloc, ending, rest);
+    }
+    let (data, rest) = data_type(alloc, depth, tokens)?;
+    let (name, shape, rest) = named(alloc, ending, rest)?;
+    Ok((Declaration::Of { data, name, shape }, rest))
 }
 
 /// Reads the ending after `void`.
@@ -291,39 +292,21 @@ fn string<'w, 't>(
     Ok((Declaration::String { name, most }, rest))
 }
 
-/// Reads a declaration that begins with a type, and its ending.
-#[cycle(parser)]
-fn typed<'w, 't>(
-    alloc: Global,
-    depth: u32,
-    ending: Ending,
-    tokens: &'w [Token<'t>],
-) -> Result<(Declaration, &'w [Token<'t>]), ParseError>
-    ensures read { IfOk result (λ x. IsPart (Typed depth (InDeclaration ending)) tokens.now
-        (spell_ended (view_declaration x.0) ending) x.1.now) }
-    ensures fits { IfOk result (λ x. DeclarationFits (view_declaration x.0) depth) }
-    ensures stuck { IfErr result (λ e. Fails (Typed depth (InDeclaration ending) ∷ []) tokens.now e) }
-{
-    let (data, rest) = data_type(alloc, depth, tokens)?;
-    let (name, shape, rest) = named(alloc, ending, rest)?;
-    Ok((Declaration::Of { data, name, shape }, rest))
-}
-
-/// Reads the arms of a union, its default arm and its `}`.
+/// Reads the arms of a union and its default arm, with the braces around them.
 #[cycle(parser)]
 fn arms<'w, 't>(
     alloc: Global,
     depth: u32,
     tokens: &'w [Token<'t>],
 ) -> Result<(Vec<Arm>, Option<Declaration>, &'w [Token<'t>]), ParseError>
-    ensures read { IfOk result (λ x. IsPart (Arms depth) tokens.now
-        (spell_arms (view_arms x.0.items) ++ spell_default (view_default x.1)) x.2.now) }
-    ensures some { IfOk result (λ x. HasArm (view_arms x.0.items)) }
-    ensures fits { IfOk result (λ x. ArmsFit (view_arms x.0.items) depth) }
-    ensures default_fits { IfOk result (λ x. DefaultFits (view_default x.1) depth) }
-    ensures stuck { IfErr result (λ e. Fails (Arms depth ∷ []) tokens.now e) }
+    ensures read { IfOk result (λ x. IsRead [] (OfMark Mark.OpenBrace ∷ Arms depth ∷ []) tokens.now (Fixed
+        Mark.OpenBrace ∷ (spell_arms (view_arms x.0.items) ++ spell_default (view_default x.1))) [] x.2.now) }
+    ensures fits { IfOk result (λ x. HasArm (view_arms x.0.items)
+        × (ArmsFit (view_arms x.0.items) depth × DefaultFits (view_default x.1) depth)) }
+    ensures stuck { IfErr result (λ e. Fails (OfMark Mark.OpenBrace ∷ Arms depth ∷ []) tokens.now e) }
 {
-    let mut left = expect(Mark::Case, tokens)?;
+    let rest = expect(Mark::OpenBrace, tokens)?;
+    let mut left = expect(Mark::Case, rest)?;
     let mut arms = Vec::new(alloc);
     loop {
         let (member, rest) = arm(alloc, depth, left)?;

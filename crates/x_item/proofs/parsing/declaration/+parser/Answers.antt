@@ -8,9 +8,9 @@ use Rattle.x_item.specs.View.{view_type, view_body, view_shape, view_declaration
 use Rattle.x_lex.specs.declared.mark.Mark.TheVariants as marks
 use Rattle.x_item.specs.declared.parsing.ending.Ending.TheVariants as endings
 use Rattle.x_item.specs.Symbols.{Context, AnyValue, Token, AfterCase, MoreArms, Declared, Declarations, MoreDeclarations, Arms, InDeclaration, AfterType, Typed, ending_mark}
-use Rattle.x_item.specs.Reading.{spell_ended, IsRead, Fails}
-use Rattle.x_item.proofs.ReadLemmas.{exit, read_first, fails_alike, fails_more, fails_then, read_alike, read_as, read_more, read_on, read_then, read_after, ok_alike, err_alike, read_after_word}
-use Rattle.x_item.proofs.LoopLemmas.{other_mark, no_mark, of_struct, of_union, union_words, of_declarations, more_declarations, default_symbols, struct_read, arms_read, has_declaration, fits_declaration, of_arms, more_arms, arms_more, has_arm, fits_arm, no_keyword, no_tag_name, fits_one_more, fits_inline}
+use Rattle.x_item.specs.Reading.{IsRead, Fails}
+use Rattle.x_item.proofs.ReadLemmas.{exit, read_first, fails_alike, fails_more, fails_then, read_alike, read_as, read_more, read_on, read_then, read_after, read_after_word}
+use Rattle.x_item.proofs.LoopLemmas.{of_struct, of_union, union_words, of_declarations, more_declarations, default_symbols, struct_read, arms_read, has_declaration, fits_declaration, of_arms, more_arms, has_arm, fits_arm, no_keyword, no_tag_name, fits_one_more, fits_inline}
 use Rattle.x_item.proofs.parsing.declaration.+parser.Goals as goal
 
 pub body_of_struct-returns-in_err-left-clause-stuck : goal.body_of_struct-returns-in_err-left-clause-stuck
@@ -57,17 +57,24 @@ body_of_struct-loop-members-preserved t c =
       fits = fits_declaration n c.loop-members.members.items c.in_ok-member.member _ c.in_ok-push.ensures.items c.loop-members.invariant.fits c.in_ok-member.ensures.fits;
     }
 
+pub arms-returns-in_err-rest-clause-stuck : goal.arms-returns-in_err-rest-clause-stuck
+arms-returns-in_err-rest-clause-stuck t c =
+    exit _ _ c.from_residual.ensures.1 (fails_more (Token marks.OpenBrace ∷ []) (Arms c.args.depth ∷ []) c.in_err-rest.ensures.stuck)
+
 pub arms-returns-in_err-left-clause-stuck : goal.arms-returns-in_err-left-clause-stuck
 arms-returns-in_err-left-clause-stuck t c =
     let n = c.args.depth in
-    exit _ _ c.from_residual.ensures.1 (fails_alike (of_arms n c.args.tokens.now) (fails_more (Token marks.Case ∷ []) (AnyValue ∷ Token marks.Colon ∷ AfterCase n ∷ MoreArms n ∷ []) c.in_err-left.ensures.stuck))
+    let start = read_on (read_more (Token marks.OpenBrace ∷ []) (Arms n ∷ []) c.in_ok-rest.ensures.read) (of_arms n c.in_ok-rest.rest.now) in
+    exit _ _ c.from_residual-in_err-left.ensures.1 (fails_then (Token marks.Case ∷ []) (AnyValue ∷ Token marks.Colon ∷ AfterCase n ∷ MoreArms n ∷ []) start c.in_err-left.ensures.stuck)
 
 pub arms-loop-arms-init : goal.arms-loop-arms-init
 arms-loop-arms-init t c =
     let n = c.args.depth in
     let none = sym c.new-arms.ensures.items in
+    let start = read_on (read_more (Token marks.OpenBrace ∷ []) (Arms n ∷ []) c.in_ok-rest.ensures.read) (of_arms n c.in_ok-rest.rest.now) in
+    let case = read_then (Token marks.Case ∷ []) (AnyValue ∷ Token marks.Colon ∷ AfterCase n ∷ MoreArms n ∷ []) start c.in_ok-left.ensures.read in
     record {
-      read = read_as (ap (λ arms. spell_arms (view_arms arms) ++ Fixed marks.Case ∷ []) none) (read_alike (of_arms n c.args.tokens.now) (read_more (Token marks.Case ∷ []) (AnyValue ∷ Token marks.Colon ∷ AfterCase n ∷ MoreArms n ∷ []) c.in_ok-left.ensures.read));
+      read = read_as (ap (λ arms. Fixed marks.OpenBrace ∷ (spell_arms (view_arms arms) ++ Fixed marks.Case ∷ [])) none) case;
       fits = subst (λ arms. ArmsFit (view_arms arms) n) none tt;
     }
 
@@ -82,12 +89,9 @@ arms-returns-in-Some-clause-read t c =
     let read = arms_read n c.loop-arms.arms.items c.in_ok-member.member _ c.in_ok-push.ensures.items c.loop-arms.invariant.read c.in_ok-member.ensures.read in
     read_then (MoreArms n ∷ []) [] read (read_first {from = MoreArms n ∷ []} {to = []} (Fixed marks.CloseBrace) c.in-Some.ensures.some refl (λ left code ps ss. refl))
 
-pub arms-returns-in-Some-clause-some : goal.arms-returns-in-Some-clause-some
-arms-returns-in-Some-clause-some t c = has_arm c.loop-arms.arms.items c.in_ok-member.member _ c.in_ok-push.ensures.items
-
 pub arms-returns-in-Some-clause-fits : goal.arms-returns-in-Some-clause-fits
 arms-returns-in-Some-clause-fits t c =
-    fits_arm c.args.depth c.loop-arms.arms.items c.in_ok-member.member _ c.in_ok-push.ensures.items c.loop-arms.invariant.fits c.in_ok-member.ensures.some c.in_ok-member.ensures.fits
+    (has_arm c.loop-arms.arms.items c.in_ok-member.member _ c.in_ok-push.ensures.items, (fits_arm c.args.depth c.loop-arms.arms.items c.in_ok-member.member _ c.in_ok-push.ensures.items c.loop-arms.invariant.fits c.in_ok-member.ensures.some c.in_ok-member.ensures.fits, tt))
 
 pub arms-returns-in_err-default-clause-stuck : goal.arms-returns-in_err-default-clause-stuck
 arms-returns-in_err-default-clause-stuck t c =
@@ -101,14 +105,11 @@ arms-returns-in-Some-after-clause-read t c =
     let n = c.args.depth in
     let read = arms_read n c.loop-arms.arms.items c.in_ok-member.member _ c.in_ok-push.ensures.items c.loop-arms.invariant.read c.in_ok-member.ensures.read in
     let other = read_then (MoreArms n ∷ []) [] read (read_first {from = MoreArms n ∷ []} {to = default_symbols n} (Fixed marks.Default) c.in-Some-after.ensures.some refl (λ left code ps ss. refl)) in
-    read_after (default_symbols n) [] _ (Fixed marks.Default) other c.in_ok-default.ensures.read
-
-pub arms-returns-in-Some-after-clause-some : goal.arms-returns-in-Some-after-clause-some
-arms-returns-in-Some-after-clause-some t c = has_arm c.loop-arms.arms.items c.in_ok-member.member _ c.in_ok-push.ensures.items
+    read_after (default_symbols n) [] (Fixed marks.OpenBrace ∷ spell_arms (view_arms c.push.new.self.items)) (Fixed marks.Default) other c.in_ok-default.ensures.read
 
 pub arms-returns-in-Some-after-clause-fits : goal.arms-returns-in-Some-after-clause-fits
 arms-returns-in-Some-after-clause-fits t c =
-    fits_arm c.args.depth c.loop-arms.arms.items c.in_ok-member.member _ c.in_ok-push.ensures.items c.loop-arms.invariant.fits c.in_ok-member.ensures.some c.in_ok-member.ensures.fits
+    (has_arm c.loop-arms.arms.items c.in_ok-member.member _ c.in_ok-push.ensures.items, (fits_arm c.args.depth c.loop-arms.arms.items c.in_ok-member.member _ c.in_ok-push.ensures.items c.loop-arms.invariant.fits c.in_ok-member.ensures.some c.in_ok-member.ensures.fits, c.in_ok-default.ensures.fits))
 
 pub arms-returns-in_err-left-2-clause-stuck : goal.arms-returns-in_err-left-2-clause-stuck
 arms-returns-in_err-left-2-clause-stuck t c =
@@ -145,22 +146,13 @@ body_of_union-returns-in_err-discriminant-clause-stuck t c =
     let opened = read_then (Token marks.OpenParenthesis ∷ []) (Declared n endings.Parenthesis ∷ Token marks.OpenBrace ∷ Arms n ∷ []) start c.in_ok-rest-2.ensures.read in
     exit _ _ c.from_residual-in_err-discriminant.ensures.1 (fails_then (Declared n endings.Parenthesis ∷ []) (Token marks.OpenBrace ∷ Arms n ∷ []) opened c.in_err-discriminant.ensures.stuck)
 
-pub body_of_union-returns-in_err-discriminant-2-clause-stuck : goal.body_of_union-returns-in_err-discriminant-2-clause-stuck
-body_of_union-returns-in_err-discriminant-2-clause-stuck t c =
-    let n = c.args.depth in
-    let start = read_alike (of_union n c.args.tokens.now) (read_more (Token marks.Switch ∷ []) (Token marks.OpenParenthesis ∷ Declared n endings.Parenthesis ∷ Token marks.OpenBrace ∷ Arms n ∷ []) c.in_ok-rest.ensures.read) in
-    let opened = read_then (Token marks.OpenParenthesis ∷ []) (Declared n endings.Parenthesis ∷ Token marks.OpenBrace ∷ Arms n ∷ []) start c.in_ok-rest-2.ensures.read in
-    let told = read_then (Declared n endings.Parenthesis ∷ []) (Token marks.OpenBrace ∷ Arms n ∷ []) opened c.in_ok-discriminant.ensures.read in
-    exit _ _ c.from_residual-in_err-discriminant-2.ensures.1 (fails_then (Token marks.OpenBrace ∷ []) (Arms n ∷ []) told c.in_err-discriminant-2.ensures.stuck)
-
 pub body_of_union-returns-in_err-arms-clause-stuck : goal.body_of_union-returns-in_err-arms-clause-stuck
 body_of_union-returns-in_err-arms-clause-stuck t c =
     let n = c.args.depth in
     let start = read_alike (of_union n c.args.tokens.now) (read_more (Token marks.Switch ∷ []) (Token marks.OpenParenthesis ∷ Declared n endings.Parenthesis ∷ Token marks.OpenBrace ∷ Arms n ∷ []) c.in_ok-rest.ensures.read) in
     let opened = read_then (Token marks.OpenParenthesis ∷ []) (Declared n endings.Parenthesis ∷ Token marks.OpenBrace ∷ Arms n ∷ []) start c.in_ok-rest-2.ensures.read in
     let told = read_then (Declared n endings.Parenthesis ∷ []) (Token marks.OpenBrace ∷ Arms n ∷ []) opened c.in_ok-discriminant.ensures.read in
-    let within = read_then (Token marks.OpenBrace ∷ []) (Arms n ∷ []) told c.in_ok-discriminant-2.ensures.read in
-    exit _ _ c.from_residual-in_err-arms.ensures.1 (fails_then (Arms n ∷ []) [] within c.in_err-arms.ensures.stuck)
+    exit _ _ c.from_residual-in_err-arms.ensures.1 (fails_then (Token marks.OpenBrace ∷ Arms n ∷ []) [] told c.in_err-arms.ensures.stuck)
 
 pub body_of_union-returns-clause-read : goal.body_of_union-returns-clause-read
 body_of_union-returns-clause-read t c =
@@ -168,9 +160,11 @@ body_of_union-returns-clause-read t c =
     let start = read_alike (of_union n c.args.tokens.now) (read_more (Token marks.Switch ∷ []) (Token marks.OpenParenthesis ∷ Declared n endings.Parenthesis ∷ Token marks.OpenBrace ∷ Arms n ∷ []) c.in_ok-rest.ensures.read) in
     let opened = read_then (Token marks.OpenParenthesis ∷ []) (Declared n endings.Parenthesis ∷ Token marks.OpenBrace ∷ Arms n ∷ []) start c.in_ok-rest-2.ensures.read in
     let told = read_then (Declared n endings.Parenthesis ∷ []) (Token marks.OpenBrace ∷ Arms n ∷ []) opened c.in_ok-discriminant.ensures.read in
-    let within = read_then (Token marks.OpenBrace ∷ []) (Arms n ∷ []) told c.in_ok-discriminant-2.ensures.read in
-    let made = rw c.in_ok-discriminant-2.ensures.value at c.in_ok-union_body.ensures in
-    read_as (union_words _ _ ∙ ap spell_body (sym made)) (read_then (Arms n ∷ []) [] within c.in_ok-arms.ensures.read)
+    read_as (union_words _ _ ∙ ap spell_body (sym c.in_ok-union_body.ensures)) (read_then (Token marks.OpenBrace ∷ Arms n ∷ []) [] told c.in_ok-arms.ensures.read)
+
+pub body_of_union-returns-clause-fits : goal.body_of_union-returns-clause-fits
+body_of_union-returns-clause-fits t c =
+    subst (λ body. BodyFits body c.args.depth) (sym c.in_ok-union_body.ensures) (c.in_ok-discriminant.ensures.fits, c.in_ok-arms.ensures.fits)
 
 pub data_type-returns-in_default-mark : goal.data_type-returns-in_default-mark
 data_type-returns-in_default-mark t c =
@@ -183,35 +177,29 @@ data_type-returns-in_default-mark t c =
       stuck = IfErr-weaker c.basic.result (λ e. (n : ℕ) (at : Context) → Fails (Typed n at ∷ []) tokens e) (λ e. (at : Context) → Fails (Typed n at ∷ []) tokens e) (λ e f. f n) c.basic.ensures.stuck;
     }
 
-pub declared-returns-in_default-mark : goal.declared-returns-in_default-mark
-declared-returns-in_default-mark t c =
+pub declared-returns-in_err-data-clause-stuck : goal.declared-returns-in_err-data-clause-stuck
+declared-returns-in_err-data-clause-stuck t c =
     let n = c.args.depth in
     let e = c.args.ending in
-    let w = c.in_ok-word.word in
-    let m = c.in-Mark.mark in
-    let same = no_keyword n e c.in_ok-word.ensures.word
-    (other_mark w m marks.Void c.in-Mark.is c.in_default-mark.not-Void)
-    (other_mark w m marks.Opaque c.in-Mark.is c.in_default-mark.not-Opaque)
-    (other_mark w m marks.String c.in-Mark.is c.in_default-mark.not-String) in
-    record {
-      read = ok_alike [] (Declared n e ∷ []) (Typed n (InDeclaration e) ∷ []) [] c.args.tokens.now (λ x. spell_ended (view_declaration x.0) e) (λ x. x.1.now) c.typed.result same c.typed.ensures.read;
-      fits = c.typed.ensures.fits;
-      stuck = err_alike (Declared n e ∷ []) (Typed n (InDeclaration e) ∷ []) c.args.tokens.now c.typed.result same c.typed.ensures.stuck;
-    }
+    let same = no_keyword n e c.in_default.ensures.none c.in_default-after.ensures.none c.in_default-after-2.ensures.none in
+    exit _ _ c.from_residual.ensures.1 (fails_alike same (c.in_err-data.ensures.stuck (InDeclaration e)))
 
-pub declared-returns-in_default : goal.declared-returns-in_default
-declared-returns-in_default t c =
+pub declared-returns-in_err-name-clause-stuck : goal.declared-returns-in_err-name-clause-stuck
+declared-returns-in_err-name-clause-stuck t c =
     let n = c.args.depth in
     let e = c.args.ending in
-    let w = c.in_ok-word.word in
-    let last = c.typed-in_default in
-    let same = no_keyword n e c.in_ok-word.ensures.word
-    (no_mark w marks.Void c.in_default.not-Mark) (no_mark w marks.Opaque c.in_default.not-Mark) (no_mark w marks.String c.in_default.not-Mark) in
-    record {
-      read = ok_alike [] (Declared n e ∷ []) (Typed n (InDeclaration e) ∷ []) [] c.args.tokens.now (λ x. spell_ended (view_declaration x.0) e) (λ x. x.1.now) last.result same last.ensures.read;
-      fits = last.ensures.fits;
-      stuck = err_alike (Declared n e ∷ []) (Typed n (InDeclaration e) ∷ []) c.args.tokens.now last.result same last.ensures.stuck;
-    }
+    let same = no_keyword n e c.in_default.ensures.none c.in_default-after.ensures.none c.in_default-after-2.ensures.none in
+    let typed = read_alike same (c.in_ok-data.ensures.read (InDeclaration e)) in
+    exit _ _ c.from_residual-in_err-name.ensures.1 (fails_then (AfterType (InDeclaration e) ∷ []) [] typed c.in_err-name.ensures.stuck)
+
+pub declared-returns-clause-read : goal.declared-returns-clause-read
+declared-returns-clause-read t c =
+    let n = c.args.depth in
+    let e = c.args.ending in
+    let same = no_keyword n e c.in_default.ensures.none c.in_default-after.ensures.none c.in_default-after-2.ensures.none in
+    let typed = read_alike same (c.in_ok-data.ensures.read (InDeclaration e)) in
+    read_as (sym (append_assoc (spell_type (view_type c.in_ok-data.data)) (spell_named c.in_ok-name.name.items (view_shape c.in_ok-name.shape)) (Fixed (ending_mark e) ∷ [])))
+    (read_then (AfterType (InDeclaration e) ∷ []) [] typed c.in_ok-name.ensures.read)
 
 pub tagged-returns-in_err-body-in_default-clause-stuck : goal.tagged-returns-in_err-body-in_default-clause-stuck
 tagged-returns-in_err-body-in_default-clause-stuck t c =
@@ -229,17 +217,6 @@ tagged-returns-in_ok-inline-in_default-clause-read t c =
 pub tagged-returns-in_ok-inline-in_default-clause-fits : goal.tagged-returns-in_ok-inline-in_default-clause-fits
 tagged-returns-in_ok-inline-in_default-clause-fits t c =
     fits_one_more _ c.args.depth c.if-depth-eq0.false (fits_inline _ _ (c.args.depth - 1) c.in_ok-inline-in_default.ensures c.in_ok-body-in_default.ensures.fits)
-
-pub typed-returns-in_err-name-clause-stuck : goal.typed-returns-in_err-name-clause-stuck
-typed-returns-in_err-name-clause-stuck t c =
-    let e = c.args.ending in
-    exit _ _ c.from_residual-in_err-name.ensures.1 (fails_then (AfterType (InDeclaration e) ∷ []) [] (c.in_ok-data.ensures.read (InDeclaration e)) c.in_err-name.ensures.stuck)
-
-pub typed-returns-clause-read : goal.typed-returns-clause-read
-typed-returns-clause-read t c =
-    let e = c.args.ending in
-    read_as (sym (append_assoc (spell_type (view_type c.in_ok-data.data)) (spell_named c.in_ok-name.name.items (view_shape c.in_ok-name.shape)) (Fixed (ending_mark e) ∷ [])))
-    (read_then (AfterType (InDeclaration e) ∷ []) [] (c.in_ok-data.ensures.read (InDeclaration e)) c.in_ok-name.ensures.read)
 
 pub arm-returns-in_err-declaration-clause-stuck : goal.arm-returns-in_err-declaration-clause-stuck
 arm-returns-in_err-declaration-clause-stuck t c =

@@ -10,34 +10,31 @@ use Rattle.x_item.specs.Reading.{IsRead}
 use Rattle.x_item.proofs.parsing.declaration.+parser.Given as goal
 
 abbrev pub decreases-data_type : goal.decreases-data_type
-decreases-data_type l = 10 * l.depth + 1
+decreases-data_type l = 8 * l.depth + 1
 
 abbrev pub decreases-tagged : goal.decreases-tagged
-decreases-tagged l = 10 * l.depth
-
-abbrev pub decreases-typed : goal.decreases-typed
-decreases-typed l = 10 * l.depth + 2
+decreases-tagged l = 8 * l.depth
 
 abbrev pub decreases-declared : goal.decreases-declared
-decreases-declared l = 10 * l.depth + 3
+decreases-declared l = 8 * l.depth + 2
 
 abbrev pub decreases-arm : goal.decreases-arm
-decreases-arm l = 10 * l.depth + 4
+decreases-arm l = 8 * l.depth + 3
 
 abbrev pub decreases-default_arm : goal.decreases-default_arm
-decreases-default_arm l = 10 * l.depth + 4
+decreases-default_arm l = 8 * l.depth + 3
 
 abbrev pub decreases-arms : goal.decreases-arms
-decreases-arms l = 10 * l.depth + 5
+decreases-arms l = 8 * l.depth + 4
 
 abbrev pub decreases-body_of_struct : goal.decreases-body_of_struct
-decreases-body_of_struct l = 10 * l.depth + 6
+decreases-body_of_struct l = 8 * l.depth + 5
 
 abbrev pub decreases-body_of_union : goal.decreases-body_of_union
-decreases-body_of_union l = 10 * l.depth + 6
+decreases-body_of_union l = 8 * l.depth + 5
 
 abbrev pub decreases-body : goal.decreases-body
-decreases-body l = 10 * l.depth + 7
+decreases-body l = 8 * l.depth + 6
 
 abbrev pub invariant-body_of_struct-loop-members : goal.invariant-body_of_struct-loop-members
 invariant-body_of_struct-loop-members l = record {
@@ -50,7 +47,7 @@ decreases-body_of_struct-loop-members l = length l.left
 
 abbrev pub invariant-arms-loop-arms : goal.invariant-arms-loop-arms
 invariant-arms-loop-arms l = record {
-  read : IsRead [] (Arms l.depth ∷ []) l.tokens (spell_arms (view_arms l.arms.items) ++ Fixed marks.Case ∷ []) (AnyValue ∷ Token marks.Colon ∷ AfterCase l.depth ∷ MoreArms l.depth ∷ []) l.left;
+  read : IsRead [] (Token marks.OpenBrace ∷ Arms l.depth ∷ []) l.tokens (Fixed marks.OpenBrace ∷ (spell_arms (view_arms l.arms.items) ++ Fixed marks.Case ∷ [])) (AnyValue ∷ Token marks.Colon ∷ AfterCase l.depth ∷ MoreArms l.depth ∷ []) l.left;
   fits : ArmsFit (view_arms l.arms.items) l.depth;
 }
 

@@ -1,4 +1,4 @@
-use Rattle.std.proofs.Common.{[], ◌∷◌, ◌++◌, append_assoc}
+use Rattle.std.proofs.Common.{[], ◌∷◌, append_assoc}
 use Rattle.x_item.proofs.parsing.program.procedure.Goals as goal
 use Rattle.x_lex.specs.declared.mark.Mark.TheVariants as marks
 use Rattle.x_item.specs.Symbols.{AnyName, Parameters, Token, of_number, of_arguments}
