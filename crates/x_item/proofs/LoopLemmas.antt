@@ -342,3 +342,23 @@ module _ {T : Type 0} {tokens left : List LexToken} {w : Word} (first : HasFirst
   stuck_unsigned h =
       IfErr-weaker r (λ e. (c : Context) → Fails (AfterUnsigned c ∷ []) left e) (λ e. (n : ℕ) (c : Context) → Fails (Typed n c ∷ []) tokens e)
       (λ e f n c. fails_then (AfterUnsigned c ∷ []) [] (start n c) (f c)) h
+
+-- what follows `enum`, `struct` or `union`
+tag_is : (tag : Tag) (n : ℕ) (c : Context) (left : ℕ) (code : FaultCode) (ps : List Place) (ss : List Symbol) → read (Typed n c ∷ ss) (headed (Fixed (tag_mark tag)) left code ps) ≡ read (AfterTag tag n ∷ AfterType c ∷ ss) ps
+tag_is tags.Enum n c left code ps ss = refl
+tag_is tags.Struct n c left code ps ss = refl
+tag_is tags.Union n c left code ps ss = refl
+
+module _ {T : Type 0} (tag : Tag) (n : ℕ) {tokens left : List LexToken} {w : Word} (first : HasFirst tokens w left) (is : w ≡ Fixed (tag_mark tag)) (r : Result T ParseError) where
+  after_keyword : (c : Context) → IsRead [] (Typed n c ∷ []) tokens (Fixed (tag_mark tag) ∷ []) (AfterTag tag n ∷ AfterType c ∷ []) left
+  after_keyword c = read_first (Fixed (tag_mark tag)) first is (tag_is tag n c)
+
+  pub read_tagged : (spelled : T → List Word) (rest : T → List LexToken) → IfOk r (λ x. IsRead (Fixed (tag_mark tag) ∷ []) (AfterTag tag n ∷ []) left (spelled x) [] (rest x)) → IfOk r (λ x. (c : Context) → IsRead [] (Typed n c ∷ []) tokens (spelled x) (AfterType c ∷ []) (rest x))
+  read_tagged spelled rest h =
+      IfOk-weaker r (λ x. IsRead (Fixed (tag_mark tag) ∷ []) (AfterTag tag n ∷ []) left (spelled x) [] (rest x)) (λ x. (c : Context) → IsRead [] (Typed n c ∷ []) tokens (spelled x) (AfterType c ∷ []) (rest x))
+      (λ x p c. read_after (AfterTag tag n ∷ []) (AfterType c ∷ []) [] (Fixed (tag_mark tag)) (after_keyword c) p) h
+
+  pub stuck_tagged : IfErr r (λ e. Fails (AfterTag tag n ∷ []) left e) → IfErr r (λ e. (c : Context) → Fails (Typed n c ∷ []) tokens e)
+  stuck_tagged h =
+      IfErr-weaker r (λ e. Fails (AfterTag tag n ∷ []) left e) (λ e. (c : Context) → Fails (Typed n c ∷ []) tokens e)
+      (λ e f c. fails_then (AfterTag tag n ∷ []) (AfterType c ∷ []) (after_keyword c) f) h

@@ -8,9 +8,10 @@ use Rattle.x_item.specs.View.{view_type, view_body, view_shape, view_declaration
 use Rattle.x_lex.specs.declared.mark.Mark.TheVariants as marks
 use Rattle.x_item.specs.declared.parsing.ending.Ending.TheVariants as endings
 use Rattle.x_item.specs.Symbols.{Context, AnyValue, Token, AfterCase, MoreArms, Declared, Declarations, MoreDeclarations, Arms, InDeclaration, AfterType, Typed, ending_mark}
-use Rattle.x_item.specs.Reading.{IsRead, Fails}
+use Rattle.x_item.specs.declared.trees.declaration.Tag.TheVariants as tags
+use Rattle.x_item.specs.Reading.{view_word, IsRead, Fails}
 use Rattle.x_item.proofs.ReadLemmas.{exit, read_first, fails_alike, fails_more, fails_then, read_alike, read_as, read_more, read_on, read_then, read_after, read_after_word}
-use Rattle.x_item.proofs.LoopLemmas.{of_struct, of_union, union_words, of_declarations, more_declarations, default_symbols, struct_read, arms_read, has_declaration, fits_declaration, of_arms, more_arms, has_arm, fits_arm, no_keyword, no_tag_name, fits_one_more, fits_inline}
+use Rattle.x_item.proofs.LoopLemmas.{of_struct, of_union, union_words, of_declarations, more_declarations, default_symbols, struct_read, arms_read, has_declaration, fits_declaration, of_arms, more_arms, has_arm, fits_arm, no_keyword, no_tag_name, read_tagged, stuck_tagged, fits_one_more, fits_inline}
 use Rattle.x_item.proofs.parsing.declaration.+parser.Goals as goal
 
 pub body_of_struct-returns-in_err-left-clause-stuck : goal.body_of_struct-returns-in_err-left-clause-stuck
@@ -238,3 +239,39 @@ default_arm-returns-clause-read t c =
     let words = append_assoc (spell_declaration d) (Fixed marks.Semicolon ∷ []) (Fixed marks.CloseBrace ∷ []) in
     let same = ap (λ d. spell_default (default (view_declaration d))) (sym c.in_ok-declaration-2.ensures.value) in
     read_as (ap (λ t. Fixed marks.Default ∷ Fixed marks.Colon ∷ t) words ∙ same) (read_after_word (Fixed marks.Default) closed)
+
+pub data_type-returns-in-Enum : goal.data_type-returns-in-Enum
+data_type-returns-in-Enum t c =
+    let n = c.args.depth in
+    let first = c.in_ok-word.ensures.word in
+    let is = ap view_word c.in-Mark.is ∙ ap Fixed c.in-Enum.is in
+    let last = c.tagged in
+    record {
+      read = read_tagged tags.Enum n first is last.result (λ x. spell_type (view_type x.0)) (λ x. x.1.now) last.ensures.read;
+      fits = last.ensures.fits;
+      stuck = stuck_tagged tags.Enum n first is last.result last.ensures.stuck;
+    }
+
+pub data_type-returns-in-Struct : goal.data_type-returns-in-Struct
+data_type-returns-in-Struct t c =
+    let n = c.args.depth in
+    let first = c.in_ok-word.ensures.word in
+    let is = ap view_word c.in-Mark.is ∙ ap Fixed c.in-Struct.is in
+    let last = c.tagged-in-Struct in
+    record {
+      read = read_tagged tags.Struct n first is last.result (λ x. spell_type (view_type x.0)) (λ x. x.1.now) last.ensures.read;
+      fits = last.ensures.fits;
+      stuck = stuck_tagged tags.Struct n first is last.result last.ensures.stuck;
+    }
+
+pub data_type-returns-in-Union : goal.data_type-returns-in-Union
+data_type-returns-in-Union t c =
+    let n = c.args.depth in
+    let first = c.in_ok-word.ensures.word in
+    let is = ap view_word c.in-Mark.is ∙ ap Fixed c.in-Union.is in
+    let last = c.tagged-in-Union in
+    record {
+      read = read_tagged tags.Union n first is last.result (λ x. spell_type (view_type x.0)) (λ x. x.1.now) last.ensures.read;
+      fits = last.ensures.fits;
+      stuck = stuck_tagged tags.Union n first is last.result last.ensures.stuck;
+    }
