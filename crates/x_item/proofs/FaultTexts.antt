@@ -1,5 +1,5 @@
 -- The table of the texts of faults.
-use Rattle.std.proofs.Common.{ℕ, ◌<◌, lit<}
+use Rattle.std.proofs.Common.{◌<◌, lit<}
 use denote.Enum.Declared.{tag_of}
 use Rattle.x_item.specs.contracts.parsing.fault_code.FaultCode.{the_type}
 use Rattle.x_item.specs.declared.parsing.fault_code.FaultCode.{FaultCode}

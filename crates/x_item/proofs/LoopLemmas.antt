@@ -6,8 +6,8 @@ use Rattle.std.proofs.lemmas.Result.{IfOk-weaker, IfErr-weaker}
 use Rattle.x_lex.specs.declared.token.Token.{Token as LexToken}
 use Rattle.x_item.specs.Words.{Word, Fixed, Name}
 use Rattle.x_item.specs.Tree as tree
-use Rattle.x_item.specs.Gloss.{tag_mark, spell_value, body_mark}
-use Rattle.x_item.specs.Spell.{spell_enumerator, spell_other_enumerators, spell_enumerators, spell_cases, spell_declaration, spell_declarations, spell_arms, spell_type, spell_body, HasOne, HasDeclaration, HasArm, DeclarationFits, DeclarationsFit, ArmsFit, BodyFits, TypeFits}
+use Rattle.x_item.specs.Gloss.{tag_mark, spell_value}
+use Rattle.x_item.specs.Spell.{spell_enumerator, spell_other_enumerators, spell_enumerators, spell_cases, spell_declaration, spell_declarations, spell_arms, HasOne, HasDeclaration, HasArm, DeclarationFits, DeclarationsFit, ArmsFit, BodyFits, TypeFits}
 use Rattle.x_item.specs.View.{view_value, view_enumerator, view_declaration, view_declarations, view_arms}
 use Rattle.x_lex.specs.declared.mark.Mark.{Mark}
 use Rattle.x_lex.specs.declared.mark.Mark.TheVariants as marks

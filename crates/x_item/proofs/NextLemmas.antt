@@ -1,9 +1,9 @@
 -- The loop of `next_item`: what it keeps.
-use Rattle.std.proofs.Common.{◌≡◌, ℕ, ◌+◌, Bool, true, false, List, [], ◌∷◌, ◌++◌, map, length, refl, ap, sym, ◌∙◌, subst, append_assoc, true≢false}
+use Rattle.std.proofs.Common.{◌≡◌, ℕ, Bool, true, false, List, [], ◌∷◌, ◌++◌, map, refl, ap, sym, ◌∙◌, subst, append_assoc, true≢false}
 use Rattle.std.proofs.lemmas.List.{append-nil, map-append}
 use Rattle.x_lex.specs.Places.{Lexeme, lexeme}
 use Rattle.x_lex.specs.declared.token.Token.{Token}
-use Rattle.x_item.specs.Items.{Ends, HasNoEnd, IsWhole, IsNext, depth}
+use Rattle.x_item.specs.Items.{HasNoEnd, IsNext, depth}
 use Rattle.x_item.specs.Cutting.{role_of, depth_after, ends_at}
 use Rattle.x_item.proofs.CuttingLemmas.{depth_next, ends_from, ends_yes}
 use Rattle.x_item.proofs.ItemListLemmas.{no_end_none, no_end_on}

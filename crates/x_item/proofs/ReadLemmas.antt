@@ -2,7 +2,7 @@
 use Rattle.std.proofs.Common.{◌≡◌, ◌≢◌, ◌↔◌, ℕ, Bool, true, false, nat_eq, get_or, map, IsTrue, List, [], ◌∷◌, ◌++◌, cond, Some, None, Result, Ok, Err, refl, ap, sym, ◌∙◌, subst, append_assoc, arith}
 use Rattle.std.specs.Result.{IsErrAnd, IfOk, IfErr}
 use Rattle.std.proofs.lemmas.Bool.{eq-eqb, eqb-true}
-use Rattle.std.proofs.lemmas.Result.{err_from_is_err_and, IfOk-weaker, IfErr-weaker}
+use Rattle.std.proofs.lemmas.Result.{err_from_is_err_and}
 use Rattle.x_lex.specs.declared.token.Token.{Token}
 use Rattle.x_item.specs.Words.{Word, Fixed, word_of}
 use Rattle.x_lex.specs.Places.{lexeme}

@@ -1,4 +1,4 @@
-use Rattle.std.proofs.Common.{◌≡◌, ℕ, List, [], sym, Bor}
+use Rattle.std.proofs.Common.{ℕ, List, [], sym, Bor}
 use Rattle.std.proofs.lemmas.List.{get_or-map}
 use Rattle.x_lex.specs.declared.mark.Mark.{Mark}
 use Rattle.x_lex.proofs.mark.text_in.Goals as goal

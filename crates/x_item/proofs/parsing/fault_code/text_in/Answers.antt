@@ -1,4 +1,4 @@
-use Rattle.std.proofs.Common.{◌≡◌, ℕ, List, [], sym, Bor}
+use Rattle.std.proofs.Common.{ℕ, List, [], sym, Bor}
 use Rattle.std.proofs.lemmas.List.{get_or-map}
 use Rattle.x_item.proofs.parsing.fault_code.text_in.Goals as goal
 

@@ -1,4 +1,4 @@
-use Rattle.std.proofs.Common.{◌≡◌, true, ap, arith, drop, length, length-drop, sym, ◌∙◌}
+use Rattle.std.proofs.Common.{◌≡◌, true, ap, arith, drop, length, length-drop, ◌∙◌}
 use Rattle.x_lex.specs.Tiling.{span, end_of}
 use Rattle.x_lex.specs.TokenList.{patched}
 use Rattle.x_lex.specs.Places.{lexemes_from}

@@ -1,4 +1,4 @@
-use Rattle.std.proofs.Common.{◌≡◌, ◌+◌, ap, sym, ◌∙◌, drop, arith}
+use Rattle.std.proofs.Common.{◌+◌, ap, sym, ◌∙◌, drop, arith}
 use Rattle.x_lex.specs.Tiling.{span}
 use Rattle.x_lex.specs.Places.{lexemes_from}
 use Rattle.x_lex.proofs.SpanLemmas.{lexemes_drop, span-drop}
