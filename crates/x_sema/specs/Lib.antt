@@ -1,0 +1,12 @@
+pub mod Bodies
+pub mod Constants
+pub mod DeclarerTable
+pub mod Declarers
+pub mod Mentioned
+pub mod Numbers
+pub mod Results
+pub mod RuleTexts
+pub mod Rules
+pub mod RustViews
+pub mod Types
+pub mod Views

@@ -1,0 +1,11 @@
+//! Names and rules: who declares each name first ([`Names`]), what an item sees of a name ([`View`]), and what is wrong with a
+//! definition beyond its spelling, and what its names mean ([`check_item`]).
+#![tactic(auto)]
+
+mod fault;
+mod names;
+mod views;
+
+pub use fault::{RULE_TEXTS, RuleCode, WordFault};
+pub use names::{Declarer, Names};
+pub use views::{Class, MOST_HEIGHT, Meaning, View};
