@@ -28,27 +28,26 @@ arms_at at d = at + 2 + length (spell_declaration d) + 2
 abbrev pub default_at : ℕ → tree.Declaration → tree.Arms → ℕ
 default_at at d arms = arms_at at d + length (spell_arms arms)
 
--- the bodies in a part, each behind those that stand inside it
+-- the bodies inside a part, each behind those that stand inside it
 abbrev mutual
-  pub bodies_in : ℕ → ℕ → tree.Body → List BodyAt
-  bodies_in named at (tree.Enum es) = record { named = named; at = at; body = tree.Enum es } ∷ []
-  bodies_in named at (tree.Struct ds) =
-      bodies_of_fields (at + 1) ds ++ record { named = named; at = at; body = tree.Struct ds } ∷ []
-  bodies_in named at (tree.Union d arms other) =
-      bodies_of_declaration (at + 2) d
-      ++ (bodies_of_arms (arms_at at d) arms
-      ++ (bodies_of_default (default_at at d arms) other
-      ++ record { named = named; at = at; body = tree.Union d arms other } ∷ []))
+  pub bodies_inside : ℕ → tree.Body → List BodyAt
+  bodies_inside at (tree.Enum es) = []
+  bodies_inside at (tree.Struct ds) = bodies_of_fields (at + 1) ds
+  bodies_inside at (tree.Union d arms other) =
+      bodies_of_declaration (at + 2) d ++ (bodies_of_arms (arms_at at d) arms ++ bodies_of_default (default_at at d arms) other)
 
+  -- of a type, behind which so many words stand in front of the name of its declaration
   pub bodies_of_type : ℕ → ℕ → tree.DataType → List BodyAt
-  bodies_of_type named at (tree.Simple b) = []
-  bodies_of_type named at (tree.Name t) = []
-  bodies_of_type named at (tree.Tagged tag t) = []
-  bodies_of_type named at (tree.Inline body) = bodies_in named (at + 1) body
+  bodies_of_type before at (tree.Simple b) = []
+  bodies_of_type before at (tree.Name t) = []
+  bodies_of_type before at (tree.Tagged tag t) = []
+  bodies_of_type before at (tree.Inline body) =
+      bodies_inside (at + 1) body
+      ++ record { named = at + 1 + length (spell_body body) + before; at = at + 1; body = body } ∷ []
 
   pub bodies_of_declaration : ℕ → tree.Declaration → List BodyAt
   bodies_of_declaration at tree.Void = []
-  bodies_of_declaration at (tree.Of type name shape) = bodies_of_type (at + length (spell_type type) + star shape) at type
+  bodies_of_declaration at (tree.Of type name shape) = bodies_of_type (star shape) at type
   bodies_of_declaration at (tree.Opaque name size) = []
   bodies_of_declaration at (tree.String name most) = []
 
@@ -67,11 +66,11 @@ abbrev mutual
   bodies_of_default at tree.no_default = []
   bodies_of_default at (tree.default d) = bodies_of_declaration (at + 2) d
 
--- the bodies of a definition; nothing inside an inline type that is an argument or a result counts
+-- the bodies of a definition: its own first; nothing inside an inline type that is an argument or a result counts
 abbrev pub bodies : tree.Definition → List BodyAt
 bodies (tree.Const name value) = []
 bodies (tree.Typedef d) = bodies_of_declaration 1 d
-bodies (tree.NewType name body) = bodies_in 1 2 body
+bodies (tree.NewType name body) = record { named = 1; at = 2; body = body } ∷ bodies_inside 2 body
 bodies (tree.Program name versions number) = []
 
 -- ---- enumerators
@@ -217,9 +216,9 @@ abbrev pub procedures_of : ℕ → List tree.Version → List Members
 procedures_of at [] = []
 procedures_of at (v ∷ vs) = procedures_from (at + 3) v.procedures ∷ procedures_of (behind_version at v) vs
 
--- the versions of a program, and the procedures of each
+-- the procedures of each version of a program, and the versions
 abbrev pub members : tree.Definition → List Members
-members (tree.Program name versions number) = versions_from 3 versions ∷ procedures_of 3 versions
+members (tree.Program name versions number) = procedures_of 3 versions ++ versions_from 3 versions ∷ []
 members d = []
 
 -- ---- what may not be named twice

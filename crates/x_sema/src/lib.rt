@@ -2,10 +2,17 @@
 //! definition beyond its spelling, and what its names mean ([`check_item`]).
 #![tactic(auto)]
 
+mod check;
+mod checked;
 mod fault;
 mod names;
+mod number;
+mod outline;
+mod rules;
 mod views;
 
+pub use check::check_item;
+pub use checked::Checked;
 pub use fault::{RULE_TEXTS, RuleCode, WordFault};
 pub use names::{Declarer, Names};
 pub use views::{Class, MOST_HEIGHT, Meaning, View};

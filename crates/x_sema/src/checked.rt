@@ -1,0 +1,95 @@
+//! What checking an item found.
+
+use crate::fault::WordFault;
+use crate::views::{Class, Meaning};
+use std::alloc::Global;
+
+/// A class, whose numbers stand elsewhere.
+#[derive(Clone, Copy, Debug)]
+pub enum KeptClass {
+    Other,
+    Signed,
+    Unsigned,
+    Boolean,
+    /// The numbers from one index to before another.
+    Enumeration { from: usize, to: usize },
+}
+
+/// What a name means.
+#[derive(Clone, Copy, Debug)]
+pub enum Kept {
+    Constant(i128),
+    Type { class: KeptClass, height: u32 },
+    Program,
+    Bad,
+}
+
+/// What names mean.
+#[derive(Drop)]
+pub struct Meanings {
+    /// What each means.
+    pub names: Vec<Kept>,
+    /// The numbers of all enums.
+    pub numbers: Vec<i32>,
+}
+
+impl Meanings {
+    pub fn new(alloc: Global) -> Meanings {
+        Meanings {
+            names: Vec::new(alloc),
+            numbers: Vec::new(alloc),
+        }
+    }
+
+    fn class(&self, class: KeptClass) -> Class<'_> {
+        match class {
+            KeptClass::Other => Class::Other,
+            KeptClass::Signed => Class::Signed,
+            KeptClass::Unsigned => Class::Unsigned,
+            KeptClass::Boolean => Class::Boolean,
+            KeptClass::Enumeration { from, to } => match self.numbers.get(from..to) {
+                Some(numbers) => Class::Enumeration(numbers),
+                None => Class::Other,
+            },
+        }
+    }
+
+    fn meaning(&self, kept: Kept) -> Meaning<'_> {
+        match kept {
+            Kept::Constant(number) => Meaning::Constant(number),
+            Kept::Type { class, height } => Meaning::Type {
+                class: self.class(class),
+                height,
+            },
+            Kept::Program => Meaning::Program,
+            Kept::Bad => Meaning::Bad,
+        }
+    }
+}
+
+/// What checking an item found: its faults, and what the names mean that it declares. Only [`crate::check_item`] makes one.
+#[derive(Drop)]
+pub struct Checked {
+    faults: Vec<WordFault>,
+    meanings: Meanings,
+}
+
+impl Checked {
+    pub(crate) fn new(faults: Vec<WordFault>, meanings: Meanings) -> Checked {
+        Checked { faults, meanings }
+    }
+
+    /// The faults of the item by the rules, by word and then by code, each once.
+    pub fn faults(&self) -> &[WordFault] {
+        &self.faults
+    }
+
+    /// What the name means that stands at the place, from 0, among those that the item declares. Those of an item with a fault are all
+    /// bad.
+    pub fn meaning(&self, place: usize) -> Meaning<'_> {
+        match self.meanings.names.get(place) {
+            Some(kept) => self.meanings.meaning(*kept),
+            None => Meaning::Bad,
+        }
+    }
+}
