@@ -1,1 +1,5 @@
+pub mod DeclarerLaws
+pub mod Digits
+pub mod ListLemmas
+pub mod NameLemmas
 pub mod RuleTextLemmas

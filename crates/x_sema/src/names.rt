@@ -3,7 +3,6 @@ ghost use Rattle.std.specs.Prelude.{◌≡◌, ℕ, List, map, IfOk, OnOk, Some,
 ghost use Rattle.std.specs.Str.{bytes_eq};
 ghost use Rattle.x_item.specs.View.{view_definition};
 ghost use Rattle.x_item.specs.Names.{declared};
-ghost use Rattle.x_item.specs.Named.{view_name};
 ghost use Rattle.x_sema.specs.Declarers.{AreShort, IsShort, is_beforehand, FirstIs, first_from, or_else};
 ghost use Rattle.x_sema.specs.Declarers.{place_of_name};
 ghost use Rattle.x_sema.specs.DeclarerTable.{entry_in, first_in, tree_at};
@@ -11,7 +10,7 @@ ghost use Rattle.x_sema.specs.DeclarerTable.{entry_in, first_in, tree_at};
 use indexmap::IndexMap;
 use std::alloc::Global;
 use std::marker::Model;
-use x_item::{DeclaredName, Definition, NameKind, declares};
+use x_item::{Definition, NameKind, declares};
 use x_text::NoMemory;
 
 /// Where a name is declared, and as what.
@@ -108,21 +107,8 @@ fn add(
         → (name : List ℕ) → entry_in table.new.entries name ≡ or_else (entry_in table.old.entries name)
         (place_of_name item 0 name (declared (view_definition definition.now)))) }
 {
-    let names = declares(alloc, definition)?;
-    add_names(table, item, names)
-}
-
-/// Takes in the names of an item, but for those that are there.
-fn add_names(
-    table: &mut IndexMap<Vec<u8>, Declarer>,
-    item: usize,
-    names: Vec<DeclaredName>,
-) -> Result<(), NoMemory>
-    ensures { OnOk result ((name : List ℕ) → entry_in table.new.entries name
-        ≡ or_else (entry_in table.old.entries name) (place_of_name item 0 name (map view_name names.items))) }
-{
-    let mut place = 0usize;
-    for declared in names {
+    for (place, declared) in declares(alloc, definition)?.iter().enumerate() {
+        let name = Vec::from_slice(alloc, &declared.name)?;
         let declarer = Declarer {
             item,
             word: declared.word,
@@ -130,8 +116,7 @@ fn add_names(
             kind: declared.kind,
             lifted: declared.lifted,
         };
-        note(table, declared.name, declarer)?;
-        place = place.saturating_add(1);
+        note(table, name, declarer)?;
     }
     Ok(())
 }
