@@ -2,6 +2,7 @@ pub mod Bodies
 pub mod Constants
 pub mod DeclarerTable
 pub mod Declarers
+pub mod KeptViews
 pub mod Mentioned
 pub mod Numbers
 pub mod Results

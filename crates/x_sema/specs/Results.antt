@@ -93,6 +93,11 @@ view_of results item (Some at) =
     if nat_lt at.item item then Earlier at.kind at.lifted (meaning_at results at)
     else (if nat_lt item at.item then Later at.kind at.lifted else Own at.kind at.lifted)
 
+-- what an item sees of a name, by the name's first declarer and what checking that item gives
+abbrev pub view_named : ℕ → List ℕ → Option Declarer → Option Outcome → View
+view_named item name first declaring =
+    if is_beforehand name then Earlier kinds.Constant false (beforehand_meaning name) else view_of (λ k. declaring) item first
+
 -- what an item of a text with these definitions sees of a name; of the results only those of earlier items are read
 abbrev pub view_by : List (Option Definition) → (ℕ → Option Outcome) → ℕ → List ℕ → View
 view_by definitions results item name =

@@ -1,5 +1,12 @@
 //! The check of an item.
 
+ghost use Rattle.std.specs.Prelude.{◌≡◌, IfOk, map};
+ghost use Rattle.x_text.specs.Counts.{raised};
+ghost use Rattle.x_item.specs.View.{view_definition};
+ghost use Rattle.x_sema.specs.Declarers.{IsShort};
+ghost use Rattle.x_sema.specs.Results.{IsOutcome};
+ghost use Rattle.x_sema.specs.RustViews.{view_view};
+
 use crate::checked::{Checked, Meanings};
 use crate::fault::WordFault;
 use crate::outline::bodies::bodies;
@@ -51,7 +58,8 @@ fn other_faults(
 }
 
 /// Checks the definition of an item by the rules beyond its spelling (RFC 4506, section 6.4). There is one view for each name that it
-/// declares, and then one for each that it uses, in the orders of [`declares`] and [`mentions`]. Counts one checked item.
+/// declares, and then one for each that it uses, in the orders of [`declares`] and [`mentions`]. Counts one checked item. It takes
+/// time in proportion to the definition, but for sorting what may not stand twice.
 ///
 /// # Errors
 ///
@@ -61,7 +69,11 @@ pub fn check_item(
     definition: &Definition,
     views: &[View],
     meter: &mut Meter,
-) -> Result<Checked, NoMemory> {
+) -> Result<Checked, NoMemory>
+    ensures checked { IfOk result (λ checked. IsShort (view_definition definition.now)
+        → IsOutcome (view_definition definition.now) (map view_view views.now) checked) }
+    ensures counted { meter.new ≡ record meter.old { checked = raised meter.old.checked 1 } }
+{
     meter.tick_checked();
     let declared = declares(alloc, definition)?;
     let mentioned = mentions(alloc, definition)?;

@@ -5,6 +5,7 @@
 mod check;
 mod checked;
 mod fault;
+mod laws;
 mod names;
 mod number;
 mod outline;
@@ -14,5 +15,6 @@ mod views;
 pub use check::check_item;
 pub use checked::Checked;
 pub use fault::{RULE_TEXTS, RuleCode, WordFault};
+pub use laws::{one_first_declarer, one_list_of_faults, one_list_of_results, one_outcome};
 pub use names::{Declarer, Names};
 pub use views::{Class, MOST_HEIGHT, Meaning, View};

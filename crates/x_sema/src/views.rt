@@ -1,5 +1,12 @@
 //! What an item sees of a name.
 
+ghost use Rattle.std.specs.Prelude.{◌≡◌};
+ghost use Rattle.x_sema.specs.RustViews.{view_view, view_meaning};
+ghost use Rattle.x_sema.specs.KeptViews.{lent_outcome};
+ghost use Rattle.x_sema.specs.Results.{beforehand_meaning, view_named};
+
+use crate::checked::Checked;
+use crate::names::{Declarer, is_beforehand};
 use x_item::NameKind;
 
 /// The greatest height of a type: how often types may be held by one another, a type that holds no other having the height 1.
@@ -68,4 +75,61 @@ pub enum View<'v> {
         /// Whether it is the name of an inline type.
         lifted: bool,
     },
+}
+
+/// What a constant means that is declared beforehand: 1 for `TRUE`, 0 for `FALSE`.
+fn beforehand_meaning(name: &[u8]) -> Meaning<'static>
+    ensures { view_meaning result ≡ beforehand_meaning name.now }
+{
+    match name {
+        b"TRUE" => Meaning::Constant(1),
+        _ => Meaning::Constant(0),
+    }
+}
+
+impl<'v> View<'v> {
+    /// What an item sees of a name. `first` is the name's first declarer, and `declaring` what checking that item found, which is read
+    /// where the item stands earlier; without it the name is bad.
+    pub fn of(
+        item: usize,
+        name: &[u8],
+        first: Option<Declarer>,
+        declaring: Option<&'v Checked>,
+    ) -> View<'v>
+        ensures { view_view result ≡ view_named item name.now first (lent_outcome declaring.entry) }
+    {
+        if is_beforehand(name) {
+            return View::Earlier {
+                kind: NameKind::Constant,
+                lifted: false,
+                meaning: beforehand_meaning(name),
+            };
+        }
+        let Some(
+            Declarer {
+                item: declarer,
+                place,
+                kind,
+                lifted,
+                ..
+            },
+        ) = first
+        else {
+            return View::Undeclared;
+        };
+        if declarer < item {
+            View::Earlier {
+                kind,
+                lifted,
+                meaning: match declaring {
+                    Some(checked) => checked.meaning(place),
+                    None => Meaning::Bad,
+                },
+            }
+        } else if item < declarer {
+            View::Later { kind, lifted }
+        } else {
+            View::Own { kind, lifted }
+        }
+    }
 }
