@@ -29,3 +29,10 @@ get_mapped f [] zero x rest h = absurd (cc)
 get_mapped f [] (suc i) x rest h = absurd (cc)
 get_mapped f (y ∷ ys) zero x rest h = let same : y ≡ x = cc in ap (λ z. Some (f z)) same
 get_mapped f (y ∷ ys) (suc i) x rest h = get_mapped f ys i x rest h
+
+-- behind an element stand the others
+pub drop_next : {X : Type 0} (xs : List X) (i : ℕ) (x : X) (rest : List X) → drop i xs ≡ x ∷ rest → drop (suc i) xs ≡ rest
+drop_next [] zero x rest h = absurd (cc)
+drop_next [] (suc i) x rest h = absurd (cc)
+drop_next (y ∷ ys) zero x rest h = cc
+drop_next (y ∷ ys) (suc i) x rest h = drop_next ys i x rest h
