@@ -1,6 +1,5 @@
 -- What may be wrong with the use of a name.
 use Rattle.std.specs.Prelude.{ℕ, Bool, true, false, not, List, Option, Some, None, if◌then◌else◌}
-use Rattle.x_item.specs.Tree.{Definition}
 use Rattle.x_item.specs.Mentions.{Mention}
 use Rattle.x_item.specs.declared.trees.declaration.Tag.{Tag}
 use Rattle.x_item.specs.declared.trees.declaration.Tag.TheVariants as tags
@@ -10,6 +9,7 @@ use Rattle.x_item.specs.declared.names.mention.Use.{Use}
 use Rattle.x_item.specs.declared.names.mention.Use.TheVariants as uses
 use Rattle.x_sema.specs.Views as views
 use Rattle.x_sema.specs.Views.{View}
+use Rattle.x_sema.specs.Bodies.{EnumeratorAt}
 use Rattle.x_sema.specs.Constants.{is_declared_before}
 use Rattle.x_sema.specs.declared.fault.RuleCode.{RuleCode}
 use Rattle.x_sema.specs.declared.fault.RuleCode.TheVariants as codes
@@ -86,6 +86,6 @@ fault_of_use view before usage tag =
     else (if is_too_late view before usage then Some codes.LateName
     else (if is_of_faulty view usage then Some codes.UsesFaulty else None))))
 
--- the fault of a name that a definition uses
-abbrev pub mention_fault : Definition → (List ℕ → View) → Mention → Option RuleCode
-mention_fault d see m = fault_of_use (see m.name) (is_declared_before d m.word m.name) m.usage m.tag
+-- the fault of a name that an item with these enumerators uses
+abbrev pub mention_fault : (List ℕ → View) → List EnumeratorAt → Mention → Option RuleCode
+mention_fault see es m = fault_of_use (see m.name) (is_declared_before es m.word m.name) m.usage m.tag

@@ -1,5 +1,5 @@
 -- What checking an item gives, and the results of all items of a text.
-use Rattle.std.specs.Prelude.{◌≡◌, ℕ, suc, nat_lt, Bool, true, false, List, [], ◌∷◌, map, Option, Some, None, ℤ, pos, option_map, option_and_then, slice_get, codes, if◌then◌else◌}
+use Rattle.std.specs.Prelude.{◌≡◌, ℕ, suc, nat_eq, nat_lt, Bool, true, false, List, [], ◌∷◌, map, Option, Some, None, ℤ, pos, option_map, option_and_then, slice_get, codes, if◌then◌else◌}
 use Rattle.std.specs.Option.{unwrap_or}
 use Rattle.std.specs.Str.{bytes_eq}
 use Rattle.x_item.specs.Tree as tree
@@ -8,8 +8,8 @@ use Rattle.x_item.specs.Names.{Declared, declared}
 use Rattle.x_item.specs.declared.names.declared_name.NameKind.{NameKind}
 use Rattle.x_item.specs.declared.names.declared_name.NameKind.TheVariants as kinds
 use Rattle.x_sema.specs.Views.{View, Undeclared, Earlier, Own, Later, Meaning, Constant, OfType, Program, Bad, Class, names_of, seen}
-use Rattle.x_sema.specs.Bodies.{BodyAt, bodies}
-use Rattle.x_sema.specs.Constants.{knowns, number_of_name, number_at}
+use Rattle.x_sema.specs.Bodies.{BodyAt, bodies, enumerators}
+use Rattle.x_sema.specs.Constants.{Known, knowns, number_named, number_at}
 use Rattle.x_sema.specs.Types.{body_class, declaration_class, body_height, held_height}
 use Rattle.x_sema.specs.Rules.{AreFaults}
 use Rattle.x_sema.specs.Declarers.{is_beforehand, first_declarer}
@@ -18,41 +18,40 @@ use Rattle.x_sema.specs.declared.names.Declarer.{Declarer}
 
 -- ---- what a declared name means, where its item has no fault
 
--- the number of a constant, or of the enumerator whose name stands at the word
-abbrev pub constant_number : Definition → (List ℕ → View) → ℕ → Option ℤ
-constant_number (tree.Const name value) see word = number_at (tree.Const name value) see 3 value
-constant_number d see word = number_of_name (knowns d see) word
+-- the number of a constant, or of the enumerator of the name
+abbrev pub constant_number : Definition → (List ℕ → View) → List ℕ → Option ℤ
+constant_number (tree.Const own value) see name = number_at see [] 3 value
+constant_number d see name = number_named (knowns see (enumerators d)) name
+
+abbrev pub constant_of : Option ℤ → Meaning
+constant_of None = Bad
+constant_of (Some z) = Constant z
 
 -- a type of a known class
 abbrev pub type_of : Option Class → ℕ → Meaning
 type_of None height = Bad
 type_of (Some class) height = OfType class height
 
--- the type of the body whose type's name stands at the word
-abbrev pub type_named : Definition → (List ℕ → View) → List BodyAt → ℕ → Meaning
-type_named d see [] word = Bad
-type_named d see (b ∷ bs) word =
-    if nat_lt b.named word then type_named d see bs word
-    else (if nat_lt word b.named then type_named d see bs word else type_of (body_class d see b) (body_height see b.body))
+-- the type of the first of these bodies whose type's name stands at the word
+abbrev pub type_named : (List ℕ → View) → List Known → List BodyAt → ℕ → Meaning
+type_named see known [] word = Bad
+type_named see known (b ∷ bs) word =
+    if nat_eq b.named word then type_of (body_class known b.body) (body_height see b.body) else type_named see known bs word
 
 -- the type that a typedef declares
-abbrev pub type_defined : Definition → (List ℕ → View) → Meaning
-type_defined (tree.Typedef declaration) see =
-    type_of (declaration_class (tree.Typedef declaration) see 1 declaration) (suc (held_height see declaration))
-type_defined d see = Bad
+abbrev pub type_defined : (List ℕ → View) → List Known → Definition → Meaning
+type_defined see known (tree.Typedef d) = type_of (declaration_class see known d) (suc (held_height see d))
+type_defined see known d = Bad
+
+-- what a name means that is declared as such at the word
+abbrev pub meaning_as : Definition → (List ℕ → View) → NameKind → List ℕ → ℕ → Meaning
+meaning_as d see kinds.Constant name word = constant_of (constant_number d see name)
+meaning_as d see kinds.Typedef name word = type_defined see (knowns see (enumerators d)) d
+meaning_as d see kinds.Program name word = Program
+meaning_as d see kind name word = type_named see (knowns see (enumerators d)) (bodies d) word
 
 abbrev pub meaning_of : Definition → (List ℕ → View) → Declared → Meaning
-meaning_of d see x = by x.kind
-  where
-    number : Option ℤ → Meaning
-    number None = Bad
-    number (Some z) = Constant z
-
-    by : NameKind → Meaning
-    by kinds.Constant = number (constant_number d see x.word)
-    by kinds.Typedef = type_defined d see
-    by kinds.Program = Program
-    by kind = type_named d see (bodies d) x.word
+meaning_of d see x = meaning_as d see x.kind x.name x.word
 
 -- ---- what checking an item gives
 

@@ -16,7 +16,7 @@ use Rattle.x_sema.specs.Numbers.{in_range, value, is_word_number, is_enum_number
 use Rattle.x_sema.specs.Views as views
 use Rattle.x_sema.specs.Views.{View, Class, NoClass, Signed, Unsigned, Boolean, Enumeration}
 use Rattle.x_sema.specs.Bodies.{BodyAt, EnumeratorAt, NameAt, ValueAt, NumberAt, Members, bodies, enumerators, cases_of, members, name_groups}
-use Rattle.x_sema.specs.Constants.{knowns, number_of_name, number_at, number_spelled}
+use Rattle.x_sema.specs.Constants.{Known, knowns, number_at, number_spelled}
 use Rattle.x_sema.specs.Mentioned.{mention_fault, suits}
 use Rattle.x_sema.specs.Types.{declaration_class, heights}
 use Rattle.x_sema.specs.contracts.fault.RuleCode.{the_type}
@@ -45,22 +45,22 @@ pub record HasName {X : Type 0} (name_of : X → List ℕ) (xs : List X) (name :
   pub same : name_of other ≡ name
 
 -- The word declares a name that an earlier place declares: an earlier item, the same item before, or that is declared beforehand.
-pub record IsDuplicate (d : Definition) (see : List ℕ → View) (word : ℕ) : Type 0 where
+pub record IsDuplicate (names : List Declared) (see : List ℕ → View) (word : ℕ) : Type 0 where
   pub front : List Declared
   pub here : Declared
   pub rear : List Declared
-  pub parts : declared d ≡ front ++ here ∷ rear
+  pub parts : names ≡ front ++ here ∷ rear
   pub word_is : word ≡ here.word
   pub earlier : IsEarlierName (see here.name) ⊎ HasName (λ x. x.name) front here.name
 
 -- ---- 21 to 24, 37
 
 -- The word uses a name, with this fault.
-pub record HasMentionFault (d : Definition) (see : List ℕ → View) (code : RuleCode) (word : ℕ) : Type 0 where
+pub record HasMentionFault (mentions : List Mention) (see : List ℕ → View) (es : List EnumeratorAt) (code : RuleCode) (word : ℕ) : Type 0 where
   pub mention : Mention
-  pub among : IsAmong (mentioned d) mention
+  pub among : IsAmong mentions mention
   pub word_is : word ≡ mention.word
-  pub fault : mention_fault d see mention ≡ Some code
+  pub fault : mention_fault see es mention ≡ Some code
 
 -- ---- 25
 
@@ -93,7 +93,7 @@ pub record IsNoEnumValue (d : Definition) (see : List ℕ → View) (word : ℕ)
   pub given : Value
   pub is_value : HasRole d word (gloss.EnumeratorValue given)
   pub number : ℤ
-  pub number_is : number_at d see word given ≡ Some number
+  pub number_is : number_at see (enumerators d) word given ≡ Some number
   pub outside : is_enum_number number ≡ false
 
 -- The word is the number of a program, a version or a procedure, and not from 0 to 2^32-1.
@@ -105,17 +105,17 @@ pub record IsNoNumber (d : Definition) (word : ℕ) : Type 0 where
   pub outside : is_word_number (value text) ≡ false
 
 -- The word is the name of an enumerator without a value, and its number is outside 32 bits with a sign: it is 2147483648.
-pub record IsPastLast (d : Definition) (see : List ℕ → View) (word : ℕ) : Type 0 where
-  pub enumerator : EnumeratorAt
-  pub among : IsAmong (enumerators d) enumerator
-  pub word_is : word ≡ enumerator.word
-  pub no_value : enumerator.given ≡ None
+pub record IsPastLast (known : List Known) (word : ℕ) : Type 0 where
+  pub here : Known
+  pub among : IsAmong known here
+  pub word_is : word ≡ here.enumerator.word
+  pub no_value : here.enumerator.given ≡ None
   pub number : ℤ
-  pub number_is : number_of_name (knowns d see) word ≡ Some number
+  pub number_is : here.number ≡ Some number
   pub outside : is_enum_number number ≡ false
 
 abbrev pub IsOutOfRange : Definition → (List ℕ → View) → ℕ → Type 0
-IsOutOfRange d see word = IsNoConstant d word ⊎ (IsNoEnumValue d see word ⊎ (IsNoNumber d word ⊎ IsPastLast d see word))
+IsOutOfRange d see word = IsNoConstant d word ⊎ (IsNoEnumValue d see word ⊎ (IsNoNumber d word ⊎ IsPastLast (knowns see (enumerators d)) word))
 
 -- ---- 26, 28
 
@@ -131,14 +131,14 @@ pub record IsBadSize (d : Definition) (see : List ℕ → View) (word : ℕ) : T
   pub size : Value
   pub is_size : size_role role ≡ Some size
   pub number : ℤ
-  pub number_is : number_at d see word size ≡ Some number
+  pub number_is : number_at see (enumerators d) word size ≡ Some number
   pub outside : is_word_number number ≡ false
 
 -- The word is the size of a fixed array, and its number is 0.
 pub record IsEmptyArray (d : Definition) (see : List ℕ → View) (word : ℕ) : Type 0 where
   pub size : Value
   pub has_role : HasRole d word (gloss.FixedSize size)
-  pub is_zero : number_at d see word size ≡ Some (pos 0)
+  pub is_zero : number_at see (enumerators d) word size ≡ Some (pos 0)
 
 -- ---- 27
 
@@ -162,7 +162,7 @@ pub record IsVoidPlace (d : Definition) (word : ℕ) : Type 0 where
 pub record IsBadDiscriminant (d : Definition) (see : List ℕ → View) (word : ℕ) : Type 0 where
   pub discriminant : Declaration
   pub has_role : HasRole d word (gloss.Discriminant discriminant)
-  pub no_class : declaration_class d see word discriminant ≡ Some NoClass
+  pub no_class : declaration_class see (knowns see (enumerators d)) discriminant ≡ Some NoClass
 
 -- ---- 31
 
@@ -173,24 +173,24 @@ pub record HasNumber {X : Type 0} (number_of : X → Option ℤ) (xs : List X) (
   pub same : number_of other ≡ Some number
 
 -- The word is the value of a case, and its number stands in an earlier case of the union.
-pub record IsRepeatedCase (d : Definition) (see : List ℕ → View) (word : ℕ) : Type 0 where
+pub record IsRepeatedCase (number_of : ℕ → Value → Option ℤ) (bodies : List BodyAt) (word : ℕ) : Type 0 where
   pub union : BodyAt
-  pub is_body : IsAmong (bodies d) union
+  pub is_body : IsAmong bodies union
   pub front : List ValueAt
   pub here : ValueAt
   pub rear : List ValueAt
   pub parts : cases_of union ≡ front ++ here ∷ rear
   pub word_is : word ≡ here.word
   pub number : ℤ
-  pub number_is : number_at d see here.word here.value ≡ Some number
-  pub earlier : HasNumber (λ v. number_at d see v.word v.value) front number
+  pub number_is : number_of here.word here.value ≡ Some number
+  pub earlier : HasNumber (λ v. number_of v.word v.value) front number
 
 -- ---- 32
 
 -- The word names a field, an arm, a version or a procedure as an earlier one of the same body, program or version is named.
-pub record IsRepeatedField (d : Definition) (word : ℕ) : Type 0 where
+pub record IsRepeatedField (groups : List (List NameAt)) (word : ℕ) : Type 0 where
   pub group : List NameAt
-  pub is_group : IsAmong (name_groups d) group
+  pub is_group : IsAmong groups group
   pub front : List NameAt
   pub here : NameAt
   pub rear : List NameAt
@@ -201,9 +201,9 @@ pub record IsRepeatedField (d : Definition) (word : ℕ) : Type 0 where
 -- ---- 33
 
 -- The word is the number of a version or a procedure, which an earlier one of the same program or version has.
-pub record IsRepeatedNumber (d : Definition) (word : ℕ) : Type 0 where
+pub record IsRepeatedNumber (groups : List Members) (word : ℕ) : Type 0 where
   pub group : Members
-  pub is_group : IsAmong (members d) group
+  pub is_group : IsAmong groups group
   pub front : List NumberAt
   pub here : NumberAt
   pub rear : List NumberAt
@@ -216,37 +216,37 @@ pub record IsRepeatedNumber (d : Definition) (word : ℕ) : Type 0 where
 -- ---- 34
 
 -- The word is the own name of a type whose height, or that of a type lifted from it, is over 32.
-pub record IsTooHigh (d : Definition) (see : List ℕ → View) (word : ℕ) : Type 0 where
+pub record IsTooHigh (names : List Declared) (heights : List ℕ) (word : ℕ) : Type 0 where
   pub own : Declared
-  pub among : IsAmong (declared d) own
+  pub among : IsAmong names own
   pub is_type : suits None own.kind ≡ true
   pub not_lifted : own.lifted ≡ false
   pub word_is : word ≡ own.word
   pub height : ℕ
-  pub is_height : IsAmong (heights d see) height
+  pub is_height : IsAmong heights height
   pub outside : MOST_HEIGHT < height
 
 -- ---- all but 30
 
 -- The word of the definition breaks the rule; of the rule for cases see `IsFault`.
 abbrev pub Breaks : Definition → (List ℕ → View) → ℕ → RuleCode → Type 0
-Breaks d see word codes.Duplicate = IsDuplicate d see word
-Breaks d see word codes.Unknown = HasMentionFault d see codes.Unknown word
-Breaks d see word codes.LateName = HasMentionFault d see codes.LateName word
-Breaks d see word codes.NotType = HasMentionFault d see codes.NotType word
-Breaks d see word codes.NotConst = HasMentionFault d see codes.NotConst word
+Breaks d see word codes.Duplicate = IsDuplicate (declared d) see word
+Breaks d see word codes.Unknown = HasMentionFault (mentioned d) see (enumerators d) codes.Unknown word
+Breaks d see word codes.LateName = HasMentionFault (mentioned d) see (enumerators d) codes.LateName word
+Breaks d see word codes.NotType = HasMentionFault (mentioned d) see (enumerators d) codes.NotType word
+Breaks d see word codes.NotConst = HasMentionFault (mentioned d) see (enumerators d) codes.NotConst word
 Breaks d see word codes.Range = IsOutOfRange d see word
 Breaks d see word codes.BadSize = IsBadSize d see word
 Breaks d see word codes.VoidPlace = IsVoidPlace d word
 Breaks d see word codes.EmptyArray = IsEmptyArray d see word
 Breaks d see word codes.BadDiscriminant = IsBadDiscriminant d see word
 Breaks d see word codes.BadCase = ⊥
-Breaks d see word codes.RepeatedCase = IsRepeatedCase d see word
-Breaks d see word codes.RepeatedField = IsRepeatedField d word
-Breaks d see word codes.RepeatedNumber = IsRepeatedNumber d word
-Breaks d see word codes.TooHigh = IsTooHigh d see word
+Breaks d see word codes.RepeatedCase = IsRepeatedCase (number_at see (enumerators d)) (bodies d) word
+Breaks d see word codes.RepeatedField = IsRepeatedField (name_groups d) word
+Breaks d see word codes.RepeatedNumber = IsRepeatedNumber (members d) word
+Breaks d see word codes.TooHigh = IsTooHigh (declared d) (heights d see) word
 Breaks d see word codes.InlineArgument = HasRole d word gloss.InlineArgument
-Breaks d see word codes.UsesFaulty = HasMentionFault d see codes.UsesFaulty word
+Breaks d see word codes.UsesFaulty = HasMentionFault (mentioned d) see (enumerators d) codes.UsesFaulty word
 
 -- ---- 30
 
@@ -282,9 +282,9 @@ pub record IsBadCase (d : Definition) (see : List ℕ → View) (word : ℕ) : T
   pub is_case : IsAmong (cases_of union) case
   pub word_is : word ≡ case.word
   pub number : ℤ
-  pub number_is : number_at d see case.word case.value ≡ Some number
+  pub number_is : number_at see (enumerators d) case.word case.value ≡ Some number
   pub class : Class
-  pub class_is : declaration_class d see at discriminant ≡ Some class
+  pub class_is : declaration_class see (knowns see (enumerators d)) discriminant ≡ Some class
   pub outside : IsOutside class number
   pub no_fault : HasNoFault d see at discriminant
 

@@ -1,5 +1,5 @@
 -- What types are as discriminants, and how high they are.
-use Rattle.std.specs.Prelude.{ℕ, ◌+◌, suc, max, Bool, true, false, List, [], ◌∷◌, map, Option, Some, None, ℤ, option_map, if◌then◌else◌}
+use Rattle.std.specs.Prelude.{ℕ, ◌+◌, suc, max, Bool, true, false, List, [], ◌∷◌, ◌++◌, map, Option, Some, None, ℤ, option_map, if◌then◌else◌}
 use Rattle.std.specs.Option.{option_map_or}
 use lib.Signed.{lt_z}
 use Rattle.x_item.specs.Tree as tree
@@ -11,8 +11,8 @@ use Rattle.x_item.specs.declared.names.mention.Use.{Use}
 use Rattle.x_item.specs.declared.names.mention.Use.TheVariants as uses
 use Rattle.x_sema.specs.Views as views
 use Rattle.x_sema.specs.Views.{View, Class, NoClass, Signed, Unsigned, Boolean, Enumeration}
-use Rattle.x_sema.specs.Bodies.{BodyAt, enumerators_of, bodies}
-use Rattle.x_sema.specs.Constants.{knowns, number_of_name}
+use Rattle.x_sema.specs.Bodies.{BodyAt, bodies}
+use Rattle.x_sema.specs.Constants.{Known, number_named}
 use Rattle.x_sema.specs.Mentioned.{suits}
 
 -- what a use by value sees of a type; none where the use has a fault
@@ -55,28 +55,25 @@ basic_class basics.Bool = Boolean
 basic_class basic = NoClass
 
 -- the class of an enum: its numbers; there is none that is known where an enumerator has no number
-abbrev pub enum_class : tree.Definition → (List ℕ → View) → BodyAt → Option Class
-enum_class d see b = option_map (λ zs. Enumeration (number_set zs)) (if_all (map (λ e. number_of_name (knowns d see) e.word) (enumerators_of b)))
+abbrev pub enum_class : List Known → List tree.Enumerator → Option Class
+enum_class known es = option_map (λ zs. Enumeration (number_set zs)) (if_all (map (λ e. number_named known e.name) es))
 
-abbrev pub body_class : tree.Definition → (List ℕ → View) → BodyAt → Option Class
-body_class d see b = of b.body
-  where
-    of : tree.Body → Option Class
-    of (tree.Enum es) = enum_class d see b
-    of body = Some NoClass
+abbrev pub body_class : List Known → tree.Body → Option Class
+body_class known (tree.Enum es) = enum_class known es
+body_class known body = Some NoClass
 
--- the class of a type whose first word is this one; none is known where the use of a name has a fault
-abbrev pub type_class : tree.Definition → (List ℕ → View) → ℕ → tree.DataType → Option Class
-type_class d see at (tree.Simple basic) = Some (basic_class basic)
-type_class d see at (tree.Name name) = option_map (λ s. s.class) (type_seen (see name) None)
-type_class d see at (tree.Tagged tag name) = option_map (λ s. s.class) (type_seen (see name) (Some tag))
-type_class d see at (tree.Inline body) = body_class d see (record { named = at; at = at + 1; body = body })
+-- the class of a type; none is known where the use of a name has a fault
+abbrev pub type_class : (List ℕ → View) → List Known → tree.DataType → Option Class
+type_class see known (tree.Simple basic) = Some (basic_class basic)
+type_class see known (tree.Name name) = option_map (λ s. s.class) (type_seen (see name) None)
+type_class see known (tree.Tagged tag name) = option_map (λ s. s.class) (type_seen (see name) (Some tag))
+type_class see known (tree.Inline body) = body_class known body
 
 -- the class of what a declaration gives: that of its type, where it is plain; `void` gives none to be known
-abbrev pub declaration_class : tree.Definition → (List ℕ → View) → ℕ → tree.Declaration → Option Class
-declaration_class d see at tree.Void = None
-declaration_class d see at (tree.Of type name tree.Plain) = type_class d see at type
-declaration_class d see at declaration = Some NoClass
+abbrev pub declaration_class : (List ℕ → View) → List Known → tree.Declaration → Option Class
+declaration_class see known tree.Void = None
+declaration_class see known (tree.Of type name tree.Plain) = type_class see known type
+declaration_class see known declaration = Some NoClass
 
 -- ---- heights
 
@@ -121,7 +118,11 @@ abbrev mutual
   default_height see tree.no_default = 0
   default_height see (tree.default d) = held_height see d
 
+-- the height of the type that a typedef declares
+abbrev pub defined_heights : tree.Definition → (List ℕ → View) → List ℕ
+defined_heights (tree.Typedef d) see = suc (held_height see d) ∷ []
+defined_heights d see = []
+
 -- the heights of the types that a definition declares, lifted ones too
 abbrev pub heights : tree.Definition → (List ℕ → View) → List ℕ
-heights (tree.Typedef d) see = suc (held_height see d) ∷ map (λ b. body_height see b.body) (bodies (tree.Typedef d))
-heights d see = map (λ b. body_height see b.body) (bodies d)
+heights d see = defined_heights d see ++ map (λ b. body_height see b.body) (bodies d)

@@ -90,7 +90,7 @@ fn add_bad_cases_of(
     if has_fault(found, at, body.behind_discriminant) {
         return Ok(());
     }
-    let Some(choice) = declaration_class(alloc, sights, constants, at, &union.discriminant)? else {
+    let Some(choice) = declaration_class(alloc, sights, constants, &union.discriminant)? else {
         return Ok(());
     };
     for case in &body.cases {

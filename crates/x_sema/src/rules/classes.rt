@@ -30,26 +30,21 @@ fn basic_class(basic: Basic) -> Class<'static> {
     }
 }
 
-/// The numbers of the enum whose first name stands at the word, in ascending order, each once; none where one has no number, or one
-/// that no enum may have.
+/// The numbers of an enum, in ascending order, each once; none where one has no number, or one that no enum may have.
 pub fn enum_numbers(
     alloc: Global,
     constants: &Constants,
-    at: usize,
     enumerators: &[Enumerator],
 ) -> Result<Option<Vec<i32>>, NoMemory> {
     let mut numbers = Vec::new(alloc);
-    let mut word = at;
     for enumerator in enumerators {
-        let Some(number) = constants.number_of_name(word) else {
+        let Some(number) = constants.number_named(&enumerator.name) else {
             return Ok(None);
         };
         let Ok(number) = i32::try_from(number) else {
             return Ok(None);
         };
         numbers.push(number)?;
-        let words = if enumerator.value.is_some() { 4 } else { 2 };
-        word = word.saturating_add(words);
     }
     numbers.sort_unstable();
     numbers.dedup();
@@ -71,46 +66,41 @@ fn named_class<'v>(sights: &Sights<'v>, name: &[u8], tag: Option<Tag>) -> Option
     Some(Choice::Class(class))
 }
 
-/// The class of an inline type whose body begins at the word.
-fn inline_class<'v>(
+/// The class of the type of a body; none where it is not known.
+pub fn body_class<'v>(
     alloc: Global,
     constants: &Constants,
-    at: usize,
     body: &Body,
 ) -> Result<Option<Choice<'v>>, NoMemory> {
     match body {
-        Body::Enum(enumerators) => {
-            match enum_numbers(alloc, constants, at.saturating_add(1), enumerators)? {
-                Some(numbers) => Ok(Some(Choice::Numbers(numbers))),
-                None => Ok(None),
-            }
-        }
+        Body::Enum(enumerators) => match enum_numbers(alloc, constants, enumerators)? {
+            Some(numbers) => Ok(Some(Choice::Numbers(numbers))),
+            None => Ok(None),
+        },
         _ => Ok(Some(Choice::Class(Class::Other))),
     }
 }
 
-/// The class of a type whose first word is this one; none where it is not known.
+/// The class of a type; none where it is not known.
 fn type_class<'v>(
     alloc: Global,
     sights: &Sights<'v>,
     constants: &Constants,
-    at: usize,
     data: &DataType,
 ) -> Result<Option<Choice<'v>>, NoMemory> {
     match data {
         DataType::Basic(basic) => Ok(Some(Choice::Class(basic_class(*basic)))),
         DataType::Named(name) => Ok(named_class(sights, name, None)),
         DataType::Tagged { tag, name } => Ok(named_class(sights, name, Some(*tag))),
-        DataType::Inline(body) => inline_class(alloc, constants, at.saturating_add(1), body),
+        DataType::Inline(body) => body_class(alloc, constants, body),
     }
 }
 
-/// The class of what a declaration gives, whose first word is this one; none where it is not known.
+/// The class of what a declaration gives; none where it is not known.
 pub fn declaration_class<'v>(
     alloc: Global,
     sights: &Sights<'v>,
     constants: &Constants,
-    at: usize,
     declaration: &Declaration,
 ) -> Result<Option<Choice<'v>>, NoMemory> {
     match declaration {
@@ -119,7 +109,7 @@ pub fn declaration_class<'v>(
             data,
             shape: Shape::Plain,
             ..
-        } => type_class(alloc, sights, constants, at, data),
+        } => type_class(alloc, sights, constants, data),
         _ => Ok(Some(Choice::Class(Class::Other))),
     }
 }

@@ -170,9 +170,9 @@ impl<'d> Constants<'d> {
         }
     }
 
-    /// The number of the enumerator whose name stands at the word.
-    pub fn number_of_name(&self, word: usize) -> Option<i128> {
-        let place = self.list.binary_search_by_key(&word, |e| e.word).ok()?;
+    /// The number of the first enumerator of the name.
+    pub fn number_named(&self, name: &[u8]) -> Option<i128> {
+        let place = self.places.get(name).copied()?;
         self.numbers.get(place).copied().flatten()
     }
 }

@@ -1,14 +1,15 @@
 //! What the names mean that an item declares.
 
-use super::classes::{Choice, declaration_class, enum_numbers};
+use super::classes::{Choice, body_class, declaration_class};
 use super::constants::Constants;
 use super::heights::{body_height, held_height};
 use super::sights::Sights;
 use crate::checked::{Kept, KeptClass, Meanings};
 use crate::outline::parts::BodyAt;
 use crate::views::Class;
+use indexmap::IndexMap;
 use std::alloc::Global;
-use x_item::{Body, Declaration, DeclaredName, Definition, NameKind};
+use x_item::{DeclaredName, Definition, NameKind};
 use x_text::NoMemory;
 
 /// Keeps the numbers of an enum.
@@ -44,26 +45,24 @@ fn keep_type(list: &mut Meanings, choice: Option<Choice>, height: u32) -> Result
     }
 }
 
-/// What the type of a body is as a discriminant.
-fn body_choice<'v>(
-    alloc: Global,
-    body: &BodyAt,
-    constants: &Constants,
-) -> Result<Option<Choice<'v>>, NoMemory> {
-    match body.body {
-        Body::Enum(enumerators) => {
-            match enum_numbers(alloc, constants, body.at.saturating_add(1), enumerators)? {
-                Some(numbers) => Ok(Some(Choice::Numbers(numbers))),
-                None => Ok(None),
-            }
+/// The places of bodies, by the words that name their types.
+fn places_of(alloc: Global, bodies: &[BodyAt]) -> Result<IndexMap<usize, usize>, NoMemory> {
+    let mut places = IndexMap::new(alloc);
+    for (place, body) in bodies.iter().enumerate() {
+        if places.get(&body.named).is_none() {
+            places.insert(body.named, place)?;
         }
-        _ => Ok(Some(Choice::Class(Class::Other))),
     }
+    Ok(places)
 }
 
 /// The body whose type's name stands at the word.
-fn body_named<'b, 'd>(bodies: &'b [BodyAt<'d>], word: usize) -> Option<&'b BodyAt<'d>> {
-    let place = bodies.binary_search_by_key(&word, |body| body.named).ok()?;
+fn body_named<'b, 'd>(
+    bodies: &'b [BodyAt<'d>],
+    places: &IndexMap<usize, usize>,
+    word: usize,
+) -> Option<&'b BodyAt<'d>> {
+    let place = places.get(&word).copied()?;
     bodies.get(place)
 }
 
@@ -74,52 +73,79 @@ fn number_meaning(number: Option<i128>) -> Kept {
     }
 }
 
+/// What the name of a body's type means.
+fn keep_named(
+    alloc: Global,
+    list: &mut Meanings,
+    body: Option<&BodyAt>,
+    sights: &Sights,
+    constants: &Constants,
+) -> Result<Kept, NoMemory> {
+    match body {
+        Some(body) => {
+            let choice = body_class(alloc, constants, body.body)?;
+            keep_type(list, choice, body_height(sights, body.body))
+        }
+        None => Ok(Kept::Bad),
+    }
+}
+
+/// What the name of a typedef means.
+fn keep_typedef(
+    alloc: Global,
+    list: &mut Meanings,
+    definition: &Definition,
+    sights: &Sights,
+    constants: &Constants,
+) -> Result<Kept, NoMemory> {
+    match definition {
+        Definition::Typedef(declaration) => {
+            let choice = declaration_class(alloc, sights, constants, declaration)?;
+            keep_type(
+                list,
+                choice,
+                held_height(sights, declaration).saturating_add(1),
+            )
+        }
+        _ => Ok(Kept::Bad),
+    }
+}
+
+/// The number of a constant of the name.
+fn constant_number(
+    definition: &Definition,
+    name: &[u8],
+    sights: &Sights,
+    constants: &Constants,
+) -> Option<i128> {
+    match definition {
+        Definition::Const { value, .. } => constants.number_at(sights, 3, value),
+        _ => constants.number_named(name),
+    }
+}
+
 /// What a declared name means.
 fn keep_name(
     alloc: Global,
     list: &mut Meanings,
-    definition: &Definition,
     name: &DeclaredName,
+    definition: &Definition,
     bodies: &[BodyAt],
+    places: &IndexMap<usize, usize>,
     sights: &Sights,
     constants: &Constants,
 ) -> Result<Kept, NoMemory> {
     match name.kind {
+        NameKind::Constant => Ok(number_meaning(constant_number(
+            definition, &name.name, sights, constants,
+        ))),
+        NameKind::Typedef => keep_typedef(alloc, list, definition, sights, constants),
         NameKind::Program => Ok(Kept::Program),
-        NameKind::Constant => Ok(number_meaning(match definition {
-            Definition::Const { value, .. } => constants.number_at(sights, 3, value),
-            _ => constants.number_of_name(name.word),
-        })),
-        NameKind::Typedef => match definition {
-            Definition::Typedef(declaration) => {
-                keep_typedef(alloc, list, declaration, sights, constants)
-            }
-            _ => Ok(Kept::Bad),
-        },
-        _ => match body_named(bodies, name.word) {
-            Some(body) => {
-                let choice = body_choice(alloc, body, constants)?;
-                keep_type(list, choice, body_height(sights, body.body))
-            }
-            None => Ok(Kept::Bad),
-        },
+        _ => {
+            let body = body_named(bodies, places, name.word);
+            keep_named(alloc, list, body, sights, constants)
+        }
     }
-}
-
-/// What a typedef of the declaration means.
-fn keep_typedef(
-    alloc: Global,
-    list: &mut Meanings,
-    declaration: &Declaration,
-    sights: &Sights,
-    constants: &Constants,
-) -> Result<Kept, NoMemory> {
-    let choice = declaration_class(alloc, sights, constants, 1, declaration)?;
-    keep_type(
-        list,
-        choice,
-        held_height(sights, declaration).saturating_add(1),
-    )
 }
 
 /// What the names mean that a definition without a fault declares.
@@ -131,10 +157,11 @@ pub fn meanings(
     sights: &Sights,
     constants: &Constants,
 ) -> Result<Meanings, NoMemory> {
+    let places = places_of(alloc, bodies)?;
     let mut list = Meanings::new(alloc);
     for name in declared {
         let kept = keep_name(
-            alloc, &mut list, definition, name, bodies, sights, constants,
+            alloc, &mut list, name, definition, bodies, &places, sights, constants,
         )?;
         list.names.push(kept)?;
     }

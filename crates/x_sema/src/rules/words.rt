@@ -59,7 +59,7 @@ fn note_fault(
         Note::Misplaced => Some(RuleCode::VoidPlace),
         Note::InlineArgument => Some(RuleCode::InlineArgument),
         Note::Discriminant(declaration) => {
-            match declaration_class(alloc, sights, constants, noted.word, declaration)? {
+            match declaration_class(alloc, sights, constants, declaration)? {
                 Some(Choice::Class(Class::Other)) => Some(RuleCode::BadDiscriminant),
                 _ => None,
             }
