@@ -4,5 +4,6 @@ pub mod Digits
 pub mod FaultLists
 pub mod ListLemmas
 pub mod NameLemmas
+pub mod PlaceLemmas
 pub mod ResultLaws
 pub mod RuleTextLemmas

@@ -9,5 +9,6 @@ pub mod Results
 pub mod RuleTexts
 pub mod Rules
 pub mod RustViews
+pub mod Tables
 pub mod Types
 pub mod Views
