@@ -2,6 +2,7 @@ pub mod AmongLemmas
 pub mod DeclarerLaws
 pub mod Digits
 pub mod FaultLists
+pub mod HeightLemmas
 pub mod ListLemmas
 pub mod NameLemmas
 pub mod PlaceLemmas

@@ -2,6 +2,7 @@ pub mod Bodies
 pub mod Constants
 pub mod DeclarerTable
 pub mod Declarers
+pub mod Found
 pub mod KeptViews
 pub mod Mentioned
 pub mod Numbers

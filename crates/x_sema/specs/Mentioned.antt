@@ -10,7 +10,7 @@ use Rattle.x_item.specs.declared.names.mention.Use.TheVariants as uses
 use Rattle.x_sema.specs.Views as views
 use Rattle.x_sema.specs.Views.{View}
 use Rattle.x_sema.specs.Bodies.{EnumeratorAt}
-use Rattle.x_sema.specs.Constants.{is_declared_before}
+use Rattle.x_sema.specs.Constants.{limit_of, is_declared_before}
 use Rattle.x_sema.specs.declared.fault.RuleCode.{RuleCode}
 use Rattle.x_sema.specs.declared.fault.RuleCode.TheVariants as codes
 
@@ -88,4 +88,4 @@ fault_of_use view before usage tag =
 
 -- the fault of a name that an item with these enumerators uses
 abbrev pub mention_fault : (List ℕ → View) → List EnumeratorAt → Mention → Option RuleCode
-mention_fault see es m = fault_of_use (see m.name) (is_declared_before es m.word m.name) m.usage m.tag
+mention_fault see es m = fault_of_use (see m.name) (is_declared_before es (limit_of m.word) m.name) m.usage m.tag

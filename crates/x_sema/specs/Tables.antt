@@ -1,5 +1,5 @@
 -- What the program keeps of an item while it is checked, as the definitions have it.
-use Rattle.std.specs.Prelude.{◌≡◌, ℕ, suc, Bool, List, [], ◌∷◌, ◌++◌, length, map, take, Option, Some, None, ℤ, option_map, slice_get, Vec, if◌then◌else◌}
+use Rattle.std.specs.Prelude.{◌≡◌, ℕ, suc, ◌-◌, ◌^◌, min, true, false, Bool, List, [], ◌∷◌, ◌++◌, length, map, take, Option, Some, None, ℤ, option_map, slice_get, Vec, if◌then◌else◌}
 use Rattle.std.specs.Borrow.{Bor}
 use Rattle.std.specs.List.{IsAmong}
 use Rattle.std.specs.Map.{lookup}
@@ -8,11 +8,15 @@ use Rattle.std.specs.Str.{bytes_eq}
 use Rattle.x_item.specs.Tree as tree
 use Rattle.x_item.specs.View.{view_value, view_body}
 use Rattle.x_item.specs.declared.trees.value.Value.{Value}
+use Rattle.x_item.specs.declared.names.mention.Use.{Use}
+use Rattle.x_item.specs.declared.names.mention.Use.TheVariants as uses
 use Rattle.x_sema.specs.Views as views
 use Rattle.x_sema.specs.Bodies as bodies
 use Rattle.x_sema.specs.Constants.{Known}
 use Rattle.x_sema.specs.Declarers.{or_else}
-use Rattle.x_sema.specs.RustViews.{view_view}
+use Rattle.x_sema.specs.Types as types
+use Rattle.x_sema.specs.RustViews.{view_class, view_view}
+use Rattle.x_sema.specs.declared.rules.classes.Sight.{Sight}
 use Rattle.x_sema.specs.declared.fault.RuleCode.{RuleCode}
 use Rattle.x_sema.specs.declared.fault.WordFault.{WordFault}
 use Rattle.x_sema.specs.declared.views.View.{View}
@@ -61,6 +65,19 @@ view_at vs (Some place) = option_map_or view_view (slice_get vs place) views.Und
 -- what an item sees of a name, by the table of its views
 abbrev pub seen_by : Sights → List ℕ → views.View
 seen_by sights name = view_at sights.views.now (place_in sights.places.entries name)
+
+abbrev pub view_sight : Sight → types.Sight
+view_sight s = record { class = view_class s.class; height = s.height }
+
+-- ---- heights
+
+-- a height, as far as it is counted
+abbrev pub capped : ℕ → ℕ
+capped height = min height (2 ^ 32 - 1)
+
+abbrev pub is_by_value : Use → Bool
+is_by_value uses.ByValue = true
+is_by_value usage = false
 
 -- ---- parts of definitions
 

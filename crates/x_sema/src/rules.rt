@@ -4,6 +4,7 @@ pub mod cases;
 pub mod classes;
 pub mod constants;
 pub mod duplicates;
+pub mod found;
 pub mod heights;
 pub mod meanings;
 pub mod mentioned;

@@ -1,5 +1,10 @@
 //! What types are as discriminants.
 
+ghost use Rattle.std.specs.Prelude.{◌≡◌, option_map};
+ghost use Rattle.x_sema.specs.Types.{basic_class, type_seen};
+ghost use Rattle.x_sema.specs.RustViews.{view_class, view_view};
+ghost use Rattle.x_sema.specs.Tables.{view_sight};
+
 use super::constants::Constants;
 use super::mentioned::suits;
 use super::sights::Sights;
@@ -8,20 +13,36 @@ use std::alloc::Global;
 use x_item::{Basic, Body, DataType, Declaration, Enumerator, Shape, Tag};
 use x_text::NoMemory;
 
+/// What a use by value sees of a type.
+#[derive(Clone, Copy, Debug)]
+pub struct Sight<'v> {
+    pub class: Class<'v>,
+    pub height: u32,
+}
+
 /// The type that a use by value sees; none where the use has a fault.
-pub fn type_seen<'v>(view: View<'v>, tag: Option<Tag>) -> Option<(Class<'v>, u32)> {
+pub fn type_seen<'v>(view: View<'v>, tag: Option<Tag>) -> Option<Sight<'v>>
+    ensures { option_map view_sight result ≡ type_seen (view_view view.entry) tag }
+{
     match view {
-        View::Earlier {
-            kind,
-            meaning: Meaning::Type { class, height },
-            ..
-        } if suits(tag, kind) => Some((class, height)),
+        View::Earlier { kind, meaning, .. } => match meaning {
+            Meaning::Type { class, height } => {
+                if suits(tag, kind) {
+                    Some(Sight { class, height })
+                } else {
+                    None
+                }
+            }
+            _ => None,
+        },
         _ => None,
     }
 }
 
 /// The class of a type that is spelled by keywords alone.
-fn basic_class(basic: Basic) -> Class<'static> {
+fn basic_class(basic: Basic) -> Class<'static>
+    ensures { view_class result ≡ basic_class basic }
+{
     match basic {
         Basic::Int | Basic::Long => Class::Signed,
         Basic::Unsigned | Basic::UnsignedInt | Basic::UnsignedLong => Class::Unsigned,
@@ -62,8 +83,8 @@ pub enum Choice<'v> {
 
 /// The class of the type of a name; none where the use has a fault.
 fn named_class<'v>(sights: &Sights<'v>, name: &[u8], tag: Option<Tag>) -> Option<Choice<'v>> {
-    let (class, _) = type_seen(sights.see(name), tag)?;
-    Some(Choice::Class(class))
+    let sight = type_seen(sights.see(name), tag)?;
+    Some(Choice::Class(sight.class))
 }
 
 /// The class of the type of a body; none where it is not known.

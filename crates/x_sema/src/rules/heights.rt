@@ -1,5 +1,13 @@
 //! How high types are.
 
+ghost use Rattle.std.specs.Prelude.{◌≡◌};
+ghost use Rattle.x_item.specs.Gloss.{use_by};
+ghost use Rattle.x_item.specs.View.{view_shape, view_type, view_body, view_declaration, view_declarations};
+ghost use Rattle.x_item.specs.View.{view_arms, view_default};
+ghost use Rattle.x_sema.specs.Types.{seen_height, type_height, body_height, held_height};
+ghost use Rattle.x_sema.specs.Types.{fields_height, arms_height, default_height};
+ghost use Rattle.x_sema.specs.Tables.{seen_by, capped, is_by_value};
+
 use super::classes::type_seen;
 use super::sights::Sights;
 use crate::fault::{RuleCode, WordFault};
@@ -9,20 +17,33 @@ use x_item::{Arm, Body, DataType, Declaration, DeclaredName, Definition, Length,
 use x_text::NoMemory;
 
 /// The height of a type that a name is seen to be; 0 where its use has a fault.
-fn seen_height(sights: &Sights, name: &[u8], tag: Option<Tag>) -> u32 {
+fn seen_height(sights: &Sights, name: &[u8], tag: Option<Tag>) -> u32
+    ensures { result ≡ seen_height (seen_by sights.now name.now) tag }
+{
     match type_seen(sights.see(name), tag) {
-        Some((_, height)) => height,
+        Some(sight) => sight.height,
         None => 0,
     }
 }
 
 /// Whether a declaration of the shape holds values of its type.
-fn is_held(shape: &Shape) -> bool {
-    matches!(shape, Shape::Plain | Shape::Array(Length::Fixed(_)))
+fn is_held(shape: &Shape) -> bool
+    ensures { result ≡ is_by_value (use_by (view_shape shape.now)) }
+{
+    match shape {
+        Shape::Plain => true,
+        Shape::Optional => false,
+        Shape::Array(length) => match length {
+            Length::Fixed(_) => true,
+            Length::Variable(_) => false,
+        },
+    }
 }
 
 #[cycle(height)]
-fn type_height(sights: &Sights, tree: &DataType) -> u32 {
+fn type_height(sights: &Sights, tree: &DataType) -> u32
+    ensures { result ≡ capped (type_height (seen_by sights.now) (view_type tree.now)) }
+{
     match tree {
         DataType::Basic(_) => 0,
         DataType::Named(name) => seen_height(sights, name, None),
@@ -33,24 +54,36 @@ fn type_height(sights: &Sights, tree: &DataType) -> u32 {
 
 /// The height of the type of a body: 1 more than the greatest of those that it holds, and at most the greatest number.
 #[cycle(height)]
-pub fn body_height(sights: &Sights, body: &Body) -> u32 {
+pub fn body_height(sights: &Sights, body: &Body) -> u32
+    ensures { result ≡ capped (body_height (seen_by sights.now) (view_body body.now)) }
+{
     match body {
         Body::Enum(_) => 1,
         Body::Struct(declarations) => fields_height(sights, declarations).saturating_add(1),
         Body::Union(body) => {
-            let mut height = held_height(sights, &body.discriminant);
-            height = height.max(arms_height(sights, &body.arms));
-            if let Some(declaration) = &body.default {
-                height = height.max(held_height(sights, declaration));
-            }
-            height.saturating_add(1)
+            let arms = arms_height(sights, &body.arms);
+            let others = arms.max(default_height(sights, &body.default));
+            let all = held_height(sights, &body.discriminant).max(others);
+            all.saturating_add(1)
         }
+    }
+}
+
+#[cycle(height)]
+fn default_height(sights: &Sights, default: &Option<Declaration>) -> u32
+    ensures { result ≡ capped (default_height (seen_by sights.now) (view_default default.now)) }
+{
+    match default {
+        Some(declaration) => held_height(sights, declaration),
+        None => 0,
     }
 }
 
 /// The height of what a declaration holds.
 #[cycle(height)]
-pub fn held_height(sights: &Sights, declaration: &Declaration) -> u32 {
+pub fn held_height(sights: &Sights, declaration: &Declaration) -> u32
+    ensures { result ≡ capped (held_height (seen_by sights.now) (view_declaration declaration.now)) }
+{
     match declaration {
         Declaration::Of { data, shape, .. } => {
             if is_held(shape) {
@@ -64,8 +97,10 @@ pub fn held_height(sights: &Sights, declaration: &Declaration) -> u32 {
 }
 
 #[cycle(height)]
-fn fields_height(sights: &Sights, declarations: &[Declaration]) -> u32 {
-    let mut height = 0;
+fn fields_height(sights: &Sights, declarations: &[Declaration]) -> u32
+    ensures { result ≡ capped (fields_height (seen_by sights.now) (view_declarations declarations.now)) }
+{
+    let mut height = 0u32;
     for declaration in declarations {
         height = height.max(held_height(sights, declaration));
     }
@@ -73,8 +108,10 @@ fn fields_height(sights: &Sights, declarations: &[Declaration]) -> u32 {
 }
 
 #[cycle(height)]
-fn arms_height(sights: &Sights, arms: &[Arm]) -> u32 {
-    let mut height = 0;
+fn arms_height(sights: &Sights, arms: &[Arm]) -> u32
+    ensures { result ≡ capped (arms_height (seen_by sights.now) (view_arms arms.now)) }
+{
+    let mut height = 0u32;
     for arm in arms {
         height = height.max(held_height(sights, &arm.declaration));
     }

@@ -19,7 +19,7 @@ pub struct Sights<'v> {
 }
 
 /// What the table has for the name.
-fn place_of(places: &IndexMap<&[u8], usize>, name: &[u8]) -> Option<usize>
+pub fn place_of(places: &IndexMap<&[u8], usize>, name: &[u8]) -> Option<usize>
     ensures { result ≡ place_in places.now.entries name.now }
 {
     places.get(name).copied()
