@@ -1,5 +1,5 @@
 -- What the program keeps of an item while it is checked, as the definitions have it.
-use Rattle.std.specs.Prelude.{◌≡◌, ℕ, suc, ◌-◌, ◌^◌, min, true, false, Bool, List, [], ◌∷◌, ◌++◌, length, map, take, Option, Some, None, ℤ, option_map, slice_get, Vec, if◌then◌else◌}
+use Rattle.std.specs.Prelude.{◌≡◌, ℕ, suc, ◌-◌, ◌^◌, min, nat_lt, true, false, Bool, List, [], ◌∷◌, ◌++◌, length, map, take, Option, Some, None, ℤ, option_map, slice_get, Vec, if◌then◌else◌}
 use Rattle.std.specs.Borrow.{Bor}
 use Rattle.std.specs.List.{IsAmong}
 use Rattle.std.specs.Map.{lookup}
@@ -19,6 +19,7 @@ use Rattle.x_sema.specs.RustViews.{view_class, view_view}
 use Rattle.x_sema.specs.declared.rules.classes.Sight.{Sight}
 use Rattle.x_sema.specs.declared.fault.RuleCode.{RuleCode}
 use Rattle.x_sema.specs.declared.fault.WordFault.{WordFault}
+use Rattle.x_sema.specs.declared.views.TheConstants.{MOST_HEIGHT}
 use Rattle.x_sema.specs.declared.views.View.{View}
 use Rattle.x_sema.specs.declared.outline.parts.EnumeratorAt.{EnumeratorAt}
 use Rattle.x_sema.specs.declared.outline.parts.NameAt.{NameAt}
@@ -74,6 +75,10 @@ view_sight s = record { class = view_class s.class; height = s.height }
 -- a height, as far as it is counted
 abbrev pub capped : ℕ → ℕ
 capped height = min height (2 ^ 32 - 1)
+
+-- a height that no type may have
+abbrev pub is_too_high : ℕ → Bool
+is_too_high height = nat_lt MOST_HEIGHT height
 
 abbrev pub is_by_value : Use → Bool
 is_by_value uses.ByValue = true

@@ -1,14 +1,21 @@
 //! How high types are.
 
-ghost use Rattle.std.specs.Prelude.{◌≡◌};
+ghost use Rattle.std.specs.Prelude.{◌≡◌, ◌++◌, ◌||◌, map, OnOk};
+ghost use Rattle.std.specs.List.{list_any};
+ghost use Rattle.x_item.specs.Named.{view_name};
+ghost use Rattle.x_item.specs.View.{view_definition};
+ghost use Rattle.x_sema.specs.Found.{too_high, too_high_faults};
+ghost use Rattle.x_sema.specs.Types.{defined_heights};
 ghost use Rattle.x_item.specs.Gloss.{use_by};
 ghost use Rattle.x_item.specs.View.{view_shape, view_type, view_body, view_declaration, view_declarations};
 ghost use Rattle.x_item.specs.View.{view_arms, view_default};
 ghost use Rattle.x_sema.specs.Types.{seen_height, type_height, body_height, held_height};
 ghost use Rattle.x_sema.specs.Types.{fields_height, arms_height, default_height};
-ghost use Rattle.x_sema.specs.Tables.{seen_by, capped, is_by_value};
+ghost use Rattle.x_sema.specs.Tables.{seen_by, capped, is_by_value, is_too_high};
 
 use super::classes::type_seen;
+use super::found::add_fault;
+use super::mentioned::suits;
 use super::sights::Sights;
 use crate::fault::{RuleCode, WordFault};
 use crate::outline::parts::BodyAt;
@@ -118,37 +125,66 @@ fn arms_height(sights: &Sights, arms: &[Arm]) -> u32
     height
 }
 
-/// Whether a type that the definition declares is too high, a lifted one too.
-fn has_too_high(definition: &Definition, bodies: &[BodyAt], sights: &Sights) -> bool {
-    for body in bodies {
-        if body_height(sights, body.body) > MOST_HEIGHT {
-            return true;
-        }
-    }
+/// Whether the type that a typedef declares is too high.
+fn is_too_high_typedef(definition: &Definition, sights: &Sights) -> bool
+    ensures { result ≡ list_any is_too_high (defined_heights (view_definition definition.now) (seen_by sights.now)) }
+{
     match definition {
         Definition::Typedef(declaration) => held_height(sights, declaration) >= MOST_HEIGHT,
         _ => false,
     }
 }
 
+/// Whether the type of one of the bodies is too high.
+fn has_too_high_body(bodies: &[BodyAt], sights: &Sights) -> bool
+    ensures { result ≡ list_any (λ b. is_too_high (body_height (seen_by sights.now) (view_body b.body.now))) bodies.now }
+{
+    for body in bodies {
+        if body_height(sights, body.body) > MOST_HEIGHT {
+            return true;
+        }
+    }
+    false
+}
+
+/// The fault of a declared name, if a type of the definition is too high.
+fn too_high_fault(high: bool, name: &DeclaredName) -> Option<RuleCode>
+    ensures { result ≡ too_high high (view_name name.now) }
+{
+    if high && !name.lifted && suits(None, name.kind) {
+        Some(RuleCode::TooHigh)
+    } else {
+        None
+    }
+}
+
 /// Adds the fault of a type that is too high, at its own name.
+fn add_too_high_names(
+    faults: &mut Vec<WordFault>,
+    high: bool,
+    declared: &[DeclaredName],
+) -> Result<(), NoMemory>
+    ensures { OnOk result (faults.new.items ≡ faults.old.items ++ too_high_faults high (map view_name declared.now)) }
+{
+    for name in declared {
+        let code = too_high_fault(high, name);
+        add_fault(faults, name.word, code)?;
+    }
+    Ok(())
+}
+
+/// Adds the fault of a type that is too high, a lifted one too, at the own name of the definition.
 pub fn add_too_high(
     faults: &mut Vec<WordFault>,
     definition: &Definition,
     declared: &[DeclaredName],
     bodies: &[BodyAt],
     sights: &Sights,
-) -> Result<(), NoMemory> {
-    if !has_too_high(definition, bodies, sights) {
-        return Ok(());
-    }
-    for name in declared {
-        if !name.lifted && super::mentioned::suits(None, name.kind) {
-            faults.push(WordFault {
-                word: name.word,
-                code: RuleCode::TooHigh,
-            })?;
-        }
-    }
-    Ok(())
+) -> Result<(), NoMemory>
+    ensures { OnOk result (let see = seen_by sights.now in faults.new.items ≡ faults.old.items
+        ++ too_high_faults (list_any is_too_high (defined_heights (view_definition definition.now) see)
+        || list_any (λ b. is_too_high (body_height see (view_body b.body.now))) bodies.now) (map view_name declared.now)) }
+{
+    let high = is_too_high_typedef(definition, sights) || has_too_high_body(bodies, sights);
+    add_too_high_names(faults, high, declared)
 }

@@ -1,7 +1,12 @@
 //! What single words are.
 
+ghost use Rattle.std.specs.Prelude.{◌≡◌};
+ghost use Rattle.x_sema.specs.Found.{past_last};
+ghost use Rattle.x_sema.specs.Tables.{view_given};
+
 use super::classes::{Choice, declaration_class};
 use super::constants::{Constants, is_enum_number, is_word_number};
+use super::found::add_fault;
 use super::sights::Sights;
 use crate::fault::{RuleCode, WordFault};
 use crate::number::number_value;
@@ -86,23 +91,30 @@ pub fn add_words(
     Ok(())
 }
 
-/// Whether an enumerator without a value has a number that no enum may have.
-fn is_past_last(enumerator: &EnumeratorAt, number: Option<i128>) -> bool {
-    match number {
-        Some(number) => enumerator.given.is_none() && !is_enum_number(number),
-        None => false,
+/// The fault of an enumerator without a value, by its number.
+fn past_last(enumerator: &EnumeratorAt, number: Option<i128>) -> Option<RuleCode>
+    ensures { result ≡ past_last (view_given enumerator.now.given) number }
+{
+    match enumerator.given {
+        Some(_) => None,
+        None => match number {
+            Some(number) => {
+                if is_enum_number(number) {
+                    None
+                } else {
+                    Some(RuleCode::Range)
+                }
+            }
+            None => None,
+        },
     }
 }
 
 /// Adds the faults of enumerators without a value.
 pub fn add_past_last(faults: &mut Vec<WordFault>, constants: &Constants) -> Result<(), NoMemory> {
     for (enumerator, number) in constants.list.iter().zip(&constants.numbers) {
-        if is_past_last(enumerator, *number) {
-            faults.push(WordFault {
-                word: enumerator.word,
-                code: RuleCode::Range,
-            })?;
-        }
+        let code = past_last(enumerator, *number);
+        add_fault(faults, enumerator.word, code)?;
     }
     Ok(())
 }
