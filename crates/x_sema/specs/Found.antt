@@ -1,15 +1,19 @@
 -- The faults that each family of rules finds, in the order in which the program finds them.
 use Rattle.std.specs.Prelude.{ℕ, suc, ℤ, nat_lt, Bool, true, false, not, ◌&&◌, ◌||◌, List, [], ◌∷◌, ◌++◌, Option, Some, None, if◌then◌else◌}
 use Rattle.std.specs.List.{flat_map}
-use Rattle.x_item.specs.Tree.{Value}
+use Rattle.x_item.specs.Tree.{Value, Number, Named}
 use Rattle.x_item.specs.Names.{Declared}
 use Rattle.x_item.specs.Mentions.{Mention}
 use Rattle.x_sema.specs.Views as views
-use Rattle.x_sema.specs.Views.{View}
+use Rattle.x_sema.specs.Views.{View, Class, NoClass}
 use Rattle.x_sema.specs.Bodies.{EnumeratorAt}
-use Rattle.x_sema.specs.Constants.{Known}
+use Rattle.x_sema.specs.Constants.{Known, limit_of, number_by, number_spelled}
 use Rattle.x_sema.specs.Mentioned.{mention_fault, suits}
-use Rattle.x_sema.specs.Numbers.{is_enum_number}
+use Rattle.x_sema.specs.Types.{declaration_class}
+use Rattle.x_sema.specs.Notes.{Note, NoteAt, ValueNote, NumberNote, MisplacedNote, DiscriminantNote, InlineNote}
+use Rattle.x_sema.specs.Numbers.{is_enum_number, is_word_number, is_zero}
+use Rattle.x_sema.specs.declared.outline.note.ValueRole.{ValueRole}
+use Rattle.x_sema.specs.declared.outline.note.ValueRole.TheVariants as roles
 use Rattle.x_sema.specs.declared.fault.RuleCode.{RuleCode}
 use Rattle.x_sema.specs.declared.fault.RuleCode.TheVariants as codes
 use Rattle.x_sema.specs.declared.fault.WordFault.{WordFault}
@@ -67,3 +71,43 @@ too_high high x = if high && (not x.lifted && suits None x.kind) then Some codes
 -- the faults of a definition one of whose types is too high
 abbrev pub too_high_faults : Bool → List Declared → List WordFault
 too_high_faults high names = flat_map (λ x. fault_at x.word (too_high high x)) names
+
+-- ---- words by what they are
+
+-- the fault of a value of the role that has the number
+abbrev pub number_fault : ValueRole → ℤ → Option RuleCode
+number_fault roles.Enumerator z = if is_enum_number z then None else Some codes.Range
+number_fault roles.FixedSize z =
+    if is_word_number z then (if is_zero z then Some codes.EmptyArray else None) else Some codes.BadSize
+number_fault roles.GreatestSize z = if is_word_number z then None else Some codes.BadSize
+number_fault role z = None
+
+-- the fault of a value: a number has none where no constant may have it
+abbrev pub value_fault : ValueRole → Value → Option ℤ → Option RuleCode
+value_fault role v (Some z) = number_fault role z
+value_fault role (Number text) None = Some codes.Range
+value_fault role (Named name) None = None
+
+-- the fault of the number of a program, a version or a procedure
+abbrev pub spelled_fault : Option ℤ → Option RuleCode
+spelled_fault None = Some codes.Range
+spelled_fault (Some z) = if is_word_number z then None else Some codes.Range
+
+abbrev pub has_no_class : Option Class → Bool
+has_no_class (Some NoClass) = true
+has_no_class class = false
+
+abbrev pub discriminant_fault : Option Class → Option RuleCode
+discriminant_fault class = if has_no_class class then Some codes.BadDiscriminant else None
+
+-- the fault of a word by what it is
+abbrev pub note_fault : (List ℕ → View) → List Known → ℕ → Note → Option RuleCode
+note_fault see known word (ValueNote role v) = value_fault role v (number_by see known (limit_of word) v)
+note_fault see known word (NumberNote text) = spelled_fault (number_spelled text)
+note_fault see known word MisplacedNote = Some codes.VoidPlace
+note_fault see known word (DiscriminantNote d) = discriminant_fault (declaration_class see known d)
+note_fault see known word InlineNote = Some codes.InlineArgument
+
+-- the faults of words by what they are
+abbrev pub note_faults : (List ℕ → View) → List Known → List NoteAt → List WordFault
+note_faults see known ns = flat_map (λ n. fault_at n.word (note_fault see known n.word n.note)) ns

@@ -5,6 +5,7 @@ pub mod Declarers
 pub mod Found
 pub mod KeptViews
 pub mod Mentioned
+pub mod Notes
 pub mod Numbers
 pub mod Results
 pub mod RuleTexts

@@ -45,3 +45,7 @@ is_word_number (negsuc n) = false
 abbrev pub is_enum_number : ℤ → Bool
 is_enum_number (pos n) = nat_lt n (2 ^ 31)
 is_enum_number (negsuc n) = nat_lt n (2 ^ 31)
+
+abbrev pub is_zero : ℤ → Bool
+is_zero (pos n) = n == 0
+is_zero (negsuc n) = false

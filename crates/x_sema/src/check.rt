@@ -48,7 +48,7 @@ fn other_faults(
     let groups = members(alloc, definition)?;
     add_duplicates(&mut faults, declared, sights)?;
     add_mentioned(&mut faults, mentioned, sights, constants)?;
-    add_words(alloc, &mut faults, &noted, sights, constants)?;
+    add_words(&mut faults, &noted, sights, constants)?;
     add_past_last(&mut faults, constants)?;
     add_repeated_cases(alloc, &mut faults, bodies, sights, constants)?;
     add_repeats(alloc, &mut faults, bodies, &groups)?;

@@ -1,9 +1,12 @@
 //! What types are as discriminants.
 
-ghost use Rattle.std.specs.Prelude.{◌≡◌, option_map};
-ghost use Rattle.x_sema.specs.Types.{basic_class, type_seen};
+ghost use Rattle.std.specs.Prelude.{◌≡◌, List, Some, option_map};
+ghost use Rattle.x_item.specs.View.{view_type, view_body, view_declaration};
+ghost use Rattle.x_sema.specs.Constants.{Known};
+ghost use Rattle.x_sema.specs.Found.{has_no_class};
+ghost use Rattle.x_sema.specs.Types.{basic_class, body_class, declaration_class, type_class, type_seen};
 ghost use Rattle.x_sema.specs.RustViews.{view_class, view_view};
-ghost use Rattle.x_sema.specs.Tables.{view_sight};
+ghost use Rattle.x_sema.specs.Tables.{seen_by, view_sight};
 
 use super::constants::Constants;
 use super::mentioned::suits;
@@ -70,6 +73,62 @@ pub fn enum_numbers(
     numbers.sort_unstable();
     numbers.dedup();
     Ok(Some(numbers))
+}
+
+/// Whether nothing can be told by the class.
+fn is_other(class: Class) -> bool
+    ensures { result ≡ has_no_class (Some (view_class class.entry)) }
+{
+    matches!(class, Class::Other)
+}
+
+/// Whether nothing can be told by the type that a name is seen to be.
+fn has_no_named_class(view: View, tag: Option<Tag>) -> bool
+    ensures { result ≡ has_no_class (option_map (λ s. s.class) (type_seen (view_view view.entry) tag)) }
+{
+    match type_seen(view, tag) {
+        Some(sight) => is_other(sight.class),
+        None => false,
+    }
+}
+
+/// Whether nothing can be told by a type of the body.
+fn has_no_body_class(body: &Body) -> bool
+    ensures { (known : List Known) → result ≡ has_no_class (body_class known (view_body body.now)) }
+{
+    match body {
+        Body::Enum(_) => false,
+        Body::Struct(_) => true,
+        Body::Union(_) => true,
+    }
+}
+
+/// Whether nothing can be told by the type.
+fn has_no_type_class(sights: &Sights, tree: &DataType) -> bool
+    ensures { (known : List Known)
+        → result ≡ has_no_class (type_class (seen_by sights.now) known (view_type tree.now)) }
+{
+    match tree {
+        DataType::Basic(basic) => is_other(basic_class(*basic)),
+        DataType::Named(name) => has_no_named_class(sights.see(name), None),
+        DataType::Tagged { tag, name } => has_no_named_class(sights.see(name), Some(*tag)),
+        DataType::Inline(body) => has_no_body_class(body),
+    }
+}
+
+/// Whether no union can be told by what the declaration gives.
+pub fn has_no_class(sights: &Sights, declaration: &Declaration) -> bool
+    ensures { (known : List Known)
+        → result ≡ has_no_class (declaration_class (seen_by sights.now) known (view_declaration declaration.now)) }
+{
+    match declaration {
+        Declaration::Void => false,
+        Declaration::Of { data, shape, .. } => match shape {
+            Shape::Plain => has_no_type_class(sights, data),
+            _ => true,
+        },
+        _ => true,
+    }
 }
 
 /// What a discriminant may be.
