@@ -1,6 +1,8 @@
 pub mod AmongLemmas
 pub mod DeclarerLaws
 pub mod Digits
+pub mod DuplicateLemmas
+pub mod FamilyLemmas
 pub mod FaultLists
 pub mod HeightLemmas
 pub mod ListLemmas
