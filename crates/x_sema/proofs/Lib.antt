@@ -7,6 +7,7 @@ pub mod FaultLists
 pub mod HeightLemmas
 pub mod ListLemmas
 pub mod NameLemmas
+pub mod NoteLemmas
 pub mod PlaceLemmas
 pub mod ResultLaws
 pub mod RuleTextLemmas

@@ -3,6 +3,10 @@
 ghost use Rattle.std.specs.Prelude.{◌≡◌, IfOk, map};
 ghost use Rattle.x_text.specs.Counts.{raised};
 ghost use Rattle.x_item.specs.View.{view_definition};
+ghost use Rattle.std.specs.Cmp.{IsTotalOrder};
+ghost use Rattle.std.specs.Ordering.{eq_by_cmp};
+ghost use Rattle.std.specs.List.{IsAmong};
+ghost use Rattle.x_sema.specs.Rules.{Ascends};
 ghost use Rattle.x_sema.specs.Declarers.{IsShort};
 ghost use Rattle.x_sema.specs.Results.{IsOutcome};
 ghost use Rattle.x_sema.specs.RustViews.{view_view};
@@ -27,8 +31,19 @@ use std::alloc::Global;
 use x_item::{DeclaredName, Definition, Mention, declares, mentions};
 use x_text::{Meter, NoMemory};
 
+/// The laws of an order, as the prover has them of any type.
+fn order_laws<T: Ord>()
+    ensures total { IsTotalOrder T.cmp }
+    ensures ties { (x y : T) → T.eq x y ≡ eq_by_cmp T.cmp x y }
+{}
+
 /// Puts faults in order, and leaves each once.
-fn order(faults: &mut Vec<WordFault>) {
+fn order(faults: &mut Vec<WordFault>)
+    ensures ascend { Ascends faults.new.items }
+    ensures from { (f : WordFault) → IsAmong faults.new.items f → IsAmong faults.old.items f }
+    ensures kept { (f : WordFault) → IsAmong faults.old.items f → IsAmong faults.new.items f }
+{
+    order_laws::<WordFault>();
     faults.sort_unstable();
     faults.dedup();
 }
