@@ -3,7 +3,7 @@
 ghost use Rattle.std.specs.Prelude.{◌≡◌, IfOk, map};
 ghost use Rattle.x_text.specs.Counts.{raised};
 ghost use Rattle.x_item.specs.View.{view_definition};
-ghost use Rattle.std.specs.Cmp.{IsTotalOrder};
+ghost use Rattle.std.specs.Cmp.{IsEquivalence, IsTotalOrder};
 ghost use Rattle.std.specs.Ordering.{eq_by_cmp};
 ghost use Rattle.std.specs.List.{IsAmong};
 ghost use Rattle.x_sema.specs.Rules.{Ascends};
@@ -35,6 +35,7 @@ use x_text::{Meter, NoMemory};
 fn order_laws<T: Ord>()
     ensures total { IsTotalOrder T.cmp }
     ensures ties { (x y : T) → T.eq x y ≡ eq_by_cmp T.cmp x y }
+    ensures equal { IsEquivalence T.eq }
 {}
 
 /// Puts faults in order, and leaves each once.
