@@ -12,3 +12,4 @@ pub mod OrderLemmas
 pub mod PlaceLemmas
 pub mod ResultLaws
 pub mod RuleTextLemmas
+pub mod WordRuleLemmas
