@@ -12,16 +12,16 @@ use Rattle.x_sema.specs.Bodies.{enumerators}
 use Rattle.x_sema.specs.Numbers.{magnitude, is_negative, in_range, value, is_word_number, is_enum_number, is_zero}
 use Rattle.x_sema.specs.Constants.{Known, knowns, limit_of, number_by, number_spelled}
 use Rattle.x_sema.specs.Types.{declaration_class}
-use Rattle.x_sema.specs.Notes.{Note, NoteAt, ValueNote, NumberNote, MisplacedNote, DiscriminantNote, InlineNote, noted}
+use Rattle.x_sema.specs.Notes.{Note, NoteAt, ValueNote, NumberNote, MisplacedNote, DiscriminantNote, InlineNote, void_note, note_of, noted}
 use Rattle.x_sema.specs.Found.{fault_at, number_fault, value_fault, spelled_fault, has_no_class, discriminant_fault, note_fault, note_faults}
-use Rattle.x_sema.specs.Rules.{HasRole, Breaks, IsNoConstant, IsNoEnumValue, IsNoNumber, IsBadSize, IsEmptyArray, IsVoidPlace, IsBadDiscriminant, value_role, number_role, size_role}
+use Rattle.x_sema.specs.Rules.{HasRole, Breaks, IsNoConstant, IsNoEnumValue, IsNoNumber, IsBadSize, IsEmptyArray, IsVoidPlace, IsBadDiscriminant, value_role, number_role, size_role, is_misplaced}
 use Rattle.x_sema.specs.declared.outline.note.ValueRole.{ValueRole}
 use Rattle.x_sema.specs.declared.outline.note.ValueRole.TheVariants as roles
 use Rattle.x_sema.specs.declared.fault.RuleCode.{RuleCode}
 use Rattle.x_sema.specs.declared.fault.RuleCode.TheVariants as codes
 use Rattle.x_sema.specs.declared.fault.WordFault.{WordFault}
-use Rattle.x_sema.proofs.FamilyLemmas.{flat_among, fault_is}
-use Rattle.x_sema.proofs.NoteLemmas.{ComesFrom, comes_from, noted_role, value_role_of}
+use Rattle.x_sema.proofs.FamilyLemmas.{flat_among, among_flat, fault_is, is_fault}
+use Rattle.x_sema.proofs.NoteLemmas.{ComesFrom, comes_from, noted_role, role_noted, value_role_of}
 
 abbrev no_code : Option RuleCode
 no_code = None
@@ -129,3 +129,93 @@ found_note d see f h =
     let from = noted_role d o.one o.among in
     subst (λ word. Breaks d see word f.code) (sym is.word_is)
     (note_breaks d see o.one.word from.role o.one.note f.code from.has_role (comes_from from.role o.one.note from.note_is) is.code_is)
+
+-- ---- and each word that breaks one of these rules is found
+
+value_noted : (role : Role) (v : tree.Value) → value_role role ≡ Some v → (r : ValueRole) × (note_of role ≡ Some (ValueNote r v))
+value_noted (gloss.ConstantValue w) v h = (roles.Constant, ap (λ x. Some (ValueNote roles.Constant x)) (same_Some w v h))
+value_noted (gloss.EnumeratorValue w) v h = (roles.Enumerator, ap (λ x. Some (ValueNote roles.Enumerator x)) (same_Some w v h))
+value_noted (gloss.CaseValue w) v h = (roles.Case, ap (λ x. Some (ValueNote roles.Case x)) (same_Some w v h))
+value_noted (gloss.FixedSize w) v h = (roles.FixedSize, ap (λ x. Some (ValueNote roles.FixedSize x)) (same_Some w v h))
+value_noted (gloss.GreatestSize w) v h = (roles.GreatestSize, ap (λ x. Some (ValueNote roles.GreatestSize x)) (same_Some w v h))
+value_noted role v h = absurd (cc)
+
+number_noted : (role : Role) (text : List ℕ) → number_role role ≡ Some text → note_of role ≡ Some (NumberNote text)
+number_noted (gloss.ProgramNumber t) text h = ap (λ x. Some (NumberNote x)) (same_Some t text h)
+number_noted (gloss.VersionNumber t) text h = ap (λ x. Some (NumberNote x)) (same_Some t text h)
+number_noted (gloss.ProcedureNumber t) text h = ap (λ x. Some (NumberNote x)) (same_Some t text h)
+number_noted role text h = absurd (cc)
+
+misplaced_noted : (role : Role) → is_misplaced role ≡ true → note_of role ≡ Some MisplacedNote
+misplaced_noted (gloss.VoidDeclaration gloss.InTypedef) h = refl
+misplaced_noted (gloss.VoidDeclaration (gloss.Inside gloss.AsField around)) h = refl
+misplaced_noted (gloss.VoidDeclaration (gloss.Inside gloss.AsDiscriminant around)) h = refl
+misplaced_noted (gloss.VoidArgument others) h = ap void_note h
+misplaced_noted role h = absurd (cc)
+
+-- a size has one of two roles
+record IsSize (role : Role) (v : tree.Value) : Type 0 where
+  pub r : ValueRole
+  pub note_is : note_of role ≡ Some (ValueNote r v)
+  pub fault : (z : ℤ) → is_word_number z ≡ false → number_fault r z ≡ Some codes.BadSize
+
+size_noted : (role : Role) (v : tree.Value) → size_role role ≡ Some v → IsSize role v
+size_noted (gloss.FixedSize w) v h = record {
+  r = roles.FixedSize;
+  note_is = ap (λ x. Some (ValueNote roles.FixedSize x)) (same_Some w v h);
+  fault = λ z e. ap (λ b. cond b (cond (is_zero z) (Some codes.EmptyArray) no_code) (Some codes.BadSize)) e;
+}
+size_noted (gloss.GreatestSize w) v h = record {
+  r = roles.GreatestSize;
+  note_is = ap (λ x. Some (ValueNote roles.GreatestSize x)) (same_Some w v h);
+  fault = λ z e. ap (λ b. cond b no_code (Some codes.BadSize)) e;
+}
+size_noted role v h = absurd (cc)
+
+-- the fault of a note of the word is found
+note_found : (d : tree.Definition) (see : List ℕ → View) (word : ℕ) (role : Role) (note : Note) (code : RuleCode) → HasRole d word role → note_of role ≡ Some note
+    → note_fault see (knowns see (enumerators d)) word note ≡ Some code → IsAmong (note_faults see (knowns see (enumerators d)) (noted d)) (record { word = word; code = code })
+note_found d see word role note code has is fault =
+    among_flat (λ n. fault_at n.word (note_fault see (knowns see (enumerators d)) n.word n.note)) (noted d) (record { word = word; note = note }) (record { word = word; code = code })
+    (role_noted d word role note has is) (is_fault word word (note_fault see (knowns see (enumerators d)) word note) code refl fault)
+
+abbrev AreFound : tree.Definition → (List ℕ → View) → ℕ → RuleCode → Type 0
+AreFound d see word code = IsAmong (note_faults see (knowns see (enumerators d)) (noted d)) (record { word = word; code = code })
+
+pub no_constant_found : (d : tree.Definition) (see : List ℕ → View) (word : ℕ) → IsNoConstant d word → AreFound d see word codes.Range
+no_constant_found d see word h =
+    let n = value_noted h.role (tree.Number h.text) h.is_value in
+    note_found d see word h.role (ValueNote n.0 (tree.Number h.text)) codes.Range h.has_role n.1
+    (ap (λ b. value_fault n.0 (tree.Number h.text) (cond b (Some (value h.text)) None)) h.outside)
+
+pub no_enum_value_found : (d : tree.Definition) (see : List ℕ → View) (word : ℕ) → IsNoEnumValue d see word → AreFound d see word codes.Range
+no_enum_value_found d see word h =
+    note_found d see word (gloss.EnumeratorValue h.given) (ValueNote roles.Enumerator h.given) codes.Range h.is_value refl
+    (ap (value_fault roles.Enumerator h.given) h.number_is ∙ ap (λ b. cond b no_code (Some codes.Range)) h.outside)
+
+pub no_number_found : (d : tree.Definition) (see : List ℕ → View) (word : ℕ) → IsNoNumber d word → AreFound d see word codes.Range
+no_number_found d see word h =
+    note_found d see word h.role (NumberNote h.text) codes.Range h.has_role (number_noted h.role h.text h.is_number) (by (in_range h.text))
+  where
+    by : (b : Bool) → spelled_fault (cond b (Some (value h.text)) None) ≡ Some codes.Range
+    by true = ap (λ b. cond b no_code (Some codes.Range)) h.outside
+    by false = refl
+
+pub bad_size_found : (d : tree.Definition) (see : List ℕ → View) (word : ℕ) → IsBadSize d see word → AreFound d see word codes.BadSize
+bad_size_found d see word h =
+    let s = size_noted h.role h.size h.is_size in
+    note_found d see word h.role (ValueNote s.r h.size) codes.BadSize h.has_role s.note_is (ap (value_fault s.r h.size) h.number_is ∙ s.fault h.number h.outside)
+
+pub empty_array_found : (d : tree.Definition) (see : List ℕ → View) (word : ℕ) → IsEmptyArray d see word → AreFound d see word codes.EmptyArray
+empty_array_found d see word h =
+    note_found d see word (gloss.FixedSize h.size) (ValueNote roles.FixedSize h.size) codes.EmptyArray h.has_role refl (ap (value_fault roles.FixedSize h.size) h.is_zero)
+
+pub void_place_found : (d : tree.Definition) (see : List ℕ → View) (word : ℕ) → IsVoidPlace d word → AreFound d see word codes.VoidPlace
+void_place_found d see word h = note_found d see word h.role MisplacedNote codes.VoidPlace h.has_role (misplaced_noted h.role h.misplaced) refl
+
+pub bad_discriminant_found : (d : tree.Definition) (see : List ℕ → View) (word : ℕ) → IsBadDiscriminant d see word → AreFound d see word codes.BadDiscriminant
+bad_discriminant_found d see word h =
+    note_found d see word (gloss.Discriminant h.discriminant) (DiscriminantNote h.discriminant) codes.BadDiscriminant h.has_role refl (ap discriminant_fault h.no_class)
+
+pub inline_argument_found : (d : tree.Definition) (see : List ℕ → View) (word : ℕ) → HasRole d word gloss.InlineArgument → AreFound d see word codes.InlineArgument
+inline_argument_found d see word h = note_found d see word gloss.InlineArgument InlineNote codes.InlineArgument h refl refl
