@@ -1,12 +1,13 @@
 -- The faults that each family of rules finds, in the order in which the program finds them.
-use Rattle.std.specs.Prelude.{ℕ, suc, ℤ, nat_lt, Bool, true, false, not, ◌&&◌, ◌||◌, List, [], ◌∷◌, ◌++◌, Option, Some, None, if◌then◌else◌}
+use Rattle.std.specs.Prelude.{ℕ, suc, ℤ, nat_lt, Bool, true, false, not, ◌&&◌, ◌||◌, List, [], ◌∷◌, ◌++◌, map, Option, Some, None, if◌then◌else◌}
 use Rattle.std.specs.List.{flat_map}
 use Rattle.x_item.specs.Tree.{Value, Number, Named}
 use Rattle.x_item.specs.Names.{Declared}
 use Rattle.x_item.specs.Mentions.{Mention}
 use Rattle.x_sema.specs.Views as views
 use Rattle.x_sema.specs.Views.{View, Class, NoClass}
-use Rattle.x_sema.specs.Bodies.{EnumeratorAt}
+use Rattle.x_sema.specs.Bodies.{EnumeratorAt, NameAt}
+use Rattle.x_sema.specs.Tables.{first_place}
 use Rattle.x_sema.specs.Constants.{Known, limit_of, number_by, number_spelled}
 use Rattle.x_sema.specs.Mentioned.{mention_fault, suits}
 use Rattle.x_sema.specs.Types.{declaration_class}
@@ -111,3 +112,17 @@ note_fault see known word InlineNote = Some codes.InlineArgument
 -- the faults of words by what they are
 abbrev pub note_faults : (List ℕ → View) → List Known → List NoteAt → List WordFault
 note_faults see known ns = flat_map (λ n. fault_at n.word (note_fault see known n.word n.note)) ns
+
+-- ---- names that stand twice
+
+abbrev pub repeat_code : Bool → Option RuleCode
+repeat_code behind = if behind then Some codes.RepeatedField else None
+
+-- the faults of names of which the first has this place, by the first place of each
+abbrev pub repeats_from : (List ℕ → Option ℕ) → ℕ → List NameAt → List WordFault
+repeats_from first place [] = []
+repeats_from first place (x ∷ xs) = fault_at x.word (repeat_code (is_behind (first x.name) place)) ++ repeats_from first (suc place) xs
+
+-- the faults of the names of a group
+abbrev pub repeated_names : List NameAt → List WordFault
+repeated_names xs = repeats_from (first_place 0 (map (λ x. x.name) xs)) 0 xs

@@ -21,7 +21,7 @@ fn is_earlier_name(view: View) -> bool
 }
 
 /// Whether there is a first place, and it is before this one.
-fn is_behind(first: Option<usize>, place: usize) -> bool
+pub fn is_behind(first: Option<usize>, place: usize) -> bool
     ensures { result ≡ is_behind first place }
 {
     match first {
