@@ -39,7 +39,7 @@ pub fn add_repeated_cases(
     for body in bodies {
         if !body.cases.is_empty() {
             let numbers = case_numbers(alloc, &body.cases, sights, constants)?;
-            add_repeated_numbers(faults, numbers, RuleCode::RepeatedCase)?;
+            add_repeated_numbers(alloc, faults, &numbers, RuleCode::RepeatedCase)?;
         }
     }
     Ok(())

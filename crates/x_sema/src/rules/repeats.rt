@@ -10,12 +10,12 @@ use super::sights::{place_of, places_of};
 use crate::fault::{RuleCode, WordFault};
 use crate::number::number_value;
 use crate::outline::parts::{BodyAt, Members, NameAt, NumberAt};
-use indexmap::IndexMap;
+use indexmap::{IndexMap, IndexSet};
 use std::alloc::Global;
 use x_text::NoMemory;
 
 /// A number at a word.
-#[derive(Clone, Copy, Debug, PartialEq, Eq, PartialOrd, Ord)]
+#[derive(Clone, Copy, Debug)]
 pub struct Numbered {
     pub number: i128,
     pub word: usize,
@@ -23,14 +23,14 @@ pub struct Numbered {
 
 /// Adds the fault at each number that has an earlier word too.
 pub fn add_repeated_numbers(
+    alloc: Global,
     faults: &mut Vec<WordFault>,
-    mut numbers: Vec<Numbered>,
+    numbers: &[Numbered],
     code: RuleCode,
 ) -> Result<(), NoMemory> {
-    numbers.sort_unstable();
-    for i in 1..numbers.len() {
-        let here = numbers[i];
-        if numbers[i - 1].number == here.number {
+    let mut seen = IndexSet::new(alloc);
+    for here in numbers {
+        if !seen.insert(here.number)? {
             let word = here.word;
             faults.push(WordFault { word, code })?;
         }
@@ -116,7 +116,7 @@ pub fn add_repeats(
     for group in members {
         add_repeated_names(alloc, faults, &group.names)?;
         let numbers = numbers_of(alloc, &group.numbers)?;
-        add_repeated_numbers(faults, numbers, RuleCode::RepeatedNumber)?;
+        add_repeated_numbers(alloc, faults, &numbers, RuleCode::RepeatedNumber)?;
     }
     Ok(())
 }
