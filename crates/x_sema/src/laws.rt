@@ -21,7 +21,8 @@ pub fn one_list_of_faults()
 
 /// A definition and the views of its names determine what checking it gives.
 pub fn one_outcome()
-    ensures { (d : Definition) (views : List View) (a b : Outcome) → IsOutcome d views a → IsOutcome d views b → a ≡ b }
+    ensures { (d : Definition) (views : List View) (a b : Outcome)
+        → IsOutcome d views a → IsOutcome d views b → a ≡ b }
 {}
 
 /// The definitions of a text determine the results of all items.

@@ -119,7 +119,8 @@ fn has_no_type_class(sights: &Sights, tree: &DataType) -> bool
 /// Whether no union can be told by what the declaration gives.
 pub fn has_no_class(sights: &Sights, declaration: &Declaration) -> bool
     ensures { (known : List Known)
-        → result ≡ has_no_class (declaration_class (seen_by sights.now) known (view_declaration declaration.now)) }
+        → result ≡ has_no_class
+        (declaration_class (seen_by sights.now) known (view_declaration declaration.now)) }
 {
     match declaration {
         Declaration::Void => false,

@@ -1,6 +1,7 @@
 //! The numbers of values and of enumerators.
 
-ghost use Rattle.std.specs.Prelude.{◌≡◌, nat_lt, [], ℕ, List, map, Some, false, OnOk, IfOk, slice_get, option_and_then};
+ghost use Rattle.std.specs.Prelude.{◌≡◌, nat_lt, [], ℕ, List, map, Some, false, OnOk, IfOk};
+ghost use Rattle.std.specs.Prelude.{slice_get, option_and_then};
 ghost use Rattle.x_item.specs.View.{view_value};
 ghost use Rattle.x_sema.specs.Bodies as bodies;
 ghost use Rattle.x_sema.specs.Constants.{Known, knowns, limit_of, is_declared_before, number_named};
@@ -91,7 +92,8 @@ fn places_of_names<'d>(
     alloc: Global,
     list: &[EnumeratorAt<'d>],
 ) -> Result<IndexMap<&'d [u8], usize>, NoMemory>
-    ensures { IfOk result (λ places. HasPlaces places.entries (map (λ e. e.name) (map view_enumerator_at list.now))) }
+    ensures { IfOk result (λ places. HasPlaces places.entries
+        (map (λ e. e.name) (map view_enumerator_at list.now))) }
 {
     let mut names = Vec::new(alloc);
     for enumerator in list {

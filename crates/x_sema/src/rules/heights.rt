@@ -127,7 +127,8 @@ fn arms_height(sights: &Sights, arms: &[Arm]) -> u32
 
 /// Whether the type that a typedef declares is too high.
 fn is_too_high_typedef(definition: &Definition, sights: &Sights) -> bool
-    ensures { result ≡ list_any is_too_high (defined_heights (view_definition definition.now) (seen_by sights.now)) }
+    ensures { result ≡ list_any is_too_high
+        (defined_heights (view_definition definition.now) (seen_by sights.now)) }
 {
     match definition {
         Definition::Typedef(declaration) => held_height(sights, declaration) >= MOST_HEIGHT,
@@ -137,7 +138,8 @@ fn is_too_high_typedef(definition: &Definition, sights: &Sights) -> bool
 
 /// Whether the type of one of the bodies is too high.
 fn has_too_high_body(bodies: &[BodyAt], sights: &Sights) -> bool
-    ensures { result ≡ list_any (λ b. is_too_high (body_height (seen_by sights.now) (view_body b.body.now))) bodies.now }
+    ensures { result ≡ list_any
+        (λ b. is_too_high (body_height (seen_by sights.now) (view_body b.body.now))) bodies.now }
 {
     for body in bodies {
         if body_height(sights, body.body) > MOST_HEIGHT {
@@ -164,7 +166,8 @@ fn add_too_high_names(
     high: bool,
     declared: &[DeclaredName],
 ) -> Result<(), NoMemory>
-    ensures { OnOk result (faults.new.items ≡ faults.old.items ++ too_high_faults high (map view_name declared.now)) }
+    ensures { OnOk result (faults.new.items ≡ faults.old.items
+        ++ too_high_faults high (map view_name declared.now)) }
 {
     for name in declared {
         let code = too_high_fault(high, name);
@@ -183,7 +186,8 @@ pub fn add_too_high(
 ) -> Result<(), NoMemory>
     ensures { OnOk result (let see = seen_by sights.now in faults.new.items ≡ faults.old.items
         ++ too_high_faults (list_any is_too_high (defined_heights (view_definition definition.now) see)
-        || list_any (λ b. is_too_high (body_height see (view_body b.body.now))) bodies.now) (map view_name declared.now)) }
+        || list_any (λ b. is_too_high (body_height see (view_body b.body.now))) bodies.now)
+        (map view_name declared.now)) }
 {
     let high = is_too_high_typedef(definition, sights) || has_too_high_body(bodies, sights);
     add_too_high_names(faults, high, declared)

@@ -54,7 +54,8 @@ fn places_of_group<'d>(
     alloc: Global,
     names: &[NameAt<'d>],
 ) -> Result<IndexMap<&'d [u8], usize>, NoMemory>
-    ensures { IfOk result (λ places. HasPlaces places.entries (map (λ x. x.name) (map view_name_at names.now))) }
+    ensures { IfOk result (λ places. HasPlaces places.entries
+        (map (λ x. x.name) (map view_name_at names.now))) }
 {
     let mut list = Vec::new(alloc);
     for name in names {
@@ -85,7 +86,8 @@ fn add_repeated_names(
     faults: &mut Vec<WordFault>,
     names: &[NameAt],
 ) -> Result<(), NoMemory>
-    ensures { OnOk result (faults.new.items ≡ faults.old.items ++ repeated_names (map view_name_at names.now)) }
+    ensures { OnOk result (faults.new.items ≡ faults.old.items
+        ++ repeated_names (map view_name_at names.now)) }
 {
     let places = places_of_group(alloc, names)?;
     add_name_faults(faults, names, &places)

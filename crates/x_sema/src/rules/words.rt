@@ -7,7 +7,8 @@ ghost use Rattle.x_sema.specs.Constants.{Known, number_spelled};
 ghost use Rattle.x_sema.specs.Numbers.{is_zero};
 ghost use Rattle.x_sema.specs.Notes.{view_note, view_note_at};
 ghost use Rattle.x_sema.specs.Types.{declaration_class};
-ghost use Rattle.x_sema.specs.Found.{number_fault, value_fault, spelled_fault, discriminant_fault, note_fault};
+ghost use Rattle.x_sema.specs.Found.{number_fault, value_fault, spelled_fault, discriminant_fault};
+ghost use Rattle.x_sema.specs.Found.{note_fault};
 ghost use Rattle.x_sema.specs.Found.{note_faults, past_last};
 ghost use Rattle.x_sema.specs.Tables.{HasNumbers, seen_by, view_given};
 
@@ -93,7 +94,8 @@ fn spelled_fault(text: &[u8]) -> Option<RuleCode>
 /// The fault of a discriminant.
 fn discriminant_fault(sights: &Sights, declaration: &Declaration) -> Option<RuleCode>
     ensures { (known : List Known)
-        → result ≡ discriminant_fault (declaration_class (seen_by sights.now) known (view_declaration declaration.now)) }
+        → result ≡ discriminant_fault
+        (declaration_class (seen_by sights.now) known (view_declaration declaration.now)) }
 {
     if has_no_class(sights, declaration) {
         Some(RuleCode::BadDiscriminant)
@@ -125,8 +127,9 @@ pub fn add_words(
     sights: &Sights,
     constants: &Constants,
 ) -> Result<(), NoMemory>
-    ensures { OnOk result ((all : List bodies.EnumeratorAt) (known : List Known) → HasNumbers constants.now all known
-        → faults.new.items ≡ faults.old.items ++ note_faults (seen_by sights.now) known (map view_note_at notes.now)) }
+    ensures { OnOk result ((all : List bodies.EnumeratorAt) (known : List Known)
+        → HasNumbers constants.now all known → faults.new.items ≡ faults.old.items
+        ++ note_faults (seen_by sights.now) known (map view_note_at notes.now)) }
 {
     for noted in notes {
         let code = note_fault(noted, sights, constants);

@@ -1,13 +1,11 @@
-use Rattle.std.proofs.Common.{◌≡◌, subst, sym, rules, arith}
+use Rattle.std.proofs.Common.{subst, sym, arith}
 use Rattle.std.proofs.lemmas.Grind.{common_steps}
 use Rattle.std.proofs.lemmas.Bool.Decides.{nat_tests}
-use Rattle.std.specs.List.{IsAmong, dedup}
-use Rattle.std.specs.declared.cmp.Ordering.TheVariants.{Less}
+use Rattle.std.specs.List.{IsAmong}
 use Rattle.std.proofs.lemmas.List.Filters.{dedup_is}
-use Rattle.std.proofs.lemmas.List.Kept.{IsStrictlySortedBy-dedup, Contains-dedup, Contains-from_dedup}
+use Rattle.std.proofs.lemmas.List.Kept.{IsStrictlySortedBy-dedup, Contains-dedup}
 use Rattle.std.proofs.lemmas.List.Sorted.{Contains-permutation}
-use Rattle.x_sema.specs.Rules.{IsBefore, Ascends}
-use Rattle.x_sema.specs.declared.fault.WordFault.{WordFault}
+use Rattle.x_sema.specs.Rules.{Ascends}
 use Rattle.x_sema.proofs.OrderLemmas.{strict_ascends, among_contains, contains_among}
 use Rattle.x_sema.proofs.check.order.Goals as goal
 

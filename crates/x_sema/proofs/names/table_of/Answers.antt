@@ -1,9 +1,6 @@
-use Rattle.std.proofs.Common.{◌≡◌, ◌+◌, suc, List, ◌∷◌, Option, Some, map, drop, ap, sym, ◌∙◌, arith}
+use Rattle.std.proofs.Common.{◌≡◌, ◌+◌, suc, ◌∷◌, Some, map, drop, ap, sym, ◌∙◌, arith}
 use Rattle.std.specs.Prelude.{slice_get}
-use Rattle.x_item.specs.Tree.{Definition}
-use Rattle.x_item.specs.View.{view_definition}
-use Rattle.x_item.specs.Spell.{spell}
-use Rattle.x_sema.specs.Declarers.{AreShort, IsShort, or_else, declarer_in, first_from}
+use Rattle.x_sema.specs.Declarers.{or_else, declarer_in, first_from}
 use Rattle.x_sema.specs.DeclarerTable.{entry_in, tree_at}
 use Rattle.x_sema.proofs.ListLemmas.{drop_one, get_mapped}
 use Rattle.x_sema.proofs.NameLemmas.{item_more, none_more}

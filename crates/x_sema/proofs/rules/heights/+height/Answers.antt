@@ -1,4 +1,4 @@
-use Rattle.std.proofs.Common.{◌≡◌, ℕ, ◌+◌, ◌∷◌, drop, max, ap, sym, ◌∙◌, arith}
+use Rattle.std.proofs.Common.{◌≡◌, ◌+◌, ◌∷◌, drop, max, ap, sym, ◌∙◌}
 use Rattle.x_item.specs.Tree.{Struct, Union}
 use Rattle.x_item.specs.View.{view_body, view_declaration, view_declarations, view_arms, view_default}
 use Rattle.x_item.specs.declared.trees.declaration.Body.TheViews.{out-UnionBody}

@@ -1,4 +1,4 @@
-use Rattle.std.proofs.Common.{◌≡◌, drop, false}
+use Rattle.std.proofs.Common.{◌≡◌, drop}
 use Rattle.std.specs.List.{list_any}
 use Rattle.x_item.specs.View.{view_body}
 use Rattle.x_sema.specs.Types.{body_height}

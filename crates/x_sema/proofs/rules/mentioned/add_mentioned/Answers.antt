@@ -1,4 +1,4 @@
-use Rattle.std.proofs.Common.{◌≡◌, ◌+◌, [], ◌++◌, None, map, drop, get_or, ap, ◌∙◌}
+use Rattle.std.proofs.Common.{◌+◌, [], ◌++◌, None, map, drop, get_or, ap, ◌∙◌}
 use Rattle.x_item.specs.declared.names.mention.Mention.{Mention}
 use Rattle.x_item.specs.declared.names.mention.Use.TheVariants as uses
 use Rattle.x_item.specs.Collected.{view_mention}

@@ -2,7 +2,6 @@ use Rattle.std.proofs.Common.{ap, sym, ◌∙◌}
 use Rattle.std.specs.Map.{lookup}
 use Rattle.std.specs.Str.{bytes_eq}
 use Rattle.indexmap.proofs.CallerLemmas.{insert_entry-new}
-use Rattle.x_sema.specs.Tables.{place_in}
 use Rattle.x_sema.proofs.NameLemmas.{lookup_more, none_is}
 use Rattle.x_sema.proofs.rules.sights.note.Goals as goal
 

@@ -1,4 +1,4 @@
-use Rattle.std.proofs.Common.{ap, sym, ◌∙◌}
+use Rattle.std.proofs.Common.{ap, ◌∙◌}
 use Rattle.x_sema.proofs.PlaceLemmas.{before_found, declared_before_is}
 use Rattle.x_sema.proofs.rules.constants.Constants.is_declared_before.Goals as goal
 

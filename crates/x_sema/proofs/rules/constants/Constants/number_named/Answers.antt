@@ -1,5 +1,5 @@
 use Rattle.std.specs.Prelude.{slice_get, option_and_then}
-use Rattle.std.proofs.Common.{ap, sym, map, ◌∙◌}
+use Rattle.std.proofs.Common.{ap, map, ◌∙◌}
 use Rattle.x_sema.proofs.PlaceLemmas.{number_there, number_named_is}
 use Rattle.x_sema.proofs.rules.constants.Constants.number_named.Goals as goal
 

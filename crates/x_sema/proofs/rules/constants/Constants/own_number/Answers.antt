@@ -1,6 +1,6 @@
 use Rattle.std.specs.Prelude.{slice_get, option_and_then}
 use Rattle.std.proofs.Common.{None, cond, ap, sym, map, ◌∙◌}
-use Rattle.x_sema.proofs.PlaceLemmas.{before_at, number_before_there, number_before_is}
+use Rattle.x_sema.proofs.PlaceLemmas.{number_before_there, number_before_is}
 use Rattle.x_sema.proofs.rules.constants.Constants.own_number.Goals as goal
 
 pub returns-then-is_before : goal.returns-then-is_before
