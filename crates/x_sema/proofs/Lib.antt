@@ -1,0 +1,15 @@
+pub mod AmongLemmas
+pub mod DeclarerLaws
+pub mod Digits
+pub mod DuplicateLemmas
+pub mod FamilyLemmas
+pub mod FaultLists
+pub mod HeightLemmas
+pub mod ListLemmas
+pub mod NameLemmas
+pub mod NoteLemmas
+pub mod OrderLemmas
+pub mod PlaceLemmas
+pub mod ResultLaws
+pub mod RuleTextLemmas
+pub mod WordRuleLemmas

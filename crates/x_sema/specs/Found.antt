@@ -1,0 +1,128 @@
+-- The faults that each family of rules finds, in the order in which the program finds them.
+use Rattle.std.specs.Prelude.{ℕ, suc, ℤ, nat_lt, Bool, true, false, not, ◌&&◌, ◌||◌, List, [], ◌∷◌, ◌++◌, map, Option, Some, None, if◌then◌else◌}
+use Rattle.std.specs.List.{flat_map}
+use Rattle.x_item.specs.Tree.{Value, Number, Named}
+use Rattle.x_item.specs.Names.{Declared}
+use Rattle.x_item.specs.Mentions.{Mention}
+use Rattle.x_sema.specs.Views as views
+use Rattle.x_sema.specs.Views.{View, Class, NoClass}
+use Rattle.x_sema.specs.Bodies.{EnumeratorAt, NameAt}
+use Rattle.x_sema.specs.Tables.{first_place}
+use Rattle.x_sema.specs.Constants.{Known, limit_of, number_by, number_spelled}
+use Rattle.x_sema.specs.Mentioned.{mention_fault, suits}
+use Rattle.x_sema.specs.Types.{declaration_class}
+use Rattle.x_sema.specs.Notes.{Note, NoteAt, ValueNote, NumberNote, MisplacedNote, DiscriminantNote, InlineNote}
+use Rattle.x_sema.specs.Numbers.{is_enum_number, is_word_number, is_zero}
+use Rattle.x_sema.specs.declared.outline.note.ValueRole.{ValueRole}
+use Rattle.x_sema.specs.declared.outline.note.ValueRole.TheVariants as roles
+use Rattle.x_sema.specs.declared.fault.RuleCode.{RuleCode}
+use Rattle.x_sema.specs.declared.fault.RuleCode.TheVariants as codes
+use Rattle.x_sema.specs.declared.fault.WordFault.{WordFault}
+
+-- a fault at a word, if there is one
+abbrev pub fault_at : ℕ → Option RuleCode → List WordFault
+fault_at word None = []
+fault_at word (Some code) = record { word = word; code = code } ∷ []
+
+-- a fault at a word, where something holds
+abbrev pub fault_where : ℕ → RuleCode → Bool → List WordFault
+fault_where word code holds = if holds then record { word = word; code = code } ∷ [] else []
+
+-- the faults of names that are used
+abbrev pub mention_faults : (List ℕ → View) → List EnumeratorAt → List Mention → List WordFault
+mention_faults see es ms = flat_map (λ m. fault_at m.word (mention_fault see es m)) ms
+
+abbrev pub is_earlier_name : View → Bool
+is_earlier_name (views.Earlier kind lifted meaning) = true
+is_earlier_name view = false
+
+-- whether there is a first place, and it is before this one
+abbrev pub is_behind : Option ℕ → ℕ → Bool
+is_behind None place = false
+is_behind (Some first) place = nat_lt first place
+
+-- whether a name in this place of those that an item declares is declared at an earlier place or beforehand
+abbrev pub is_taken_at : (List ℕ → View) → (List ℕ → Option ℕ) → ℕ → List ℕ → Bool
+is_taken_at see first place name = is_earlier_name (see name) || is_behind (first name) place
+
+abbrev pub duplicate_code : Bool → Option RuleCode
+duplicate_code taken = if taken then Some codes.Duplicate else None
+
+-- the faults of declared names, of which the first has this place
+abbrev pub duplicates_from : (List ℕ → View) → (List ℕ → Option ℕ) → ℕ → List Declared → List WordFault
+duplicates_from see first place [] = []
+duplicates_from see first place (x ∷ xs) =
+    fault_at x.word (duplicate_code (is_taken_at see first place x.name)) ++ duplicates_from see first (suc place) xs
+
+-- ---- enumerators without a value
+
+abbrev pub past_last : Option Value → Option ℤ → Option RuleCode
+past_last None (Some number) = if is_enum_number number then None else Some codes.Range
+past_last given number = None
+
+-- the faults of enumerators without a value
+abbrev pub past_last_faults : List Known → List WordFault
+past_last_faults known = flat_map (λ k. fault_at k.enumerator.word (past_last k.enumerator.given k.number)) known
+
+-- ---- types that are too high
+
+abbrev pub too_high : Bool → Declared → Option RuleCode
+too_high high x = if high && (not x.lifted && suits None x.kind) then Some codes.TooHigh else None
+
+-- the faults of a definition one of whose types is too high
+abbrev pub too_high_faults : Bool → List Declared → List WordFault
+too_high_faults high names = flat_map (λ x. fault_at x.word (too_high high x)) names
+
+-- ---- words by what they are
+
+-- the fault of a value of the role that has the number
+abbrev pub number_fault : ValueRole → ℤ → Option RuleCode
+number_fault roles.Enumerator z = if is_enum_number z then None else Some codes.Range
+number_fault roles.FixedSize z =
+    if is_word_number z then (if is_zero z then Some codes.EmptyArray else None) else Some codes.BadSize
+number_fault roles.GreatestSize z = if is_word_number z then None else Some codes.BadSize
+number_fault role z = None
+
+-- the fault of a value: a number has none where no constant may have it
+abbrev pub value_fault : ValueRole → Value → Option ℤ → Option RuleCode
+value_fault role v (Some z) = number_fault role z
+value_fault role (Number text) None = Some codes.Range
+value_fault role (Named name) None = None
+
+-- the fault of the number of a program, a version or a procedure
+abbrev pub spelled_fault : Option ℤ → Option RuleCode
+spelled_fault None = Some codes.Range
+spelled_fault (Some z) = if is_word_number z then None else Some codes.Range
+
+abbrev pub has_no_class : Option Class → Bool
+has_no_class (Some NoClass) = true
+has_no_class class = false
+
+abbrev pub discriminant_fault : Option Class → Option RuleCode
+discriminant_fault class = if has_no_class class then Some codes.BadDiscriminant else None
+
+-- the fault of a word by what it is
+abbrev pub note_fault : (List ℕ → View) → List Known → ℕ → Note → Option RuleCode
+note_fault see known word (ValueNote role v) = value_fault role v (number_by see known (limit_of word) v)
+note_fault see known word (NumberNote text) = spelled_fault (number_spelled text)
+note_fault see known word MisplacedNote = Some codes.VoidPlace
+note_fault see known word (DiscriminantNote d) = discriminant_fault (declaration_class see known d)
+note_fault see known word InlineNote = Some codes.InlineArgument
+
+-- the faults of words by what they are
+abbrev pub note_faults : (List ℕ → View) → List Known → List NoteAt → List WordFault
+note_faults see known ns = flat_map (λ n. fault_at n.word (note_fault see known n.word n.note)) ns
+
+-- ---- names that stand twice
+
+abbrev pub repeat_code : Bool → Option RuleCode
+repeat_code behind = if behind then Some codes.RepeatedField else None
+
+-- the faults of names of which the first has this place, by the first place of each
+abbrev pub repeats_from : (List ℕ → Option ℕ) → ℕ → List NameAt → List WordFault
+repeats_from first place [] = []
+repeats_from first place (x ∷ xs) = fault_at x.word (repeat_code (is_behind (first x.name) place)) ++ repeats_from first (suc place) xs
+
+-- the faults of the names of a group
+abbrev pub repeated_names : List NameAt → List WordFault
+repeated_names xs = repeats_from (first_place 0 (map (λ x. x.name) xs)) 0 xs

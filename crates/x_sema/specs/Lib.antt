@@ -1,0 +1,16 @@
+pub mod Bodies
+pub mod Constants
+pub mod DeclarerTable
+pub mod Declarers
+pub mod Found
+pub mod KeptViews
+pub mod Mentioned
+pub mod Notes
+pub mod Numbers
+pub mod Results
+pub mod RuleTexts
+pub mod Rules
+pub mod RustViews
+pub mod Tables
+pub mod Types
+pub mod Views

@@ -1,0 +1,145 @@
+//! The first declarer of each name.
+ghost use Rattle.std.specs.Prelude.{◌≡◌, ℕ, List, map, IfOk, OnOk, Some, None, if◌then◌else◌};
+ghost use Rattle.std.specs.Str.{bytes_eq};
+ghost use Rattle.x_item.specs.View.{view_definition};
+ghost use Rattle.x_item.specs.Names.{declared};
+ghost use Rattle.x_sema.specs.Declarers.{AreShort, IsShort, is_beforehand, FirstIs, first_from, or_else};
+ghost use Rattle.x_sema.specs.Declarers.{place_of_name};
+ghost use Rattle.x_sema.specs.DeclarerTable.{entry_in, first_in, tree_at};
+
+use indexmap::IndexMap;
+use std::alloc::Global;
+use std::marker::Model;
+use x_item::{Definition, NameKind, declares};
+use x_text::NoMemory;
+
+/// Where a name is declared, and as what.
+#[derive(Clone, Copy, Debug, PartialEq, Eq)]
+pub struct Declarer {
+    /// The item, counted from 0.
+    pub item: usize,
+    /// The word that declares it, counted from 0 among the words of the item.
+    pub word: usize,
+    /// Its place among the names that the item declares, counted from 0.
+    pub place: usize,
+    /// What it is declared as.
+    pub kind: NameKind,
+    /// Whether it is the name of an inline type.
+    pub lifted: bool,
+}
+
+/// The table of the names that the items of a text declare. It is seen as the list of the names with their first
+/// declarers, without those that were declared beforehand.
+#[derive(Drop)]
+pub struct Names {
+    table: IndexMap<Vec<u8>, Declarer>,
+}
+
+impl Model for Names {
+    ghost use Rattle.std.specs.Prelude.{ℕ, List};
+    ghost use Rattle.x_sema.specs.DeclarerTable.{names_in};
+    ghost use Rattle.x_sema.specs.declared.names.Declarer.{Declarer};
+
+    ghost Value = { List (List ℕ × Declarer) };
+
+    ghost view = { λ names. names_in names.table.entries };
+}
+
+impl Names {
+    /// The table of the items' definitions; an item without one declares nothing. It takes time in proportion to the definitions.
+    ///
+    /// # Errors
+    ///
+    /// [`NoMemory`] where the table, or a name in it, could not grow.
+    pub fn of(alloc: Global, definitions: &[Option<&Definition>]) -> Result<Names, NoMemory>
+        ensures { IfOk result (λ names. AreShort (map tree_at definitions.now)
+            → (name : List ℕ) → FirstIs (map tree_at definitions.now) name (first_in names name)) }
+    {
+        Ok(Names {
+            table: table_of(alloc, definitions)?,
+        })
+    }
+
+    /// The first declarer of the name (RFC 4506, section 6.4). A name that was declared beforehand has none: `TRUE` and `FALSE`.
+    pub fn first(&self, name: &[u8]) -> Option<Declarer>
+        ensures { result ≡ first_in self.now name.now }
+    {
+        if is_beforehand(name) {
+            None
+        } else {
+            entry(&self.table, name)
+        }
+    }
+}
+
+/// The table of the items' definitions, also of names that were declared beforehand.
+fn table_of(
+    alloc: Global,
+    definitions: &[Option<&Definition>],
+) -> Result<IndexMap<Vec<u8>, Declarer>, NoMemory>
+    ensures { IfOk result (λ table. AreShort (map tree_at definitions.now)
+        → (name : List ℕ) → entry_in table.entries name ≡ first_from 0 (map tree_at definitions.now) name) }
+{
+    let mut table = IndexMap::new(alloc);
+    for (item, definition) in definitions.iter().enumerate() {
+        if let Some(definition) = definition {
+            add(alloc, &mut table, item, definition)?;
+        }
+    }
+    Ok(table)
+}
+
+/// What the table has for the name.
+fn entry(table: &IndexMap<Vec<u8>, Declarer>, name: &[u8]) -> Option<Declarer>
+    ensures { result ≡ entry_in table.now.entries name.now }
+{
+    table.get(name).copied()
+}
+
+/// Takes in the names that an item declares, but for those that are there.
+fn add(
+    alloc: Global,
+    table: &mut IndexMap<Vec<u8>, Declarer>,
+    item: usize,
+    definition: &Definition,
+) -> Result<(), NoMemory>
+    ensures { OnOk result (IsShort (view_definition definition.now)
+        → (name : List ℕ) → entry_in table.new.entries name ≡ or_else (entry_in table.old.entries name)
+        (place_of_name item 0 name (declared (view_definition definition.now)))) }
+{
+    for (place, declared) in declares(alloc, definition)?.iter().enumerate() {
+        let name = Vec::from_slice(alloc, &declared.name)?;
+        let declarer = Declarer {
+            item,
+            word: declared.word,
+            place,
+            kind: declared.kind,
+            lifted: declared.lifted,
+        };
+        note(table, name, declarer)?;
+    }
+    Ok(())
+}
+
+/// Takes in a name with its declarer, if the name is not there.
+fn note(
+    table: &mut IndexMap<Vec<u8>, Declarer>,
+    name: Vec<u8>,
+    declarer: Declarer,
+) -> Result<(), NoMemory>
+    ensures { OnOk result ((other : List ℕ) → entry_in table.new.entries other
+        ≡ or_else (entry_in table.old.entries other)
+        (if bytes_eq other name.items then Some declarer else None)) }
+{
+    if entry(table, &name).is_none() {
+        table.insert(name, declarer)?;
+    }
+    Ok(())
+}
+
+/// Whether the name is a constant that no item declares.
+pub(crate) fn is_beforehand(name: &[u8]) -> bool
+    ensures { result ≡ is_beforehand name.now }
+{
+    matches!(name, b"TRUE" | b"FALSE")
+}

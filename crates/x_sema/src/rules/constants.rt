@@ -1,0 +1,287 @@
+//! The numbers of values and of enumerators.
+
+ghost use Rattle.std.specs.Prelude.{◌≡◌, nat_lt, [], ℕ, List, map, Some, false, OnOk, IfOk};
+ghost use Rattle.std.specs.Prelude.{slice_get, option_and_then};
+ghost use Rattle.x_item.specs.View.{view_value};
+ghost use Rattle.x_sema.specs.Bodies as bodies;
+ghost use Rattle.x_sema.specs.Constants.{Known, knowns, limit_of, is_declared_before, number_named};
+ghost use Rattle.x_sema.specs.RustViews.{view_view};
+ghost use Rattle.std.specs.Option.{option_map_or};
+ghost use Rattle.x_sema.specs.Constants.{number_before, number_by, number_seen, next_number, number_of};
+ghost use Rattle.x_sema.specs.Numbers.{is_enum_number, is_word_number};
+ghost use Rattle.x_sema.specs.Tables.{HasPlaces, HasNumbers, seen_by, view_enumerator_at};
+
+use super::sights::{Sights, place_of, places_of};
+use crate::number::number_value;
+use crate::outline::parts::{BodyAt, EnumeratorAt};
+use crate::views::{Meaning, View};
+use indexmap::IndexMap;
+use std::alloc::Global;
+use x_item::{Body, Enumerator, NameKind, Value};
+use x_text::NoMemory;
+
+/// Whether an enumerator may have the number: from -2^31 to 2^31-1.
+pub fn is_enum_number(number: i128) -> bool
+    ensures { result ≡ is_enum_number number }
+{
+    -(1 << 31) <= number && number < 1 << 31
+}
+
+/// Whether the number is a size, or that of a program, a version or a procedure: from 0 to 2^32-1.
+pub fn is_word_number(number: i128) -> bool
+    ensures { result ≡ is_word_number number }
+{
+    0 <= number && number < 1 << 32
+}
+
+/// The word before which names stand that a value at the word may use: two words in front of it stands its own name, where it is the
+/// value of an enumerator.
+pub fn limit_of(word: usize) -> usize
+    ensures { result ≡ limit_of word }
+{
+    word.saturating_sub(2)
+}
+
+/// The enumerators of an enum whose first name stands at the word.
+fn add_enumerators<'d>(
+    list: &mut Vec<EnumeratorAt<'d>>,
+    at: usize,
+    enumerators: &'d [Enumerator],
+) -> Result<(), NoMemory> {
+    let mut word = at;
+    let mut is_first = true;
+    for enumerator in enumerators {
+        list.push(EnumeratorAt {
+            word,
+            name: &enumerator.name,
+            given: enumerator.value.as_ref(),
+            is_first,
+        })?;
+        is_first = false;
+        let words = if enumerator.value.is_some() { 4 } else { 2 };
+        word = word.saturating_add(words);
+    }
+    Ok(())
+}
+
+/// The enumerators of all bodies, in the order of their words.
+pub fn enumerators<'d>(
+    alloc: Global,
+    bodies: &[BodyAt<'d>],
+) -> Result<Vec<EnumeratorAt<'d>>, NoMemory> {
+    let mut list = Vec::new(alloc);
+    for body in bodies {
+        if let Body::Enum(enumerators) = body.body {
+            add_enumerators(&mut list, body.at.saturating_add(1), enumerators)?;
+        }
+    }
+    Ok(list)
+}
+
+/// The enumerators of a definition, with the numbers of the first so many.
+#[derive(Drop)]
+pub struct Constants<'d> {
+    pub list: Vec<EnumeratorAt<'d>>,
+    /// The place in the list of the first enumerator of each name.
+    places: IndexMap<&'d [u8], usize>,
+    pub numbers: Vec<Option<i128>>,
+}
+
+/// The first place of each name.
+fn places_of_names<'d>(
+    alloc: Global,
+    list: &[EnumeratorAt<'d>],
+) -> Result<IndexMap<&'d [u8], usize>, NoMemory>
+    ensures { IfOk result (λ places. HasPlaces places.entries
+        (map (λ e. e.name) (map view_enumerator_at list.now))) }
+{
+    let mut names = Vec::new(alloc);
+    for enumerator in list {
+        names.push(enumerator.name)?;
+    }
+    places_of(alloc, &names)
+}
+
+/// The number of an enumerator without a value, by that of the one before.
+fn next_number(before: Option<i128>) -> Option<i128>
+    ensures { result ≡ next_number before }
+{
+    match before {
+        Some(number) => {
+            if is_enum_number(number) {
+                Some(number + 1)
+            } else {
+                None
+            }
+        }
+        None => None,
+    }
+}
+
+/// The number of a name used as a value, whose own number is given.
+fn number_seen(view: View, own: Option<i128>) -> Option<i128>
+    ensures { result ≡ number_seen (view_view view.entry) own }
+{
+    match view {
+        View::Earlier { kind, meaning, .. } => match kind {
+            NameKind::Constant => match meaning {
+                Meaning::Constant(number) => Some(number),
+                _ => None,
+            },
+            _ => None,
+        },
+        View::Own { kind, .. } => match kind {
+            NameKind::Constant => own,
+            _ => None,
+        },
+        _ => None,
+    }
+}
+
+impl<'d> Constants<'d> {
+    /// The enumerators with their numbers.
+    pub fn of(
+        alloc: Global,
+        list: Vec<EnumeratorAt<'d>>,
+        sights: &Sights,
+    ) -> Result<Constants<'d>, NoMemory>
+        ensures { IfOk result (λ constants. let all = map view_enumerator_at list.entry.items in
+            HasNumbers constants all (knowns (seen_by sights.now) all)) }
+    {
+        let places = places_of_names(alloc, &list)?;
+        let mut constants = Constants {
+            list,
+            places,
+            numbers: Vec::new(alloc),
+        };
+        constants.number(sights)?;
+        Ok(constants)
+    }
+
+    /// Finds the numbers of all enumerators.
+    fn number(&mut self, sights: &Sights) -> Result<(), NoMemory>
+        ensures { OnOk result ((all : List bodies.EnumeratorAt) → HasNumbers self.old all []
+            → HasNumbers self.new all (knowns (seen_by sights.now) all)) }
+    {
+        let count = self.list.as_slice().len();
+        let mut before = None;
+        for place in 0..count {
+            before = self.number_given(sights, before, place);
+            self.numbers.push(before)?;
+        }
+        Ok(())
+    }
+
+    /// The number of the enumerator in a place, behind those that have theirs.
+    fn number_given(&self, sights: &Sights, before: Option<i128>, place: usize) -> Option<i128>
+        ensures { (all : List bodies.EnumeratorAt) (known : List Known) (e : bodies.EnumeratorAt)
+            → HasNumbers self.now all known → slice_get all place ≡ Some e
+            → result ≡ number_of (seen_by sights.now) known before e }
+    {
+        match self.list.get(place) {
+            Some(enumerator) => self.number_of(sights, before, enumerator),
+            None => None,
+        }
+    }
+
+    /// The number of an enumerator behind those that have theirs.
+    fn number_of(
+        &self,
+        sights: &Sights,
+        before: Option<i128>,
+        enumerator: &EnumeratorAt,
+    ) -> Option<i128>
+        ensures { (all : List bodies.EnumeratorAt) (known : List Known) → HasNumbers self.now all known
+            → result ≡ number_of (seen_by sights.now) known before (view_enumerator_at enumerator.now) }
+    {
+        match enumerator.given {
+            Some(value) => self.number_by(sights, enumerator.word, value),
+            None => {
+                if enumerator.is_first {
+                    Some(0)
+                } else {
+                    next_number(before)
+                }
+            }
+        }
+    }
+
+    /// Whether the enumerator in the place stands before the word.
+    fn is_before(&self, place: usize, limit: usize) -> bool
+        ensures { (all : List bodies.EnumeratorAt) (known : List Known) → HasNumbers self.now all known
+            → result ≡ option_map_or (λ e. nat_lt e.word limit) (slice_get all place) false }
+    {
+        match self.list.get(place) {
+            Some(enumerator) => enumerator.word < limit,
+            None => false,
+        }
+    }
+
+    /// Whether the first enumerator of the name stands before the word.
+    pub fn is_declared_before(&self, limit: usize, name: &[u8]) -> bool
+        ensures { (all : List bodies.EnumeratorAt) (known : List Known) → HasNumbers self.now all known
+            → result ≡ is_declared_before all limit name.now }
+    {
+        match place_of(&self.places, name) {
+            Some(place) => self.is_before(place, limit),
+            None => false,
+        }
+    }
+
+    /// The number in a place.
+    fn number_in(&self, place: usize) -> Option<i128>
+        ensures { result ≡ option_and_then (λ n. n) (slice_get self.now.numbers.items place) }
+    {
+        match self.numbers.get(place) {
+            Some(number) => *number,
+            None => None,
+        }
+    }
+
+    /// The number of the first enumerator of the name, if it stands before the word.
+    fn own_number(&self, limit: usize, name: &[u8]) -> Option<i128>
+        ensures { (all : List bodies.EnumeratorAt) (known : List Known) → HasNumbers self.now all known
+            → result ≡ number_before known limit name.now }
+    {
+        match place_of(&self.places, name) {
+            Some(place) => {
+                if self.is_before(place, limit) {
+                    self.number_in(place)
+                } else {
+                    None
+                }
+            }
+            None => None,
+        }
+    }
+
+    /// The number of a value that may use the enumerators whose names stand before the word.
+    fn number_by(&self, sights: &Sights, limit: usize, value: &Value) -> Option<i128>
+        ensures { (all : List bodies.EnumeratorAt) (known : List Known) → HasNumbers self.now all known
+            → result ≡ number_by (seen_by sights.now) known limit (view_value value.now) }
+    {
+        match value {
+            Value::Number(text) => number_value(text),
+            Value::Named(name) => number_seen(sights.see(name), self.own_number(limit, name)),
+        }
+    }
+
+    /// The number of the value at the word, if it has one.
+    pub fn number_at(&self, sights: &Sights, word: usize, value: &Value) -> Option<i128>
+        ensures { (all : List bodies.EnumeratorAt) (known : List Known) → HasNumbers self.now all known
+            → result ≡ number_by (seen_by sights.now) known (limit_of word) (view_value value.now) }
+    {
+        self.number_by(sights, limit_of(word), value)
+    }
+
+    /// The number of the first enumerator of the name.
+    pub fn number_named(&self, name: &[u8]) -> Option<i128>
+        ensures { (all : List bodies.EnumeratorAt) (known : List Known) → HasNumbers self.now all known
+            → result ≡ number_named known name.now }
+    {
+        match place_of(&self.places, name) {
+            Some(place) => self.number_in(place),
+            None => None,
+        }
+    }
+}
