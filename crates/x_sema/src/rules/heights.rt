@@ -20,7 +20,9 @@ use super::sights::Sights;
 use crate::fault::{RuleCode, WordFault};
 use crate::outline::parts::BodyAt;
 use crate::views::MOST_HEIGHT;
-use x_item::{Arm, Body, DataType, Declaration, DeclaredName, Definition, Length, Shape, Tag};
+use x_item::{
+    Arm, Body, DataType, Declaration, DeclaredName, Definition, Length, Shape, Tag, UnionBody,
+};
 use x_text::NoMemory;
 
 /// The height of a type that a name is seen to be; 0 where its use has a fault.
@@ -68,6 +70,7 @@ pub fn body_height(sights: &Sights, body: &Body) -> u32
         Body::Enum(_) => 1,
         Body::Struct(declarations) => fields_height(sights, declarations).saturating_add(1),
         Body::Union(body) => {
+            let body: &UnionBody = body;
             let arms = arms_height(sights, &body.arms);
             let others = arms.max(default_height(sights, &body.default));
             let all = held_height(sights, &body.discriminant).max(others);

@@ -1,6 +1,6 @@
 use Rattle.std.proofs.Common.{◌≡◌, ◌+◌, ◌∷◌, drop, max, ap, sym, ◌∙◌}
 use Rattle.x_item.specs.Tree.{Struct, Union}
-use Rattle.x_item.specs.View.{view_body, view_declaration, view_declarations, view_arms, view_default}
+use Rattle.x_item.specs.View.{view_union, view_body, view_declaration, view_declarations, view_arms, view_default}
 use Rattle.x_item.specs.declared.trees.declaration.Body.TheViews.{out-UnionBody}
 use Rattle.x_item.proofs.Rows.{struct_view, union_parts}
 use Rattle.x_sema.specs.Types.{body_height, held_height, fields_height, arms_height, default_height}
@@ -60,8 +60,8 @@ body_height-returns-in-Struct t c =
 pub body_height-returns-in-Union : goal.body_height-returns-in-Union
 body_height-returns-in-Union t c =
     let see = seen_by c.args.sights.now in
-    let u = out-UnionBody c.in-Union.body in
-    let is : view_body c.args.body.now ≡ Union (view_declaration u.discriminant) (view_arms u.arms.items) (view_default u.default) = ap view_body c.in-Union.is ∙ union_parts c.in-Union.body in
+    let u = out-UnionBody c.deref-body.result.now in
+    let is : view_body c.args.body.now ≡ Union (view_declaration u.discriminant) (view_arms u.arms.items) (view_default u.default) = ap view_body c.in-Union.is ∙ ap view_union (sym c.deref-body.ensures) ∙ union_parts c.deref-body.result.now in
     let arms : c.arms_height-arms.result ≡ capped (arms_height see (view_arms u.arms.items)) = c.arms_height-arms.ensures ∙ ap (λ xs. capped (arms_height see (view_arms xs))) c.deref-in-Union.ensures.value in
     let others = c.max-others.ensures ∙ higher_two c.arms_height-arms.result c.default_height.result (arms_height see (view_arms u.arms.items)) (default_height see (view_default u.default)) arms c.default_height.ensures in
     let all = c.max-all.ensures ∙ higher_two c.held_height.result c.max-others.result (held_height see (view_declaration u.discriminant)) (max (arms_height see (view_arms u.arms.items)) (default_height see (view_default u.default))) c.held_height.ensures others in
