@@ -1,6 +1,6 @@
 -- The rules that a definition keeps beyond its spelling (RFC 4506, section 6.4; RFC 5531, section 12.3): which of them a word
 -- breaks. `see` tells what the definition's item sees of each name. A rule that needs a number or a class is not applied where there
--- is none: then there is a fault elsewhere.
+-- is none.
 use Rattle.std.specs.Prelude.{◌≡◌, ◌<◌, ◌≤◌, ◌⊎◌, ℕ, ◌+◌, Bool, true, false, IsTrue, nat_lt, List, [], ◌∷◌, ◌++◌, length, Option, Some, None, ℤ, pos, slice_get}
 use Rattle.std.specs.List.{IsAmong}
 use denote.Enum.Declared.{tag_of}

@@ -75,7 +75,8 @@ fn other_faults(
 
 /// Checks the definition of an item by the rules beyond its spelling (RFC 4506, section 6.4). There is one view for each name that it
 /// declares, and then one for each that it uses, in the orders of [`declares`] and [`mentions`]. Counts one checked item. It takes
-/// time in proportion to the definition, but for sorting what may not stand twice.
+/// time in proportion to the definition, but for sorting what may not stand twice, and for the numbers of an enum that a `typedef` names,
+/// which it copies.
 ///
 /// # Errors
 ///
