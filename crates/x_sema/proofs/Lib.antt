@@ -8,6 +8,7 @@ pub mod HeightLemmas
 pub mod ListLemmas
 pub mod NameLemmas
 pub mod NoteLemmas
+pub mod NoteWalkLemmas
 pub mod OrderLemmas
 pub mod PlaceLemmas
 pub mod ResultLaws
