@@ -9,6 +9,7 @@ pub mod ListLemmas
 pub mod NameLemmas
 pub mod NoteLemmas
 pub mod NoteWalkLemmas
+pub mod NumberLemmas
 pub mod OrderLemmas
 pub mod PlaceLemmas
 pub mod ResultLaws
