@@ -8,8 +8,12 @@ pub mod HeightLemmas
 pub mod ListLemmas
 pub mod NameLemmas
 pub mod NoteLemmas
+pub mod NoteWalkLemmas
+pub mod NumberLemmas
 pub mod OrderLemmas
+pub mod PastLastLemmas
 pub mod PlaceLemmas
+pub mod RepeatLemmas
 pub mod ResultLaws
 pub mod RuleTextLemmas
 pub mod WordRuleLemmas

@@ -1,12 +1,13 @@
 -- The faults that each family of rules finds, in the order in which the program finds them.
 use Rattle.std.specs.Prelude.{ℕ, suc, ℤ, nat_lt, Bool, true, false, not, ◌&&◌, ◌||◌, List, [], ◌∷◌, ◌++◌, map, Option, Some, None, if◌then◌else◌}
-use Rattle.std.specs.List.{flat_map}
+use Rattle.std.specs.List.{flat_map, list_any}
+use Rattle.std.specs.Ordering.{int_eq}
 use Rattle.x_item.specs.Tree.{Value, Number, Named}
 use Rattle.x_item.specs.Names.{Declared}
 use Rattle.x_item.specs.Mentions.{Mention}
 use Rattle.x_sema.specs.Views as views
 use Rattle.x_sema.specs.Views.{View, Class, NoClass}
-use Rattle.x_sema.specs.Bodies.{EnumeratorAt, NameAt}
+use Rattle.x_sema.specs.Bodies.{EnumeratorAt, NameAt, ValueAt, NumberAt, Members}
 use Rattle.x_sema.specs.Tables.{first_place}
 use Rattle.x_sema.specs.Constants.{Known, limit_of, number_by, number_spelled}
 use Rattle.x_sema.specs.Mentioned.{mention_fault, suits}
@@ -18,6 +19,7 @@ use Rattle.x_sema.specs.declared.outline.note.ValueRole.TheVariants as roles
 use Rattle.x_sema.specs.declared.fault.RuleCode.{RuleCode}
 use Rattle.x_sema.specs.declared.fault.RuleCode.TheVariants as codes
 use Rattle.x_sema.specs.declared.fault.WordFault.{WordFault}
+use Rattle.x_sema.specs.declared.rules.repeats.Numbered.{Numbered}
 
 -- a fault at a word, if there is one
 abbrev pub fault_at : ℕ → Option RuleCode → List WordFault
@@ -126,3 +128,39 @@ repeats_from first place (x ∷ xs) = fault_at x.word (repeat_code (is_behind (f
 -- the faults of the names of a group
 abbrev pub repeated_names : List NameAt → List WordFault
 repeated_names xs = repeats_from (first_place 0 (map (λ x. x.name) xs)) 0 xs
+
+-- ---- numbers that stand twice
+
+-- a number at a word, if there is one
+abbrev pub numbered : ℕ → Option ℤ → List Numbered
+numbered word None = []
+numbered word (Some z) = record { number = z; word = word } ∷ []
+
+-- those of these numbers that constants may have
+abbrev pub spelled_numbers : List NumberAt → List Numbered
+spelled_numbers xs = flat_map (λ x. numbered x.word (number_spelled x.text)) xs
+
+-- the cases that have a number
+abbrev pub case_numbers : (List ℕ → View) → List Known → List ValueAt → List Numbered
+case_numbers see known vs = flat_map (λ v. numbered v.word (number_by see known (limit_of v.word) v.value)) vs
+
+abbrev pub repeated_code : RuleCode → Bool → Option RuleCode
+repeated_code code is_new = if is_new then None else Some code
+
+-- the faults of numbers behind others
+abbrev pub numbers_behind : RuleCode → List ℤ → List Numbered → List WordFault
+numbers_behind code before [] = []
+numbers_behind code before (n ∷ ns) =
+    fault_at n.word (repeated_code code (not (list_any (int_eq n.number) before))) ++ numbers_behind code (n.number ∷ before) ns
+
+-- the faults of numbers that an earlier word has too
+abbrev pub repeated_numbers : RuleCode → List Numbered → List WordFault
+repeated_numbers code ns = numbers_behind code [] ns
+
+-- the faults of the cases of a union
+abbrev pub repeated_cases : (List ℕ → View) → List Known → List ValueAt → List WordFault
+repeated_cases see known vs = repeated_numbers codes.RepeatedCase (case_numbers see known vs)
+
+-- the faults of the versions of a program, or of the procedures of a version
+abbrev pub repeated_members : Members → List WordFault
+repeated_members m = repeated_names m.names ++ repeated_numbers codes.RepeatedNumber (spelled_numbers m.numbers)

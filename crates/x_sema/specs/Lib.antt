@@ -6,6 +6,7 @@ pub mod Found
 pub mod KeptViews
 pub mod Mentioned
 pub mod Notes
+pub mod NoteWalks
 pub mod Numbers
 pub mod Results
 pub mod RuleTexts

@@ -22,6 +22,7 @@ use Rattle.x_sema.specs.declared.fault.WordFault.{WordFault}
 use Rattle.x_sema.specs.declared.views.TheConstants.{MOST_HEIGHT}
 use Rattle.x_sema.specs.declared.views.View.{View}
 use Rattle.x_sema.specs.declared.outline.parts.EnumeratorAt.{EnumeratorAt}
+use Rattle.x_sema.specs.declared.outline.parts.Members.{Members}
 use Rattle.x_sema.specs.declared.outline.parts.NameAt.{NameAt}
 use Rattle.x_sema.specs.declared.outline.parts.ValueAt.{ValueAt}
 use Rattle.x_sema.specs.declared.outline.parts.NumberAt.{NumberAt}
@@ -100,6 +101,9 @@ view_value_at x = record { word = x.word; value = view_value x.value.now }
 
 abbrev pub view_number_at : NumberAt → bodies.NumberAt
 view_number_at x = record { word = x.word; text = x.text.now }
+
+abbrev pub view_members : Members → bodies.Members
+view_members m = record { names = map view_name_at m.names.items; numbers = map view_number_at m.numbers.items }
 
 -- ---- enumerators
 

@@ -23,7 +23,7 @@ use crate::rules::duplicates::add_duplicates;
 use crate::rules::heights::add_too_high;
 use crate::rules::meanings::meanings;
 use crate::rules::mentioned::add_mentioned;
-use crate::rules::repeats::add_repeats;
+use crate::rules::repeats::{add_repeated_fields, add_repeated_members};
 use crate::rules::sights::Sights;
 use crate::rules::words::{add_past_last, add_words};
 use crate::views::View;
@@ -67,7 +67,8 @@ fn other_faults(
     add_words(&mut faults, &noted, sights, constants)?;
     add_past_last(&mut faults, constants)?;
     add_repeated_cases(alloc, &mut faults, bodies, sights, constants)?;
-    add_repeats(alloc, &mut faults, bodies, &groups)?;
+    add_repeated_fields(alloc, &mut faults, bodies)?;
+    add_repeated_members(alloc, &mut faults, &groups)?;
     add_too_high(&mut faults, definition, declared, bodies, sights)?;
     order(&mut faults);
     Ok(faults)

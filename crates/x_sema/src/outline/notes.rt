@@ -1,5 +1,25 @@
 //! What the words of a definition are to the rules.
 
+ghost use Rattle.std.specs.Prelude.{◌≡◌, ◌<◌, ◌^◌, ℕ, List, [], ◌∷◌, length, map, Option, Some, None, true};
+ghost use Rattle.std.specs.Prelude.{OnOk, IfOk};
+ghost use Rattle.x_item.specs.Tree.{Void, Inline, Typed};
+ghost use Rattle.x_item.specs.View.{view_value, view_most, view_length, view_shape, view_enumerator};
+ghost use Rattle.x_item.specs.View.{view_type, view_body, view_declaration, view_declarations, view_arms};
+ghost use Rattle.x_item.specs.View.{view_default, view_argument, view_passed, view_procedure, view_version};
+ghost use Rattle.x_item.specs.View.{view_definition};
+ghost use Rattle.x_item.specs.Gloss.{Role, InlineArgument as InlineRole, VoidResult, VoidArgument, glossed};
+ghost use Rattle.x_item.specs.Gloss.{value_roles, leading_roles, spell_value, most_by, length_by, named_by};
+ghost use Rattle.x_item.specs.Gloss.{enumerator_by, other_enumerators_by, enumerators_by, cases_by, type_by};
+ghost use Rattle.x_item.specs.Gloss.{body_by, declaration_by, declarations_by, arms_by, default_by};
+ghost use Rattle.x_item.specs.Gloss.{argument_by, passed_by, others_by, procedure_by, procedures_by};
+ghost use Rattle.x_item.specs.Gloss.{versions_by};
+ghost use Rattle.x_item.specs.Spell.{spell, spell_basic};
+ghost use Rattle.x_item.specs.Collected.{IsSilent};
+ghost use Rattle.x_item.specs.declared.names.mention.Use.{Use};
+ghost use Rattle.x_item.specs.declared.names.mention.Use.TheVariants as uses;
+ghost use Rattle.x_sema.specs.Notes.{noted, noted_at, view_note, view_note_at};
+ghost use Rattle.x_sema.specs.NoteWalks.{Notes, NotesIn, NotesAll, role_of, place_in};
+
 use super::note::{Note, NoteAt, ValueRole};
 use std::alloc::Global;
 use x_item::{
@@ -18,7 +38,9 @@ enum Place {
 }
 
 /// How many words spell the type.
-pub fn words_of(basic: Basic) -> usize {
+pub fn words_of(basic: Basic) -> usize
+    ensures { result ≡ length (spell_basic basic) }
+{
     match basic {
         Basic::UnsignedInt | Basic::UnsignedLong | Basic::UnsignedHyper => 2,
         _ => 1,
@@ -34,12 +56,17 @@ struct NoteWalk<'d> {
 
 impl<'d> NoteWalk<'d> {
     /// Goes over words without a note.
-    fn skip(&mut self, words: usize) {
+    fn skip(&mut self, words: usize)
+        ensures { Notes self.old self.new words (λ k. []) }
+    {
         self.word = self.word.saturating_add(words);
     }
 
     /// Takes a note of the word that is next.
-    fn add(&mut self, note: Note<'d>) -> Result<(), NoMemory> {
+    fn add(&mut self, note: Note<'d>) -> Result<(), NoMemory>
+        ensures { OnOk result (Notes self.old self.new 0
+            (λ k. record { word = k; note = view_note note.entry } ∷ [])) }
+    {
         self.list.push(NoteAt {
             word: self.word,
             note,
@@ -48,35 +75,55 @@ impl<'d> NoteWalk<'d> {
     }
 
     /// Takes a note of the word that is next, and goes over it.
-    fn add_word(&mut self, note: Note<'d>) -> Result<(), NoMemory> {
+    fn add_word(&mut self, note: Note<'d>) -> Result<(), NoMemory>
+        ensures { OnOk result (Notes self.old self.new 1
+            (λ k. record { word = k; note = view_note note.entry } ∷ [])) }
+    {
         self.add(note)?;
         self.skip(1);
         Ok(())
     }
 
-    fn value(&mut self, role: ValueRole, value: &'d Value) -> Result<(), NoMemory> {
+    fn value(&mut self, role: ValueRole, value: &'d Value) -> Result<(), NoMemory>
+        ensures { OnOk result (NotesIn self.old self.new (glossed (spell_value (view_value value.now))
+            (value_roles (role_of role (view_value value.now)) (view_value value.now)) ∷ [])) }
+    {
         self.add_word(Note::Value { role, value })
     }
 
-    fn most(&mut self, most: &'d Option<Value>) -> Result<(), NoMemory> {
+    fn most(&mut self, most: &'d Option<Value>) -> Result<(), NoMemory>
+        ensures { OnOk result (NotesIn self.old self.new (most_by glossed true (view_most most.now))) }
+    {
         match most {
             Some(value) => self.value(ValueRole::GreatestSize, value),
             None => Ok(()),
         }
     }
 
-    fn brackets(&mut self, size: &'d Length) -> Result<(), NoMemory> {
-        self.skip(1);
+    fn brackets(&mut self, size: &'d Length) -> Result<(), NoMemory>
+        ensures { OnOk result (NotesIn self.old self.new (length_by glossed true (view_length size.now))) }
+    {
         match size {
-            Length::Fixed(size) => self.value(ValueRole::FixedSize, size)?,
-            Length::Variable(most) => self.most(most)?,
+            Length::Fixed(size) => {
+                self.skip(1);
+                self.value(ValueRole::FixedSize, size)?;
+                self.skip(1);
+                Ok(())
+            }
+            Length::Variable(most) => {
+                self.skip(1);
+                self.most(most)?;
+                self.skip(1);
+                Ok(())
+            }
         }
-        self.skip(1);
-        Ok(())
     }
 
     /// Goes over the name of a declaration and what stands around it.
-    fn shape(&mut self, shape: &'d Shape) -> Result<(), NoMemory> {
+    fn shape(&mut self, shape: &'d Shape) -> Result<(), NoMemory>
+        ensures { OnOk result ((roles : List Role) (name : List ℕ) → IsSilent noted_at roles
+            → NotesIn self.old self.new (named_by glossed true roles name (view_shape shape.now))) }
+    {
         match shape {
             Shape::Plain => {
                 self.skip(1);
@@ -93,7 +140,10 @@ impl<'d> NoteWalk<'d> {
         }
     }
 
-    fn enumerator(&mut self, enumerator: &'d Enumerator) -> Result<(), NoMemory> {
+    fn enumerator(&mut self, enumerator: &'d Enumerator) -> Result<(), NoMemory>
+        ensures { OnOk result (NotesIn self.old self.new
+            (enumerator_by glossed true (view_enumerator enumerator.now))) }
+    {
         self.skip(1);
         match &enumerator.value {
             Some(value) => {
@@ -104,7 +154,10 @@ impl<'d> NoteWalk<'d> {
         }
     }
 
-    fn enumerators(&mut self, enumerators: &'d [Enumerator]) -> Result<(), NoMemory> {
+    fn enumerators(&mut self, enumerators: &'d [Enumerator]) -> Result<(), NoMemory>
+        ensures { OnOk result (NotesIn self.old self.new
+            (enumerators_by glossed true (map view_enumerator enumerators.now))) }
+    {
         match enumerators.split_first() {
             Some((first, others)) => {
                 self.enumerator(first)?;
@@ -114,7 +167,10 @@ impl<'d> NoteWalk<'d> {
         }
     }
 
-    fn other_enumerators(&mut self, enumerators: &'d [Enumerator]) -> Result<(), NoMemory> {
+    fn other_enumerators(&mut self, enumerators: &'d [Enumerator]) -> Result<(), NoMemory>
+        ensures { OnOk result (NotesIn self.old self.new
+            (other_enumerators_by glossed true (map view_enumerator enumerators.now))) }
+    {
         for enumerator in enumerators {
             self.skip(1);
             self.enumerator(enumerator)?;
@@ -122,7 +178,9 @@ impl<'d> NoteWalk<'d> {
         Ok(())
     }
 
-    fn cases(&mut self, cases: &'d [Value]) -> Result<(), NoMemory> {
+    fn cases(&mut self, cases: &'d [Value]) -> Result<(), NoMemory>
+        ensures { OnOk result (NotesIn self.old self.new (cases_by glossed true (map view_value cases.now))) }
+    {
         for case in cases {
             self.skip(1);
             self.value(ValueRole::Case, case)?;
@@ -132,7 +190,10 @@ impl<'d> NoteWalk<'d> {
     }
 
     #[cycle(notes)]
-    fn data_type(&mut self, tree: &'d DataType) -> Result<(), NoMemory> {
+    fn data_type(&mut self, tree: &'d DataType) -> Result<(), NoMemory>
+        ensures { OnOk result ((usage : Use) (inside : List ℕ) → NotesIn self.old self.new
+            (type_by glossed [] (Some usage) (Some inside) (view_type tree.now))) }
+    {
         match tree {
             DataType::Basic(basic) => {
                 self.skip(words_of(*basic));
@@ -154,7 +215,10 @@ impl<'d> NoteWalk<'d> {
     }
 
     #[cycle(notes)]
-    fn body(&mut self, body: &'d Body) -> Result<(), NoMemory> {
+    fn body(&mut self, body: &'d Body) -> Result<(), NoMemory>
+        ensures { OnOk result ((around : List ℕ) → NotesIn self.old self.new
+            (body_by glossed (Some around) (view_body body.now))) }
+    {
         match body {
             Body::Enum(enumerators) => {
                 self.skip(1);
@@ -179,7 +243,10 @@ impl<'d> NoteWalk<'d> {
     }
 
     /// Takes note of the first word of a declaration.
-    fn leading(&mut self, place: Place, declaration: &'d Declaration) -> Result<(), NoMemory> {
+    fn leading(&mut self, place: Place, declaration: &'d Declaration) -> Result<(), NoMemory>
+        ensures { OnOk result ((around : List ℕ) → Notes self.old self.new 0 (λ k. noted_at k
+            (leading_roles (Some (place_in place around)) (view_declaration declaration.now)))) }
+    {
         match place {
             Place::Discriminant => self.add(Note::Discriminant(declaration)),
             _ => Ok(()),
@@ -187,30 +254,42 @@ impl<'d> NoteWalk<'d> {
     }
 
     /// Goes over a `void`.
-    fn void(&mut self, place: Place) -> Result<(), NoMemory> {
+    fn void(&mut self, place: Place, declaration: &'d Declaration) -> Result<(), NoMemory>
+        ensures { OnOk result ((around : List ℕ) → view_declaration declaration.now ≡ Void
+            → NotesIn self.old self.new (declaration_by glossed (Some (place_in place around)) Void)) }
+    {
         match place {
             Place::Arm => {
                 self.skip(1);
                 Ok(())
+            }
+            Place::Discriminant => {
+                self.add(Note::Misplaced)?;
+                self.add_word(Note::Discriminant(declaration))
             }
             _ => self.add_word(Note::Misplaced),
         }
     }
 
     #[cycle(notes)]
-    fn declaration(&mut self, place: Place, declaration: &'d Declaration) -> Result<(), NoMemory> {
-        self.leading(place, declaration)?;
+    fn declaration(&mut self, place: Place, declaration: &'d Declaration) -> Result<(), NoMemory>
+        ensures { OnOk result ((around : List ℕ) → NotesIn self.old self.new
+            (declaration_by glossed (Some (place_in place around)) (view_declaration declaration.now))) }
+    {
         match declaration {
-            Declaration::Void => self.void(place),
+            Declaration::Void => self.void(place, declaration),
             Declaration::Of { data, shape, .. } => {
+                self.leading(place, declaration)?;
                 self.data_type(data)?;
                 self.shape(shape)
             }
             Declaration::Opaque { length, .. } => {
+                self.leading(place, declaration)?;
                 self.skip(2);
                 self.brackets(length)
             }
             Declaration::String { most, .. } => {
+                self.leading(place, declaration)?;
                 self.skip(3);
                 self.most(most)?;
                 self.skip(1);
@@ -221,7 +300,10 @@ impl<'d> NoteWalk<'d> {
 
     /// Goes over declarations, each with its `;`.
     #[cycle(notes)]
-    fn declarations(&mut self, declarations: &'d [Declaration]) -> Result<(), NoMemory> {
+    fn declarations(&mut self, declarations: &'d [Declaration]) -> Result<(), NoMemory>
+        ensures { OnOk result ((around : List ℕ) → NotesIn self.old self.new
+            (declarations_by glossed (Some around) (view_declarations declarations.now))) }
+    {
         for declaration in declarations {
             self.declaration(Place::Field, declaration)?;
             self.skip(1);
@@ -230,7 +312,10 @@ impl<'d> NoteWalk<'d> {
     }
 
     #[cycle(notes)]
-    fn arms(&mut self, arms: &'d [Arm]) -> Result<(), NoMemory> {
+    fn arms(&mut self, arms: &'d [Arm]) -> Result<(), NoMemory>
+        ensures { OnOk result ((around : List ℕ) → NotesIn self.old self.new
+            (arms_by glossed (Some around) (view_arms arms.now))) }
+    {
         for arm in arms {
             self.cases(&arm.cases)?;
             self.declaration(Place::Arm, &arm.declaration)?;
@@ -241,7 +326,10 @@ impl<'d> NoteWalk<'d> {
 
     /// Goes over the default arm, if there is one, and the `}` of a union.
     #[cycle(notes)]
-    fn default(&mut self, default: &'d Option<Declaration>) -> Result<(), NoMemory> {
+    fn default(&mut self, default: &'d Option<Declaration>) -> Result<(), NoMemory>
+        ensures { OnOk result ((around : List ℕ) → NotesIn self.old self.new
+            (default_by glossed (Some around) (view_default default.now))) }
+    {
         match default {
             Some(declaration) => {
                 self.skip(2);
@@ -257,7 +345,10 @@ impl<'d> NoteWalk<'d> {
     }
 
     /// Goes over an inline type, of which only the first word is noted.
-    fn inline_argument(&mut self, body: &'d Body) -> Result<(), NoMemory> {
+    fn inline_argument(&mut self, body: &'d Body) -> Result<(), NoMemory>
+        ensures { OnOk result (NotesIn self.old self.new
+            (type_by glossed (InlineRole ∷ []) (Some uses.ByValue) None (Inline (view_body body.now)))) }
+    {
         self.add_word(Note::InlineArgument)?;
         let notes = self.list.len();
         self.body(body)?;
@@ -265,7 +356,10 @@ impl<'d> NoteWalk<'d> {
         Ok(())
     }
 
-    fn argument(&mut self, argument: &'d Argument) -> Result<(), NoMemory> {
+    fn argument(&mut self, argument: &'d Argument) -> Result<(), NoMemory>
+        ensures { OnOk result (NotesIn self.old self.new
+            (argument_by glossed true (view_argument argument.now))) }
+    {
         match argument {
             Argument::String => {
                 self.skip(1);
@@ -275,7 +369,10 @@ impl<'d> NoteWalk<'d> {
         }
     }
 
-    fn argument_type(&mut self, tree: &'d DataType) -> Result<(), NoMemory> {
+    fn argument_type(&mut self, tree: &'d DataType) -> Result<(), NoMemory>
+        ensures { OnOk result (NotesIn self.old self.new
+            (argument_by glossed true (Typed (view_type tree.now)))) }
+    {
         match tree {
             DataType::Basic(_) => self.data_type(tree),
             DataType::Named(_) => self.data_type(tree),
@@ -284,7 +381,10 @@ impl<'d> NoteWalk<'d> {
         }
     }
 
-    fn returned(&mut self, returned: &'d Option<Argument>) -> Result<(), NoMemory> {
+    fn returned(&mut self, returned: &'d Option<Argument>) -> Result<(), NoMemory>
+        ensures { OnOk result (NotesIn self.old self.new
+            (passed_by glossed true (VoidResult ∷ []) (view_passed returned.now))) }
+    {
         match returned {
             Some(argument) => self.argument(argument),
             None => {
@@ -295,11 +395,10 @@ impl<'d> NoteWalk<'d> {
     }
 
     /// Goes over the first argument, behind which so many others stand.
-    fn first_argument(
-        &mut self,
-        first: &'d Option<Argument>,
-        others: usize,
-    ) -> Result<(), NoMemory> {
+    fn first_argument(&mut self, first: &'d Option<Argument>, others: usize) -> Result<(), NoMemory>
+        ensures { OnOk result (NotesIn self.old self.new
+            (passed_by glossed true (VoidArgument others ∷ []) (view_passed first.now))) }
+    {
         match first {
             Some(argument) => self.argument(argument),
             None if others == 0 => {
@@ -310,7 +409,10 @@ impl<'d> NoteWalk<'d> {
         }
     }
 
-    fn others(&mut self, others: &'d [Argument]) -> Result<(), NoMemory> {
+    fn others(&mut self, others: &'d [Argument]) -> Result<(), NoMemory>
+        ensures { OnOk result (NotesIn self.old self.new
+            (others_by glossed true (map view_argument others.now))) }
+    {
         for argument in others {
             self.skip(1);
             self.argument(argument)?;
@@ -318,7 +420,10 @@ impl<'d> NoteWalk<'d> {
         Ok(())
     }
 
-    fn procedure(&mut self, procedure: &'d Procedure) -> Result<(), NoMemory> {
+    fn procedure(&mut self, procedure: &'d Procedure) -> Result<(), NoMemory>
+        ensures { OnOk result (NotesIn self.old self.new
+            (procedure_by glossed true (view_procedure procedure.now))) }
+    {
         self.returned(&procedure.result)?;
         self.skip(2);
         self.first_argument(&procedure.first, procedure.others.len())?;
@@ -329,14 +434,20 @@ impl<'d> NoteWalk<'d> {
         Ok(())
     }
 
-    fn procedures(&mut self, procedures: &'d [Procedure]) -> Result<(), NoMemory> {
+    fn procedures(&mut self, procedures: &'d [Procedure]) -> Result<(), NoMemory>
+        ensures { OnOk result (NotesIn self.old self.new
+            (procedures_by glossed true (map view_procedure procedures.now))) }
+    {
         for procedure in procedures {
             self.procedure(procedure)?;
         }
         Ok(())
     }
 
-    fn versions(&mut self, versions: &'d [Version]) -> Result<(), NoMemory> {
+    fn versions(&mut self, versions: &'d [Version]) -> Result<(), NoMemory>
+        ensures { OnOk result (NotesIn self.old self.new
+            (versions_by glossed true (map view_version versions.now))) }
+    {
         for version in versions {
             self.skip(3);
             self.procedures(&version.procedures)?;
@@ -348,7 +459,9 @@ impl<'d> NoteWalk<'d> {
     }
 
     /// Goes over a definition up to its last word with a note.
-    fn definition(&mut self, definition: &'d Definition) -> Result<(), NoMemory> {
+    fn definition(&mut self, definition: &'d Definition) -> Result<(), NoMemory>
+        ensures { OnOk result (NotesAll self.old self.new (view_definition definition.now)) }
+    {
         match definition {
             Definition::Const { value, .. } => {
                 self.skip(3);
@@ -377,7 +490,10 @@ impl<'d> NoteWalk<'d> {
 }
 
 /// What the words of the definition are to the rules, in their order.
-pub fn notes(alloc: Global, definition: &Definition) -> Result<Vec<NoteAt<'_>>, NoMemory> {
+pub fn notes(alloc: Global, definition: &Definition) -> Result<Vec<NoteAt<'_>>, NoMemory>
+    ensures { IfOk result (λ found. length (spell (view_definition definition.now)) < 2 ^ 64
+        → map view_note_at found.items ≡ noted (view_definition definition.now)) }
+{
     let mut walk = NoteWalk {
         list: Vec::new(alloc),
         word: 0,

@@ -1,8 +1,15 @@
 //! The cases of unions.
 
+ghost use Rattle.std.specs.Prelude.{◌≡◌, ◌++◌, List, map, IfOk, OnOk};
+ghost use Rattle.std.specs.List.{flat_map};
+ghost use Rattle.x_sema.specs.Bodies.{EnumeratorAt};
+ghost use Rattle.x_sema.specs.Constants.{Known};
+ghost use Rattle.x_sema.specs.Found.{case_numbers, repeated_cases};
+ghost use Rattle.x_sema.specs.Tables.{HasNumbers, seen_by, view_value_at};
+
 use super::classes::{Choice, declaration_class};
 use super::constants::{Constants, is_enum_number, is_word_number};
-use super::repeats::{Numbered, add_repeated_numbers};
+use super::repeats::{Numbered, add_number, add_repeated_numbers};
 use super::sights::Sights;
 use crate::fault::{RuleCode, WordFault};
 use crate::outline::parts::{BodyAt, ValueAt};
@@ -17,13 +24,15 @@ fn case_numbers(
     cases: &[ValueAt],
     sights: &Sights,
     constants: &Constants,
-) -> Result<Vec<Numbered>, NoMemory> {
+) -> Result<Vec<Numbered>, NoMemory>
+    ensures { IfOk result (λ list. (all : List EnumeratorAt) (known : List Known)
+        → HasNumbers constants.now all known
+        → list.items ≡ case_numbers (seen_by sights.now) known (map view_value_at cases.now)) }
+{
     let mut list = Vec::new(alloc);
     for case in cases {
-        if let Some(number) = constants.number_at(sights, case.word, case.value) {
-            let word = case.word;
-            list.push(Numbered { number, word })?;
-        }
+        let number = constants.number_at(sights, case.word, case.value);
+        add_number(&mut list, case.word, number)?;
     }
     Ok(list)
 }
@@ -35,12 +44,15 @@ pub fn add_repeated_cases(
     bodies: &[BodyAt],
     sights: &Sights,
     constants: &Constants,
-) -> Result<(), NoMemory> {
+) -> Result<(), NoMemory>
+    ensures { OnOk result ((all : List EnumeratorAt) (known : List Known)
+        → HasNumbers constants.now all known → faults.new.items ≡ faults.old.items
+        ++ flat_map (λ b. repeated_cases (seen_by sights.now) known (map view_value_at b.cases.items))
+        bodies.now) }
+{
     for body in bodies {
-        if !body.cases.is_empty() {
-            let numbers = case_numbers(alloc, &body.cases, sights, constants)?;
-            add_repeated_numbers(alloc, faults, &numbers, RuleCode::RepeatedCase)?;
-        }
+        let numbers = case_numbers(alloc, &body.cases, sights, constants)?;
+        add_repeated_numbers(alloc, faults, &numbers, RuleCode::RepeatedCase)?;
     }
     Ok(())
 }

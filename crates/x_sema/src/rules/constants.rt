@@ -229,7 +229,7 @@ impl<'d> Constants<'d> {
     }
 
     /// The number in a place.
-    fn number_in(&self, place: usize) -> Option<i128>
+    pub fn number_in(&self, place: usize) -> Option<i128>
         ensures { result ≡ option_and_then (λ n. n) (slice_get self.now.numbers.items place) }
     {
         match self.numbers.get(place) {

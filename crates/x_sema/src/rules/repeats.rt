@@ -1,8 +1,13 @@
 //! What may stand only once in a body, a program or a version.
 
-ghost use Rattle.std.specs.Prelude.{◌≡◌, ◌++◌, map, IfOk, OnOk};
+ghost use Rattle.std.specs.Prelude.{◌≡◌, ◌++◌, ◌||◌, ℤ, not, map, IfOk, OnOk};
+ghost use Rattle.std.specs.Ordering.{int_eq};
+ghost use Rattle.indexmap.specs.IndexSet.{contains};
+ghost use Rattle.std.specs.List.{flat_map};
 ghost use Rattle.x_sema.specs.Found.{is_behind, repeat_code, repeats_from, repeated_names};
-ghost use Rattle.x_sema.specs.Tables.{HasPlaces, place_in, view_name_at};
+ghost use Rattle.x_sema.specs.Found.{numbered, spelled_numbers, repeated_code, repeated_numbers};
+ghost use Rattle.x_sema.specs.Found.{fault_at, repeated_members};
+ghost use Rattle.x_sema.specs.Tables.{HasPlaces, place_in, view_name_at, view_number_at, view_members};
 
 use super::duplicates::is_behind;
 use super::found::add_fault;
@@ -21,19 +26,68 @@ pub struct Numbered {
     pub word: usize,
 }
 
+/// Adds the number at a word, if there is one.
+pub fn add_number(
+    list: &mut Vec<Numbered>,
+    word: usize,
+    number: Option<i128>,
+) -> Result<(), NoMemory>
+    ensures { OnOk result (list.new.items ≡ list.old.items ++ numbered word number) }
+{
+    match number {
+        Some(number) => {
+            list.push(Numbered { number, word })?;
+            Ok(())
+        }
+        None => Ok(()),
+    }
+}
+
+/// The fault of a number, by whether it is new.
+fn number_fault(code: RuleCode, is_new: bool) -> Option<RuleCode>
+    ensures { result ≡ repeated_code code is_new }
+{
+    if is_new { None } else { Some(code) }
+}
+
+/// Takes a number into those seen, and tells whether it is new.
+fn see(seen: &mut IndexSet<i128>, number: i128) -> Result<bool, NoMemory>
+    ensures new { IfOk result (λ is_new. is_new ≡ not (contains int_eq seen.old number)) }
+    ensures seen { OnOk result ((other : ℤ)
+        → contains int_eq seen.new other ≡ (int_eq number other || contains int_eq seen.old other)) }
+{
+    Ok(seen.insert(number)?)
+}
+
+/// Adds the fault at a number that was seen, and takes it into those seen.
+fn add_repeated_number(
+    faults: &mut Vec<WordFault>,
+    seen: &mut IndexSet<i128>,
+    here: &Numbered,
+    code: RuleCode,
+) -> Result<(), NoMemory>
+    ensures faults { OnOk result (faults.new.items ≡ faults.old.items
+        ++ fault_at here.now.word (repeated_code code (not (contains int_eq seen.old here.now.number)))) }
+    ensures seen { OnOk result ((other : ℤ) → contains int_eq seen.new other
+        ≡ (int_eq here.now.number other || contains int_eq seen.old other)) }
+{
+    let Numbered { number, word } = *here;
+    let is_new = see(seen, number)?;
+    add_fault(faults, word, number_fault(code, is_new))
+}
+
 /// Adds the fault at each number that has an earlier word too.
 pub fn add_repeated_numbers(
     alloc: Global,
     faults: &mut Vec<WordFault>,
     numbers: &[Numbered],
     code: RuleCode,
-) -> Result<(), NoMemory> {
+) -> Result<(), NoMemory>
+    ensures { OnOk result (faults.new.items ≡ faults.old.items ++ repeated_numbers code numbers.now) }
+{
     let mut seen = IndexSet::new(alloc);
     for here in numbers {
-        if !seen.insert(here.number)? {
-            let word = here.word;
-            faults.push(WordFault { word, code })?;
-        }
+        add_repeated_number(faults, &mut seen, here, code)?;
     }
     Ok(())
 }
@@ -94,31 +148,56 @@ fn add_repeated_names(
 }
 
 /// The numbers that constants may have.
-fn numbers_of(alloc: Global, numbers: &[NumberAt]) -> Result<Vec<Numbered>, NoMemory> {
+fn numbers_of(alloc: Global, numbers: &[NumberAt]) -> Result<Vec<Numbered>, NoMemory>
+    ensures { IfOk result (λ list. list.items ≡ spelled_numbers (map view_number_at numbers.now)) }
+{
     let mut list = Vec::new(alloc);
     for spelled in numbers {
-        if let Some(number) = number_value(spelled.text) {
-            let word = spelled.word;
-            list.push(Numbered { number, word })?;
-        }
+        add_number(&mut list, spelled.word, number_value(spelled.text))?;
     }
     Ok(list)
 }
 
-/// Adds the faults of names and numbers that stand twice.
-pub fn add_repeats(
+/// Adds the faults of names of fields that stand twice.
+pub fn add_repeated_fields(
     alloc: Global,
     faults: &mut Vec<WordFault>,
     bodies: &[BodyAt],
-    members: &[Members],
-) -> Result<(), NoMemory> {
+) -> Result<(), NoMemory>
+    ensures { OnOk result (faults.new.items ≡ faults.old.items
+        ++ flat_map (λ b. repeated_names (map view_name_at b.fields.items)) bodies.now) }
+{
     for body in bodies {
         add_repeated_names(alloc, faults, &body.fields)?;
     }
+    Ok(())
+}
+
+/// Adds the faults of the versions of a program, or of the procedures of a version.
+fn add_repeats_of(
+    alloc: Global,
+    faults: &mut Vec<WordFault>,
+    group: &Members,
+) -> Result<(), NoMemory>
+    ensures { OnOk result (faults.new.items ≡ faults.old.items
+        ++ repeated_members (view_members group.now)) }
+{
+    add_repeated_names(alloc, faults, &group.names)?;
+    let numbers = numbers_of(alloc, &group.numbers)?;
+    add_repeated_numbers(alloc, faults, &numbers, RuleCode::RepeatedNumber)
+}
+
+/// Adds the faults of names and numbers of versions and procedures that stand twice.
+pub fn add_repeated_members(
+    alloc: Global,
+    faults: &mut Vec<WordFault>,
+    members: &[Members],
+) -> Result<(), NoMemory>
+    ensures { OnOk result (faults.new.items ≡ faults.old.items
+        ++ flat_map (λ m. repeated_members (view_members m)) members.now) }
+{
     for group in members {
-        add_repeated_names(alloc, faults, &group.names)?;
-        let numbers = numbers_of(alloc, &group.numbers)?;
-        add_repeated_numbers(alloc, faults, &numbers, RuleCode::RepeatedNumber)?;
+        add_repeats_of(alloc, faults, group)?;
     }
     Ok(())
 }

@@ -9,7 +9,7 @@ ghost use Rattle.x_sema.specs.Notes.{view_note, view_note_at};
 ghost use Rattle.x_sema.specs.Types.{declaration_class};
 ghost use Rattle.x_sema.specs.Found.{number_fault, value_fault, spelled_fault, discriminant_fault};
 ghost use Rattle.x_sema.specs.Found.{note_fault};
-ghost use Rattle.x_sema.specs.Found.{note_faults, past_last};
+ghost use Rattle.x_sema.specs.Found.{note_faults, past_last, past_last_faults};
 ghost use Rattle.x_sema.specs.Tables.{HasNumbers, seen_by, view_given};
 
 use super::classes::has_no_class;
@@ -158,9 +158,14 @@ fn past_last(enumerator: &EnumeratorAt, number: Option<i128>) -> Option<RuleCode
 }
 
 /// Adds the faults of enumerators without a value.
-pub fn add_past_last(faults: &mut Vec<WordFault>, constants: &Constants) -> Result<(), NoMemory> {
-    for (enumerator, number) in constants.list.iter().zip(&constants.numbers) {
-        let code = past_last(enumerator, *number);
+pub fn add_past_last(faults: &mut Vec<WordFault>, constants: &Constants) -> Result<(), NoMemory>
+    ensures { OnOk result ((all : List bodies.EnumeratorAt) (known : List Known)
+        → HasNumbers constants.now all known
+        → faults.new.items ≡ faults.old.items ++ past_last_faults known) }
+{
+    let list = constants.list.as_slice();
+    for (place, enumerator) in list.iter().enumerate() {
+        let code = past_last(enumerator, constants.number_in(place));
         add_fault(faults, enumerator.word, code)?;
     }
     Ok(())
