@@ -23,8 +23,7 @@ ghost use Rattle.x_sema.specs.NoteWalks.{Notes, NotesIn, NotesAll, role_of, plac
 use super::note::{Note, NoteAt, ValueRole};
 use std::alloc::Global;
 use x_item::{
-    Argument, Arm, Basic, Body, DataType, Declaration, Definition, Enumerator, Length, Procedure,
-    Shape, Value, Version,
+    Argument, Arm, Basic, Body, DataType, Declaration, Definition, Enumerator, Length, Procedure, Shape, UnionBody, Value, Version,
 };
 use x_text::NoMemory;
 
@@ -233,6 +232,7 @@ impl<'d> NoteWalk<'d> {
                 Ok(())
             }
             Body::Union(body) => {
+                let body: &UnionBody = body;
                 self.skip(2);
                 self.declaration(Place::Discriminant, &body.discriminant)?;
                 self.skip(2);

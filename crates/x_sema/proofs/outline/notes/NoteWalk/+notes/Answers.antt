@@ -2,7 +2,7 @@ use Rattle.std.proofs.Common.{◌≡◌, ℕ, List, ◌+◌, ◌∷◌, [], ◌+
 use Rattle.std.proofs.lemmas.List.{drop_all, drop_more}
 use Rattle.std.proofs.lemmas.Result.{on_ok_weaker}
 use Rattle.x_item.specs.Tree.{Of, Opaque, String, Struct, Union}
-use Rattle.x_item.specs.View.{view_type, view_length, view_most, view_shape, view_body, view_enumerator, view_value, view_declaration, view_declarations, view_arms, view_default}
+use Rattle.x_item.specs.View.{view_union, view_type, view_length, view_most, view_shape, view_body, view_enumerator, view_value, view_declaration, view_declarations, view_arms, view_default}
 use Rattle.x_item.specs.Words.{Fixed}
 use Rattle.x_item.specs.Gloss.{Gloss, Role, AsField, AsDiscriminant, AsArm, Inside, leading_roles, glossed, use_by, enumerators_by, cases_by, type_by, named_by, body_by, declaration_by, declarations_by, arms_by, default_by}
 use Rattle.x_sema.specs.Notes.{noted_at}
@@ -69,9 +69,9 @@ body-returns-in_ok-declarations-in-Struct t c around =
 
 pub body-returns-in_ok-arms-in-Union : goal.body-returns-in_ok-arms-in-Union
 body-returns-in_ok-arms-in-Union t c =
-    let u = out-UnionBody c.in-Union.body in
+    let u = out-UnionBody c.deref-body.result.now in
     let arms = view_arms u.arms.items in
-    let is : view_body c.args.body.now ≡ Union (view_declaration u.discriminant) arms (view_default u.default) = ap view_body c.in-Union.is ∙ union_parts c.in-Union.body in
+    let is : view_body c.args.body.now ≡ Union (view_declaration u.discriminant) arms (view_default u.default) = ap view_body c.in-Union.is ∙ ap view_union (sym c.deref-body.ensures) ∙ union_parts c.deref-body.result.now in
     let inside : (around : List ℕ) → NotesIn c.skip-in-Union-2.new.self c.arms.new.self (arms_by glossed (Some around) arms) = rw c.deref-in-Union.ensures.value at c.in_ok-arms-in-Union.ensures in
     on_ok_weaker c.default.result
     (λ last around. covers_as (covers_two record { all = c.skip-in-Union.ensures } (covers_then (c.in_ok-declaration-in-Union.ensures around)

@@ -19,10 +19,11 @@ returns-in-Const c =
 
 pub returns-in-Typedef : goal.returns-in-Typedef
 returns-in-Typedef c =
-    let d = view_declaration c.in-Typedef.declaration in
+    let d = view_declaration c.in-Typedef.declaration.value in
     subst (λ x. OnOk c.declaration.result (NotesAll c.args.self.now c.declaration.new.self (view_definition x))) (sym c.in-Typedef.is)
     (on_ok_weaker c.declaration.result
-    (λ x. notes_all (Typedef d) (_ ∷ declaration_by glossed (Some InTypedef) d) (_ ∷ []) refl (covers_next record { all = c.skip-in-Typedef.ensures } (x [])) (λ k. refl))
+    (λ x. let inside : NotesIn c.skip-in-Typedef.new.self c.declaration.new.self (declaration_by glossed (Some InTypedef) d) = rw c.deref.ensures at x [] in
+    notes_all (Typedef d) (_ ∷ declaration_by glossed (Some InTypedef) d) (_ ∷ []) refl (covers_next record { all = c.skip-in-Typedef.ensures } inside) (λ k. refl))
     c.declaration.ensures)
 
 pub returns-in-NewType : goal.returns-in-NewType
@@ -38,9 +39,9 @@ pub returns-in_ok-versions-in-Program : goal.returns-in_ok-versions-in-Program
 returns-in_ok-versions-in-Program c =
     let versions = map view_version c.in-Program.versions.items in
     let text = c.in-Program.number.items in
-    let inside : NotesIn c.skip-in-Program.new.self c.versions.new.self (versions_by glossed true versions) = rw c.deref.ensures.value at c.in_ok-versions-in-Program.ensures in
+    let inside : NotesIn c.skip-in-Program.new.self c.versions.new.self (versions_by glossed true versions) = rw c.deref-in-Program.ensures.value at c.in_ok-versions-in-Program.ensures in
     subst (λ x. OnOk c.add_word.result (NotesAll c.args.self.now c.add_word.new.self (view_definition x))) (sym c.in-Program.is)
     (on_ok_weaker c.add_word.result
-    (λ x. let number : NotesIn c.skip-in-Program-2.new.self c.add_word.new.self (glossed (Number text) (ProgramNumber text ∷ []) ∷ []) = record { all = rw c.deref-in-Program.ensures.value at x } in
+    (λ x. let number : NotesIn c.skip-in-Program-2.new.self c.add_word.new.self (glossed (Number text) (ProgramNumber text ∷ []) ∷ []) = record { all = rw c.deref-in-Program-2.ensures at x } in
     notes_program (Program c.in-Program.name.items versions text) _ _ _ (versions_by glossed true versions) _ _ _ _ refl record { all = c.skip-in-Program.ensures } inside record { all = c.skip-in-Program-2.ensures } number (λ k. refl))
     c.add_word.ensures)

@@ -16,7 +16,7 @@ loop-version-preserved c =
     let rest = drop (c.loop-version.version-index + 1) c.args.versions.now in
     let front : drop c.loop-version.version-index c.args.versions.now ≡ item ∷ rest =
     drop_more c.args.versions.now c.loop-version.version-index _ c.loop-version-test.true ∙ ap (λ x. x ∷ rest) (sym c.version-item.is) in
-    let number : NotesIn c.skip-in-loop-version.new.self c.add_word.new.self (glossed (Number item.number.items) (VersionNumber item.number.items ∷ []) ∷ []) = record { all = rw c.deref-in-loop-version.ensures.value at c.in_ok-add_word.ensures } in
+    let number : NotesIn c.skip-in-loop-version.new.self c.add_word.new.self (glossed (Number item.number.items) (VersionNumber item.number.items ∷ []) ∷ []) = record { all = rw c.deref-in-loop-version.ensures at c.in_ok-add_word.ensures } in
     goes_over (λ xs. versions_by glossed true (map view_version xs)) item _ rest front refl c.loop-version.invariant
     (covers_three record { all = c.skip.ensures } (covers_then (rw c.deref.ensures.value at c.in_ok-procedures.ensures) (covers_two record { all = c.skip-in-loop-version.ensures } (covers_next number record { all = c.skip-in-loop-version-2.ensures }))))
 
