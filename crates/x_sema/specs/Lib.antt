@@ -1,4 +1,5 @@
 pub mod Bodies
+pub mod BodyWalks
 pub mod Constants
 pub mod DeclarerTable
 pub mod Declarers

@@ -1,5 +1,12 @@
 //! The bodies that stand in a definition, with the names of their fields and their cases.
 
+ghost use Rattle.std.specs.Prelude.{◌≡◌, ◌+◌, ℕ, List, [], ◌∷◌, length, OnOk};
+ghost use Rattle.x_item.specs.Collected.{Covers};
+ghost use Rattle.x_sema.specs.BodyWalks.{view_walk, view_fields};
+ghost use Rattle.x_item.specs.View.{view_shape, view_length};
+ghost use Rattle.x_item.specs.Named.{star};
+ghost use Rattle.x_item.specs.Spell.{spell_length, spell_named};
+
 use super::notes::words_of;
 use super::parts::{BodyAt, NameAt, ValueAt};
 use std::alloc::Global;
@@ -35,7 +42,9 @@ pub struct BodyWalk<'d> {
 }
 
 /// How many words stand between the type of a declaration and its name.
-fn words_before_name(shape: &Shape) -> usize {
+fn words_before_name(shape: &Shape) -> usize
+    ensures { result ≡ star (view_shape shape.now) }
+{
     match shape {
         Shape::Optional => 1,
         _ => 0,
@@ -43,7 +52,9 @@ fn words_before_name(shape: &Shape) -> usize {
 }
 
 /// How many words the length of an array is, with its brackets.
-fn words_of_length(size: &Length) -> usize {
+fn words_of_length(size: &Length) -> usize
+    ensures { result ≡ length (spell_length (view_length size.now)) }
+{
     match size {
         Length::Fixed(_) | Length::Variable(Some(_)) => 3,
         Length::Variable(None) => 2,
@@ -51,7 +62,10 @@ fn words_of_length(size: &Length) -> usize {
 }
 
 /// How many words stand behind the name of a declaration.
-fn words_behind_name(shape: &Shape) -> usize {
+fn words_behind_name(shape: &Shape) -> usize
+    ensures { (name : List ℕ) → star (view_shape shape.now) + (1 + result)
+        ≡ length (spell_named name (view_shape shape.now)) }
+{
     match shape {
         Shape::Plain | Shape::Optional => 0,
         Shape::Array(length) => words_of_length(length),
@@ -70,7 +84,10 @@ fn words_of_enumerators(enumerators: &[Enumerator]) -> usize {
 
 impl<'d> BodyWalk<'d> {
     /// Goes over words without a body.
-    pub fn skip(&mut self, words: usize) {
+    pub fn skip(&mut self, words: usize)
+        ensures word { Covers (view_walk self.old) (view_walk self.new) words (λ k. []) }
+        ensures list { self.new.list ≡ self.old.list }
+    {
         self.word = self.word.saturating_add(words);
     }
 
@@ -170,7 +187,12 @@ impl<'d> BodyWalk<'d> {
     }
 
     /// Goes over the word of a name, which is added to the fields.
-    fn field(&mut self, name: &'d [u8], contents: &mut Contents<'d>) -> Result<(), NoMemory> {
+    fn field(&mut self, name: &'d [u8], contents: &mut Contents<'d>) -> Result<(), NoMemory>
+        ensures bodies { OnOk result (Covers (view_walk self.old) (view_walk self.new) 1 (λ k. [])) }
+        ensures fields { OnOk result (Covers (view_fields self.old contents.old)
+            (view_fields self.new contents.new) 1 (λ k. record { word = k; name = name.now } ∷ [])) }
+        ensures cases { OnOk result (contents.new.cases.items ≡ contents.old.cases.items) }
+    {
         let word = self.word;
         contents.fields.push(NameAt { word, name })?;
         self.skip(1);

@@ -1,6 +1,6 @@
 use Rattle.std.proofs.Common.{◌≡◌, ◌+◌, ◌∷◌, ◌++◌, map, drop, ap, sym, ◌∙◌}
 use Rattle.std.proofs.lemmas.List.{drop_more}
-use Rattle.x_sema.specs.Found.{case_numbers, repeated_cases, repeated_numbers}
+use Rattle.x_sema.specs.Found.{repeated_cases, repeated_numbers}
 use Rattle.x_sema.specs.Tables.{seen_by, view_value_at}
 use Rattle.x_sema.specs.declared.fault.RuleCode.TheVariants as codes
 use Rattle.x_sema.proofs.ListLemmas.{drop_none, listed_more, listed_all}

@@ -1,12 +1,9 @@
 use Rattle.std.proofs.Common.{◌≡◌, ℕ, List, ◌+◌, ◌∷◌, [], ◌++◌, drop, map, Some, true, refl, ap, sym, ◌∙◌, append_assoc}
 use Rattle.std.proofs.lemmas.List.{drop_all, drop_more}
 use Rattle.std.proofs.lemmas.Result.{on_ok_weaker}
-use Rattle.x_item.specs.Tree.{Of, Opaque, String, Struct, Union}
+use Rattle.x_item.specs.Tree.{Opaque, String, Struct, Union}
 use Rattle.x_item.specs.View.{view_union, view_type, view_length, view_most, view_shape, view_body, view_enumerator, view_value, view_declaration, view_declarations, view_arms, view_default}
-use Rattle.x_item.specs.Words.{Fixed}
-use Rattle.x_item.specs.Gloss.{Gloss, Role, AsField, AsDiscriminant, AsArm, Inside, leading_roles, glossed, use_by, enumerators_by, cases_by, type_by, named_by, body_by, declaration_by, declarations_by, arms_by, default_by}
-use Rattle.x_sema.specs.Notes.{noted_at}
-use Rattle.x_item.specs.Collected.{IsSilent, Covers}
+use Rattle.x_item.specs.Gloss.{AsField, AsArm, Inside, glossed, enumerators_by, cases_by, body_by, declaration_by, declarations_by, arms_by, default_by}
 use Rattle.x_sema.specs.NoteWalks.{NotesIn, place_in, view_walk}
 use Rattle.x_item.specs.declared.trees.declaration.Body.TheViews.{out-UnionBody}
 use Rattle.x_item.proofs.CollectLemmas.{covers_then, covers_next, covers_two, covers_as, goes_start, goes_over, goes_end}

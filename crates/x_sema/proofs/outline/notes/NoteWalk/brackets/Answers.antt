@@ -1,4 +1,4 @@
-use Rattle.std.proofs.Common.{true, refl, ap, sym}
+use Rattle.std.proofs.Common.{true, ap, sym}
 use Rattle.x_item.specs.View.{view_length}
 use Rattle.x_item.specs.Gloss.{glossed, length_by}
 use Rattle.x_item.proofs.CollectLemmas.{covers_next, covers_as}

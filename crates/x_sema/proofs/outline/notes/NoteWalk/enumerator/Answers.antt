@@ -1,4 +1,4 @@
-use Rattle.std.proofs.Common.{true, refl, ap, sym}
+use Rattle.std.proofs.Common.{true, ap, sym}
 use Rattle.std.proofs.lemmas.Result.{on_ok_weaker}
 use Rattle.x_item.specs.View.{view_enumerator}
 use Rattle.x_item.specs.Gloss.{glossed, enumerator_by}
