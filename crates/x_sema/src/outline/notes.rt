@@ -23,7 +23,8 @@ ghost use Rattle.x_sema.specs.NoteWalks.{Notes, NotesIn, NotesAll, role_of, plac
 use super::note::{Note, NoteAt, ValueRole};
 use std::alloc::Global;
 use x_item::{
-    Argument, Arm, Basic, Body, DataType, Declaration, Definition, Enumerator, Length, Procedure, Shape, UnionBody, Value, Version,
+    Argument, Arm, Basic, Body, DataType, Declaration, Definition, Enumerator, Length, Procedure,
+    Shape, UnionBody, Value, Version,
 };
 use x_text::NoMemory;
 
