@@ -1,15 +1,11 @@
 //! The check of an item.
 
-ghost use Rattle.std.specs.Prelude.{◌≡◌, IfOk, map};
+ghost use Rattle.std.specs.Prelude.{◌≡◌};
 ghost use Rattle.x_text.specs.Counts.{raised};
-ghost use Rattle.x_item.specs.View.{view_definition};
 ghost use Rattle.std.specs.Cmp.{IsEquivalence, IsTotalOrder};
 ghost use Rattle.std.specs.Ordering.{eq_by_cmp};
 ghost use Rattle.std.specs.List.{IsAmong};
 ghost use Rattle.x_sema.specs.Rules.{Ascends};
-ghost use Rattle.x_sema.specs.Declarers.{IsShort};
-ghost use Rattle.x_sema.specs.Results.{IsOutcome};
-ghost use Rattle.x_sema.specs.RustViews.{view_view};
 
 use crate::checked::{Checked, Meanings};
 use crate::fault::WordFault;
