@@ -1,13 +1,17 @@
 //! The check of an item.
 
-ghost use Rattle.std.specs.Prelude.{◌≡◌};
+ghost use Rattle.std.specs.Prelude.{◌≡◌, map, IfOk};
 ghost use Rattle.x_text.specs.Counts.{raised};
 ghost use Rattle.std.specs.Cmp.{IsEquivalence, IsTotalOrder};
 ghost use Rattle.std.specs.Ordering.{eq_by_cmp};
 ghost use Rattle.std.specs.List.{IsAmong};
+ghost use Rattle.x_item.specs.View.{view_definition};
+ghost use Rattle.x_sema.specs.Declarers.{IsShort};
+ghost use Rattle.x_sema.specs.Results.{IsOutcome};
 ghost use Rattle.x_sema.specs.Rules.{Ascends};
+ghost use Rattle.x_sema.specs.RustViews.{view_view};
 
-use crate::checked::{Checked, Meanings};
+use crate::checked::Checked;
 use crate::fault::WordFault;
 use crate::outline::bodies::bodies;
 use crate::outline::notes::notes;
@@ -72,8 +76,7 @@ fn other_faults(
 
 /// Checks the definition of an item by the rules beyond its spelling (RFC 4506, section 6.4). There is one view for each name that it
 /// declares, and then one for each that it uses, in the orders of [`declares`] and [`mentions`]. Counts one checked item. It takes
-/// time in proportion to the definition, but for sorting what may not stand twice, and for the numbers of an enum that a `typedef` names,
-/// which it copies.
+/// time in proportion to the definition, but for sorting faults and the numbers of an enum.
 ///
 /// # Errors
 ///
@@ -84,6 +87,8 @@ pub fn check_item(
     views: &[View],
     meter: &mut Meter,
 ) -> Result<Checked, NoMemory>
+    ensures checked { IfOk result (λ checked. IsShort (view_definition definition.now)
+        → IsOutcome (view_definition definition.now) (map view_view views.now) checked) }
     ensures counted { meter.new ≡ record meter.old { checked = raised meter.old.checked 1 } }
 {
     meter.tick_checked();
@@ -101,7 +106,7 @@ pub fn check_item(
     let meanings = if faults.is_empty() {
         meanings(alloc, definition, &declared, &bodies, &sights, &constants)?
     } else {
-        Meanings::new(alloc)
+        Vec::new(alloc)
     };
     Ok(Checked::new(faults, meanings))
 }
