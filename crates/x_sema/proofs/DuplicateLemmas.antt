@@ -32,8 +32,8 @@ place_from n (x ∷ xs) name k h = by (bytes_eq name x) refl (place_from (suc n)
     by false e more = let le = more (sym (ap (λ b. cond b (Some n) (first_place (suc n) xs name)) e) ∙ h) in omega (arith, le)
 
 -- a first place before that of other names is among these
-found_behind : (n : ℕ) (xs : List Declared) (rest : List (List ℕ)) (name : List ℕ) → is_behind (first_place n (map name_of xs ++ rest) name) (n + length xs) ≡ true → HasName name_of xs name
-found_behind n [] rest name h = by (first_place n rest name) refl
+pub found_behind : {X : Type 0} (name_of : X → List ℕ) (n : ℕ) (xs : List X) (rest : List (List ℕ)) (name : List ℕ) → is_behind (first_place n (map name_of xs ++ rest) name) (n + length xs) ≡ true → HasName name_of xs name
+found_behind name_of n [] rest name h = by (first_place n rest name) refl
   where
     by : (o : Option ℕ) → first_place n rest name ≡ o → HasName name_of [] name
     by None e = let is : false ≡ true = sym (ap (λ o. is_behind o (n + 0)) e) ∙ h in absurd (cc)
@@ -44,21 +44,21 @@ found_behind n [] rest name h = by (first_place n rest name) refl
       where
         no : (k : ℕ) → nat_lt k (n + 0) ≡ true → n ≤ k → ⊥
         no k t le = let lt : k < n + 0 = grind (arith, nat_tests) in omega (arith, lt, le)
-found_behind n (x ∷ xs) rest name h = by (bytes_eq name x.name) refl (found_behind (suc n) xs rest name)
+found_behind name_of n (x ∷ xs) rest name h = by (bytes_eq name (name_of x)) refl (found_behind name_of (suc n) xs rest name)
   where
     next : n + length (x ∷ xs) ≡ suc n + length xs
     next = omega arith
 
-    by : (b : Bool) → bytes_eq name x.name ≡ b → (is_behind (first_place (suc n) (map name_of xs ++ rest) name) (suc n + length xs) ≡ true → HasName name_of xs name) → HasName name_of (x ∷ xs) name
-    by true e more = record { other = x; among = among_first x xs; same = sym ((bytes_eq-Decides name x.name).0 e) }
+    by : (b : Bool) → bytes_eq name (name_of x) ≡ b → (is_behind (first_place (suc n) (map name_of xs ++ rest) name) (suc n + length xs) ≡ true → HasName name_of xs name) → HasName name_of (x ∷ xs) name
+    by true e more = record { other = x; among = among_first x xs; same = sym ((bytes_eq-Decides name (name_of x)).0 e) }
     by false e more =
         let o = more (sym (ap (λ k. is_behind (first_place (suc n) (map name_of xs ++ rest) name) k) next)
         ∙ sym (ap (λ b. is_behind (cond b (Some n) (first_place (suc n) (map name_of xs ++ rest) name)) (n + length (x ∷ xs))) e) ∙ h) in
         record { other = o.other; among = among_more x o.other xs o.among; same = o.same }
 
-behind_found : (n : ℕ) (xs : List Declared) (rest : List (List ℕ)) (name : List ℕ) → HasName name_of xs name → is_behind (first_place n (map name_of xs ++ rest) name) (n + length xs) ≡ true
-behind_found n [] rest name h = absurd (among_none h.other h.among)
-behind_found n (x ∷ xs) rest name h = by (bytes_eq name x.name) refl (among_cases x h.other xs h.among) (behind_found (suc n) xs rest name)
+pub behind_found : {X : Type 0} (name_of : X → List ℕ) (n : ℕ) (xs : List X) (rest : List (List ℕ)) (name : List ℕ) → HasName name_of xs name → is_behind (first_place n (map name_of xs ++ rest) name) (n + length xs) ≡ true
+behind_found name_of n [] rest name h = absurd (among_none h.other h.among)
+behind_found name_of n (x ∷ xs) rest name h = by (bytes_eq name (name_of x)) refl (among_cases x h.other xs h.among) (behind_found name_of (suc n) xs rest name)
   where
     next : n + length (x ∷ xs) ≡ suc n + length xs
     next = omega arith
@@ -66,11 +66,11 @@ behind_found n (x ∷ xs) rest name h = by (bytes_eq name x.name) refl (among_ca
     here : nat_lt n (n + length (x ∷ xs)) ≡ true
     here = let lt : n < n + length (x ∷ xs) = omega arith in grind (arith, nat_tests)
 
-    by : (b : Bool) → bytes_eq name x.name ≡ b → (h.other ≡ x) ⊎ IsAmong xs h.other → (HasName name_of xs name → is_behind (first_place (suc n) (map name_of xs ++ rest) name) (suc n + length xs) ≡ true)
+    by : (b : Bool) → bytes_eq name (name_of x) ≡ b → (h.other ≡ x) ⊎ IsAmong xs h.other → (HasName name_of xs name → is_behind (first_place (suc n) (map name_of xs ++ rest) name) (suc n + length xs) ≡ true)
         → is_behind (first_place n (map name_of (x ∷ xs) ++ rest) name) (n + length (x ∷ xs)) ≡ true
     by true e o more = ap (λ b. is_behind (cond b (Some n) (first_place (suc n) (map name_of xs ++ rest) name)) (n + length (x ∷ xs))) e ∙ here
     by false e (inl same) more =
-        let test : bytes_eq name x.name ≡ true = (bytes_eq-Decides name x.name).1 (sym h.same ∙ ap name_of same) in absurd (cc)
+        let test : bytes_eq name (name_of x) ≡ true = (bytes_eq-Decides name (name_of x)).1 (sym h.same ∙ ap name_of same) in absurd (cc)
     by false e (inr k) more =
         ap (λ b. is_behind (cond b (Some n) (first_place (suc n) (map name_of xs ++ rest) name)) (n + length (x ∷ xs))) e
         ∙ ap (is_behind (first_place (suc n) (map name_of xs ++ rest) name)) next
@@ -119,7 +119,7 @@ taken_is see first front x xs rest h taken = by (either (is_earlier_name (see x.
   where
     by : (is_earlier_name (see x.name) ≡ true) ⊎ (is_behind (first x.name) (length front) ≡ true) → IsEarlierName (see x.name) ⊎ HasName name_of front x.name
     by (inl e) = inl (earlier_is (see x.name) e)
-    by (inr e) = inr (found_behind 0 front (map name_of (x ∷ xs) ++ rest) x.name (sym (behind_of first front x xs rest h) ∙ e))
+    by (inr e) = inr (found_behind name_of 0 front (map name_of (x ∷ xs) ++ rest) x.name (sym (behind_of first front x xs rest h) ∙ e))
 
 is_taken : (see : List ℕ → View) (first : List ℕ → Option ℕ) (front : List Declared) (x : Declared) (xs : List Declared) (rest : List (List ℕ)) → HasFirst first (front ++ x ∷ xs) rest
     → IsEarlierName (see x.name) ⊎ HasName name_of front x.name → is_taken_at see first (length front) x.name ≡ true
@@ -127,7 +127,7 @@ is_taken see first front x xs rest h taken = or_true (is_earlier_name (see x.nam
   where
     by : IsEarlierName (see x.name) ⊎ HasName name_of front x.name → (is_earlier_name (see x.name) ≡ true) ⊎ (is_behind (first x.name) (length front) ≡ true)
     by (inl e) = inl (is_earlier (see x.name) e)
-    by (inr e) = inr (behind_of first front x xs rest h ∙ behind_found 0 front (map name_of (x ∷ xs) ++ rest) x.name e)
+    by (inr e) = inr (behind_of first front x xs rest h ∙ behind_found name_of 0 front (map name_of (x ∷ xs) ++ rest) x.name e)
 
 code_is : (b : Bool) (code : RuleCode) → duplicate_code b ≡ Some code → (b ≡ true) × (code ≡ codes.Duplicate)
 code_is true code h = (refl, sym (same_Some codes.Duplicate code h))

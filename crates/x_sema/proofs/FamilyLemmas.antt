@@ -123,7 +123,7 @@ past_last_found known word h =
 
 -- ---- types that are too high
 
-any_is : {X : Type 0} (p : X → Bool) (xs : List X) → list_any p xs ≡ true → (x : X) × IsAmong xs x × (p x ≡ true)
+pub any_is : {X : Type 0} (p : X → Bool) (xs : List X) → list_any p xs ≡ true → (x : X) × IsAmong xs x × (p x ≡ true)
 any_is p [] h = absurd (cc)
 any_is p (x ∷ xs) h = by (p x) refl (any_is p xs)
   where
@@ -166,6 +166,16 @@ too_high_is high x code h = by high x.lifted (suits None x.kind) refl refl refl
     by true true c e f g = let w = whole true true c e f g in absurd (cc)
     by false b c e f g = let w = whole false b c e f g in absurd (cc)
 
+-- the own name of a type, where one of the heights is too high
+pub too_high_at : (heights : List ℕ) (names : List Declared) (own : Declared) → list_any is_too_high heights ≡ true → IsAmong names own → suits None own.kind ≡ true → own.lifted ≡ false
+    → IsTooHigh names heights own.word
+too_high_at heights names own h among is_type not_lifted =
+    let tall = any_is is_too_high heights h in
+    record { own = own; among = among; is_type = is_type; not_lifted = not_lifted; word_is = refl; height = tall.0; is_height = tall.1; outside = over tall.0 tall.2 }
+  where
+    over : (height : ℕ) → is_too_high height ≡ true → MOST_HEIGHT < height
+    over height e = grind (arith, nat_tests)
+
 pub found_too_high : (heights : List ℕ) (names : List Declared) (f : WordFault) → IsAmong (too_high_faults (list_any is_too_high heights) names) f
     → (f.code ≡ codes.TooHigh) × IsTooHigh names heights f.word
 found_too_high heights names f h =
@@ -173,12 +183,7 @@ found_too_high heights names f h =
     let o = flat_among (λ x. fault_at x.word (too_high high x)) names f h in
     let is = fault_is o.one.word (too_high high o.one) f o.of_it in
     let too = too_high_is high o.one f.code is.code_is in
-    let tall = any_is is_too_high heights too.is_high in
-    let test = tall.2 in
-    (too.code_is, record { own = o.one; among = o.among; is_type = too.is_type; not_lifted = too.not_lifted; word_is = is.word_is; height = tall.0; is_height = tall.1; outside = over tall.0 test })
-  where
-    over : (height : ℕ) → is_too_high height ≡ true → MOST_HEIGHT < height
-    over height e = grind (arith, nat_tests)
+    (too.code_is, subst (IsTooHigh names heights) (sym is.word_is) (too_high_at heights names o.one too.is_high o.among too.is_type too.not_lifted))
 
 pub too_high_found : (heights : List ℕ) (names : List Declared) (word : ℕ) → IsTooHigh names heights word
     → IsAmong (too_high_faults (list_any is_too_high heights) names) (record { word = word; code = codes.TooHigh })

@@ -44,7 +44,7 @@ all_placed before n names all none h name = or_none (before name) ∙ sym (ap (�
 -- ---- enumerators by their names
 
 -- from one number on, places are one greater
-shift : (n : ℕ) (names : List (List ℕ)) (name : List ℕ) → first_place (suc n) names name ≡ option_map suc (first_place n names name)
+pub shift : (n : ℕ) (names : List (List ℕ)) (name : List ℕ) → first_place (suc n) names name ≡ option_map suc (first_place n names name)
 shift n [] name = refl
 shift n (x ∷ xs) name = by (bytes_eq name x) (shift (suc n) xs name)
   where

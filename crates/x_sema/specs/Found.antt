@@ -2,17 +2,17 @@
 use Rattle.std.specs.Prelude.{ℕ, suc, ℤ, nat_lt, Bool, true, false, not, ◌&&◌, ◌||◌, List, [], ◌∷◌, ◌++◌, map, Option, Some, None, if◌then◌else◌}
 use Rattle.std.specs.List.{flat_map, list_any}
 use Rattle.std.specs.Ordering.{int_eq}
-use Rattle.x_item.specs.Tree.{Value, Number, Named}
-use Rattle.x_item.specs.Names.{Declared}
-use Rattle.x_item.specs.Mentions.{Mention}
+use Rattle.x_item.specs.Tree.{Definition, Value, Number, Named}
+use Rattle.x_item.specs.Names.{Declared, declared}
+use Rattle.x_item.specs.Mentions.{Mention, mentioned}
 use Rattle.x_sema.specs.Views as views
-use Rattle.x_sema.specs.Views.{View, Class, NoClass}
-use Rattle.x_sema.specs.Bodies.{EnumeratorAt, NameAt, ValueAt, NumberAt, Members}
-use Rattle.x_sema.specs.Tables.{first_place}
-use Rattle.x_sema.specs.Constants.{Known, limit_of, number_by, number_spelled}
+use Rattle.x_sema.specs.Views.{View, Class, NoClass, names_of}
+use Rattle.x_sema.specs.Bodies.{EnumeratorAt, NameAt, ValueAt, NumberAt, Members, bodies, enumerators, cases_of, fields_of, members}
+use Rattle.x_sema.specs.Tables.{first_place, is_too_high}
+use Rattle.x_sema.specs.Constants.{Known, knowns, limit_of, number_by, number_spelled}
 use Rattle.x_sema.specs.Mentioned.{mention_fault, suits}
-use Rattle.x_sema.specs.Types.{declaration_class}
-use Rattle.x_sema.specs.Notes.{Note, NoteAt, ValueNote, NumberNote, MisplacedNote, DiscriminantNote, InlineNote}
+use Rattle.x_sema.specs.Types.{declaration_class, heights}
+use Rattle.x_sema.specs.Notes.{Note, NoteAt, ValueNote, NumberNote, MisplacedNote, DiscriminantNote, InlineNote, noted}
 use Rattle.x_sema.specs.Numbers.{is_enum_number, is_word_number, is_zero}
 use Rattle.x_sema.specs.declared.outline.note.ValueRole.{ValueRole}
 use Rattle.x_sema.specs.declared.outline.note.ValueRole.TheVariants as roles
@@ -164,3 +164,25 @@ repeated_cases see known vs = repeated_numbers codes.RepeatedCase (case_numbers 
 -- the faults of the versions of a program, or of the procedures of a version
 abbrev pub repeated_members : Members → List WordFault
 repeated_members m = repeated_names m.names ++ repeated_numbers codes.RepeatedNumber (spelled_numbers m.numbers)
+
+-- ---- all
+
+-- whether one of the types that the definition declares is too high
+abbrev pub has_too_high : Definition → (List ℕ → View) → Bool
+has_too_high d see = list_any is_too_high (heights d see)
+
+-- what is found of a definition by all rules but that for cases, in the order in which the rules are tried; `known` are its enumerators
+-- with their numbers
+abbrev pub found_by : Definition → (List ℕ → View) → List Known → List WordFault
+found_by d see known =
+    duplicates_from see (first_place 0 (names_of d)) 0 (declared d)
+    ++ (mention_faults see (enumerators d) (mentioned d)
+    ++ (note_faults see known (noted d)
+    ++ (past_last_faults known
+    ++ (flat_map (λ b. repeated_cases see known (cases_of b)) (bodies d)
+    ++ (flat_map (λ b. repeated_names (fields_of b)) (bodies d)
+    ++ (flat_map repeated_members (members d)
+    ++ too_high_faults (has_too_high d see) (declared d)))))))
+
+abbrev pub found_faults : Definition → (List ℕ → View) → List WordFault
+found_faults d see = found_by d see (knowns see (enumerators d))

@@ -11,6 +11,7 @@ pub mod Notes
 pub mod NoteWalks
 pub mod Numbers
 pub mod NumberSets
+pub mod Outlined
 pub mod Results
 pub mod RuleTexts
 pub mod Rules

@@ -7,15 +7,18 @@ ghost use Rattle.std.specs.Ordering.{eq_by_cmp};
 ghost use Rattle.std.specs.List.{IsAmong};
 ghost use Rattle.x_item.specs.View.{view_definition};
 ghost use Rattle.x_sema.specs.Declarers.{IsShort};
-ghost use Rattle.x_sema.specs.Results.{IsOutcome};
-ghost use Rattle.x_sema.specs.Rules.{Ascends};
+ghost use Rattle.x_sema.specs.Results.{IsOutcome, meanings_by};
+ghost use Rattle.x_sema.specs.Rules.{Ascends, AreFaults};
+ghost use Rattle.x_sema.specs.Found.{found_faults};
+ghost use Rattle.x_sema.specs.KeptViews.{kept_meaning};
+ghost use Rattle.x_sema.specs.Outlined.{IsOutline, AreTables, outlined, GivesOutcome};
+ghost use Rattle.x_sema.specs.Tables.{seen_by};
 ghost use Rattle.x_sema.specs.RustViews.{view_view};
 
-use crate::checked::Checked;
+use crate::checked::{Checked, Kept};
 use crate::fault::WordFault;
-use crate::outline::bodies::bodies;
+use crate::outline::Outline;
 use crate::outline::notes::notes;
-use crate::outline::parts::BodyAt;
 use crate::outline::programs::members;
 use crate::rules::cases::{add_repeated_cases, bad_cases};
 use crate::rules::constants::{Constants, enumerators};
@@ -28,7 +31,7 @@ use crate::rules::sights::Sights;
 use crate::rules::words::{add_past_last, add_words};
 use crate::views::View;
 use std::alloc::Global;
-use x_item::{DeclaredName, Definition, Mention, declares, mentions};
+use x_item::Definition;
 use x_text::{Meter, NoMemory};
 
 /// The laws of an order, as the prover has them of any type.
@@ -49,34 +52,97 @@ fn order(faults: &mut Vec<WordFault>)
     faults.dedup();
 }
 
-/// The faults by all rules but that for cases, in order.
-fn other_faults(
+/// What all rules but that for cases find, in no order.
+fn found_faults(
     alloc: Global,
-    definition: &Definition,
-    declared: &[DeclaredName],
-    mentioned: &[Mention],
-    bodies: &[BodyAt],
+    outline: &Outline,
     sights: &Sights,
     constants: &Constants,
-) -> Result<Vec<WordFault>, NoMemory> {
+) -> Result<Vec<WordFault>, NoMemory>
+    ensures { IfOk result (λ faults. IsOutline outline.now → AreTables outline.now sights.now constants.now
+        → faults.items ≡ found_faults (outlined outline.now) (seen_by sights.now)) }
+{
     let mut faults = Vec::new(alloc);
-    let noted = notes(alloc, definition)?;
-    let groups = members(alloc, definition)?;
-    add_duplicates(&mut faults, declared, sights)?;
-    add_mentioned(&mut faults, mentioned, sights, constants)?;
+    let noted = notes(alloc, outline.definition)?;
+    let groups = members(alloc, outline.definition)?;
+    add_duplicates(&mut faults, &outline.declared, sights)?;
+    add_mentioned(&mut faults, &outline.mentioned, sights, constants)?;
     add_words(&mut faults, &noted, sights, constants)?;
     add_past_last(&mut faults, constants)?;
-    add_repeated_cases(alloc, &mut faults, bodies, sights, constants)?;
-    add_repeated_fields(alloc, &mut faults, bodies)?;
+    add_repeated_cases(alloc, &mut faults, &outline.bodies, sights, constants)?;
+    add_repeated_fields(alloc, &mut faults, &outline.bodies)?;
     add_repeated_members(alloc, &mut faults, &groups)?;
-    add_too_high(&mut faults, definition, declared, bodies, sights)?;
+    add_too_high(
+        &mut faults,
+        outline.definition,
+        &outline.declared,
+        &outline.bodies,
+        sights,
+    )?;
+    Ok(faults)
+}
+
+/// All faults of a definition, in order.
+fn faults_of(
+    alloc: Global,
+    outline: &Outline,
+    sights: &Sights,
+    constants: &Constants,
+) -> Result<Vec<WordFault>, NoMemory>
+    ensures { IfOk result (λ faults. IsOutline outline.now → AreTables outline.now sights.now constants.now
+        → AreFaults (outlined outline.now) (seen_by sights.now) faults.items) }
+{
+    let mut faults = found_faults(alloc, outline, sights, constants)?;
+    order(&mut faults);
+    let bad = bad_cases(alloc, &faults, &outline.bodies, sights, constants)?;
+    faults.extend_from_slice(&bad)?;
     order(&mut faults);
     Ok(faults)
 }
 
+/// What the names mean that a definition declares, unless it has one of the faults.
+fn meanings_by(
+    alloc: Global,
+    outline: &Outline,
+    sights: &Sights,
+    constants: &Constants,
+    faults: &[WordFault],
+) -> Result<Vec<Kept>, NoMemory>
+    ensures { IfOk result (λ list. IsOutline outline.now → AreTables outline.now sights.now constants.now
+        → AreFaults (outlined outline.now) (seen_by sights.now) faults.now
+        → map kept_meaning list.items ≡ meanings_by (outlined outline.now) (seen_by sights.now) faults.now) }
+{
+    match faults {
+        [] => meanings(
+            alloc,
+            outline.definition,
+            &outline.declared,
+            &outline.bodies,
+            sights,
+            constants,
+        ),
+        [_, ..] => Ok(Vec::new(alloc)),
+    }
+}
+
+/// What is found of a definition.
+fn checked(
+    alloc: Global,
+    outline: &Outline,
+    sights: &Sights,
+    constants: &Constants,
+) -> Result<Checked, NoMemory>
+    ensures { IfOk result (λ checked. IsOutline outline.now → AreTables outline.now sights.now constants.now
+        → GivesOutcome (outlined outline.now) (seen_by sights.now) checked) }
+{
+    let faults = faults_of(alloc, outline, sights, constants)?;
+    let meanings = meanings_by(alloc, outline, sights, constants, &faults)?;
+    Ok(Checked::new(faults, meanings))
+}
+
 /// Checks the definition of an item by the rules beyond its spelling (RFC 4506, section 6.4). There is one view for each name that it
-/// declares, and then one for each that it uses, in the orders of [`declares`] and [`mentions`]. Counts one checked item. It takes
-/// time in proportion to the definition, but for sorting faults and the numbers of an enum.
+/// declares, and then one for each that it uses, in the orders of [`x_item::declares`] and [`x_item::mentions`]. Counts one checked
+/// item. It takes time in proportion to the definition, but for sorting faults and the numbers of an enum.
 ///
 /// # Errors
 ///
@@ -92,21 +158,8 @@ pub fn check_item(
     ensures counted { meter.new ≡ record meter.old { checked = raised meter.old.checked 1 } }
 {
     meter.tick_checked();
-    let declared = declares(alloc, definition)?;
-    let mentioned = mentions(alloc, definition)?;
-    let bodies = bodies(alloc, definition)?;
-    let sights = Sights::of(alloc, &declared, &mentioned, views)?;
-    let constants = Constants::of(alloc, enumerators(alloc, &bodies)?, &sights)?;
-    let mut faults = other_faults(
-        alloc, definition, &declared, &mentioned, &bodies, &sights, &constants,
-    )?;
-    let bad = bad_cases(alloc, &faults, &bodies, &sights, &constants)?;
-    faults.extend_from_slice(&bad)?;
-    order(&mut faults);
-    let meanings = if faults.is_empty() {
-        meanings(alloc, definition, &declared, &bodies, &sights, &constants)?
-    } else {
-        Vec::new(alloc)
-    };
-    Ok(Checked::new(faults, meanings))
+    let outline = Outline::of(alloc, definition)?;
+    let sights = Sights::of(alloc, &outline.declared, &outline.mentioned, views)?;
+    let constants = Constants::of(alloc, enumerators(alloc, &outline.bodies)?, &sights)?;
+    checked(alloc, &outline, &sights, &constants)
 }
