@@ -1,5 +1,6 @@
 pub mod AmongLemmas
 pub mod DeclarerLaws
+pub mod BodyWalkLemmas
 pub mod Digits
 pub mod DuplicateLemmas
 pub mod FamilyLemmas
