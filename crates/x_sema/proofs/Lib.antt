@@ -7,6 +7,7 @@ pub mod FamilyLemmas
 pub mod FaultLists
 pub mod HeightLemmas
 pub mod ListLemmas
+pub mod MemberWalkLemmas
 pub mod NameLemmas
 pub mod NoteLemmas
 pub mod NoteWalkLemmas
