@@ -3,6 +3,7 @@ pub mod DeclarerLaws
 pub mod BodyWalkLemmas
 pub mod Digits
 pub mod DuplicateLemmas
+pub mod EnumeratorLemmas
 pub mod FamilyLemmas
 pub mod FaultLists
 pub mod HeightLemmas
