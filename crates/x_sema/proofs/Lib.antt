@@ -1,13 +1,16 @@
 pub mod AmongLemmas
+pub mod BodyWalkLemmas
+pub mod CheckLemmas
 pub mod DeclarerLaws
 pub mod Digits
-pub mod CheckLemmas
 pub mod DuplicateLemmas
+pub mod EnumeratorLemmas
 pub mod FamilyLemmas
 pub mod FaultLists
 pub mod FieldLemmas
 pub mod HeightLemmas
 pub mod ListLemmas
+pub mod MemberWalkLemmas
 pub mod MentionLemmas
 pub mod NameLemmas
 pub mod NoteLemmas

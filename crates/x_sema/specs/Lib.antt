@@ -7,6 +7,7 @@ pub mod Declarers
 pub mod Found
 pub mod KeptViews
 pub mod Mentioned
+pub mod MemberWalks
 pub mod Notes
 pub mod NoteWalks
 pub mod Numbers

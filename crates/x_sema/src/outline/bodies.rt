@@ -1,13 +1,19 @@
 //! The bodies that stand in a definition, with the names of their fields and their cases.
 
-ghost use Rattle.std.specs.Prelude.{◌≡◌, ◌+◌, ℕ, List, [], ◌∷◌, length, map, OnOk, IfOk};
+ghost use Rattle.std.specs.Prelude.{◌≡◌, ◌+◌, ℕ, List, [], length, map, OnOk, IfOk};
 ghost use Rattle.x_item.specs.Collected.{Covers};
-ghost use Rattle.x_sema.specs.Bodies.{bodies};
-ghost use Rattle.x_sema.specs.BodyWalks.{view_walk, view_fields, view_body_at, AreFilled};
-ghost use Rattle.x_sema.specs.Declarers.{IsShort};
-ghost use Rattle.x_item.specs.View.{view_shape, view_length, view_definition};
 ghost use Rattle.x_item.specs.Named.{star};
-ghost use Rattle.x_item.specs.Spell.{spell_length, spell_named};
+ghost use Rattle.x_item.specs.Spell.{spell_length, spell_named, spell_enumerator, spell_other_enumerators};
+ghost use Rattle.x_item.specs.Spell.{spell_enumerators, spell_body};
+ghost use Rattle.x_item.specs.Tree.{Variable};
+ghost use Rattle.x_item.specs.View.{view_value, view_most, view_shape, view_length, view_enumerator, view_type, view_body};
+ghost use Rattle.x_item.specs.View.{view_union, view_declaration, view_declarations, view_arms, view_default};
+ghost use Rattle.x_item.specs.View.{view_definition};
+ghost use Rattle.x_sema.specs.Bodies.{bodies};
+ghost use Rattle.x_sema.specs.BodyWalks.{view_walk, view_body_at, stand, Passes, FindsType, FindsBody, FindsOwn};
+ghost use Rattle.x_sema.specs.BodyWalks.{GoesName, GoesDeclaration, GoesFields, GoesCases, GoesArms, GoesDefault};
+ghost use Rattle.x_sema.specs.BodyWalks.{GoesInside, FindsAll, AreFilled};
+ghost use Rattle.x_sema.specs.Declarers.{IsShort};
 
 use super::notes::words_of;
 use super::parts::{BodyAt, NameAt, ValueAt};
@@ -27,7 +33,10 @@ struct Contents<'d> {
 }
 
 impl<'d> Contents<'d> {
-    fn new(alloc: Global) -> Contents<'d> {
+    fn new(alloc: Global) -> Contents<'d>
+        ensures fields { result.fields.items ≡ [] }
+        ensures cases { result.cases.items ≡ [] }
+    {
         Contents {
             fields: Vec::new(alloc),
             cases: Vec::new(alloc),
@@ -53,13 +62,23 @@ fn words_before_name(shape: &Shape) -> usize
     }
 }
 
+/// How many words a greatest length is, with its brackets.
+fn words_of_most(most: &Option<Value>) -> usize
+    ensures { result ≡ length (spell_length (Variable (view_most most.now))) }
+{
+    match most {
+        Some(_) => 3,
+        None => 2,
+    }
+}
+
 /// How many words the length of an array is, with its brackets.
 fn words_of_length(size: &Length) -> usize
     ensures { result ≡ length (spell_length (view_length size.now)) }
 {
     match size {
-        Length::Fixed(_) | Length::Variable(Some(_)) => 3,
-        Length::Variable(None) => 2,
+        Length::Fixed(_) => 3,
+        Length::Variable(most) => words_of_most(most),
     }
 }
 
@@ -74,32 +93,56 @@ fn words_behind_name(shape: &Shape) -> usize
     }
 }
 
-/// How many words the names of an enum are, with their values and the commas between.
-fn words_of_enumerators(enumerators: &[Enumerator]) -> usize {
-    let mut words = 0usize;
-    for enumerator in enumerators {
-        let own = if enumerator.value.is_some() { 4 } else { 2 };
-        words = words.saturating_add(own);
+/// How many words an enumerator is.
+pub fn words_of_enumerator(enumerator: &Enumerator) -> usize
+    ensures { result ≡ length (spell_enumerator (view_enumerator enumerator.now)) }
+{
+    match &enumerator.value {
+        Some(_) => 3,
+        None => 1,
     }
-    words.saturating_sub(1)
 }
 
 impl<'d> BodyWalk<'d> {
     /// Goes over words without a body.
     pub fn skip(&mut self, words: usize)
-        ensures word { Covers (view_walk self.old) (view_walk self.new) words (λ k. []) }
-        ensures list { self.new.list ≡ self.old.list }
+        ensures { Passes self.old self.new words }
     {
         self.word = self.word.saturating_add(words);
     }
 
+    /// Goes over the enumerators of an enum.
+    fn enumerators(&mut self, enumerators: &[Enumerator])
+        ensures { Passes self.old self.new (length (spell_enumerators (map view_enumerator enumerators.now))) }
+    {
+        match enumerators.split_first() {
+            Some((first, others)) => {
+                self.skip(words_of_enumerator(first));
+                self.other_enumerators(others);
+            }
+            None => {}
+        }
+    }
+
+    /// Goes over enumerators, each behind a comma.
+    fn other_enumerators(&mut self, enumerators: &[Enumerator])
+        ensures { Passes self.old self.new (length (spell_other_enumerators (map view_enumerator enumerators.now))) }
+    {
+        for enumerator in enumerators {
+            self.skip(1);
+            self.skip(words_of_enumerator(enumerator));
+        }
+    }
+
     /// Goes over a body.
     #[cycle(bodies)]
-    fn inside(&mut self, alloc: Global, body: &'d Body) -> Result<Contents<'d>, NoMemory> {
+    fn inside(&mut self, alloc: Global, body: &'d Body) -> Result<Contents<'d>, NoMemory>
+        ensures { IfOk result (λ contents. GoesInside self.old self.new (view_body body.now) contents) }
+    {
         match body {
             Body::Enum(enumerators) => {
                 self.skip(1);
-                self.skip(words_of_enumerators(enumerators));
+                self.enumerators(enumerators);
                 self.skip(1);
                 Ok(Contents::new(alloc))
             }
@@ -115,14 +158,17 @@ impl<'d> BodyWalk<'d> {
     }
 
     #[cycle(bodies)]
-    fn union(&mut self, alloc: Global, body: &'d UnionBody) -> Result<Contents<'d>, NoMemory> {
+    fn union(&mut self, alloc: Global, body: &'d UnionBody) -> Result<Contents<'d>, NoMemory>
+        ensures { IfOk result (λ contents. GoesInside self.old self.new (view_union body.now) contents) }
+    {
         let mut contents = Contents::new(alloc);
         self.skip(2);
         self.declaration(alloc, &body.discriminant, &mut contents)?;
-        contents.behind_discriminant = self.word;
+        let behind_discriminant = self.word;
         self.skip(2);
         self.arms(alloc, &body.arms, &mut contents)?;
         self.default(alloc, &body.default, &mut contents)?;
+        contents.behind_discriminant = behind_discriminant;
         Ok(contents)
     }
 
@@ -133,7 +179,10 @@ impl<'d> BodyWalk<'d> {
         alloc: Global,
         declarations: &'d [Declaration],
         contents: &mut Contents<'d>,
-    ) -> Result<(), NoMemory> {
+    ) -> Result<(), NoMemory>
+        ensures { OnOk result (GoesFields (stand self.old contents.old) (stand self.new contents.new)
+            (view_declarations declarations.now)) }
+    {
         for declaration in declarations {
             self.declaration(alloc, declaration, contents)?;
             self.skip(1);
@@ -147,7 +196,10 @@ impl<'d> BodyWalk<'d> {
         alloc: Global,
         arms: &'d [Arm],
         contents: &mut Contents<'d>,
-    ) -> Result<(), NoMemory> {
+    ) -> Result<(), NoMemory>
+        ensures { OnOk result (GoesArms (stand self.old contents.old) (stand self.new contents.new)
+            (view_arms arms.now)) }
+    {
         for arm in arms {
             self.cases(&arm.cases, contents)?;
             self.declaration(alloc, &arm.declaration, contents)?;
@@ -156,7 +208,10 @@ impl<'d> BodyWalk<'d> {
         Ok(())
     }
 
-    fn cases(&mut self, cases: &'d [Value], contents: &mut Contents<'d>) -> Result<(), NoMemory> {
+    fn cases(&mut self, cases: &'d [Value], contents: &mut Contents<'d>) -> Result<(), NoMemory>
+        ensures { OnOk result (GoesCases (stand self.old contents.old) (stand self.new contents.new)
+            (map view_value cases.now)) }
+    {
         for value in cases {
             self.skip(1);
             let word = self.word;
@@ -173,7 +228,10 @@ impl<'d> BodyWalk<'d> {
         alloc: Global,
         default: &'d Option<Declaration>,
         contents: &mut Contents<'d>,
-    ) -> Result<(), NoMemory> {
+    ) -> Result<(), NoMemory>
+        ensures { OnOk result (GoesDefault (stand self.old contents.old) (stand self.new contents.new)
+            (view_default default.now)) }
+    {
         match default {
             Some(declaration) => {
                 self.skip(2);
@@ -190,10 +248,7 @@ impl<'d> BodyWalk<'d> {
 
     /// Goes over the word of a name, which is added to the fields.
     fn field(&mut self, name: &'d [u8], contents: &mut Contents<'d>) -> Result<(), NoMemory>
-        ensures bodies { OnOk result (Covers (view_walk self.old) (view_walk self.new) 1 (λ k. [])) }
-        ensures fields { OnOk result (Covers (view_fields self.old contents.old)
-            (view_fields self.new contents.new) 1 (λ k. record { word = k; name = name.now } ∷ [])) }
-        ensures cases { OnOk result (contents.new.cases.items ≡ contents.old.cases.items) }
+        ensures { OnOk result (GoesName (stand self.old contents.old) (stand self.new contents.new) name.now) }
     {
         let word = self.word;
         contents.fields.push(NameAt { word, name })?;
@@ -207,15 +262,17 @@ impl<'d> BodyWalk<'d> {
         alloc: Global,
         declaration: &'d Declaration,
         contents: &mut Contents<'d>,
-    ) -> Result<(), NoMemory> {
+    ) -> Result<(), NoMemory>
+        ensures { OnOk result (GoesDeclaration (stand self.old contents.old) (stand self.new contents.new)
+            (view_declaration declaration.now)) }
+    {
         match declaration {
             Declaration::Void => {
                 self.skip(1);
                 Ok(())
             }
             Declaration::Of { data, name, shape } => {
-                self.data_type(alloc, data, shape)?;
-                self.skip(words_before_name(shape));
+                self.data_type(alloc, data, words_before_name(shape))?;
                 self.field(name, contents)?;
                 self.skip(words_behind_name(shape));
                 Ok(())
@@ -229,62 +286,69 @@ impl<'d> BodyWalk<'d> {
             Declaration::String { name, most } => {
                 self.skip(1);
                 self.field(name, contents)?;
-                self.skip(if most.is_some() { 3 } else { 2 });
+                self.skip(words_of_most(most));
                 Ok(())
             }
         }
     }
 
-    /// Goes over the type of a declaration of the shape.
+    /// Goes over a type, and so many words between it and the name that is declared.
     #[cycle(bodies)]
     fn data_type(
         &mut self,
         alloc: Global,
-        data: &'d DataType,
-        shape: &'d Shape,
-    ) -> Result<(), NoMemory> {
-        match data {
+        tree: &'d DataType,
+        before_name: usize,
+    ) -> Result<(), NoMemory>
+        ensures { OnOk result (FindsType self.old self.new before_name (view_type tree.now)) }
+    {
+        match tree {
             DataType::Basic(basic) => {
                 self.skip(words_of(*basic));
+                self.skip(before_name);
                 Ok(())
             }
             DataType::Named(_) => {
                 self.skip(1);
+                self.skip(before_name);
                 Ok(())
             }
             DataType::Tagged { .. } => {
                 self.skip(2);
+                self.skip(before_name);
                 Ok(())
             }
             DataType::Inline(body) => {
                 self.skip(1);
-                self.body(alloc, body, words_before_name(shape))
+                self.body(alloc, body, before_name)
             }
         }
     }
 
-    /// Goes over a body, so many words behind which its type is named.
+    /// Goes over a body, and so many words between it and the name that is declared.
     #[cycle(bodies)]
-    fn body(&mut self, alloc: Global, body: &'d Body, before_name: usize) -> Result<(), NoMemory> {
+    fn body(&mut self, alloc: Global, body: &'d Body, before_name: usize) -> Result<(), NoMemory>
+        ensures { OnOk result (FindsBody self.old self.new before_name (view_body body.now)) }
+    {
         let at = self.word;
-        let Contents {
-            fields,
-            cases,
-            behind_discriminant,
-        } = self.inside(alloc, body)?;
+        let contents = self.inside(alloc, body)?;
+        self.skip(before_name);
         self.list.push(BodyAt {
-            named: self.word.saturating_add(before_name),
+            named: self.word,
             at,
             body,
-            fields,
-            cases,
-            behind_discriminant,
+            fields: contents.fields,
+            cases: contents.cases,
+            behind_discriminant: contents.behind_discriminant,
         })?;
         Ok(())
     }
 
     /// Goes over a body that does not count.
-    pub fn pass(&mut self, alloc: Global, body: &'d Body) -> Result<(), NoMemory> {
+    pub fn pass(&mut self, alloc: Global, body: &'d Body) -> Result<(), NoMemory>
+        ensures { OnOk result (Covers (view_walk self.old) (view_walk self.new)
+            (length (spell_body (view_body body.now))) (λ k. [])) }
+    {
         let bodies = self.list.len();
         self.inside(alloc, body)?;
         self.list.truncate(bodies);
@@ -292,23 +356,40 @@ impl<'d> BodyWalk<'d> {
     }
 
     /// Goes over the body that a definition is of, which stands in front of those inside it.
-    fn own(&mut self, alloc: Global, body: &'d Body) -> Result<(), NoMemory> {
+    fn own(&mut self, alloc: Global, body: &'d Body) -> Result<(), NoMemory>
+        ensures { OnOk result (FindsOwn self.old self.new (view_body body.now)) }
+    {
         let at = self.word;
-        let Contents {
-            fields,
-            cases,
-            behind_discriminant,
-        } = self.inside(alloc, body)?;
+        let contents = self.inside(alloc, body)?;
         let own = BodyAt {
             named: 1,
             at,
             body,
-            fields,
-            cases,
-            behind_discriminant,
+            fields: contents.fields,
+            cases: contents.cases,
+            behind_discriminant: contents.behind_discriminant,
         };
         self.list.insert(0, own)?;
         Ok(())
+    }
+
+    /// Goes over a definition, as far as bodies stand in it.
+    fn definition(&mut self, alloc: Global, definition: &'d Definition) -> Result<(), NoMemory>
+        ensures { OnOk result (FindsAll self.old self.new (view_definition definition.now)) }
+    {
+        match definition {
+            Definition::Typedef(declaration) => {
+                let mut contents = Contents::new(alloc);
+                self.skip(1);
+                self.declaration(alloc, declaration, &mut contents)
+            }
+            Definition::NewType { body, .. } => {
+                self.skip(2);
+                self.own(alloc, body)
+            }
+            Definition::Const { .. } => Ok(()),
+            Definition::Program { .. } => Ok(()),
+        }
     }
 }
 
@@ -323,17 +404,6 @@ pub fn bodies(alloc: Global, definition: &Definition) -> Result<Vec<BodyAt<'_>>,
         list: Vec::new(alloc),
         word: 0,
     };
-    match definition {
-        Definition::Typedef(declaration) => {
-            walk.skip(1);
-            let mut contents = Contents::new(alloc);
-            walk.declaration(alloc, declaration, &mut contents)?;
-        }
-        Definition::NewType { body, .. } => {
-            walk.skip(2);
-            walk.own(alloc, body)?;
-        }
-        _ => {}
-    }
+    walk.definition(alloc, definition)?;
     Ok(walk.list)
 }

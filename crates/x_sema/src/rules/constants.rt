@@ -1,10 +1,13 @@
 //! The numbers of values and of enumerators.
 
-ghost use Rattle.std.specs.Prelude.{◌≡◌, nat_lt, [], ℕ, List, map, Some, false, OnOk, IfOk};
+ghost use Rattle.std.specs.Prelude.{◌≡◌, ◌<◌, ◌+◌, ◌^◌, ◌++◌, nat_lt, [], ℕ, List, length, map, Some, true, false};
+ghost use Rattle.std.specs.Prelude.{OnOk, IfOk};
 ghost use Rattle.std.specs.Prelude.{slice_get, option_and_then};
-ghost use Rattle.x_item.specs.View.{view_value};
+ghost use Rattle.x_item.specs.Spell.{spell_other_enumerators};
+ghost use Rattle.x_item.specs.View.{view_value, view_enumerator};
 ghost use Rattle.x_sema.specs.Bodies as bodies;
-ghost use Rattle.x_sema.specs.BodyWalks.{view_body_at, AreFilled};
+ghost use Rattle.x_sema.specs.Bodies.{enumerators_from, enumerators_of, enumerators_in};
+ghost use Rattle.x_sema.specs.BodyWalks.{view_body_at, IsFilled, AreFilled};
 ghost use Rattle.x_sema.specs.Constants.{Known, knowns, limit_of, is_declared_before, number_named};
 ghost use Rattle.x_sema.specs.RustViews.{view_view};
 ghost use Rattle.std.specs.Option.{option_map_or};
@@ -14,6 +17,7 @@ ghost use Rattle.x_sema.specs.Tables.{HasPlaces, HasNumbers, seen_by, view_enume
 
 use super::sights::{Sights, place_of, places_of};
 use crate::number::number_value;
+use crate::outline::bodies::words_of_enumerator;
 use crate::outline::parts::{BodyAt, EnumeratorAt};
 use crate::views::{Meaning, View};
 use indexmap::IndexMap;
@@ -43,12 +47,16 @@ pub fn limit_of(word: usize) -> usize
     word.saturating_sub(2)
 }
 
-/// The enumerators of an enum whose first name stands at the word.
-fn add_enumerators<'d>(
+/// Adds the enumerators of an enum whose first name stands at the word.
+fn add_names<'d>(
     list: &mut Vec<EnumeratorAt<'d>>,
     at: usize,
     enumerators: &'d [Enumerator],
-) -> Result<(), NoMemory> {
+) -> Result<(), NoMemory>
+    ensures { OnOk result (at + length (spell_other_enumerators (map view_enumerator enumerators.now)) < 2 ^ 64
+        → map view_enumerator_at list.new.items ≡ map view_enumerator_at list.old.items
+        ++ enumerators_from true at (map view_enumerator enumerators.now)) }
+{
     let mut word = at;
     let mut is_first = true;
     for enumerator in enumerators {
@@ -59,10 +67,23 @@ fn add_enumerators<'d>(
             is_first,
         })?;
         is_first = false;
-        let words = if enumerator.value.is_some() { 4 } else { 2 };
-        word = word.saturating_add(words);
+        word = word
+            .saturating_add(words_of_enumerator(enumerator))
+            .saturating_add(1);
     }
     Ok(())
+}
+
+/// Adds the enumerators of a body.
+fn add_enumerators<'d>(list: &mut Vec<EnumeratorAt<'d>>, body: &BodyAt<'d>) -> Result<(), NoMemory>
+    ensures { OnOk result (IsFilled body.now → map view_enumerator_at list.new.items
+        ≡ map view_enumerator_at list.old.items ++ enumerators_of (view_body_at body.now)) }
+{
+    match body.body {
+        Body::Enum(enumerators) => add_names(list, body.at.saturating_add(1), enumerators),
+        Body::Struct(_) => Ok(()),
+        Body::Union(_) => Ok(()),
+    }
 }
 
 /// The enumerators of all bodies, in the order of their words.
@@ -71,13 +92,11 @@ pub fn enumerators<'d>(
     bodies: &[BodyAt<'d>],
 ) -> Result<Vec<EnumeratorAt<'d>>, NoMemory>
     ensures { IfOk result (λ list. AreFilled bodies.now
-        → map view_enumerator_at list.items ≡ bodies.enumerators_in (map view_body_at bodies.now)) }
+        → map view_enumerator_at list.items ≡ enumerators_in (map view_body_at bodies.now)) }
 {
     let mut list = Vec::new(alloc);
     for body in bodies {
-        if let Body::Enum(enumerators) = body.body {
-            add_enumerators(&mut list, body.at.saturating_add(1), enumerators)?;
-        }
+        add_enumerators(&mut list, body)?;
     }
     Ok(list)
 }
