@@ -5,11 +5,13 @@ pub mod DuplicateLemmas
 pub mod FamilyLemmas
 pub mod FaultLists
 pub mod HeightLemmas
+pub mod InOrder
 pub mod ListLemmas
 pub mod NameLemmas
 pub mod NoteLemmas
 pub mod NoteWalkLemmas
 pub mod NumberLemmas
+pub mod NumberSetLemmas
 pub mod OrderLemmas
 pub mod PastLastLemmas
 pub mod PlaceLemmas

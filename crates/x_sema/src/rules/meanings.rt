@@ -4,7 +4,7 @@ ghost use Rattle.std.specs.Prelude.{◌≡◌, false, map, option_map, IfOk};
 ghost use Rattle.std.specs.List.{list_any};
 ghost use Rattle.x_item.specs.Named.{view_name};
 ghost use Rattle.x_item.specs.View.{view_definition};
-ghost use Rattle.x_sema.specs.Bodies.{bodies, enumerators};
+ghost use Rattle.x_sema.specs.Bodies as outline;
 ghost use Rattle.x_sema.specs.BodyWalks.{view_body_at};
 ghost use Rattle.x_sema.specs.Constants.{knowns};
 ghost use Rattle.x_sema.specs.KeptViews.{kept_class, kept_meaning};
@@ -141,8 +141,8 @@ pub fn meanings(
     constants: &Constants,
 ) -> Result<Vec<Kept>, NoMemory>
     ensures { IfOk result (λ list. let d = view_definition definition.now in let see = seen_by sights.now in
-        HasNumbers constants.now (enumerators d) (knowns see (enumerators d))
-        → map view_body_at bodies.now ≡ bodies d
+        HasNumbers constants.now (outline.enumerators d) (knowns see (outline.enumerators d))
+        → map view_body_at bodies.now ≡ outline.bodies d
         → list_any is_too_high (heights d see) ≡ false
         → map kept_meaning list.items ≡ map (meaning_of d see) (map view_name declared.now)) }
 {

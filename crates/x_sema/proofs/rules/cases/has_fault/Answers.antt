@@ -1,0 +1,18 @@
+use Rattle.std.proofs.Common.{rules, ◌≡◌, ◌++◌, List, map, IfOk, OnOk, ℕ, ◌+◌, ◌-◌, ◌*◌, ◌<◌, ◌≤◌, length, ◌/◌, ◌%◌, Bool, true, false, nat_eq, nat_lt, [], ◌∷◌, slice_index_or, slice_set, bit_and, bit_or, Fits, w8, w32, w64, Bor, MutBor}
+use Rattle.std.specs.List.{flat_map}
+use Rattle.x_sema.specs.Bodies.{EnumeratorAt}
+use Rattle.x_sema.specs.Constants.{Known}
+use Rattle.x_sema.specs.Found.{case_numbers, repeated_cases}
+use Rattle.x_sema.specs.Cases.{is_outside, case_fault, has_fault, case_faults, bad_cases_of}
+use Rattle.x_sema.specs.KeptViews.{kept_class}
+use Rattle.x_sema.specs.Rules.{Ascends}
+use Rattle.x_sema.specs.Tables.{HasNumbers, seen_by, view_value_at}
+use Rattle.x_sema.proofs.rules.cases.has_fault.Goals as goal
+
+-- src/rules/cases.rt:94:1
+pub returns-in-Some : goal.returns-in-Some
+returns-in-Some c = ?
+
+-- src/rules/cases.rt:94:1
+pub returns-in-None : goal.returns-in-None
+returns-in-None c = ?
