@@ -1,4 +1,5 @@
 pub mod AmongLemmas
+pub mod ClassLemmas
 pub mod DeclarerLaws
 pub mod Digits
 pub mod DuplicateLemmas
@@ -18,4 +19,5 @@ pub mod PlaceLemmas
 pub mod RepeatLemmas
 pub mod ResultLaws
 pub mod RuleTextLemmas
+pub mod SortedFaults
 pub mod WordRuleLemmas

@@ -1,18 +1,22 @@
-use Rattle.std.proofs.Common.{rules, ◌≡◌, ◌++◌, List, map, IfOk, OnOk, ℕ, ◌+◌, ◌-◌, ◌*◌, ◌<◌, ◌≤◌, length, ◌/◌, ◌%◌, Bool, true, false, nat_eq, nat_lt, [], ◌∷◌, slice_index_or, slice_set, bit_and, bit_or, Fits, w8, w32, w64, Bor, MutBor}
-use Rattle.std.specs.List.{flat_map}
-use Rattle.x_sema.specs.Bodies.{EnumeratorAt}
-use Rattle.x_sema.specs.Constants.{Known}
-use Rattle.x_sema.specs.Found.{case_numbers, repeated_cases}
-use Rattle.x_sema.specs.Cases.{is_outside, case_fault, has_fault, case_faults, bad_cases_of}
-use Rattle.x_sema.specs.KeptViews.{kept_class}
-use Rattle.x_sema.specs.Rules.{Ascends}
-use Rattle.x_sema.specs.Tables.{HasNumbers, seen_by, view_value_at}
+use Rattle.std.specs.Prelude.{nat_lt}
+use Rattle.std.proofs.Common.{◌≡◌, ◌<◌, length, arith, rules}
+use Rattle.std.proofs.lemmas.List.Sorted.{IsPartitionedBy-ltb, IsPartitionPoint-from_clause}
+use Rattle.x_sema.specs.declared.fault.WordFault.{WordFault}
+use Rattle.x_sema.proofs.SortedFaults.{words_rise, IsFirstFrom, fault_there, no_fault_there}
 use Rattle.x_sema.proofs.rules.cases.has_fault.Goals as goal
 
--- src/rules/cases.rt:94:1
 pub returns-in-Some : goal.returns-in-Some
-returns-in-Some c = ?
+returns-in-Some c up =
+    let fs = c.args.faults.now in
+    let from = c.args.from in
+    let first : IsFirstFrom fs from c.partition_point-place.result = IsPartitionPoint-from_clause (λ f. nat_lt f.word from) fs _ c.partition_point-place.ensures.partitioned (IsPartitionedBy-ltb (λ f. f.word) fs from (words_rise fs up)) (λ a r q k. search rules) in
+    let l = c.in-Some.ensures.lookup in
+    fault_there fs from c.args.to c.partition_point-place.result c.in-Some.fault.now up first l.3.0 l.3.1
 
--- src/rules/cases.rt:94:1
 pub returns-in-None : goal.returns-in-None
-returns-in-None c = ?
+returns-in-None c up =
+    let fs = c.args.faults.now in
+    let from = c.args.from in
+    let first : IsFirstFrom fs from c.partition_point-place.result = IsPartitionPoint-from_clause (λ f. nat_lt f.word from) fs _ c.partition_point-place.ensures.partitioned (IsPartitionedBy-ltb (λ f. f.word) fs from (words_rise fs up)) (λ a r q k. search rules) in
+    let l = c.in-None.ensures.lookup in
+    no_fault_there fs from c.args.to c.partition_point-place.result first l.3
