@@ -1,4 +1,5 @@
 pub mod AmongLemmas
+pub mod CaseLemmas
 pub mod ClassLemmas
 pub mod DeclarerLaws
 pub mod Digits

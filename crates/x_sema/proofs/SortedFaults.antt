@@ -1,6 +1,6 @@
 -- Faults looked up in their order.
-use Rattle.std.specs.Prelude.{nat_le, nat_lt, ◌&&◌}
-use Rattle.std.proofs.Common.{◌≡◌, ℕ, zero, suc, ◌+◌, ◌<◌, ◌≤◌, length, get_or, ◌⊎◌, inl, inr, Bool, true, false, List, [], ◌∷◌, arith, refl, sym, subst}
+use Rattle.std.specs.Prelude.{nat_le, nat_lt, ◌&&◌, ◌||◌}
+use Rattle.std.proofs.Common.{◌≡◌, ℕ, zero, suc, ◌+◌, ◌-◌, ◌^◌, min, ◌<◌, ◌≤◌, length, get_or, ◌⊎◌, inl, inr, Bool, true, false, List, [], ◌∷◌, arith, refl, sym, ap, subst, ◌∙◌}
 use Rattle.std.proofs.lemmas.Bool.{cases_lt}
 use Rattle.std.proofs.lemmas.Bool.Decides.{nat_tests}
 use Rattle.std.proofs.lemmas.List.Elements.{All-from_all_within}
@@ -73,3 +73,22 @@ pub no_fault_there : (fs : List WordFault) (from to place : ℕ) → IsFirstFrom
 no_fault_there fs from to place first le =
     sym (list_any_none (λ g. nat_le from g.word && nat_lt g.word to) fs (All-from_all_within (λ g. (nat_le from g.word && nat_lt g.word to) ≡ false) fs
     (λ k d low lt. short from to (get_or fs k d).word (below (get_or fs k d).word from (first.0 k d (omega arith) (omega (arith, lt, le)))))))
+
+-- ---- words as far as they are counted
+
+counted : (at from to word : ℕ) → from ≡ min (at + 2) (2 ^ 64 - 1) → to < 2 ^ 64 → (nat_le from word && nat_lt word to) ≡ (nat_le (at + 2) word && nat_lt word to)
+counted at from to word is fits = by (cases_lt word to)
+  where
+    by : (word < to) ⊎ (to ≤ word) → (nat_le from word && nat_lt word to) ≡ (nat_le (at + 2) word && nat_lt word to)
+    by (inr over) = far from to word over ∙ sym (far (at + 2) to word over)
+    by (inl lt) = then (cases_lt word from)
+      where
+        then : (word < from) ⊎ (from ≤ word) → (nat_le from word && nat_lt word to) ≡ (nat_le (at + 2) word && nat_lt word to)
+        then (inl less) = short from to word less ∙ sym (short (at + 2) to word (omega (arith, is, less)))
+        then (inr le) = inside from to word le lt ∙ sym (inside (at + 2) to word (omega (arith, is, le, lt, fits)) lt)
+
+-- a fault stands behind a word just where it does as far as words are counted
+pub counted_fault : (fs : List WordFault) (at from to : ℕ) → from ≡ min (at + 2) (2 ^ 64 - 1) → to < 2 ^ 64 → has_fault fs from to ≡ has_fault fs (at + 2) to
+counted_fault [] at from to is fits = refl
+counted_fault (f ∷ fs) at from to is fits =
+    ap (λ b. b || has_fault fs from to) (counted at from to f.word is fits) ∙ ap (λ b. (nat_le (at + 2) f.word && nat_lt f.word to) || b) (counted_fault fs at from to is fits)
