@@ -9,6 +9,7 @@ pub mod FaultLists
 pub mod HeightLemmas
 pub mod InOrder
 pub mod ListLemmas
+pub mod MeaningLemmas
 pub mod NameLemmas
 pub mod NoteLemmas
 pub mod NoteWalkLemmas
