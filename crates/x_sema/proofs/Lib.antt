@@ -1,6 +1,8 @@
 pub mod AmongLemmas
 pub mod BodyWalkLemmas
+pub mod CaseLemmas
 pub mod CheckLemmas
+pub mod ClassLemmas
 pub mod DeclarerLaws
 pub mod Digits
 pub mod DuplicateLemmas
@@ -9,13 +11,16 @@ pub mod FamilyLemmas
 pub mod FaultLists
 pub mod FieldLemmas
 pub mod HeightLemmas
+pub mod InOrder
 pub mod ListLemmas
+pub mod MeaningLemmas
 pub mod MemberWalkLemmas
 pub mod MentionLemmas
 pub mod NameLemmas
 pub mod NoteLemmas
 pub mod NoteWalkLemmas
 pub mod NumberLemmas
+pub mod NumberSetLemmas
 pub mod OrderLemmas
 pub mod OutlineLemmas
 pub mod OwnNames
@@ -24,4 +29,5 @@ pub mod PlaceLemmas
 pub mod RepeatLemmas
 pub mod ResultLaws
 pub mod RuleTextLemmas
+pub mod SortedFaults
 pub mod WordRuleLemmas

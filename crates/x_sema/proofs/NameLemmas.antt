@@ -19,7 +19,7 @@ lookup_more test (e ∷ es) k x = step (test e.0) (lookup_more test es k x)
     step true h = refl
     step false h = h
 
-or_none : {X : Type 0} (a : Option X) → a ≡ or_else a None
+pub or_none : {X : Type 0} (a : Option X) → a ≡ or_else a None
 or_none None = refl
 or_none (Some x) = refl
 
@@ -37,7 +37,7 @@ pub none_is : {X : Type 0} (r : Option X) → is_some r ≡ false → r ≡ None
 none_is None h = refl
 none_is (Some x) h = absurd (cc)
 
-or_else_after : {X : Type 0} (a b c : Option X) → or_else (or_else a b) c ≡ or_else a (or_else b c)
+pub or_else_after : {X : Type 0} (a b c : Option X) → or_else (or_else a b) c ≡ or_else a (or_else b c)
 or_else_after None b c = refl
 or_else_after (Some x) b c = refl
 

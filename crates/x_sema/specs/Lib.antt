@@ -6,6 +6,7 @@ pub mod DeclarerTable
 pub mod Declarers
 pub mod Found
 pub mod KeptViews
+pub mod Meanings
 pub mod Mentioned
 pub mod MemberWalks
 pub mod Notes

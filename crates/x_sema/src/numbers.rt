@@ -57,10 +57,9 @@ impl Numbers {
     pub(crate) fn has(&self, number: i128) -> bool
         ensures { result ≡ list_any (int_eq number) self.now }
     {
-        match i32::try_from(number) {
-            Ok(number) => self.list.as_slice().binary_search(&number).is_ok(),
-            Err(_) => false,
-        }
+        let list = self.list.as_slice();
+        list.binary_search_by_key(&number, |known| i128::from(*known))
+            .is_ok()
     }
 }
 

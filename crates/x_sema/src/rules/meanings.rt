@@ -1,14 +1,16 @@
 //! What the names mean that an item declares.
 
-ghost use Rattle.std.specs.Prelude.{◌≡◌, false, map, option_map, IfOk};
+ghost use Rattle.std.specs.Prelude.{◌≡◌, ℕ, List, false, map, option_map, IfOk, OnOk};
 ghost use Rattle.std.specs.List.{list_any};
 ghost use Rattle.x_item.specs.Named.{view_name};
 ghost use Rattle.x_item.specs.View.{view_definition};
-ghost use Rattle.x_sema.specs.Bodies.{bodies, enumerators};
+ghost use Rattle.x_sema.specs.Bodies as outline;
 ghost use Rattle.x_sema.specs.BodyWalks.{view_body_at};
-ghost use Rattle.x_sema.specs.Constants.{knowns};
+ghost use Rattle.x_sema.specs.Constants.{Known, knowns};
 ghost use Rattle.x_sema.specs.KeptViews.{kept_class, kept_meaning};
-ghost use Rattle.x_sema.specs.Results.{type_of, constant_of, meaning_of};
+ghost use Rattle.x_sema.specs.Meanings.{place_at, placed, HasBodies, body_named};
+ghost use Rattle.x_sema.specs.Meanings.{counted_type, counted_definition};
+ghost use Rattle.x_sema.specs.Results.{type_of, constant_number, constant_of, meaning_of};
 ghost use Rattle.x_sema.specs.Tables.{HasNumbers, seen_by, is_too_high};
 ghost use Rattle.x_sema.specs.Types.{heights};
 
@@ -33,13 +35,31 @@ fn type_meaning(class: Option<KeptClass>, height: u32) -> Kept
     }
 }
 
+/// The place of the body whose type's name stands at the word.
+fn place_of(places: &IndexMap<usize, usize>, word: usize) -> Option<usize>
+    ensures { result ≡ place_at places.now.entries word }
+{
+    places.get(&word).copied()
+}
+
+/// Takes in a word with the place of its body, if it is not there.
+fn note(places: &mut IndexMap<usize, usize>, word: usize, place: usize) -> Result<(), NoMemory>
+    ensures { OnOk result ((other : ℕ) → place_at places.new.entries other
+        ≡ placed (place_at places.old.entries other) other word place) }
+{
+    if place_of(places, word).is_none() {
+        places.insert(word, place)?;
+    }
+    Ok(())
+}
+
 /// The places of bodies, by the words that name their types.
-fn places_of(alloc: Global, bodies: &[BodyAt]) -> Result<IndexMap<usize, usize>, NoMemory> {
+fn places_of(alloc: Global, bodies: &[BodyAt]) -> Result<IndexMap<usize, usize>, NoMemory>
+    ensures { IfOk result (λ places. HasBodies places.entries (map view_body_at bodies.now)) }
+{
     let mut places = IndexMap::new(alloc);
     for (place, body) in bodies.iter().enumerate() {
-        if places.get(&body.named).is_none() {
-            places.insert(body.named, place)?;
-        }
+        note(&mut places, body.named, place)?;
     }
     Ok(places)
 }
@@ -49,11 +69,17 @@ fn body_named<'b, 'd>(
     bodies: &'b [BodyAt<'d>],
     places: &IndexMap<usize, usize>,
     word: usize,
-) -> Option<&'b BodyAt<'d>> {
-    let place = places.get(&word).copied()?;
-    bodies.get(place)
+) -> Option<&'b BodyAt<'d>>
+    ensures { HasBodies places.now.entries (map view_body_at bodies.now)
+        → option_map (λ b. view_body_at b.now) result ≡ body_named (map view_body_at bodies.now) word }
+{
+    match place_of(places, word) {
+        Some(place) => bodies.get(place),
+        None => None,
+    }
 }
 
+/// What a constant means whose number is known.
 fn number_meaning(number: Option<i128>) -> Kept
     ensures { kept_meaning result ≡ constant_of number }
 {
@@ -69,7 +95,11 @@ fn named_meaning(
     body: Option<&BodyAt>,
     sights: &Sights,
     constants: &Constants,
-) -> Result<Kept, NoMemory> {
+) -> Result<Kept, NoMemory>
+    ensures { IfOk result (λ kept. (all : List outline.EnumeratorAt) (known : List Known)
+        → HasNumbers constants.now all known → kept_meaning kept
+        ≡ counted_type (seen_by sights.now) known (option_map (λ b. view_body_at b.now) body.entry)) }
+{
     match body {
         Some(body) => Ok(type_meaning(
             body_class(alloc, constants, body.body)?,
@@ -85,7 +115,11 @@ fn typedef_meaning(
     definition: &Definition,
     sights: &Sights,
     constants: &Constants,
-) -> Result<Kept, NoMemory> {
+) -> Result<Kept, NoMemory>
+    ensures { IfOk result (λ kept. (all : List outline.EnumeratorAt) (known : List Known)
+        → HasNumbers constants.now all known → kept_meaning kept
+        ≡ counted_definition (seen_by sights.now) known (view_definition definition.now)) }
+{
     match definition {
         Definition::Typedef(declaration) => Ok(type_meaning(
             declaration_class(alloc, sights, constants, declaration)?,
@@ -101,7 +135,11 @@ fn constant_number(
     name: &[u8],
     sights: &Sights,
     constants: &Constants,
-) -> Option<i128> {
+) -> Option<i128>
+    ensures { let d = view_definition definition.now in let see = seen_by sights.now in
+        HasNumbers constants.now (outline.enumerators d) (knowns see (outline.enumerators d))
+        → result ≡ constant_number d see name.now }
+{
     match definition {
         Definition::Const { value, .. } => constants.number_at(sights, 3, value),
         _ => constants.number_named(name),
@@ -117,7 +155,14 @@ fn meaning(
     places: &IndexMap<usize, usize>,
     sights: &Sights,
     constants: &Constants,
-) -> Result<Kept, NoMemory> {
+) -> Result<Kept, NoMemory>
+    ensures { IfOk result (λ kept. let d = view_definition definition.now in let see = seen_by sights.now in
+        HasNumbers constants.now (outline.enumerators d) (knowns see (outline.enumerators d))
+        → HasBodies places.now.entries (map view_body_at bodies.now)
+        → map view_body_at bodies.now ≡ outline.bodies d
+        → list_any is_too_high (heights d see) ≡ false
+        → kept_meaning kept ≡ meaning_of d see (view_name name.now)) }
+{
     match name.kind {
         NameKind::Constant => Ok(number_meaning(constant_number(
             definition, &name.name, sights, constants,
@@ -131,6 +176,31 @@ fn meaning(
     }
 }
 
+/// What declared names mean.
+fn meanings_by(
+    alloc: Global,
+    definition: &Definition,
+    declared: &[DeclaredName],
+    bodies: &[BodyAt],
+    places: &IndexMap<usize, usize>,
+    sights: &Sights,
+    constants: &Constants,
+) -> Result<Vec<Kept>, NoMemory>
+    ensures { IfOk result (λ list. let d = view_definition definition.now in let see = seen_by sights.now in
+        HasNumbers constants.now (outline.enumerators d) (knowns see (outline.enumerators d))
+        → HasBodies places.now.entries (map view_body_at bodies.now)
+        → map view_body_at bodies.now ≡ outline.bodies d
+        → list_any is_too_high (heights d see) ≡ false
+        → map kept_meaning list.items ≡ map (meaning_of d see) (map view_name declared.now)) }
+{
+    let mut list = Vec::with_capacity(alloc, declared.len())?;
+    for name in declared {
+        let kept = meaning(alloc, name, definition, bodies, places, sights, constants)?;
+        list.push(kept)?;
+    }
+    Ok(list)
+}
+
 /// What the names mean that a definition without a fault declares.
 pub fn meanings(
     alloc: Global,
@@ -141,15 +211,13 @@ pub fn meanings(
     constants: &Constants,
 ) -> Result<Vec<Kept>, NoMemory>
     ensures { IfOk result (λ list. let d = view_definition definition.now in let see = seen_by sights.now in
-        HasNumbers constants.now (enumerators d) (knowns see (enumerators d))
-        → map view_body_at bodies.now ≡ bodies d
+        HasNumbers constants.now (outline.enumerators d) (knowns see (outline.enumerators d))
+        → map view_body_at bodies.now ≡ outline.bodies d
         → list_any is_too_high (heights d see) ≡ false
         → map kept_meaning list.items ≡ map (meaning_of d see) (map view_name declared.now)) }
 {
     let places = places_of(alloc, bodies)?;
-    let mut list = Vec::with_capacity(alloc, declared.len())?;
-    for name in declared {
-        list.push(meaning(alloc, name, definition, bodies, &places, sights, constants)?)?;
-    }
-    Ok(list)
+    meanings_by(
+        alloc, definition, declared, bodies, &places, sights, constants,
+    )
 }
