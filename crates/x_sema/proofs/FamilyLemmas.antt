@@ -133,7 +133,7 @@ any_is p (x ∷ xs) h = by (p x) refl (any_is p xs)
         let o = more (sym (ap (λ b. b || list_any p xs) e) ∙ h) in
         (o.0, among_more x o.0 xs o.1, o.2)
 
-any_found : {X : Type 0} (p : X → Bool) (xs : List X) (x : X) → IsAmong xs x → p x ≡ true → list_any p xs ≡ true
+pub any_found : {X : Type 0} (p : X → Bool) (xs : List X) (x : X) → IsAmong xs x → p x ≡ true → list_any p xs ≡ true
 any_found p [] x h e = absurd (among_none x h)
 any_found p (z ∷ zs) x h e = by (among_cases z x zs h) (λ k. any_found p zs x k e)
   where

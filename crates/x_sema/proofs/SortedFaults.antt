@@ -29,11 +29,14 @@ words_rise fs up = IsNonDecreasingBy-from_all_adjacent (λ f. f.word) fs (λ k d
     step k d lt = let next : suc k ≡ k + 1 = omega arith in subst (λ j. (get_or fs k d).word ≤ (get_or fs j d).word) next (rising fs up k d lt)
 
 -- a fault stands at a word from one to before another
-inside : (from to word : ℕ) → from ≤ word → word < to → (nat_le from word && nat_lt word to) ≡ true
+pub inside : (from to word : ℕ) → from ≤ word → word < to → (nat_le from word && nat_lt word to) ≡ true
 inside from to word le lt = grind (arith, nat_tests)
 
 short : (from to word : ℕ) → word < from → (nat_le from word && nat_lt word to) ≡ false
 short from to word lt = grind (arith, nat_tests)
+
+pub within : (from to word : ℕ) → (nat_le from word && nat_lt word to) ≡ true → (from ≤ word) × (word < to)
+within from to word e = (grind (arith, nat_tests), grind (arith, nat_tests))
 
 far : (from to word : ℕ) → to ≤ word → (nat_le from word && nat_lt word to) ≡ false
 far from to word le = grind (arith, nat_tests)

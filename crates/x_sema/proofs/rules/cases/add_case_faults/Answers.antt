@@ -1,6 +1,5 @@
-use Rattle.std.proofs.Common.{◌≡◌, ◌+◌, ◌∷◌, ◌++◌, List, map, drop, ap, sym, ◌∙◌}
+use Rattle.std.proofs.Common.{◌≡◌, ◌+◌, ◌∷◌, ◌++◌, map, drop, ap, sym, ◌∙◌}
 use Rattle.std.proofs.lemmas.List.{drop_more}
-use Rattle.x_sema.specs.Bodies.{ValueAt}
 use Rattle.x_sema.specs.Cases.{case_fault}
 use Rattle.x_sema.specs.Constants.{limit_of, number_by}
 use Rattle.x_sema.specs.Found.{fault_at}

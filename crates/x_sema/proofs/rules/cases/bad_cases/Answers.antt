@@ -1,6 +1,5 @@
-use Rattle.std.proofs.Common.{◌≡◌, ◌+◌, ◌∷◌, ◌++◌, List, drop, ap, sym, ◌∙◌}
+use Rattle.std.proofs.Common.{◌≡◌, ◌+◌, ◌∷◌, drop, ap, sym, ◌∙◌}
 use Rattle.std.proofs.lemmas.List.{drop_more}
-use Rattle.std.specs.List.{flat_map}
 use Rattle.x_sema.specs.Cases.{bad_cases_of}
 use Rattle.x_sema.specs.Tables.{seen_by}
 use Rattle.x_sema.proofs.ListLemmas.{drop_none, listed_more, listed_all}

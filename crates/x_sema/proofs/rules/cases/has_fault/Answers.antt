@@ -1,7 +1,6 @@
 use Rattle.std.specs.Prelude.{nat_lt}
-use Rattle.std.proofs.Common.{◌≡◌, ◌<◌, length, arith, rules}
+use Rattle.std.proofs.Common.{rules}
 use Rattle.std.proofs.lemmas.List.Sorted.{IsPartitionedBy-ltb, IsPartitionPoint-from_clause}
-use Rattle.x_sema.specs.declared.fault.WordFault.{WordFault}
 use Rattle.x_sema.proofs.SortedFaults.{words_rise, IsFirstFrom, fault_there, no_fault_there}
 use Rattle.x_sema.proofs.rules.cases.has_fault.Goals as goal
 

@@ -1,13 +1,11 @@
-use Rattle.std.specs.Prelude.{ℤ}
-use Rattle.std.proofs.Common.{◌≡◌, ◌+◌, ◌∷◌, ◌++◌, [], List, Option, Some, None, map, drop, ap, sym, ◌∙◌, rules}
+use Rattle.std.proofs.Common.{◌≡◌, ◌+◌, ◌∷◌, ◌++◌, [], map, drop, ap, sym, ◌∙◌, rules}
 use Rattle.std.proofs.lemmas.Int.{to_z-of_z}
 use Rattle.std.proofs.lemmas.List.{drop_more}
 use mir.Syntax.{w32}
 use mir.Val.{SFits}
 use Rattle.x_item.specs.View.{view_enumerator}
-use Rattle.x_sema.specs.Bodies.{EnumeratorAt}
-use Rattle.x_sema.specs.Constants.{Known, number_named}
-use Rattle.x_sema.specs.Types.{enum_number, if_all}
+use Rattle.x_sema.specs.Constants.{number_named}
+use Rattle.x_sema.specs.Types.{enum_number}
 use Rattle.x_sema.proofs.ClassLemmas.{with_all_start, with_all, with_all_more, with_all_none, with_all_end}
 use Rattle.x_sema.proofs.ListLemmas.{drop_none}
 use Rattle.x_sema.proofs.rules.classes.enum_numbers.Goals as goal

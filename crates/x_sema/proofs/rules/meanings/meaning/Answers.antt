@@ -28,8 +28,8 @@ returns-in_default c =
     let name = c.args.name.now in
     IfOk-weaker c.named_meaning.result _ _
     (λ kept is numbers places bodies low.
-      is (enumerators d) known numbers
-      ∙ ap (counted_type see known) (c.body_named-body.ensures places)
-      ∙ type_at d see known (map view_body_at c.args.bodies.now) name.word bodies low
-      ∙ meaning_of_type d see name.kind name.name.items name.word c.in_default.not-Constant c.in_default.not-Typedef c.in_default.not-Program)
+    is (enumerators d) known numbers
+    ∙ ap (counted_type see known) (c.body_named-body.ensures places)
+    ∙ type_at d see known (map view_body_at c.args.bodies.now) name.word bodies low
+    ∙ meaning_of_type d see name.kind name.name.items name.word c.in_default.not-Constant c.in_default.not-Typedef c.in_default.not-Program)
     c.named_meaning.ensures
