@@ -1,11 +1,9 @@
 -- Lists of faults in their order.
-use Rattle.std.proofs.Common.{◌≡◌, ℕ, ◌<◌, ◌⊎◌, inl, inr, List, [], ◌∷◌, arith, sym, subst, ◌∙◌}
+use Rattle.std.proofs.Common.{◌≡◌, ℕ, ◌⊎◌, inl, inr, List, [], ◌∷◌, arith, sym, subst, ◌∙◌}
 use Rattle.std.specs.List.{IsAmong}
-use denote.Enum.Declared.{tag_of}
 use Rattle.x_item.specs.Tree.{Definition}
 use Rattle.x_sema.specs.Views.{View}
-use Rattle.x_sema.specs.Rules.{IsFault, IsBefore, Ascends, AreFaults}
-use Rattle.x_sema.specs.contracts.fault.RuleCode.{the_type}
+use Rattle.x_sema.specs.Rules.{IsBefore, Ascends, AreFaults}
 use Rattle.x_sema.specs.declared.fault.WordFault.{WordFault}
 use Rattle.x_sema.proofs.AmongLemmas.{among_cases, among_none}
 use Rattle.x_sema.proofs.InOrder.{AreInOrder, one_order}

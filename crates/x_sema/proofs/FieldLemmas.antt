@@ -9,7 +9,7 @@ use Rattle.x_sema.specs.Rules.{HasName, IsRepeatedField}
 use Rattle.x_sema.specs.declared.fault.RuleCode.{RuleCode}
 use Rattle.x_sema.specs.declared.fault.RuleCode.TheVariants as codes
 use Rattle.x_sema.specs.declared.fault.WordFault.{WordFault}
-use Rattle.x_sema.proofs.AmongLemmas.{among_first, among_none, among_front, among_rear, among_parts}
+use Rattle.x_sema.proofs.AmongLemmas.{among_none, among_front, among_rear, among_parts}
 use Rattle.x_sema.proofs.DuplicateLemmas.{found_behind, behind_found}
 use Rattle.x_sema.proofs.FamilyLemmas.{fault_is, is_fault}
 use Rattle.x_sema.proofs.ListLemmas.{map_append}

@@ -1,5 +1,5 @@
 -- Heights, as far as they are counted.
-use Rattle.std.proofs.Common.{◌≡◌, ℕ, suc, ◌+◌, ◌-◌, ◌^◌, min, max, arith, ap, ◌∙◌}
+use Rattle.std.proofs.Common.{◌≡◌, ℕ, suc, ◌+◌, ◌-◌, ◌^◌, min, max, arith}
 use Rattle.x_sema.specs.Tables.{capped}
 
 -- one more is held

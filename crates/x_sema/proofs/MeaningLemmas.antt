@@ -1,8 +1,8 @@
 -- The types of bodies by the words that name them, and what names mean.
-use Rattle.std.specs.Prelude.{nat_eq, nat_lt, slice_get, option_map, MatchOption, ◌||◌}
+use Rattle.std.specs.Prelude.{nat_eq, slice_get, option_map, MatchOption, ◌||◌}
 use Rattle.std.specs.Borrow.{Bor}
 use Rattle.std.specs.List.{list_any}
-use Rattle.std.proofs.Common.{◌≡◌, ℕ, suc, ◌+◌, ◌-◌, ◌^◌, min, ◌<◌, ◌≤◌, Bool, true, false, cond, List, [], ◌∷◌, ◌++◌, length, map, get_or, Option, None, Some, arith, refl, sym, ap, ◌∙◌, append_assoc, append-nil}
+use Rattle.std.proofs.Common.{◌≡◌, ℕ, suc, ◌<◌, ◌≤◌, Bool, true, false, cond, List, [], ◌∷◌, ◌++◌, length, map, get_or, Option, None, Some, arith, refl, sym, ap, ◌∙◌, append_assoc, append-nil}
 use Rattle.std.proofs.lemmas.Bool.Decides.{nat_tests}
 use Rattle.std.proofs.lemmas.Cmp.{nat_eq_equiv}
 use Rattle.std.proofs.lemmas.Option.{slice_get_past, slice_get-get_or, slice_get-map}
@@ -17,7 +17,7 @@ use Rattle.x_sema.specs.Meanings.{first_named, body_named, counted_type, counted
 use Rattle.x_sema.specs.Results.{type_of, type_named, type_defined, meaning_as}
 use Rattle.x_sema.specs.Tables.{capped, is_too_high}
 use Rattle.x_sema.specs.Types.{body_class, declaration_class, body_height, held_height, defined_heights, heights}
-use Rattle.x_sema.specs.Views.{View, Meaning}
+use Rattle.x_sema.specs.Views.{View}
 use Rattle.x_sema.proofs.NameLemmas.{or_else_after, or_none}
 
 -- ---- bodies by the words that name their types

@@ -1,13 +1,10 @@
 -- The codes of faults of names that are used.
-use Rattle.std.proofs.Common.{◌≡◌, ℕ, Bool, true, false, cond, List, Option, Some, None, refl, sym, ap, subst, ◌∙◌}
+use Rattle.std.proofs.Common.{◌≡◌, Bool, true, false, cond, Option, Some, None}
 use Rattle.std.proofs.lemmas.Option.{same_Some}
-use Rattle.x_item.specs.Mentions.{Mention}
 use Rattle.x_item.specs.declared.trees.declaration.Tag.{Tag}
 use Rattle.x_item.specs.declared.names.mention.Use.{Use}
 use Rattle.x_sema.specs.Views.{View}
-use Rattle.x_sema.specs.Bodies.{EnumeratorAt}
 use Rattle.x_sema.specs.Mentioned.{fault_of_use, is_unknown, is_no_type, is_no_constant, is_too_late, is_of_faulty}
-use Rattle.x_sema.specs.Rules.{HasMentionFault}
 use Rattle.x_sema.specs.declared.fault.RuleCode.{RuleCode}
 use Rattle.x_sema.specs.declared.fault.RuleCode.TheVariants as codes
 

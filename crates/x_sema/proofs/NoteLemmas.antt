@@ -1,16 +1,16 @@
 -- The notes of words, and the roles that they come from.
-use Rattle.std.specs.Prelude.{ℤ, nat_lt, slice_get}
-use Rattle.std.proofs.Common.{◌≡◌, ℕ, zero, suc, ◌+◌, ◌⊎◌, inl, inr, Bool, true, false, cond, List, [], ◌∷◌, ◌++◌, Option, None, Some, arith, refl, sym, ap, subst, ◌∙◌}
+use Rattle.std.specs.Prelude.{nat_lt, slice_get}
+use Rattle.std.proofs.Common.{◌≡◌, ℕ, zero, suc, ◌+◌, ◌⊎◌, inl, inr, Bool, true, false, List, [], ◌∷◌, ◌++◌, Option, None, Some, arith, refl, sym, ap, subst, ◌∙◌}
 use Rattle.std.proofs.lemmas.Option.{same_Some}
 use Rattle.std.specs.List.{IsAmong}
 use Rattle.x_item.specs.Tree as tree
 use Rattle.x_item.specs.Gloss as gloss
 use Rattle.x_item.specs.Gloss.{Gloss, Role, told_of}
 use Rattle.x_sema.specs.Notes.{Note, NoteAt, ValueNote, NumberNote, MisplacedNote, DiscriminantNote, InlineNote, void_note, note_of, note_list, noted_at, noted}
-use Rattle.x_sema.specs.Rules.{HasRole, value_role, number_role, size_role, is_misplaced}
+use Rattle.x_sema.specs.Rules.{HasRole, number_role, is_misplaced}
 use Rattle.x_sema.specs.declared.outline.note.ValueRole.{ValueRole}
 use Rattle.x_sema.specs.declared.outline.note.ValueRole.TheVariants as roles
-use Rattle.x_sema.proofs.AmongLemmas.{among_first, among_same, among_more, among_cases, among_none, among_front, among_rear, among_parts}
+use Rattle.x_sema.proofs.AmongLemmas.{among_first, among_more, among_cases, among_none, among_front, among_rear, among_parts}
 
 -- ---- the roles of a word
 

@@ -8,7 +8,7 @@ use Rattle.x_item.specs.Collected.{Walked, Covers, CoversAll, IsSilent}
 use Rattle.x_item.specs.declared.trees.declaration.Basic.TheVariants as basics
 use Rattle.x_item.specs.declared.names.mention.Use.{Use}
 use Rattle.x_item.specs.declared.names.mention.Use.TheVariants as uses
-use Rattle.x_item.proofs.CollectLemmas.{covers_words, covers_then, covers_as, finds_then, finds_all, IsQuiet}
+use Rattle.x_item.proofs.CollectLemmas.{covers_words, covers_then, finds_then, finds_all, IsQuiet}
 use Rattle.x_item.proofs.GlossLemmas.{IsOutside, long_as, told_of_bare, bare_body, words_body, words_gloss}
 use Rattle.x_sema.specs.Notes.{NoteAt, ValueNote, MisplacedNote, DiscriminantNote, InlineNote, noted_at, view_note_at}
 use Rattle.x_sema.specs.NoteWalks.{NotesIn, NotesAll, role_of, view_walk}

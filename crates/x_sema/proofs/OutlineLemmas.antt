@@ -1,17 +1,16 @@
 -- What is kept of a definition is what the definitions have of it.
-use Rattle.std.specs.Prelude.{slice_get, option_map, ◌||◌}
-use Rattle.std.specs.Option.{option_map_or}
+use Rattle.std.specs.Prelude.{option_map, ◌||◌}
 use Rattle.std.specs.Str.{bytes_eq}
 use Rattle.std.specs.Borrow.{Bor}
 use Rattle.std.specs.List.{IsAmong, flat_map, list_any}
-use Rattle.std.proofs.Common.{◌≡◌, ◌<◌, ℕ, suc, length, arith, Bool, true, false, cond, List, [], ◌∷◌, ◌++◌, map, Option, None, Some, refl, sym, ap, subst, ◌∙◌, append_assoc}
+use Rattle.std.proofs.Common.{◌≡◌, ◌<◌, ℕ, suc, length, arith, Bool, true, false, cond, List, [], ◌∷◌, ◌++◌, map, Option, None, Some, refl, ap, subst, ◌∙◌, append_assoc}
 use Rattle.x_item.specs.Tree.{Definition}
 use Rattle.x_sema.specs.Bodies as spec
 use Rattle.x_sema.specs.Views as views
 use Rattle.x_sema.specs.Outlined.{GivesOutcome}
 use Rattle.x_sema.specs.Results.{Outcome, IsOutcome}
 use Rattle.x_sema.specs.Views.{view_in, names_of}
-use Rattle.x_sema.specs.BodyWalks.{view_body_at, AreFilled}
+use Rattle.x_sema.specs.BodyWalks.{view_body_at}
 use Rattle.x_sema.specs.RustViews.{view_view}
 use Rattle.x_sema.specs.Tables.{HasPlaces, place_in, first_place, view_at}
 use Rattle.x_sema.specs.declared.outline.parts.BodyAt.{BodyAt}

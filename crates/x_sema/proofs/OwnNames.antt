@@ -1,19 +1,16 @@
 -- A definition with a type that is too high declares a type.
-use Rattle.std.proofs.Common.{◌≡◌, ℕ, ◌+◌, Bool, true, false, cond, List, [], ◌∷◌, ◌++◌, length, Option, None, Some, refl, sym, ap, subst, ◌∙◌}
-use Rattle.std.specs.List.{IsAmong, list_any}
+use Rattle.std.proofs.Common.{◌≡◌, ℕ, ◌+◌, Bool, true, false, List, [], ◌++◌, length, None, Some, refl, sym, subst}
+use Rattle.std.specs.List.{IsAmong}
 use Rattle.x_item.specs.Tree as tree
-use Rattle.x_item.specs.Gloss.{Gloss, InTypedef, body_kind, glossed, gloss, told_of, leading_roles, usage_at, name_inside, name_roles, lifted_roles, type_by, named_by}
+use Rattle.x_item.specs.Gloss.{Gloss, InTypedef, body_kind, glossed, told_of, leading_roles, usage_at, name_inside, name_roles, lifted_roles, type_by, named_by}
 use Rattle.x_item.specs.Names.{Declared, declared_at, declared}
 use Rattle.x_item.proofs.CollectLemmas.{told_append}
 use Rattle.x_sema.specs.Views.{View}
 use Rattle.x_sema.specs.Mentioned.{suits}
 use Rattle.x_sema.specs.Types.{heights}
-use Rattle.x_sema.specs.Tables.{is_too_high}
 use Rattle.x_sema.specs.Found.{has_too_high}
-use Rattle.x_sema.specs.Rules.{AreFaults, IsTooHigh}
-use Rattle.x_sema.specs.declared.views.TheConstants.{MOST_HEIGHT}
+use Rattle.x_sema.specs.Rules.{AreFaults}
 use Rattle.x_sema.specs.declared.fault.RuleCode.TheVariants as codes
-use Rattle.x_sema.specs.declared.fault.WordFault.{WordFault}
 use Rattle.x_sema.proofs.AmongLemmas.{among_first, among_none, among_front, among_rear}
 use Rattle.x_sema.proofs.FamilyLemmas.{too_high_at}
 

@@ -1,6 +1,5 @@
 -- Enumerators without a value, one after another.
 use Rattle.std.specs.Prelude.{ℤ, slice_get, option_and_then}
-use Rattle.std.specs.List.{flat_map}
 use Rattle.std.proofs.Common.{◌≡◌, ℕ, zero, suc, ◌+◌, ◌<◌, ◌≤◌, Option, None, Some, List, [], ◌∷◌, ◌++◌, map, take, drop, get_or, length, refl, sym, ap, ◌∙◌, append_assoc, append-nil, arith}
 use Rattle.std.proofs.lemmas.List.{length-map}
 use Rattle.x_item.specs.Tree.{Value}

@@ -6,7 +6,7 @@ use Rattle.std.proofs.lemmas.Cmp.{int_eq_equiv}
 use Rattle.std.proofs.lemmas.Option.{same_Some}
 use Rattle.std.specs.List.{IsAmong, flat_map, list_any}
 use Rattle.std.specs.Ordering.{int_eq}
-use Rattle.x_sema.specs.Bodies.{BodyAt, Members, ValueAt, NumberAt, cases_of}
+use Rattle.x_sema.specs.Bodies.{BodyAt, Members, cases_of}
 use Rattle.x_sema.specs.Constants.{Known, limit_of, number_by, number_spelled}
 use Rattle.x_sema.specs.Views.{View}
 use Rattle.x_sema.specs.Found.{fault_at, numbered, repeated_code, numbers_behind, repeated_numbers, spelled_numbers, repeated_cases}
@@ -15,8 +15,8 @@ use Rattle.x_sema.specs.declared.fault.RuleCode.{RuleCode}
 use Rattle.x_sema.specs.declared.fault.RuleCode.TheVariants as codes
 use Rattle.x_sema.specs.declared.fault.WordFault.{WordFault}
 use Rattle.x_sema.specs.declared.rules.repeats.Numbered.{Numbered}
-use Rattle.x_sema.proofs.AmongLemmas.{among_first, among_same, among_more, among_cases, among_none, among_front, among_rear, among_parts}
-use Rattle.x_sema.proofs.FamilyLemmas.{OfOne, flat_among, among_flat, fault_is, is_fault}
+use Rattle.x_sema.proofs.AmongLemmas.{among_first, among_cases, among_none, among_front, among_rear, among_parts}
+use Rattle.x_sema.proofs.FamilyLemmas.{flat_among, among_flat, fault_is}
 
 -- ---- numbers seen
 

@@ -1,5 +1,5 @@
 -- Definitions and views determine what checking gives, and the definitions of a text all results.
-use Rattle.std.specs.Prelude.{nat_lt, slice_get, option_map, option_and_then}
+use Rattle.std.specs.Prelude.{nat_lt, option_map, option_and_then}
 use Rattle.std.specs.Option.{unwrap_or}
 use Rattle.std.proofs.lemmas.Bool.Decides.{nat_tests}
 use Rattle.std.proofs.Common.{◌≡◌, ℕ, suc, ◌<◌, Bool, true, false, cond, List, [], ◌∷◌, Option, Some, None, map, drop, arith, refl, sym, ap, subst, ◌∙◌}

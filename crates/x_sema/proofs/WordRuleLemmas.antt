@@ -1,6 +1,6 @@
 -- The faults of noted words are those that the rules name.
 use Rattle.std.specs.Prelude.{ℤ, pos, negsuc, neg_ℤ, nat_lt, nat_le}
-use Rattle.std.proofs.Common.{◌≡◌, ℕ, zero, suc, ◌^◌, ◌<◌, ◌≤◌, ◌⊎◌, inl, inr, Bool, true, false, cond, List, Option, None, Some, arith, refl, sym, ap, subst, ◌∙◌}
+use Rattle.std.proofs.Common.{◌≡◌, ℕ, zero, suc, ◌^◌, inl, inr, Bool, true, false, cond, List, Option, None, Some, arith, refl, sym, ap, subst, ◌∙◌}
 use Rattle.std.proofs.lemmas.Bool.Decides.{nat_tests}
 use Rattle.std.proofs.lemmas.Option.{same_Some}
 use Rattle.std.specs.List.{IsAmong}
@@ -10,9 +10,9 @@ use Rattle.x_item.specs.Gloss.{Role}
 use Rattle.x_sema.specs.Views.{View, Class, NoClass, Signed, Unsigned, Boolean, Enumeration}
 use Rattle.x_sema.specs.Bodies.{enumerators}
 use Rattle.x_sema.specs.Numbers.{magnitude, is_negative, in_range, value, is_word_number, is_enum_number, is_zero}
-use Rattle.x_sema.specs.Constants.{Known, knowns, limit_of, number_by, number_spelled}
+use Rattle.x_sema.specs.Constants.{knowns, limit_of, number_by, number_spelled}
 use Rattle.x_sema.specs.Types.{declaration_class}
-use Rattle.x_sema.specs.Notes.{Note, NoteAt, ValueNote, NumberNote, MisplacedNote, DiscriminantNote, InlineNote, void_note, note_of, noted}
+use Rattle.x_sema.specs.Notes.{Note, ValueNote, NumberNote, MisplacedNote, DiscriminantNote, InlineNote, void_note, note_of, noted}
 use Rattle.x_sema.specs.Found.{fault_at, number_fault, value_fault, spelled_fault, has_no_class, discriminant_fault, note_fault, note_faults}
 use Rattle.x_sema.specs.Rules.{HasRole, Breaks, IsNoConstant, IsNoEnumValue, IsNoNumber, IsBadSize, IsEmptyArray, IsVoidPlace, IsBadDiscriminant, value_role, number_role, size_role, is_misplaced}
 use Rattle.x_sema.specs.declared.outline.note.ValueRole.{ValueRole}

@@ -2,7 +2,7 @@
 -- procedures of a program. Each has the number of its word, counted from 0 among the words of the definition.
 --
 -- `at` is the number of the first word of the part that a function is about.
-use Rattle.std.specs.Prelude.{ℕ, ◌+◌, Bool, true, false, List, [], ◌∷◌, ◌++◌, length, Option, Some, None}
+use Rattle.std.specs.Prelude.{ℕ, ◌+◌, Bool, true, false, List, [], ◌∷◌, ◌++◌, length, Option}
 use Rattle.x_item.specs.Tree as tree
 use Rattle.x_item.specs.Named.{star}
 use Rattle.x_item.specs.Spell.{spell_type, spell_body, spell_declaration, spell_cases, spell_arms, spell_enumerator, spell_passed, spell_others, spell_procedure, spell_procedures}

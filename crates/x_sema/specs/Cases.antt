@@ -1,5 +1,5 @@
 -- The faults of cases that no discriminant has, in the order in which the program finds them.
-use Rattle.std.specs.Prelude.{ℕ, ◌+◌, ℤ, pos, nat_lt, nat_le, Bool, true, false, not, ◌&&◌, List, [], Option, Some, None, map, if◌then◌else◌}
+use Rattle.std.specs.Prelude.{ℕ, ◌+◌, ℤ, pos, nat_lt, nat_le, Bool, false, not, ◌&&◌, List, [], Option, Some, None, map, if◌then◌else◌}
 use Rattle.std.specs.List.{flat_map, list_any}
 use Rattle.std.specs.Ordering.{int_eq}
 use Rattle.x_item.specs.Tree as tree

@@ -1,6 +1,5 @@
 -- What single words are to the rules, read off the roles of a definition's words.
-use Rattle.std.specs.Prelude.{ℕ, nat_lt, Bool, true, false, List, [], ◌∷◌, ◌++◌, map, Option, Some, None, if◌then◌else◌}
-use Rattle.std.specs.Borrow.{Bor}
+use Rattle.std.specs.Prelude.{ℕ, nat_lt, Bool, List, [], ◌∷◌, ◌++◌, Option, Some, None, if◌then◌else◌}
 use Rattle.x_item.specs.Tree as tree
 use Rattle.x_item.specs.View.{view_value, view_declaration}
 use Rattle.x_item.specs.Gloss as gloss

@@ -1,5 +1,5 @@
 -- The numbers of the language, as they are spelled (RFC 4506, section 6.2).
-use Rattle.std.specs.Prelude.{ℕ, ◌+◌, ◌-◌, ◌*◌, ◌^◌, Bool, ◌&&◌, ◌||◌, ◌==◌, nat_le, nat_lt, List, [], ◌∷◌, drop, slice_index, ℤ, pos, negsuc, neg_ℤ, true, false, if◌then◌else◌}
+use Rattle.std.specs.Prelude.{ℕ, ◌+◌, ◌-◌, ◌*◌, ◌^◌, Bool, ◌&&◌, ◌||◌, ◌==◌, nat_le, nat_lt, List, [], ◌∷◌, drop, slice_index, ℤ, pos, negsuc, neg_ℤ, false, if◌then◌else◌}
 
 -- the value of a digit: 0 to 9, a to f or A to F
 abbrev pub digit_value : ℕ → ℕ

@@ -1,5 +1,5 @@
 -- What checking an item gives, and the results of all items of a text.
-use Rattle.std.specs.Prelude.{◌≡◌, ℕ, suc, nat_eq, nat_lt, Bool, true, false, List, [], ◌∷◌, map, Option, Some, None, ℤ, pos, option_map, option_and_then, slice_get, codes, if◌then◌else◌}
+use Rattle.std.specs.Prelude.{◌≡◌, ℕ, suc, nat_eq, nat_lt, false, List, [], ◌∷◌, map, Option, Some, None, ℤ, pos, option_map, option_and_then, slice_get, codes, if◌then◌else◌}
 use Rattle.std.specs.Option.{unwrap_or}
 use Rattle.std.specs.Str.{bytes_eq}
 use Rattle.x_item.specs.Tree as tree

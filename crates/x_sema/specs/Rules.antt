@@ -1,7 +1,7 @@
 -- The rules that a definition keeps beyond its spelling (RFC 4506, section 6.4; RFC 5531, section 12.3): which of them a word
 -- breaks. `see` tells what the definition's item sees of each name. A rule that needs a number or a class is not applied where there
 -- is none.
-use Rattle.std.specs.Prelude.{◌≡◌, ◌<◌, ◌≤◌, ◌⊎◌, ℕ, ◌+◌, Bool, true, false, IsTrue, nat_lt, List, [], ◌∷◌, ◌++◌, length, Option, Some, None, ℤ, pos, slice_get}
+use Rattle.std.specs.Prelude.{◌≡◌, ◌<◌, ◌≤◌, ◌⊎◌, ℕ, ◌+◌, Bool, true, false, nat_lt, List, [], ◌∷◌, ◌++◌, length, Option, Some, None, ℤ, pos, slice_get}
 use Rattle.std.specs.List.{IsAmong}
 use denote.Enum.Declared.{tag_of}
 use Rattle.x_item.specs.Tree as tree
@@ -11,7 +11,6 @@ use Rattle.x_item.specs.Gloss.{Gloss, Role}
 use Rattle.x_item.specs.Names.{Declared, declared}
 use Rattle.x_item.specs.Mentions.{Mention, mentioned}
 use Rattle.x_item.specs.Spell.{spell_declaration}
-use Rattle.x_item.specs.declared.names.declared_name.NameKind.{NameKind}
 use Rattle.x_sema.specs.Numbers.{in_range, value, is_word_number, is_enum_number}
 use Rattle.x_sema.specs.Views as views
 use Rattle.x_sema.specs.Views.{View, Class, NoClass, Signed, Unsigned, Boolean, Enumeration}

@@ -1,5 +1,4 @@
 -- What the program says, as the definitions have it.
-use Rattle.std.specs.Prelude.{List, [], ◌∷◌, map, ℤ}
 use Rattle.x_sema.specs.Views as views
 use Rattle.x_sema.specs.declared.views.Class.{Class}
 use Rattle.x_sema.specs.declared.views.Class.TheVariants as classes

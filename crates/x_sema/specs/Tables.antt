@@ -1,12 +1,12 @@
 -- What the program keeps of an item while it is checked, as the definitions have it.
-use Rattle.std.specs.Prelude.{◌≡◌, ℕ, suc, ◌-◌, ◌^◌, min, nat_lt, true, false, Bool, List, [], ◌∷◌, ◌++◌, length, map, take, Option, Some, None, ℤ, option_map, slice_get, Vec, if◌then◌else◌}
+use Rattle.std.specs.Prelude.{◌≡◌, ℕ, suc, ◌-◌, ◌^◌, min, nat_lt, true, false, Bool, List, [], ◌∷◌, ◌++◌, length, map, take, Option, Some, None, option_map, slice_get, if◌then◌else◌}
 use Rattle.std.specs.Borrow.{Bor}
 use Rattle.std.specs.List.{IsAmong}
 use Rattle.std.specs.Map.{lookup}
 use Rattle.std.specs.Option.{option_map_or}
 use Rattle.std.specs.Str.{bytes_eq}
 use Rattle.x_item.specs.Tree as tree
-use Rattle.x_item.specs.View.{view_value, view_body}
+use Rattle.x_item.specs.View.{view_value}
 use Rattle.x_item.specs.declared.trees.value.Value.{Value}
 use Rattle.x_item.specs.declared.names.mention.Use.{Use}
 use Rattle.x_item.specs.declared.names.mention.Use.TheVariants as uses

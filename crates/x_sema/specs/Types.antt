@@ -1,5 +1,5 @@
 -- What types are as discriminants, and how high they are.
-use Rattle.std.specs.Prelude.{ℕ, ◌+◌, suc, max, Bool, true, false, List, [], ◌∷◌, ◌++◌, map, Option, Some, None, ℤ, option_map, option_and_then, if◌then◌else◌}
+use Rattle.std.specs.Prelude.{ℕ, suc, max, List, [], ◌∷◌, ◌++◌, map, Option, Some, None, ℤ, option_map, option_and_then, if◌then◌else◌}
 use Rattle.std.specs.Option.{option_map_or}
 use lib.Signed.{lt_z}
 use Rattle.x_item.specs.Tree as tree
@@ -12,7 +12,7 @@ use Rattle.x_item.specs.declared.names.mention.Use.TheVariants as uses
 use Rattle.x_sema.specs.Views as views
 use Rattle.x_sema.specs.Views.{View, Class, NoClass, Signed, Unsigned, Boolean, Enumeration}
 use Rattle.x_sema.specs.Numbers.{is_enum_number}
-use Rattle.x_sema.specs.Bodies.{BodyAt, bodies}
+use Rattle.x_sema.specs.Bodies.{bodies}
 use Rattle.x_sema.specs.Constants.{Known, number_named}
 use Rattle.x_sema.specs.Mentioned.{suits}
 

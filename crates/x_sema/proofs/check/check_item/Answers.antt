@@ -1,4 +1,4 @@
-use Rattle.std.proofs.Common.{◌≡◌, ℕ, List, ◌++◌, map, sym, ap, subst, ◌∙◌}
+use Rattle.std.proofs.Common.{ℕ, List, ◌++◌, map, sym, ap, subst, ◌∙◌}
 use Rattle.std.proofs.lemmas.Result.{IfOk-weaker}
 use Rattle.x_item.specs.View.{view_definition}
 use Rattle.x_item.specs.Collected.{view_mention}
@@ -8,9 +8,7 @@ use Rattle.x_sema.specs.Bodies.{enumerators_in}
 use Rattle.x_sema.specs.BodyWalks.{view_body_at, AreFilled}
 use Rattle.x_sema.specs.Constants.{knowns}
 use Rattle.x_sema.specs.Outlined.{outlined, AreTables}
-use Rattle.x_sema.specs.RustViews.{view_view}
 use Rattle.x_sema.specs.Tables.{HasPlaces, HasNumbers, seen_by}
-use Rattle.x_sema.specs.Views.{names_of}
 use Rattle.x_sema.proofs.OutlineLemmas.{map_map, outcome_by}
 use Rattle.x_sema.proofs.check.check_item.Goals as goal
 

@@ -1,6 +1,6 @@
-use Rattle.std.proofs.Common.{◌≡◌, map, sym, ap, subst, ◌∙◌}
+use Rattle.std.proofs.Common.{sym, ap, subst, ◌∙◌}
 use Rattle.x_sema.specs.Outlined.{outlined, GivesOutcome}
-use Rattle.x_sema.specs.Results.{Outcome, meanings_by}
+use Rattle.x_sema.specs.Results.{meanings_by}
 use Rattle.x_sema.specs.Rules.{AreFaults}
 use Rattle.x_sema.specs.Tables.{seen_by}
 use Rattle.x_sema.specs.KeptViews.{outcome_of}

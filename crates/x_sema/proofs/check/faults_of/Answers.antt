@@ -1,4 +1,4 @@
-use Rattle.std.proofs.Common.{◌≡◌, ℕ, ◌++◌, refl, sym, ap, subst, ◌∙◌}
+use Rattle.std.proofs.Common.{◌≡◌, ℕ, ◌++◌, sym, ap, subst, ◌∙◌}
 use Rattle.std.specs.List.{IsAmong, flat_map}
 use Rattle.x_sema.specs.Bodies.{enumerators}
 use Rattle.x_sema.specs.Cases.{bad_cases_of}
@@ -34,5 +34,5 @@ returns c o t =
     (λ f h. subst (λ l. IsAmong l f) joined (c.order-2.ensures.from f h))
     (λ f h. c.order-2.ensures.kept f (subst (λ l. IsAmong l f) (sym joined) h))
     each each_found
-    (λ f h. found_bad_case d see bs found o.bodies_are o.filled each each_found f (subst (λ l. IsAmong l f) bad_found h))
-    (λ word h. subst (λ l. IsAmong l (record { word = word; code = codes.BadCase })) (sym bad_found) (bad_case_found d see bs found o.bodies_are o.filled each each_found word h))
+    (λ f h. found_bad_case d see found bs f each_found o.bodies_are o.filled (subst (λ l. IsAmong l f) bad_found h))
+    (λ word h. subst (λ l. IsAmong l (record { word = word; code = codes.BadCase })) (sym bad_found) (bad_case_found d see found bs word each o.bodies_are o.filled h))

@@ -1,4 +1,4 @@
-use Rattle.std.proofs.Common.{◌≡◌, map, ◌++◌, refl, sym, ap, ◌∙◌}
+use Rattle.std.proofs.Common.{map, ◌++◌, refl, sym, ap, ◌∙◌}
 use Rattle.std.specs.Prelude.{◌||◌}
 use Rattle.std.specs.List.{flat_map, list_any}
 use Rattle.x_item.specs.Collected.{view_mention}
