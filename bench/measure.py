@@ -1,0 +1,49 @@
+"""What the scripts here measure of a program that opens a text: seconds, peak memory, instructions, and how they grow."""
+
+import math
+import pathlib
+import re
+import subprocess
+import sys
+import tempfile
+import time
+
+TOP = pathlib.Path(__file__).resolve().parent.parent
+SCRATCH = TOP / ".build" / "bench"
+
+# GNU time, since Python's own process would count into the peak memory of one that it starts.
+MEMORY_METER = "/usr/bin/time"
+
+
+def checked(words):
+    """Runs a command with nothing on its input; a status other than 0 ends the benchmark."""
+    run = subprocess.run(words, stdin=subprocess.DEVNULL, capture_output=True, check=False)
+    if run.returncode != 0:
+        sys.exit(f"{sys.argv[0]}: {' '.join(words)}: status {run.returncode}: {run.stderr.decode(errors='replace')}")
+    return run
+
+
+def open_once(program, path):
+    """One run: its seconds, and its peak memory in KiB."""
+    with tempfile.NamedTemporaryFile("r", encoding="ascii") as report:
+        start = time.monotonic()
+        checked([MEMORY_METER, "-f", "%M", "-o", report.name, program, str(path)])
+        return time.monotonic() - start, int(report.read().split()[-1])
+
+
+def open_often(program, path, rounds):
+    """The least seconds and the greatest peak memory in KiB over the rounds."""
+    runs = [open_once(program, path) for _ in range(rounds)]
+    return min(run[0] for run in runs), max(run[1] for run in runs)
+
+
+def instructions(program, path):
+    """How many instructions one run takes."""
+    words = ["valgrind", "--tool=callgrind", f"--callgrind-out-file={SCRATCH}/callgrind.out", program, str(path)]
+    report = checked(words).stderr.decode(errors="replace")
+    return int(re.search(r"refs:\s+([\d,]+)", report).group(1).replace(",", ""))
+
+
+def power(size, value, before):
+    """By which power of the size a value grew."""
+    return f"{math.log(value / before[1]) / math.log(size / before[0]):.2f}" if before else "–"
