@@ -2,7 +2,6 @@ use Rattle.std.proofs.Common.{◌≡◌, ◌+◌, ◌∷◌, [], drop, map, ap, 
 use Rattle.std.proofs.lemmas.List.{drop_all, drop_more}
 use Rattle.x_item.specs.View.{view_procedure, view_version}
 use Rattle.x_sema.specs.MemberWalks.{AddsName, AddsNumber, AddsProcedures, AddsVersions, place, start}
-use Rattle.x_sema.specs.declared.outline.bodies.BodyWalk.{BodyWalk}
 use Rattle.x_sema.proofs.MemberWalkLemmas.{adds_none, adds_version, versions_start, versions_all}
 use Rattle.x_sema.proofs.outline.programs.versions.Goals as goal
 

@@ -1,11 +1,10 @@
-use Rattle.std.proofs.Common.{◌≡◌, ◌<◌, ◌+◌, ◌^◌, ◌++◌, true, length, map, OnOk, ap, sym, subst, append-nil, ◌∙◌}
+use Rattle.std.proofs.Common.{◌≡◌, ◌<◌, ◌+◌, ◌^◌, ◌++◌, true, length, map, ap, sym, subst, append-nil, ◌∙◌}
 use Rattle.std.proofs.lemmas.Result.{on_ok_weaker}
-use Rattle.x_item.specs.Tree.{Enum}
 use Rattle.x_item.specs.Spell.{spell_body, spell_other_enumerators}
-use Rattle.x_item.specs.View.{view_enumerator, view_body, view_union}
+use Rattle.x_item.specs.View.{view_enumerator, view_body}
 use Rattle.x_item.proofs.Rows.{struct_view, union_parts}
 use Rattle.x_sema.specs.Bodies.{enumerators_of, enumerators_from}
-use Rattle.x_sema.specs.BodyWalks.{IsFilled, body_at}
+use Rattle.x_sema.specs.BodyWalks.{body_at}
 use Rattle.x_sema.specs.Tables.{view_enumerator_at}
 use Rattle.x_sema.proofs.EnumeratorLemmas.{names_fit}
 use Rattle.x_sema.proofs.rules.constants.add_enumerators.Goals as goal

@@ -1,4 +1,4 @@
-use Rattle.std.proofs.Common.{◌≡◌, List, [], map, sym, length, refl, ap, ◌∙◌, take}
+use Rattle.std.proofs.Common.{◌≡◌, List, map, sym, length, refl, ap, ◌∙◌, take}
 use Rattle.std.proofs.lemmas.List.{take-map, length-map}
 use Rattle.x_sema.specs.BodyWalks.{view_walk, view_body_at}
 use Rattle.x_item.proofs.CollectLemmas.{finds_less}
