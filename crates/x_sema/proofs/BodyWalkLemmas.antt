@@ -1,5 +1,5 @@
 -- What a walk over bodies finds, part by part.
-use Rattle.std.proofs.Common.{◌≡◌, ℕ, suc, Option, ◌+◌, ◌^◌, ◌<◌, ◌⊎◌, inl, inr, List, [], ◌∷◌, ◌++◌, length, map, take, ap, sym, refl, subst, ◌∙◌, append_assoc, append-nil, length-append, arith}
+use Rattle.std.proofs.Common.{◌≡◌, ℕ, suc, Option, ◌+◌, ◌^◌, ◌<◌, ◌⊎◌, inl, inr, List, [], ◌∷◌, ◌++◌, length, map, ap, sym, refl, subst, ◌∙◌, append_assoc, append-nil, length-append, arith}
 use Rattle.std.specs.List.{IsAmong}
 use Rattle.std.specs.Borrow.{Bor}
 use Rattle.x_item.specs.Tree as tree

@@ -1,5 +1,5 @@
 -- The enumerators of bodies, one by one.
-use Rattle.std.proofs.Common.{◌≡◌, ℕ, suc, ◌+◌, ◌-◌, ◌^◌, ◌<◌, ◌≤◌, min, Bool, true, false, List, [], ◌∷◌, ◌++◌, length, map, take, drop, Option, Some, None, ap, sym, refl, subst, ◌∙◌, append_assoc, append-nil, length-append, arith}
+use Rattle.std.proofs.Common.{◌≡◌, ℕ, suc, ◌+◌, ◌-◌, ◌^◌, ◌<◌, ◌≤◌, min, Bool, false, List, [], ◌∷◌, ◌++◌, length, take, drop, Option, Some, None, ap, sym, refl, subst, ◌∙◌, append_assoc, length-append, arith}
 use Rattle.std.proofs.lemmas.List.{take-append-drop}
 use Rattle.std.specs.Borrow.{Bor}
 use Rattle.std.specs.List.{IsAmong}
@@ -9,9 +9,8 @@ use Rattle.x_item.specs.Spell.{spell_body, spell_enumerator, spell_other_enumera
 use Rattle.x_item.specs.View.{view_most}
 use Rattle.x_item.specs.Collected.{Walked, Covers}
 use Rattle.x_item.specs.declared.trees.value.Value.{Value}
-use Rattle.x_item.proofs.CollectLemmas.{finds_none, finds_then, finds_as}
+use Rattle.x_item.proofs.CollectLemmas.{finds_then, finds_as}
 use Rattle.x_sema.specs.Bodies.{BodyAt, EnumeratorAt, enumerators_from, enumerators_of, enumerators_in}
-use Rattle.x_sema.specs.BodyWalks.{body_at}
 use Rattle.x_sema.specs.Tables.{view_given}
 use Rattle.x_sema.proofs.AmongLemmas.{among_first, among_rear}
 

@@ -3,7 +3,7 @@ use Rattle.std.proofs.Common.{◌≡◌, ℕ, suc, ◌+◌, ◌^◌, ◌<◌, Li
 use Rattle.x_item.specs.Tree as tree
 use Rattle.x_item.specs.Spell.{spell_type, spell_body, spell_argument, spell_passed, spell_others, spell_procedure, spell_procedures, spell_version, spell_versions}
 use Rattle.x_item.proofs.CollectLemmas.{finds_none, finds_then, finds_as}
-use Rattle.x_sema.specs.Bodies.{Members, NameAt, NumberAt, no_members, procedures_from, procedures_of, versions_from}
+use Rattle.x_sema.specs.Bodies.{Members, no_members, procedures_from, procedures_of, versions_from}
 use Rattle.x_sema.specs.Declarers.{IsShort}
 use Rattle.x_sema.specs.MemberWalks.{Skips, Place, Adds, AddsName, AddsNumber, AddsProcedure, AddsProcedures, AddsVersions, place, start}
 use Rattle.x_sema.specs.Tables.{view_name_at, view_number_at, view_members}

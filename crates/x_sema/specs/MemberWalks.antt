@@ -1,5 +1,5 @@
 -- Where a walk over a program stands.
-use Rattle.std.specs.Prelude.{ℕ, ◌+◌, List, [], ◌∷◌, length, map}
+use Rattle.std.specs.Prelude.{ℕ, List, [], ◌∷◌, length, map}
 use Rattle.x_item.specs.Tree as tree
 use Rattle.x_item.specs.Spell.{spell_procedure, spell_procedures, spell_versions}
 use Rattle.x_item.specs.Collected.{Covers}
