@@ -5,7 +5,7 @@ use Rattle.x_item.specs.Spell.{spell_type, spell_body, spell_argument, spell_pas
 use Rattle.x_item.proofs.CollectLemmas.{finds_none, finds_then, finds_as}
 use Rattle.x_sema.specs.Bodies.{Members, no_members, procedures_from, procedures_of, versions_from}
 use Rattle.x_sema.specs.Declarers.{IsShort}
-use Rattle.x_sema.specs.MemberWalks.{Skips, Place, Adds, AddsName, AddsNumber, AddsProcedure, AddsProcedures, AddsVersions, place, start}
+use Rattle.x_sema.specs.MemberWalks.{Skips, Place, Adds, AddsName, AddsNumber, AddsProcedure, AddsProcedures, AddsVersions, AddsVersion, place, start}
 use Rattle.x_sema.specs.Tables.{view_name_at, view_number_at, view_members}
 use Rattle.x_sema.specs.declared.outline.bodies.BodyWalk.{BodyWalk}
 use Rattle.x_sema.specs.declared.outline.parts.Members as rust
@@ -119,10 +119,10 @@ adds_group from to groups next m own ps x is = record {
 version_long : (v : tree.Version) → length (spell_version v) ≡ suc (suc (suc (length (spell_procedures v.procedures) + 4)))
 version_long v = ap (λ n. suc (suc (suc n))) (length-append (spell_procedures v.procedures) (_ ∷ _ ∷ _ ∷ _ ∷ []))
 
-pub adds_version : {to : Place} (a b c d e f : BodyWalk) (groups next : List rust.Members) (m n o own : rust.Members) (v : tree.Version) (vs : List tree.Version) → Skips a b 1 → AddsName b.word m n v.name → Skips b c 2
+pub adds_version : (a b c d e f : BodyWalk) (groups next : List rust.Members) (m n o own : rust.Members) (v : tree.Version) → Skips a b 1 → AddsName b.word m n v.name → Skips b c 2
     → AddsProcedures (start c.word) (place d.word [] own) v.procedures → next ≡ groups ++ own ∷ [] → Skips d e 2 → AddsNumber e.word n o v.number → Skips e f 2
-    → AddsVersions (place f.word next o) to vs → AddsVersions (place a.word groups m) to (v ∷ vs)
-adds_version a b c d e f groups next m n o own v vs x name y procedures is z number u rest =
+    → AddsVersion (place a.word groups m) (place f.word next o) v
+adds_version a b c d e f groups next m n o own v x name y procedures is z number u to vs rest =
     adds_as (adds_then (adds_past a b _ groups m x) (adds_then (name groups) (adds_then (adds_past b c _ groups n y) (adds_then (adds_group c.word d.word groups next n own v.procedures procedures is)
     (adds_then (adds_past d e _ next n z) (adds_then (number next) (adds_then (adds_past e f _ next o u) rest)))))))
     (long p (length (spell_versions vs)) ∙ ap (λ j. j + length (spell_versions vs)) (sym (version_long v)) ∙ sym (length-append (spell_version v) (spell_versions vs)))

@@ -51,8 +51,10 @@ stand w c = within w (map view_name_at c.fields.items) (map view_value_at c.case
 
 -- The walk has gone over n words more, and found these from the word on where it was. Of a walk that comes to 2^64 words nothing
 -- is said.
-pub record Goes (a b : Stand) (n : ℕ) (found : ℕ → List bodies.BodyAt) (names : ℕ → List bodies.NameAt) (values : ℕ → List bodies.ValueAt) : Type 0 where
-  pub bodies : Covers (record { word = a.word; list = map view_body_at a.list }) (record { word = b.word; list = map view_body_at b.list }) n found
+pub record Goes (a b : Stand) (n : ℕ) (found : ℕ → List bodies.BodyAt) (names : ℕ → List bodies.NameAt)
+    (values : ℕ → List bodies.ValueAt) : Type 0 where
+  pub bodies : Covers (record { word = a.word; list = map view_body_at a.list })
+      (record { word = b.word; list = map view_body_at b.list }) n found
   pub fields : Covers (record { word = a.word; list = a.fields }) (record { word = b.word; list = b.fields }) n names
   pub cases : Covers (record { word = a.word; list = a.cases }) (record { word = b.word; list = b.cases }) n values
   pub filled : a.word + n < 2 ^ 64 → AreFilled a.list → AreFilled b.list

@@ -65,3 +65,7 @@ AddsProcedures a b ps = Adds a b (length (spell_procedures ps)) (λ k. []) (λ k
 
 abbrev pub AddsVersions : Place → Place → List tree.Version → Type 0
 AddsVersions a b vs = Adds a b (length (spell_versions vs)) (λ k. bodies.procedures_of k vs) (λ k. bodies.versions_from k vs)
+
+-- a version, whatever is found of those behind it
+abbrev pub AddsVersion : Place → Place → tree.Version → Type 0
+AddsVersion a b v = (to : Place) (vs : List tree.Version) → AddsVersions b to vs → AddsVersions a to (v ∷ vs)

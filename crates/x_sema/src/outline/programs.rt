@@ -6,7 +6,8 @@ ghost use Rattle.x_item.specs.View.{view_type, view_argument, view_passed, view_
 ghost use Rattle.x_item.specs.View.{view_definition};
 ghost use Rattle.x_sema.specs.Bodies.{members, procedures_of, versions_from};
 ghost use Rattle.x_sema.specs.Declarers.{IsShort};
-ghost use Rattle.x_sema.specs.MemberWalks.{Skips, AddsName, AddsNumber, AddsProcedure, AddsProcedures, place, start};
+ghost use Rattle.x_sema.specs.MemberWalks.{Skips, AddsName, AddsNumber, AddsProcedure, AddsProcedures, AddsVersion};
+ghost use Rattle.x_sema.specs.MemberWalks.{place, start};
 ghost use Rattle.x_sema.specs.Tables.{view_members};
 
 use super::bodies::BodyWalk;
@@ -150,6 +151,27 @@ fn procedures<'d>(
     Ok(members)
 }
 
+/// Adds a version to the others, and its procedures to those of each.
+fn add_version<'d>(
+    alloc: Global,
+    walk: &mut BodyWalk<'d>,
+    version: &'d Version,
+    groups: &mut Vec<Members<'d>>,
+    members: &mut Members<'d>,
+) -> Result<(), NoMemory>
+    ensures { OnOk result (AddsVersion (place walk.old.word groups.old.items members.old)
+        (place walk.new.word groups.new.items members.new) (view_version version.now)) }
+{
+    walk.skip(1);
+    members.name(walk.word, &version.name)?;
+    walk.skip(2);
+    groups.push(procedures(alloc, walk, &version.procedures)?)?;
+    walk.skip(2);
+    members.number(walk.word, &version.number)?;
+    walk.skip(2);
+    Ok(())
+}
+
 /// The procedures of each version, and then the versions.
 fn versions(alloc: Global, list: &[Version]) -> Result<Vec<Members<'_>>, NoMemory>
     ensures { IfOk result (λ found. 3 + length (spell_versions (map view_version list.now)) < 2 ^ 64
@@ -163,13 +185,7 @@ fn versions(alloc: Global, list: &[Version]) -> Result<Vec<Members<'_>>, NoMemor
     let mut groups = Vec::new(alloc);
     let mut members = Members::new(alloc);
     for version in list {
-        walk.skip(1);
-        members.name(walk.word, &version.name)?;
-        walk.skip(2);
-        groups.push(procedures(alloc, &mut walk, &version.procedures)?)?;
-        walk.skip(2);
-        members.number(walk.word, &version.number)?;
-        walk.skip(2);
+        add_version(alloc, &mut walk, version, &mut groups, &mut members)?;
     }
     groups.push(members)?;
     Ok(groups)

@@ -1,6 +1,6 @@
 //! The numbers of values and of enumerators.
 
-ghost use Rattle.std.specs.Prelude.{◌≡◌, ◌<◌, ◌+◌, ◌^◌, ◌++◌, nat_lt, [], ℕ, List, length, map, Some, true, false};
+ghost use Rattle.std.specs.Prelude.{◌≡◌, ◌<◌, ◌+◌, ◌^◌, ◌++◌, nat_lt, [], List, length, map, Some, true, false};
 ghost use Rattle.std.specs.Prelude.{OnOk, IfOk};
 ghost use Rattle.std.specs.Prelude.{slice_get, option_and_then};
 ghost use Rattle.x_item.specs.Spell.{spell_other_enumerators};
