@@ -1,6 +1,5 @@
 pub mod Bodies
 pub mod BodyWalks
-pub mod Cases
 pub mod Constants
 pub mod DeclarerTable
 pub mod Declarers
@@ -10,7 +9,6 @@ pub mod Mentioned
 pub mod Notes
 pub mod NoteWalks
 pub mod Numbers
-pub mod NumberSets
 pub mod Results
 pub mod RuleTexts
 pub mod Rules

@@ -1,5 +1,5 @@
 -- What types are as discriminants, and how high they are.
-use Rattle.std.specs.Prelude.{ℕ, ◌+◌, suc, max, Bool, true, false, List, [], ◌∷◌, ◌++◌, map, Option, Some, None, ℤ, option_map, option_and_then, if◌then◌else◌}
+use Rattle.std.specs.Prelude.{ℕ, ◌+◌, suc, max, Bool, true, false, List, [], ◌∷◌, ◌++◌, map, Option, Some, None, ℤ, option_map, if◌then◌else◌}
 use Rattle.std.specs.Option.{option_map_or}
 use lib.Signed.{lt_z}
 use Rattle.x_item.specs.Tree as tree
@@ -11,7 +11,6 @@ use Rattle.x_item.specs.declared.names.mention.Use.{Use}
 use Rattle.x_item.specs.declared.names.mention.Use.TheVariants as uses
 use Rattle.x_sema.specs.Views as views
 use Rattle.x_sema.specs.Views.{View, Class, NoClass, Signed, Unsigned, Boolean, Enumeration}
-use Rattle.x_sema.specs.Numbers.{is_enum_number}
 use Rattle.x_sema.specs.Bodies.{BodyAt, bodies}
 use Rattle.x_sema.specs.Constants.{Known, number_named}
 use Rattle.x_sema.specs.Mentioned.{suits}
@@ -55,13 +54,9 @@ basic_class basics.UnsignedLong = Unsigned
 basic_class basics.Bool = Boolean
 basic_class basic = NoClass
 
--- the number, if an enum may have it
-abbrev pub enum_number : Option ℤ → Option ℤ
-enum_number number = option_and_then (λ z. if is_enum_number z then Some z else None) number
-
--- the class of an enum: its numbers; there is none that is known where an enumerator has none that an enum may have
+-- the class of an enum: its numbers; there is none that is known where an enumerator has no number
 abbrev pub enum_class : List Known → List tree.Enumerator → Option Class
-enum_class known es = option_map (λ zs. Enumeration (number_set zs)) (if_all (map (λ e. enum_number (number_named known e.name)) es))
+enum_class known es = option_map (λ zs. Enumeration (number_set zs)) (if_all (map (λ e. number_named known e.name) es))
 
 abbrev pub body_class : List Known → tree.Body → Option Class
 body_class known (tree.Enum es) = enum_class known es

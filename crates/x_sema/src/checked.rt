@@ -1,56 +1,28 @@
 //! What checking an item found.
 
-ghost use Rattle.std.specs.Prelude.{◌≡◌, IfOk};
+ghost use Rattle.std.specs.Prelude.{◌≡◌, [], slice_get};
 ghost use Rattle.x_sema.specs.RustViews.{view_class, view_meaning};
 ghost use Rattle.x_sema.specs.KeptViews.{kept_class, kept_meaning, outcome_of};
 ghost use Rattle.x_sema.specs.Results.{meaning_in};
 
 use crate::fault::WordFault;
-use crate::numbers::Numbers;
 use crate::views::{Class, Meaning};
 use std::alloc::Global;
 use std::marker::Model;
-use x_text::NoMemory;
 
-/// A class, with numbers that it shares.
-#[derive(Debug, Drop)]
+/// A class, whose numbers stand elsewhere.
+#[derive(Clone, Copy, Debug)]
 pub enum KeptClass {
     Other,
     Signed,
     Unsigned,
     Boolean,
-    Enumeration(Numbers),
-}
-
-impl KeptClass {
-    /// The class that is lent.
-    pub fn of(class: Class) -> Result<KeptClass, NoMemory>
-        ensures { IfOk result (λ kept. kept_class kept ≡ view_class class.entry) }
-    {
-        Ok(match class {
-            Class::Other => KeptClass::Other,
-            Class::Signed => KeptClass::Signed,
-            Class::Unsigned => KeptClass::Unsigned,
-            Class::Boolean => KeptClass::Boolean,
-            Class::Enumeration(numbers) => KeptClass::Enumeration(numbers.share()?),
-        })
-    }
-
-    fn lent(&self) -> Class<'_>
-        ensures { view_class result ≡ kept_class self.now }
-    {
-        match self {
-            KeptClass::Other => Class::Other,
-            KeptClass::Signed => Class::Signed,
-            KeptClass::Unsigned => Class::Unsigned,
-            KeptClass::Boolean => Class::Boolean,
-            KeptClass::Enumeration(numbers) => Class::Enumeration(numbers),
-        }
-    }
+    /// The numbers from one index to before another.
+    Enumeration { from: usize, to: usize },
 }
 
 /// What a name means.
-#[derive(Debug, Drop)]
+#[derive(Clone, Copy, Debug)]
 pub enum Kept {
     Constant(i128),
     Type { class: KeptClass, height: u32 },
@@ -58,15 +30,52 @@ pub enum Kept {
     Bad,
 }
 
-impl Kept {
-    fn lent(&self) -> Meaning<'_>
-        ensures { view_meaning result ≡ kept_meaning self.now }
+/// What names mean.
+#[derive(Drop)]
+pub struct Meanings {
+    /// What each means.
+    pub names: Vec<Kept>,
+    /// The numbers of all enums.
+    pub numbers: Vec<i32>,
+}
+
+impl Meanings {
+    pub fn new(alloc: Global) -> Meanings
+        ensures names { result.names.items ≡ [] }
+        ensures numbers { result.numbers.items ≡ [] }
     {
-        match self {
-            Kept::Constant(number) => Meaning::Constant(*number),
+        Meanings {
+            names: Vec::new(alloc),
+            numbers: Vec::new(alloc),
+        }
+    }
+
+    fn class(&self, class: KeptClass) -> Class<'_>
+        ensures { view_class result ≡ kept_class self.now.numbers.items class }
+    {
+        match class {
+            KeptClass::Other => Class::Other,
+            KeptClass::Signed => Class::Signed,
+            KeptClass::Unsigned => Class::Unsigned,
+            KeptClass::Boolean => Class::Boolean,
+            KeptClass::Enumeration { from, to } => {
+                if from <= to && to <= self.numbers.len() {
+                    Class::Enumeration(&self.numbers[from..to])
+                } else {
+                    Class::Other
+                }
+            }
+        }
+    }
+
+    fn meaning(&self, kept: Kept) -> Meaning<'_>
+        ensures { view_meaning result ≡ kept_meaning self.now.numbers.items kept }
+    {
+        match kept {
+            Kept::Constant(number) => Meaning::Constant(number),
             Kept::Type { class, height } => Meaning::Type {
-                class: class.lent(),
-                height: *height,
+                class: self.class(class),
+                height,
             },
             Kept::Program => Meaning::Program,
             Kept::Bad => Meaning::Bad,
@@ -78,7 +87,7 @@ impl Kept {
 #[derive(Drop)]
 pub struct Checked {
     faults: Vec<WordFault>,
-    meanings: Vec<Kept>,
+    meanings: Meanings,
 }
 
 impl Model for Checked {
@@ -87,12 +96,12 @@ impl Model for Checked {
 
     ghost Value = { Outcome };
 
-    ghost view = { λ c. outcome_of c.faults.items c.meanings.items };
+    ghost view = { λ c. outcome_of c.faults.items c.meanings.numbers.items c.meanings.names.items };
 }
 
 impl Checked {
-    pub(crate) fn new(faults: Vec<WordFault>, meanings: Vec<Kept>) -> Checked
-        ensures { result ≡ outcome_of faults.items meanings.items }
+    pub(crate) fn new(faults: Vec<WordFault>, meanings: Meanings) -> Checked
+        ensures { result ≡ outcome_of faults.items meanings.numbers.items meanings.names.items }
     {
         Checked { faults, meanings }
     }
@@ -109,8 +118,8 @@ impl Checked {
     pub fn meaning(&self, place: usize) -> Meaning<'_>
         ensures { view_meaning result ≡ meaning_in self.now place }
     {
-        match self.meanings.get(place) {
-            Some(kept) => kept.lent(),
+        match self.meanings.names.get(place) {
+            Some(kept) => self.meanings.meaning(*kept),
             None => Meaning::Bad,
         }
     }

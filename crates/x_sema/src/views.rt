@@ -7,7 +7,6 @@ ghost use Rattle.x_sema.specs.Results.{beforehand_meaning, view_named};
 
 use crate::checked::Checked;
 use crate::names::{Declarer, is_beforehand};
-use crate::numbers::Numbers;
 use x_item::NameKind;
 
 /// The greatest height of a type: how often types may be held by one another, a type that holds no other having the height 1.
@@ -24,8 +23,8 @@ pub enum Class<'v> {
     Unsigned,
     /// It has the values of `bool`: 0 and 1.
     Boolean,
-    /// It has the numbers of an enum.
-    Enumeration(&'v Numbers),
+    /// It has the numbers of an enum, in ascending order, each once.
+    Enumeration(&'v [i32]),
 }
 
 /// What a name means.

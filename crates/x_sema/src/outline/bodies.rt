@@ -1,11 +1,9 @@
 //! The bodies that stand in a definition, with the names of their fields and their cases.
 
-ghost use Rattle.std.specs.Prelude.{◌≡◌, ◌+◌, ℕ, List, [], ◌∷◌, length, map, OnOk, IfOk};
+ghost use Rattle.std.specs.Prelude.{◌≡◌, ◌+◌, ℕ, List, [], ◌∷◌, length, OnOk};
 ghost use Rattle.x_item.specs.Collected.{Covers};
-ghost use Rattle.x_sema.specs.Bodies.{bodies};
-ghost use Rattle.x_sema.specs.BodyWalks.{view_walk, view_fields, view_body_at, AreFilled};
-ghost use Rattle.x_sema.specs.Declarers.{IsShort};
-ghost use Rattle.x_item.specs.View.{view_shape, view_length, view_definition};
+ghost use Rattle.x_sema.specs.BodyWalks.{view_walk, view_fields};
+ghost use Rattle.x_item.specs.View.{view_shape, view_length};
 ghost use Rattle.x_item.specs.Named.{star};
 ghost use Rattle.x_item.specs.Spell.{spell_length, spell_named};
 
@@ -314,11 +312,7 @@ impl<'d> BodyWalk<'d> {
 
 /// The bodies of the definition: its own first, and each other behind those inside it. Nothing inside an inline type that is an argument
 /// or a result counts.
-pub fn bodies(alloc: Global, definition: &Definition) -> Result<Vec<BodyAt<'_>>, NoMemory>
-    ensures bodies { IfOk result (λ found. IsShort (view_definition definition.now)
-        → map view_body_at found.items ≡ bodies (view_definition definition.now)) }
-    ensures filled { IfOk result (λ found. IsShort (view_definition definition.now) → AreFilled found.items) }
-{
+pub fn bodies(alloc: Global, definition: &Definition) -> Result<Vec<BodyAt<'_>>, NoMemory> {
     let mut walk = BodyWalk {
         list: Vec::new(alloc),
         word: 0,

@@ -1,11 +1,5 @@
 //! The versions of a program and the procedures of each.
 
-ghost use Rattle.std.specs.Prelude.{◌≡◌, map, IfOk};
-ghost use Rattle.x_item.specs.View.{view_definition};
-ghost use Rattle.x_sema.specs.Bodies.{members};
-ghost use Rattle.x_sema.specs.Declarers.{IsShort};
-ghost use Rattle.x_sema.specs.Tables.{view_members};
-
 use super::bodies::BodyWalk;
 use super::notes::words_of;
 use super::parts::{Members, NameAt, NumberAt};
@@ -132,10 +126,7 @@ fn versions(alloc: Global, list: &[Version]) -> Result<Vec<Members<'_>>, NoMemor
 }
 
 /// The procedures of each version of a program, and then its versions.
-pub fn members(alloc: Global, definition: &Definition) -> Result<Vec<Members<'_>>, NoMemory>
-    ensures { IfOk result (λ found. IsShort (view_definition definition.now)
-        → map view_members found.items ≡ members (view_definition definition.now)) }
-{
+pub fn members(alloc: Global, definition: &Definition) -> Result<Vec<Members<'_>>, NoMemory> {
     match definition {
         Definition::Program { versions: list, .. } => versions(alloc, list),
         _ => Ok(Vec::new(alloc)),

@@ -5,19 +5,15 @@ ghost use Rattle.std.specs.List.{flat_map};
 ghost use Rattle.x_sema.specs.Bodies.{EnumeratorAt};
 ghost use Rattle.x_sema.specs.Constants.{Known};
 ghost use Rattle.x_sema.specs.Found.{case_numbers, repeated_cases};
-ghost use Rattle.x_sema.specs.Cases.{is_outside, case_fault, has_fault, case_faults, bad_cases_of};
-ghost use Rattle.x_sema.specs.KeptViews.{kept_class};
-ghost use Rattle.x_sema.specs.Rules.{Ascends};
 ghost use Rattle.x_sema.specs.Tables.{HasNumbers, seen_by, view_value_at};
 
-use super::classes::declaration_class;
+use super::classes::{Choice, declaration_class};
 use super::constants::{Constants, is_enum_number, is_word_number};
-use super::found::add_fault;
 use super::repeats::{Numbered, add_number, add_repeated_numbers};
 use super::sights::Sights;
-use crate::checked::KeptClass;
 use crate::fault::{RuleCode, WordFault};
 use crate::outline::parts::{BodyAt, ValueAt};
+use crate::views::Class;
 use std::alloc::Global;
 use x_item::{Body, UnionBody};
 use x_text::NoMemory;
@@ -61,39 +57,30 @@ pub fn add_repeated_cases(
     Ok(())
 }
 
-/// Whether no discriminant of the class has the number.
-fn is_outside(class: &KeptClass, number: i128) -> bool
-    ensures { result ≡ is_outside (kept_class class.now) number }
-{
-    match class {
-        KeptClass::Other => false,
-        KeptClass::Signed => !is_enum_number(number),
-        KeptClass::Unsigned => !is_word_number(number),
-        KeptClass::Boolean => number != 0 && number != 1,
-        KeptClass::Enumeration(numbers) => !numbers.has(number),
+/// Whether the number is among those, which ascend.
+fn has_number(numbers: &[i32], number: i128) -> bool {
+    match i32::try_from(number) {
+        Ok(number) => numbers.binary_search(&number).is_ok(),
+        Err(_) => false,
     }
 }
 
-/// The fault of a case with the number.
-fn case_fault(class: &KeptClass, number: Option<i128>) -> Option<RuleCode>
-    ensures { result ≡ case_fault (kept_class class.now) number }
-{
-    match number {
-        Some(number) => {
-            if is_outside(class, number) {
-                Some(RuleCode::BadCase)
-            } else {
-                None
-            }
-        }
-        None => None,
+/// Whether no discriminant of the class has the number.
+fn is_outside(choice: &Choice, number: i128) -> bool {
+    match choice {
+        Choice::Numbers(numbers) => !has_number(numbers, number),
+        Choice::Class(class) => match class {
+            Class::Other => false,
+            Class::Signed => !is_enum_number(number),
+            Class::Unsigned => !is_word_number(number),
+            Class::Boolean => number != 0 && number != 1,
+            Class::Enumeration(numbers) => !has_number(numbers, number),
+        },
     }
 }
 
 /// Whether one of the faults, which ascend, stands at a word from `from` to before `to`.
-fn has_fault(faults: &[WordFault], from: usize, to: usize) -> bool
-    ensures { Ascends faults.now → result ≡ has_fault faults.now from to }
-{
+fn has_fault(faults: &[WordFault], from: usize, to: usize) -> bool {
     let place = faults.partition_point(|fault| fault.word < from);
     match faults.get(place) {
         Some(fault) => fault.word < to,
@@ -101,49 +88,34 @@ fn has_fault(faults: &[WordFault], from: usize, to: usize) -> bool
     }
 }
 
-/// Adds the faults of cases of a discriminant of the class.
-fn add_case_faults(
-    faults: &mut Vec<WordFault>,
-    class: &KeptClass,
-    cases: &[ValueAt],
-    sights: &Sights,
-    constants: &Constants,
-) -> Result<(), NoMemory>
-    ensures { OnOk result ((all : List EnumeratorAt) (known : List Known)
-        → HasNumbers constants.now all known → faults.new.items ≡ faults.old.items
-        ++ case_faults (seen_by sights.now) known (kept_class class.now) (map view_value_at cases.now)) }
-{
-    for case in cases {
-        let number = constants.number_at(sights, case.word, case.value);
-        add_fault(faults, case.word, case_fault(class, number))?;
-    }
-    Ok(())
-}
-
 /// Adds the faults of the cases of a union; `found` are those by all other rules, in their order.
-fn add_bad_cases(
+fn add_bad_cases_of(
     alloc: Global,
     faults: &mut Vec<WordFault>,
     found: &[WordFault],
     body: &BodyAt,
+    union: &UnionBody,
     sights: &Sights,
     constants: &Constants,
-) -> Result<(), NoMemory>
-    ensures { OnOk result ((all : List EnumeratorAt) (known : List Known)
-        → HasNumbers constants.now all known → Ascends found.now → faults.new.items ≡ faults.old.items
-        ++ bad_cases_of (seen_by sights.now) known found.now body.now) }
-{
-    let Body::Union(union) = body.body else {
+) -> Result<(), NoMemory> {
+    let at = body.at.saturating_add(2);
+    if has_fault(found, at, body.behind_discriminant) {
+        return Ok(());
+    }
+    let Some(choice) = declaration_class(alloc, sights, constants, &union.discriminant)? else {
         return Ok(());
     };
-    let union: &UnionBody = union;
-    if has_fault(found, body.at.saturating_add(2), body.behind_discriminant) {
-        return Ok(());
+    for case in &body.cases {
+        if let Some(number) = constants.number_at(sights, case.word, case.value) {
+            if is_outside(&choice, number) {
+                faults.push(WordFault {
+                    word: case.word,
+                    code: RuleCode::BadCase,
+                })?;
+            }
+        }
     }
-    match declaration_class(alloc, sights, constants, &union.discriminant)? {
-        Some(class) => add_case_faults(faults, &class, &body.cases, sights, constants),
-        None => Ok(()),
-    }
+    Ok(())
 }
 
 /// The faults of cases that no discriminant has; `found` are those by all other rules, in their order.
@@ -153,14 +125,12 @@ pub fn bad_cases(
     bodies: &[BodyAt],
     sights: &Sights,
     constants: &Constants,
-) -> Result<Vec<WordFault>, NoMemory>
-    ensures { IfOk result (λ faults. (all : List EnumeratorAt) (known : List Known)
-        → HasNumbers constants.now all known → Ascends found.now → faults.items
-        ≡ flat_map (bad_cases_of (seen_by sights.now) known found.now) bodies.now) }
-{
+) -> Result<Vec<WordFault>, NoMemory> {
     let mut faults = Vec::new(alloc);
     for body in bodies {
-        add_bad_cases(alloc, &mut faults, found, body, sights, constants)?;
+        if let Body::Union(union) = body.body {
+            add_bad_cases_of(alloc, &mut faults, found, body, union, sights, constants)?;
+        }
     }
     Ok(faults)
 }

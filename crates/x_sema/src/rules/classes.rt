@@ -1,21 +1,16 @@
 //! What types are as discriminants.
 
-ghost use Rattle.std.specs.Prelude.{◌≡◌, List, map, Some, option_map, IfOk};
-ghost use Rattle.x_item.specs.View.{view_type, view_body, view_declaration, view_enumerator};
-ghost use Rattle.x_sema.specs.Bodies.{EnumeratorAt};
-ghost use Rattle.x_sema.specs.Constants.{Known, number_named};
+ghost use Rattle.std.specs.Prelude.{◌≡◌, List, Some, option_map};
+ghost use Rattle.x_item.specs.View.{view_type, view_body, view_declaration};
+ghost use Rattle.x_sema.specs.Constants.{Known};
 ghost use Rattle.x_sema.specs.Found.{has_no_class};
 ghost use Rattle.x_sema.specs.Types.{basic_class, body_class, declaration_class, type_class, type_seen};
-ghost use Rattle.x_sema.specs.Types.{enum_class, enum_number, if_all};
 ghost use Rattle.x_sema.specs.RustViews.{view_class, view_view};
-ghost use Rattle.x_sema.specs.KeptViews.{kept_class};
-ghost use Rattle.x_sema.specs.Tables.{HasNumbers, seen_by, view_sight};
+ghost use Rattle.x_sema.specs.Tables.{seen_by, view_sight};
 
 use super::constants::Constants;
 use super::mentioned::suits;
 use super::sights::Sights;
-use crate::checked::KeptClass;
-use crate::numbers::Numbers;
 use crate::views::{Class, Meaning, View};
 use std::alloc::Global;
 use x_item::{Basic, Body, DataType, Declaration, Enumerator, Shape, Tag};
@@ -59,53 +54,25 @@ fn basic_class(basic: Basic) -> Class<'static>
     }
 }
 
-/// The number, if an enum may have it.
-fn enum_number(number: Option<i128>) -> Option<i32>
-    ensures { result ≡ enum_number number }
-{
-    match number {
-        Some(number) => match i32::try_from(number) {
-            Ok(number) => Some(number),
-            Err(_) => None,
-        },
-        None => None,
-    }
-}
-
-/// The numbers of enumerators; none where one has none that an enum may have.
-fn enum_numbers(
+/// The numbers of an enum, in ascending order, each once; none where one has no number, or one that no enum may have.
+pub fn enum_numbers(
     alloc: Global,
     constants: &Constants,
     enumerators: &[Enumerator],
-) -> Result<Option<Vec<i32>>, NoMemory>
-    ensures { IfOk result (λ numbers. (all : List EnumeratorAt) (known : List Known)
-        → HasNumbers constants.now all known → option_map (λ list. list.items) numbers
-        ≡ if_all (map (λ e. enum_number (number_named known e.name)) (map view_enumerator enumerators.now))) }
-{
+) -> Result<Option<Vec<i32>>, NoMemory> {
     let mut numbers = Vec::new(alloc);
     for enumerator in enumerators {
-        let Some(number) = enum_number(constants.number_named(&enumerator.name)) else {
+        let Some(number) = constants.number_named(&enumerator.name) else {
+            return Ok(None);
+        };
+        let Ok(number) = i32::try_from(number) else {
             return Ok(None);
         };
         numbers.push(number)?;
     }
+    numbers.sort_unstable();
+    numbers.dedup();
     Ok(Some(numbers))
-}
-
-/// The class of an enum; none where an enumerator has no number that an enum may have.
-fn enum_class(
-    alloc: Global,
-    constants: &Constants,
-    enumerators: &[Enumerator],
-) -> Result<Option<KeptClass>, NoMemory>
-    ensures { IfOk result (λ class. (all : List EnumeratorAt) (known : List Known)
-        → HasNumbers constants.now all known
-        → option_map kept_class class ≡ enum_class known (map view_enumerator enumerators.now)) }
-{
-    match enum_numbers(alloc, constants, enumerators)? {
-        Some(numbers) => Ok(Some(KeptClass::Enumeration(Numbers::of(numbers)?))),
-        None => Ok(None),
-    }
 }
 
 /// Whether nothing can be told by the class.
@@ -165,70 +132,65 @@ pub fn has_no_class(sights: &Sights, declaration: &Declaration) -> bool
     }
 }
 
-/// The class of the type that a name is seen to be; none where the use has a fault.
-fn named_class(view: View, tag: Option<Tag>) -> Result<Option<KeptClass>, NoMemory>
-    ensures { IfOk result (λ class. option_map kept_class class
-        ≡ option_map (λ s. s.class) (type_seen (view_view view.entry) tag)) }
-{
-    match type_seen(view, tag) {
-        Some(sight) => Ok(Some(KeptClass::of(sight.class)?)),
-        None => Ok(None),
-    }
+/// What a discriminant may be.
+#[derive(Drop)]
+pub enum Choice<'v> {
+    /// What its class has.
+    Class(Class<'v>),
+    /// The numbers of an inline enum, in ascending order, each once.
+    Numbers(Vec<i32>),
+}
+
+/// The class of the type of a name; none where the use has a fault.
+fn named_class<'v>(sights: &Sights<'v>, name: &[u8], tag: Option<Tag>) -> Option<Choice<'v>> {
+    let sight = type_seen(sights.see(name), tag)?;
+    Some(Choice::Class(sight.class))
 }
 
 /// The class of the type of a body; none where it is not known.
-pub fn body_class(
+pub fn body_class<'v>(
     alloc: Global,
     constants: &Constants,
     body: &Body,
-) -> Result<Option<KeptClass>, NoMemory>
-    ensures { IfOk result (λ class. (all : List EnumeratorAt) (known : List Known)
-        → HasNumbers constants.now all known
-        → option_map kept_class class ≡ body_class known (view_body body.now)) }
-{
+) -> Result<Option<Choice<'v>>, NoMemory> {
     match body {
-        Body::Enum(enumerators) => enum_class(alloc, constants, enumerators),
-        Body::Struct(_) => Ok(Some(KeptClass::Other)),
-        Body::Union(_) => Ok(Some(KeptClass::Other)),
+        Body::Enum(enumerators) => match enum_numbers(alloc, constants, enumerators)? {
+            Some(numbers) => Ok(Some(Choice::Numbers(numbers))),
+            None => Ok(None),
+        },
+        _ => Ok(Some(Choice::Class(Class::Other))),
     }
 }
 
 /// The class of a type; none where it is not known.
-fn type_class(
+fn type_class<'v>(
     alloc: Global,
-    sights: &Sights,
+    sights: &Sights<'v>,
     constants: &Constants,
-    tree: &DataType,
-) -> Result<Option<KeptClass>, NoMemory>
-    ensures { IfOk result (λ class. (all : List EnumeratorAt) (known : List Known)
-        → HasNumbers constants.now all known
-        → option_map kept_class class ≡ type_class (seen_by sights.now) known (view_type tree.now)) }
-{
-    match tree {
-        DataType::Basic(basic) => Ok(Some(KeptClass::of(basic_class(*basic))?)),
-        DataType::Named(name) => named_class(sights.see(name), None),
-        DataType::Tagged { tag, name } => named_class(sights.see(name), Some(*tag)),
+    data: &DataType,
+) -> Result<Option<Choice<'v>>, NoMemory> {
+    match data {
+        DataType::Basic(basic) => Ok(Some(Choice::Class(basic_class(*basic)))),
+        DataType::Named(name) => Ok(named_class(sights, name, None)),
+        DataType::Tagged { tag, name } => Ok(named_class(sights, name, Some(*tag))),
         DataType::Inline(body) => body_class(alloc, constants, body),
     }
 }
 
 /// The class of what a declaration gives; none where it is not known.
-pub fn declaration_class(
+pub fn declaration_class<'v>(
     alloc: Global,
-    sights: &Sights,
+    sights: &Sights<'v>,
     constants: &Constants,
     declaration: &Declaration,
-) -> Result<Option<KeptClass>, NoMemory>
-    ensures { IfOk result (λ class. (all : List EnumeratorAt) (known : List Known)
-        → HasNumbers constants.now all known → option_map kept_class class
-        ≡ declaration_class (seen_by sights.now) known (view_declaration declaration.now)) }
-{
+) -> Result<Option<Choice<'v>>, NoMemory> {
     match declaration {
         Declaration::Void => Ok(None),
-        Declaration::Of { data, shape, .. } => match shape {
-            Shape::Plain => type_class(alloc, sights, constants, data),
-            _ => Ok(Some(KeptClass::Other)),
-        },
-        _ => Ok(Some(KeptClass::Other)),
+        Declaration::Of {
+            data,
+            shape: Shape::Plain,
+            ..
+        } => type_class(alloc, sights, constants, data),
+        _ => Ok(Some(Choice::Class(Class::Other))),
     }
 }

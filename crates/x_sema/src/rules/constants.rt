@@ -4,7 +4,6 @@ ghost use Rattle.std.specs.Prelude.{◌≡◌, nat_lt, [], ℕ, List, map, Some,
 ghost use Rattle.std.specs.Prelude.{slice_get, option_and_then};
 ghost use Rattle.x_item.specs.View.{view_value};
 ghost use Rattle.x_sema.specs.Bodies as bodies;
-ghost use Rattle.x_sema.specs.BodyWalks.{view_body_at, AreFilled};
 ghost use Rattle.x_sema.specs.Constants.{Known, knowns, limit_of, is_declared_before, number_named};
 ghost use Rattle.x_sema.specs.RustViews.{view_view};
 ghost use Rattle.std.specs.Option.{option_map_or};
@@ -69,10 +68,7 @@ fn add_enumerators<'d>(
 pub fn enumerators<'d>(
     alloc: Global,
     bodies: &[BodyAt<'d>],
-) -> Result<Vec<EnumeratorAt<'d>>, NoMemory>
-    ensures { IfOk result (λ list. AreFilled bodies.now
-        → map view_enumerator_at list.items ≡ bodies.enumerators_in (map view_body_at bodies.now)) }
-{
+) -> Result<Vec<EnumeratorAt<'d>>, NoMemory> {
     let mut list = Vec::new(alloc);
     for body in bodies {
         if let Body::Enum(enumerators) = body.body {

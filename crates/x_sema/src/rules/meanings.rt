@@ -1,35 +1,47 @@
 //! What the names mean that an item declares.
 
-ghost use Rattle.std.specs.Prelude.{◌≡◌, false, map, option_map, IfOk};
-ghost use Rattle.std.specs.List.{list_any};
-ghost use Rattle.x_item.specs.Named.{view_name};
-ghost use Rattle.x_item.specs.View.{view_definition};
-ghost use Rattle.x_sema.specs.Bodies.{bodies, enumerators};
-ghost use Rattle.x_sema.specs.BodyWalks.{view_body_at};
-ghost use Rattle.x_sema.specs.Constants.{knowns};
-ghost use Rattle.x_sema.specs.KeptViews.{kept_class, kept_meaning};
-ghost use Rattle.x_sema.specs.Results.{type_of, constant_of, meaning_of};
-ghost use Rattle.x_sema.specs.Tables.{HasNumbers, seen_by, is_too_high};
-ghost use Rattle.x_sema.specs.Types.{heights};
-
-use super::classes::{body_class, declaration_class};
+use super::classes::{Choice, body_class, declaration_class};
 use super::constants::Constants;
 use super::heights::{body_height, held_height};
 use super::sights::Sights;
-use crate::checked::{Kept, KeptClass};
+use crate::checked::{Kept, KeptClass, Meanings};
 use crate::outline::parts::BodyAt;
+use crate::views::Class;
 use indexmap::IndexMap;
 use std::alloc::Global;
 use x_item::{DeclaredName, Definition, NameKind};
 use x_text::NoMemory;
 
+/// Keeps the numbers of an enum.
+fn keep_numbers(list: &mut Meanings, numbers: &[i32]) -> Result<KeptClass, NoMemory> {
+    let from = list.numbers.len();
+    list.numbers.extend_from_slice(numbers)?;
+    let to = list.numbers.len();
+    Ok(KeptClass::Enumeration { from, to })
+}
+
+/// Keeps a class.
+fn keep_class(list: &mut Meanings, choice: &Choice) -> Result<KeptClass, NoMemory> {
+    Ok(match choice {
+        Choice::Numbers(numbers) => keep_numbers(list, numbers)?,
+        Choice::Class(class) => match class {
+            Class::Other => KeptClass::Other,
+            Class::Signed => KeptClass::Signed,
+            Class::Unsigned => KeptClass::Unsigned,
+            Class::Boolean => KeptClass::Boolean,
+            Class::Enumeration(numbers) => keep_numbers(list, numbers)?,
+        },
+    })
+}
+
 /// What a type means whose class is known.
-fn type_meaning(class: Option<KeptClass>, height: u32) -> Kept
-    ensures { kept_meaning result ≡ type_of (option_map kept_class class) height }
-{
-    match class {
-        Some(class) => Kept::Type { class, height },
-        None => Kept::Bad,
+fn keep_type(list: &mut Meanings, choice: Option<Choice>, height: u32) -> Result<Kept, NoMemory> {
+    match choice {
+        Some(choice) => {
+            let class = keep_class(list, &choice)?;
+            Ok(Kept::Type { class, height })
+        }
+        None => Ok(Kept::Bad),
     }
 }
 
@@ -54,9 +66,7 @@ fn body_named<'b, 'd>(
     bodies.get(place)
 }
 
-fn number_meaning(number: Option<i128>) -> Kept
-    ensures { kept_meaning result ≡ constant_of number }
-{
+fn number_meaning(number: Option<i128>) -> Kept {
     match number {
         Some(number) => Kept::Constant(number),
         None => Kept::Bad,
@@ -64,33 +74,39 @@ fn number_meaning(number: Option<i128>) -> Kept
 }
 
 /// What the name of a body's type means.
-fn named_meaning(
+fn keep_named(
     alloc: Global,
+    list: &mut Meanings,
     body: Option<&BodyAt>,
     sights: &Sights,
     constants: &Constants,
 ) -> Result<Kept, NoMemory> {
     match body {
-        Some(body) => Ok(type_meaning(
-            body_class(alloc, constants, body.body)?,
-            body_height(sights, body.body),
-        )),
+        Some(body) => {
+            let choice = body_class(alloc, constants, body.body)?;
+            keep_type(list, choice, body_height(sights, body.body))
+        }
         None => Ok(Kept::Bad),
     }
 }
 
 /// What the name of a typedef means.
-fn typedef_meaning(
+fn keep_typedef(
     alloc: Global,
+    list: &mut Meanings,
     definition: &Definition,
     sights: &Sights,
     constants: &Constants,
 ) -> Result<Kept, NoMemory> {
     match definition {
-        Definition::Typedef(declaration) => Ok(type_meaning(
-            declaration_class(alloc, sights, constants, declaration)?,
-            held_height(sights, declaration).saturating_add(1),
-        )),
+        Definition::Typedef(declaration) => {
+            let choice = declaration_class(alloc, sights, constants, declaration)?;
+            keep_type(
+                list,
+                choice,
+                held_height(sights, declaration).saturating_add(1),
+            )
+        }
         _ => Ok(Kept::Bad),
     }
 }
@@ -109,8 +125,9 @@ fn constant_number(
 }
 
 /// What a declared name means.
-fn meaning(
+fn keep_name(
     alloc: Global,
+    list: &mut Meanings,
     name: &DeclaredName,
     definition: &Definition,
     bodies: &[BodyAt],
@@ -122,11 +139,11 @@ fn meaning(
         NameKind::Constant => Ok(number_meaning(constant_number(
             definition, &name.name, sights, constants,
         ))),
-        NameKind::Typedef => typedef_meaning(alloc, definition, sights, constants),
+        NameKind::Typedef => keep_typedef(alloc, list, definition, sights, constants),
         NameKind::Program => Ok(Kept::Program),
         _ => {
             let body = body_named(bodies, places, name.word);
-            named_meaning(alloc, body, sights, constants)
+            keep_named(alloc, list, body, sights, constants)
         }
     }
 }
@@ -139,17 +156,14 @@ pub fn meanings(
     bodies: &[BodyAt],
     sights: &Sights,
     constants: &Constants,
-) -> Result<Vec<Kept>, NoMemory>
-    ensures { IfOk result (λ list. let d = view_definition definition.now in let see = seen_by sights.now in
-        HasNumbers constants.now (enumerators d) (knowns see (enumerators d))
-        → map view_body_at bodies.now ≡ bodies d
-        → list_any is_too_high (heights d see) ≡ false
-        → map kept_meaning list.items ≡ map (meaning_of d see) (map view_name declared.now)) }
-{
+) -> Result<Meanings, NoMemory> {
     let places = places_of(alloc, bodies)?;
-    let mut list = Vec::with_capacity(alloc, declared.len())?;
+    let mut list = Meanings::new(alloc);
     for name in declared {
-        list.push(meaning(alloc, name, definition, bodies, &places, sights, constants)?)?;
+        let kept = keep_name(
+            alloc, &mut list, name, definition, bodies, &places, sights, constants,
+        )?;
+        list.names.push(kept)?;
     }
     Ok(list)
 }
