@@ -1,4 +1,4 @@
-use rpcx::{EngineFault, FaultCode, LineFault, RuleCode, one_compilation, one_first_declarer};
+use rpcx::{EngineFault, FaultCode, LineFault, RuleCode, one_compilation};
 use std::test::Fail;
 
 #[test]
@@ -57,7 +57,6 @@ fn faults_of_a_run_have_their_texts(rt: HostRuntime) -> Result<(), Fail> {
 }
 
 #[test]
-fn the_laws_do_nothing(_rt: HostRuntime) {
+fn the_law_does_nothing(_rt: HostRuntime) {
     one_compilation();
-    one_first_declarer();
 }

@@ -9,10 +9,10 @@ ghost use Rattle.rpcx.specs.ItemView.{IsItem, has_lines, view_parse, kept_defini
 ghost use Rattle.rpcx.specs.Compile.{spells_none};
 ghost use Rattle.rpcx.specs.Definitions.{is_constant};
 
-use crate::compile::fault::WordFault;
 use std::alloc::Global;
 use x_item::{Definition, FaultCode, Parsed, parse_item};
 use x_lex::{Kind, Token};
+use x_sema::WordFault;
 use x_text::{Meter, NoMemory};
 
 /// What an item parses to, in few bytes.
