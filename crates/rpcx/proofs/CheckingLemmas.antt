@@ -5,6 +5,7 @@ use Rattle.std.specs.Option.{unwrap_or}
 use Rattle.std.proofs.lemmas.Bool.Decides.{nat_tests}
 use Rattle.std.specs.Global.{Global}
 use Rattle.std.proofs.lemmas.List.{take_all, map-append, length_push}
+use Rattle.x_text.specs.Counts.{Counts}
 use Rattle.x_item.specs.Tree.{Definition}
 use Rattle.x_item.specs.Names.{Declared}
 use Rattle.x_item.specs.Named.{view_name}
@@ -21,8 +22,8 @@ use Rattle.x_sema.proofs.DeclarerLaws.{as_found}
 use Rattle.x_sema.proofs.ListLemmas.{get_at, take_next}
 use Rattle.rpcx.specs.ItemView.{kept_definition}
 use Rattle.rpcx.specs.declared.compile.item.Item.{Item}
-use Rattle.rpcx.proofs.Listing.{mapped_one}
-use Rattle.rpcx.specs.Checking.{found, all_found, IsShortAt, view_by_first}
+use Rattle.rpcx.proofs.Listing.{drop_one, mapped_one}
+use Rattle.rpcx.specs.Checking.{found, all_found, IsShortAt, counted, view_by_first}
 
 -- what a list has in a place stays where one is added
 stays : (rs : List (Option Outcome)) (o : Option Outcome) (k : ℕ) → k < length rs → result_at rs k ≡ result_at (rs ++ o ∷ []) k
@@ -151,3 +152,15 @@ results_next items index item rs new r lt at pushed many are is =
     subst (λ os. AreResultsFrom ds (result_at os) 0 (take (index + 1) ds) os) (sym all)
     (subst (λ l. AreResultsFrom ds (result_at (all_found rs ++ found r ∷ [])) 0 l (all_found rs ++ found r ∷ [])) (sym front)
     (results_more ds (take index ds) (all_found rs) index (kept_definition item) (found r) many are is))
+
+counted_on : (counts : Counts) (d : Option Definition) (ds : List (Option Definition)) → counted counts (d ∷ ds) ≡ counted (counted counts (d ∷ [])) ds
+counted_on counts None ds = refl
+counted_on counts (Some d) ds = refl
+
+-- one item more is counted
+pub counted_more : (before after all : Counts) (items : List Item) (index : ℕ) (item : Item) → index < length items → item ≡ get_or items index item → after ≡ counted before (kept_definition item ∷ [])
+    → counted before (map kept_definition (drop index items)) ≡ all → counted after (map kept_definition (drop (index + 1) items)) ≡ all
+counted_more before after all items index item lt at step so =
+    let here = drop_one items index item lt ∙ ap (λ i. i ∷ drop (index + 1) items) (sym at) in
+    ap (λ c. counted c (map kept_definition (drop (index + 1) items))) step ∙ sym (counted_on before (kept_definition item) (map kept_definition (drop (index + 1) items)))
+    ∙ sym (ap (λ is. counted before (map kept_definition is)) here) ∙ so

@@ -1,6 +1,6 @@
 //! The checks of the items of a text.
 
-ghost use Rattle.std.specs.Prelude.{◌≡◌, ℕ, List, Option, map, IfOk};
+ghost use Rattle.std.specs.Prelude.{◌≡◌, ℕ, List, [], ◌∷◌, Option, map, IfOk};
 ghost use Rattle.x_item.specs.Tree as tree;
 ghost use Rattle.x_item.specs.View.{view_definition};
 ghost use Rattle.x_sema.specs.Declarers.{AreShort, IsShort, FirstIs};
@@ -9,7 +9,7 @@ ghost use Rattle.x_sema.specs.KeptViews.{lent_outcome};
 ghost use Rattle.x_sema.specs.Results.{AreResults, IsResult, result_at};
 ghost use Rattle.x_sema.specs.RustViews.{view_view};
 ghost use Rattle.x_sema.specs.Views.{names_of};
-ghost use Rattle.rpcx.specs.Checking.{found, all_found, IsShortAt, view_by_first};
+ghost use Rattle.rpcx.specs.Checking.{found, all_found, IsShortAt, counted, view_by_first};
 ghost use Rattle.rpcx.specs.Compile.{rule_faults};
 ghost use Rattle.rpcx.specs.ItemView.{kept_definition, tree_at};
 
@@ -34,7 +34,8 @@ pub fn names_of(alloc: Global, items: &[Item]) -> Result<Names, NoMemory>
     Names::of(alloc, &definitions)
 }
 
-/// What checking the items finds, in their order. Each is checked by what was found of the items before it.
+/// What checking the items finds, in their order. Each is checked by what was found of the items before it, and counted as checked
+/// where it has a definition.
 pub fn check_items(
     alloc: Global,
     items: &[Item],
@@ -43,7 +44,8 @@ pub fn check_items(
 ) -> Result<Vec<ItemResult>, NoMemory>
     requires short { AreShort (map kept_definition items.now) }
     requires first { (name : List ℕ) → FirstIs (map kept_definition items.now) name (first_in names.now name) }
-    ensures { IfOk result (λ results. AreResults (map kept_definition items.now) (all_found results.items)) }
+    ensures results { IfOk result (λ results. AreResults (map kept_definition items.now) (all_found results.items)) }
+    ensures counted { IfOk result (λ results. meter.new ≡ counted meter.old (map kept_definition items.now)) }
 {
     let mut results = Vec::with_capacity(alloc, items.len())?;
     for (index, item) in items.iter().enumerate() {
@@ -62,9 +64,10 @@ fn check(
     results: &[ItemResult],
     meter: &mut Meter,
 ) -> Result<ItemResult, NoMemory>
-    ensures { IfOk result (λ checked. (definitions : List (Option tree.Definition)) → IsShortAt (kept_definition item.now)
+    ensures result { IfOk result (λ checked. (definitions : List (Option tree.Definition)) → IsShortAt (kept_definition item.now)
         → ((name : List ℕ) → FirstIs definitions name (first_in names.now name))
         → IsResult definitions (result_at (all_found results.now)) index (kept_definition item.now) (found checked)) }
+    ensures counted { IfOk result (λ checked. meter.new ≡ counted meter.old (kept_definition item.now ∷ [])) }
 {
     let Some(definition) = item.definition() else {
         return Ok(None);

@@ -14,7 +14,7 @@ returns c =
     let tokens = c.in_ok-tokens.tokens.list in
     let items = c.in_ok-items.items.items in
     let results = all_found c.in_ok-results.results.items in
-    let checked = subst (λ is. AreResults (map kept_definition is) results) c.deref-2.ensures.value c.in_ok-results.ensures in
+    let checked = subst (λ is. AreResults (map kept_definition is) results) c.deref-2.ensures.value c.in_ok-results.ensures.results in
     record {
       results = results;
       compiles = compiles text tokens items results c.in_ok-tokens.ensures.tokens c.in_ok-items.ensures.parsed checked;

@@ -9,8 +9,8 @@ use Rattle.rpcx.specs.ItemView.{kept_definition}
 use Rattle.rpcx.proofs.CheckingLemmas.{some_result}
 use Rattle.rpcx.proofs.compile.checking.check.Goals as goal
 
-pub returns : goal.returns
-returns c definitions short first =
+pub returns-clause-result : goal.returns-clause-result
+returns-clause-result c definitions short first =
     let d = view_definition c.in-Some.definition.now in
     let results = result_at (all_found c.args.results.now) in
     let views = map view_view c.in_ok-views.views.items in
