@@ -19,10 +19,10 @@ use Rattle.x_sema.specs.Declarers.{IsShort, AreShort, is_beforehand, first_decla
 use Rattle.x_sema.specs.declared.names.Declarer.{Declarer}
 use Rattle.x_sema.specs.Results.{Outcome, IsOutcome, IsResult, AreResultsFrom, result_at, view_of, view_by, meaning_in, meaning_at, beforehand_meaning}
 use Rattle.x_sema.proofs.DeclarerLaws.{as_found}
-use Rattle.x_sema.proofs.ListLemmas.{get_at, take_next}
+use Rattle.x_sema.proofs.ListLemmas.{drop_one, get_at, take_next}
 use Rattle.rpcx.specs.ItemView.{kept_definition}
 use Rattle.rpcx.specs.declared.compile.item.Item.{Item}
-use Rattle.rpcx.proofs.Listing.{drop_one, mapped_one}
+use Rattle.rpcx.proofs.Listing.{mapped_one}
 use Rattle.rpcx.specs.Checking.{found, all_found, IsShortAt, counted, view_by_first}
 
 -- what a list has in a place stays where one is added

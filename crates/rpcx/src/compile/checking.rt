@@ -4,14 +4,14 @@ ghost use Rattle.std.specs.Prelude.{◌≡◌, ℕ, List, [], ◌∷◌, Option,
 ghost use Rattle.x_item.specs.Tree as tree;
 ghost use Rattle.x_item.specs.View.{view_definition};
 ghost use Rattle.x_sema.specs.Declarers.{AreShort, IsShort, FirstIs};
-ghost use Rattle.x_sema.specs.DeclarerTable.{first_in};
+ghost use Rattle.x_sema.specs.DeclarerTable.{first_in, tree_at};
 ghost use Rattle.x_sema.specs.KeptViews.{lent_outcome};
 ghost use Rattle.x_sema.specs.Results.{AreResults, IsResult, result_at};
 ghost use Rattle.x_sema.specs.RustViews.{view_view};
 ghost use Rattle.x_sema.specs.Views.{names_of};
 ghost use Rattle.rpcx.specs.Checking.{found, all_found, IsShortAt, counted, view_by_first};
 ghost use Rattle.rpcx.specs.Compile.{rule_faults};
-ghost use Rattle.rpcx.specs.ItemView.{kept_definition, tree_at};
+ghost use Rattle.rpcx.specs.ItemView.{kept_definition};
 
 use crate::compile::item::Item;
 use std::alloc::Global;

@@ -5,7 +5,8 @@ ghost use Rattle.x_text.specs.Counts.{raised};
 ghost use Rattle.x_text.specs.declared.source.TheConstants.{MAX_TEXT};
 ghost use Rattle.x_lex.specs.Places.{lexeme};
 ghost use Rattle.x_item.specs.View.{view_definition};
-ghost use Rattle.rpcx.specs.ItemView.{IsItem, has_lines, view_parse, kept_definition, tree_at};
+ghost use Rattle.x_sema.specs.DeclarerTable.{tree_at};
+ghost use Rattle.rpcx.specs.ItemView.{IsItem, has_lines, view_parse, kept_definition};
 ghost use Rattle.rpcx.specs.Compile.{spells_none};
 ghost use Rattle.rpcx.specs.Definitions.{is_constant};
 

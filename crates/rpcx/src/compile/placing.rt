@@ -43,7 +43,8 @@ fn seat_of(tokens: &[Token], from: Seat, word: usize) -> Seat
     seat
 }
 
-/// The faults at words as faults at tokens. Faults stand by word, so this is one walk over the tokens.
+/// The faults at words as faults at tokens. Faults stand by word, so this is one walk over the tokens; one that stood before another
+/// would be looked for from the first token on.
 pub fn at_tokens(
     alloc: Global,
     tokens: &[Token],

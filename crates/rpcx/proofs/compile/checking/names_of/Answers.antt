@@ -1,7 +1,7 @@
 use Rattle.std.proofs.Common.{◌≡◌, ℕ, List, map, ap, subst, ◌∙◌, arith}
 use Rattle.std.specs.Prelude.{IfOk}
 use Rattle.std.proofs.lemmas.List.{take_all}
-use Rattle.rpcx.specs.ItemView.{tree_at}
+use Rattle.x_sema.specs.DeclarerTable.{tree_at}
 use Rattle.rpcx.specs.ItemView.{kept_definition}
 use Rattle.x_sema.specs.Declarers.{FirstIs, AreShort}
 use Rattle.x_sema.specs.DeclarerTable.{first_in}

@@ -1,5 +1,5 @@
 use Rattle.std.proofs.Common.{◌≡◌, map, take}
-use Rattle.rpcx.specs.ItemView.{tree_at}
+use Rattle.x_sema.specs.DeclarerTable.{tree_at}
 use Rattle.rpcx.specs.ItemView.{kept_definition}
 use Rattle.rpcx.proofs.compile.checking.names_of.Given as goal
 

@@ -5,7 +5,7 @@ use Rattle.x_sema.specs.Results.{result_at}
 use Rattle.rpcx.specs.ItemView.{kept_definition}
 use Rattle.rpcx.specs.Session.{Compiles}
 use Rattle.rpcx.specs.SessionState.{items_of}
-use Rattle.rpcx.specs.ItemView.{tree_at}
+use Rattle.x_sema.specs.DeclarerTable.{tree_at}
 use Rattle.rpcx.specs.Compile.{definition_at}
 use Rattle.rpcx.proofs.Compiled.{definition_found}
 use Rattle.rpcx.proofs.session.Session.definition.Goals as goal
