@@ -25,7 +25,8 @@ tower() {
     for ((k = 2; k <= $1; k++)); do printf 'struct s%d { s%d a; };\\n' "$k" $((k - 1)); done
 }
 
-# marked <ROWS: each line as a text, with its codes in front of their words as rpcedit tells them; lines that begin with # as they are.
+# marked <ROWS: each line as a text, with a code in front of each word at which rpcedit tells a fault; lines that begin with # as
+# they are.
 marked() {
     local line text place code
     while IFS= read -r line; do
