@@ -9,12 +9,13 @@ use Rattle.x_item.specs.Words.{is_significant}
 use Rattle.x_item.specs.Tree.{Definition}
 use Rattle.x_item.specs.Parse.{Parse, Nothing, Def, Fault, IsParse}
 use Rattle.x_item.specs.Items.{AreItems, joined}
-use Rattle.rpcx.specs.declared.compile.fault.FaultCode.TheVariants as codes
 use Rattle.x_sema.specs.Results.{Outcome, AreResults}
 use Rattle.x_sema.specs.declared.fault.WordFault.{WordFault}
+use Rattle.rpcx.specs.declared.compile.fault.FaultCode.TheVariants as codes
 use Rattle.rpcx.specs.declared.compile.fault.TokenFault.{TokenFault}
 use Rattle.rpcx.specs.declared.compile.fault as rust
 
+-- an item has a result where it has a definition
 pub record Item : Type 0 where
   pub tokens : List Lexeme
   pub parse : Parse
