@@ -11,7 +11,8 @@ use Rattle.rpcx.specs.Definitions.{numbered}
 use Rattle.rpcx.specs.Answers.{definition_line}
 use Rattle.rpcx.specs.Session.{Compiles}
 use Rattle.rpcx.proofs.Compiled.{one_compilation}
-use Rattle.rpcx.proofs.Listing.{HasListed, lists_none, lists_more, lists_all, drop_none}
+use Rattle.x_sema.proofs.ListLemmas.{drop_none}
+use Rattle.rpcx.proofs.Listing.{HasListed, lists_none, lists_more, lists_all}
 
 -- the definitions of the first items are listed
 pub record HasDefinitions (text : List ℕ) (n : ℕ) (p : Inked) (before : Stream) (q : Inked) (now : Stream) : Type 0 where

@@ -1,14 +1,23 @@
 -- Items that are parsed one after another.
-use Rattle.std.proofs.Common.{◌≡◌, ℕ, zero, suc, ◌+◌, ◌<◌, ◌≤◌, inl, inr, Bool, true, false, List, [], ◌∷◌, ◌++◌, length, take, drop, refl, ap, sym, ◌∙◌, subst, append_assoc, arith}
-use Rattle.std.proofs.lemmas.List.{length_push, length-append}
+use Rattle.std.proofs.Common.{◌≡◌, ℕ, zero, suc, ◌+◌, ◌<◌, ◌≤◌, inl, inr, Bool, true, false, List, [], ◌∷◌, ◌++◌, length, map, take, drop, filter, Some, lit<, ◌^◌, refl, ap, sym, ◌∙◌, subst, append_assoc, arith}
+use Rattle.std.specs.Prelude.{slice_get}
+use Rattle.std.proofs.lemmas.List.{length_push, length-append, length-map}
+use Rattle.std.proofs.lemmas.List.Sums.{length-filter, count_by-le-length}
+use Rattle.std.proofs.lemmas.Option.{same_Some}
 use Rattle.std.proofs.Math.Seq.{take-append_seam, drop-append_seam}
 use Rattle.x_text.specs.Counts.{Counts, raised}
 use Rattle.x_lex.specs.Places.{Lexeme}
-use Rattle.x_item.specs.Parse.{Fault, IsParse}
+use Rattle.x_text.specs.declared.source.TheConstants.{MAX_TEXT}
+use Rattle.x_item.specs.Tree.{Definition}
+use Rattle.x_item.specs.Spell.{spell}
+use Rattle.x_item.specs.Words.{word_of, words_of, is_significant}
+use Rattle.x_item.specs.Parse.{Parse, Nothing, Def, Fault, IsParse}
 use Rattle.x_item.specs.Items.{joined, AreWhole, IsNext}
 use Rattle.x_item.specs.declared.parsing.fault_code.FaultCode.{FaultCode}
 use Rattle.x_item.proofs.ItemListLemmas.{joined_push, whole_push}
-use Rattle.rpcx.specs.ItemView.{IsItem, has_lines, AreEach, AreMarked, AreParsed}
+use Rattle.x_sema.specs.Declarers.{AreShort}
+use Rattle.rpcx.specs.Compile.{parsed_definition}
+use Rattle.rpcx.specs.ItemView.{IsItem, view_parse, kept_definition, has_lines, AreEach, AreMarked, AreParsed}
 use Rattle.rpcx.specs.declared.compile.item.Item.{Item}
 
 each_push : (parts : List (List Lexeme)) (items : List Item) (part : List Lexeme) (item : Item) → AreEach parts items → IsItem part item → AreEach (parts ++ part ∷ []) (items ++ item ∷ [])
@@ -153,3 +162,45 @@ counted_push old new next items item h is = subst (HasCounted old next) (sym (le
 pub counted_all : (old new : Counts) (n : ℕ) → 0 < n → HasCounted old new n → new ≡ record old { parsed = raised old.parsed n }
 counted_all old new zero some h = absurd (omega (arith, some))
 counted_all old new (suc n) some h = h
+
+-- ---- definitions are short
+
+fewer_words : (tokens : List Lexeme) → length (words_of tokens) ≤ length tokens
+fewer_words tokens =
+    let a = length-map (filter (λ t. is_significant t.kind) tokens) word_of in
+    let b = length-filter (λ t. is_significant t.kind) tokens in
+    let c = count_by-le-length (λ t. is_significant t.kind) tokens in
+    omega (arith, a, b, c)
+
+short_parse : (part : List Lexeme) (p : Parse) (d : Definition) → IsParse part p → parsed_definition p ≡ Some d → length (spell d) ≤ length part
+short_parse part Nothing d parsed is = absurd (cc)
+short_parse part (Def e) d parsed is =
+    let same : e ≡ d = same_Some e d is in
+    let words = ap length (ap spell (sym same) ∙ parsed.1) in
+    let few = fewer_words part in
+    omega (arith, words, few)
+short_parse part (Fault token code) d parsed is = absurd (cc)
+
+short_each : (parts : List (List Lexeme)) (items : List Item) (index : ℕ) (d : Definition) → AreEach parts items → slice_get (map kept_definition items) index ≡ Some (Some d) → length (spell d) ≤ length (joined parts)
+short_each [] [] index d each is = absurd (cc)
+short_each [] (x ∷ items) index d each is = absurd each
+short_each (p ∷ parts) [] index d each is = absurd each
+short_each (p ∷ parts) (x ∷ items) zero d each is =
+    let here = short_parse p (view_parse x.parse) d each.0.parsed (same_Some (kept_definition x) (Some d) is) in
+    let l = length-append p (joined parts) in
+    omega (arith, here, l)
+short_each (p ∷ parts) (x ∷ items) (suc index) d each is =
+    let there = short_each parts items index d each.1 is in
+    let l = length-append p (joined parts) in
+    omega (arith, there, l)
+
+most_words : MAX_TEXT < 2 ^ 64
+most_words = lit< tt
+
+-- no definition has as many words as a text may have bytes, and one more
+pub short_items : (all : List Lexeme) (items : List Item) → AreParsed all items → length all ≤ MAX_TEXT → AreShort (map kept_definition items)
+short_items all items h few index d is =
+    let words = short_each h.parts items index d h.each is in
+    let tokens = ap length h.are.all in
+    let most = most_words in
+    omega (arith, words, tokens, few, most)

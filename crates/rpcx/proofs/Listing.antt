@@ -1,5 +1,5 @@
 -- A list that is written element by element.
-use Rattle.std.proofs.Common.{◌≡◌, ℕ, zero, suc, ◌+◌, ◌<◌, ◌≤◌, drop, get_or, length, arith, List, [], ◌∷◌, ◌++◌, refl, sym, ap, subst, ◌∙◌, append_assoc, append-nil}
+use Rattle.std.proofs.Common.{◌≡◌, ℕ, zero, suc, ◌<◌, drop, get_or, length, map, arith, List, [], ◌∷◌, ◌++◌, refl, sym, ap, subst, ◌∙◌, append_assoc, append-nil}
 use Rattle.std.specs.List.{flat_map}
 use Rattle.x_text.specs.Streams.{Stream}
 use Rattle.x_text.specs.Writing.{Inked, Adds}
@@ -31,17 +31,8 @@ pub lists_all : {X : Type 0} (line : X → List ℕ) (all left : List X) (p q : 
 lists_all line all left p q a b none so =
     subst (λ xs. Adds p a q b (flat_map line xs)) (sym (append-nil so.seen) ∙ ap (λ l. so.seen ++ l) (sym none) ∙ so.split) so.added
 
--- an element and what stands behind it
-at_one : {X : Type 0} (xs : List X) (i : ℕ) (d : X) → i < length xs → drop i xs ≡ get_or xs i d ∷ drop (suc i) xs
-at_one [] i d h = absurd (omega (arith, h))
-at_one (x ∷ xs) zero d h = refl
-at_one (x ∷ xs) (suc i) d h = at_one xs i d (omega (arith, h))
-
-pub drop_one : {X : Type 0} (xs : List X) (i : ℕ) (d : X) → i < length xs → drop i xs ≡ get_or xs i d ∷ drop (i + 1) xs
-drop_one xs i d h = let next : suc i ≡ i + 1 = omega arith in at_one xs i d h ∙ ap (λ n. get_or xs i d ∷ drop n xs) next
-
-pub drop_none : {X : Type 0} (xs : List X) (i : ℕ) → length xs ≤ i → drop i xs ≡ []
-drop_none [] zero h = refl
-drop_none [] (suc i) h = refl
-drop_none (x ∷ xs) zero h = absurd (omega (arith, h))
-drop_none (x ∷ xs) (suc i) h = drop_none xs i (omega (arith, h))
+-- what stands at a place of a list that is made of another, and behind it
+pub mapped_one : {X Y : Type 0} (f : X → Y) (xs : List X) (i : ℕ) (x : X) → i < length xs → x ≡ get_or xs i x → drop i (map f xs) ≡ f x ∷ drop (suc i) (map f xs)
+mapped_one f [] i x h is = absurd (omega (arith, h))
+mapped_one f (y ∷ ys) zero x h is = ap (λ z. f z ∷ map f ys) (sym is)
+mapped_one f (y ∷ ys) (suc i) x h is = mapped_one f ys i x (omega (arith, h)) is

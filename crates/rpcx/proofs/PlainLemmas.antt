@@ -1,10 +1,10 @@
 -- Items without faults and lines.
-use Rattle.std.proofs.Common.{◌≡◌, ℕ, Bool, true, false, cond, List, [], ◌∷◌, ◌++◌, map, drop, refl, ap, sym, ◌∙◌, true≢false}
+use Rattle.std.proofs.Common.{◌≡◌, Bool, true, false, cond, List, [], ◌∷◌, ◌++◌, map, drop, refl, ap, sym, ◌∙◌, true≢false}
 use Rattle.std.specs.Prelude.{codes, ◌||◌}
 use Rattle.std.specs.List.{filter, flat_map}
 use Rattle.x_lex.specs.Places.{Lexeme}
 use Rattle.x_item.specs.Parse.{Parse, Nothing, Def, Fault}
-use Rattle.rpcx.specs.declared.compile.fault.WordFault.{WordFault}
+use Rattle.x_sema.specs.declared.fault.WordFault.{WordFault}
 use Rattle.rpcx.specs.Compile.{at_token, faults_at, spells_none}
 use Rattle.rpcx.specs.Header.{is_percent, lines_of, clean_piece}
 use Rattle.rpcx.specs.ItemView.{has_lines}

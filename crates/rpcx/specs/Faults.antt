@@ -1,16 +1,9 @@
 -- The numbers and names of faults.
-use Rattle.std.specs.Prelude.{ℕ, List, [], map, slice_index_or}
-use denote.Enum.Declared.{tag_of}
+use Rattle.std.specs.Prelude.{ℕ, List}
 use Rattle.x_item.specs.FaultTexts as syntax
-use Rattle.rpcx.specs.contracts.compile.fault.RuleCode.{the_type}
-use Rattle.rpcx.specs.declared.compile.fault.RuleCode.{RuleCode}
+use Rattle.x_sema.specs.RuleTexts.{rule_text}
 use Rattle.rpcx.specs.declared.compile.fault.FaultCode.{FaultCode}
 use Rattle.rpcx.specs.declared.compile.fault.FaultCode.TheVariants.{Syntax, Rule}
-use Rattle.rpcx.specs.declared.compile.fault.TheConstants.{RULE_TEXTS}
-
--- what is printed for the rule: the table has the order of the rules
-abbrev pub rule_text : RuleCode → List ℕ
-rule_text rule = slice_index_or (map (λ text. text.now) RULE_TEXTS) (tag_of the_type rule) []
 
 -- what is printed for the code
 abbrev pub fault_text : FaultCode → List ℕ

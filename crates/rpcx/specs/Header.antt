@@ -1,13 +1,12 @@
 -- The texts that are generated of a text: so far the header alone.
-use Rattle.std.specs.Prelude.{ℕ, suc, ◌-◌, Bool, true, false, ◌||◌, nat_le, ◌&&◌, List, [], ◌∷◌, ◌++◌, map, drop, Option, codes, if◌then◌else◌}
+use Rattle.std.specs.Prelude.{ℕ, ◌-◌, Bool, true, false, ◌||◌, nat_le, ◌&&◌, List, [], ◌∷◌, ◌++◌, map, drop, codes, if◌then◌else◌}
 use Rattle.std.specs.List.{filter, flat_map}
 use Rattle.x_lex.specs.declared.kind.Kind.{Kind}
 use Rattle.x_lex.specs.declared.kind.Kind.TheVariants as kinds
 use Rattle.x_lex.specs.Places.{Lexeme}
 use Rattle.x_item.specs.Tree.{Definition, Const, Value, Number, Named}
 use Rattle.x_item.specs.Parse.{Parse, Nothing, Def, Fault}
-use Rattle.rpcx.specs.Compile.{Item, first_of, token_faults}
-use Rattle.rpcx.specs.declared.compile.names.Declarer.{Declarer}
+use Rattle.rpcx.specs.Compile.{Item, token_faults}
 use Rattle.rpcx.specs.declared.compile.fault.TokenFault.{TokenFault}
 use Rattle.rpcx.specs.declared.session.which.Which.{Which}
 use Rattle.rpcx.specs.declared.session.which.Which.TheVariants as texts
@@ -58,16 +57,12 @@ clean_piece [] (Def d) = piece d
 clean_piece [] (Fault token code) = []
 clean_piece (f ∷ fs) parse = []
 
-abbrev pub item_text : (List ℕ → Option Declarer) → ℕ → Item → List ℕ
-item_text first index i = lines_of i.tokens ++ clean_piece (token_faults first index i.tokens i.parse) i.parse
+abbrev pub item_text : Item → List ℕ
+item_text i = lines_of i.tokens ++ clean_piece (token_faults i) i.parse
 
--- the lines and pieces of items of which the first has this number
-abbrev pub body_from : (List ℕ → Option Declarer) → ℕ → List Item → List ℕ
-body_from first index [] = []
-body_from first index (i ∷ is) = item_text first index i ++ body_from first (suc index) is
-
+-- the lines and pieces of items
 abbrev pub body_of : List Item → List ℕ
-body_of items = body_from (first_of items) 0 items
+body_of items = flat_map item_text items
 
 -- the header of a text with these items
 abbrev pub header : List ℕ → List Item → List ℕ

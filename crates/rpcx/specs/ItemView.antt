@@ -1,14 +1,12 @@
 -- What the program keeps of the items of a text, and what it says of them.
-use Rattle.std.specs.Prelude.{◌≡◌, ℕ, Bool, List, [], ◌∷◌, length, take, drop, Option, option_map}
+use Rattle.std.specs.Prelude.{◌≡◌, ℕ, Bool, List, [], ◌∷◌, length, take, drop, Option}
 use Rattle.std.specs.List.{list_any}
-use Rattle.std.specs.Borrow.{Bor}
 use Rattle.x_lex.specs.Places.{Lexeme}
 use Rattle.x_item.specs.Items.{AreItems}
 use Rattle.x_item.specs.Tree as tree
 use Rattle.x_item.specs.Parse.{IsParse}
 use Rattle.x_item.specs.Parse as parse
 use Rattle.x_item.specs.View.{view_definition}
-use Rattle.x_item.specs.declared.trees.definition.Definition.{Definition}
 use Rattle.rpcx.specs.Compile.{parsed_definition}
 use Rattle.rpcx.specs.Header.{is_percent}
 use Rattle.rpcx.specs.declared.compile.item.Item.{Item}
@@ -28,10 +26,6 @@ view_item i = (i.tokens, view_parse i.parse)
 -- the definition of an item
 abbrev pub kept_definition : Item → Option tree.Definition
 kept_definition i = parsed_definition (view_parse i.parse)
-
--- the tree of a definition that is lent, if there is one
-abbrev pub tree_at : Option (Bor Definition) → Option tree.Definition
-tree_at definition = option_map (λ d. view_definition d.now) definition
 
 -- whether a line that passes through is among the tokens
 abbrev pub has_lines : List Lexeme → Bool

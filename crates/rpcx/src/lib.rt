@@ -7,8 +7,8 @@ mod program;
 mod script;
 mod session;
 
-pub use compile::{Declared, Declarer, Fault, FaultCode, Names, RuleCode, declares, number_value};
-pub use laws::{one_compilation, one_first_declarer};
+pub use compile::{Fault, FaultCode};
+pub use laws::one_compilation;
 pub use program::{
     EditArgs, GenArgs, Status, complain, edit_args, edit_run, gen_args, gen_mode, gen_open,
     gen_write, read_text, read_words, tell_of_file,
@@ -18,3 +18,5 @@ pub use script::{
     run_script,
 };
 pub use session::{Session, Which, Work};
+pub use x_item::declares;
+pub use x_sema::{Declarer, Names, RuleCode};

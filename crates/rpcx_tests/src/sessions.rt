@@ -88,7 +88,7 @@ fn an_edit_tells_its_work(rt: HostRuntime) -> Result<(), Fail> {
 /// Run by itself with each allocation refused in turn: an answer is the wanted one, or tells that memory ran out.
 #[test]
 fn sweep_open(rt: HostRuntime) -> Result<(), Fail> {
-    match Session::open(rt.alloc(), b"t", b"const A = 1;\n%y\nconst A = 2;") {
+    match Session::open(rt.alloc(), b"t", b"const A = 1;\n%y\nenum A { B = A };") {
         Ok(session) => {
             assert_eq!(rt; session.fault_count(), 1);
             println!(rt; "nothing was refused")?;

@@ -4,38 +4,22 @@ ghost use Rattle.std.specs.Prelude.{◌≡◌, ◌≤◌, ◌+◌, ◌++◌, map
 ghost use Rattle.x_text.specs.declared.source.TheConstants.{MAX_TEXT};
 ghost use Rattle.x_lex.specs.Tiling.{AreTokens};
 ghost use Rattle.x_lex.specs.Places.{lexeme, lexemes};
-ghost use Rattle.rpcx.specs.DeclarerTable.{first_in};
-ghost use Rattle.rpcx.specs.Compile.{token_of_word, at_token, rule_faults, faults_at, token_faults, start_of, placed, parts, faults_from};
+ghost use Rattle.x_sema.specs.Results.{result_at};
+ghost use Rattle.rpcx.specs.Compile.{token_of_word, at_token, faults_at, token_faults, start_of, placed, parts, faults_of};
+ghost use Rattle.rpcx.specs.Checking.{all_found};
 ghost use Rattle.rpcx.specs.ItemView.{view_item, view_parse, has_lines, AreMarked};
-ghost use Rattle.rpcx.specs.Header.{lines_of, clean_piece, body_from};
+ghost use Rattle.rpcx.specs.Header.{lines_of, clean_piece, body_of};
 
-use crate::compile::fault::{Fault, FaultCode, TokenFault, WordFault};
+use crate::compile::checking::{ItemResult, rule_faults};
+use crate::compile::fault::{Fault, FaultCode, TokenFault};
 use crate::compile::header::{add_clean, add_item};
 use crate::compile::item::{Item, Parse};
-use crate::compile::names::Names;
 use crate::compile::parsing::take_tokens;
 use crate::compile::placing::{at_tokens, placed};
-use crate::compile::rules::check_item;
 use std::alloc::Global;
 use x_lex::{Token, Tokens, Walk};
-use x_text::{Lines, Meter, NoMemory, Source};
-
-/// The faults of an item's definition by the rules, at its words. Counts a checked item where it has a definition.
-fn rule_faults(
-    alloc: Global,
-    index: usize,
-    parse: &Parse,
-    names: &Names,
-    meter: &mut Meter,
-) -> Result<Vec<WordFault>, NoMemory>
-    ensures { IfOk result
-        (λ faults. faults.items ≡ rule_faults (first_in names.now) index (view_parse parse.now)) }
-{
-    match parse {
-        Parse::Def(definition) => check_item(alloc, index, definition, names, meter),
-        _ => Ok(Vec::new(alloc)),
-    }
-}
+use x_sema::WordFault;
+use x_text::{Lines, NoMemory, Source};
 
 /// The faults of an item at its tokens, where these are those by the rules.
 fn faults_at(
@@ -121,24 +105,23 @@ fn add_output(
     add_item(&mut output.body, &part, &item.parse, &found)
 }
 
-/// The faults of the items, and what is generated of them. Counts a checked item for each definition.
+/// The faults of the items, and what is generated of them, by what checking them found.
 pub fn output_of(
     alloc: Global,
     tokens: &Tokens,
     source: &Source,
     items: &[Item],
-    names: &Names,
-    meter: &mut Meter,
+    results: &[ItemResult],
 ) -> Result<Output, NoMemory>
     requires tokens { AreTokens source.now tokens.now.list }
     requires few { length items.now ≤ MAX_TEXT + 1 }
     requires marked { AreMarked (lexemes source.now tokens.now.list) items.now }
     ensures faults { IfOk result (λ found. found.faults.items
-        ≡ faults_from source.now (first_in names.now) 0
-        (parts (lexemes source.now tokens.now.list) (map view_item items.now))) }
+        ≡ faults_of source.now (parts (result_at (all_found results.now)) 0
+        (lexemes source.now tokens.now.list) (map view_item items.now))) }
     ensures body { IfOk result (λ found. found.body.items
-        ≡ body_from (first_in names.now) 0
-        (parts (lexemes source.now tokens.now.list) (map view_item items.now))) }
+        ≡ body_of (parts (result_at (all_found results.now)) 0
+        (lexemes source.now tokens.now.list) (map view_item items.now))) }
 {
     let mut output = Output {
         faults: Vec::new(alloc),
@@ -147,13 +130,12 @@ pub fn output_of(
     let mut lines = Lines::of(source);
     let mut walk = tokens.iter(source);
     for (index, item) in items.iter().enumerate() {
-        let ruled = rule_faults(alloc, index, &item.parse, names, meter)?;
         add_output(
             alloc,
             &mut output,
             index as u32,
             item,
-            &ruled,
+            rule_faults(results, index),
             &mut walk,
             &mut lines,
         )?;

@@ -5,7 +5,8 @@ ghost use Rattle.x_text.specs.Counts.{raised};
 ghost use Rattle.x_text.specs.declared.source.TheConstants.{MAX_TEXT};
 ghost use Rattle.x_lex.specs.Tiling.{AreTokens};
 ghost use Rattle.x_lex.specs.Places.{lexeme, lexemes};
-ghost use Rattle.rpcx.specs.ItemView.{AreParsed, AreMarked};
+ghost use Rattle.x_sema.specs.Declarers.{AreShort};
+ghost use Rattle.rpcx.specs.ItemView.{AreParsed, AreMarked, kept_definition};
 
 use crate::compile::item::Item;
 use std::alloc::Global;
@@ -22,6 +23,7 @@ pub fn parse_items(
 ) -> Result<Vec<Item>, NoMemory>
     requires { AreTokens source.now tokens.now.list }
     ensures parsed { IfOk result (λ items. AreParsed (lexemes source.now tokens.now.list) items.items) }
+    ensures short { IfOk result (λ items. AreShort (map kept_definition items.items)) }
     ensures few { IfOk result (λ items. length items.items ≤ MAX_TEXT + 1) }
     ensures marked { IfOk result (λ items. AreMarked (lexemes source.now tokens.now.list) items.items) }
     ensures counted { IfOk result

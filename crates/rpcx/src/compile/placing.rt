@@ -4,42 +4,47 @@ ghost use Rattle.std.specs.Prelude.{◌≡◌, ◌≤◌, map, length, IfOk};
 ghost use Rattle.x_text.specs.declared.source.TheConstants.{MAX_TEXT};
 ghost use Rattle.x_lex.specs.Places.{lexeme};
 ghost use Rattle.rpcx.specs.Compile.{token_of_word, at_token, placed};
+ghost use Rattle.rpcx.specs.Seats.{IsSeat};
 
-use crate::compile::fault::{Fault, TokenFault, WordFault};
+use crate::compile::fault::{Fault, FaultCode, TokenFault};
 use std::alloc::Global;
 use x_item::is_significant;
 use x_lex::Token;
+use x_sema::WordFault;
 use x_text::{Lines, NoMemory};
 
-/// The index of a word among the tokens of its item.
-fn token_of_word(tokens: &[Token], word: usize) -> usize
-    ensures token { result ≡ token_of_word (map lexeme tokens.now) word }
-    ensures within { result ≤ length tokens.now }
+/// A token of an item, and how many words stand before it.
+#[derive(Clone, Copy)]
+struct Seat {
+    token: usize,
+    words: usize,
+}
+
+/// The first token.
+const FIRST: Seat = Seat { token: 0, words: 0 };
+
+/// The token of a word, from a token on that does not stand behind it, or the end of the tokens where there is none.
+fn seat_of(tokens: &[Token], from: Seat, word: usize) -> Seat
+    requires from { IsSeat (map lexeme tokens.now) from }
+    requires before { from.words ≤ word }
+    ensures seat { IsSeat (map lexeme tokens.now) result }
+    ensures token { result.token ≡ token_of_word (map lexeme tokens.now) word }
 {
-    let mut left = word;
-    for (index, token) in tokens.iter().enumerate() {
+    let mut seat = from;
+    while let Some(token) = tokens.get(seat.token) {
         if is_significant(token.kind) {
-            if left == 0 {
-                return index;
+            if seat.words == word {
+                return seat;
             }
-            left -= 1;
+            seat.words += 1;
         }
+        seat.token += 1;
     }
-    tokens.len()
+    seat
 }
 
-/// A fault at a word as a fault at a token.
-fn at_token(tokens: &[Token], fault: &WordFault) -> TokenFault
-    requires { length tokens.now ≤ MAX_TEXT }
-    ensures { result ≡ at_token (map lexeme tokens.now) fault.now }
-{
-    TokenFault {
-        token: token_of_word(tokens, fault.word) as u32,
-        code: fault.code,
-    }
-}
-
-/// The faults at words as faults at tokens.
+/// The faults at words as faults at tokens. Faults stand by word, so this is one walk over the tokens; one that stood before another
+/// would be looked for from the first token on.
 pub fn at_tokens(
     alloc: Global,
     tokens: &[Token],
@@ -49,8 +54,18 @@ pub fn at_tokens(
     ensures { IfOk result (λ found. found.items ≡ map (at_token (map lexeme tokens.now)) faults.now) }
 {
     let mut found = Vec::with_capacity(alloc, faults.len())?;
+    let mut seat = FIRST;
     for fault in faults {
-        found.push(at_token(tokens, fault))?;
+        let from = if seat.words <= fault.word {
+            seat
+        } else {
+            FIRST
+        };
+        seat = seat_of(tokens, from, fault.word);
+        found.push(TokenFault {
+            token: seat.token as u32,
+            code: FaultCode::Rule(fault.code),
+        })?;
     }
     Ok(found)
 }

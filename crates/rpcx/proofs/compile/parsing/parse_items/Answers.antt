@@ -4,7 +4,7 @@ use Rattle.x_text.specs.declared.source.TheConstants.{MAX_TEXT}
 use Rattle.x_lex.specs.Places.{lexeme, lexemes}
 use Rattle.x_item.specs.Items.{IsNext}
 use Rattle.rpcx.specs.ItemView.{IsItem}
-use Rattle.rpcx.proofs.ItemLemmas.{Parsing, HasCounted, steps_left, parsing_none, parsing_more, part_short, rest_short, fewer_steps, few_items, some_items, marked_items, counted_push, counted_all}
+use Rattle.rpcx.proofs.ItemLemmas.{Parsing, HasCounted, steps_left, parsing_none, parsing_more, part_short, rest_short, fewer_steps, few_items, short_items, some_items, marked_items, counted_push, counted_all}
 use Rattle.rpcx.proofs.compile.parsing.parse_items.Goals as goal
 
 pub loop-whole-init : goal.loop-whole-init
@@ -70,3 +70,6 @@ pub returns-clause-counted : goal.returns-clause-counted
 returns-clause-counted c =
     counted_all c.args.meter.now c.loop-whole.meter (length c.loop-whole.items.items)
     (some_items (lexemes c.args.source.now c.args.tokens.now.list) c.loop-whole.items.items (returns-clause-parsed c)) c.loop-whole.invariant.counted
+
+pub returns-clause-short : goal.returns-clause-short
+returns-clause-short c = short_items (lexemes c.args.source.now c.args.tokens.now.list) c.loop-whole.items.items (returns-clause-parsed c) c.loop-whole.invariant.short

@@ -3,7 +3,7 @@ use Rattle.std.specs.List.{flat_map}
 use Rattle.x_text.specs.Writing.{Adds}
 use Rattle.x_text.proofs.Pens.{adds_trans}
 use Rattle.x_item.specs.View.{view_definition}
-use Rattle.rpcx.specs.ItemView.{tree_at}
+use Rattle.x_sema.specs.DeclarerTable.{tree_at}
 use Rattle.rpcx.specs.Compile.{definitions_of}
 use Rattle.rpcx.specs.Definitions.{numbered}
 use Rattle.rpcx.specs.Answers.{definition_line}

@@ -8,7 +8,8 @@ use Rattle.rpcx.specs.declared.compile.fault.Fault.{Fault}
 use Rattle.rpcx.specs.declared.compile.fault.FaultCode.TheVariants.{Syntax}
 use Rattle.x_item.specs.declared.parsing.fault_code.FaultCode.TheVariants as codes
 use Rattle.rpcx.proofs.Compiled.{one_compilation}
-use Rattle.rpcx.proofs.Listing.{HasListed, lists_more, lists_all, drop_one, drop_none}
+use Rattle.x_sema.proofs.ListLemmas.{drop_one, drop_none}
+use Rattle.rpcx.proofs.Listing.{HasListed, lists_more, lists_all}
 use Rattle.rpcx.proofs.script.answer.add_faults.Goals as goal
 
 pub loop-fault-preserved : goal.loop-fault-preserved

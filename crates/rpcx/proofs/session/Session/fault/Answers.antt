@@ -1,13 +1,12 @@
-use Rattle.std.proofs.Common.{◌≡◌, map, ap, subst, ◌∙◌}
+use Rattle.std.proofs.Common.{◌≡◌, ap, subst, ◌∙◌}
 use Rattle.std.specs.Prelude.{slice_get}
-use Rattle.x_lex.specs.Places.{lexemes}
-use Rattle.rpcx.specs.ItemView.{view_item}
 use Rattle.rpcx.specs.Session.{Compiles}
-use Rattle.rpcx.specs.Compile.{parts, faults_of}
+use Rattle.rpcx.specs.SessionState.{items_of}
+use Rattle.rpcx.specs.Compile.{faults_of}
 use Rattle.rpcx.proofs.session.Session.fault.Goals as goal
 
 pub returns : goal.returns
 returns c =
-    let items = parts (lexemes c.self.inside.source c.self.inside.tokens.list) (map view_item c.self.inside.items.items) in
-    let found = c.fault_in.ensures ∙ ap (λ fs. slice_get fs c.args.index) (c.deref.ensures.value ∙ c.self.invariant.faults_are) in
-    subst (λ v. Compiles v.text (λ is. c.fault_in.result ≡ slice_get (faults_of v.text is) c.args.index)) c.self.view_is (c.self.inside.tokens.list, items, c.self.invariant.compiles, found)
+    let items = items_of c.self.inside.source c.self.inside.tokens.list c.self.inside.items.items c.self.invariant.compiled.results in
+    let found = c.fault_in.ensures ∙ ap (λ fs. slice_get fs c.args.index) (c.deref.ensures.value ∙ c.self.invariant.compiled.faults_are) in
+    subst (λ v. Compiles v.text (λ is. c.fault_in.result ≡ slice_get (faults_of v.text is) c.args.index)) c.self.view_is (c.self.inside.tokens.list, items, c.self.invariant.compiled.compiles, found)

@@ -1,12 +1,11 @@
-use Rattle.std.proofs.Common.{◌≡◌, map, subst, ◌∙◌}
-use Rattle.x_lex.specs.Places.{lexemes}
-use Rattle.rpcx.specs.ItemView.{view_item}
+use Rattle.std.proofs.Common.{◌≡◌, subst, ◌∙◌}
 use Rattle.rpcx.specs.Session.{Compiles}
-use Rattle.rpcx.specs.Compile.{parts, faults_of}
+use Rattle.rpcx.specs.SessionState.{items_of}
+use Rattle.rpcx.specs.Compile.{faults_of}
 use Rattle.rpcx.proofs.session.Session.faults.Goals as goal
 
 pub returns : goal.returns
 returns c =
-    let items = parts (lexemes c.self.inside.source c.self.inside.tokens.list) (map view_item c.self.inside.items.items) in
-    let found = c.deref.ensures.value ∙ c.self.invariant.faults_are in
-    subst (λ v. Compiles v.text (λ is. c.deref.result.now ≡ faults_of v.text is)) c.self.view_is (c.self.inside.tokens.list, items, c.self.invariant.compiles, found)
+    let items = items_of c.self.inside.source c.self.inside.tokens.list c.self.inside.items.items c.self.invariant.compiled.results in
+    let found = c.deref.ensures.value ∙ c.self.invariant.compiled.faults_are in
+    subst (λ v. Compiles v.text (λ is. c.deref.result.now ≡ faults_of v.text is)) c.self.view_is (c.self.inside.tokens.list, items, c.self.invariant.compiled.compiles, found)

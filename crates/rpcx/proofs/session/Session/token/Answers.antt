@@ -1,15 +1,15 @@
-use Rattle.std.proofs.Common.{◌≡◌, map, ap, sym, subst, ◌∙◌}
+use Rattle.std.proofs.Common.{◌≡◌, ap, sym, subst, ◌∙◌}
 use Rattle.std.specs.Prelude.{slice_get, option_map}
-use Rattle.x_lex.specs.Places.{lexeme, lexemes}
-use Rattle.rpcx.specs.ItemView.{view_item}
+use Rattle.x_lex.specs.Places.{lexeme}
 use Rattle.rpcx.specs.Session.{Compiles}
-use Rattle.rpcx.specs.Compile.{parts, tokens_of}
+use Rattle.rpcx.specs.SessionState.{items_of}
+use Rattle.rpcx.specs.Compile.{tokens_of}
 use Rattle.rpcx.proofs.Compiled.{tokens_are}
 use Rattle.rpcx.proofs.session.Session.token.Goals as goal
 
 pub returns : goal.returns
 returns c =
-    let items = parts (lexemes c.self.inside.source c.self.inside.tokens.list) (map view_item c.self.inside.items.items) in
-    let all = tokens_are c.self.inside.source c.self.inside.tokens.list items c.self.invariant.compiles in
+    let items = items_of c.self.inside.source c.self.inside.tokens.list c.self.inside.items.items c.self.invariant.compiled.results in
+    let all = tokens_are c.self.inside.source c.self.inside.tokens.list items c.self.invariant.compiled.compiles in
     let found = c.token.ensures ∙ ap (λ ls. slice_get ls c.args.index) (sym all) in
-    subst (λ v. Compiles v.text (λ is. option_map lexeme c.token.result ≡ slice_get (tokens_of is) c.args.index)) c.self.view_is (c.self.inside.tokens.list, items, c.self.invariant.compiles, found)
+    subst (λ v. Compiles v.text (λ is. option_map lexeme c.token.result ≡ slice_get (tokens_of is) c.args.index)) c.self.view_is (c.self.inside.tokens.list, items, c.self.invariant.compiled.compiles, found)

@@ -1,0 +1,166 @@
+-- Results of items, by what was found of the items before them.
+use Rattle.std.proofs.Common.{◌≡◌, ℕ, zero, suc, ◌+◌, ◌<◌, Bool, true, false, cond, List, [], ◌∷◌, ◌++◌, length, map, arith, take, drop, get_or, ◌≤◌, Option, None, Some, refl, sym, ap, subst, ◌∙◌, append-nil}
+use Rattle.std.specs.Prelude.{Box, nat_lt, option_map}
+use Rattle.std.specs.Option.{unwrap_or}
+use Rattle.std.proofs.lemmas.Bool.Decides.{nat_tests}
+use Rattle.std.specs.Global.{Global}
+use Rattle.std.proofs.lemmas.List.{take_all, map-append, length_push}
+use Rattle.x_text.specs.Counts.{Counts}
+use Rattle.x_item.specs.Tree.{Definition}
+use Rattle.x_item.specs.Names.{Declared}
+use Rattle.x_item.specs.Named.{view_name}
+use Rattle.x_item.specs.Mentions.{Mention}
+use Rattle.x_item.specs.Collected.{view_mention}
+use Rattle.x_item.specs.declared.names.declared_name.DeclaredName.{DeclaredName}
+use Rattle.x_item.specs.declared.names.mention.Mention as rust
+use Rattle.x_item.specs.declared.names.declared_name.NameKind.TheVariants as kinds
+use Rattle.x_sema.specs.Views.{View, Earlier, Own, Later, Bad, names_of}
+use Rattle.x_sema.specs.Declarers.{IsShort, AreShort, is_beforehand, first_declarer, FirstIs}
+use Rattle.x_sema.specs.declared.names.Declarer.{Declarer}
+use Rattle.x_sema.specs.Results.{Outcome, IsOutcome, IsResult, AreResultsFrom, result_at, view_of, view_by, meaning_in, meaning_at, beforehand_meaning}
+use Rattle.x_sema.proofs.DeclarerLaws.{as_found}
+use Rattle.x_sema.proofs.ListLemmas.{drop_one, get_at, take_next}
+use Rattle.rpcx.specs.ItemView.{kept_definition}
+use Rattle.rpcx.specs.declared.compile.item.Item.{Item}
+use Rattle.rpcx.proofs.Listing.{mapped_one}
+use Rattle.rpcx.specs.Checking.{found, all_found, IsShortAt, counted, view_by_first}
+
+-- what a list has in a place stays where one is added
+stays : (rs : List (Option Outcome)) (o : Option Outcome) (k : ℕ) → k < length rs → result_at rs k ≡ result_at (rs ++ o ∷ []) k
+stays [] o k lt = absurd (omega (arith, lt))
+stays (r ∷ rs) o zero lt = refl
+stays (r ∷ rs) o (suc k) lt = stays rs o k (omega (arith, lt))
+
+-- ---- what two readers of results agree on before an item
+
+abbrev AgreeBefore : (ℕ → Option Outcome) → (ℕ → Option Outcome) → ℕ → Type 0
+AgreeBefore r s item = (k : ℕ) → k < item → r k ≡ s k
+
+same_view_of : (r s : ℕ → Option Outcome) (item : ℕ) (first : Option Declarer) → AgreeBefore r s item → view_of r item first ≡ view_of s item first
+same_view_of r s item None h = refl
+same_view_of r s item (Some at) h = by (nat_lt at.item item) refl
+  where
+    other : View
+    other = cond (nat_lt item at.item) (Later at.kind at.lifted) (Own at.kind at.lifted)
+
+    by : (b : Bool) → nat_lt at.item item ≡ b → cond (nat_lt at.item item) (Earlier at.kind at.lifted (meaning_at r at)) other ≡ cond (nat_lt at.item item) (Earlier at.kind at.lifted (meaning_at s at)) other
+    by true e = let lt : at.item < item = grind (arith, nat_tests) in
+        ap (λ o. cond (nat_lt at.item item) (Earlier at.kind at.lifted (unwrap_or (option_map (λ x. meaning_in x at.place) o) Bad)) other) (h at.item lt)
+    by false e = ap (λ b. cond b (Earlier at.kind at.lifted (meaning_at r at)) other) e ∙ sym (ap (λ b. cond b (Earlier at.kind at.lifted (meaning_at s at)) other) e)
+
+same_views : (definitions : List (Option Definition)) (r s : ℕ → Option Outcome) (item : ℕ) → AgreeBefore r s item → (names : List (List ℕ)) → map (view_by definitions r item) names ≡ map (view_by definitions s item) names
+same_views definitions r s item h names =
+    ap (λ f. map f names)
+    (λ i name. ap (λ v. cond (is_beforehand name) (Earlier kinds.Constant false (beforehand_meaning name)) v) (same_view_of r s item (first_declarer definitions name) h) i)
+
+same_result : (definitions : List (Option Definition)) (r s : ℕ → Option Outcome) (item : ℕ) (d : Option Definition) (o : Option Outcome) → AgreeBefore r s item
+    → IsResult definitions r item d o → IsResult definitions s item d o
+same_result definitions r s item None None h is = is
+same_result definitions r s item None (Some o) h is = absurd is
+same_result definitions r s item (Some d) None h is = absurd is
+same_result definitions r s item (Some d) (Some o) h is = subst (λ views. IsOutcome d views o) (same_views definitions r s item h (names_of d)) is
+
+-- ---- one item more
+
+results_push : (definitions : List (Option Definition)) (r s : ℕ → Option Outcome) (n m : ℕ) (ds : List (Option Definition)) (os : List (Option Outcome)) (d : Option Definition) (o : Option Outcome)
+    → AgreeBefore r s m → m ≡ n + length os → AreResultsFrom definitions r n ds os → IsResult definitions s m d o → AreResultsFrom definitions s n (ds ++ d ∷ []) (os ++ o ∷ [])
+results_push definitions r s n m [] [] d o agree place are is = let here : m ≡ n = omega (arith, place) in (subst (λ k. IsResult definitions s k d o) here is, tt)
+results_push definitions r s n m [] (x ∷ os) d o agree place are is = absurd are
+results_push definitions r s n m (y ∷ ds) [] d o agree place are is = absurd are
+results_push definitions r s n m (y ∷ ds) (x ∷ os) d o agree place are is =
+    let next : m ≡ suc n + length os = omega (arith, place) in
+    (same_result definitions r s n y x (λ k lt. agree k (omega (arith, lt, place))) are.0, results_push definitions r s (suc n) m ds os d o agree next are.1 is)
+
+-- the result of the next item joins those of the items before it
+pub results_more : (definitions : List (Option Definition)) (ds : List (Option Definition)) (os : List (Option Outcome)) (item : ℕ) (d : Option Definition) (o : Option Outcome)
+    → item ≡ length os → AreResultsFrom definitions (result_at os) 0 ds os → IsResult definitions (result_at os) item d o
+    → AreResultsFrom definitions (result_at (os ++ o ∷ [])) 0 (ds ++ d ∷ []) (os ++ o ∷ [])
+results_more definitions ds os item d o place are is =
+    let agree : AgreeBefore (result_at os) (result_at (os ++ o ∷ [])) item = λ k lt. stays os o k (omega (arith, place, lt)) in
+    results_push definitions (result_at os) (result_at (os ++ o ∷ [])) 0 item ds os d o agree (omega (arith, place)) are (same_result definitions (result_at os) (result_at (os ++ o ∷ [])) item d o agree is)
+
+-- ---- views by a table of names
+
+pub views_by_first : (definitions : List (Option Definition)) (find : List ℕ → Option Declarer) (results : ℕ → Option Outcome) (item : ℕ) → ((name : List ℕ) → FirstIs definitions name (find name))
+    → (names : List (List ℕ)) → map (view_by_first find results item) names ≡ map (view_by definitions results item) names
+views_by_first definitions find results item first names =
+    ap (λ f. map f names)
+    (λ i name. ap (λ o. cond (is_beforehand name) (Earlier kinds.Constant false (beforehand_meaning name)) (view_of results item o)) (as_found definitions name (find name) (first name)) i)
+
+-- what checking a definition gives by views of a table of names
+pub result_by_first : (definitions : List (Option Definition)) (find : List ℕ → Option Declarer) (results : ℕ → Option Outcome) (item : ℕ) (d : Definition) (views : List View) (o : Outcome)
+    → ((name : List ℕ) → FirstIs definitions name (find name)) → views ≡ map (view_by_first find results item) (names_of d) → IsOutcome d views o → IsResult definitions results item (Some d) (Some o)
+result_by_first definitions find results item d views o first are is =
+    subst (λ vs. IsOutcome d vs o) (are ∙ views_by_first definitions find results item first (names_of d)) is
+
+-- ---- the names that an item sees
+
+names_by : (ds : List DeclaredName) → map (λ d. d.name.items) ds ≡ map (λ x. x.name) (map view_name ds)
+names_by [] = refl
+names_by (d ∷ ds) = ap (λ l. d.name.items ∷ l) (names_by ds)
+
+used_by : (ms : List rust.Mention) → map (λ m. m.name.now) ms ≡ map (λ m. m.name) (map view_mention ms)
+used_by [] = refl
+used_by (m ∷ ms) = ap (λ l. m.name.now ∷ l) (used_by ms)
+
+pub names_declared : (f : List ℕ → View) (views : List View) (n : ℕ) (lent ds : List DeclaredName) (all : List Declared) → views ≡ map f (map (λ d. d.name.items) (take n lent)) → length lent ≤ n → lent ≡ ds
+    → map view_name ds ≡ all → views ≡ map f (map (λ x. x.name) all ++ [])
+names_declared f views n lent ds all so end same are =
+    so ∙ ap (λ l. map f (map (λ (d : DeclaredName). d.name.items) l)) (take_all n lent end ∙ same) ∙ ap (map f) (names_by ds ∙ ap (map (λ (x : Declared). x.name)) are ∙ sym (append-nil (map (λ (x : Declared). x.name) all)))
+
+pub names_mentioned : (f : List ℕ → View) (views : List View) (front : List (List ℕ)) (n : ℕ) (lent ms : List rust.Mention) (all : List Mention) → views ≡ map f (front ++ map (λ m. m.name.now) (take n lent)) → length lent ≤ n → lent ≡ ms
+    → map view_mention ms ≡ all → views ≡ map f (front ++ map (λ m. m.name) all)
+names_mentioned f views front n lent ms all so end same are =
+    so ∙ ap (λ l. map f (front ++ map (λ (m : rust.Mention). m.name.now) l)) (take_all n lent end ∙ same) ∙ ap (λ l. map f (front ++ l)) (used_by ms ∙ ap (map (λ (m : Mention). m.name)) are)
+
+-- ---- an item
+
+-- an item without a definition has no result
+pub no_result : (definitions : List (Option Definition)) (results : ℕ → Option Outcome) (item : ℕ) (d : Option Definition) → None ≡ d → IsResult definitions results item d None
+no_result definitions results item None is = tt
+no_result definitions results item (Some d) is = absurd (cc)
+
+pub some_result : (definitions : List (Option Definition)) (find : List ℕ → Option Declarer) (results : ℕ → Option Outcome) (item : ℕ) (d : Definition) (kept : Option Definition) (views : List View) (o : Outcome)
+    → Some d ≡ kept → IsShortAt kept → ((name : List ℕ) → FirstIs definitions name (find name)) → (IsShort d → views ≡ map (view_by_first find results item) (names_of d)) → (IsShort d → IsOutcome d views o)
+    → IsResult definitions results item kept (Some o)
+some_result definitions find results item d kept views o same short first are is =
+    let fits = short d (sym same) in
+    subst (λ x. IsResult definitions results item x (Some o)) same (result_by_first definitions find results item d views o first (are fits) (is fits))
+
+-- ---- all items
+
+pub short_here : (items : List Item) (index : ℕ) (item : Item) → index < length items → item ≡ get_or items index item → AreShort (map kept_definition items) → IsShortAt (kept_definition item)
+short_here items index item lt is short d same =
+    short index d (get_at (map kept_definition items) index (kept_definition item) (drop (suc index) (map kept_definition items)) (mapped_one kept_definition items index item lt is) ∙ ap Some same)
+
+pub many_more : (index : ℕ) (rs new : List (Option (Box Outcome Global))) (r : Option (Box Outcome Global)) → new ≡ rs ++ r ∷ [] → index ≡ length (all_found rs) → index + 1 ≡ length (all_found new)
+many_more index rs new r pushed many =
+    let more = ap (λ l. length (all_found l)) pushed ∙ ap length (map-append found rs (r ∷ [])) ∙ length_push (all_found rs) (found r) in
+    omega (arith, many, more)
+
+pub results_next : (items : List Item) (index : ℕ) (item : Item) (rs new : List (Option (Box Outcome Global))) (r : Option (Box Outcome Global))
+    → index < length items → item ≡ get_or items index item → new ≡ rs ++ r ∷ [] → index ≡ length (all_found rs)
+    → AreResultsFrom (map kept_definition items) (result_at (all_found rs)) 0 (take index (map kept_definition items)) (all_found rs)
+    → IsResult (map kept_definition items) (result_at (all_found rs)) index (kept_definition item) (found r)
+    → AreResultsFrom (map kept_definition items) (result_at (all_found new)) 0 (take (index + 1) (map kept_definition items)) (all_found new)
+results_next items index item rs new r lt at pushed many are is =
+    let ds = map kept_definition items in
+    let all : all_found new ≡ all_found rs ++ found r ∷ [] = ap all_found pushed ∙ map-append found rs (r ∷ []) in
+    let next : suc index ≡ index + 1 = omega arith in
+    let front : take (index + 1) ds ≡ take index ds ++ kept_definition item ∷ [] =
+    sym (ap (λ n. take n ds) next) ∙ take_next ds index (kept_definition item) (drop (suc index) ds) (mapped_one kept_definition items index item lt at) in
+    subst (λ os. AreResultsFrom ds (result_at os) 0 (take (index + 1) ds) os) (sym all)
+    (subst (λ l. AreResultsFrom ds (result_at (all_found rs ++ found r ∷ [])) 0 l (all_found rs ++ found r ∷ [])) (sym front)
+    (results_more ds (take index ds) (all_found rs) index (kept_definition item) (found r) many are is))
+
+counted_on : (counts : Counts) (d : Option Definition) (ds : List (Option Definition)) → counted counts (d ∷ ds) ≡ counted (counted counts (d ∷ [])) ds
+counted_on counts None ds = refl
+counted_on counts (Some d) ds = refl
+
+-- one item more is counted
+pub counted_more : (before after all : Counts) (items : List Item) (index : ℕ) (item : Item) → index < length items → item ≡ get_or items index item → after ≡ counted before (kept_definition item ∷ [])
+    → counted before (map kept_definition (drop index items)) ≡ all → counted after (map kept_definition (drop (index + 1) items)) ≡ all
+counted_more before after all items index item lt at step so =
+    let here = drop_one items index item lt ∙ ap (λ i. i ∷ drop (index + 1) items) (sym at) in
+    ap (λ c. counted c (map kept_definition (drop (index + 1) items))) step ∙ sym (counted_on before (kept_definition item) (map kept_definition (drop (index + 1) items)))
+    ∙ sym (ap (λ is. counted before (map kept_definition is)) here) ∙ so

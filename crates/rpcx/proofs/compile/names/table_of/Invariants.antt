@@ -1,9 +1,0 @@
-use Rattle.std.proofs.Common.{◌≡◌, ℕ, List, map, drop}
-use Rattle.rpcx.specs.ItemView.{tree_at}
-use Rattle.rpcx.specs.Declarers.{first_from, or_else}
-use Rattle.rpcx.specs.DeclarerTable.{entry_in}
-use Rattle.rpcx.proofs.compile.names.table_of.Given as goal
-
--- with the items that are left, the table has what it is to have
-abbrev pub invariant-loop-item : goal.invariant-loop-item
-invariant-loop-item l = (name : List ℕ) → or_else (entry_in l.table.entries name) (first_from l.item (map tree_at (drop l.item l.definitions)) name) ≡ first_from 0 (map tree_at l.definitions) name

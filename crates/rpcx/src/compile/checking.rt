@@ -1,0 +1,131 @@
+//! The checks of the items of a text.
+
+ghost use Rattle.std.specs.Prelude.{◌≡◌, ℕ, List, [], ◌∷◌, Option, map, IfOk};
+ghost use Rattle.x_item.specs.Tree as tree;
+ghost use Rattle.x_item.specs.View.{view_definition};
+ghost use Rattle.x_sema.specs.Declarers.{AreShort, IsShort, FirstIs};
+ghost use Rattle.x_sema.specs.DeclarerTable.{first_in, tree_at};
+ghost use Rattle.x_sema.specs.KeptViews.{lent_outcome};
+ghost use Rattle.x_sema.specs.Results.{AreResults, IsResult, result_at};
+ghost use Rattle.x_sema.specs.RustViews.{view_view};
+ghost use Rattle.x_sema.specs.Views.{names_of};
+ghost use Rattle.rpcx.specs.Checking.{found, all_found, IsShortAt, counted, view_by_first};
+ghost use Rattle.rpcx.specs.Compile.{rule_faults};
+ghost use Rattle.rpcx.specs.ItemView.{kept_definition};
+
+use crate::compile::item::Item;
+use std::alloc::Global;
+use x_item::{Definition, declares, mentions};
+use x_sema::{Checked, Names, View, WordFault, check_item};
+use x_text::{Meter, NoMemory};
+
+/// What checking an item found, if it has a definition, in few bytes.
+pub type ItemResult = Option<Box<Checked>>;
+
+/// The table of the names that the items declare.
+pub fn names_of(alloc: Global, items: &[Item]) -> Result<Names, NoMemory>
+    ensures { IfOk result (λ names. AreShort (map kept_definition items.now)
+        → (name : List ℕ) → FirstIs (map kept_definition items.now) name (first_in names name)) }
+{
+    let mut definitions = Vec::with_capacity(alloc, items.len())?;
+    for item in items {
+        definitions.push(item.definition())?;
+    }
+    Names::of(alloc, &definitions)
+}
+
+/// What checking the items finds, in their order. Each is checked by what was found of the items before it, and counted as checked
+/// where it has a definition.
+pub fn check_items(
+    alloc: Global,
+    items: &[Item],
+    names: &Names,
+    meter: &mut Meter,
+) -> Result<Vec<ItemResult>, NoMemory>
+    requires short { AreShort (map kept_definition items.now) }
+    requires first { (name : List ℕ) → FirstIs (map kept_definition items.now) name (first_in names.now name) }
+    ensures results { IfOk result (λ results. AreResults (map kept_definition items.now) (all_found results.items)) }
+    ensures counted { IfOk result (λ results. meter.new ≡ counted meter.old (map kept_definition items.now)) }
+{
+    let mut results = Vec::with_capacity(alloc, items.len())?;
+    for (index, item) in items.iter().enumerate() {
+        let result = check(alloc, index, item, names, &results, meter)?;
+        results.push(result)?;
+    }
+    Ok(results)
+}
+
+/// What checking an item finds, by what was found of the items before it.
+fn check(
+    alloc: Global,
+    index: usize,
+    item: &Item,
+    names: &Names,
+    results: &[ItemResult],
+    meter: &mut Meter,
+) -> Result<ItemResult, NoMemory>
+    ensures result { IfOk result (λ checked. (definitions : List (Option tree.Definition)) → IsShortAt (kept_definition item.now)
+        → ((name : List ℕ) → FirstIs definitions name (first_in names.now name))
+        → IsResult definitions (result_at (all_found results.now)) index (kept_definition item.now) (found checked)) }
+    ensures counted { IfOk result (λ checked. meter.new ≡ counted meter.old (kept_definition item.now ∷ [])) }
+{
+    let Some(definition) = item.definition() else {
+        return Ok(None);
+    };
+    let views = views_of(alloc, index, definition, names, results)?;
+    let checked = check_item(alloc, definition, &views, meter)?;
+    Ok(Some(Box::new(alloc, checked)?))
+}
+
+/// What an item sees of the names that its definition declares, and then of those that it uses, by what was found of the items before it.
+fn views_of<'v>(
+    alloc: Global,
+    item: usize,
+    definition: &Definition,
+    names: &Names,
+    results: &'v [ItemResult],
+) -> Result<Vec<View<'v>>, NoMemory>
+    ensures { IfOk result (λ views. IsShort (view_definition definition.now) → map view_view views.items
+        ≡ map (view_by_first (first_in names.now) (result_at (all_found results.now)) item) (names_of (view_definition definition.now))) }
+{
+    let mut views = Vec::new(alloc);
+    for declared in &declares(alloc, definition)? {
+        views.push(view_of(item, &declared.name, names, results))?;
+    }
+    for mention in &mentions(alloc, definition)? {
+        views.push(view_of(item, mention.name, names, results))?;
+    }
+    Ok(views)
+}
+
+/// What an item sees of a name.
+fn view_of<'v>(item: usize, name: &[u8], names: &Names, results: &'v [ItemResult]) -> View<'v>
+    ensures { view_view result ≡ view_by_first (first_in names.now) (result_at (all_found results.now)) item name.now }
+{
+    let first = names.first(name);
+    let declaring = match first {
+        Some(declarer) => result_of(results, declarer.item),
+        None => None,
+    };
+    View::of(item, name, first, declaring)
+}
+
+/// What checking the item at an index found.
+fn result_of(results: &[ItemResult], index: usize) -> Option<&Checked>
+    ensures { lent_outcome result ≡ result_at (all_found results.now) index }
+{
+    match results.get(index) {
+        Some(Some(checked)) => Some(checked),
+        _ => None,
+    }
+}
+
+/// The faults of the item at an index by the rules, at its words.
+pub fn rule_faults(results: &[ItemResult], index: usize) -> &[WordFault]
+    ensures { result.now ≡ rule_faults (result_at (all_found results.now) index) }
+{
+    match result_of(results, index) {
+        Some(checked) => checked.faults(),
+        None => &[],
+    }
+}
