@@ -1,6 +1,6 @@
 -- The faults of cases are what the rule for cases says, and all of them.
 use Rattle.std.specs.Prelude.{ℤ, pos, nat_le, nat_lt, not, ◌&&◌}
-use Rattle.std.proofs.Common.{◌≡◌, ℕ, ◌+◌, length, ◌⊎◌, inl, inr, Bool, true, false, cond, List, [], ◌∷◌, map, Option, None, Some, arith, refl, sym, ap, subst, ◌∙◌}
+use Rattle.std.proofs.Common.{◌≡◌, ℕ, ◌+◌, length, Bool, true, false, cond, List, [], map, Option, None, Some, arith, refl, sym, ap, subst, ◌∙◌}
 use Rattle.std.proofs.lemmas.Bool.Decides.{Decides-int_eq}
 use Rattle.std.proofs.lemmas.Cmp.{int_eq_equiv}
 use Rattle.std.proofs.lemmas.Option.{same_Some}
@@ -101,8 +101,8 @@ pub kept_bad_cases : (see : List ℕ → View) (known : List Known) (found : Lis
 kept_bad_cases see known found bs filled =
     flat_bodies (bad_cases_of see known found) (bad_cases_in see known found) bs
     (λ b k.
-        ap (bad_cases_by see known found (view_body b.body.now) b.at b.behind_discriminant) (filled b k).cases
-        ∙ same_behind see known found (view_body b.body.now) b.at b.behind_discriminant (cases_of (view_body_at b)) (filled b k).behind)
+    ap (bad_cases_by see known found (view_body b.body.now) b.at b.behind_discriminant) (filled b k).cases
+    ∙ same_behind see known found (view_body b.body.now) b.at b.behind_discriminant (cases_of (view_body_at b)) (filled b k).behind)
 
 -- ---- a case that is found
 

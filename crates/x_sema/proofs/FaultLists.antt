@@ -11,7 +11,7 @@ use Rattle.x_sema.specs.declared.fault.RuleCode.{RuleCode}
 use Rattle.x_sema.specs.declared.fault.RuleCode.TheVariants as codes
 use Rattle.x_sema.specs.declared.fault.WordFault.{WordFault}
 use Rattle.x_sema.proofs.AmongLemmas.{among_first, among_cases, among_none}
-use Rattle.x_sema.proofs.InOrder.{AreInOrder, Compared, Ordered, one_order, ordered}
+use Rattle.x_sema.proofs.InOrder.{AreInOrder, Compared, one_order, ordered}
 
 pub before_trans : (f g h : WordFault) → IsBefore f g → IsBefore g h → IsBefore f h
 before_trans f g h (inl a) (inl b) = inl (omega (arith, a, b))

@@ -1,7 +1,7 @@
 -- A definition has a list of faults and an outcome, and a text has results.
 use Rattle.std.specs.Prelude.{slice_get, option_and_then}
 use Rattle.std.specs.List.{flat_map}
-use Rattle.std.proofs.Common.{◌≡◌, ℕ, zero, suc, ◌<◌, List, [], ◌∷◌, ◌++◌, length, Option, Some, None, map, arith, refl, sym, ap, subst, append_assoc}
+use Rattle.std.proofs.Common.{◌≡◌, ℕ, zero, suc, ◌<◌, List, [], ◌∷◌, ◌++◌, length, Option, Some, None, map, arith, refl, ap, subst, append_assoc}
 use Rattle.std.proofs.Math.ListN.{length-append}
 use Rattle.x_item.specs.Tree.{Definition}
 use Rattle.x_sema.specs.Bodies.{bodies, enumerators}
@@ -28,8 +28,8 @@ has_faults d see = with_order (ascending (found_faults d see ++ bad))
     with_order o = (
       o.list,
       are_faults d see (found_faults d see) bad o.list o.ascend o.from o.kept (found_breaks d see) (breaks_found d see)
-      (λ f h. found_bad_case d see (found_faults d see) f (breaks_found d see) h)
-      (λ word h. bad_case_found d see (found_faults d see) word (found_breaks d see) h),
+          (λ f h. found_bad_case d see (found_faults d see) f (breaks_found d see) h)
+          (λ word h. bad_case_found d see (found_faults d see) word (found_breaks d see) h),
     )
 
 has_outcome : (d : Definition) (views : List View) → (o : Outcome) × IsOutcome d views o
