@@ -1,6 +1,6 @@
 -- The faults of cases are what the rule for cases says, and all of them.
 use Rattle.std.specs.Prelude.{ℤ, pos, nat_le, nat_lt, not, ◌&&◌}
-use Rattle.std.proofs.Common.{◌≡◌, ℕ, ◌+◌, length, ◌⊎◌, inl, inr, Bool, true, false, cond, List, [], ◌∷◌, map, Option, None, Some, arith, refl, sym, ap, subst, ◌∙◌}
+use Rattle.std.proofs.Common.{◌≡◌, ℕ, ◌+◌, length, Bool, true, false, cond, List, [], map, Option, None, Some, arith, refl, sym, ap, subst, ◌∙◌}
 use Rattle.std.proofs.lemmas.Bool.Decides.{Decides-int_eq}
 use Rattle.std.proofs.lemmas.Cmp.{int_eq_equiv}
 use Rattle.std.proofs.lemmas.Option.{same_Some}
@@ -10,22 +10,22 @@ use Rattle.x_item.specs.Tree as tree
 use Rattle.x_item.specs.Tree.{Definition}
 use Rattle.x_item.specs.Spell.{spell_declaration}
 use Rattle.x_item.specs.View.{view_body}
-use Rattle.x_sema.specs.Bodies.{ValueAt, bodies, enumerators, cases_of}
+use Rattle.x_sema.specs.Bodies.{BodyAt, ValueAt, bodies, enumerators, cases_of}
 use Rattle.x_sema.specs.BodyWalks.{view_body_at, IsBehind, AreFilled}
 use Rattle.x_sema.specs.Cases.{is_outside, case_fault, has_fault, case_faults, class_faults, bad_cases_by, bad_cases_of}
 use Rattle.x_sema.specs.Constants.{Known, knowns, limit_of, number_by}
 use Rattle.x_sema.specs.Found.{fault_at}
 use Rattle.x_sema.specs.Numbers.{is_enum_number, is_word_number}
 use Rattle.x_sema.specs.Rules.{Breaks, IsOutside, IsBadCase, HasNoFault}
-use Rattle.x_sema.specs.Tables.{view_value_at}
 use Rattle.x_sema.specs.Types.{declaration_class}
 use Rattle.x_sema.specs.Views.{View, Class, NoClass, Signed, Unsigned, Boolean, Enumeration}
 use Rattle.x_sema.specs.declared.fault.RuleCode.{RuleCode}
 use Rattle.x_sema.specs.declared.fault.RuleCode.TheVariants as codes
 use Rattle.x_sema.specs.declared.fault.WordFault.{WordFault}
 use Rattle.x_sema.specs.declared.outline.parts.BodyAt.{BodyAt as Kept}
-use Rattle.x_sema.proofs.AmongLemmas.{among_first, among_same, among_more, among_cases, among_none}
+use Rattle.x_sema.proofs.AmongLemmas.{among_none}
 use Rattle.x_sema.proofs.FamilyLemmas.{flat_among, among_flat, fault_is, is_fault, any_is, any_found}
+use Rattle.x_sema.proofs.OutlineLemmas.{flat_bodies}
 use Rattle.x_sema.proofs.SortedFaults.{inside, within}
 
 -- the faults of the cases of a union, by whether a fault stands in its brackets, and by the class of its discriminant
@@ -78,29 +78,31 @@ is_outside_of (Enumeration numbers) z h = by (list_any (int_eq z) numbers) refl
     by true e = let o = any_is (int_eq z) numbers e in absurd (h (subst (IsAmong numbers) (sym ((Decides-int_eq z o.0).0 o.2)) o.1))
     by false e = refl
 
--- ---- lists seen through a view
+-- ---- the cases of a body
 
-among_mapped : {X Y : Type 0} (f : X → Y) (xs : List X) (x : X) → IsAmong xs x → IsAmong (map f xs) (f x)
-among_mapped f [] x h = absurd (among_none x h)
-among_mapped f (z ∷ zs) x h = by (among_cases z x zs h) (among_mapped f zs x)
-  where
-    by : (x ≡ z) ⊎ IsAmong zs x → (IsAmong zs x → IsAmong (map f zs) (f x)) → IsAmong (f z ∷ map f zs) (f x)
-    by (inl e) more = among_same (f z) (f x) (map f zs) (sym (ap f e))
-    by (inr k) more = among_more (f z) (f x) (map f zs) (more k)
+-- the word behind the discriminant of a union whose first word is this one
+abbrev pub behind_of : tree.Body → ℕ → ℕ
+behind_of (tree.Union d arms other) at = at + 2 + length (spell_declaration d)
+behind_of body at = at
 
--- an element that is seen so
-record SeenAs {X Y : Type 0} (f : X → Y) (xs : List X) (y : Y) : Type 0 where
-  pub one : X
-  pub among : IsAmong xs one
-  pub is : f one ≡ y
+-- the faults of the cases of a body of a definition
+abbrev pub bad_cases_in : (List ℕ → View) → List Known → List WordFault → BodyAt → List WordFault
+bad_cases_in see known found b = bad_cases_by see known found b.body b.at (behind_of b.body b.at) (cases_of b)
 
-mapped_among : {X Y : Type 0} (f : X → Y) (xs : List X) (y : Y) → IsAmong (map f xs) y → SeenAs f xs y
-mapped_among f [] y h = absurd (among_none y h)
-mapped_among f (x ∷ xs) y h = by (among_cases (f x) y (map f xs) h) (mapped_among f xs y)
-  where
-    by : (y ≡ f x) ⊎ IsAmong (map f xs) y → (IsAmong (map f xs) y → SeenAs f xs y) → SeenAs f (x ∷ xs) y
-    by (inl e) more = record { one = x; among = among_first x xs; is = sym e }
-    by (inr k) more = let o = more k in record { one = o.one; among = among_more x o.one xs o.among; is = o.is }
+same_behind : (see : List ℕ → View) (known : List Known) (found : List WordFault) (body : tree.Body) (at behind : ℕ) (vs : List ValueAt) → IsBehind body at behind
+    → bad_cases_by see known found body at behind vs ≡ bad_cases_by see known found body at (behind_of body at) vs
+same_behind see known found (tree.Enum es) at behind vs h = refl
+same_behind see known found (tree.Struct ds) at behind vs h = refl
+same_behind see known found (tree.Union d arms other) at behind vs h = ap (λ k. cond (has_fault found (at + 2) k) [] (class_faults see known (declaration_class see known d) vs)) h
+
+-- what is kept of bodies gives the faults of their cases
+pub kept_bad_cases : (see : List ℕ → View) (known : List Known) (found : List WordFault) (bs : List Kept) → AreFilled bs
+    → flat_map (bad_cases_of see known found) bs ≡ flat_map (bad_cases_in see known found) (map view_body_at bs)
+kept_bad_cases see known found bs filled =
+    flat_bodies (bad_cases_of see known found) (bad_cases_in see known found) bs
+    (λ b k.
+    ap (bad_cases_by see known found (view_body b.body.now) b.at b.behind_discriminant) (filled b k).cases
+    ∙ same_behind see known found (view_body b.body.now) b.at b.behind_discriminant (cases_of (view_body_at b)) (filled b k).behind)
 
 -- ---- a case that is found
 
@@ -172,33 +174,31 @@ no_fault d see found at behind declaration all ends clear word code le lt breaks
     let is : false ≡ true = sym clear ∙ any_found (λ f. nat_le at f.word && nat_lt f.word behind) found (record { word = word; code = code }) (all word code breaks) test in
     absurd (cc)
 
-pub found_bad_case : (d : Definition) (see : List ℕ → View) (found : List WordFault) (bs : List Kept) (f : WordFault)
+pub found_bad_case : (d : Definition) (see : List ℕ → View) (found : List WordFault) (f : WordFault)
     → ((word : ℕ) (code : RuleCode) → Breaks d see word code → IsAmong found (record { word = word; code = code }))
-    → map view_body_at bs ≡ bodies d → AreFilled bs
-    → IsAmong (flat_map (bad_cases_of see (knowns see (enumerators d)) found) bs) f → (f.code ≡ codes.BadCase) × IsBadCase d see f.word
-found_bad_case d see found bs f all are filled h =
+    → IsAmong (flat_map (bad_cases_in see (knowns see (enumerators d)) found) (bodies d)) f → (f.code ≡ codes.BadCase) × IsBadCase d see f.word
+found_bad_case d see found f all h =
     let known = knowns see (enumerators d) in
-    let o = flat_among (bad_cases_of see known found) bs f h in
+    let o = flat_among (bad_cases_in see known found) (bodies d) f h in
     let b = o.one in
-    let full = filled b o.among in
-    let c = found_clear see known found (view_body b.body.now) b.at b.behind_discriminant (map view_value_at b.cases.items) f o.of_it in
-    let out = found_outside see known c.class (map view_value_at b.cases.items) f c.among in (
+    let c = found_clear see known found b.body b.at (behind_of b.body b.at) (cases_of b) f o.of_it in
+    let out = found_outside see known c.class (cases_of b) f c.among in (
       out.code_is,
       record {
-        union = view_body_at b;
-        is_body = subst (λ l. IsAmong l (view_body_at b)) are (among_mapped view_body_at bs b o.among);
+        union = b;
+        is_body = o.among;
         at = b.at + 2;
         discriminant = c.discriminant;
         is_switch = record { arms = c.arms; other = c.other; body_is = c.body_is; at_is = refl };
         case = out.case;
-        is_case = subst (λ l. IsAmong l out.case) full.cases out.is_case;
+        is_case = out.is_case;
         word_is = out.word_is;
         number = out.number;
         number_is = out.number_is;
         class = c.class;
         class_is = c.class_is;
         outside = out.outside;
-        no_fault = no_fault d see found (b.at + 2) b.behind_discriminant c.discriminant all (subst (λ t. IsBehind t b.at b.behind_discriminant) c.body_is full.behind) c.clear;
+        no_fault = no_fault d see found (b.at + 2) (behind_of b.body b.at) c.discriminant all (ap (λ t. behind_of t b.at) c.body_is) c.clear;
       },
     )
 
@@ -218,26 +218,21 @@ clear_of d see found at behind declaration each ends none = by (has_fault found 
         absurd (none o.0.word o.0.code in'.0 (omega (arith, ends, lt)) (each o.0 o.1))
     by false e = refl
 
-pub bad_case_found : (d : Definition) (see : List ℕ → View) (found : List WordFault) (bs : List Kept) (word : ℕ)
-    → ((f : WordFault) → IsAmong found f → Breaks d see f.word f.code)
-    → map view_body_at bs ≡ bodies d → AreFilled bs → IsBadCase d see word
-    → IsAmong (flat_map (bad_cases_of see (knowns see (enumerators d)) found) bs) (record { word = word; code = codes.BadCase })
-bad_case_found d see found bs word each are filled h =
+pub bad_case_found : (d : Definition) (see : List ℕ → View) (found : List WordFault) (word : ℕ)
+    → ((f : WordFault) → IsAmong found f → Breaks d see f.word f.code) → IsBadCase d see word
+    → IsAmong (flat_map (bad_cases_in see (knowns see (enumerators d)) found) (bodies d)) (record { word = word; code = codes.BadCase })
+bad_case_found d see found word each h =
     let known = knowns see (enumerators d) in
-    let o = mapped_among view_body_at bs h.union (subst (λ l. IsAmong l h.union) (sym are) h.is_body) in
-    let b = o.one in
-    let full = filled b o.among in
+    let b = h.union in
+    let behind = behind_of b.body b.at in
+    let vs = cases_of b in
     let switch = h.is_switch in
     let fault : WordFault = record { word = word; code = codes.BadCase } in
-    let body_is : view_body b.body.now ≡ tree.Union h.discriminant switch.arms switch.other = ap (λ x. x.body) o.is ∙ switch.body_is in
-    let at_is : h.at ≡ b.at + 2 = switch.at_is ∙ ap (λ x. x.at + 2) (sym o.is) in
-    let behind_is : b.behind_discriminant ≡ b.at + 2 + length (spell_declaration h.discriminant) = subst (λ t. IsBehind t b.at b.behind_discriminant) body_is full.behind in
-    let clear = clear_of d see found (b.at + 2) b.behind_discriminant h.discriminant each behind_is (subst (λ k. HasNoFault d see k h.discriminant) at_is h.no_fault) in
-    let vs = map view_value_at b.cases.items in
-    let is_case : IsAmong vs h.case = subst (λ l. IsAmong l h.case) (ap cases_of (sym o.is) ∙ sym full.cases) h.is_case in
-    among_flat (bad_cases_of see known found) bs b fault o.among
-    (subst (λ l. IsAmong l fault) (union_faults see known found (view_body b.body.now) h.discriminant switch.arms switch.other b.at b.behind_discriminant vs false (Some h.class) body_is clear (sym h.class_is))
-    (among_flat (λ v. fault_at v.word (case_fault h.class (number_by see known (limit_of v.word) v.value))) vs h.case fault is_case
+    let behind_is : behind ≡ b.at + 2 + length (spell_declaration h.discriminant) = ap (λ t. behind_of t b.at) switch.body_is in
+    let clear = clear_of d see found (b.at + 2) behind h.discriminant each behind_is (subst (λ k. HasNoFault d see k h.discriminant) switch.at_is h.no_fault) in
+    among_flat (bad_cases_in see known found) (bodies d) b fault h.is_body
+    (subst (λ l. IsAmong l fault) (union_faults see known found b.body h.discriminant switch.arms switch.other b.at behind vs false (Some h.class) switch.body_is clear (sym h.class_is))
+    (among_flat (λ v. fault_at v.word (case_fault h.class (number_by see known (limit_of v.word) v.value))) vs h.case fault h.is_case
     (is_fault word h.case.word (case_fault h.class (number_by see known (limit_of h.case.word) h.case.value)) codes.BadCase h.word_is
     (ap (case_fault h.class) h.number_is ∙ ap (λ b. cond b (Some codes.BadCase) none) (is_outside_of h.class h.number h.outside)))))
   where

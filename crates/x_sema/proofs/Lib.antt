@@ -10,6 +10,7 @@ pub mod EnumeratorLemmas
 pub mod FamilyLemmas
 pub mod FaultLists
 pub mod FieldLemmas
+pub mod HasResults
 pub mod HeightLemmas
 pub mod InOrder
 pub mod ListLemmas

@@ -21,7 +21,7 @@ one_outcome d views a b h k =
 -- ---- results
 
 -- what two readers of results agree on before an item
-abbrev AgreeBefore : (ℕ → Option Outcome) → (ℕ → Option Outcome) → ℕ → Type 0
+abbrev pub AgreeBefore : (ℕ → Option Outcome) → (ℕ → Option Outcome) → ℕ → Type 0
 AgreeBefore r s item = (k : ℕ) → k < item → r k ≡ s k
 
 same_view_of : (r s : ℕ → Option Outcome) (item : ℕ) (first : Option Declarer) → AgreeBefore r s item → view_of r item first ≡ view_of s item first
@@ -40,7 +40,7 @@ same_view : (definitions : List (Option Definition)) (r s : ℕ → Option Outco
 same_view definitions r s item h name =
     ap (λ v. cond (is_beforehand name) (Earlier kinds.Constant false (beforehand_meaning name)) v) (same_view_of r s item (first_declarer definitions name) h)
 
-same_views : (definitions : List (Option Definition)) (r s : ℕ → Option Outcome) (item : ℕ) → AgreeBefore r s item → (names : List (List ℕ)) → map (view_by definitions r item) names ≡ map (view_by definitions s item) names
+pub same_views : (definitions : List (Option Definition)) (r s : ℕ → Option Outcome) (item : ℕ) → AgreeBefore r s item → (names : List (List ℕ)) → map (view_by definitions r item) names ≡ map (view_by definitions s item) names
 same_views definitions r s item h names = ap (λ f. map f names) (λ i name. same_view definitions r s item h name i)
 
 same_result : (definitions : List (Option Definition)) (r s : ℕ → Option Outcome) (item : ℕ) (d : Option Definition) (o p : Option Outcome) → AgreeBefore r s item

@@ -30,3 +30,8 @@ pub fn one_list_of_results()
     ensures { (definitions : List (Option Definition)) (rs ss : List (Option Outcome))
         → AreResults definitions rs → AreResults definitions ss → rs ≡ ss }
 {}
+
+/// A text has results of all items.
+pub fn has_results()
+    ensures { (definitions : List (Option Definition)) → (rs : List (Option Outcome)) × AreResults definitions rs }
+{}

@@ -16,7 +16,9 @@ mod views;
 pub use check::check_item;
 pub use checked::Checked;
 pub use fault::{RULE_TEXTS, RuleCode, WordFault};
-pub use laws::{one_first_declarer, one_list_of_faults, one_list_of_results, one_outcome};
+pub use laws::{
+    has_results, one_first_declarer, one_list_of_faults, one_list_of_results, one_outcome,
+};
 pub use names::{Declarer, Names};
 pub use numbers::Numbers;
 pub use views::{Class, MOST_HEIGHT, Meaning, View};
