@@ -19,46 +19,14 @@ use Rattle.x_sema.specs.Declarers.{IsShort, AreShort, is_beforehand, first_decla
 use Rattle.x_sema.specs.declared.names.Declarer.{Declarer}
 use Rattle.x_sema.specs.Results.{Outcome, IsOutcome, IsResult, AreResultsFrom, result_at, view_of, view_by, meaning_in, meaning_at, beforehand_meaning}
 use Rattle.x_sema.proofs.DeclarerLaws.{as_found}
+use Rattle.x_sema.proofs.HasResults.{stays_result, agree_front}
 use Rattle.x_sema.proofs.ListLemmas.{drop_one, get_at, take_next}
+use Rattle.x_sema.proofs.OutlineLemmas.{map_map}
+use Rattle.x_sema.proofs.ResultLaws.{AgreeBefore}
 use Rattle.rpcx.specs.ItemView.{kept_definition}
 use Rattle.rpcx.specs.declared.compile.item.Item.{Item}
 use Rattle.rpcx.proofs.Listing.{mapped_one}
 use Rattle.rpcx.specs.Checking.{found, all_found, IsShortAt, counted, view_by_first}
-
--- what a list has in a place stays where one is added
-stays : (rs : List (Option Outcome)) (o : Option Outcome) (k : ℕ) → k < length rs → result_at rs k ≡ result_at (rs ++ o ∷ []) k
-stays [] o k lt = absurd (omega (arith, lt))
-stays (r ∷ rs) o zero lt = refl
-stays (r ∷ rs) o (suc k) lt = stays rs o k (omega (arith, lt))
-
--- ---- what two readers of results agree on before an item
-
-abbrev AgreeBefore : (ℕ → Option Outcome) → (ℕ → Option Outcome) → ℕ → Type 0
-AgreeBefore r s item = (k : ℕ) → k < item → r k ≡ s k
-
-same_view_of : (r s : ℕ → Option Outcome) (item : ℕ) (first : Option Declarer) → AgreeBefore r s item → view_of r item first ≡ view_of s item first
-same_view_of r s item None h = refl
-same_view_of r s item (Some at) h = by (nat_lt at.item item) refl
-  where
-    other : View
-    other = cond (nat_lt item at.item) (Later at.kind at.lifted) (Own at.kind at.lifted)
-
-    by : (b : Bool) → nat_lt at.item item ≡ b → cond (nat_lt at.item item) (Earlier at.kind at.lifted (meaning_at r at)) other ≡ cond (nat_lt at.item item) (Earlier at.kind at.lifted (meaning_at s at)) other
-    by true e = let lt : at.item < item = grind (arith, nat_tests) in
-        ap (λ o. cond (nat_lt at.item item) (Earlier at.kind at.lifted (unwrap_or (option_map (λ x. meaning_in x at.place) o) Bad)) other) (h at.item lt)
-    by false e = ap (λ b. cond b (Earlier at.kind at.lifted (meaning_at r at)) other) e ∙ sym (ap (λ b. cond b (Earlier at.kind at.lifted (meaning_at s at)) other) e)
-
-same_views : (definitions : List (Option Definition)) (r s : ℕ → Option Outcome) (item : ℕ) → AgreeBefore r s item → (names : List (List ℕ)) → map (view_by definitions r item) names ≡ map (view_by definitions s item) names
-same_views definitions r s item h names =
-    ap (λ f. map f names)
-    (λ i name. ap (λ v. cond (is_beforehand name) (Earlier kinds.Constant false (beforehand_meaning name)) v) (same_view_of r s item (first_declarer definitions name) h) i)
-
-same_result : (definitions : List (Option Definition)) (r s : ℕ → Option Outcome) (item : ℕ) (d : Option Definition) (o : Option Outcome) → AgreeBefore r s item
-    → IsResult definitions r item d o → IsResult definitions s item d o
-same_result definitions r s item None None h is = is
-same_result definitions r s item None (Some o) h is = absurd is
-same_result definitions r s item (Some d) None h is = absurd is
-same_result definitions r s item (Some d) (Some o) h is = subst (λ views. IsOutcome d views o) (same_views definitions r s item h (names_of d)) is
 
 -- ---- one item more
 
@@ -69,15 +37,15 @@ results_push definitions r s n m [] (x ∷ os) d o agree place are is = absurd a
 results_push definitions r s n m (y ∷ ds) [] d o agree place are is = absurd are
 results_push definitions r s n m (y ∷ ds) (x ∷ os) d o agree place are is =
     let next : m ≡ suc n + length os = omega (arith, place) in
-    (same_result definitions r s n y x (λ k lt. agree k (omega (arith, lt, place))) are.0, results_push definitions r s (suc n) m ds os d o agree next are.1 is)
+    (stays_result definitions r s n y x (λ k lt. agree k (omega (arith, lt, place))) are.0, results_push definitions r s (suc n) m ds os d o agree next are.1 is)
 
 -- the result of the next item joins those of the items before it
 pub results_more : (definitions : List (Option Definition)) (ds : List (Option Definition)) (os : List (Option Outcome)) (item : ℕ) (d : Option Definition) (o : Option Outcome)
     → item ≡ length os → AreResultsFrom definitions (result_at os) 0 ds os → IsResult definitions (result_at os) item d o
     → AreResultsFrom definitions (result_at (os ++ o ∷ [])) 0 (ds ++ d ∷ []) (os ++ o ∷ [])
 results_more definitions ds os item d o place are is =
-    let agree : AgreeBefore (result_at os) (result_at (os ++ o ∷ [])) item = λ k lt. stays os o k (omega (arith, place, lt)) in
-    results_push definitions (result_at os) (result_at (os ++ o ∷ [])) 0 item ds os d o agree (omega (arith, place)) are (same_result definitions (result_at os) (result_at (os ++ o ∷ [])) item d o agree is)
+    let agree : AgreeBefore (result_at os) (result_at (os ++ o ∷ [])) item = agree_front os (o ∷ []) item place in
+    results_push definitions (result_at os) (result_at (os ++ o ∷ [])) 0 item ds os d o agree (omega (arith, place)) are (stays_result definitions (result_at os) (result_at (os ++ o ∷ [])) item d o agree is)
 
 -- ---- views by a table of names
 
@@ -95,23 +63,15 @@ result_by_first definitions find results item d views o first are is =
 
 -- ---- the names that an item sees
 
-names_by : (ds : List DeclaredName) → map (λ d. d.name.items) ds ≡ map (λ x. x.name) (map view_name ds)
-names_by [] = refl
-names_by (d ∷ ds) = ap (λ l. d.name.items ∷ l) (names_by ds)
-
-used_by : (ms : List rust.Mention) → map (λ m. m.name.now) ms ≡ map (λ m. m.name) (map view_mention ms)
-used_by [] = refl
-used_by (m ∷ ms) = ap (λ l. m.name.now ∷ l) (used_by ms)
-
 pub names_declared : (f : List ℕ → View) (views : List View) (n : ℕ) (lent ds : List DeclaredName) (all : List Declared) → views ≡ map f (map (λ d. d.name.items) (take n lent)) → length lent ≤ n → lent ≡ ds
     → map view_name ds ≡ all → views ≡ map f (map (λ x. x.name) all ++ [])
 names_declared f views n lent ds all so end same are =
-    so ∙ ap (λ l. map f (map (λ (d : DeclaredName). d.name.items) l)) (take_all n lent end ∙ same) ∙ ap (map f) (names_by ds ∙ ap (map (λ (x : Declared). x.name)) are ∙ sym (append-nil (map (λ (x : Declared). x.name) all)))
+    so ∙ ap (λ l. map f (map (λ (d : DeclaredName). d.name.items) l)) (take_all n lent end ∙ same) ∙ ap (map f) (map_map (λ x. x.name) view_name ds ∙ ap (map (λ (x : Declared). x.name)) are ∙ sym (append-nil (map (λ (x : Declared). x.name) all)))
 
 pub names_mentioned : (f : List ℕ → View) (views : List View) (front : List (List ℕ)) (n : ℕ) (lent ms : List rust.Mention) (all : List Mention) → views ≡ map f (front ++ map (λ m. m.name.now) (take n lent)) → length lent ≤ n → lent ≡ ms
     → map view_mention ms ≡ all → views ≡ map f (front ++ map (λ m. m.name) all)
 names_mentioned f views front n lent ms all so end same are =
-    so ∙ ap (λ l. map f (front ++ map (λ (m : rust.Mention). m.name.now) l)) (take_all n lent end ∙ same) ∙ ap (λ l. map f (front ++ l)) (used_by ms ∙ ap (map (λ (m : Mention). m.name)) are)
+    so ∙ ap (λ l. map f (front ++ map (λ (m : rust.Mention). m.name.now) l)) (take_all n lent end ∙ same) ∙ ap (λ l. map f (front ++ l)) (map_map (λ m. m.name) view_mention ms ∙ ap (map (λ (m : Mention). m.name)) are)
 
 -- ---- an item
 

@@ -44,7 +44,7 @@ has_result definitions results item None = (None, tt)
 has_result definitions results item (Some d) = let o = has_outcome d (map (view_by definitions results item) (names_of d)) in (Some o.0, o.1)
 
 -- a result stays one where the results of the items before it stay
-stays_result : (definitions : List (Option Definition)) (r s : ℕ → Option Outcome) (item : ℕ) (d : Option Definition) (o : Option Outcome) → AgreeBefore r s item
+pub stays_result : (definitions : List (Option Definition)) (r s : ℕ → Option Outcome) (item : ℕ) (d : Option Definition) (o : Option Outcome) → AgreeBefore r s item
     → IsResult definitions r item d o → IsResult definitions s item d o
 stays_result definitions r s item None None h a = tt
 stays_result definitions r s item None (Some o) h a = absurd a
@@ -57,7 +57,7 @@ get_front (x ∷ xs) ys zero lt = refl
 get_front (x ∷ xs) ys (suc k) lt = get_front xs ys k (omega (arith, lt))
 
 -- more results leave those before them
-agree_front : (before more : List (Option Outcome)) (item : ℕ) → item ≡ length before → AgreeBefore (result_at before) (result_at (before ++ more)) item
+pub agree_front : (before more : List (Option Outcome)) (item : ℕ) → item ≡ length before → AgreeBefore (result_at before) (result_at (before ++ more)) item
 agree_front before more item is k lt = ap (option_and_then (λ o. o)) (get_front before more k (omega (arith, is, lt)))
 
 -- behind the results of the items before them, items have results
