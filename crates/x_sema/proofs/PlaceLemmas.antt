@@ -157,12 +157,12 @@ pub record Numbered (constants : Constants) (all : List EnumeratorAt) (see : Lis
 
 pub numbered_next : (constants next : Constants) (all : List EnumeratorAt) (see : List ℕ → View) (before number : Option ℤ) (place : ℕ) → Numbered constants all see before place → place < length all
     → ((known : List Known) (e : EnumeratorAt) → HasNumbers constants all known → slice_get all place ≡ Some e → number ≡ number_of see known before e)
-    → next.list.items ≡ constants.list.items → next.places.entries ≡ constants.places.entries → next.numbers.items ≡ constants.numbers.items ++ number ∷ []
+    → next.list.items ≡ constants.list.items → next.places ≡ constants.places → next.numbers.items ≡ constants.numbers.items ++ number ∷ []
     → Numbered next all see number (place + 1)
 numbered_next constants next all see before number place n lt is list places numbers = record {
   known = known;
   has = record {
-    places = record { at = λ name. ap (λ entries. place_in entries name) places ∙ n.has.places.at name };
+    places = record { at = λ name. ap (λ kept. place_in kept name) places ∙ n.has.places.at name };
     list = ap (map view_enumerator_at) list ∙ n.has.list;
     numbers = numbers ∙ ap (λ l. l ++ number ∷ []) n.has.numbers ∙ sym (map_append (λ k. k.number) n.known (here ∷ []));
     front = map_append (λ k. k.enumerator) n.known (here ∷ []) ∙ ap (λ l. l ++ some.0 ∷ []) (n.has.front ∙ ap (λ i. take i all) n.count)

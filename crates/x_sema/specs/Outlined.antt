@@ -32,7 +32,7 @@ pub record IsOutline (o : Outline) : Type 0 where
 
 -- The table of places is that of all these names, and that of constants has the enumerators with their numbers.
 pub record AreTables (o : Outline) (sights : Sights) (constants : Constants) : Type 0 where
-  pub places : HasPlaces sights.places.entries (names_of (outlined o))
+  pub places : HasPlaces sights.places (names_of (outlined o))
   pub numbers : HasNumbers constants (enumerators (outlined o)) (knowns (seen_by sights) (enumerators (outlined o)))
 
 -- what checking a definition gives, by what its item sees of each name

@@ -26,6 +26,8 @@ use Rattle.x_sema.specs.declared.outline.parts.Members.{Members}
 use Rattle.x_sema.specs.declared.outline.parts.NameAt.{NameAt}
 use Rattle.x_sema.specs.declared.outline.parts.ValueAt.{ValueAt}
 use Rattle.x_sema.specs.declared.outline.parts.NumberAt.{NumberAt}
+use Rattle.x_sema.specs.declared.rules.places.Places.{Places}
+use Rattle.x_sema.specs.declared.rules.places.Places.TheVariants as held
 use Rattle.x_sema.specs.declared.rules.sights.Sights.{Sights}
 use Rattle.x_sema.specs.declared.rules.constants.Constants.{Constants}
 
@@ -46,16 +48,25 @@ first_place n [] name = None
 first_place n (x ∷ xs) name = if bytes_eq name x then Some n else first_place (suc n) xs name
 
 -- what a table of places has for a name
-abbrev pub place_in : List (Bor (List ℕ) × ℕ) → List ℕ → Option ℕ
-place_in entries name = lookup (λ key. bytes_eq name key.now) entries
+abbrev pub tabled : List (Bor (List ℕ) × ℕ) → List ℕ → Option ℕ
+tabled entries name = lookup (λ key. bytes_eq name key.now) entries
+
+-- the place that is kept of a name
+abbrev pub place_in : Places → List ℕ → Option ℕ
+place_in (held.Few names) name = first_place 0 (map (λ x. x.now) names.items) name
+place_in (held.Many table) name = tabled table.entries name
 
 -- what a table has for a name once another is taken in with its place, if that was not there
 abbrev pub noted : Option ℕ → List ℕ → List ℕ → ℕ → Option ℕ
 noted found other name place = or_else found (if bytes_eq other name then Some place else None)
 
 -- the table has the first place of each name
-pub record HasPlaces (entries : List (Bor (List ℕ) × ℕ)) (names : List (List ℕ)) : Type 0 where
-  pub at : (name : List ℕ) → place_in entries name ≡ first_place 0 names name
+pub record HasTabled (entries : List (Bor (List ℕ) × ℕ)) (names : List (List ℕ)) : Type 0 where
+  pub at : (name : List ℕ) → tabled entries name ≡ first_place 0 names name
+
+-- the first place of each name is kept
+pub record HasPlaces (places : Places) (names : List (List ℕ)) : Type 0 where
+  pub at : (name : List ℕ) → place_in places name ≡ first_place 0 names name
 
 -- ---- views
 
@@ -66,7 +77,7 @@ view_at vs (Some place) = option_map_or view_view (slice_get vs place) views.Und
 
 -- what an item sees of a name, by the table of its views
 abbrev pub seen_by : Sights → List ℕ → views.View
-seen_by sights name = view_at sights.views.now (place_in sights.places.entries name)
+seen_by sights name = view_at sights.views.now (place_in sights.places name)
 
 abbrev pub view_sight : Sight → types.Sight
 view_sight s = record { class = view_class s.class; height = s.height }
@@ -109,7 +120,7 @@ view_members m = record { names = map view_name_at m.names.items; numbers = map 
 
 -- the table of enumerators has these, and numbers of the first of them
 pub record HasNumbers (constants : Constants) (all : List bodies.EnumeratorAt) (known : List Known) : Type 0 where
-  pub places : HasPlaces constants.places.entries (map (λ e. e.name) all)
+  pub places : HasPlaces constants.places (map (λ e. e.name) all)
   pub list : map view_enumerator_at constants.list.items ≡ all
   pub numbers : constants.numbers.items ≡ map (λ k. k.number) known
   pub front : map (λ k. k.enumerator) known ≡ take (length known) all

@@ -8,6 +8,7 @@ pub mod found;
 pub mod heights;
 pub mod meanings;
 pub mod mentioned;
+pub mod places;
 pub mod repeats;
 pub mod sights;
 pub mod words;

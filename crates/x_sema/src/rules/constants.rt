@@ -15,12 +15,12 @@ ghost use Rattle.x_sema.specs.Constants.{number_before, number_by, number_seen, 
 ghost use Rattle.x_sema.specs.Numbers.{is_enum_number, is_word_number};
 ghost use Rattle.x_sema.specs.Tables.{HasPlaces, HasNumbers, seen_by, view_enumerator_at};
 
-use super::sights::{Sights, place_of, places_of};
+use super::places::Places;
+use super::sights::Sights;
 use crate::number::number_value;
 use crate::outline::bodies::words_of_enumerator;
 use crate::outline::parts::{BodyAt, EnumeratorAt};
 use crate::views::{Meaning, View};
-use indexmap::IndexMap;
 use std::alloc::Global;
 use x_item::{Body, Enumerator, NameKind, Value};
 use x_text::NoMemory;
@@ -106,23 +106,20 @@ pub fn enumerators<'d>(
 pub struct Constants<'d> {
     pub list: Vec<EnumeratorAt<'d>>,
     /// The place in the list of the first enumerator of each name.
-    places: IndexMap<&'d [u8], usize>,
+    places: Places<'d>,
     pub numbers: Vec<Option<i128>>,
 }
 
 /// The first place of each name.
-fn places_of_names<'d>(
-    alloc: Global,
-    list: &[EnumeratorAt<'d>],
-) -> Result<IndexMap<&'d [u8], usize>, NoMemory>
-    ensures { IfOk result (λ places. HasPlaces places.entries
+fn places_of_names<'d>(alloc: Global, list: &[EnumeratorAt<'d>]) -> Result<Places<'d>, NoMemory>
+    ensures { IfOk result (λ places. HasPlaces places
         (map (λ e. e.name) (map view_enumerator_at list.now))) }
 {
-    let mut names = Vec::new(alloc);
+    let mut names = Vec::with_capacity(alloc, list.len())?;
     for enumerator in list {
         names.push(enumerator.name)?;
     }
-    places_of(alloc, &names)
+    Places::of(alloc, names)
 }
 
 /// The number of an enumerator without a value, by that of the one before.
@@ -245,7 +242,7 @@ impl<'d> Constants<'d> {
         ensures { (all : List bodies.EnumeratorAt) (known : List Known) → HasNumbers self.now all known
             → result ≡ is_declared_before all limit name.now }
     {
-        match place_of(&self.places, name) {
+        match self.places.place(name) {
             Some(place) => self.is_before(place, limit),
             None => false,
         }
@@ -266,7 +263,7 @@ impl<'d> Constants<'d> {
         ensures { (all : List bodies.EnumeratorAt) (known : List Known) → HasNumbers self.now all known
             → result ≡ number_before known limit name.now }
     {
-        match place_of(&self.places, name) {
+        match self.places.place(name) {
             Some(place) => {
                 if self.is_before(place, limit) {
                     self.number_in(place)
@@ -302,7 +299,7 @@ impl<'d> Constants<'d> {
         ensures { (all : List bodies.EnumeratorAt) (known : List Known) → HasNumbers self.now all known
             → result ≡ number_named known name.now }
     {
-        match place_of(&self.places, name) {
+        match self.places.place(name) {
             Some(place) => self.number_in(place),
             None => None,
         }

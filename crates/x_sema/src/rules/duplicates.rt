@@ -33,7 +33,7 @@ pub fn is_behind(first: Option<usize>, place: usize) -> bool
 /// The fault of a name in this place of those that the item declares.
 fn duplicate_fault(sights: &Sights, place: usize, name: &[u8]) -> Option<RuleCode>
     ensures { result ≡ duplicate_code (is_taken_at (seen_by sights.now)
-        (place_in sights.now.places.entries) place name.now) }
+        (place_in sights.now.places) place name.now) }
 {
     if is_earlier_name(sights.see(name)) || is_behind(sights.place(name), place) {
         Some(RuleCode::Duplicate)
@@ -49,7 +49,7 @@ pub fn add_duplicates(
     sights: &Sights,
 ) -> Result<(), NoMemory>
     ensures { OnOk result (faults.new.items ≡ faults.old.items
-        ++ duplicates_from (seen_by sights.now) (place_in sights.now.places.entries) 0 (map view_name declared.now)) }
+        ++ duplicates_from (seen_by sights.now) (place_in sights.now.places) 0 (map view_name declared.now)) }
 {
     for (place, name) in declared.iter().enumerate() {
         let code = duplicate_fault(sights, place, &name.name);

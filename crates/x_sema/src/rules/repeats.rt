@@ -11,11 +11,11 @@ ghost use Rattle.x_sema.specs.Tables.{HasPlaces, place_in, view_name_at, view_nu
 
 use super::duplicates::is_behind;
 use super::found::add_fault;
-use super::sights::{place_of, places_of};
+use super::places::Places;
 use crate::fault::{RuleCode, WordFault};
 use crate::number::number_value;
 use crate::outline::parts::{BodyAt, Members, NameAt, NumberAt};
-use indexmap::{IndexMap, IndexSet};
+use indexmap::IndexSet;
 use std::alloc::Global;
 use x_text::NoMemory;
 
@@ -104,31 +104,28 @@ fn name_fault(first: Option<usize>, place: usize) -> Option<RuleCode>
 }
 
 /// The first places of the names of a group.
-fn places_of_group<'d>(
-    alloc: Global,
-    names: &[NameAt<'d>],
-) -> Result<IndexMap<&'d [u8], usize>, NoMemory>
-    ensures { IfOk result (λ places. HasPlaces places.entries
+fn places_of_group<'d>(alloc: Global, names: &[NameAt<'d>]) -> Result<Places<'d>, NoMemory>
+    ensures { IfOk result (λ places. HasPlaces places
         (map (λ x. x.name) (map view_name_at names.now))) }
 {
-    let mut list = Vec::new(alloc);
+    let mut list = Vec::with_capacity(alloc, names.len())?;
     for name in names {
         list.push(name.name)?;
     }
-    places_of(alloc, &list)
+    Places::of(alloc, list)
 }
 
 /// Adds the faults of names, by the first place of each.
 fn add_name_faults(
     faults: &mut Vec<WordFault>,
     names: &[NameAt],
-    places: &IndexMap<&[u8], usize>,
+    places: &Places,
 ) -> Result<(), NoMemory>
     ensures { OnOk result (faults.new.items ≡ faults.old.items
-        ++ repeats_from (place_in places.now.entries) 0 (map view_name_at names.now)) }
+        ++ repeats_from (place_in places.now) 0 (map view_name_at names.now)) }
 {
     for (place, name) in names.iter().enumerate() {
-        let code = name_fault(place_of(places, name.name), place);
+        let code = name_fault(places.place(name.name), place);
         add_fault(faults, name.word, code)?;
     }
     Ok(())

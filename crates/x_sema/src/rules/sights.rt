@@ -1,11 +1,11 @@
 //! What an item sees of the names that stand in it.
 
-ghost use Rattle.std.specs.Prelude.{◌≡◌, ℕ, ◌++◌, List, map, OnOk, IfOk};
+ghost use Rattle.std.specs.Prelude.{◌≡◌, ◌++◌, map, IfOk};
 ghost use Rattle.x_sema.specs.RustViews.{view_view};
-ghost use Rattle.x_sema.specs.Tables.{HasPlaces, place_in, first_place, seen_by, noted};
+ghost use Rattle.x_sema.specs.Tables.{HasPlaces, place_in, seen_by};
 
+use super::places::Places;
 use crate::views::View;
-use indexmap::IndexMap;
 use std::alloc::Global;
 use x_item::{DeclaredName, Mention};
 use x_text::NoMemory;
@@ -14,44 +14,8 @@ use x_text::NoMemory;
 #[derive(Drop)]
 pub struct Sights<'v> {
     /// The place of each name among those that the item declares and then those that it uses: the first.
-    places: IndexMap<&'v [u8], usize>,
+    places: Places<'v>,
     views: &'v [View<'v>],
-}
-
-/// What the table has for the name.
-pub fn place_of(places: &IndexMap<&[u8], usize>, name: &[u8]) -> Option<usize>
-    ensures { result ≡ place_in places.now.entries name.now }
-{
-    places.get(name).copied()
-}
-
-/// Takes in a name with its place, if it is not there.
-fn note<'v>(
-    places: &mut IndexMap<&'v [u8], usize>,
-    name: &'v [u8],
-    place: usize,
-) -> Result<(), NoMemory>
-    ensures { OnOk result ((other : List ℕ) → place_in places.new.entries other
-        ≡ noted (place_in places.old.entries other) other name.now place) }
-{
-    if place_of(places, name).is_none() {
-        places.insert(name, place)?;
-    }
-    Ok(())
-}
-
-/// The first place of each name.
-pub fn places_of<'v>(
-    alloc: Global,
-    names: &[&'v [u8]],
-) -> Result<IndexMap<&'v [u8], usize>, NoMemory>
-    ensures { IfOk result (λ places. HasPlaces places.entries (map (λ name. name.now) names.now)) }
-{
-    let mut places = IndexMap::new(alloc);
-    for (place, name) in names.iter().enumerate() {
-        note(&mut places, name, place)?;
-    }
-    Ok(places)
 }
 
 impl<'v> Sights<'v> {
@@ -62,11 +26,12 @@ impl<'v> Sights<'v> {
         mentions: &'v [Mention<'v>],
         views: &'v [View<'v>],
     ) -> Result<Sights<'v>, NoMemory>
-        ensures places { IfOk result (λ sights. HasPlaces sights.places.entries
+        ensures places { IfOk result (λ sights. HasPlaces sights.places
             (map (λ d. d.name.items) declared.now ++ map (λ m. m.name.now) mentions.now)) }
         ensures views { IfOk result (λ sights. sights.views.now ≡ views.now) }
     {
-        let mut names = Vec::new(alloc);
+        let count = declared.len().saturating_add(mentions.len());
+        let mut names = Vec::with_capacity(alloc, count)?;
         for name in declared {
             names.push(name.name.as_slice())?;
         }
@@ -74,16 +39,16 @@ impl<'v> Sights<'v> {
             names.push(mention.name)?;
         }
         Ok(Sights {
-            places: places_of(alloc, &names)?,
+            places: Places::of(alloc, names)?,
             views,
         })
     }
 
     /// The first place of the name.
     pub fn place(&self, name: &[u8]) -> Option<usize>
-        ensures { result ≡ place_in self.now.places.entries name.now }
+        ensures { result ≡ place_in self.now.places name.now }
     {
-        place_of(&self.places, name)
+        self.places.place(name)
     }
 
     /// What the item sees of the name.

@@ -27,7 +27,7 @@ returns c o t =
     let bs = outline.bodies.items in
     let first = first_place 0 (names_of d) in
     let duplicates =
-    ap (λ l. duplicates_from see (place_in c.args.sights.now.places.entries) 0 (map view_name l)) c.deref.ensures.value
+    ap (λ l. duplicates_from see (place_in c.args.sights.now.places) 0 (map view_name l)) c.deref.ensures.value
     ∙ ap (λ f. duplicates_from see f 0 (map view_name ds)) (λ i name. t.places.at name i) ∙ ap (duplicates_from see first 0) o.names_are in
     let uses = ap (λ l. mention_faults see all (map view_mention l)) c.deref-2.ensures.value ∙ ap (mention_faults see all) o.uses_are in
     let noted = ap (λ ns. note_faults see known (map view_note_at ns)) c.deref-3.ensures.value ∙ ap (note_faults see known) (c.in_ok-noted.ensures o.short) in

@@ -10,7 +10,7 @@ loop-place-preserved c =
     let place = c.loop-place.place in
     let all = c.args.declared.now in
     let see = seen_by c.args.sights.now in
-    let first = place_in c.args.sights.now.places.entries in
+    let first = place_in c.args.sights.now.places in
     let here = c.index-declared-place.result in
     let rest = map view_name (drop (place + 1) all) in
     let now = c.loop-place.faults.items in
@@ -25,7 +25,7 @@ loop-place-preserved c =
 pub returns : goal.returns
 returns c =
     let see = seen_by c.args.sights.now in
-    let first = place_in c.args.sights.now.places.entries in
+    let first = place_in c.args.sights.now.places in
     sym (append-nil c.loop-place.faults.items)
     ∙ sym (ap (λ xs. c.loop-place.faults.items ++ duplicates_from see first c.loop-place.place (map view_name xs)) (drop_none c.args.declared.now c.loop-place.place c.loop-place-test.false))
     ∙ c.loop-place.invariant

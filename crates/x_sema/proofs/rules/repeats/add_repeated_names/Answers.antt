@@ -7,5 +7,5 @@ use Rattle.x_sema.proofs.rules.repeats.add_repeated_names.Goals as goal
 pub returns : goal.returns
 returns c =
     let xs = map view_name_at c.args.names.now in
-    let same : place_in c.in_ok-places.places.entries ≡ first_place 0 (map (λ x. x.name) xs) = λ i name. c.in_ok-places.ensures.at name i in
+    let same : place_in c.in_ok-places.places ≡ first_place 0 (map (λ x. x.name) xs) = λ i name. c.in_ok-places.ensures.at name i in
     on_ok_weaker c.add_name_faults.result (λ h. h ∙ ap (λ first. c.args.faults.now.items ++ repeats_from first 0 xs) same) c.add_name_faults.ensures

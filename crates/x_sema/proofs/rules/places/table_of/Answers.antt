@@ -1,9 +1,9 @@
 use Rattle.std.proofs.Common.{◌≡◌, ℕ, List, [], ◌+◌, suc, map, drop, get_or, ap, arith}
 use Rattle.std.specs.Borrow.{Bor}
-use Rattle.x_sema.specs.Tables.{place_in, first_place}
+use Rattle.x_sema.specs.Tables.{tabled, first_place}
 use Rattle.x_sema.proofs.ListLemmas.{drop_one, drop_none}
 use Rattle.x_sema.proofs.PlaceLemmas.{place_more, all_placed}
-use Rattle.x_sema.proofs.rules.sights.places_of.Goals as goal
+use Rattle.x_sema.proofs.rules.places.table_of.Goals as goal
 
 pub loop-place-preserved : goal.loop-place-preserved
 loop-place-preserved c =
@@ -11,7 +11,7 @@ loop-place-preserved c =
     let all = c.args.names.now in
     let d : Bor (List ℕ) = record { ref_ptr = (0, 0); now = [] } in
     let next : place + 1 ≡ suc place = omega arith in
-    place_more (place_in c.loop-place.places.entries) (place_in c.note.new.places.entries) place (place + 1) (map (λ x. x.now) (drop place all)) (get_or all place d).now (map (λ x. x.now) (drop (place + 1) all))
+    place_more (tabled c.loop-place.table.entries) (tabled c.note.new.table.entries) place (place + 1) (map (λ x. x.now) (drop place all)) (get_or all place d).now (map (λ x. x.now) (drop (place + 1) all))
     (first_place 0 (map (λ x. x.now) all)) next (ap (map (λ x. x.now)) (drop_one all place d c.loop-place-test.true)) c.in_ok-note.ensures c.loop-place.invariant
 
 pub returns : goal.returns
