@@ -31,13 +31,22 @@ fn faults_have_their_texts(rt: HostRuntime) -> Result<(), Fail> {
         (FaultCode::Rule(RuleCode::BadSize), "26 BadSize"),
         (FaultCode::Rule(RuleCode::VoidPlace), "27 VoidPlace"),
         (FaultCode::Rule(RuleCode::EmptyArray), "28 EmptyArray"),
-        (FaultCode::Rule(RuleCode::BadDiscriminant), "29 BadDiscriminant"),
+        (
+            FaultCode::Rule(RuleCode::BadDiscriminant),
+            "29 BadDiscriminant",
+        ),
         (FaultCode::Rule(RuleCode::BadCase), "30 BadCase"),
         (FaultCode::Rule(RuleCode::RepeatedCase), "31 RepeatedCase"),
         (FaultCode::Rule(RuleCode::RepeatedField), "32 RepeatedField"),
-        (FaultCode::Rule(RuleCode::RepeatedNumber), "33 RepeatedNumber"),
+        (
+            FaultCode::Rule(RuleCode::RepeatedNumber),
+            "33 RepeatedNumber",
+        ),
         (FaultCode::Rule(RuleCode::TooHigh), "34 TooHigh"),
-        (FaultCode::Rule(RuleCode::InlineArgument), "36 InlineArgument"),
+        (
+            FaultCode::Rule(RuleCode::InlineArgument),
+            "36 InlineArgument",
+        ),
         (FaultCode::Rule(RuleCode::UsesFaulty), "37 UsesFaulty"),
     ];
     for (code, wanted) in rows {
