@@ -37,7 +37,7 @@ pub enum RuleCode {
     RepeatedField,
     /// An earlier version or procedure has the number.
     RepeatedNumber,
-    /// Types are held by one another more than [`crate::MOST_HEIGHT`] times.
+    /// The type, or one that is lifted from it, is higher than [`crate::MOST_HEIGHT`].
     TooHigh,
     /// An argument or a result is written as an inline type.
     InlineArgument,

@@ -10,7 +10,7 @@ use crate::names::{Declarer, is_beforehand};
 use crate::numbers::Numbers;
 use x_item::NameKind;
 
-/// The greatest height of a type: how often types may be held by one another, a type that holds no other having the height 1.
+/// The greatest height of a type. One that holds no other has the height 1, and any other 1 more than the highest that it holds.
 pub const MOST_HEIGHT: u32 = 32;
 
 /// What a type is as the discriminant of a union.
