@@ -1,5 +1,6 @@
 -- What a walk over a tree has found of declared names.
 use Rattle.std.specs.Prelude.{◌≡◌, ℕ, ◌^◌, ◌<◌, List, [], length, map}
+use Rattle.std.specs.Cow.{cow_slice_items}
 use Rattle.x_item.specs.Tree as tree
 use Rattle.x_item.specs.Gloss.{Gloss}
 use Rattle.x_item.specs.Names.{Declared, declared_at, declared}
@@ -9,7 +10,7 @@ use Rattle.x_item.specs.declared.names.declared_name.DeclaredName.{DeclaredName}
 use Rattle.x_item.specs.declared.names.declares.NameWalk.{NameWalk}
 
 abbrev pub view_name : DeclaredName → Declared
-view_name d = record { name = d.name.items; word = d.word; kind = d.kind; lifted = d.lifted }
+view_name d = record { name = cow_slice_items d.name; word = d.word; kind = d.kind; lifted = d.lifted }
 
 abbrev pub view_names : NameWalk → Walked Declared
 view_names w = record { word = w.word; list = map view_name w.list.items }

@@ -140,6 +140,16 @@ fn checked(
     Ok(Checked::new(faults, meanings))
 }
 
+/// What is found of a definition under these views.
+fn outcome(alloc: Global, outline: &Outline, views: &[View]) -> Result<Checked, NoMemory>
+    ensures { IfOk result (λ checked. IsOutline outline.now
+        → IsOutcome (outlined outline.now) (map view_view views.now) checked) }
+{
+    let sights = Sights::of(alloc, &outline.declared, &outline.mentioned, views)?;
+    let constants = Constants::of(alloc, enumerators(alloc, &outline.bodies)?, &sights)?;
+    checked(alloc, outline, &sights, &constants)
+}
+
 /// Checks the definition of an item by the rules beyond its spelling (RFC 4506, section 6.4). There is one view for each name that it
 /// declares, and then one for each that it uses, in the orders of [`x_item::declares`] and [`x_item::mentions`]. Counts one checked
 /// item. It takes time in proportion to the definition, but for sorting faults and the numbers of an enum.
@@ -159,7 +169,24 @@ pub fn check_item(
 {
     meter.tick_checked();
     let outline = Outline::of(alloc, definition)?;
-    let sights = Sights::of(alloc, &outline.declared, &outline.mentioned, views)?;
-    let constants = Constants::of(alloc, enumerators(alloc, &outline.bodies)?, &sights)?;
-    checked(alloc, &outline, &sights, &constants)
+    outcome(alloc, &outline, views)
+}
+
+/// As [`check_item`], of a definition whose outline is there.
+///
+/// # Errors
+///
+/// As [`check_item`].
+pub fn check_outline(
+    alloc: Global,
+    outline: &Outline,
+    views: &[View],
+    meter: &mut Meter,
+) -> Result<Checked, NoMemory>
+    ensures checked { IfOk result (λ checked. IsOutline outline.now
+        → IsOutcome (outlined outline.now) (map view_view views.now) checked) }
+    ensures counted { meter.new ≡ record meter.old { checked = raised meter.old.checked 1 } }
+{
+    meter.tick_checked();
+    outcome(alloc, outline, views)
 }

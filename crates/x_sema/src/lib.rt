@@ -13,7 +13,7 @@ mod outline;
 mod rules;
 mod views;
 
-pub use check::check_item;
+pub use check::{check_item, check_outline};
 pub use checked::Checked;
 pub use fault::{RULE_TEXTS, RuleCode, WordFault};
 pub use laws::{
@@ -21,4 +21,5 @@ pub use laws::{
 };
 pub use names::{Declarer, Names};
 pub use numbers::Numbers;
+pub use outline::Outline;
 pub use views::{Class, MOST_HEIGHT, Meaning, View};

@@ -1,5 +1,6 @@
 //! The first declarer of each name.
 ghost use Rattle.std.specs.Prelude.{◌≡◌, ℕ, List, map, IfOk, OnOk, Some, None, if◌then◌else◌};
+ghost use Rattle.std.specs.Cow.{cow_slice_items};
 ghost use Rattle.std.specs.Str.{bytes_eq};
 ghost use Rattle.x_item.specs.View.{view_definition};
 ghost use Rattle.x_item.specs.Names.{declared};
@@ -9,6 +10,7 @@ ghost use Rattle.x_sema.specs.DeclarerTable.{entry_in, first_in, tree_at};
 
 use indexmap::IndexMap;
 use std::alloc::Global;
+use std::borrow::CowSlice;
 use std::marker::Model;
 use x_item::{Definition, NameKind, declares};
 use x_text::NoMemory;
@@ -31,11 +33,12 @@ pub struct Declarer {
 /// The table of the names that the items of a text declare. It is seen as the list of the names with their first
 /// declarers, without those that were declared beforehand.
 #[derive(Drop)]
-pub struct Names {
-    table: IndexMap<Vec<u8>, Declarer>,
+pub struct Names<'d> {
+    /// A name lies in the definition that declares it first, but for that of an inline type.
+    table: IndexMap<CowSlice<'d, u8>, Declarer>,
 }
 
-impl Model for Names {
+impl<'d> Model for Names<'d> {
     ghost use Rattle.std.specs.Prelude.{ℕ, List};
     ghost use Rattle.x_sema.specs.DeclarerTable.{names_in};
     ghost use Rattle.x_sema.specs.declared.names.Declarer.{Declarer};
@@ -45,13 +48,13 @@ impl Model for Names {
     ghost view = { λ names. names_in names.table.entries };
 }
 
-impl Names {
+impl<'d> Names<'d> {
     /// The table of the items' definitions; an item without one declares nothing. It takes time in proportion to the definitions.
     ///
     /// # Errors
     ///
     /// [`NoMemory`] where the table, or a name in it, could not grow.
-    pub fn of(alloc: Global, definitions: &[Option<&Definition>]) -> Result<Names, NoMemory>
+    pub fn of(alloc: Global, definitions: &[Option<&'d Definition>]) -> Result<Names<'d>, NoMemory>
         ensures { IfOk result (λ names. AreShort (map tree_at definitions.now)
             → (name : List ℕ) → FirstIs (map tree_at definitions.now) name (first_in names name)) }
     {
@@ -73,14 +76,14 @@ impl Names {
 }
 
 /// The table of the items' definitions, also of names that were declared beforehand.
-fn table_of(
+fn table_of<'d>(
     alloc: Global,
-    definitions: &[Option<&Definition>],
-) -> Result<IndexMap<Vec<u8>, Declarer>, NoMemory>
+    definitions: &[Option<&'d Definition>],
+) -> Result<IndexMap<CowSlice<'d, u8>, Declarer>, NoMemory>
     ensures { IfOk result (λ table. AreShort (map tree_at definitions.now)
         → (name : List ℕ) → entry_in table.entries name ≡ first_from 0 (map tree_at definitions.now) name) }
 {
-    let mut table = IndexMap::new(alloc);
+    let mut table = IndexMap::with_capacity(alloc, definitions.len())?;
     for (item, definition) in definitions.iter().enumerate() {
         if let Some(definition) = definition {
             add(alloc, &mut table, item, definition)?;
@@ -90,25 +93,24 @@ fn table_of(
 }
 
 /// What the table has for the name.
-fn entry(table: &IndexMap<Vec<u8>, Declarer>, name: &[u8]) -> Option<Declarer>
+fn entry(table: &IndexMap<CowSlice<u8>, Declarer>, name: &[u8]) -> Option<Declarer>
     ensures { result ≡ entry_in table.now.entries name.now }
 {
     table.get(name).copied()
 }
 
 /// Takes in the names that an item declares, but for those that are there.
-fn add(
+fn add<'d>(
     alloc: Global,
-    table: &mut IndexMap<Vec<u8>, Declarer>,
+    table: &mut IndexMap<CowSlice<'d, u8>, Declarer>,
     item: usize,
-    definition: &Definition,
+    definition: &'d Definition,
 ) -> Result<(), NoMemory>
     ensures { OnOk result (IsShort (view_definition definition.now)
         → (name : List ℕ) → entry_in table.new.entries name ≡ or_else (entry_in table.old.entries name)
         (place_of_name item 0 name (declared (view_definition definition.now)))) }
 {
-    for (place, declared) in declares(alloc, definition)?.iter().enumerate() {
-        let name = Vec::from_slice(alloc, &declared.name)?;
+    for (place, declared) in declares(alloc, definition)?.into_iter().enumerate() {
         let declarer = Declarer {
             item,
             word: declared.word,
@@ -116,20 +118,20 @@ fn add(
             kind: declared.kind,
             lifted: declared.lifted,
         };
-        note(table, name, declarer)?;
+        note(table, declared.name, declarer)?;
     }
     Ok(())
 }
 
 /// Takes in a name with its declarer, if the name is not there.
-fn note(
-    table: &mut IndexMap<Vec<u8>, Declarer>,
-    name: Vec<u8>,
+fn note<'d>(
+    table: &mut IndexMap<CowSlice<'d, u8>, Declarer>,
+    name: CowSlice<'d, u8>,
     declarer: Declarer,
 ) -> Result<(), NoMemory>
     ensures { OnOk result ((other : List ℕ) → entry_in table.new.entries other
         ≡ or_else (entry_in table.old.entries other)
-        (if bytes_eq other name.items then Some declarer else None)) }
+        (if bytes_eq other (cow_slice_items name.entry) then Some declarer else None)) }
 {
     if entry(table, &name).is_none() {
         table.insert(name, declarer)?;

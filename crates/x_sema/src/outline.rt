@@ -17,18 +17,21 @@ use std::alloc::Global;
 use x_item::{DeclaredName, Definition, Mention, declares, mentions};
 use x_text::NoMemory;
 
-/// The names and the bodies of a definition.
+/// The names that stand in a definition, and its bodies: what is found of it once, both for its views and for its check.
 #[derive(Drop)]
 pub struct Outline<'d> {
-    pub definition: &'d Definition,
-    /// The names that it declares.
-    pub declared: Vec<DeclaredName>,
-    /// The names that it uses.
-    pub mentioned: Vec<Mention<'d>>,
-    pub bodies: Vec<BodyAt<'d>>,
+    pub(crate) definition: &'d Definition,
+    pub(crate) declared: Vec<DeclaredName<'d>>,
+    pub(crate) mentioned: Vec<Mention<'d>>,
+    pub(crate) bodies: Vec<BodyAt<'d>>,
 }
 
 impl<'d> Outline<'d> {
+    /// The outline of the definition. It takes time in proportion to it.
+    ///
+    /// # Errors
+    ///
+    /// [`NoMemory`] where a list could not grow.
     pub fn of(alloc: Global, definition: &'d Definition) -> Result<Outline<'d>, NoMemory>
         ensures definition { IfOk result (λ outline. outline.definition ≡ definition.entry) }
         ensures outline { IfOk result (λ outline. IsShort (view_definition definition.now) → IsOutline outline) }
@@ -39,5 +42,19 @@ impl<'d> Outline<'d> {
             mentioned: mentions(alloc, definition)?,
             bodies: bodies(alloc, definition)?,
         })
+    }
+
+    /// The names that the definition declares, in the order of [`x_item::declares`].
+    pub fn declared(&self) -> &[DeclaredName<'d>]
+        ensures { result.now ≡ self.now.declared.items }
+    {
+        &self.declared
+    }
+
+    /// The names that the definition uses, in the order of [`x_item::mentions`].
+    pub fn mentioned(&self) -> &[Mention<'d>]
+        ensures { result.now ≡ self.now.mentioned.items }
+    {
+        &self.mentioned
     }
 }

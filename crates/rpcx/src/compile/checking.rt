@@ -15,15 +15,14 @@ ghost use Rattle.rpcx.specs.ItemView.{kept_definition};
 
 use crate::compile::item::Item;
 use std::alloc::Global;
-use x_item::{Definition, declares, mentions};
-use x_sema::{Checked, Names, View, WordFault, check_item};
+use x_sema::{Checked, Names, Outline, View, WordFault, check_outline};
 use x_text::{Meter, NoMemory};
 
 /// What checking an item found, if it has a definition, in few bytes.
 pub type ItemResult = Option<Box<Checked>>;
 
 /// The table of the names that the items declare.
-pub fn names_of(alloc: Global, items: &[Item]) -> Result<Names, NoMemory>
+pub fn names_of(alloc: Global, items: &[Item]) -> Result<Names<'_>, NoMemory>
     ensures { IfOk result (λ names. AreShort (map kept_definition items.now)
         → (name : List ℕ) → FirstIs (map kept_definition items.now) name (first_in names name)) }
 {
@@ -72,8 +71,9 @@ fn check(
     let Some(definition) = item.definition() else {
         return Ok(None);
     };
-    let views = views_of(alloc, index, definition, names, results)?;
-    let checked = check_item(alloc, definition, &views, meter)?;
+    let outline = Outline::of(alloc, definition)?;
+    let views = views_of(alloc, index, &outline, names, results)?;
+    let checked = check_outline(alloc, &outline, &views, meter)?;
     Ok(Some(Box::new(alloc, checked)?))
 }
 
@@ -81,18 +81,24 @@ fn check(
 fn views_of<'v>(
     alloc: Global,
     item: usize,
-    definition: &Definition,
+    outline: &Outline,
     names: &Names,
     results: &'v [ItemResult],
 ) -> Result<Vec<View<'v>>, NoMemory>
     ensures { IfOk result (λ views. IsShort (view_definition definition.now) → map view_view views.items
         ≡ map (view_by_first (first_in names.now) (result_at (all_found results.now)) item) (names_of (view_definition definition.now))) }
 {
-    let mut views = Vec::new(alloc);
-    for declared in &declares(alloc, definition)? {
+    let mut views = Vec::with_capacity(
+        alloc,
+        outline
+            .declared()
+            .len()
+            .saturating_add(outline.mentioned().len()),
+    )?;
+    for declared in outline.declared() {
         views.push(view_of(item, &declared.name, names, results))?;
     }
-    for mention in &mentions(alloc, definition)? {
+    for mention in outline.mentioned() {
         views.push(view_of(item, mention.name, names, results))?;
     }
     Ok(views)

@@ -3,6 +3,7 @@ ghost use Rattle.x_item.specs.View.{view_body};
 ghost use Rattle.x_item.specs.Gloss.{body_kind};
 
 use crate::trees::Body;
+use std::borrow::CowSlice;
 
 /// What a name is declared as.
 #[derive(Clone, Copy, Debug, PartialEq, Eq)]
@@ -36,9 +37,9 @@ impl NameKind {
 
 /// A name that a definition declares.
 #[derive(Debug, Drop)]
-pub struct DeclaredName {
-    /// The name.
-    pub name: Vec<u8>,
+pub struct DeclaredName<'d> {
+    /// The name: that in the definition, but for the name of an inline type.
+    pub name: CowSlice<'d, u8>,
     /// The word that declares it, counted from 0 among the words of the definition.
     pub word: usize,
     /// What it is declared as.

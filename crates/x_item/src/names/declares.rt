@@ -1,6 +1,7 @@
 //! The names that a definition declares.
 ghost use Rattle.std.specs.Prelude.{◌≡◌, ◌+◌, ◌<◌, ◌^◌, ℕ, List, [], ◌∷◌, length, map, Some, true, false};
 ghost use Rattle.std.specs.Prelude.{OnOk, IfOk};
+ghost use Rattle.std.specs.Cow.{cow_slice_items};
 ghost use Rattle.x_item.specs.Tree.{Of, Inline};
 ghost use Rattle.x_item.specs.View.{view_length, view_shape, view_enumerator, view_body, view_declaration};
 ghost use Rattle.x_item.specs.View.{view_declarations, view_arms, view_default, view_definition};
@@ -17,6 +18,7 @@ use crate::trees::{
     Arm, Basic, Body, DataType, Declaration, Definition, Enumerator, Length, Shape, UnionBody,
 };
 use std::alloc::Global;
+use std::borrow::CowSlice;
 use x_text::NoMemory;
 
 /// The name of an inline type.
@@ -63,12 +65,12 @@ fn words_of_length(size: &Length) -> usize
 
 /// A walk over a definition, which has come to a word.
 #[derive(Drop)]
-struct NameWalk {
-    list: Vec<DeclaredName>,
+struct NameWalk<'d> {
+    list: Vec<DeclaredName<'d>>,
     word: usize,
 }
 
-impl NameWalk {
+impl<'d> NameWalk<'d> {
     /// Goes over words that declare nothing.
     fn skip(&mut self, words: usize)
         ensures { Names self.old self.new words (λ k. []) }
@@ -77,9 +79,9 @@ impl NameWalk {
     }
 
     /// Takes in a name that the word declares which is next.
-    fn add(&mut self, name: Vec<u8>, kind: NameKind, lifted: bool) -> Result<(), NoMemory>
+    fn add(&mut self, name: CowSlice<'d, u8>, kind: NameKind, lifted: bool) -> Result<(), NoMemory>
         ensures { OnOk result (Names self.old self.new 0
-            (λ k. record { name = name.items; word = k; kind = kind; lifted = lifted } ∷ [])) }
+            (λ k. record { name = cow_slice_items name.entry; word = k; kind = kind; lifted = lifted } ∷ [])) }
     {
         self.list.push(DeclaredName {
             name,
@@ -90,7 +92,7 @@ impl NameWalk {
         Ok(())
     }
 
-    fn enumerator(&mut self, alloc: Global, enumerator: &Enumerator) -> Result<(), NoMemory>
+    fn enumerator(&mut self, enumerator: &'d Enumerator) -> Result<(), NoMemory>
         ensures { OnOk result (Names self.old self.new
             (length (spell_enumerator (view_enumerator enumerator.now)))
             (λ k. record {
@@ -100,7 +102,7 @@ impl NameWalk {
               lifted = false;
             } ∷ [])) }
     {
-        let name = Vec::from_slice(alloc, &enumerator.name)?;
+        let name = CowSlice::Borrowed(&enumerator.name);
         self.add(name, NameKind::Constant, false)?;
         match &enumerator.value {
             Some(_) => self.skip(3),
@@ -109,44 +111,40 @@ impl NameWalk {
         Ok(())
     }
 
-    fn enumerators(&mut self, alloc: Global, enumerators: &[Enumerator]) -> Result<(), NoMemory>
+    fn enumerators(&mut self, enumerators: &'d [Enumerator]) -> Result<(), NoMemory>
         ensures { OnOk result (NamesIn self.old self.new
             (enumerators_by glossed true (map view_enumerator enumerators.now))) }
     {
         match enumerators.split_first() {
             Some((first, others)) => {
-                self.enumerator(alloc, first)?;
-                self.other_enumerators(alloc, others)
+                self.enumerator(first)?;
+                self.other_enumerators(others)
             }
             None => Ok(()),
         }
     }
 
-    fn other_enumerators(
-        &mut self,
-        alloc: Global,
-        enumerators: &[Enumerator],
-    ) -> Result<(), NoMemory>
+    fn other_enumerators(&mut self, enumerators: &'d [Enumerator]) -> Result<(), NoMemory>
         ensures { OnOk result (NamesIn self.old self.new
             (other_enumerators_by glossed true (map view_enumerator enumerators.now))) }
     {
         for enumerator in enumerators {
             self.skip(1);
-            self.enumerator(alloc, enumerator)?;
+            self.enumerator(enumerator)?;
         }
         Ok(())
     }
 
     /// Goes over the body of the type that `around` names.
     #[cycle(walk)]
-    fn body(&mut self, alloc: Global, around: &[u8], body: &Body) -> Result<(), NoMemory>
+    fn body(&mut self, alloc: Global, around: &[u8], body: &'d Body) -> Result<(), NoMemory>
         ensures { OnOk result (NamesIn self.old self.new
             (body_by glossed (Some around.now) (view_body body.now))) }
     {
         match body {
             Body::Enum(enumerators) => {
                 self.skip(1);
-                self.enumerators(alloc, enumerators)?;
+                self.enumerators(enumerators)?;
                 self.skip(1);
                 Ok(())
             }
@@ -172,7 +170,7 @@ impl NameWalk {
         &mut self,
         alloc: Global,
         around: &[u8],
-        declaration: &Declaration,
+        declaration: &'d Declaration,
     ) -> Result<(), NoMemory>
         ensures { OnOk result ((position : Position) → NamesIn self.old self.new
             (declaration_by glossed (Some (Inside position around.now)) (view_declaration declaration.now))) }
@@ -213,7 +211,7 @@ impl NameWalk {
         &mut self,
         alloc: Global,
         around: &[u8],
-        body: &Body,
+        body: &'d Body,
         name: &[u8],
         shape: &Shape,
     ) -> Result<(), NoMemory>
@@ -225,7 +223,7 @@ impl NameWalk {
         self.skip(1);
         self.body(alloc, &lifted, body)?;
         self.skip(words_before_name(shape));
-        self.add(lifted, NameKind::of_body(body), true)?;
+        self.add(CowSlice::Owned(lifted), NameKind::of_body(body), true)?;
         self.skip(words_from_name(shape));
         Ok(())
     }
@@ -236,7 +234,7 @@ impl NameWalk {
         &mut self,
         alloc: Global,
         around: &[u8],
-        declarations: &[Declaration],
+        declarations: &'d [Declaration],
     ) -> Result<(), NoMemory>
         ensures { OnOk result (NamesIn self.old self.new
             (declarations_by glossed (Some around.now) (view_declarations declarations.now))) }
@@ -249,7 +247,7 @@ impl NameWalk {
     }
 
     #[cycle(walk)]
-    fn arms(&mut self, alloc: Global, around: &[u8], arms: &[Arm]) -> Result<(), NoMemory>
+    fn arms(&mut self, alloc: Global, around: &[u8], arms: &'d [Arm]) -> Result<(), NoMemory>
         ensures { OnOk result (NamesIn self.old self.new
             (arms_by glossed (Some around.now) (view_arms arms.now))) }
     {
@@ -276,7 +274,7 @@ impl NameWalk {
         &mut self,
         alloc: Global,
         around: &[u8],
-        default: &Option<Declaration>,
+        default: &'d Option<Declaration>,
     ) -> Result<(), NoMemory>
         ensures { OnOk result (NamesIn self.old self.new
             (default_by glossed (Some around.now) (view_default default.now))) }
@@ -296,7 +294,7 @@ impl NameWalk {
     }
 
     /// Goes over the declaration of a `typedef`.
-    fn typedef(&mut self, alloc: Global, declaration: &Declaration) -> Result<(), NoMemory>
+    fn typedef(&mut self, alloc: Global, declaration: &'d Declaration) -> Result<(), NoMemory>
         ensures { OnOk result (NamesIn self.old self.new
             (declaration_by glossed (Some InTypedef) (view_declaration declaration.now))) }
     {
@@ -307,18 +305,18 @@ impl NameWalk {
             }
             Declaration::Of { data, name, shape } => match data {
                 DataType::Inline(body) => self.inline_typedef(alloc, body, name, shape),
-                DataType::Basic(basic) => self.plain_typedef(alloc, words_of(*basic), name, shape),
-                DataType::Named(_) => self.plain_typedef(alloc, 1, name, shape),
-                DataType::Tagged { .. } => self.plain_typedef(alloc, 2, name, shape),
+                DataType::Basic(basic) => self.plain_typedef(words_of(*basic), name, shape),
+                DataType::Named(_) => self.plain_typedef(1, name, shape),
+                DataType::Tagged { .. } => self.plain_typedef(2, name, shape),
             },
             Declaration::Opaque { name, length } => {
-                self.own(alloc, 1, name)?;
+                self.own(1, name)?;
                 self.skip(1);
                 self.skip(words_of_length(length));
                 Ok(())
             }
             Declaration::String { name, most } => {
-                self.own(alloc, 1, name)?;
+                self.own(1, name)?;
                 match most {
                     Some(_) => self.skip(4),
                     None => self.skip(3),
@@ -329,7 +327,7 @@ impl NameWalk {
     }
 
     /// Goes over so many words, and takes in the own name of a `typedef` behind them.
-    fn own(&mut self, alloc: Global, words: usize, name: &[u8]) -> Result<(), NoMemory>
+    fn own(&mut self, words: usize, name: &'d [u8]) -> Result<(), NoMemory>
         ensures { OnOk result (Names self.old self.new words
             (λ k. record {
               name = name.now;
@@ -339,18 +337,11 @@ impl NameWalk {
             } ∷ [])) }
     {
         self.skip(words);
-        let name = Vec::from_slice(alloc, name)?;
-        self.add(name, NameKind::Typedef, false)
+        self.add(CowSlice::Borrowed(name), NameKind::Typedef, false)
     }
 
     /// Goes over the declaration of a `typedef`, of a type of so many words.
-    fn plain_typedef(
-        &mut self,
-        alloc: Global,
-        words: usize,
-        name: &[u8],
-        shape: &Shape,
-    ) -> Result<(), NoMemory>
+    fn plain_typedef(&mut self, words: usize, name: &'d [u8], shape: &Shape) -> Result<(), NoMemory>
         ensures { OnOk result (Names self.old self.new
             (words + length (spell_named name.now (view_shape shape.now)))
             (λ k. record {
@@ -361,7 +352,7 @@ impl NameWalk {
             } ∷ [])) }
     {
         self.skip(words);
-        self.own(alloc, words_before_name(shape), name)?;
+        self.own(words_before_name(shape), name)?;
         self.skip(words_from_name(shape));
         Ok(())
     }
@@ -370,8 +361,8 @@ impl NameWalk {
     fn inline_typedef(
         &mut self,
         alloc: Global,
-        body: &Body,
-        name: &[u8],
+        body: &'d Body,
+        name: &'d [u8],
         shape: &Shape,
     ) -> Result<(), NoMemory>
         ensures { OnOk result (NamesIn self.old self.new
@@ -381,40 +372,39 @@ impl NameWalk {
         let lifted = lifted_name(alloc, name, name)?;
         self.skip(1);
         self.body(alloc, &lifted, body)?;
-        self.own(alloc, words_before_name(shape), name)?;
+        self.own(words_before_name(shape), name)?;
         let kind = NameKind::of_body(body);
-        self.add(lifted, kind, true)?;
+        self.add(CowSlice::Owned(lifted), kind, true)?;
         self.skip(words_from_name(shape));
         Ok(())
     }
 
     /// Goes over a keyword and the name behind it.
-    fn named(&mut self, alloc: Global, name: &[u8], kind: NameKind) -> Result<(), NoMemory>
+    fn named(&mut self, name: &'d [u8], kind: NameKind) -> Result<(), NoMemory>
         ensures { OnOk result (Names self.old self.new 2
             (λ k. record { name = name.now; word = k + 1; kind = kind; lifted = false } ∷ [])) }
     {
         self.skip(1);
-        let name = Vec::from_slice(alloc, name)?;
-        self.add(name, kind, false)?;
+        self.add(CowSlice::Borrowed(name), kind, false)?;
         self.skip(1);
         Ok(())
     }
 
     /// Goes over a definition up to the last name that it declares.
-    fn definition(&mut self, alloc: Global, definition: &Definition) -> Result<(), NoMemory>
+    fn definition(&mut self, alloc: Global, definition: &'d Definition) -> Result<(), NoMemory>
         ensures { OnOk result (NamesAll self.old self.new (view_definition definition.now)) }
     {
         match definition {
-            Definition::Const { name, .. } => self.named(alloc, name, NameKind::Constant),
+            Definition::Const { name, .. } => self.named(name, NameKind::Constant),
             Definition::Typedef(declaration) => {
                 self.skip(1);
                 self.typedef(alloc, declaration)
             }
             Definition::NewType { name, body } => {
-                self.named(alloc, name, NameKind::of_body(body))?;
+                self.named(name, NameKind::of_body(body))?;
                 self.body(alloc, name, body)
             }
-            Definition::Program { name, .. } => self.named(alloc, name, NameKind::Program),
+            Definition::Program { name, .. } => self.named(name, NameKind::Program),
         }
     }
 }
@@ -425,7 +415,7 @@ impl NameWalk {
 /// # Errors
 ///
 /// [`NoMemory`] where the list, or a name in it, could not grow.
-pub fn declares(alloc: Global, definition: &Definition) -> Result<Vec<DeclaredName>, NoMemory>
+pub fn declares(alloc: Global, definition: &Definition) -> Result<Vec<DeclaredName<'_>>, NoMemory>
     ensures { IfOk result (λ found. length (spell (view_definition definition.now)) < 2 ^ 64
         → map view_name found.items ≡ declared (view_definition definition.now)) }
 {

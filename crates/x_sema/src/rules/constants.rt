@@ -282,7 +282,13 @@ impl<'d> Constants<'d> {
     {
         match value {
             Value::Number(text) => number_value(text),
-            Value::Named(name) => number_seen(sights.see(name), self.own_number(limit, name)),
+            Value::Named(name) => match sights.see(name) {
+                View::Own { kind, lifted } => number_seen(
+                    View::Own { kind, lifted },
+                    self.own_number(limit, name),
+                ),
+                view => number_seen(view, None),
+            },
         }
     }
 

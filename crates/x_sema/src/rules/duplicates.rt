@@ -35,7 +35,8 @@ fn duplicate_fault(sights: &Sights, place: usize, name: &[u8]) -> Option<RuleCod
     ensures { result ≡ duplicate_code (is_taken_at (seen_by sights.now)
         (place_in sights.now.places) place name.now) }
 {
-    if is_earlier_name(sights.see(name)) || is_behind(sights.place(name), place) {
+    let first = sights.place(name);
+    if is_earlier_name(sights.view_at(first)) || is_behind(first, place) {
         Some(RuleCode::Duplicate)
     } else {
         None

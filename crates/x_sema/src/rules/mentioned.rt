@@ -151,7 +151,8 @@ fn mention_fault(mention: &Mention, sights: &Sights, constants: &Constants) -> O
         → result ≡ mention_fault (seen_by sights.now) all (view_mention mention.now) }
 {
     let view = sights.see(mention.name);
-    let before = constants.is_declared_before(limit_of(mention.word), mention.name);
+    let before = matches!(mention.usage, Use::Value)
+        && constants.is_declared_before(limit_of(mention.word), mention.name);
     fault_of_use(view, before, mention.usage, mention.tag)
 }
 

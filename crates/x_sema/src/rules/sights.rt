@@ -2,7 +2,7 @@
 
 ghost use Rattle.std.specs.Prelude.{◌≡◌, ◌++◌, map, IfOk};
 ghost use Rattle.x_sema.specs.RustViews.{view_view};
-ghost use Rattle.x_sema.specs.Tables.{HasPlaces, place_in, seen_by};
+ghost use Rattle.x_sema.specs.Tables.{HasPlaces, place_in, view_at, seen_by};
 
 use super::places::Places;
 use crate::views::View;
@@ -22,7 +22,7 @@ impl<'v> Sights<'v> {
     /// The views of the names that an item declares, then of those that it uses.
     pub fn of(
         alloc: Global,
-        declared: &'v [DeclaredName],
+        declared: &'v [DeclaredName<'v>],
         mentions: &'v [Mention<'v>],
         views: &'v [View<'v>],
     ) -> Result<Sights<'v>, NoMemory>
@@ -55,7 +55,14 @@ impl<'v> Sights<'v> {
     pub fn see(&self, name: &[u8]) -> View<'v>
         ensures { view_view result ≡ seen_by self.now name.now }
     {
-        let Some(place) = self.place(name) else {
+        self.view_at(self.place(name))
+    }
+
+    /// The view in a place.
+    pub fn view_at(&self, place: Option<usize>) -> View<'v>
+        ensures { view_view result ≡ view_at self.now.views.now place }
+    {
+        let Some(place) = place else {
             return View::Undeclared;
         };
         match self.views.get(place) {
