@@ -1,6 +1,8 @@
 -- The search for first declarers finds what the definition says, and nothing else.
 use Rattle.std.proofs.Common.{◌≡◌, ◌<◌, ◌≤◌, ◌⊎◌, inl, inr, ℕ, zero, suc, ◌+◌, Bool, true, false, cond, List, [], ◌∷◌, Option, None, Some, refl, sym, ap, subst, ◌∙◌, arith}
-use Rattle.std.specs.Prelude.{slice_get, not, Vec}
+use Rattle.std.specs.Prelude.{slice_get, not}
+use Rattle.std.specs.Cow.{cow_slice_items}
+use Rattle.std.specs.declared.borrow.CowSlice.{CowSlice}
 use Rattle.std.specs.Global.{Global}
 use Rattle.std.specs.Str.{bytes_eq}
 use Rattle.std.proofs.lemmas.Slice.Eq.{bytes_eq-Decides}
@@ -225,30 +227,30 @@ pub as_found : (definitions : List (Option Definition)) (name : List ℕ) (r : O
 as_found definitions name r h = one_answer definitions name r (first_declarer definitions name) h (first_is definitions name)
 
 -- the names of a table that are not beforehand
-pub first_names : (entries : List (Vec ℕ Global × Declarer)) (name : List ℕ) → first_in (names_in entries) name ≡ cond (is_beforehand name) None (entry_in entries name)
+pub first_names : (entries : List (CowSlice ℕ Global × Declarer)) (name : List ℕ) → first_in (names_in entries) name ≡ cond (is_beforehand name) None (entry_in entries name)
 first_names [] name = by (is_beforehand name)
   where
     by : (b : Bool) → first_in [] name ≡ cond b None (entry_in [] name)
     by true = refl
     by false = refl
-first_names (e ∷ es) name = by (bytes_eq name e.0.items) refl (is_beforehand e.0.items) refl (first_names es name)
+first_names (e ∷ es) name = by (bytes_eq name (cow_slice_items e.0)) refl (is_beforehand (cow_slice_items e.0)) refl (first_names es name)
   where
     rest : List (List ℕ × Declarer)
     rest = names_in es
 
-    by : (b : Bool) → bytes_eq name e.0.items ≡ b → (c : Bool) → is_beforehand e.0.items ≡ c → first_in rest name ≡ cond (is_beforehand name) None (entry_in es name)
-        → first_in (cond (not c) ((e.0.items, e.1) ∷ rest) rest) name ≡ cond (is_beforehand name) None (cond b (Some e.1) (entry_in es name))
+    by : (b : Bool) → bytes_eq name (cow_slice_items e.0) ≡ b → (c : Bool) → is_beforehand (cow_slice_items e.0) ≡ c → first_in rest name ≡ cond (is_beforehand name) None (entry_in es name)
+        → first_in (cond (not c) (((cow_slice_items e.0), e.1) ∷ rest) rest) name ≡ cond (is_beforehand name) None (cond b (Some e.1) (entry_in es name))
     by true same true before h =
-        let is : name ≡ e.0.items = (bytes_eq-Decides name e.0.items).0 same in
+        let is : name ≡ (cow_slice_items e.0) = (bytes_eq-Decides name (cow_slice_items e.0)).0 same in
         h ∙ ap (λ c. cond c None (entry_in es name)) (ap is_beforehand is ∙ before) ∙ sym (ap (λ c. cond c None (Some e.1)) (ap is_beforehand is ∙ before))
     by true same false before h =
-        let is : name ≡ e.0.items = (bytes_eq-Decides name e.0.items).0 same in
+        let is : name ≡ (cow_slice_items e.0) = (bytes_eq-Decides name (cow_slice_items e.0)).0 same in
         ap (λ b. cond b (Some e.1) (first_in rest name)) same ∙ sym (ap (λ c. cond c None (Some e.1)) (ap is_beforehand is ∙ before))
     by false other true before h = h
     by false other false before h = ap (λ b. cond b (Some e.1) (first_in rest name)) other ∙ h
 
 -- a table that has what the search finds has the answers
-pub first_by_search : (definitions : List (Option Definition)) (entries : List (Vec ℕ Global × Declarer)) → ((name : List ℕ) → entry_in entries name ≡ first_from 0 definitions name)
+pub first_by_search : (definitions : List (Option Definition)) (entries : List (CowSlice ℕ Global × Declarer)) → ((name : List ℕ) → entry_in entries name ≡ first_from 0 definitions name)
     → (name : List ℕ) → FirstIs definitions name (first_in (names_in entries) name)
 first_by_search definitions entries h name =
     subst (FirstIs definitions name) (sym (first_names entries name ∙ ap (λ o. cond (is_beforehand name) None o) (h name))) (first_is definitions name)

@@ -1,9 +1,11 @@
 -- Looking names up in a table that grows.
-use Rattle.std.proofs.Common.{◌≡◌, ℕ, suc, Bool, true, false, cond, List, [], ◌∷◌, ◌++◌, Option, None, Some, refl, sym, ap, ◌∙◌}
+use Rattle.std.proofs.Common.{◌≡◌, ℕ, suc, Bool, true, false, cond, List, [], ◌∷◌, ◌++◌, Option, None, Some, refl, sym, ap, ◌∙◌, ◌⊎◌, inl, inr, map}
 use Rattle.std.specs.Prelude.{is_none, is_some}
+use Rattle.std.specs.List.{AllZip}
 use Rattle.std.specs.Map.{lookup}
 use Rattle.std.specs.Str.{bytes_eq}
 use Rattle.std.proofs.lemmas.Slice.Eq.{bytes_eq-Decides}
+use Rattle.std.proofs.lemmas.Slice.Zip.{AllZip-map}
 use Rattle.x_item.specs.Tree.{Definition}
 use Rattle.x_item.specs.Names.{Declared}
 use Rattle.x_sema.specs.Declarers.{or_else, declarer_at, place_of_name, declarer_in, first_from}
@@ -72,3 +74,12 @@ name_more before after item n m ds d rest all next is more h name =
     step : (b : Bool) → or_else (cond b (Some (declarer_at item n d)) None) (place_of_name item m name rest) ≡ cond b (Some (declarer_at item n d)) (place_of_name item m name rest)
     step true = refl
     step false = refl
+
+-- a copy of a name is the name
+pub same_clone : (name copy : List ℕ) → (copy ≡ name) ⊎ AllZip (λ byte other. other ≡ byte) name copy → copy ≡ name
+same_clone name copy (inl h) = h
+same_clone name copy (inr h) = AllZip-map (λ byte. byte) name copy h ∙ unchanged name
+  where
+    unchanged : (xs : List ℕ) → map (λ byte. byte) xs ≡ xs
+    unchanged [] = refl
+    unchanged (x ∷ xs) = ap (λ more. x ∷ more) (unchanged xs)

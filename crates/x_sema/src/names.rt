@@ -110,7 +110,7 @@ fn add<'d>(
         → (name : List ℕ) → entry_in table.new.entries name ≡ or_else (entry_in table.old.entries name)
         (place_of_name item 0 name (declared (view_definition definition.now)))) }
 {
-    for (place, declared) in declares(alloc, definition)?.into_iter().enumerate() {
+    for (place, declared) in declares(alloc, definition)?.iter().enumerate() {
         let declarer = Declarer {
             item,
             word: declared.word,
@@ -118,7 +118,7 @@ fn add<'d>(
             kind: declared.kind,
             lifted: declared.lifted,
         };
-        note(table, declared.name, declarer)?;
+        note(table, declared.name.clone()?, declarer)?;
     }
     Ok(())
 }

@@ -1,9 +1,9 @@
-use Rattle.std.proofs.Common.{◌≡◌, ◌+◌, suc, ◌∷◌, Some, map, drop, ap, sym, ◌∙◌, arith}
+use Rattle.std.proofs.Common.{◌≡◌, ◌+◌, suc, [], ◌∷◌, Some, map, drop, ap, sym, ◌∙◌, arith}
 use Rattle.std.specs.Prelude.{slice_get}
 use Rattle.x_sema.specs.Declarers.{or_else, declarer_in, first_from}
 use Rattle.x_sema.specs.DeclarerTable.{entry_in, tree_at}
-use Rattle.x_sema.proofs.ListLemmas.{drop_one, get_mapped}
-use Rattle.x_sema.proofs.NameLemmas.{item_more, none_more}
+use Rattle.x_sema.proofs.ListLemmas.{drop_one, drop_none, get_mapped}
+use Rattle.x_sema.proofs.NameLemmas.{item_more, none_more, or_none}
 use Rattle.x_sema.proofs.names.table_of.Goals as goal
 use Rattle.x_sema.proofs.names.table_of.Goals.{in-Some+in_ok-add, in_default}
 
@@ -27,3 +27,11 @@ loop-item-preserved c short =
           (λ name. ap (λ t. entry_in t.entries name) w.table-is ∙ none_more (entry_in c.loop-item.table.entries) item name ∙ ap (λ d. or_else (entry_in c.loop-item.table.entries name) (declarer_in item name (tree_at d))) (sym w.in_default.is))
           (c.loop-item.invariant short)
     ]
+
+pub returns : goal.returns
+returns c short name =
+    let item = c.loop-item.item in
+    let all = c.args.definitions.now in
+    let found = entry_in c.loop-item.table.entries name in
+    let gone : drop item all ≡ [] = drop_none all item c.loop-item-test.false in
+    or_none found ∙ sym (ap (λ rest. or_else found (first_from item (map tree_at rest) name)) gone) ∙ c.loop-item.invariant short name
