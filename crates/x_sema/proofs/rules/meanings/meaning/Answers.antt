@@ -1,3 +1,4 @@
+use Rattle.std.specs.Cow.{cow_slice_items}
 use Rattle.std.proofs.Common.{map, ap, sym, ◌∙◌}
 use Rattle.std.proofs.lemmas.Result.{IfOk-weaker}
 use Rattle.x_item.specs.View.{view_definition}
@@ -17,7 +18,7 @@ returns-in-Typedef c =
     let known = knowns see (enumerators d) in
     let name = c.args.name.now in
     IfOk-weaker c.typedef_meaning.result _ _
-    (λ kept is numbers places bodies low. is (enumerators d) known numbers ∙ defined_type d see known low ∙ sym (ap (λ kind. meaning_as d see kind name.name.items name.word) c.in-Typedef.is))
+    (λ kept is numbers places bodies low. is (enumerators d) known numbers ∙ defined_type d see known low ∙ sym (ap (λ kind. meaning_as d see kind (cow_slice_items name.name) name.word) c.in-Typedef.is))
     c.typedef_meaning.ensures
 
 pub returns-in_default : goal.returns-in_default
@@ -31,5 +32,5 @@ returns-in_default c =
     is (enumerators d) known numbers
     ∙ ap (counted_type see known) (c.body_named-body.ensures places)
     ∙ type_at d see known (map view_body_at c.args.bodies.now) name.word bodies low
-    ∙ meaning_of_type d see name.kind name.name.items name.word c.in_default.not-Constant c.in_default.not-Typedef c.in_default.not-Program)
+    ∙ meaning_of_type d see name.kind (cow_slice_items name.name) name.word c.in_default.not-Constant c.in_default.not-Typedef c.in_default.not-Program)
     c.named_meaning.ensures
