@@ -1,5 +1,6 @@
 -- Results of items, by what was found of the items before them.
 use Rattle.std.proofs.Common.{◌≡◌, ℕ, zero, suc, ◌+◌, ◌<◌, Bool, true, false, cond, List, [], ◌∷◌, ◌++◌, length, map, arith, take, drop, get_or, ◌≤◌, Option, None, Some, refl, sym, ap, subst, ◌∙◌, append-nil}
+use Rattle.std.specs.Cow.{cow_slice_items}
 use Rattle.std.specs.Prelude.{Box, nat_lt, option_map}
 use Rattle.std.specs.Option.{unwrap_or}
 use Rattle.std.proofs.lemmas.Bool.Decides.{nat_tests}
@@ -63,10 +64,10 @@ result_by_first definitions find results item d views o first are is =
 
 -- ---- the names that an item sees
 
-pub names_declared : (f : List ℕ → View) (views : List View) (n : ℕ) (lent ds : List DeclaredName) (all : List Declared) → views ≡ map f (map (λ d. d.name.items) (take n lent)) → length lent ≤ n → lent ≡ ds
+pub names_declared : (f : List ℕ → View) (views : List View) (n : ℕ) (lent ds : List DeclaredName) (all : List Declared) → views ≡ map f (map (λ d. cow_slice_items d.name) (take n lent)) → length lent ≤ n → lent ≡ ds
     → map view_name ds ≡ all → views ≡ map f (map (λ x. x.name) all ++ [])
 names_declared f views n lent ds all so end same are =
-    so ∙ ap (λ l. map f (map (λ (d : DeclaredName). d.name.items) l)) (take_all n lent end ∙ same) ∙ ap (map f) (map_map (λ x. x.name) view_name ds ∙ ap (map (λ (x : Declared). x.name)) are ∙ sym (append-nil (map (λ (x : Declared). x.name) all)))
+    so ∙ ap (λ l. map f (map (λ (d : DeclaredName). cow_slice_items d.name) l)) (take_all n lent end ∙ same) ∙ ap (map f) (map_map (λ x. x.name) view_name ds ∙ ap (map (λ (x : Declared). x.name)) are ∙ sym (append-nil (map (λ (x : Declared). x.name) all)))
 
 pub names_mentioned : (f : List ℕ → View) (views : List View) (front : List (List ℕ)) (n : ℕ) (lent ms : List rust.Mention) (all : List Mention) → views ≡ map f (front ++ map (λ m. m.name.now) (take n lent)) → length lent ≤ n → lent ≡ ms
     → map view_mention ms ≡ all → views ≡ map f (front ++ map (λ m. m.name) all)

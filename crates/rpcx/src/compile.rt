@@ -38,6 +38,7 @@ pub fn compile(alloc: Global, source: &Source, meter: &mut Meter) -> Result<Comp
     let items = parse_items(alloc, &tokens, source, meter)?;
     let names = names_of(alloc, &items)?;
     let results = check_items(alloc, &items, &names, meter)?;
+    drop(names);
     let output = output_of(alloc, &tokens, source, &items, &results)?;
     Ok(Compilation {
         tokens,

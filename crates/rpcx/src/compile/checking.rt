@@ -2,10 +2,10 @@
 
 ghost use Rattle.std.specs.Prelude.{◌≡◌, ℕ, List, [], ◌∷◌, Option, map, IfOk};
 ghost use Rattle.x_item.specs.Tree as tree;
-ghost use Rattle.x_item.specs.View.{view_definition};
-ghost use Rattle.x_sema.specs.Declarers.{AreShort, IsShort, FirstIs};
+ghost use Rattle.x_sema.specs.Declarers.{AreShort, FirstIs};
 ghost use Rattle.x_sema.specs.DeclarerTable.{first_in, tree_at};
 ghost use Rattle.x_sema.specs.KeptViews.{lent_outcome};
+ghost use Rattle.x_sema.specs.Outlined.{IsOutline, outlined};
 ghost use Rattle.x_sema.specs.Results.{AreResults, IsResult, result_at};
 ghost use Rattle.x_sema.specs.RustViews.{view_view};
 ghost use Rattle.x_sema.specs.Views.{names_of};
@@ -85,8 +85,8 @@ fn views_of<'v>(
     names: &Names,
     results: &'v [ItemResult],
 ) -> Result<Vec<View<'v>>, NoMemory>
-    ensures { IfOk result (λ views. IsShort (view_definition definition.now) → map view_view views.items
-        ≡ map (view_by_first (first_in names.now) (result_at (all_found results.now)) item) (names_of (view_definition definition.now))) }
+    ensures { IfOk result (λ views. IsOutline outline.now → map view_view views.items
+        ≡ map (view_by_first (first_in names.now) (result_at (all_found results.now)) item) (names_of (outlined outline.now))) }
 {
     let mut views = Vec::with_capacity(
         alloc,

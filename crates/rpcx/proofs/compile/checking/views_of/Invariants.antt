@@ -1,8 +1,8 @@
 use Rattle.std.proofs.Common.{◌≡◌, ◌++◌, map, take}
-use Rattle.x_item.specs.View.{view_definition}
+use Rattle.std.specs.Cow.{cow_slice_items}
 use Rattle.x_item.specs.Names.{declared}
-use Rattle.x_sema.specs.Declarers.{IsShort}
 use Rattle.x_sema.specs.DeclarerTable.{first_in}
+use Rattle.x_sema.specs.Outlined.{outlined, IsOutline}
 use Rattle.x_sema.specs.Results.{result_at}
 use Rattle.x_sema.specs.RustViews.{view_view}
 use Rattle.rpcx.specs.Checking.{all_found, view_by_first}
@@ -11,9 +11,9 @@ use Rattle.rpcx.proofs.compile.checking.views_of.Given as goal
 -- the views of the names so far
 abbrev pub invariant-loop-declared : goal.invariant-loop-declared
 invariant-loop-declared l = map view_view l.views.items
-    ≡ map (view_by_first (first_in l.names) (result_at (all_found l.results)) l.item) (map (λ d. d.name.items) (take l.declared-index l.declared-items))
+    ≡ map (view_by_first (first_in l.names) (result_at (all_found l.results)) l.item) (map (λ d. cow_slice_items d.name) (take l.declared-index l.declared-items))
 
 abbrev pub invariant-loop-mention : goal.invariant-loop-mention
-invariant-loop-mention l = IsShort (view_definition l.definition) → map view_view l.views.items
+invariant-loop-mention l = IsOutline l.outline → map view_view l.views.items
     ≡ map (view_by_first (first_in l.names) (result_at (all_found l.results)) l.item)
-    (map (λ x. x.name) (declared (view_definition l.definition)) ++ map (λ m. m.name.now) (take l.mention-index l.mention-items))
+    (map (λ x. x.name) (declared (outlined l.outline)) ++ map (λ m. m.name.now) (take l.mention-index l.mention-items))
