@@ -23,7 +23,7 @@ abbrev name_of : Declared → List ℕ
 name_of x = x.name
 
 -- a place is no less than the first one
-place_from : (n : ℕ) (names : List (List ℕ)) (name : List ℕ) (k : ℕ) → first_place n names name ≡ Some k → n ≤ k
+pub place_from : (n : ℕ) (names : List (List ℕ)) (name : List ℕ) (k : ℕ) → first_place n names name ≡ Some k → n ≤ k
 place_from n [] name k h = absurd (cc)
 place_from n (x ∷ xs) name k h = by (bytes_eq name x) refl (place_from (suc n) xs name k)
   where

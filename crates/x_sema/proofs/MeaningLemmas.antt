@@ -106,10 +106,9 @@ named_type see known (b ∷ bs) word h =
     by true e more = ap (type_of (body_class known b.body)) e
     by false e more = more
 
-pub type_at : (d : Definition) (see : List ℕ → View) (known : List Known) (bs : List BodyAt) (word : ℕ) → bs ≡ bodies d → list_any is_too_high (heights d see) ≡ false
-    → counted_type see known (body_named bs word) ≡ type_named see known (bodies d) word
-type_at d see known bs word is h =
-    ap (λ l. counted_type see known (body_named l word)) is ∙ named_type see known (bodies d) word (any_rear is_too_high (defined_heights d see) (map (λ b. body_height see b.body) (bodies d)) h)
+pub type_at : (d : Definition) (see : List ℕ → View) (known : List Known) (word : ℕ) → list_any is_too_high (heights d see) ≡ false
+    → counted_type see known (body_named (bodies d) word) ≡ type_named see known (bodies d) word
+type_at d see known word h = named_type see known (bodies d) word (any_rear is_too_high (defined_heights d see) (map (λ b. body_height see b.body) (bodies d)) h)
 
 pub defined_type : (d : Definition) (see : List ℕ → View) (known : List Known) → list_any is_too_high (heights d see) ≡ false → counted_definition see known d ≡ type_defined see known d
 defined_type (tree.Const name value) see known h = refl

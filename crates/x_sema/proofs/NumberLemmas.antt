@@ -2,8 +2,10 @@
 use Rattle.std.specs.Prelude.{ℤ, not, ◌||◌, SomeIff, IsTrue}
 use Rattle.std.specs.List.{list_any}
 use Rattle.std.specs.Ordering.{int_eq}
+use Rattle.std.proofs.Math.Bool.{or_comm}
 use Rattle.std.proofs.lemmas.Cmp.{int_eq_equiv}
-use Rattle.std.proofs.Common.{◌≡◌, ℕ, Bool, true, false, cond, Option, Some, None, List, [], ◌∷◌, ◌++◌, refl, sym, ap, ◌∙◌, append_assoc, append-nil}
+use Rattle.std.proofs.lemmas.List.Folds.{list_any_more}
+use Rattle.std.proofs.Common.{◌≡◌, ℕ, ◌+◌, ◌<◌, Bool, true, false, cond, Option, Some, None, List, [], ◌∷◌, ◌++◌, length, take, get_or, refl, sym, ap, ◌∙◌, append_assoc, append-nil}
 use Rattle.x_sema.specs.Numbers.{in_range, value}
 use Rattle.x_sema.specs.Constants.{number_spelled}
 use Rattle.x_sema.specs.Found.{fault_at, repeated_code, numbers_behind}
@@ -35,6 +37,14 @@ counted_next held next code faults after all xs x rest is more step h = record {
 
 pub counted_all : (held : ℤ → Bool) (code : RuleCode) (faults all : List WordFault) (rest : List Numbered) → rest ≡ [] → Counted held code faults all rest → faults ≡ all
 counted_all held code faults all rest none h = sym (append-nil faults) ∙ sym (ap (λ l. faults ++ numbers_behind code h.before l) none) ∙ h.parts
+
+-- one number more is among those in front
+pub number_more : (ns : List Numbered) (i : ℕ) (d : Numbered) → i < length ns → (z : ℤ)
+    → list_any (λ n. int_eq z n.number) (take (i + 1) ns) ≡ (int_eq (get_or ns i d).number z || list_any (λ n. int_eq z n.number) (take i ns))
+number_more ns i d h z =
+    let here = (get_or ns i d).number in
+    list_any_more (λ n. int_eq z n.number) ns i d h ∙ or_comm (list_any (λ n. int_eq z n.number) (take i ns)) (int_eq z here)
+    ∙ ap (λ b. b || list_any (λ n. int_eq z n.number) (take i ns)) (int_eq_equiv.symm z here)
 
 -- the number that a spelling stands for, if there is one
 pub spelled : (text : List ℕ) (found : Option ℤ) → SomeIff found (IsTrue (in_range text)) (value text) → found ≡ number_spelled text

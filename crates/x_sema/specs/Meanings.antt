@@ -1,14 +1,17 @@
 -- What the program makes of the names that an item declares.
-use Rattle.std.specs.Prelude.{◌≡◌, ℕ, suc, nat_eq, List, [], ◌∷◌, Option, Some, None, if◌then◌else◌}
+use Rattle.std.specs.Prelude.{◌≡◌, ℕ, suc, nat_eq, List, [], ◌∷◌, map, Option, Some, None, if◌then◌else◌}
 use Rattle.std.specs.Map.{lookup}
+use Rattle.std.specs.Option.{IfSome}
 use Rattle.x_item.specs.Tree as tree
 use Rattle.x_sema.specs.Bodies.{BodyAt}
+use Rattle.x_sema.specs.BodyWalks.{view_body_at}
 use Rattle.x_sema.specs.Constants.{Known}
 use Rattle.x_sema.specs.Declarers.{or_else}
 use Rattle.x_sema.specs.Results.{type_of}
 use Rattle.x_sema.specs.Tables.{capped}
 use Rattle.x_sema.specs.Types.{body_class, declaration_class, body_height, held_height}
 use Rattle.x_sema.specs.Views.{View, Meaning, Bad}
+use Rattle.x_sema.specs.declared.rules.named_bodies.NamedBodies.{NamedBodies}
 
 -- ---- bodies by the words that name their types
 
@@ -26,8 +29,13 @@ abbrev pub placed : Option ℕ → ℕ → ℕ → ℕ → Option ℕ
 placed found other word place = or_else found (if nat_eq other word then Some place else None)
 
 -- the table has the first body for each word
-pub record HasBodies (entries : List (ℕ × ℕ)) (bs : List BodyAt) : Type 0 where
+pub record HasPlacesOf (entries : List (ℕ × ℕ)) (bs : List BodyAt) : Type 0 where
   pub at : (word : ℕ) → place_at entries word ≡ first_named 0 bs word
+
+-- these are the bodies, and if there is a table it has the first for each word
+pub record HasBodies (named : NamedBodies) (bs : List BodyAt) : Type 0 where
+  pub list : map view_body_at named.bodies.now ≡ bs
+  pub table : IfSome named.table (λ t. HasPlacesOf t.entries bs)
 
 -- the first of these bodies whose type's name stands at the word
 abbrev pub body_named : List BodyAt → ℕ → Option BodyAt

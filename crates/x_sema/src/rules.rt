@@ -8,6 +8,7 @@ pub mod found;
 pub mod heights;
 pub mod meanings;
 pub mod mentioned;
+pub mod named_bodies;
 pub mod places;
 pub mod repeats;
 pub mod sights;

@@ -8,8 +8,7 @@ ghost use Rattle.x_sema.specs.Bodies as outline;
 ghost use Rattle.x_sema.specs.BodyWalks.{view_body_at};
 ghost use Rattle.x_sema.specs.Constants.{Known, knowns};
 ghost use Rattle.x_sema.specs.KeptViews.{kept_class, kept_meaning};
-ghost use Rattle.x_sema.specs.Meanings.{place_at, placed, HasBodies, body_named};
-ghost use Rattle.x_sema.specs.Meanings.{counted_type, counted_definition};
+ghost use Rattle.x_sema.specs.Meanings.{HasBodies, counted_type, counted_definition};
 ghost use Rattle.x_sema.specs.Results.{type_of, constant_number, constant_of, meaning_of};
 ghost use Rattle.x_sema.specs.Tables.{HasNumbers, seen_by, is_too_high};
 ghost use Rattle.x_sema.specs.Types.{heights};
@@ -17,10 +16,10 @@ ghost use Rattle.x_sema.specs.Types.{heights};
 use super::classes::{body_class, declaration_class};
 use super::constants::Constants;
 use super::heights::{body_height, held_height};
+use super::named_bodies::NamedBodies;
 use super::sights::Sights;
 use crate::checked::{Kept, KeptClass};
 use crate::outline::parts::BodyAt;
-use indexmap::IndexMap;
 use std::alloc::Global;
 use x_item::{DeclaredName, Definition, NameKind};
 use x_text::NoMemory;
@@ -32,50 +31,6 @@ fn type_meaning(class: Option<KeptClass>, height: u32) -> Kept
     match class {
         Some(class) => Kept::Type { class, height },
         None => Kept::Bad,
-    }
-}
-
-/// The place of the body whose type's name stands at the word.
-fn place_of(places: &IndexMap<usize, usize>, word: usize) -> Option<usize>
-    ensures { result ≡ place_at places.now.entries word }
-{
-    places.get(&word).copied()
-}
-
-/// Takes in a word with the place of its body, if it is not there.
-fn note(places: &mut IndexMap<usize, usize>, word: usize, place: usize) -> Result<(), NoMemory>
-    ensures { OnOk result ((other : ℕ) → place_at places.new.entries other
-        ≡ placed (place_at places.old.entries other) other word place) }
-{
-    if place_of(places, word).is_none() {
-        places.insert(word, place)?;
-    }
-    Ok(())
-}
-
-/// The places of bodies, by the words that name their types.
-fn places_of(alloc: Global, bodies: &[BodyAt]) -> Result<IndexMap<usize, usize>, NoMemory>
-    ensures { IfOk result (λ places. HasBodies places.entries (map view_body_at bodies.now)) }
-{
-    let mut places = IndexMap::new(alloc);
-    for (place, body) in bodies.iter().enumerate() {
-        note(&mut places, body.named, place)?;
-    }
-    Ok(places)
-}
-
-/// The body whose type's name stands at the word.
-fn body_named<'b, 'd>(
-    bodies: &'b [BodyAt<'d>],
-    places: &IndexMap<usize, usize>,
-    word: usize,
-) -> Option<&'b BodyAt<'d>>
-    ensures { HasBodies places.now.entries (map view_body_at bodies.now)
-        → option_map (λ b. view_body_at b.now) result ≡ body_named (map view_body_at bodies.now) word }
-{
-    match place_of(places, word) {
-        Some(place) => bodies.get(place),
-        None => None,
     }
 }
 
@@ -151,15 +106,13 @@ fn meaning(
     alloc: Global,
     name: &DeclaredName,
     definition: &Definition,
-    bodies: &[BodyAt],
-    places: &IndexMap<usize, usize>,
+    bodies: &NamedBodies,
     sights: &Sights,
     constants: &Constants,
 ) -> Result<Kept, NoMemory>
     ensures { IfOk result (λ kept. let d = view_definition definition.now in let see = seen_by sights.now in
         HasNumbers constants.now (outline.enumerators d) (knowns see (outline.enumerators d))
-        → HasBodies places.now.entries (map view_body_at bodies.now)
-        → map view_body_at bodies.now ≡ outline.bodies d
+        → HasBodies bodies.now (outline.bodies d)
         → list_any is_too_high (heights d see) ≡ false
         → kept_meaning kept ≡ meaning_of d see (view_name name.now)) }
 {
@@ -169,10 +122,7 @@ fn meaning(
         ))),
         NameKind::Typedef => typedef_meaning(alloc, definition, sights, constants),
         NameKind::Program => Ok(Kept::Program),
-        _ => {
-            let body = body_named(bodies, places, name.word);
-            named_meaning(alloc, body, sights, constants)
-        }
+        _ => named_meaning(alloc, bodies.get(name.word), sights, constants),
     }
 }
 
@@ -181,21 +131,19 @@ fn meanings_by(
     alloc: Global,
     definition: &Definition,
     declared: &[DeclaredName],
-    bodies: &[BodyAt],
-    places: &IndexMap<usize, usize>,
+    bodies: &NamedBodies,
     sights: &Sights,
     constants: &Constants,
 ) -> Result<Vec<Kept>, NoMemory>
     ensures { IfOk result (λ list. let d = view_definition definition.now in let see = seen_by sights.now in
         HasNumbers constants.now (outline.enumerators d) (knowns see (outline.enumerators d))
-        → HasBodies places.now.entries (map view_body_at bodies.now)
-        → map view_body_at bodies.now ≡ outline.bodies d
+        → HasBodies bodies.now (outline.bodies d)
         → list_any is_too_high (heights d see) ≡ false
         → map kept_meaning list.items ≡ map (meaning_of d see) (map view_name declared.now)) }
 {
     let mut list = Vec::with_capacity(alloc, declared.len())?;
     for name in declared {
-        let kept = meaning(alloc, name, definition, bodies, places, sights, constants)?;
+        let kept = meaning(alloc, name, definition, bodies, sights, constants)?;
         list.push(kept)?;
     }
     Ok(list)
@@ -216,8 +164,6 @@ pub fn meanings(
         → list_any is_too_high (heights d see) ≡ false
         → map kept_meaning list.items ≡ map (meaning_of d see) (map view_name declared.now)) }
 {
-    let places = places_of(alloc, bodies)?;
-    meanings_by(
-        alloc, definition, declared, bodies, &places, sights, constants,
-    )
+    let bodies = NamedBodies::of(alloc, bodies)?;
+    meanings_by(alloc, definition, declared, &bodies, sights, constants)
 }

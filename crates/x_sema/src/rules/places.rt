@@ -7,8 +7,8 @@ use indexmap::IndexMap;
 use std::alloc::Global;
 use x_text::NoMemory;
 
-/// So many names are few.
-const MOST_FEW: usize = 12;
+/// So many names, numbers or bodies are few, and compared one by one.
+pub(super) const MOST_FEW: usize = 12;
 
 /// The place of each name of a list: the first.
 #[derive(Drop)]

@@ -3,15 +3,16 @@
 ghost use Rattle.std.specs.Prelude.{◌≡◌, ◌++◌, ◌||◌, ℤ, not, map, IfOk, OnOk};
 ghost use Rattle.std.specs.Ordering.{int_eq};
 ghost use Rattle.indexmap.specs.IndexSet.{contains};
-ghost use Rattle.std.specs.List.{flat_map};
-ghost use Rattle.x_sema.specs.Found.{is_behind, repeat_code, repeats_from, repeated_names};
+ghost use Rattle.std.specs.List.{flat_map, list_any};
+ghost use Rattle.std.specs.Str.{bytes_eq};
+ghost use Rattle.x_sema.specs.Found.{repeat_code, repeats_from, repeated_names};
 ghost use Rattle.x_sema.specs.Found.{numbered, spelled_numbers, repeated_code, repeated_numbers};
 ghost use Rattle.x_sema.specs.Found.{fault_at, repeated_members};
 ghost use Rattle.x_sema.specs.Tables.{HasPlaces, place_in, view_name_at, view_number_at, view_members};
 
 use super::duplicates::is_behind;
 use super::found::add_fault;
-use super::places::Places;
+use super::places::{MOST_FEW, Places};
 use crate::fault::{RuleCode, WordFault};
 use crate::number::number_value;
 use crate::outline::parts::{BodyAt, Members, NameAt, NumberAt};
@@ -76,8 +77,8 @@ fn add_repeated_number(
     add_fault(faults, word, number_fault(code, is_new))
 }
 
-/// Adds the fault at each number that has an earlier word too.
-pub fn add_repeated_numbers(
+/// Adds the fault at each of many numbers that has an earlier word too.
+fn add_many_numbers(
     alloc: Global,
     faults: &mut Vec<WordFault>,
     numbers: &[Numbered],
@@ -92,11 +93,49 @@ pub fn add_repeated_numbers(
     Ok(())
 }
 
-/// The fault of a name in this place of a group, whose first place is given.
-fn name_fault(first: Option<usize>, place: usize) -> Option<RuleCode>
-    ensures { result ≡ repeat_code (is_behind first place) }
+/// Whether one of these numbers is this one.
+fn has_number(numbers: &[Numbered], here: &Numbered) -> bool
+    ensures { result ≡ list_any (λ n. int_eq here.now.number n.number) numbers.now }
 {
-    if is_behind(first, place) {
+    numbers.iter().any(|other| here.number == other.number)
+}
+
+/// Adds the fault at each of a few numbers that has an earlier word too.
+fn add_few_numbers(
+    faults: &mut Vec<WordFault>,
+    numbers: &[Numbered],
+    code: RuleCode,
+) -> Result<(), NoMemory>
+    ensures { OnOk result (faults.new.items ≡ faults.old.items ++ repeated_numbers code numbers.now) }
+{
+    for (place, here) in numbers.iter().enumerate() {
+        let is_new = !has_number(&numbers[..place], here);
+        add_fault(faults, here.word, number_fault(code, is_new))?;
+    }
+    Ok(())
+}
+
+/// Adds the fault at each number that has an earlier word too.
+pub fn add_repeated_numbers(
+    alloc: Global,
+    faults: &mut Vec<WordFault>,
+    numbers: &[Numbered],
+    code: RuleCode,
+) -> Result<(), NoMemory>
+    ensures { OnOk result (faults.new.items ≡ faults.old.items ++ repeated_numbers code numbers.now) }
+{
+    if numbers.len() <= MOST_FEW {
+        add_few_numbers(faults, numbers, code)
+    } else {
+        add_many_numbers(alloc, faults, numbers, code)
+    }
+}
+
+/// The fault of a name, by whether it has an earlier place too.
+fn name_fault(is_repeated: bool) -> Option<RuleCode>
+    ensures { result ≡ repeat_code is_repeated }
+{
+    if is_repeated {
         Some(RuleCode::RepeatedField)
     } else {
         None
@@ -125,10 +164,42 @@ fn add_name_faults(
         ++ repeats_from (place_in places.now) 0 (map view_name_at names.now)) }
 {
     for (place, name) in names.iter().enumerate() {
-        let code = name_fault(places.place(name.name), place);
+        let code = name_fault(is_behind(places.place(name.name), place));
         add_fault(faults, name.word, code)?;
     }
     Ok(())
+}
+
+/// Whether one of these names is this one.
+fn has_name(names: &[NameAt], name: &[u8]) -> bool
+    ensures { result ≡ list_any (λ x. bytes_eq name.now x.name.now) names.now }
+{
+    names.iter().any(|other| name == other.name)
+}
+
+/// Adds the fault at each of a few names that has an earlier word too.
+fn add_few_names(faults: &mut Vec<WordFault>, names: &[NameAt]) -> Result<(), NoMemory>
+    ensures { OnOk result (faults.new.items ≡ faults.old.items
+        ++ repeated_names (map view_name_at names.now)) }
+{
+    for (place, name) in names.iter().enumerate() {
+        let code = name_fault(has_name(&names[..place], name.name));
+        add_fault(faults, name.word, code)?;
+    }
+    Ok(())
+}
+
+/// Adds the fault at each of many names that has an earlier word too.
+fn add_many_names(
+    alloc: Global,
+    faults: &mut Vec<WordFault>,
+    names: &[NameAt],
+) -> Result<(), NoMemory>
+    ensures { OnOk result (faults.new.items ≡ faults.old.items
+        ++ repeated_names (map view_name_at names.now)) }
+{
+    let places = places_of_group(alloc, names)?;
+    add_name_faults(faults, names, &places)
 }
 
 /// Adds the fault at each name of a group that has an earlier word too.
@@ -140,8 +211,11 @@ fn add_repeated_names(
     ensures { OnOk result (faults.new.items ≡ faults.old.items
         ++ repeated_names (map view_name_at names.now)) }
 {
-    let places = places_of_group(alloc, names)?;
-    add_name_faults(faults, names, &places)
+    if names.len() <= MOST_FEW {
+        add_few_names(faults, names)
+    } else {
+        add_many_names(alloc, faults, names)
+    }
 }
 
 /// The numbers that constants may have.

@@ -15,7 +15,7 @@ loop-place-preserved c =
     let rest = map view_name_at (drop (place + 1) all) in
     let now = c.loop-place.faults.items in
     let next : place + 1 ≡ suc place = omega arith in
-    ap (λ l. l ++ repeats_from first (place + 1) rest) (c.in_ok-add_fault.ensures ∙ ap (λ code. now ++ fault_at here.word code) (c.name_fault-code.ensures ∙ ap (λ o. repeat_code (is_behind o place)) c.place.ensures))
+    ap (λ l. l ++ repeats_from first (place + 1) rest) (c.in_ok-add_fault.ensures ∙ ap (λ code. now ++ fault_at here.word code) (c.name_fault-code.ensures ∙ ap repeat_code c.is_behind.ensures ∙ ap (λ o. repeat_code (is_behind o place)) c.place.ensures))
     ∙ append_assoc now (fault_at here.word (repeat_code (is_behind (first here.name.now) place))) (repeats_from first (place + 1) rest)
     ∙ ap (λ k. now ++ (fault_at here.word (repeat_code (is_behind (first here.name.now) place)) ++ repeats_from first k rest)) next
     ∙ sym (ap (λ xs. now ++ repeats_from first place (map view_name_at xs)) (drop_one all place d c.loop-place-test.true))

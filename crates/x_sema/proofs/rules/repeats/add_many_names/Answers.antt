@@ -2,7 +2,7 @@ use Rattle.std.proofs.Common.{◌≡◌, ◌++◌, map, ap, ◌∙◌}
 use Rattle.std.proofs.lemmas.Result.{on_ok_weaker}
 use Rattle.x_sema.specs.Found.{repeats_from}
 use Rattle.x_sema.specs.Tables.{first_place, place_in, view_name_at}
-use Rattle.x_sema.proofs.rules.repeats.add_repeated_names.Goals as goal
+use Rattle.x_sema.proofs.rules.repeats.add_many_names.Goals as goal
 
 pub returns : goal.returns
 returns c =

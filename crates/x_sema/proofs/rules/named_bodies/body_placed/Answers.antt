@@ -1,7 +1,7 @@
 use Rattle.std.proofs.Common.{map, ap, ◌∙◌}
 use Rattle.x_sema.specs.BodyWalks.{view_body_at}
 use Rattle.x_sema.proofs.MeaningLemmas.{body_in, body_in_place, lent_at}
-use Rattle.x_sema.proofs.rules.meanings.body_named.Goals as goal
+use Rattle.x_sema.proofs.rules.named_bodies.body_placed.Goals as goal
 
 pub returns-in-Some : goal.returns-in-Some
 returns-in-Some c h =

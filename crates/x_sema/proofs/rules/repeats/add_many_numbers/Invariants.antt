@@ -3,7 +3,7 @@ use Rattle.std.specs.Ordering.{int_eq}
 use Rattle.indexmap.specs.IndexSet.{contains}
 use Rattle.x_sema.specs.Found.{repeated_numbers}
 use Rattle.x_sema.proofs.NumberLemmas.{Counted}
-use Rattle.x_sema.proofs.rules.repeats.add_repeated_numbers.Given as goal
+use Rattle.x_sema.proofs.rules.repeats.add_many_numbers.Given as goal
 
 abbrev pub invariant-loop-here : goal.invariant-loop-here
 invariant-loop-here l =

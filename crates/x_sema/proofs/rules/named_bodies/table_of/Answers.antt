@@ -4,7 +4,7 @@ use Rattle.x_sema.specs.BodyWalks.{view_body_at}
 use Rattle.x_sema.specs.Meanings.{place_at, first_named}
 use Rattle.x_sema.proofs.ListLemmas.{drop_none}
 use Rattle.x_sema.proofs.MeaningLemmas.{body_more, all_bodies}
-use Rattle.x_sema.proofs.rules.meanings.places_of.Goals as goal
+use Rattle.x_sema.proofs.rules.named_bodies.table_of.Goals as goal
 
 pub loop-place-preserved : goal.loop-place-preserved
 loop-place-preserved c =
@@ -13,7 +13,7 @@ loop-place-preserved c =
     let here = c.index-bodies-place.result in
     let next : place + 1 ≡ suc place = omega arith in
     let is : drop place all ≡ here ∷ drop (place + 1) all = drop_more all place _ c.loop-place-test.true ∙ ap (λ b. b ∷ drop (place + 1) all) (sym c.index-bodies-place.is) in
-    body_more (place_at c.loop-place.places.entries) (place_at c.note.new.places.entries) place (place + 1) (map view_body_at (drop place all)) (view_body_at here) (map view_body_at (drop (place + 1) all))
+    body_more (place_at c.loop-place.table.entries) (place_at c.note.new.table.entries) place (place + 1) (map view_body_at (drop place all)) (view_body_at here) (map view_body_at (drop (place + 1) all))
     (first_named 0 (map view_body_at all)) next (ap (map view_body_at) is) c.in_ok-note.ensures c.loop-place.invariant
 
 pub returns : goal.returns

@@ -6,7 +6,7 @@ use Rattle.indexmap.specs.IndexSet.{contains}
 use Rattle.x_sema.specs.declared.rules.repeats.Numbered.{Numbered}
 use Rattle.x_sema.proofs.ListLemmas.{drop_one, drop_none}
 use Rattle.x_sema.proofs.NumberLemmas.{counted_start, counted_next, counted_all}
-use Rattle.x_sema.proofs.rules.repeats.add_repeated_numbers.Goals as goal
+use Rattle.x_sema.proofs.rules.repeats.add_many_numbers.Goals as goal
 
 pub loop-here-init : goal.loop-here-init
 loop-here-init c = counted_start (λ z. contains int_eq c.new-seen.result z) c.args.code c.args.faults.now.items c.args.numbers.now (λ z. ap (list_any (int_eq z)) c.new-seen.ensures.empty)
