@@ -62,3 +62,15 @@ listed_more f now next xs x rest all is step h =
 
 pub listed_all : {X Y : Type 0} (f : X → List Y) (now : List Y) (xs : List X) (all : List Y) → xs ≡ [] → now ++ flat_map f xs ≡ all → now ≡ all
 listed_all f now xs all none h = sym (append-nil now) ∙ sym (ap (λ l. now ++ flat_map f l) none) ∙ h
+
+-- the last of a front of a list, and what stands before it and behind it
+pub before_last : {X : Type 0} (all front : List X) (x : X) → front ++ x ∷ [] ≡ take (length (front ++ x ∷ [])) all
+    → (front ≡ take (length front) all) × (drop (length front) all ≡ x ∷ drop (length (front ++ x ∷ [])) all)
+before_last [] [] x h = absurd (cc)
+before_last (y ∷ ys) [] x h = let same : x ≡ y = cc in (refl, ap (λ z. z ∷ ys) (sym same))
+before_last [] (f ∷ front) x h = absurd (cc)
+before_last (y ∷ ys) (f ∷ front) x h =
+    let same : f ≡ y = cc in
+    let rest : front ++ x ∷ [] ≡ take (length (front ++ x ∷ [])) ys = cc in
+    let more = before_last ys front x rest in
+    (ap (λ z. z ∷ front) same ∙ ap (λ l. y ∷ l) more.0, more.1)

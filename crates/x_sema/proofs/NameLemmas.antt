@@ -1,11 +1,10 @@
 -- Looking names up in a table that grows.
-use Rattle.std.proofs.Common.{◌≡◌, ℕ, suc, Bool, true, false, cond, List, [], ◌∷◌, ◌++◌, Option, None, Some, refl, sym, ap, ◌∙◌, ◌⊎◌, inl, inr, map}
+use Rattle.std.proofs.Common.{◌≡◌, ℕ, suc, Bool, true, false, cond, List, [], ◌∷◌, ◌++◌, Option, None, Some, refl, sym, ap, ◌∙◌}
 use Rattle.std.specs.Prelude.{is_none, is_some}
-use Rattle.std.specs.List.{AllZip}
 use Rattle.std.specs.Map.{lookup}
 use Rattle.std.specs.Str.{bytes_eq}
 use Rattle.std.proofs.lemmas.Slice.Eq.{bytes_eq-Decides}
-use Rattle.std.proofs.lemmas.Slice.Zip.{AllZip-map}
+use Rattle.indexmap.specs.IndexMap.{insert_entry}
 use Rattle.x_item.specs.Tree.{Definition}
 use Rattle.x_item.specs.Names.{Declared}
 use Rattle.x_sema.specs.Declarers.{or_else, declarer_at, place_of_name, declarer_in, first_from}
@@ -43,43 +42,52 @@ pub or_else_after : {X : Type 0} (a b c : Option X) → or_else (or_else a b) c 
 or_else_after None b c = refl
 or_else_after (Some x) b c = refl
 
--- the names of one item more are in the table
-pub item_more : (before after : List ℕ → Option Declarer) (n m : ℕ) (ds : List (Option Definition)) (d : Option Definition) (rest : List (Option Definition)) (first : List ℕ → Option Declarer)
-    → m ≡ suc n → ds ≡ d ∷ rest → ((name : List ℕ) → after name ≡ or_else (before name) (declarer_in n name d))
-    → ((name : List ℕ) → or_else (before name) (first_from n ds name) ≡ first name) → (name : List ℕ) → or_else (after name) (first_from m rest name) ≡ first name
-item_more before after n m ds d rest first next is more h name =
-    ap (λ a. or_else a (first_from m rest name)) (more name)
-    ∙ or_else_after (before name) (declarer_in n name d) (first_from m rest name)
-    ∙ ap (λ k. or_else (before name) (or_else (declarer_in n name d) (first_from k rest name))) next
-    ∙ sym (ap (λ l. or_else (before name) (first_from n l name)) is)
-    ∙ h name
-
--- an item without a definition changes nothing
-pub none_more : (find : List ℕ → Option Declarer) (n : ℕ) (name : List ℕ) → find name ≡ or_else (find name) (declarer_in n name None)
-none_more find n name = or_none (find name)
-
--- one name more of an item is in the table
-pub name_more : (before after : List ℕ → Option Declarer) (item n m : ℕ) (ds : List Declared) (d : Declared) (rest : List Declared) (all : List ℕ → Option Declarer)
-    → m ≡ suc n → ds ≡ d ∷ rest
-    → ((name : List ℕ) → after name ≡ or_else (before name) (cond (bytes_eq name d.name) (Some (declarer_at item n d)) None))
-    → ((name : List ℕ) → or_else (before name) (place_of_name item n name ds) ≡ all name)
-    → (name : List ℕ) → or_else (after name) (place_of_name item m name rest) ≡ all name
-name_more before after item n m ds d rest all next is more h name =
-    ap (λ a. or_else a (place_of_name item m name rest)) (more name)
-    ∙ or_else_after (before name) (cond (bytes_eq name d.name) (Some (declarer_at item n d)) None) (place_of_name item m name rest)
-    ∙ ap (or_else (before name)) (step (bytes_eq name d.name) ∙ ap (λ k. cond (bytes_eq name d.name) (Some (declarer_at item n d)) (place_of_name item k name rest)) next)
-    ∙ sym (ap (λ l. or_else (before name) (place_of_name item n name l)) is)
-    ∙ h name
+-- an entry is put in place of that of its key, or at the end
+pub lookup_put : {K X : Type 0} (eq : K → K → Bool) (text : K → List ℕ) → ((a b : K) → eq a b ≡ bytes_eq (text a) (text b)) → (name : List ℕ) (es : List (K × X)) (k : K) (x : X)
+    → lookup (λ key. bytes_eq name (text key)) (insert_entry eq es k x) ≡ or_else (cond (bytes_eq name (text k)) (Some x) None) (lookup (λ key. bytes_eq name (text key)) es)
+lookup_put eq text is name [] k x = or_none (cond (bytes_eq name (text k)) (Some x) None)
+lookup_put {K} {X} eq text is name (e ∷ es) k x = by (eq k e.0) refl (bytes_eq name (text k)) refl (bytes_eq name (text e.0)) refl (lookup_put eq text is name es k x)
   where
-    step : (b : Bool) → or_else (cond b (Some (declarer_at item n d)) None) (place_of_name item m name rest) ≡ cond b (Some (declarer_at item n d)) (place_of_name item m name rest)
+    find : List (K × X) → Option X
+    find = lookup (λ key. bytes_eq name (text key))
+
+    by : (a : Bool) → eq k e.0 ≡ a → (b : Bool) → bytes_eq name (text k) ≡ b → (c : Bool) → bytes_eq name (text e.0) ≡ c
+        → find (insert_entry eq es k x) ≡ or_else (cond b (Some x) None) (find es)
+        → find (cond a ((e.0, x) ∷ es) (e ∷ insert_entry eq es k x)) ≡ or_else (cond b (Some x) None) (cond c (Some e.1) (find es))
+    by true same true mine true there h = ap (λ b. cond b (Some x) (find es)) there
+    by true same false other false gone h = ap (λ b. cond b (Some x) (find es)) gone
+    by true same true mine false gone h =
+        let one : text k ≡ text e.0 = (bytes_eq-Decides (text k) (text e.0)).0 (sym (is k e.0) ∙ same) in
+        let clash : bytes_eq name (text e.0) ≡ true = ap (bytes_eq name) (sym one) ∙ mine in
+        absurd (cc)
+    by true same false other true there h =
+        let one : text k ≡ text e.0 = (bytes_eq-Decides (text k) (text e.0)).0 (sym (is k e.0) ∙ same) in
+        let clash : bytes_eq name (text k) ≡ true = ap (bytes_eq name) one ∙ there in
+        absurd (cc)
+    by false differs true mine true there h =
+        let first : name ≡ text k = (bytes_eq-Decides name (text k)).0 mine in
+        let clash : bytes_eq (text k) (text e.0) ≡ true = ap (λ n. bytes_eq n (text e.0)) (sym first) ∙ there in
+        let none : bytes_eq (text k) (text e.0) ≡ false = sym (is k e.0) ∙ differs in
+        absurd (cc)
+    by false differs true mine false gone h = ap (λ b. cond b (Some e.1) (find (insert_entry eq es k x))) gone ∙ h
+    by false differs false other true there h = ap (λ b. cond b (Some e.1) (find (insert_entry eq es k x))) there
+    by false differs false other false gone h = ap (λ b. cond b (Some e.1) (find (insert_entry eq es k x))) gone ∙ h
+
+-- one item more, in front of those in the table
+pub item_before : (before after : Option Declarer) (n m : ℕ) (ds : List (Option Definition)) (d : Option Definition) (rest : List (Option Definition)) (name : List ℕ)
+    → m ≡ suc n → ds ≡ d ∷ rest → before ≡ first_from m rest name → after ≡ or_else (declarer_in n name d) before → after ≡ first_from n ds name
+item_before before after n m ds d rest name next is h more =
+    more ∙ ap (or_else (declarer_in n name d)) (h ∙ ap (λ k. first_from k rest name) next) ∙ sym (ap (λ l. first_from n l name) is)
+
+-- one name more of an item, in front of those in the table
+pub name_before : (old before after : Option Declarer) (item n m : ℕ) (ds : List Declared) (d : Declared) (rest : List Declared) (name : List ℕ)
+    → m ≡ suc n → ds ≡ d ∷ rest → before ≡ or_else (place_of_name item m name rest) old
+    → after ≡ or_else (cond (bytes_eq name d.name) (Some (declarer_at item n d)) None) before → after ≡ or_else (place_of_name item n name ds) old
+name_before old before after item n m ds d rest name next is h more =
+    more ∙ ap (or_else (cond (bytes_eq name d.name) (Some (declarer_at item n d)) None)) (h ∙ ap (λ k. or_else (place_of_name item k name rest) old) next)
+    ∙ step (bytes_eq name d.name) ∙ sym (ap (λ l. or_else (place_of_name item n name l) old) is)
+  where
+    step : (b : Bool) → or_else (cond b (Some (declarer_at item n d)) None) (or_else (place_of_name item (suc n) name rest) old)
+        ≡ or_else (cond b (Some (declarer_at item n d)) (place_of_name item (suc n) name rest)) old
     step true = refl
     step false = refl
-
--- a copy of a name is the name
-pub same_clone : (name copy : List ℕ) → (copy ≡ name) ⊎ AllZip (λ byte other. other ≡ byte) name copy → copy ≡ name
-same_clone name copy (inl h) = h
-same_clone name copy (inr h) = AllZip-map (λ byte. byte) name copy h ∙ unchanged name
-  where
-    unchanged : (xs : List ℕ) → map (λ byte. byte) xs ≡ xs
-    unchanged [] = refl
-    unchanged (x ∷ xs) = ap (λ more. x ∷ more) (unchanged xs)

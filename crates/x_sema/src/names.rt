@@ -75,7 +75,8 @@ impl<'d> Names<'d> {
     }
 }
 
-/// The table of the items' definitions, also of names that were declared beforehand.
+/// The table of the items' definitions, also of names that were declared beforehand. It is made from the last item to the first, so
+/// that the first declarer of a name is what it is left with.
 fn table_of<'d>(
     alloc: Global,
     definitions: &[Option<&'d Definition>],
@@ -84,8 +85,8 @@ fn table_of<'d>(
         → (name : List ℕ) → entry_in table.entries name ≡ first_from 0 (map tree_at definitions.now) name) }
 {
     let mut table = IndexMap::with_capacity(alloc, definitions.len())?;
-    for (item, definition) in definitions.iter().enumerate() {
-        if let Some(definition) = definition {
+    for item in (0..definitions.len()).rev() {
+        if let Some(definition) = definitions[item] {
             add(alloc, &mut table, item, definition)?;
         }
     }
@@ -99,7 +100,7 @@ fn entry(table: &IndexMap<CowSlice<u8>, Declarer>, name: &[u8]) -> Option<Declar
     table.get(name).copied()
 }
 
-/// Takes in the names that an item declares, but for those that are there.
+/// Takes in the names that an item declares, in place of those that later items declare.
 fn add<'d>(
     alloc: Global,
     table: &mut IndexMap<CowSlice<'d, u8>, Declarer>,
@@ -107,35 +108,34 @@ fn add<'d>(
     definition: &'d Definition,
 ) -> Result<(), NoMemory>
     ensures { OnOk result (IsShort (view_definition definition.now)
-        → (name : List ℕ) → entry_in table.new.entries name ≡ or_else (entry_in table.old.entries name)
-        (place_of_name item 0 name (declared (view_definition definition.now)))) }
+        → (name : List ℕ) → entry_in table.new.entries name
+        ≡ or_else (place_of_name item 0 name (declared (view_definition definition.now))) (entry_in table.old.entries name)) }
 {
-    for (place, declared) in declares(alloc, definition)?.iter().enumerate() {
+    let mut left = declares(alloc, definition)?;
+    while let Some(declared) = left.pop() {
         let declarer = Declarer {
             item,
             word: declared.word,
-            place,
+            place: left.as_slice().len(),
             kind: declared.kind,
             lifted: declared.lifted,
         };
-        note(table, declared.name.clone()?, declarer)?;
+        note(table, declared.name, declarer)?;
     }
     Ok(())
 }
 
-/// Takes in a name with its declarer, if the name is not there.
+/// Takes in a name with its declarer, in place of another that the name has.
 fn note<'d>(
     table: &mut IndexMap<CowSlice<'d, u8>, Declarer>,
     name: CowSlice<'d, u8>,
     declarer: Declarer,
 ) -> Result<(), NoMemory>
     ensures { OnOk result ((other : List ℕ) → entry_in table.new.entries other
-        ≡ or_else (entry_in table.old.entries other)
-        (if bytes_eq other (cow_slice_items name.entry) then Some declarer else None)) }
+        ≡ or_else (if bytes_eq other (cow_slice_items name.entry) then Some declarer else None)
+        (entry_in table.old.entries other)) }
 {
-    if entry(table, &name).is_none() {
-        table.insert(name, declarer)?;
-    }
+    table.insert(name, declarer)?;
     Ok(())
 }
 

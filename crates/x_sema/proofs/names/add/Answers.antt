@@ -1,26 +1,28 @@
-use Rattle.std.proofs.Common.{◌≡◌, ◌+◌, suc, ◌∷◌, Some, None, cond, map, drop, ap, sym, ◌∙◌, arith}
+use Rattle.std.proofs.Common.{◌≡◌, suc, Some, None, cond, [], ◌∷◌, ◌++◌, length, map, take, drop, ap, subst, ◌∙◌, arith}
 use Rattle.std.specs.Cow.{cow_slice_items}
 use Rattle.std.specs.Str.{bytes_eq}
-use Rattle.x_item.specs.View.{view_definition}
-use Rattle.x_item.specs.Names.{declared}
+use Rattle.std.proofs.lemmas.List.{length_push}
 use Rattle.x_item.specs.Named.{view_name}
 use Rattle.x_sema.specs.Declarers.{or_else, declarer_at, place_of_name}
 use Rattle.x_sema.specs.DeclarerTable.{entry_in}
-use Rattle.x_sema.proofs.ListLemmas.{drop_one}
-use Rattle.x_sema.proofs.NameLemmas.{name_more, same_clone}
+use Rattle.x_sema.proofs.ListLemmas.{before_last}
+use Rattle.x_sema.proofs.NameLemmas.{name_before}
 use Rattle.x_sema.proofs.names.add.Goals as goal
 
-pub loop-place-preserved : goal.loop-place-preserved
-loop-place-preserved c short =
-    let item = c.args.item in
-    let place = c.loop-place.place in
-    let all = c.deref-declared-items.result.now in
-    let here = c.declared-item.result in
-    let next : place + 1 ≡ suc place = omega arith in
-    let is : drop place all ≡ here ∷ drop (place + 1) all = drop_one all place here c.loop-place-test.true ∙ ap (λ d. d ∷ drop (place + 1) all) (sym c.declared-item.is) in
-    let same = same_clone (cow_slice_items here.name) (cow_slice_items c.in_ok-clone.field-0) c.in_ok-clone.ensures.cases in
-    name_more (entry_in c.loop-place.table.entries) (entry_in c.note.new.table.entries) item place (place + 1) (map view_name (drop place all)) (view_name here) (map view_name (drop (place + 1) all))
-    (λ name. or_else (entry_in c.args.table.now.entries name) (place_of_name item 0 name (declared (view_definition c.args.definition.now))))
-    next (ap (map view_name) is)
-    (λ name. c.in_ok-note.ensures name ∙ ap (λ n. or_else (entry_in c.loop-place.table.entries name) (cond (bytes_eq name n) (Some (declarer_at item place (view_name here))) None)) same)
-    (c.loop-place.invariant short)
+pub loop-declared-preserved : goal.loop-declared-preserved
+loop-declared-preserved c =
+    let all = c.in_ok-left.left.items in
+    let left = c.pop.new.self.items in
+    let here = c.in-Some.declared in
+    let popped : c.loop-declared.left.items ≡ left ++ here ∷ [] = c.in-Some.ensures.items in
+    let split = before_last all left here (subst (λ l. l ≡ take (length l) all) popped c.loop-declared.invariant.left) in
+    let more = length_push left here in
+    let next : length (left ++ here ∷ []) ≡ suc (length left) = omega (arith, more) in
+    record {
+      left = split.0;
+      has = λ name. name_before (entry_in c.args.table.now.entries name) (entry_in c.loop-declared.table.entries name) (entry_in c.note.new.table.entries name) c.args.item (length left) (length (left ++ here ∷ []))
+          (map view_name (drop (length left) all)) (view_name here) (map view_name (drop (length (left ++ here ∷ [])) all)) name
+          next (ap (map view_name) split.1)
+          (c.loop-declared.invariant.has name ∙ ap (λ l. or_else (place_of_name c.args.item (length l) name (map view_name (drop (length l) all))) (entry_in c.args.table.now.entries name)) popped)
+          (c.in_ok-note.ensures name ∙ ap (λ l. or_else (cond (bytes_eq name (cow_slice_items here.name)) (Some (declarer_at c.args.item (length l) (view_name here))) None) (entry_in c.loop-declared.table.entries name)) c.as_slice.ensures.value);
+    }
