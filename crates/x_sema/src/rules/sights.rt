@@ -1,6 +1,7 @@
 //! What an item sees of the names that stand in it.
 
 ghost use Rattle.std.specs.Prelude.{◌≡◌, ◌++◌, map, IfOk};
+ghost use Rattle.std.specs.Cow.{cow_slice_items};
 ghost use Rattle.x_sema.specs.RustViews.{view_view};
 ghost use Rattle.x_sema.specs.Tables.{HasPlaces, place_in, view_at, seen_by};
 
@@ -27,7 +28,7 @@ impl<'v> Sights<'v> {
         views: &'v [View<'v>],
     ) -> Result<Sights<'v>, NoMemory>
         ensures places { IfOk result (λ sights. HasPlaces sights.places
-            (map (λ d. d.name.items) declared.now ++ map (λ m. m.name.now) mentions.now)) }
+            (map (λ d. cow_slice_items d.name) declared.now ++ map (λ m. m.name.now) mentions.now)) }
         ensures views { IfOk result (λ sights. sights.views.now ≡ views.now) }
     {
         let count = declared.len().saturating_add(mentions.len());

@@ -1,4 +1,5 @@
 use Rattle.std.proofs.Common.{◌≡◌, ◌+◌, suc, ◌∷◌, ◌++◌, map, drop, ap, sym, ◌∙◌, arith, append_assoc, append-nil}
+use Rattle.std.specs.Cow.{cow_slice_items}
 use Rattle.x_item.specs.Named.{view_name}
 use Rattle.x_sema.specs.Found.{fault_at, duplicate_code, is_taken_at, duplicates_from}
 use Rattle.x_sema.specs.Tables.{place_in, seen_by}
@@ -17,8 +18,8 @@ loop-place-preserved c =
     let next : place + 1 ≡ suc place = omega arith in
     let is : drop place all ≡ here ∷ drop (place + 1) all = drop_one all place here c.loop-place-test.true ∙ ap (λ x. x ∷ drop (place + 1) all) (sym c.index-declared-place.is) in
     ap (λ l. l ++ duplicates_from see first (place + 1) rest) (c.in_ok-add_fault.ensures ∙ ap (λ code. now ++ fault_at here.word code) (c.duplicate_fault-code.ensures ∙ ap (λ name. duplicate_code (is_taken_at see first place name)) c.deref.ensures.value))
-    ∙ append_assoc now (fault_at here.word (duplicate_code (is_taken_at see first place here.name.items))) (duplicates_from see first (place + 1) rest)
-    ∙ ap (λ k. now ++ (fault_at here.word (duplicate_code (is_taken_at see first place here.name.items)) ++ duplicates_from see first k rest)) next
+    ∙ append_assoc now (fault_at here.word (duplicate_code (is_taken_at see first place (cow_slice_items here.name)))) (duplicates_from see first (place + 1) rest)
+    ∙ ap (λ k. now ++ (fault_at here.word (duplicate_code (is_taken_at see first place (cow_slice_items here.name))) ++ duplicates_from see first k rest)) next
     ∙ sym (ap (λ xs. now ++ duplicates_from see first place (map view_name xs)) is)
     ∙ c.loop-place.invariant
 
