@@ -53,6 +53,30 @@ shift n (x ∷ xs) name = by (bytes_eq name x) (shift (suc n) xs name)
     by true h = refl
     by false h = h
 
+-- the first place among two lists of names, one after the other
+pub first_of_two : (xs ys : List (List ℕ)) (name : List ℕ) → or_else (first_place 0 xs name) (option_map (λ k. length xs + k) (first_place 0 ys name)) ≡ first_place 0 (xs ++ ys) name
+first_of_two [] ys name = same (first_place 0 ys name)
+  where
+    same : (o : Option ℕ) → option_map (λ k. 0 + k) o ≡ o
+    same None = refl
+    same (Some k) = ap Some (omega arith)
+first_of_two (x ∷ xs) ys name =
+    by (bytes_eq name x) (first_place 0 xs name) (first_place 0 ys name) (shift 0 xs name) (shift 0 (xs ++ ys) name ∙ ap (option_map suc) (sym (first_of_two xs ys name)))
+  where
+    by : (b : Bool) (p o : Option ℕ) → first_place 1 xs name ≡ option_map suc p → first_place 1 (xs ++ ys) name ≡ option_map suc (or_else p (option_map (λ k. length xs + k) o))
+        → or_else (cond b (Some 0) (first_place 1 xs name)) (option_map (λ k. suc (length xs) + k) o) ≡ cond b (Some 0) (first_place 1 (xs ++ ys) name)
+    by true p o s h = refl
+    by false None None s h = ap (λ a. or_else a None) s ∙ sym h
+    by false None (Some k) s h = ap (λ a. or_else a (Some (suc (length xs) + k))) s ∙ ap Some (omega arith) ∙ sym h
+    by false (Some j) o s h = ap (λ a. or_else a (option_map (λ k. suc (length xs) + k) o)) s ∙ sym h
+
+-- the same, as it is found
+pub found_of_two : (xs ys : List (List ℕ)) (name : List ℕ) (count : ℕ) (p o : Option ℕ) → length xs ≡ count → p ≡ first_place 0 xs name → o ≡ first_place 0 ys name
+    → or_else p (option_map (λ k. count + k) o) ≡ first_place 0 (xs ++ ys) name
+found_of_two xs ys name count p o n h k =
+    ap (λ a. or_else a (option_map (λ k. count + k) o)) h ∙ ap (λ a. or_else (first_place 0 xs name) (option_map (λ k. count + k) a)) k
+    ∙ sym (ap (λ n. or_else (first_place 0 xs name) (option_map (λ k. n + k) (first_place 0 ys name))) n) ∙ first_of_two xs ys name
+
 abbrev enumerator_name : EnumeratorAt → List ℕ
 enumerator_name e = e.name
 

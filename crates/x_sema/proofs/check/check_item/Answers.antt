@@ -8,7 +8,7 @@ use Rattle.x_sema.specs.Bodies.{enumerators_in}
 use Rattle.x_sema.specs.BodyWalks.{view_body_at, AreFilled}
 use Rattle.x_sema.specs.Constants.{knowns}
 use Rattle.x_sema.specs.Outlined.{outlined, AreTables}
-use Rattle.x_sema.specs.Tables.{HasPlaces, HasNumbers, seen_by}
+use Rattle.x_sema.specs.Tables.{ArePlaces, HasNumbers, place_seen, seen_by}
 use Rattle.x_sema.proofs.OutlineLemmas.{map_map, outcome_by}
 use Rattle.x_sema.proofs.check.check_item.Goals as goal
 
@@ -26,11 +26,11 @@ returns-clause-checked c =
     let front : List (List ℕ) = map (λ (x : Declared). x.name) (declared d) in
     let uses =
     ap (map (λ m. m.name.now)) c.deref-2.ensures.value ∙ map_map (λ m. m.name) view_mention outline.mentioned.items ∙ ap (map (λ m. m.name)) o.uses_are in
-    let places = subst (HasPlaces sights.places) (ap (λ l. l ++ map (λ m. m.name.now) c.deref-2.result.now) names ∙ ap (λ l. front ++ l) uses) c.in_ok-sights.ensures.places in
+    let places = subst (ArePlaces (place_seen sights)) (ap (λ l. l ++ map (λ m. m.name.now) c.deref-2.result.now) names ∙ ap (λ l. front ++ l) uses) c.in_ok-sights.ensures.places in
     let enumerators_are =
     c.in_ok-enumerators.ensures (subst AreFilled (sym c.deref-3.ensures.value) o.filled) ∙ ap (λ l. enumerators_in (map view_body_at l)) c.deref-3.ensures.value ∙ ap enumerators_in o.bodies_are in
     let numbers = subst (λ all. HasNumbers constants all (knowns (seen_by sights) all)) enumerators_are c.in_ok-constants.ensures in
     let tables : AreTables outline sights constants = record { places = places; numbers = numbers } in
-    outcome_by d (view_definition c.args.definition.now) sights.places sights.views.now c.args.views.now checked
+    outcome_by d (view_definition c.args.definition.now) (place_seen sights) sights.views.now c.args.views.now checked
     (ap (λ r. view_definition r.now) c.in_ok-outline.ensures.definition) places c.in_ok-sights.ensures.views (h o tables))
     c.checked.ensures

@@ -1,6 +1,6 @@
 use Rattle.std.proofs.Common.{◌≡◌, ◌++◌, map, take}
 use Rattle.std.specs.Cow.{cow_slice_items}
-use Rattle.x_sema.proofs.rules.sights.Sights.of.Given as goal
+use Rattle.x_sema.proofs.rules.sights.table_of_many.Given as goal
 
 -- the names so far
 abbrev pub invariant-loop-name : goal.invariant-loop-name
