@@ -6,7 +6,7 @@ use Rattle.std.specs.Str.{bytes_eq}
 use Rattle.x_sema.specs.Bodies.{EnumeratorAt}
 use Rattle.x_sema.specs.Constants.{Known, number_of, known_with, knowns, is_declared_before, number_named, number_before}
 use Rattle.x_sema.specs.Declarers.{or_else}
-use Rattle.x_sema.specs.Tables.{HasNumbers, place_in, first_place, noted, view_enumerator_at}
+use Rattle.x_sema.specs.Tables.{HasNumbers, place_by, first_place, noted, view_enumerator_at}
 use Rattle.x_sema.proofs.ListLemmas.{some_at, take_next, map_append, get_at}
 use Rattle.x_sema.specs.Views.{View}
 use Rattle.x_sema.specs.declared.rules.constants.Constants.{Constants}
@@ -181,12 +181,12 @@ pub record Numbered (constants : Constants) (all : List EnumeratorAt) (see : Lis
 
 pub numbered_next : (constants next : Constants) (all : List EnumeratorAt) (see : List ℕ → View) (before number : Option ℤ) (place : ℕ) → Numbered constants all see before place → place < length all
     → ((known : List Known) (e : EnumeratorAt) → HasNumbers constants all known → slice_get all place ≡ Some e → number ≡ number_of see known before e)
-    → next.list.items ≡ constants.list.items → next.places ≡ constants.places → next.numbers.items ≡ constants.numbers.items ++ number ∷ []
+    → next.list.items ≡ constants.list.items → next.table ≡ constants.table → next.numbers.items ≡ constants.numbers.items ++ number ∷ []
     → Numbered next all see number (place + 1)
-numbered_next constants next all see before number place n lt is list places numbers = record {
+numbered_next constants next all see before number place n lt is list table numbers = record {
   known = known;
   has = record {
-    places = record { at = λ name. ap (λ kept. place_in kept name) places ∙ n.has.places.at name };
+    places = record { at = λ name. ap (λ kept. place_by kept (names_of next) name) table ∙ ap (λ l. place_by constants.table (map (λ e. e.name.now) l) name) list ∙ n.has.places.at name };
     list = ap (map view_enumerator_at) list ∙ n.has.list;
     numbers = numbers ∙ ap (λ l. l ++ number ∷ []) n.has.numbers ∙ sym (map_append (λ k. k.number) n.known (here ∷ []));
     front = map_append (λ k. k.enumerator) n.known (here ∷ []) ∙ ap (λ l. l ++ some.0 ∷ []) (n.has.front ∙ ap (λ i. take i all) n.count)
@@ -197,6 +197,9 @@ numbered_next constants next all see before number place n lt is list places num
       ∙ sym (ap (known_with see n.known before) some.1) ∙ n.rest;
 }
   where
+    names_of : Constants → List (List ℕ)
+    names_of c = map (λ e. e.name.now) c.list.items
+
     some : (x : EnumeratorAt) × (drop place all ≡ x ∷ drop (suc place) all)
     some = some_at all place lt
 

@@ -139,9 +139,13 @@ view_members m = record { names = map view_name_at m.names.items; numbers = map 
 
 -- ---- enumerators
 
+-- the place of the first enumerator of a name
+abbrev pub place_listed : Constants → List ℕ → Option ℕ
+place_listed constants name = place_by constants.table (map (λ e. e.name.now) constants.list.items) name
+
 -- the table of enumerators has these, and numbers of the first of them
 pub record HasNumbers (constants : Constants) (all : List bodies.EnumeratorAt) (known : List Known) : Type 0 where
-  pub places : HasPlaces constants.places (map (λ e. e.name) all)
+  pub places : ArePlaces (place_listed constants) (map (λ e. e.name) all)
   pub list : map view_enumerator_at constants.list.items ≡ all
   pub numbers : constants.numbers.items ≡ map (λ k. k.number) known
   pub front : map (λ k. k.enumerator) known ≡ take (length known) all
