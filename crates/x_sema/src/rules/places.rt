@@ -7,7 +7,7 @@ use indexmap::IndexMap;
 use std::alloc::Global;
 use x_text::NoMemory;
 
-/// So many names are few: they are compared one by one, since making a table takes longer.
+/// So many names are few. They are compared one by one: most definitions have no more, and making a table takes longer.
 pub const MOST_FEW: usize = 12;
 
 /// The first place of each of many names.
@@ -15,8 +15,6 @@ pub type NameTable<'v> = IndexMap<&'v [u8], usize>;
 
 /// What has a name.
 pub trait Named {
-    ghost use Rattle.std.specs.Prelude.{◌≡◌, ℕ, List};
-
     /// The name.
     ghost name_of: { Self → List ℕ };
 
@@ -36,7 +34,7 @@ impl Named for &[u8] {
 /// The place of each name of a list: the first.
 #[derive(Drop)]
 pub enum Places<'v> {
-    /// A few names, which are compared one by one: most definitions have no more, and making a table takes longer.
+    /// A few names, which are compared one by one.
     Few(Vec<&'v [u8]>),
     /// The place of each of many names.
     Many(NameTable<'v>),
