@@ -11,10 +11,9 @@ use Rattle.x_sema.specs.Results.{Outcome, IsOutcome}
 use Rattle.x_sema.specs.Views.{view_in, names_of}
 use Rattle.x_sema.specs.BodyWalks.{view_body_at}
 use Rattle.x_sema.specs.RustViews.{view_view}
-use Rattle.x_sema.specs.Tables.{HasPlaces, place_in, first_place, view_at}
+use Rattle.x_sema.specs.Tables.{ArePlaces, first_place, view_at}
 use Rattle.x_sema.specs.declared.outline.parts.BodyAt.{BodyAt}
 use Rattle.x_sema.specs.declared.fault.WordFault.{WordFault}
-use Rattle.x_sema.specs.declared.rules.places.Places.{Places}
 use Rattle.x_sema.specs.declared.views.View.{View}
 use Rattle.x_sema.proofs.AmongLemmas.{among_first, among_more}
 use Rattle.x_sema.proofs.PlaceLemmas.{shift}
@@ -37,8 +36,8 @@ view_first (x ∷ names) (v ∷ vs) name = by (bytes_eq name x) (first_place 0 n
     by false None s h = ap (view_at (v ∷ vs)) s ∙ h
     by false (Some k) s h = ap (view_at (v ∷ vs)) s ∙ h
 
-pub seen_is : (places : Places) (names : List (List ℕ)) (vs : List View) → HasPlaces places names → (λ name. view_at vs (place_in places name)) ≡ view_in names (map view_view vs)
-seen_is places names vs h = λ i name. (ap (view_at vs) (h.at name) ∙ view_first names vs name) i
+pub seen_is : (place : List ℕ → Option ℕ) (names : List (List ℕ)) (vs : List View) → ArePlaces place names → (λ name. view_at vs (place name)) ≡ view_in names (map view_view vs)
+seen_is place names vs h = λ i name. (ap (view_at vs) (h.at name) ∙ view_first names vs name) i
 
 -- ---- lists
 
@@ -84,9 +83,9 @@ added_last all now found is h same = h ∙ ap (λ l. now ++ l) same
 -- ---- outcomes
 
 -- what is found by tables is what checking the definition gives by its views
-pub outcome_by : (d e : Definition) (places : Places) (vs given : List View) (o : Outcome) → d ≡ e → HasPlaces places (names_of d) → vs ≡ given
-    → GivesOutcome d (λ name. view_at vs (place_in places name)) o → IsOutcome e (map view_view given) o
-outcome_by d e places vs given o same has is h =
+pub outcome_by : (d e : Definition) (place : List ℕ → Option ℕ) (vs given : List View) (o : Outcome) → d ≡ e → ArePlaces place (names_of d) → vs ≡ given
+    → GivesOutcome d (λ name. view_at vs (place name)) o → IsOutcome e (map view_view given) o
+outcome_by d e place vs given o same has is h =
     subst (λ x. IsOutcome x (map view_view given) o) same
     (subst (λ l. IsOutcome d (map view_view l) o) is
-    (let by = subst (λ see. GivesOutcome d see o) (seen_is places (names_of d) vs has) h in record { are_faults = by.are_faults; are_meanings = by.are_meanings }))
+    (let by = subst (λ see. GivesOutcome d see o) (seen_is place (names_of d) vs has) h in record { are_faults = by.are_faults; are_meanings = by.are_meanings }))

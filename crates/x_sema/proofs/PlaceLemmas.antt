@@ -6,7 +6,7 @@ use Rattle.std.specs.Str.{bytes_eq}
 use Rattle.x_sema.specs.Bodies.{EnumeratorAt}
 use Rattle.x_sema.specs.Constants.{Known, number_of, known_with, knowns, is_declared_before, number_named, number_before}
 use Rattle.x_sema.specs.Declarers.{or_else}
-use Rattle.x_sema.specs.Tables.{HasNumbers, place_in, first_place, noted, view_enumerator_at}
+use Rattle.x_sema.specs.Tables.{HasNumbers, place_by, first_place, noted, view_enumerator_at}
 use Rattle.x_sema.proofs.ListLemmas.{some_at, take_next, map_append, get_at}
 use Rattle.x_sema.specs.Views.{View}
 use Rattle.x_sema.specs.declared.rules.constants.Constants.{Constants}
@@ -52,6 +52,30 @@ shift n (x ∷ xs) name = by (bytes_eq name x) (shift (suc n) xs name)
         → cond b (Some (suc n)) (first_place (suc (suc n)) xs name) ≡ option_map suc (cond b (Some n) (first_place (suc n) xs name))
     by true h = refl
     by false h = h
+
+-- the first place among two lists of names, one after the other
+pub first_of_two : (xs ys : List (List ℕ)) (name : List ℕ) → or_else (first_place 0 xs name) (option_map (λ k. length xs + k) (first_place 0 ys name)) ≡ first_place 0 (xs ++ ys) name
+first_of_two [] ys name = same (first_place 0 ys name)
+  where
+    same : (o : Option ℕ) → option_map (λ k. 0 + k) o ≡ o
+    same None = refl
+    same (Some k) = ap Some (omega arith)
+first_of_two (x ∷ xs) ys name =
+    by (bytes_eq name x) (first_place 0 xs name) (first_place 0 ys name) (shift 0 xs name) (shift 0 (xs ++ ys) name ∙ ap (option_map suc) (sym (first_of_two xs ys name)))
+  where
+    by : (b : Bool) (p o : Option ℕ) → first_place 1 xs name ≡ option_map suc p → first_place 1 (xs ++ ys) name ≡ option_map suc (or_else p (option_map (λ k. length xs + k) o))
+        → or_else (cond b (Some 0) (first_place 1 xs name)) (option_map (λ k. suc (length xs) + k) o) ≡ cond b (Some 0) (first_place 1 (xs ++ ys) name)
+    by true p o s h = refl
+    by false None None s h = ap (λ a. or_else a None) s ∙ sym h
+    by false None (Some k) s h = ap (λ a. or_else a (Some (suc (length xs) + k))) s ∙ ap Some (omega arith) ∙ sym h
+    by false (Some j) o s h = ap (λ a. or_else a (option_map (λ k. suc (length xs) + k) o)) s ∙ sym h
+
+-- the same, as it is found
+pub found_of_two : (xs ys : List (List ℕ)) (name : List ℕ) (count : ℕ) (p o : Option ℕ) → length xs ≡ count → p ≡ first_place 0 xs name → o ≡ first_place 0 ys name
+    → or_else p (option_map (λ k. count + k) o) ≡ first_place 0 (xs ++ ys) name
+found_of_two xs ys name count p o n h k =
+    ap (λ a. or_else a (option_map (λ k. count + k) o)) h ∙ ap (λ a. or_else (first_place 0 xs name) (option_map (λ k. count + k) a)) k
+    ∙ sym (ap (λ n. or_else (first_place 0 xs name) (option_map (λ k. n + k) (first_place 0 ys name))) n) ∙ first_of_two xs ys name
 
 abbrev enumerator_name : EnumeratorAt → List ℕ
 enumerator_name e = e.name
@@ -157,12 +181,12 @@ pub record Numbered (constants : Constants) (all : List EnumeratorAt) (see : Lis
 
 pub numbered_next : (constants next : Constants) (all : List EnumeratorAt) (see : List ℕ → View) (before number : Option ℤ) (place : ℕ) → Numbered constants all see before place → place < length all
     → ((known : List Known) (e : EnumeratorAt) → HasNumbers constants all known → slice_get all place ≡ Some e → number ≡ number_of see known before e)
-    → next.list.items ≡ constants.list.items → next.places ≡ constants.places → next.numbers.items ≡ constants.numbers.items ++ number ∷ []
+    → next.list.items ≡ constants.list.items → next.table ≡ constants.table → next.numbers.items ≡ constants.numbers.items ++ number ∷ []
     → Numbered next all see number (place + 1)
-numbered_next constants next all see before number place n lt is list places numbers = record {
+numbered_next constants next all see before number place n lt is list table numbers = record {
   known = known;
   has = record {
-    places = record { at = λ name. ap (λ kept. place_in kept name) places ∙ n.has.places.at name };
+    places = record { at = λ name. ap (λ kept. place_by kept (names_of next) name) table ∙ ap (λ l. place_by constants.table (map (λ e. e.name.now) l) name) list ∙ n.has.places.at name };
     list = ap (map view_enumerator_at) list ∙ n.has.list;
     numbers = numbers ∙ ap (λ l. l ++ number ∷ []) n.has.numbers ∙ sym (map_append (λ k. k.number) n.known (here ∷ []));
     front = map_append (λ k. k.enumerator) n.known (here ∷ []) ∙ ap (λ l. l ++ some.0 ∷ []) (n.has.front ∙ ap (λ i. take i all) n.count)
@@ -173,6 +197,9 @@ numbered_next constants next all see before number place n lt is list places num
       ∙ sym (ap (known_with see n.known before) some.1) ∙ n.rest;
 }
   where
+    names_of : Constants → List (List ℕ)
+    names_of c = map (λ e. e.name.now) c.list.items
+
     some : (x : EnumeratorAt) × (drop place all ≡ x ∷ drop (suc place) all)
     some = some_at all place lt
 

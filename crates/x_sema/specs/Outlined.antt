@@ -13,7 +13,7 @@ use Rattle.x_sema.specs.Constants.{knowns}
 use Rattle.x_sema.specs.Declarers.{IsShort}
 use Rattle.x_sema.specs.Results.{Outcome, meanings_by}
 use Rattle.x_sema.specs.Rules.{AreFaults}
-use Rattle.x_sema.specs.Tables.{HasPlaces, HasNumbers, seen_by}
+use Rattle.x_sema.specs.Tables.{ArePlaces, HasNumbers, place_seen, seen_by}
 use Rattle.x_sema.specs.declared.outline.Outline.{Outline}
 use Rattle.x_sema.specs.declared.rules.constants.Constants.{Constants}
 use Rattle.x_sema.specs.declared.rules.sights.Sights.{Sights}
@@ -32,7 +32,7 @@ pub record IsOutline (o : Outline) : Type 0 where
 
 -- The table of places is that of all these names, and that of constants has the enumerators with their numbers.
 pub record AreTables (o : Outline) (sights : Sights) (constants : Constants) : Type 0 where
-  pub places : HasPlaces sights.places (names_of (outlined o))
+  pub places : ArePlaces (place_seen sights) (names_of (outlined o))
   pub numbers : HasNumbers constants (enumerators (outlined o)) (knowns (seen_by sights) (enumerators (outlined o)))
 
 -- what checking a definition gives, by what its item sees of each name

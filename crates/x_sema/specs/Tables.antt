@@ -1,6 +1,8 @@
 -- What the program keeps of an item while it is checked, as the definitions have it.
 use Rattle.std.specs.Prelude.{◌≡◌, ℕ, suc, ◌-◌, ◌^◌, min, nat_lt, true, false, Bool, List, [], ◌∷◌, ◌++◌, length, map, take, Option, Some, None, option_map, slice_get, if◌then◌else◌}
+use Rattle.indexmap.specs.IndexMap.{IndexMap}
 use Rattle.std.specs.Borrow.{Bor}
+use Rattle.std.specs.Cow.{cow_slice_items}
 use Rattle.std.specs.List.{IsAmong}
 use Rattle.std.specs.Map.{lookup}
 use Rattle.std.specs.Option.{option_map_or}
@@ -8,6 +10,8 @@ use Rattle.std.specs.Str.{bytes_eq}
 use Rattle.x_item.specs.Tree as tree
 use Rattle.x_item.specs.View.{view_value}
 use Rattle.x_item.specs.declared.trees.value.Value.{Value}
+use Rattle.x_item.specs.declared.names.declared_name.DeclaredName.{DeclaredName}
+use Rattle.x_item.specs.declared.names.mention.Mention.{Mention}
 use Rattle.x_item.specs.declared.names.mention.Use.{Use}
 use Rattle.x_item.specs.declared.names.mention.Use.TheVariants as uses
 use Rattle.x_sema.specs.Views as views
@@ -64,6 +68,15 @@ noted found other name place = or_else found (if bytes_eq other name then Some p
 pub record HasTabled (entries : List (Bor (List ℕ) × ℕ)) (names : List (List ℕ)) : Type 0 where
   pub at : (name : List ℕ) → tabled entries name ≡ first_place 0 names name
 
+-- the place of a name by a table of the names, or among these themselves where there is none
+abbrev pub place_by : {Z : Type 0} → Option (IndexMap (Bor (List ℕ)) ℕ Z) → List (List ℕ) → List ℕ → Option ℕ
+place_by None names name = first_place 0 names name
+place_by (Some table) names name = tabled table.entries name
+
+-- these are the first places of names
+pub record ArePlaces (place : List ℕ → Option ℕ) (names : List (List ℕ)) : Type 0 where
+  pub at : (name : List ℕ) → place name ≡ first_place 0 names name
+
 -- the first place of each name is kept
 pub record HasPlaces (places : Places) (names : List (List ℕ)) : Type 0 where
   pub at : (name : List ℕ) → place_in places name ≡ first_place 0 names name
@@ -75,9 +88,17 @@ abbrev pub view_at : List View → Option ℕ → views.View
 view_at vs None = views.Undeclared
 view_at vs (Some place) = option_map_or view_view (slice_get vs place) views.Undeclared
 
+-- the names that an item declares, and then those that it uses
+abbrev pub names_seen : List DeclaredName → List Mention → List (List ℕ)
+names_seen declared mentions = map (λ d. cow_slice_items d.name) declared ++ map (λ m. m.name.now) mentions
+
+-- the place of a name among those of an item
+abbrev pub place_seen : Sights → List ℕ → Option ℕ
+place_seen sights name = place_by sights.table (names_seen sights.declared.now sights.mentions.now) name
+
 -- what an item sees of a name, by the table of its views
 abbrev pub seen_by : Sights → List ℕ → views.View
-seen_by sights name = view_at sights.views.now (place_in sights.places name)
+seen_by sights name = view_at sights.views.now (place_seen sights name)
 
 abbrev pub view_sight : Sight → types.Sight
 view_sight s = record { class = view_class s.class; height = s.height }
@@ -118,9 +139,13 @@ view_members m = record { names = map view_name_at m.names.items; numbers = map 
 
 -- ---- enumerators
 
+-- the place of the first enumerator of a name
+abbrev pub place_listed : Constants → List ℕ → Option ℕ
+place_listed constants name = place_by constants.table (map (λ e. e.name.now) constants.list.items) name
+
 -- the table of enumerators has these, and numbers of the first of them
 pub record HasNumbers (constants : Constants) (all : List bodies.EnumeratorAt) (known : List Known) : Type 0 where
-  pub places : HasPlaces constants.places (map (λ e. e.name) all)
+  pub places : ArePlaces (place_listed constants) (map (λ e. e.name) all)
   pub list : map view_enumerator_at constants.list.items ≡ all
   pub numbers : constants.numbers.items ≡ map (λ k. k.number) known
   pub front : map (λ k. k.enumerator) known ≡ take (length known) all

@@ -13,9 +13,9 @@ ghost use Rattle.x_sema.specs.RustViews.{view_view};
 ghost use Rattle.std.specs.Option.{option_map_or};
 ghost use Rattle.x_sema.specs.Constants.{number_before, number_by, number_seen, next_number, number_of};
 ghost use Rattle.x_sema.specs.Numbers.{is_enum_number, is_word_number};
-ghost use Rattle.x_sema.specs.Tables.{HasPlaces, HasNumbers, seen_by, view_enumerator_at};
+ghost use Rattle.x_sema.specs.Tables.{ArePlaces, HasNumbers, place_by, place_listed, seen_by, view_enumerator_at};
 
-use super::places::Places;
+use super::places::{MOST_FEW, NameTable, Named, place_among, place_tabled, table_of};
 use super::sights::Sights;
 use crate::number::number_value;
 use crate::outline::bodies::words_of_enumerator;
@@ -105,21 +105,35 @@ pub fn enumerators<'d>(
 #[derive(Drop)]
 pub struct Constants<'d> {
     pub list: Vec<EnumeratorAt<'d>>,
-    /// The place in the list of the first enumerator of each name.
-    places: Places<'d>,
+    /// The place in the list of the first enumerator of each name, if they are many.
+    table: Option<NameTable<'d>>,
     pub numbers: Vec<Option<i128>>,
 }
 
-/// The first place of each name.
-fn places_of_names<'d>(alloc: Global, list: &[EnumeratorAt<'d>]) -> Result<Places<'d>, NoMemory>
-    ensures { IfOk result (λ places. HasPlaces places
-        (map (λ e. e.name) (map view_enumerator_at list.now))) }
+impl Named for EnumeratorAt<'_> {
+    ghost name_of = { λ enumerator. enumerator.name.now };
+
+    fn name(&self) -> &[u8] {
+        self.name
+    }
+}
+
+/// The first place of each name, if they are many.
+fn table_of_many<'d>(
+    alloc: Global,
+    list: &[EnumeratorAt<'d>],
+) -> Result<Option<NameTable<'d>>, NoMemory>
+    ensures { IfOk result (λ table. let names = map (λ e. e.name.now) list.now in
+        ArePlaces (place_by table names) names) }
 {
+    if list.len() <= MOST_FEW {
+        return Ok(None);
+    }
     let mut names = Vec::with_capacity(alloc, list.len())?;
     for enumerator in list {
         names.push(enumerator.name)?;
     }
-    Places::of(alloc, names)
+    Ok(Some(table_of(alloc, &names)?))
 }
 
 /// The number of an enumerator without a value, by that of the one before.
@@ -168,10 +182,10 @@ impl<'d> Constants<'d> {
         ensures { IfOk result (λ constants. let all = map view_enumerator_at list.entry.items in
             HasNumbers constants all (knowns (seen_by sights.now) all)) }
     {
-        let places = places_of_names(alloc, &list)?;
+        let table = table_of_many(alloc, &list)?;
         let mut constants = Constants {
             list,
-            places,
+            table,
             numbers: Vec::new(alloc),
         };
         constants.number(sights)?;
@@ -237,12 +251,22 @@ impl<'d> Constants<'d> {
         }
     }
 
+    /// The place of the first enumerator of the name.
+    fn place(&self, name: &[u8]) -> Option<usize>
+        ensures { result ≡ place_listed self.now name.now }
+    {
+        match &self.table {
+            Some(table) => place_tabled(table, name),
+            None => place_among(&self.list, name),
+        }
+    }
+
     /// Whether the first enumerator of the name stands before the word.
     pub fn is_declared_before(&self, limit: usize, name: &[u8]) -> bool
         ensures { (all : List bodies.EnumeratorAt) (known : List Known) → HasNumbers self.now all known
             → result ≡ is_declared_before all limit name.now }
     {
-        match self.places.place(name) {
+        match self.place(name) {
             Some(place) => self.is_before(place, limit),
             None => false,
         }
@@ -263,7 +287,7 @@ impl<'d> Constants<'d> {
         ensures { (all : List bodies.EnumeratorAt) (known : List Known) → HasNumbers self.now all known
             → result ≡ number_before known limit name.now }
     {
-        match self.places.place(name) {
+        match self.place(name) {
             Some(place) => {
                 if self.is_before(place, limit) {
                     self.number_in(place)
@@ -305,7 +329,7 @@ impl<'d> Constants<'d> {
         ensures { (all : List bodies.EnumeratorAt) (known : List Known) → HasNumbers self.now all known
             → result ≡ number_named known name.now }
     {
-        match self.places.place(name) {
+        match self.place(name) {
             Some(place) => self.number_in(place),
             None => None,
         }

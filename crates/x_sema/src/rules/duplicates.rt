@@ -4,7 +4,7 @@ ghost use Rattle.x_item.specs.Named.{view_name};
 ghost use Rattle.x_sema.specs.Found.{is_earlier_name, is_behind, is_taken_at, duplicate_code};
 ghost use Rattle.x_sema.specs.Found.{duplicates_from};
 ghost use Rattle.x_sema.specs.RustViews.{view_view};
-ghost use Rattle.x_sema.specs.Tables.{place_in, seen_by};
+ghost use Rattle.x_sema.specs.Tables.{place_seen, seen_by};
 
 use super::found::add_fault;
 use super::sights::Sights;
@@ -33,7 +33,7 @@ pub fn is_behind(first: Option<usize>, place: usize) -> bool
 /// The fault of a name in this place of those that the item declares.
 fn duplicate_fault(sights: &Sights, place: usize, name: &[u8]) -> Option<RuleCode>
     ensures { result ≡ duplicate_code (is_taken_at (seen_by sights.now)
-        (place_in sights.now.places) place name.now) }
+        (place_seen sights.now) place name.now) }
 {
     let first = sights.place(name);
     if is_earlier_name(sights.view_at(first)) || is_behind(first, place) {
@@ -50,7 +50,7 @@ pub fn add_duplicates(
     sights: &Sights,
 ) -> Result<(), NoMemory>
     ensures { OnOk result (faults.new.items ≡ faults.old.items
-        ++ duplicates_from (seen_by sights.now) (place_in sights.now.places) 0 (map view_name declared.now)) }
+        ++ duplicates_from (seen_by sights.now) (place_seen sights.now) 0 (map view_name declared.now)) }
 {
     for (place, name) in declared.iter().enumerate() {
         let code = duplicate_fault(sights, place, &name.name);

@@ -1,6 +1,6 @@
-use Rattle.std.proofs.Common.{ℕ, List, ◌++◌, map, refl, sym, ap, subst, ◌∙◌}
-use Rattle.std.specs.Cow.{cow_slice_items}
+use Rattle.std.proofs.Common.{List, ℕ, ◌++◌, map, refl, sym, ap, subst, ◌∙◌}
 use Rattle.std.proofs.lemmas.Result.{IfOk-weaker}
+use Rattle.std.specs.Cow.{cow_slice_items}
 use Rattle.x_item.specs.Collected.{view_mention}
 use Rattle.x_item.specs.Named.{view_name}
 use Rattle.x_item.specs.Names.{Declared, declared}
@@ -8,7 +8,7 @@ use Rattle.x_sema.specs.Bodies.{enumerators_in}
 use Rattle.x_sema.specs.BodyWalks.{view_body_at, AreFilled}
 use Rattle.x_sema.specs.Constants.{knowns}
 use Rattle.x_sema.specs.Outlined.{outlined, AreTables}
-use Rattle.x_sema.specs.Tables.{HasPlaces, HasNumbers, seen_by}
+use Rattle.x_sema.specs.Tables.{ArePlaces, HasNumbers, place_seen, seen_by}
 use Rattle.x_sema.proofs.OutlineLemmas.{map_map, outcome_by}
 use Rattle.x_sema.proofs.check.outcome.Goals as goal
 
@@ -25,11 +25,10 @@ returns c =
     let front : List (List ℕ) = map (λ (x : Declared). x.name) (declared d) in
     let uses =
     ap (map (λ m. m.name.now)) c.deref-2.ensures.value ∙ map_map (λ m. m.name) view_mention outline.mentioned.items ∙ ap (map (λ m. m.name)) o.uses_are in
-    let places = subst (HasPlaces sights.places) (ap (λ l. l ++ map (λ m. m.name.now) c.deref-2.result.now) names ∙ ap (λ l. front ++ l) uses) c.in_ok-sights.ensures.places in
+    let places = subst (ArePlaces (place_seen sights)) (ap (λ l. l ++ map (λ m. m.name.now) c.deref-2.result.now) names ∙ ap (λ l. front ++ l) uses) c.in_ok-sights.ensures.places in
     let enumerators_are =
     c.in_ok-enumerators.ensures (subst AreFilled (sym c.deref-3.ensures.value) o.filled) ∙ ap (λ l. enumerators_in (map view_body_at l)) c.deref-3.ensures.value ∙ ap enumerators_in o.bodies_are in
     let numbers = subst (λ all. HasNumbers constants all (knowns (seen_by sights) all)) enumerators_are c.in_ok-constants.ensures in
     let tables : AreTables outline sights constants = record { places = places; numbers = numbers } in
-    outcome_by d d sights.places sights.views.now c.args.views.now checked
-    refl places c.in_ok-sights.ensures.views (h o tables))
+    outcome_by d d (place_seen sights) sights.views.now c.args.views.now checked refl places c.in_ok-sights.ensures.views (h o tables))
     c.checked.ensures

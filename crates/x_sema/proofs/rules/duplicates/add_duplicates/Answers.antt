@@ -1,8 +1,9 @@
 use Rattle.std.specs.Cow.{cow_slice_items}
 use Rattle.std.proofs.Common.{◌≡◌, ◌+◌, suc, ◌∷◌, ◌++◌, map, drop, ap, sym, ◌∙◌, arith, append_assoc, append-nil}
+use Rattle.std.specs.Cow.{cow_slice_items}
 use Rattle.x_item.specs.Named.{view_name}
 use Rattle.x_sema.specs.Found.{fault_at, duplicate_code, is_taken_at, duplicates_from}
-use Rattle.x_sema.specs.Tables.{place_in, seen_by}
+use Rattle.x_sema.specs.Tables.{place_seen, seen_by}
 use Rattle.x_sema.proofs.ListLemmas.{drop_one, drop_none}
 use Rattle.x_sema.proofs.rules.duplicates.add_duplicates.Goals as goal
 
@@ -11,7 +12,7 @@ loop-place-preserved c =
     let place = c.loop-place.place in
     let all = c.args.declared.now in
     let see = seen_by c.args.sights.now in
-    let first = place_in c.args.sights.now.places in
+    let first = place_seen c.args.sights.now in
     let here = c.index-declared-place.result in
     let rest = map view_name (drop (place + 1) all) in
     let now = c.loop-place.faults.items in
@@ -26,7 +27,7 @@ loop-place-preserved c =
 pub returns : goal.returns
 returns c =
     let see = seen_by c.args.sights.now in
-    let first = place_in c.args.sights.now.places in
+    let first = place_seen c.args.sights.now in
     sym (append-nil c.loop-place.faults.items)
     ∙ sym (ap (λ xs. c.loop-place.faults.items ++ duplicates_from see first c.loop-place.place (map view_name xs)) (drop_none c.args.declared.now c.loop-place.place c.loop-place-test.false))
     ∙ c.loop-place.invariant
