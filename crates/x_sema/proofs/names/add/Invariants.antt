@@ -1,8 +1,6 @@
 use Rattle.std.proofs.Common.{◌≡◌, ℕ, List, length, map, take, drop}
-use Rattle.x_item.specs.View.{view_definition}
-use Rattle.x_item.specs.Names.{declared}
 use Rattle.x_item.specs.Named.{view_name}
-use Rattle.x_sema.specs.Declarers.{IsShort, or_else, place_of_name}
+use Rattle.x_sema.specs.Declarers.{or_else, place_of_name}
 use Rattle.x_sema.specs.DeclarerTable.{entry_in}
 use Rattle.x_sema.proofs.names.add.Given as goal
 
