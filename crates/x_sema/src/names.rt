@@ -12,7 +12,7 @@ use indexmap::IndexMap;
 use std::alloc::Global;
 use std::borrow::CowSlice;
 use std::marker::Model;
-use x_item::{Definition, NameKind, declares};
+use x_item::{DeclaredName, Definition, NameKind, declares_into};
 use x_text::NoMemory;
 
 /// Where a name is declared, and as what.
@@ -85,9 +85,10 @@ fn table_of<'d>(
         → (name : List ℕ) → entry_in table.entries name ≡ first_from 0 (map tree_at definitions.now) name) }
 {
     let mut table = IndexMap::with_capacity(alloc, definitions.len())?;
+    let mut names = Vec::new(alloc);
     for item in (0..definitions.len()).rev() {
         if let Some(definition) = definitions[item] {
-            add(alloc, &mut table, item, definition)?;
+            add(alloc, &mut table, &mut names, item, definition)?;
         }
     }
     Ok(table)
@@ -100,10 +101,11 @@ fn entry(table: &IndexMap<CowSlice<u8>, Declarer>, name: &[u8]) -> Option<Declar
     table.get(name).copied()
 }
 
-/// Takes in the names that an item declares, in place of those that later items declare.
+/// Takes in the names that an item declares, in place of those that later items declare. They are listed in memory that is used again.
 fn add<'d>(
     alloc: Global,
     table: &mut IndexMap<CowSlice<'d, u8>, Declarer>,
+    left: &mut Vec<DeclaredName<'d>>,
     item: usize,
     definition: &'d Definition,
 ) -> Result<(), NoMemory>
@@ -111,7 +113,7 @@ fn add<'d>(
         → (name : List ℕ) → entry_in table.new.entries name
         ≡ or_else (place_of_name item 0 name (declared (view_definition definition.now))) (entry_in table.old.entries name)) }
 {
-    let mut left = declares(alloc, definition)?;
+    declares_into(alloc, left, definition)?;
     while let Some(declared) = left.pop() {
         let declarer = Declarer {
             item,

@@ -19,6 +19,7 @@ use crate::trees::{
 };
 use std::alloc::Global;
 use std::borrow::CowSlice;
+use std::mem;
 use x_text::NoMemory;
 
 /// The name of an inline type.
@@ -419,10 +420,30 @@ pub fn declares(alloc: Global, definition: &Definition) -> Result<Vec<DeclaredNa
     ensures { IfOk result (λ found. length (spell (view_definition definition.now)) < 2 ^ 64
         → map view_name found.items ≡ declared (view_definition definition.now)) }
 {
+    let mut list = Vec::new(alloc);
+    declares_into(alloc, &mut list, definition)?;
+    Ok(list)
+}
+
+/// As [`declares`], into a list of which only the memory is used again.
+///
+/// # Errors
+///
+/// As [`declares`].
+pub fn declares_into<'d>(
+    alloc: Global,
+    list: &mut Vec<DeclaredName<'d>>,
+    definition: &'d Definition,
+) -> Result<(), NoMemory>
+    ensures { OnOk result (length (spell (view_definition definition.now)) < 2 ^ 64
+        → map view_name list.new.items ≡ declared (view_definition definition.now)) }
+{
     let mut walk = NameWalk {
-        list: Vec::new(alloc),
+        list: mem::replace(list, Vec::new(alloc)),
         word: 0,
     };
+    walk.list.clear();
     walk.definition(alloc, definition)?;
-    Ok(walk.list)
+    *list = walk.list;
+    Ok(())
 }

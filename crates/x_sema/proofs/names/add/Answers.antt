@@ -11,7 +11,7 @@ use Rattle.x_sema.proofs.names.add.Goals as goal
 
 pub loop-declared-preserved : goal.loop-declared-preserved
 loop-declared-preserved c =
-    let all = c.in_ok-left.left.items in
+    let all = c.declares_into.new.list.items in
     let left = c.pop.new.self.items in
     let here = c.in-Some.declared in
     let popped : c.loop-declared.left.items ≡ left ++ here ∷ [] = c.in-Some.ensures.items in
