@@ -11,10 +11,10 @@ pub mod notes;
 pub mod parts;
 pub mod programs;
 
-use bodies::bodies;
+use bodies::bodies_into;
 use parts::BodyAt;
 use std::alloc::Global;
-use x_item::{DeclaredName, Definition, Mention, declares, mentions};
+use x_item::{DeclaredName, Definition, Mention, declares_into, mentions_into};
 use x_text::NoMemory;
 
 /// The names that stand in a definition, and its bodies: what is found of it once, both for its views and for its check.
@@ -36,11 +36,38 @@ impl<'d> Outline<'d> {
         ensures definition { IfOk result (λ outline. outline.definition ≡ definition.entry) }
         ensures outline { IfOk result (λ outline. IsShort (view_definition definition.now) → IsOutline outline) }
     {
+        let empty = Outline {
+            definition,
+            declared: Vec::new(alloc),
+            mentioned: Vec::new(alloc),
+            bodies: Vec::new(alloc),
+        };
+        empty.again(alloc, definition)
+    }
+
+    /// The outline of another definition, in the memory of this one.
+    ///
+    /// # Errors
+    ///
+    /// As [`Outline::of`].
+    pub fn again(self, alloc: Global, definition: &'d Definition) -> Result<Outline<'d>, NoMemory>
+        ensures definition { IfOk result (λ outline. outline.definition ≡ definition.entry) }
+        ensures outline { IfOk result (λ outline. IsShort (view_definition definition.now) → IsOutline outline) }
+    {
+        let Outline {
+            mut declared,
+            mut mentioned,
+            mut bodies,
+            ..
+        } = self;
+        declares_into(alloc, &mut declared, definition)?;
+        mentions_into(alloc, &mut mentioned, definition)?;
+        bodies_into(alloc, &mut bodies, definition)?;
         Ok(Outline {
             definition,
-            declared: declares(alloc, definition)?,
-            mentioned: mentions(alloc, definition)?,
-            bodies: bodies(alloc, definition)?,
+            declared,
+            mentioned,
+            bodies,
         })
     }
 

@@ -21,6 +21,7 @@ use crate::trees::{
     Shape, Tag, UnionBody, Value, Version,
 };
 use std::alloc::Global;
+use std::mem;
 use x_text::NoMemory;
 
 /// How many words spell the type.
@@ -429,10 +430,30 @@ pub fn mentions(alloc: Global, definition: &Definition) -> Result<Vec<Mention<'_
     ensures { IfOk result (λ found. length (spell (view_definition definition.now)) < 2 ^ 64
         → map view_mention found.items ≡ mentioned (view_definition definition.now)) }
 {
+    let mut list = Vec::new(alloc);
+    mentions_into(alloc, &mut list, definition)?;
+    Ok(list)
+}
+
+/// As [`mentions`], into a list of which only the memory is used again.
+///
+/// # Errors
+///
+/// As [`mentions`].
+pub fn mentions_into<'d>(
+    alloc: Global,
+    list: &mut Vec<Mention<'d>>,
+    definition: &'d Definition,
+) -> Result<(), NoMemory>
+    ensures { OnOk result (length (spell (view_definition definition.now)) < 2 ^ 64
+        → map view_mention list.new.items ≡ mentioned (view_definition definition.now)) }
+{
     let mut walk = Walk {
-        list: Vec::new(alloc),
+        list: mem::replace(list, Vec::new(alloc)),
         word: 0,
     };
+    walk.list.clear();
     walk.definition(definition)?;
-    Ok(walk.list)
+    *list = walk.list;
+    Ok(())
 }

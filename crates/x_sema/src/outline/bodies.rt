@@ -18,6 +18,7 @@ ghost use Rattle.x_sema.specs.Declarers.{IsShort};
 use super::notes::words_of;
 use super::parts::{BodyAt, NameAt, ValueAt};
 use std::alloc::Global;
+use std::mem;
 use x_item::{
     Arm, Body, DataType, Declaration, Definition, Enumerator, Length, Shape, UnionBody, Value,
 };
@@ -394,16 +395,22 @@ impl<'d> BodyWalk<'d> {
 }
 
 /// The bodies of the definition: its own first, and each other behind those inside it. Nothing inside an inline type that is an argument
-/// or a result counts.
-pub fn bodies(alloc: Global, definition: &Definition) -> Result<Vec<BodyAt<'_>>, NoMemory>
-    ensures bodies { IfOk result (λ found. IsShort (view_definition definition.now)
-        → map view_body_at found.items ≡ bodies (view_definition definition.now)) }
-    ensures filled { IfOk result (λ found. IsShort (view_definition definition.now) → AreFilled found.items) }
+/// or a result counts. They take the memory of what was in the list.
+pub fn bodies_into<'d>(
+    alloc: Global,
+    list: &mut Vec<BodyAt<'d>>,
+    definition: &'d Definition,
+) -> Result<(), NoMemory>
+    ensures bodies { OnOk result (IsShort (view_definition definition.now)
+        → map view_body_at list.new.items ≡ bodies (view_definition definition.now)) }
+    ensures filled { OnOk result (IsShort (view_definition definition.now) → AreFilled list.new.items) }
 {
     let mut walk = BodyWalk {
-        list: Vec::new(alloc),
+        list: mem::replace(list, Vec::new(alloc)),
         word: 0,
     };
+    walk.list.clear();
     walk.definition(alloc, definition)?;
-    Ok(walk.list)
+    *list = walk.list;
+    Ok(())
 }
