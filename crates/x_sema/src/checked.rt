@@ -114,7 +114,7 @@ impl Checked {
     pub fn meaning(&self, place: usize) -> Meaning<'_>
         ensures { view_meaning result ≡ meaning_in self.now place }
     {
-        match self.meanings.as_slice().get(place) {
+        match self.meanings.get(place) {
             Some(kept) => kept.lent(),
             None => Meaning::Bad,
         }
