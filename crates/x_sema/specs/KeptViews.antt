@@ -6,8 +6,8 @@ use Rattle.x_sema.specs.Results.{Outcome}
 use Rattle.x_sema.specs.declared.fault.WordFault.{WordFault}
 use Rattle.x_sema.specs.declared.checked.KeptClass.{KeptClass}
 use Rattle.x_sema.specs.declared.checked.KeptClass.TheVariants as classes
-use Rattle.x_sema.specs.declared.checked.Kept.{Kept}
-use Rattle.x_sema.specs.declared.checked.Kept.TheVariants as kept
+use Rattle.x_sema.specs.declared.checked.KeptMeaning.{KeptMeaning}
+use Rattle.x_sema.specs.declared.checked.KeptMeaning.TheVariants as kept
 
 abbrev pub kept_class : KeptClass → views.Class
 kept_class classes.Other = views.NoClass
@@ -16,14 +16,14 @@ kept_class classes.Unsigned = views.Unsigned
 kept_class classes.Boolean = views.Boolean
 kept_class (classes.Enumeration numbers) = views.Enumeration numbers
 
-abbrev pub kept_meaning : Kept → views.Meaning
+abbrev pub kept_meaning : KeptMeaning → views.Meaning
 kept_meaning (kept.Constant number) = views.Constant number
 kept_meaning (kept.Type class height) = views.OfType (kept_class class) height
 kept_meaning kept.Program = views.Program
 kept_meaning kept.Bad = views.Bad
 
 -- what was found of an item
-abbrev pub outcome_of : List WordFault → List Kept → Outcome
+abbrev pub outcome_of : List WordFault → List KeptMeaning → Outcome
 outcome_of faults meanings = record { faults = faults; meanings = map kept_meaning meanings }
 
 -- what was found of an item, if it is lent

@@ -15,7 +15,7 @@ ghost use Rattle.x_sema.specs.Outlined.{IsOutline, AreTables, outlined, GivesOut
 ghost use Rattle.x_sema.specs.Tables.{seen_by};
 ghost use Rattle.x_sema.specs.RustViews.{view_view};
 
-use crate::checked::{Checked, Kept};
+use crate::checked::{Checked, KeptMeanings};
 use crate::fault::WordFault;
 use crate::outline::Outline;
 use crate::outline::notes::notes;
@@ -30,6 +30,7 @@ use crate::rules::repeats::{add_repeated_fields, add_repeated_members};
 use crate::rules::sights::Sights;
 use crate::rules::words::{add_past_last, add_words};
 use crate::views::View;
+use smallvec::SmallVec;
 use std::alloc::Global;
 use x_item::Definition;
 use x_text::{Meter, NoMemory};
@@ -107,7 +108,7 @@ fn meanings_by(
     sights: &Sights,
     constants: &Constants,
     faults: &[WordFault],
-) -> Result<Vec<Kept>, NoMemory>
+) -> Result<KeptMeanings, NoMemory>
     ensures { IfOk result (λ list. IsOutline outline.now → AreTables outline.now sights.now constants.now
         → AreFaults (outlined outline.now) (seen_by sights.now) faults.now
         → map kept_meaning list.items ≡ meanings_by (outlined outline.now) (seen_by sights.now) faults.now) }
@@ -121,7 +122,7 @@ fn meanings_by(
             sights,
             constants,
         ),
-        [_, ..] => Ok(Vec::new(alloc)),
+        [_, ..] => Ok(SmallVec::new(alloc)),
     }
 }
 

@@ -8,6 +8,7 @@ ghost use Rattle.x_sema.specs.Results.{meaning_in};
 use crate::fault::WordFault;
 use crate::numbers::Numbers;
 use crate::views::{Class, Meaning};
+use smallvec::SmallVec;
 use std::alloc::Global;
 use std::marker::Model;
 use x_text::NoMemory;
@@ -50,35 +51,39 @@ impl KeptClass {
 }
 
 /// What a name means.
-#[derive(Debug, Drop)]
-pub enum Kept {
+#[derive(Debug, Default, Drop)]
+pub enum KeptMeaning {
     Constant(i128),
     Type { class: KeptClass, height: u32 },
     Program,
+    #[default]
     Bad,
 }
 
-impl Kept {
+impl KeptMeaning {
     fn lent(&self) -> Meaning<'_>
         ensures { view_meaning result ≡ kept_meaning self.now }
     {
         match self {
-            Kept::Constant(number) => Meaning::Constant(*number),
-            Kept::Type { class, height } => Meaning::Type {
+            KeptMeaning::Constant(number) => Meaning::Constant(*number),
+            KeptMeaning::Type { class, height } => Meaning::Type {
                 class: class.lent(),
                 height: *height,
             },
-            Kept::Program => Meaning::Program,
-            Kept::Bad => Meaning::Bad,
+            KeptMeaning::Program => Meaning::Program,
+            KeptMeaning::Bad => Meaning::Bad,
         }
     }
 }
+
+/// What the names mean that an item declares. Most items declare one, whose meaning lies in the value itself.
+pub type KeptMeanings = SmallVec<KeptMeaning, 1>;
 
 /// What checking an item found: its faults, and what the names mean that it declares. Only [`crate::check_item`] makes one.
 #[derive(Drop)]
 pub struct Checked {
     faults: Vec<WordFault>,
-    meanings: Vec<Kept>,
+    meanings: KeptMeanings,
 }
 
 impl Model for Checked {
@@ -91,7 +96,7 @@ impl Model for Checked {
 }
 
 impl Checked {
-    pub(crate) fn new(faults: Vec<WordFault>, meanings: Vec<Kept>) -> Checked
+    pub(crate) fn new(faults: Vec<WordFault>, meanings: KeptMeanings) -> Checked
         ensures { result ≡ outcome_of faults.items meanings.items }
     {
         Checked { faults, meanings }

@@ -18,29 +18,30 @@ use super::constants::Constants;
 use super::heights::{body_height, held_height};
 use super::named_bodies::NamedBodies;
 use super::sights::Sights;
-use crate::checked::{Kept, KeptClass};
+use crate::checked::{KeptClass, KeptMeaning, KeptMeanings};
 use crate::outline::parts::BodyAt;
+use smallvec::SmallVec;
 use std::alloc::Global;
 use x_item::{DeclaredName, Definition, NameKind};
 use x_text::NoMemory;
 
 /// What a type means whose class is known.
-fn type_meaning(class: Option<KeptClass>, height: u32) -> Kept
+fn type_meaning(class: Option<KeptClass>, height: u32) -> KeptMeaning
     ensures { kept_meaning result ≡ type_of (option_map kept_class class) height }
 {
     match class {
-        Some(class) => Kept::Type { class, height },
-        None => Kept::Bad,
+        Some(class) => KeptMeaning::Type { class, height },
+        None => KeptMeaning::Bad,
     }
 }
 
 /// What a constant means whose number is known.
-fn number_meaning(number: Option<i128>) -> Kept
+fn number_meaning(number: Option<i128>) -> KeptMeaning
     ensures { kept_meaning result ≡ constant_of number }
 {
     match number {
-        Some(number) => Kept::Constant(number),
-        None => Kept::Bad,
+        Some(number) => KeptMeaning::Constant(number),
+        None => KeptMeaning::Bad,
     }
 }
 
@@ -50,7 +51,7 @@ fn named_meaning(
     body: Option<&BodyAt>,
     sights: &Sights,
     constants: &Constants,
-) -> Result<Kept, NoMemory>
+) -> Result<KeptMeaning, NoMemory>
     ensures { IfOk result (λ kept. (all : List outline.EnumeratorAt) (known : List Known)
         → HasNumbers constants.now all known → kept_meaning kept
         ≡ counted_type (seen_by sights.now) known (option_map (λ b. view_body_at b.now) body.entry)) }
@@ -60,7 +61,7 @@ fn named_meaning(
             body_class(alloc, constants, body.body)?,
             body_height(sights, body.body),
         )),
-        None => Ok(Kept::Bad),
+        None => Ok(KeptMeaning::Bad),
     }
 }
 
@@ -70,7 +71,7 @@ fn typedef_meaning(
     definition: &Definition,
     sights: &Sights,
     constants: &Constants,
-) -> Result<Kept, NoMemory>
+) -> Result<KeptMeaning, NoMemory>
     ensures { IfOk result (λ kept. (all : List outline.EnumeratorAt) (known : List Known)
         → HasNumbers constants.now all known → kept_meaning kept
         ≡ counted_definition (seen_by sights.now) known (view_definition definition.now)) }
@@ -80,7 +81,7 @@ fn typedef_meaning(
             declaration_class(alloc, sights, constants, declaration)?,
             held_height(sights, declaration).saturating_add(1),
         )),
-        _ => Ok(Kept::Bad),
+        _ => Ok(KeptMeaning::Bad),
     }
 }
 
@@ -109,7 +110,7 @@ fn meaning(
     bodies: &NamedBodies,
     sights: &Sights,
     constants: &Constants,
-) -> Result<Kept, NoMemory>
+) -> Result<KeptMeaning, NoMemory>
     ensures { IfOk result (λ kept. let d = view_definition definition.now in let see = seen_by sights.now in
         HasNumbers constants.now (outline.enumerators d) (knowns see (outline.enumerators d))
         → HasBodies bodies.now (outline.bodies d)
@@ -121,7 +122,7 @@ fn meaning(
             definition, &name.name, sights, constants,
         ))),
         NameKind::Typedef => typedef_meaning(alloc, definition, sights, constants),
-        NameKind::Program => Ok(Kept::Program),
+        NameKind::Program => Ok(KeptMeaning::Program),
         _ => named_meaning(alloc, bodies.get(name.word), sights, constants),
     }
 }
@@ -134,14 +135,14 @@ fn meanings_by(
     bodies: &NamedBodies,
     sights: &Sights,
     constants: &Constants,
-) -> Result<Vec<Kept>, NoMemory>
+) -> Result<KeptMeanings, NoMemory>
     ensures { IfOk result (λ list. let d = view_definition definition.now in let see = seen_by sights.now in
         HasNumbers constants.now (outline.enumerators d) (knowns see (outline.enumerators d))
         → HasBodies bodies.now (outline.bodies d)
         → list_any is_too_high (heights d see) ≡ false
         → map kept_meaning list.items ≡ map (meaning_of d see) (map view_name declared.now)) }
 {
-    let mut list = Vec::with_capacity(alloc, declared.len())?;
+    let mut list = SmallVec::with_capacity(alloc, declared.len())?;
     for name in declared {
         let kept = meaning(alloc, name, definition, bodies, sights, constants)?;
         list.push(kept)?;
@@ -157,7 +158,7 @@ pub fn meanings(
     bodies: &[BodyAt],
     sights: &Sights,
     constants: &Constants,
-) -> Result<Vec<Kept>, NoMemory>
+) -> Result<KeptMeanings, NoMemory>
     ensures { IfOk result (λ list. let d = view_definition definition.now in let see = seen_by sights.now in
         HasNumbers constants.now (outline.enumerators d) (knowns see (outline.enumerators d))
         → map view_body_at bodies.now ≡ outline.bodies d

@@ -19,7 +19,7 @@ loop-name-preserved c numbers bodies low =
     let is : drop at all ≡ here ∷ drop (at + 1) all = drop_more all at _ c.loop-name-test.true ∙ ap (λ x. x ∷ drop (at + 1) all) (sym c.name-item.is) in
     mapped_more (meaning_of (view_definition c.args.definition.now) (seen_by c.args.sights.now)) (map kept_meaning now) (map kept_meaning c.push.new.self.items)
     (map view_name (drop at all)) (view_name here) (map view_name (drop (at + 1) all)) _ (ap (map view_name) is)
-    (ap (map kept_meaning) c.in_ok-push.ensures.items ∙ map_append kept_meaning now (kept ∷ []) ∙ ap (λ m. map kept_meaning now ++ m ∷ []) (c.in_ok-kept.ensures numbers bodies low))
+    (ap (map kept_meaning) c.in_ok-push.ensures.ok ∙ map_append kept_meaning now (kept ∷ []) ∙ ap (λ m. map kept_meaning now ++ m ∷ []) (c.in_ok-kept.ensures numbers bodies low))
     (c.loop-name.invariant numbers bodies low)
 
 pub returns : goal.returns
