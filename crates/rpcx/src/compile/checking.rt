@@ -2,7 +2,8 @@
 
 ghost use Rattle.std.specs.Prelude.{◌≡◌, ℕ, List, [], ◌∷◌, Option, map, IfOk};
 ghost use Rattle.x_item.specs.Tree as tree;
-ghost use Rattle.x_sema.specs.Declarers.{AreShort, FirstIs};
+ghost use Rattle.x_item.specs.View.{view_definition};
+ghost use Rattle.x_sema.specs.Declarers.{AreShort, IsShort, FirstIs};
 ghost use Rattle.x_sema.specs.DeclarerTable.{first_in, tree_at};
 ghost use Rattle.x_sema.specs.KeptViews.{lent_outcome};
 ghost use Rattle.x_sema.specs.Outlined.{IsOutline, outlined};
@@ -15,6 +16,7 @@ ghost use Rattle.rpcx.specs.ItemView.{kept_definition};
 
 use crate::compile::item::Item;
 use std::alloc::Global;
+use x_item::Definition;
 use x_sema::{Checked, Names, Outline, View, WordFault, check_outline};
 use x_text::{Meter, NoMemory};
 
@@ -47,18 +49,20 @@ pub fn check_items(
     ensures counted { IfOk result (λ results. meter.new ≡ counted meter.old (map kept_definition items.now)) }
 {
     let mut results = Vec::with_capacity(alloc, items.len())?;
+    let mut last = None;
     for (index, item) in items.iter().enumerate() {
-        let result = check(alloc, index, item, names, &results, meter)?;
+        let result = check(alloc, index, item, &mut last, names, &results, meter)?;
         results.push(result)?;
     }
     Ok(results)
 }
 
-/// What checking an item finds, by what was found of the items before it.
-fn check(
+/// What checking an item finds, by what was found of the items before it. Its outline takes the memory of the last, which it becomes.
+fn check<'i>(
     alloc: Global,
     index: usize,
-    item: &Item,
+    item: &'i Item,
+    last: &mut Option<Outline<'i>>,
     names: &Names,
     results: &[ItemResult],
     meter: &mut Meter,
@@ -71,10 +75,26 @@ fn check(
     let Some(definition) = item.definition() else {
         return Ok(None);
     };
-    let outline = Outline::of(alloc, definition)?;
+    let outline = outline_of(alloc, last.take(), definition)?;
     let views = views_of(alloc, index, &outline, names, results)?;
     let checked = check_outline(alloc, &outline, &views, meter)?;
+    *last = Some(outline);
     Ok(Some(Box::new(alloc, checked)?))
+}
+
+/// The outline of a definition, in the memory of the last, if there is one.
+fn outline_of<'d>(
+    alloc: Global,
+    last: Option<Outline<'d>>,
+    definition: &'d Definition,
+) -> Result<Outline<'d>, NoMemory>
+    ensures definition { IfOk result (λ outline. outline.definition ≡ definition.entry) }
+    ensures outline { IfOk result (λ outline. IsShort (view_definition definition.now) → IsOutline outline) }
+{
+    match last {
+        Some(outline) => outline.again(alloc, definition),
+        None => Outline::of(alloc, definition),
+    }
 }
 
 /// What an item sees of the names that its definition declares, and then of those that it uses, by what was found of the items before it.
