@@ -73,6 +73,18 @@ impl<'d> Names<'d> {
             entry(&self.table, name)
         }
     }
+
+    /// As [`Names::first`], of a name that stands in this place among all that the items declare. It is quick where each name so far is
+    /// declared once, and right for any place.
+    pub fn first_at(&self, place: usize, name: &[u8]) -> Option<Declarer>
+        ensures { result ≡ first_in self.now name.now }
+    {
+        if is_beforehand(name) {
+            None
+        } else {
+            entry_near(&self.table, place, name)
+        }
+    }
 }
 
 /// The table of the items' definitions, also of names that were declared beforehand. It is made from the last item to the first, so
@@ -99,6 +111,22 @@ fn entry(table: &IndexMap<CowSlice<u8>, Declarer>, name: &[u8]) -> Option<Declar
     ensures { result ≡ entry_in table.now.entries name.now }
 {
     table.get(name).copied()
+}
+
+/// What the table has for the name, which is tried first at the entry where it stands if each name is declared once: the last name was
+/// put in first.
+fn entry_near(
+    table: &IndexMap<CowSlice<u8>, Declarer>,
+    place: usize,
+    name: &[u8],
+) -> Option<Declarer>
+    ensures { result ≡ entry_in table.now.entries name.now }
+{
+    let index = table.len().saturating_sub(place).saturating_sub(1);
+    match table.get_index(index) {
+        Some((key, declarer)) if name == key.as_slice() => Some(*declarer),
+        _ => entry(table, name),
+    }
 }
 
 /// Takes in the names that an item declares, in place of those that later items declare. They are listed in memory that is used again.
