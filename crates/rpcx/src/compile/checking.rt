@@ -17,7 +17,7 @@ ghost use Rattle.rpcx.specs.ItemView.{kept_definition};
 use crate::compile::item::Item;
 use std::alloc::Global;
 use x_item::Definition;
-use x_sema::{Checked, Names, Outline, View, WordFault, check_outline};
+use x_sema::{Checked, Declarer, Names, Outline, View, WordFault, check_outline};
 use x_text::{Meter, NoMemory};
 
 /// What checking an item found, if it has a definition, in few bytes.
@@ -49,20 +49,32 @@ pub fn check_items(
     ensures counted { IfOk result (λ results. meter.new ≡ counted meter.old (map kept_definition items.now)) }
 {
     let mut results = Vec::with_capacity(alloc, items.len())?;
-    let mut last = None;
+    let mut walk = Walk {
+        last: None,
+        declared: 0,
+    };
     for (index, item) in items.iter().enumerate() {
-        let result = check(alloc, index, item, &mut last, names, &results, meter)?;
+        let result = check(alloc, index, item, &mut walk, names, &results, meter)?;
         results.push(result)?;
     }
     Ok(results)
 }
 
-/// What checking an item finds, by what was found of the items before it. Its outline takes the memory of the last, which it becomes.
+/// What goes on from item to item.
+#[derive(Drop)]
+struct Walk<'i> {
+    /// The last outline, whose memory the next takes.
+    last: Option<Outline<'i>>,
+    /// How many names the items so far declare.
+    declared: usize,
+}
+
+/// What checking an item finds, by what was found of the items before it.
 fn check<'i>(
     alloc: Global,
     index: usize,
     item: &'i Item,
-    last: &mut Option<Outline<'i>>,
+    walk: &mut Walk<'i>,
     names: &Names,
     results: &[ItemResult],
     meter: &mut Meter,
@@ -75,10 +87,11 @@ fn check<'i>(
     let Some(definition) = item.definition() else {
         return Ok(None);
     };
-    let outline = outline_of(alloc, last.take(), definition)?;
-    let views = views_of(alloc, index, &outline, names, results)?;
+    let outline = outline_of(alloc, walk.last.take(), definition)?;
+    let views = views_of(alloc, index, &outline, walk.declared, names, results)?;
     let checked = check_outline(alloc, &outline, &views, meter)?;
-    *last = Some(outline);
+    walk.declared = walk.declared.saturating_add(outline.declared().len());
+    walk.last = Some(outline);
     Ok(Some(Box::new(alloc, checked)?))
 }
 
@@ -97,11 +110,13 @@ fn outline_of<'d>(
     }
 }
 
-/// What an item sees of the names that its definition declares, and then of those that it uses, by what was found of the items before it.
+/// What an item sees of the names that its definition declares, and then of those that it uses, by what was found of the items before it,
+/// which declare so many names.
 fn views_of<'v>(
     alloc: Global,
     item: usize,
     outline: &Outline,
+    before: usize,
     names: &Names,
     results: &'v [ItemResult],
 ) -> Result<Vec<View<'v>>, NoMemory>
@@ -115,20 +130,26 @@ fn views_of<'v>(
             .len()
             .saturating_add(outline.mentioned().len()),
     )?;
-    for declared in outline.declared() {
-        views.push(view_of(item, &declared.name, names, results))?;
+    for (place, declared) in outline.declared().iter().enumerate() {
+        let first = names.first_at(before.saturating_add(place), &declared.name);
+        views.push(view_of(item, &declared.name, first, results))?;
     }
     for mention in outline.mentioned() {
-        views.push(view_of(item, mention.name, names, results))?;
+        let first = names.first(mention.name);
+        views.push(view_of(item, mention.name, first, results))?;
     }
     Ok(views)
 }
 
-/// What an item sees of a name.
-fn view_of<'v>(item: usize, name: &[u8], names: &Names, results: &'v [ItemResult]) -> View<'v>
-    ensures { view_view result ≡ view_by_first (first_in names.now) (result_at (all_found results.now)) item name.now }
+/// What an item sees of a name with this first declarer.
+fn view_of<'v>(
+    item: usize,
+    name: &[u8],
+    first: Option<Declarer>,
+    results: &'v [ItemResult],
+) -> View<'v>
+    ensures { view_view result ≡ view_by_first (λ n. first) (result_at (all_found results.now)) item name.now }
 {
-    let first = names.first(name);
     let declaring = match first {
         Some(declarer) => result_of(results, declarer.item),
         None => None,

@@ -11,9 +11,9 @@ use Rattle.rpcx.proofs.compile.checking.views_of.Goals as goal
 
 pub loop-mention-init : goal.loop-mention-init
 loop-mention-init c o =
-    names_declared (view_by_first (first_in c.args.names.now) (result_at (all_found c.args.results.now)) c.args.item) (map view_view c.loop-declared.views.items)
-    c.loop-declared.declared-index c.declared-declared-items.result.now c.args.outline.now.declared.items (declared (outlined c.args.outline.now))
-    c.loop-declared.invariant c.loop-declared-test.false c.declared-declared-items.ensures o.names_are
+    names_declared (view_by_first (first_in c.args.names.now) (result_at (all_found c.args.results.now)) c.args.item) (map view_view c.loop-place.views.items)
+    c.loop-place.place c.declared-declared-items.result.now c.args.outline.now.declared.items (declared (outlined c.args.outline.now))
+    c.loop-place.invariant c.loop-place-test.false c.declared-declared-items.ensures o.names_are
 
 pub returns : goal.returns
 returns c o =

@@ -9,9 +9,9 @@ use Rattle.rpcx.specs.Checking.{all_found, view_by_first}
 use Rattle.rpcx.proofs.compile.checking.views_of.Given as goal
 
 -- the views of the names so far
-abbrev pub invariant-loop-declared : goal.invariant-loop-declared
-invariant-loop-declared l = map view_view l.views.items
-    ≡ map (view_by_first (first_in l.names) (result_at (all_found l.results)) l.item) (map (λ d. cow_slice_items d.name) (take l.declared-index l.declared-items))
+abbrev pub invariant-loop-place : goal.invariant-loop-place
+invariant-loop-place l = map view_view l.views.items
+    ≡ map (view_by_first (first_in l.names) (result_at (all_found l.results)) l.item) (map (λ d. cow_slice_items d.name) (take l.place l.declared-items))
 
 abbrev pub invariant-loop-mention : goal.invariant-loop-mention
 invariant-loop-mention l = IsOutline l.outline → map view_view l.views.items
