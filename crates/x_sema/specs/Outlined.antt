@@ -11,6 +11,7 @@ use Rattle.x_sema.specs.Bodies.{bodies, enumerators}
 use Rattle.x_sema.specs.BodyWalks.{view_body_at, AreFilled}
 use Rattle.x_sema.specs.Constants.{knowns}
 use Rattle.x_sema.specs.Declarers.{IsShort}
+use Rattle.x_sema.specs.Notes.{view_note_at, noted}
 use Rattle.x_sema.specs.Results.{Outcome, meanings_by}
 use Rattle.x_sema.specs.Rules.{AreFaults}
 use Rattle.x_sema.specs.Tables.{ArePlaces, HasNumbers, place_seen, seen_by}
@@ -22,13 +23,14 @@ use Rattle.x_sema.specs.declared.rules.sights.Sights.{Sights}
 abbrev pub outlined : Outline → tree.Definition
 outlined o = view_definition o.definition.now
 
--- An outline has the names that the definition declares and uses, and its bodies.
+-- An outline has the names that the definition declares and uses, its bodies, and what its words are to the rules.
 pub record IsOutline (o : Outline) : Type 0 where
   pub short : IsShort (outlined o)
   pub names_are : map view_name o.declared.items ≡ declared (outlined o)
   pub uses_are : map view_mention o.mentioned.items ≡ mentioned (outlined o)
   pub bodies_are : map view_body_at o.bodies.items ≡ bodies (outlined o)
   pub filled : AreFilled o.bodies.items
+  pub notes_are : map view_note_at o.notes.items ≡ noted (outlined o)
 
 -- The table of places is that of all these names, and that of constants has the enumerators with their numbers.
 pub record AreTables (o : Outline) (sights : Sights) (constants : Constants) : Type 0 where

@@ -18,7 +18,6 @@ ghost use Rattle.x_sema.specs.RustViews.{view_view};
 use crate::checked::{Checked, KeptMeanings};
 use crate::fault::WordFault;
 use crate::outline::Outline;
-use crate::outline::notes::notes;
 use crate::outline::programs::members;
 use crate::rules::cases::{add_repeated_cases, bad_cases};
 use crate::rules::constants::{Constants, enumerators};
@@ -64,11 +63,10 @@ fn found_faults(
         → faults.items ≡ found_faults (outlined outline.now) (seen_by sights.now)) }
 {
     let mut faults = Vec::new(alloc);
-    let noted = notes(alloc, outline.definition)?;
     let groups = members(alloc, outline.definition)?;
     add_duplicates(&mut faults, &outline.declared, sights)?;
     add_mentioned(&mut faults, &outline.mentioned, sights, constants)?;
-    add_words(&mut faults, &noted, sights, constants)?;
+    add_words(&mut faults, &outline.notes, sights, constants)?;
     add_past_last(&mut faults, constants)?;
     add_repeated_cases(alloc, &mut faults, &outline.bodies, sights, constants)?;
     add_repeated_fields(alloc, &mut faults, &outline.bodies)?;

@@ -12,6 +12,8 @@ pub mod parts;
 pub mod programs;
 
 use bodies::bodies_into;
+use note::NoteAt;
+use notes::notes_into;
 use parts::BodyAt;
 use std::alloc::Global;
 use x_item::{DeclaredName, Definition, Mention, declares_into, mentions_into};
@@ -24,6 +26,8 @@ pub struct Outline<'d> {
     pub(crate) declared: Vec<DeclaredName<'d>>,
     pub(crate) mentioned: Vec<Mention<'d>>,
     pub(crate) bodies: Vec<BodyAt<'d>>,
+    /// What its words are to the rules.
+    pub(crate) notes: Vec<NoteAt<'d>>,
 }
 
 impl<'d> Outline<'d> {
@@ -41,6 +45,7 @@ impl<'d> Outline<'d> {
             declared: Vec::new(alloc),
             mentioned: Vec::new(alloc),
             bodies: Vec::new(alloc),
+            notes: Vec::new(alloc),
         };
         empty.again(alloc, definition)
     }
@@ -58,16 +63,19 @@ impl<'d> Outline<'d> {
             mut declared,
             mut mentioned,
             mut bodies,
+            mut notes,
             ..
         } = self;
         declares_into(alloc, &mut declared, definition)?;
         mentions_into(alloc, &mut mentioned, definition)?;
         bodies_into(alloc, &mut bodies, definition)?;
+        notes_into(alloc, &mut notes, definition)?;
         Ok(Outline {
             definition,
             declared,
             mentioned,
             bodies,
+            notes,
         })
     }
 

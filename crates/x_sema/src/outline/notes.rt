@@ -22,6 +22,7 @@ ghost use Rattle.x_sema.specs.NoteWalks.{Notes, NotesIn, NotesAll, role_of, plac
 
 use super::note::{Note, NoteAt, ValueRole};
 use std::alloc::Global;
+use std::mem;
 use x_item::{
     Argument, Arm, Basic, Body, DataType, Declaration, Definition, Enumerator, Length, Procedure,
     Shape, UnionBody, Value, Version,
@@ -490,15 +491,21 @@ impl<'d> NoteWalk<'d> {
     }
 }
 
-/// What the words of the definition are to the rules, in their order.
-pub fn notes(alloc: Global, definition: &Definition) -> Result<Vec<NoteAt<'_>>, NoMemory>
-    ensures { IfOk result (λ found. length (spell (view_definition definition.now)) < 2 ^ 64
-        → map view_note_at found.items ≡ noted (view_definition definition.now)) }
+/// What the words of the definition are to the rules, in their order. They take the memory of what was in the list.
+pub fn notes_into<'d>(
+    alloc: Global,
+    list: &mut Vec<NoteAt<'d>>,
+    definition: &'d Definition,
+) -> Result<(), NoMemory>
+    ensures { OnOk result (length (spell (view_definition definition.now)) < 2 ^ 64
+        → map view_note_at list.new.items ≡ noted (view_definition definition.now)) }
 {
     let mut walk = NoteWalk {
-        list: Vec::new(alloc),
+        list: mem::replace(list, Vec::new(alloc)),
         word: 0,
     };
+    walk.list.clear();
     walk.definition(definition)?;
-    Ok(walk.list)
+    *list = walk.list;
+    Ok(())
 }

@@ -30,7 +30,7 @@ returns c o t =
     ap (λ l. duplicates_from see (place_seen c.args.sights.now) 0 (map view_name l)) c.deref.ensures.value
     ∙ ap (λ f. duplicates_from see f 0 (map view_name ds)) (λ i name. t.places.at name i) ∙ ap (duplicates_from see first 0) o.names_are in
     let uses = ap (λ l. mention_faults see all (map view_mention l)) c.deref-2.ensures.value ∙ ap (mention_faults see all) o.uses_are in
-    let noted = ap (λ ns. note_faults see known (map view_note_at ns)) c.deref-3.ensures.value ∙ ap (note_faults see known) (c.in_ok-noted.ensures o.short) in
+    let noted = ap (λ ns. note_faults see known (map view_note_at ns)) c.deref-3.ensures.value ∙ ap (note_faults see known) o.notes_are in
     let cases =
     ap (flat_map (λ b. repeated_cases see known (map view_value_at b.cases.items))) c.deref-4.ensures.value
     ∙ flat_bodies (λ b. repeated_cases see known (map view_value_at b.cases.items)) (λ b. repeated_cases see known (cases_of b)) bs (λ b k. ap (repeated_cases see known) (o.filled b k).cases)
