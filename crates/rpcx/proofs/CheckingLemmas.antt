@@ -1,10 +1,7 @@
 -- Results of items, by what was found of the items before them.
-use Rattle.std.proofs.Common.{◌≡◌, ℕ, zero, suc, ◌+◌, ◌<◌, Bool, true, false, cond, List, [], ◌∷◌, ◌++◌, length, map, arith, take, drop, get_or, ◌≤◌, Option, None, Some, refl, sym, ap, subst, ◌∙◌, append-nil}
+use Rattle.std.proofs.Common.{◌≡◌, ℕ, zero, suc, ◌+◌, ◌<◌, false, cond, List, [], ◌∷◌, ◌++◌, length, map, arith, take, drop, get_or, ◌≤◌, Option, None, Some, refl, sym, ap, subst, ◌∙◌, append-nil}
 use Rattle.std.specs.Cow.{cow_slice_items}
-use Rattle.std.specs.Prelude.{Box, nat_lt, option_map}
-use Rattle.std.specs.Option.{unwrap_or}
-use Rattle.std.proofs.lemmas.Bool.Decides.{nat_tests}
-use Rattle.std.specs.Global.{Global}
+use Rattle.std.specs.Prelude.{All}
 use Rattle.std.proofs.lemmas.List.{take_all, map-append, length_push}
 use Rattle.x_text.specs.Counts.{Counts}
 use Rattle.x_item.specs.Tree.{Definition}
@@ -15,10 +12,10 @@ use Rattle.x_item.specs.Collected.{view_mention}
 use Rattle.x_item.specs.declared.names.declared_name.DeclaredName.{DeclaredName}
 use Rattle.x_item.specs.declared.names.mention.Mention as rust
 use Rattle.x_item.specs.declared.names.declared_name.NameKind.TheVariants as kinds
-use Rattle.x_sema.specs.Views.{View, Earlier, Own, Later, Bad, names_of}
-use Rattle.x_sema.specs.Declarers.{IsShort, AreShort, is_beforehand, first_declarer, FirstIs}
+use Rattle.x_sema.specs.Views.{View, Earlier, names_of}
+use Rattle.x_sema.specs.Declarers.{IsShort, AreShort, is_beforehand, FirstIs}
 use Rattle.x_sema.specs.declared.names.Declarer.{Declarer}
-use Rattle.x_sema.specs.Results.{Outcome, IsOutcome, IsResult, AreResultsFrom, result_at, view_of, view_by, meaning_in, meaning_at, beforehand_meaning}
+use Rattle.x_sema.specs.Results.{Outcome, IsOutcome, IsResult, AreResultsFrom, result_at, view_of, view_by, beforehand_meaning}
 use Rattle.x_sema.proofs.DeclarerLaws.{as_found}
 use Rattle.x_sema.proofs.HasResults.{stays_result, agree_front}
 use Rattle.x_sema.proofs.ListLemmas.{drop_one, get_at, take_next}
@@ -27,7 +24,37 @@ use Rattle.x_sema.proofs.ResultLaws.{AgreeBefore}
 use Rattle.rpcx.specs.ItemView.{kept_definition}
 use Rattle.rpcx.specs.declared.compile.item.Item.{Item}
 use Rattle.rpcx.proofs.Listing.{mapped_one}
-use Rattle.rpcx.specs.Checking.{found, all_found, IsShortAt, counted, view_by_first}
+use Rattle.rpcx.specs.Checking.{with_number, IsShortAt, counted, view_by_first}
+
+-- ---- results by numbers
+
+-- one outcome more changes nothing for the numbers of those that stand
+number_stays : (os : List Outcome) (o : Outcome) (n : ℕ) → n ≤ length os → with_number (os ++ o ∷ []) n ≡ with_number os n
+number_stays os o zero few = refl
+number_stays [] o (suc n) few = absurd (omega (arith, few))
+number_stays (x ∷ os) o (suc zero) few = refl
+number_stays (x ∷ os) o (suc (suc n)) few = number_stays os o (suc n) (omega (arith, few))
+
+numbers_stay : (os : List Outcome) (o : Outcome) (ns : List ℕ) → All (λ n. n ≤ length os) ns → map (with_number (os ++ o ∷ [])) ns ≡ map (with_number os) ns
+numbers_stay os o [] few = refl
+numbers_stay os o (n ∷ ns) few = λ i. number_stays os o n (few 0 n (omega arith)) i ∷ numbers_stay os o ns (λ k d lt. few (suc k) d (omega (arith, lt))) i
+
+last_number : (os : List Outcome) (o : Outcome) → with_number (os ++ o ∷ []) (suc (length os)) ≡ Some o
+last_number [] o = refl
+last_number (x ∷ os) o = last_number os o
+
+-- an item joins, by the number of its outcome
+pub number_joins : (os : List Outcome) (ns ms : List ℕ) (n : ℕ) (rs : List (Option Outcome)) (r : Option Outcome)
+    → map (with_number os) ns ≡ rs → ms ≡ ns ++ n ∷ [] → with_number os n ≡ r → map (with_number os) ms ≡ rs ++ r ∷ []
+number_joins os ns ms n rs r now more is = ap (map (with_number os)) more ∙ map-append (with_number os) ns (n ∷ []) ∙ λ i. now i ++ is i ∷ []
+
+-- an outcome and its item join
+pub outcome_joins : (os new : List Outcome) (o : Outcome) (ns ms : List ℕ) (n : ℕ) (rs : List (Option Outcome)) → All (λ n. n ≤ length os) ns
+    → map (with_number os) ns ≡ rs → new ≡ os ++ o ∷ [] → ms ≡ ns ++ n ∷ [] → n ≡ length new → map (with_number new) ms ≡ rs ++ Some o ∷ []
+outcome_joins os new o ns ms n rs few now grown more last =
+    let place : n ≡ suc (length os) = last ∙ ap length grown ∙ length_push os o ∙ omega arith in
+    ap (λ l. map (with_number l) ms) grown
+    ∙ number_joins (os ++ o ∷ []) ns ms n rs (Some o) (numbers_stay os o ns few ∙ now) more (ap (with_number (os ++ o ∷ [])) place ∙ last_number os o)
 
 -- ---- one item more
 
@@ -94,25 +121,24 @@ pub short_here : (items : List Item) (index : ℕ) (item : Item) → index < len
 short_here items index item lt is short d same =
     short index d (get_at (map kept_definition items) index (kept_definition item) (drop (suc index) (map kept_definition items)) (mapped_one kept_definition items index item lt is) ∙ ap Some same)
 
-pub many_more : (index : ℕ) (rs new : List (Option (Box Outcome Global))) (r : Option (Box Outcome Global)) → new ≡ rs ++ r ∷ [] → index ≡ length (all_found rs) → index + 1 ≡ length (all_found new)
+pub many_more : (index : ℕ) (rs new : List (Option Outcome)) (r : Option Outcome) → new ≡ rs ++ r ∷ [] → index ≡ length rs → index + 1 ≡ length new
 many_more index rs new r pushed many =
-    let more = ap (λ l. length (all_found l)) pushed ∙ ap length (map-append found rs (r ∷ [])) ∙ length_push (all_found rs) (found r) in
+    let more = ap length pushed ∙ length_push rs r in
     omega (arith, many, more)
 
-pub results_next : (items : List Item) (index : ℕ) (item : Item) (rs new : List (Option (Box Outcome Global))) (r : Option (Box Outcome Global))
-    → index < length items → item ≡ get_or items index item → new ≡ rs ++ r ∷ [] → index ≡ length (all_found rs)
-    → AreResultsFrom (map kept_definition items) (result_at (all_found rs)) 0 (take index (map kept_definition items)) (all_found rs)
-    → IsResult (map kept_definition items) (result_at (all_found rs)) index (kept_definition item) (found r)
-    → AreResultsFrom (map kept_definition items) (result_at (all_found new)) 0 (take (index + 1) (map kept_definition items)) (all_found new)
+pub results_next : (items : List Item) (index : ℕ) (item : Item) (rs new : List (Option Outcome)) (r : Option Outcome)
+    → index < length items → item ≡ get_or items index item → new ≡ rs ++ r ∷ [] → index ≡ length rs
+    → AreResultsFrom (map kept_definition items) (result_at rs) 0 (take index (map kept_definition items)) rs
+    → IsResult (map kept_definition items) (result_at rs) (length rs) (kept_definition item) r
+    → AreResultsFrom (map kept_definition items) (result_at new) 0 (take (index + 1) (map kept_definition items)) new
 results_next items index item rs new r lt at pushed many are is =
     let ds = map kept_definition items in
-    let all : all_found new ≡ all_found rs ++ found r ∷ [] = ap all_found pushed ∙ map-append found rs (r ∷ []) in
     let next : suc index ≡ index + 1 = omega arith in
     let front : take (index + 1) ds ≡ take index ds ++ kept_definition item ∷ [] =
     sym (ap (λ n. take n ds) next) ∙ take_next ds index (kept_definition item) (drop (suc index) ds) (mapped_one kept_definition items index item lt at) in
-    subst (λ os. AreResultsFrom ds (result_at os) 0 (take (index + 1) ds) os) (sym all)
-    (subst (λ l. AreResultsFrom ds (result_at (all_found rs ++ found r ∷ [])) 0 l (all_found rs ++ found r ∷ [])) (sym front)
-    (results_more ds (take index ds) (all_found rs) index (kept_definition item) (found r) many are is))
+    subst (λ os. AreResultsFrom ds (result_at os) 0 (take (index + 1) ds) os) (sym pushed)
+    (subst (λ l. AreResultsFrom ds (result_at (rs ++ r ∷ [])) 0 l (rs ++ r ∷ [])) (sym front)
+    (results_more ds (take index ds) rs (length rs) (kept_definition item) r refl are is))
 
 counted_on : (counts : Counts) (d : Option Definition) (ds : List (Option Definition)) → counted counts (d ∷ ds) ≡ counted (counted counts (d ∷ [])) ds
 counted_on counts None ds = refl

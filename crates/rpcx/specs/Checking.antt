@@ -1,6 +1,5 @@
 -- What the program keeps of what checking items found, and what it says of it.
-use Rattle.std.specs.Prelude.{◌≡◌, ℕ, Box, false, List, [], ◌∷◌, map, Option, None, Some, option_map, if◌then◌else◌}
-use Rattle.std.specs.Global.{Global}
+use Rattle.std.specs.Prelude.{◌≡◌, ℕ, zero, suc, false, List, [], ◌∷◌, Option, None, Some, slice_get, if◌then◌else◌}
 use Rattle.x_text.specs.Counts.{Counts, raised}
 use Rattle.x_item.specs.Tree.{Definition}
 use Rattle.x_item.specs.declared.names.declared_name.NameKind.TheVariants as kinds
@@ -9,13 +8,10 @@ use Rattle.x_sema.specs.Declarers.{IsShort, is_beforehand}
 use Rattle.x_sema.specs.Results.{Outcome, beforehand_meaning, view_of}
 use Rattle.x_sema.specs.declared.names.Declarer.{Declarer}
 
--- what checking an item found
-abbrev pub found : Option (Box Outcome Global) → Option Outcome
-found result = option_map (λ o. o.value) result
-
--- what checking items found
-abbrev pub all_found : List (Option (Box Outcome Global)) → List (Option Outcome)
-all_found results = map found results
+-- the outcome with a number, from 1; 0 is the number of none
+abbrev pub with_number : List Outcome → ℕ → Option Outcome
+with_number outcomes zero = None
+with_number outcomes (suc place) = slice_get outcomes place
 
 -- the definition of an item, if it has one, has fewer than 2^64 words
 abbrev pub IsShortAt : Option Definition → Type 0

@@ -10,6 +10,7 @@ mod item;
 mod output;
 mod parsing;
 mod placing;
+mod results;
 
 use checking::{check_items, names_of};
 pub use fault::{Fault, FaultCode};

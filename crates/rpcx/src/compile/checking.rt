@@ -1,27 +1,24 @@
 //! The checks of the items of a text.
 
-ghost use Rattle.std.specs.Prelude.{◌≡◌, ℕ, List, [], ◌∷◌, Option, map, IfOk};
+ghost use Rattle.std.specs.Prelude.{◌≡◌, ℕ, List, [], ◌∷◌, Option, map, length, IfOk};
 ghost use Rattle.x_item.specs.Tree as tree;
 ghost use Rattle.x_item.specs.View.{view_definition};
 ghost use Rattle.x_sema.specs.Declarers.{AreShort, IsShort, FirstIs};
 ghost use Rattle.x_sema.specs.DeclarerTable.{first_in, tree_at};
-ghost use Rattle.x_sema.specs.KeptViews.{lent_outcome};
 ghost use Rattle.x_sema.specs.Outlined.{IsOutline, outlined};
 ghost use Rattle.x_sema.specs.Results.{AreResults, IsResult, result_at};
 ghost use Rattle.x_sema.specs.RustViews.{view_view};
 ghost use Rattle.x_sema.specs.Views.{names_of};
-ghost use Rattle.rpcx.specs.Checking.{found, all_found, IsShortAt, counted, view_by_first};
+ghost use Rattle.rpcx.specs.Checking.{IsShortAt, counted, view_by_first};
 ghost use Rattle.rpcx.specs.Compile.{rule_faults};
 ghost use Rattle.rpcx.specs.ItemView.{kept_definition};
 
 use crate::compile::item::Item;
+use crate::compile::results::Results;
 use std::alloc::Global;
 use x_item::Definition;
 use x_sema::{Checked, Declarer, Names, Outline, View, WordFault, check_outline};
 use x_text::{Meter, NoMemory};
-
-/// What checking an item found, if it has a definition, in few bytes.
-pub type ItemResult = Option<Box<Checked>>;
 
 /// The table of the names that the items declare.
 pub fn names_of(alloc: Global, items: &[Item]) -> Result<Names<'_>, NoMemory>
@@ -42,19 +39,19 @@ pub fn check_items(
     items: &[Item],
     names: &Names,
     meter: &mut Meter,
-) -> Result<Vec<ItemResult>, NoMemory>
+) -> Result<Results, NoMemory>
     requires short { AreShort (map kept_definition items.now) }
     requires first { (name : List ℕ) → FirstIs (map kept_definition items.now) name (first_in names.now name) }
-    ensures results { IfOk result (λ results. AreResults (map kept_definition items.now) (all_found results.items)) }
+    ensures results { IfOk result (λ results. AreResults (map kept_definition items.now) results) }
     ensures counted { IfOk result (λ results. meter.new ≡ counted meter.old (map kept_definition items.now)) }
 {
-    let mut results = Vec::with_capacity(alloc, items.len())?;
+    let mut results = Results::with_capacity(alloc, items.len())?;
     let mut walk = Walk {
         last: None,
         declared: 0,
     };
-    for (index, item) in items.iter().enumerate() {
-        let result = check(alloc, index, item, &mut walk, names, &results, meter)?;
+    for item in items {
+        let result = check(alloc, item, &mut walk, names, &results, meter)?;
         results.push(result)?;
     }
     Ok(results)
@@ -69,30 +66,36 @@ struct Walk<'i> {
     declared: usize,
 }
 
-/// What checking an item finds, by what was found of the items before it.
+/// What checking the next item finds, if it has a definition, by what was found of the items before it.
 fn check<'i>(
     alloc: Global,
-    index: usize,
     item: &'i Item,
     walk: &mut Walk<'i>,
     names: &Names,
-    results: &[ItemResult],
+    results: &Results,
     meter: &mut Meter,
-) -> Result<ItemResult, NoMemory>
+) -> Result<Option<Checked>, NoMemory>
     ensures result { IfOk result (λ checked. (definitions : List (Option tree.Definition)) → IsShortAt (kept_definition item.now)
         → ((name : List ℕ) → FirstIs definitions name (first_in names.now name))
-        → IsResult definitions (result_at (all_found results.now)) index (kept_definition item.now) (found checked)) }
+        → IsResult definitions (result_at results.now) (length results.now) (kept_definition item.now) checked) }
     ensures counted { IfOk result (λ checked. meter.new ≡ counted meter.old (kept_definition item.now ∷ [])) }
 {
     let Some(definition) = item.definition() else {
         return Ok(None);
     };
     let outline = outline_of(alloc, walk.last.take(), definition)?;
-    let views = views_of(alloc, index, &outline, walk.declared, names, results)?;
+    let views = views_of(
+        alloc,
+        results.len(),
+        &outline,
+        walk.declared,
+        names,
+        results,
+    )?;
     let checked = check_outline(alloc, &outline, &views, meter)?;
     walk.declared = walk.declared.saturating_add(outline.declared().len());
     walk.last = Some(outline);
-    Ok(Some(Box::new(alloc, checked)?))
+    Ok(Some(checked))
 }
 
 /// The outline of a definition, in the memory of the last, if there is one.
@@ -118,10 +121,10 @@ fn views_of<'v>(
     outline: &Outline,
     before: usize,
     names: &Names,
-    results: &'v [ItemResult],
+    results: &'v Results,
 ) -> Result<Vec<View<'v>>, NoMemory>
     ensures { IfOk result (λ views. IsOutline outline.now → map view_view views.items
-        ≡ map (view_by_first (first_in names.now) (result_at (all_found results.now)) item) (names_of (outlined outline.now))) }
+        ≡ map (view_by_first (first_in names.now) (result_at results.now) item) (names_of (outlined outline.now))) }
 {
     let mut views = Vec::with_capacity(
         alloc,
@@ -142,36 +145,21 @@ fn views_of<'v>(
 }
 
 /// What an item sees of a name with this first declarer.
-fn view_of<'v>(
-    item: usize,
-    name: &[u8],
-    first: Option<Declarer>,
-    results: &'v [ItemResult],
-) -> View<'v>
-    ensures { view_view result ≡ view_by_first (λ n. first) (result_at (all_found results.now)) item name.now }
+fn view_of<'v>(item: usize, name: &[u8], first: Option<Declarer>, results: &'v Results) -> View<'v>
+    ensures { view_view result ≡ view_by_first (λ n. first) (result_at results.now) item name.now }
 {
     let declaring = match first {
-        Some(declarer) => result_of(results, declarer.item),
+        Some(declarer) => results.get(declarer.item),
         None => None,
     };
     View::of(item, name, first, declaring)
 }
 
-/// What checking the item at an index found.
-fn result_of(results: &[ItemResult], index: usize) -> Option<&Checked>
-    ensures { lent_outcome result ≡ result_at (all_found results.now) index }
+/// The faults of the item at an index by the rules, at its words.
+pub fn rule_faults(results: &Results, index: usize) -> &[WordFault]
+    ensures { result.now ≡ rule_faults (result_at results.now index) }
 {
     match results.get(index) {
-        Some(Some(checked)) => Some(checked),
-        _ => None,
-    }
-}
-
-/// The faults of the item at an index by the rules, at its words.
-pub fn rule_faults(results: &[ItemResult], index: usize) -> &[WordFault]
-    ensures { result.now ≡ rule_faults (result_at (all_found results.now) index) }
-{
-    match result_of(results, index) {
         Some(checked) => checked.faults(),
         None => &[],
     }

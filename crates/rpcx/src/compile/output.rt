@@ -6,16 +6,16 @@ ghost use Rattle.x_lex.specs.Tiling.{AreTokens};
 ghost use Rattle.x_lex.specs.Places.{lexeme, lexemes};
 ghost use Rattle.x_sema.specs.Results.{result_at};
 ghost use Rattle.rpcx.specs.Compile.{token_of_word, at_token, faults_at, token_faults, start_of, placed, parts, faults_of};
-ghost use Rattle.rpcx.specs.Checking.{all_found};
 ghost use Rattle.rpcx.specs.ItemView.{view_item, view_parse, has_lines, AreMarked};
 ghost use Rattle.rpcx.specs.Header.{lines_of, clean_piece, body_of};
 
-use crate::compile::checking::{ItemResult, rule_faults};
+use crate::compile::checking::rule_faults;
 use crate::compile::fault::{Fault, FaultCode, TokenFault};
 use crate::compile::header::{add_clean, add_item};
 use crate::compile::item::{Item, Parse};
 use crate::compile::parsing::take_tokens;
 use crate::compile::placing::{at_tokens, placed};
+use crate::compile::results::Results;
 use std::alloc::Global;
 use x_lex::{Token, Tokens, Walk};
 use x_sema::WordFault;
@@ -111,16 +111,16 @@ pub fn output_of(
     tokens: &Tokens,
     source: &Source,
     items: &[Item],
-    results: &[ItemResult],
+    results: &Results,
 ) -> Result<Output, NoMemory>
     requires tokens { AreTokens source.now tokens.now.list }
     requires few { length items.now ≤ MAX_TEXT + 1 }
     requires marked { AreMarked (lexemes source.now tokens.now.list) items.now }
     ensures faults { IfOk result (λ found. found.faults.items
-        ≡ faults_of source.now (parts (result_at (all_found results.now)) 0
+        ≡ faults_of source.now (parts (result_at results.now) 0
         (lexemes source.now tokens.now.list) (map view_item items.now))) }
     ensures body { IfOk result (λ found. found.body.items
-        ≡ body_of (parts (result_at (all_found results.now)) 0
+        ≡ body_of (parts (result_at results.now) 0
         (lexemes source.now tokens.now.list) (map view_item items.now))) }
 {
     let mut output = Output {

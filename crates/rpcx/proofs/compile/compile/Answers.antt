@@ -1,7 +1,6 @@
 use Rattle.std.proofs.Common.{map, subst, ◌∙◌}
 use Rattle.x_lex.specs.Places.{lexemes}
 use Rattle.x_sema.specs.Results.{AreResults, result_at}
-use Rattle.rpcx.specs.Checking.{all_found}
 use Rattle.rpcx.specs.ItemView.{kept_definition, view_item}
 use Rattle.rpcx.specs.Compile.{parts, faults_of}
 use Rattle.rpcx.specs.Header.{body_of}
@@ -13,11 +12,11 @@ returns c =
     let text = c.args.source.now in
     let tokens = c.in_ok-tokens.tokens.list in
     let items = c.in_ok-items.items.items in
-    let results = all_found c.in_ok-results.results.items in
+    let results = c.in_ok-results.results in
     let checked = subst (λ is. AreResults (map kept_definition is) results) c.deref-2.ensures.value c.in_ok-results.ensures.results in
     record {
       results = results;
       compiles = compiles text tokens items results c.in_ok-tokens.ensures.tokens c.in_ok-items.ensures.parsed checked;
-      faults_are = c.in_ok-output.ensures.faults ∙ (λ i. faults_of text (parts (result_at (all_found (c.deref-4.ensures.value i))) 0 (lexemes text tokens) (map view_item (c.deref-3.ensures.value i))));
-      body_is = c.in_ok-output.ensures.body ∙ (λ i. body_of (parts (result_at (all_found (c.deref-4.ensures.value i))) 0 (lexemes text tokens) (map view_item (c.deref-3.ensures.value i))));
+      faults_are = c.in_ok-output.ensures.faults ∙ (λ i. faults_of text (parts (result_at results) 0 (lexemes text tokens) (map view_item (c.deref-3.ensures.value i))));
+      body_is = c.in_ok-output.ensures.body ∙ (λ i. body_of (parts (result_at results) 0 (lexemes text tokens) (map view_item (c.deref-3.ensures.value i))));
     }
