@@ -18,5 +18,4 @@ pub use script::{
     run_script,
 };
 pub use session::{Session, Which, Work};
-pub use x_item::declares;
-pub use x_sema::{Declarer, Names, RuleCode};
+pub use x_sema::RuleCode;

@@ -26,10 +26,6 @@ abbrev pub fault_at : ℕ → Option RuleCode → List WordFault
 fault_at word None = []
 fault_at word (Some code) = record { word = word; code = code } ∷ []
 
--- a fault at a word, where something holds
-abbrev pub fault_where : ℕ → RuleCode → Bool → List WordFault
-fault_where word code holds = if holds then record { word = word; code = code } ∷ [] else []
-
 -- the faults of names that are used
 abbrev pub mention_faults : (List ℕ → View) → List EnumeratorAt → List Mention → List WordFault
 mention_faults see es ms = flat_map (λ m. fault_at m.word (mention_fault see es m)) ms

@@ -3,7 +3,6 @@ use Rattle.std.specs.Prelude.{◌≡◌, ℕ, suc, ◌-◌, ◌^◌, min, nat_lt
 use Rattle.indexmap.specs.IndexMap.{IndexMap}
 use Rattle.std.specs.Borrow.{Bor}
 use Rattle.std.specs.Cow.{cow_slice_items}
-use Rattle.std.specs.List.{IsAmong}
 use Rattle.std.specs.Map.{lookup}
 use Rattle.std.specs.Option.{option_map_or}
 use Rattle.std.specs.Str.{bytes_eq}
@@ -21,8 +20,6 @@ use Rattle.x_sema.specs.Declarers.{or_else}
 use Rattle.x_sema.specs.Types as types
 use Rattle.x_sema.specs.RustViews.{view_class, view_view}
 use Rattle.x_sema.specs.declared.rules.classes.Sight.{Sight}
-use Rattle.x_sema.specs.declared.fault.RuleCode.{RuleCode}
-use Rattle.x_sema.specs.declared.fault.WordFault.{WordFault}
 use Rattle.x_sema.specs.declared.views.TheConstants.{MOST_HEIGHT}
 use Rattle.x_sema.specs.declared.views.View.{View}
 use Rattle.x_sema.specs.declared.outline.parts.EnumeratorAt.{EnumeratorAt}
@@ -34,15 +31,6 @@ use Rattle.x_sema.specs.declared.rules.places.Places.{Places}
 use Rattle.x_sema.specs.declared.rules.places.Places.TheVariants as held
 use Rattle.x_sema.specs.declared.rules.sights.Sights.{Sights}
 use Rattle.x_sema.specs.declared.rules.constants.Constants.{Constants}
-
--- ---- faults
-
--- faults of these words and codes were added, all of them and no others
-pub record AddsFaults (old new : List WordFault) (P : ℕ → RuleCode → Type 0) : Type 0 where
-  pub added : List WordFault
-  pub is_added : new ≡ old ++ added
-  pub each : (f : WordFault) → IsAmong added f → P f.word f.code
-  pub all : (word : ℕ) (code : RuleCode) → P word code → IsAmong added (record { word = word; code = code })
 
 -- ---- places of names
 

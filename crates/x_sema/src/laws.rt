@@ -1,3 +1,5 @@
+//! Laws of names, rules and results.
+
 ghost use Rattle.std.specs.Prelude.{◌≡◌, ℕ, List, Option};
 ghost use Rattle.x_item.specs.Tree.{Definition};
 ghost use Rattle.x_sema.specs.Declarers.{FirstIs};

@@ -1,3 +1,5 @@
+//! Faults of a text.
+
 ghost use Rattle.std.specs.Prelude.{◌≡◌, Some};
 ghost use Rattle.rpcx.specs.Faults.{fault_text};
 

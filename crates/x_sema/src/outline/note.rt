@@ -1,3 +1,5 @@
+//! What words are to the rules.
+
 use x_item::{Declaration, Value};
 
 /// What a value is the value of.
