@@ -79,7 +79,7 @@ impl KeptMeaning {
 /// What the names mean that an item declares. Most items declare one, whose meaning lies in the value itself.
 pub type KeptMeanings = SmallVec<KeptMeaning, 1>;
 
-/// What checking an item found: its faults, and what the names mean that it declares. Only [`crate::check_item`] makes one.
+/// What checking an item found: its faults, and what the names mean that it declares. Only a check makes one.
 #[derive(Drop)]
 pub struct Checked {
     faults: Vec<WordFault>,
