@@ -1,8 +1,11 @@
 """What the scripts here measure of a program that opens a text: seconds, peak memory, instructions, and how they grow."""
 
 import math
+import os
 import pathlib
 import re
+import select
+import signal
 import subprocess
 import sys
 import tempfile
@@ -21,6 +24,26 @@ def checked(words):
     if run.returncode != 0:
         sys.exit(f"{sys.argv[0]}: {' '.join(words)}: status {run.returncode}: {run.stderr.decode(errors='replace')}")
     return run
+
+
+def timed(words, output, limit):
+    """One run of a command with its output to that file: its seconds, its peak memory in KiB and its status; the status is None, and
+    the memory 0, where it was stopped after the limit. What it starts is stopped too."""
+    with tempfile.NamedTemporaryFile("r", encoding="ascii") as report, open(output, "wb") as out:
+        start = time.monotonic()
+        run = subprocess.Popen(
+            [MEMORY_METER, "-f", "%M", "-o", report.name, *words],
+            stdin=subprocess.DEVNULL, stdout=out, stderr=subprocess.DEVNULL, start_new_session=True,
+        )
+        # Popen.wait looks now and then alone where it has a limit.
+        watch = os.pidfd_open(run.pid)
+        ended = select.select([watch], [], [], limit)[0]
+        seconds = time.monotonic() - start
+        os.close(watch)
+        if not ended:
+            os.killpg(run.pid, signal.SIGKILL)
+        status = run.wait()
+        return (seconds, int(report.read().split()[-1]), status) if ended else (seconds, 0, None)
 
 
 def open_once(program, path):

@@ -1,15 +1,20 @@
 #!/usr/bin/env python3
 """Random texts of the language with edits, from a seed.
 
-    random_texts.py TEXTS SEED      prints how often each fault code comes up
+    random_texts.py TEXTS SEED                  prints how often each fault code comes up
+    random_texts.py --faultless TEXTS SEED      prints how often each form comes up in texts without a fault
 
 A text is made of definitions whose names come from a small pool, so that they collide and refer to each other. Most are
-made with care, which keeps the rules; some are then spoiled.
+made with care, which keeps the rules; some are then spoiled. Texts without a fault are those of full care in which the
+reference finds none, and so are their edits.
 """
+import collections
 import random
 import sys
 
 sys.dont_write_bytecode = True
+
+import rpclang
 
 POOL = [b"a", b"b", b"c", b"d", b"e", b"f", b"s", b"u", b"t", b"A", b"B", b"C", b"D", b"LIMIT", b"_x", b"s_b", b"u_d",
         b"t_t", b"a_b", b"P", b"V", b"list", b"node", b"color", b"TRUE", b"FALSE", b"s_b_c", b"b_c"]
@@ -496,17 +501,75 @@ def random_edit(chance, text):
     return start, end, insert
 
 
-def random_case(seed):
+def is_faultless(text):
+    return not rpclang.Compilation(text).faults
+
+
+def faultless_text(chance):
+    while True:
+        text = random_text(chance, 1, False)
+        if is_faultless(text):
+            return text
+
+
+def some_definitions(chance, text):
+    """A text of one or two definitions whose names are not in this one."""
+    maker = Maker(chance, 1)
+    maker.used |= {token.text for token in rpclang.tokens_of(text)}
+    maker.coming, maker.count = [], chance.randint(100, 10 ** 6)
+    return join(chance, [word for _ in range(chance.choice([1, 1, 2])) for word in maker.definition()])
+
+
+def likely_edit(chance, text):
+    """An edit at whole tokens or items, which leaves many a text without a fault."""
+    tokens = rpclang.tokens_of(text)
+    ends = [0] + [item[-1].end for item in rpclang.items_of(tokens) if item]
+    way = chance.random()
+    if way < 0.35 or not tokens:
+        at = chance.choice(ends)
+        return at, at, some_definitions(chance, text)
+    if way < 0.55:
+        first = chance.randrange(len(ends))
+        return ends[first], ends[min(len(ends) - 1, first + chance.choice([1, 1, 2]))], b""
+    token = chance.choice(tokens)
+    if way < 0.75:
+        return token.start, token.start, chance.choice(SPACES)
+    numbers = [token for token in tokens if token.kind == "Number"] or [token]
+    if way < 0.9:
+        token = chance.choice(numbers)
+        return token.start, token.end, Maker(chance, 1).spelled(chance.randint(0, 12))
+    same = [other for other in tokens if other.kind == token.kind]
+    return token.start, token.end, chance.choice(same).text
+
+
+def faultless_edit(chance, text):
+    """One that leaves the text without a fault."""
+    while True:
+        start, end, insert = likely_edit(chance, text)
+        if is_faultless(text[:start] + insert + text[end:]):
+            return start, end, insert
+
+
+def case_of(seed, first_text, next_edit):
     """A text and a list of edits."""
     chance = random.Random(seed)
-    text = first = random_text(chance)
+    text = first = first_text(chance)
     edits = []
     for _ in range(chance.choice([0, 1, 1, 2, 3])):
-        start, end, insert = random_edit(chance, text)
+        start, end, insert = next_edit(chance, text)
         edits.append((start, end, insert))
         if start <= end <= len(text):
             text = text[:start] + insert + text[end:]
     return first, edits
+
+
+def random_case(seed):
+    return case_of(seed, random_text, random_edit)
+
+
+def faultless_case(seed):
+    """One in which no text has a fault, the first one or after an edit."""
+    return case_of(seed, faultless_text, faultless_edit)
 
 
 def random_line(chance):
@@ -521,8 +584,7 @@ def random_line(chance):
     return line
 
 
-def main(count, seed):
-    import rpclang
+def show_codes(count, seed):
     texts, faults, clean = {}, {}, 0
     for k in range(count):
         compilation = rpclang.Compilation(random_case(f"{seed}/{k}")[0])
@@ -538,5 +600,49 @@ def main(count, seed):
         print(f"{code:4} {name:16} {faults.get(code, 0):6} {texts.get(code, 0):6}")
 
 
+def forms_in(definition):
+    """The forms that stand in a definition."""
+    yield rpclang.KEYWORD_OF[type(definition)]
+    if isinstance(definition, rpclang.Program):
+        yield f"program: {len(definition.versions)} versions"
+        for procedure in (procedure for version in definition.versions for procedure in version.procedures):
+            yield f"procedure: {len(procedure.arguments)} arguments"
+            yield f"result: {procedure.result.basic or 'name'}"
+            yield from (f"argument: {kind.basic or 'name'}" for kind in procedure.arguments)
+    for part in rpclang.parts_of(definition):
+        if part.lifted:
+            yield f"inline {rpclang.shape_of(part.body)}"
+        if isinstance(part.body, rpclang.EnumBody):
+            yield from ("enumerator: " + ("a value" if value else "none") for _, value in part.body.enumerators)
+        if isinstance(part.body, rpclang.UnionBody):
+            yield "union: " + ("a default arm" if part.body.default else "no default arm")
+            yield from (f"union arm: {len(arm.values)} cases, {arm.declaration.form}" for arm in part.body.arms)
+        for declaration in rpclang.declarations_in(part.body):
+            unsized = declaration.form in ("counted", "opaque counted", "string") and not declaration.size
+            yield f"declaration: {declaration.form}" + (" without a size" if unsized else "")
+            if declaration.type:
+                kind = declaration.type
+                yield f"type: {kind.basic or ('inline' if kind.body else kind.tag or 'name')}"
+
+
+def show_forms(count, seed):
+    counts, sizes = collections.Counter(), []
+    for k in range(count):
+        compilation = rpclang.Compilation(faultless_case(f"{seed}/{k}")[0])
+        sizes.append(len(compilation.items))
+        counts["percent line"] += sum(token.kind == "Percent" for token in compilation.tokens)
+        counts.update(form for definition in compilation.definitions if definition for form in forms_in(definition))
+    print(f"{count} texts without a fault, of {sum(sizes) / count:.1f} items each")
+    for form, often in sorted(counts.items()):
+        print(f"{often:6} {form}")
+
+
+def main(words):
+    show = show_codes
+    if words[:1] == ["--faultless"]:
+        show, words = show_forms, words[1:]
+    show(int(words[0]), words[1])
+
+
 if __name__ == "__main__":
-    main(int(sys.argv[1]), sys.argv[2])
+    main(sys.argv[1:])

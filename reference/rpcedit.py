@@ -22,6 +22,11 @@ def base_of(path):
     return name[:-2] if name.endswith(b".x") else name
 
 
+def standard_output():
+    """A file that writes all it is given or fails, also where Python is told not to buffer its own."""
+    return open(1, "wb", closefd=False)
+
+
 class Session:
     """One text with its base. A line's answer depends on the text alone."""
 
@@ -95,13 +100,14 @@ def main(words):
     if len(text) > GREATEST_TEXT:
         return stop(f"{words[0]}: 2 TooLarge")
     session = Session(base_of(os.fsencode(words[0])), text)
+    out = standard_output()
     try:
         for line in sys.stdin.buffer:
             if line.rstrip(b"\n"):
                 answer = session.answer(line[:-1] if line.endswith(b"\n") else line)
                 try:
-                    sys.stdout.buffer.write(answer)
-                    sys.stdout.buffer.flush()
+                    out.write(answer)
+                    out.flush()
                 except OSError:
                     return stop("output cannot be written")
     except OSError:

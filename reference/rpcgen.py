@@ -42,7 +42,7 @@ def main(words):
     if compilation.faults:
         return 1
     try:
-        out = open(outs[-1], "wb") if outs else sys.stdout.buffer
+        out = open(outs[-1], "wb") if outs else rpcedit.standard_output()
     except OSError:
         return stop(f"{outs[-1]}: cannot be written")
     try:

@@ -12,10 +12,33 @@ tokens() { ask "$1" tokens; }
 
 definitions() { ask "$1" definitions; }
 
-# header TEXT: what rpcgen writes.
-header() {
-    printf %b "$1" >t.x
-    rpcgen -h t.x
+# header TEXT, routines TEXT, stubs TEXT, table TEXT: what rpcgen writes.
+header() { generated -h "$1"; }
+
+routines() { generated -c "$1"; }
+
+stubs() { generated -l "$1"; }
+
+table() { generated -t "$1"; }
+
+generated() {
+    printf %b "$2" >t.x
+    rpcgen "$1" t.x
+}
+
+# short COMMAND..: where no file takes more than 1,024 bytes.
+short() (
+    trap '' XFSZ
+    ulimit -f 1
+    "$@"
+)
+
+# adders COUNT: a program of so many procedures, each of two arguments.
+adders() {
+    local k
+    printf 'program P { version V {\\n'
+    for ((k = 1; k <= $1; k++)); do printf 'int ADD%d(int, int) = %d;\\n' "$k" "$k"; done
+    printf '} = 1; } = 1;\\n'
 }
 
 # tower HEIGHT: so many structs, each of which holds the one before.

@@ -1,0 +1,5 @@
+pub mod Adding
+pub mod LengthLemmas
+pub mod Listing
+pub mod PartLemmas
+pub mod PieceListLemmas

@@ -1,0 +1,14 @@
+pub mod CTypes
+pub mod Declarations
+pub mod Header
+pub mod InlineTypes
+pub mod Parting
+pub mod Parts
+pub mod Pieces
+pub mod Procedures
+pub mod Rendering
+pub mod Routines
+pub mod Stubs
+pub mod Table
+pub mod Texts
+pub mod Views

@@ -1,0 +1,49 @@
+-- The procedures of a program as C has them.
+use Rattle.std.specs.Prelude.{ℕ, ◌+◌, Bool, true, false, List, [], ◌∷◌, ◌++◌, map, codes, Option, Some, None, if◌then◌else◌}
+use Rattle.std.specs.Fmt.{signed_decimal}
+use Rattle.x_item.specs.Tree.{Version, Procedure, Argument}
+use Rattle.x_sema.specs.Numbers.{in_range, value}
+use Rattle.x_gen.specs.CTypes.{CType, own, passed_type}
+use Rattle.x_gen.specs.Texts.{is_upper}
+
+-- a letter in lower case
+abbrev pub lower_byte : ℕ → ℕ
+lower_byte b = if is_upper b then b + 32 else b
+
+abbrev pub lower : List ℕ → List ℕ
+lower name = map lower_byte name
+
+-- a number in decimal, however it is spelled
+abbrev pub in_decimal : List ℕ → List ℕ
+in_decimal text = if in_range text then signed_decimal (value text) else []
+
+-- the function of a procedure of a version: the name in lower case, and the version's number
+abbrev pub function_name : Version → Procedure → List ℕ
+function_name v p = lower p.name ++ codes "_" ++ in_decimal v.number
+
+-- whether arguments stand behind the first
+abbrev pub are_several : List Argument → Bool
+are_several [] = false
+are_several (a ∷ rest) = true
+
+-- the struct of several arguments
+abbrev pub group_name : Version → Procedure → List ℕ
+group_name v p = function_name v p ++ codes "_argument"
+
+-- what is passed to the function: several arguments in the struct of this name
+abbrev pub argument_in : List ℕ → Procedure → CType
+argument_in group p = if are_several p.others then own group else passed_type p.first
+
+abbrev pub argument_type : Version → Procedure → CType
+argument_type v p = argument_in (group_name v p) p
+
+abbrev pub result_type : Procedure → CType
+result_type p = passed_type p.result
+
+abbrev pub sized : CType → List ℕ
+sized c = codes "sizeof (" ++ c.name ++ codes ")"
+
+-- how large an argument or a result is: `void` has no size
+abbrev pub size_of : Option Argument → List ℕ
+size_of None = codes "0"
+size_of (Some a) = sized (passed_type (Some a))

@@ -1,0 +1,36 @@
+//! Adding to a text.
+
+ghost use Rattle.std.specs.Prelude.{◌≡◌, ◌++◌, [], map, OnOk, IfOk};
+ghost use Rattle.x_gen.specs.Parts.{together};
+
+use std::alloc::Global;
+use x_text::NoMemory;
+
+/// Adds the parts, one behind another.
+#[tactic(auto, using(crate::proofs::PartLemmas::behind_is))]
+pub fn add(text: &mut Vec<u8>, parts: &[&[u8]]) -> Result<(), NoMemory>
+    ensures { OnOk result (text.new.items ≡ text.old.items ++ together (map (λ p. p.now) parts.now)) }
+{
+    for part in parts {
+        text.extend_from_slice(part)?;
+    }
+    Ok(())
+}
+
+/// The parts, one behind another, in memory of their own.
+pub fn joined(alloc: Global, parts: &[&[u8]]) -> Result<Vec<u8>, NoMemory>
+    ensures { IfOk result (λ text. text.items ≡ together (map (λ p. p.now) parts.now)) }
+{
+    let mut text = Vec::with_capacity(alloc, length_of(parts))?;
+    add(&mut text, parts)?;
+    Ok(text)
+}
+
+/// How many bytes the parts have, or the greatest number.
+fn length_of(parts: &[&[u8]]) -> usize {
+    let mut length = 0usize;
+    for part in parts {
+        length = length.saturating_add(part.len());
+    }
+    length
+}

@@ -1,0 +1,136 @@
+//! The procedures of a program as C has them.
+
+ghost use Rattle.std.specs.Prelude.{◌≡◌, ◌++◌, List, ℕ, map, OnOk, IfOk};
+ghost use Rattle.std.specs.List.{flat_map};
+ghost use Rattle.x_item.specs.Tree.{Version as ItsVersion, Procedure as ItsProcedure};
+ghost use Rattle.x_item.specs.View.{view_argument, view_passed, view_procedure, view_version};
+ghost use Rattle.x_gen.specs.Procedures.{lower_byte, lower, in_decimal, function_name, group_name, argument_in, are_several};
+ghost use Rattle.x_gen.specs.Procedures.{size_of, sized};
+ghost use Rattle.x_gen.specs.Views.{view_c};
+
+use crate::add::{add, joined};
+use crate::c_types::{CType, own, passed_type};
+use itoa::Buffer;
+use std::alloc::Global;
+use x_item::{Argument, Procedure, Version};
+use x_sema::number_value;
+use x_text::NoMemory;
+
+/// A letter in lower case.
+fn lower_byte(byte: u8) -> u8
+    ensures { result ≡ lower_byte byte }
+{
+    match byte {
+        b'A'..=b'Z' => byte + 32,
+        _ => byte,
+    }
+}
+
+/// Adds a name in lower case.
+pub fn add_lower(text: &mut Vec<u8>, name: &[u8]) -> Result<(), NoMemory>
+    ensures { OnOk result (text.new.items ≡ text.old.items ++ lower name.now) }
+{
+    for byte in name {
+        text.push(lower_byte(*byte))?;
+    }
+    Ok(())
+}
+
+/// Adds a number in decimal, however it is spelled.
+pub fn add_decimal(text: &mut Vec<u8>, number: &[u8]) -> Result<(), NoMemory>
+    ensures { OnOk result (text.new.items ≡ text.old.items ++ in_decimal number.now) }
+{
+    match number_value(number) {
+        Some(value) => {
+            let mut buffer = Buffer::new();
+            text.extend_from_slice(buffer.format(value).as_bytes())?;
+            Ok(())
+        }
+        None => Ok(()),
+    }
+}
+
+/// The names that C has for a procedure.
+#[derive(Drop)]
+pub struct Call {
+    /// The function: the name in lower case, and the version's number.
+    pub function: Vec<u8>,
+    /// The struct of several arguments.
+    pub group: Vec<u8>,
+}
+
+impl Call {
+    /// The names of a procedure of a version.
+    pub fn of(alloc: Global, version: &Version, procedure: &Procedure) -> Result<Call, NoMemory>
+        ensures function { IfOk result (λ call. call.function.items
+            ≡ function_name (view_version version.now) (view_procedure procedure.now)) }
+        ensures group { IfOk result (λ call. call.group.items
+            ≡ group_name (view_version version.now) (view_procedure procedure.now)) }
+    {
+        let mut function = Vec::new(alloc);
+        add_lower(&mut function, &procedure.name)?;
+        function.push(b'_')?;
+        add_decimal(&mut function, &version.number)?;
+        let group = joined(alloc, &[&function, b"_argument"])?;
+        Ok(Call { function, group })
+    }
+}
+
+/// What is passed to the function: several arguments in the struct of this name.
+pub fn argument_in<'d>(group: &'d [u8], procedure: &'d Procedure) -> CType<'d>
+    ensures { view_c result ≡ argument_in group.now (view_procedure procedure.now) }
+{
+    if procedure.others.is_empty() {
+        passed_type(&procedure.first)
+    } else {
+        own(group)
+    }
+}
+
+/// What is generated of a procedure.
+pub trait ProcedurePiece {
+    ghost piece: { Self → ItsVersion → ItsProcedure → List ℕ };
+
+    /// Adds it.
+    fn add(
+        &self,
+        alloc: Global,
+        text: &mut Vec<u8>,
+        version: &Version,
+        procedure: &Procedure,
+    ) -> Result<(), NoMemory>
+        ensures { OnOk result (text.new.items ≡ text.old.items
+            ++ piece self.now (view_version version.now) (view_procedure procedure.now)) };
+}
+
+/// Adds what is generated of each procedure of a version.
+pub fn add_procedures<P: ProcedurePiece>(
+    alloc: Global,
+    text: &mut Vec<u8>,
+    piece: &P,
+    version: &Version,
+) -> Result<(), NoMemory>
+    ensures { OnOk result (text.new.items ≡ text.old.items
+        ++ flat_map (P.piece piece.now (view_version version.now)) (view_version version.now).procedures) }
+{
+    for procedure in &version.procedures {
+        piece.add(alloc, text, version, procedure)?;
+    }
+    Ok(())
+}
+
+/// Adds what is generated of each procedure of each version.
+pub fn add_versions<P: ProcedurePiece>(
+    alloc: Global,
+    text: &mut Vec<u8>,
+    piece: &P,
+    versions: &[Version],
+) -> Result<(), NoMemory>
+    ensures { OnOk result (text.new.items ≡ text.old.items
+        ++ flat_map (λ v. flat_map (P.piece piece.now v) v.procedures) (map view_version versions.now)) }
+{
+    for version in versions {
+        add_procedures(alloc, text, piece, version)?;
+    }
+    Ok(())
+}

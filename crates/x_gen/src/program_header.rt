@@ -1,0 +1,139 @@
+//! The piece of the header that is of a program.
+
+ghost use Rattle.std.specs.Prelude.{◌≡◌, ◌++◌, ℕ, map, OnOk};
+ghost use Rattle.std.specs.List.{flat_map};
+ghost use Rattle.x_item.specs.View.{view_argument, view_procedure, view_version};
+ghost use Rattle.x_gen.specs.Header.{argument_line, argument_lines, group_struct, group_lines, function_lines, procedure_lines};
+ghost use Rattle.x_gen.specs.Header.{version_lines, program_header};
+ghost use Rattle.x_gen.specs.Views.{view_c};
+
+use crate::add::add;
+use crate::c_types::{CType, argument_type, passed_type};
+use crate::header::{add_constant, add_routine_line};
+use crate::procedures::{Call, ProcedurePiece, add_procedures, argument_in};
+use itoa::Buffer;
+use std::alloc::Global;
+use x_item::{Argument, Procedure, Version};
+use x_text::NoMemory;
+
+/// Adds the field of one of several arguments.
+fn add_argument(text: &mut Vec<u8>, number: u128, c: CType) -> Result<(), NoMemory>
+    ensures { OnOk result (text.new.items ≡ text.old.items ++ argument_line number (view_c c.entry)) }
+{
+    let mut buffer = Buffer::new();
+    let number = buffer.format(number).as_bytes();
+    add(text, &[b"    ", c.name, b" arg", number, b";\n"])
+}
+
+/// Adds the fields of the arguments behind the first.
+fn add_other_arguments(text: &mut Vec<u8>, others: &[Argument]) -> Result<(), NoMemory>
+    ensures { OnOk result (text.new.items ≡ text.old.items
+        ++ argument_lines 2 (map view_argument others.now)) }
+{
+    for (index, argument) in others.iter().enumerate() {
+        add_argument(text, index as u128 + 2, argument_type(argument))?;
+    }
+    Ok(())
+}
+
+/// Adds the struct of several arguments.
+fn add_group(text: &mut Vec<u8>, group: &[u8], procedure: &Procedure) -> Result<(), NoMemory>
+    ensures { OnOk result (text.new.items ≡ text.old.items
+        ++ group_struct group.now (view_procedure procedure.now)) }
+{
+    add(text, &[b"struct ", group, b" {\n"])?;
+    add_argument(text, 1, passed_type(&procedure.first))?;
+    add_other_arguments(text, &procedure.others)?;
+    add(text, &[b"};\ntypedef struct ", group, b" ", group, b";\n"])?;
+    add_routine_line(text, group)
+}
+
+/// Adds the struct of the arguments, where they are several.
+fn add_group_lines(text: &mut Vec<u8>, group: &[u8], procedure: &Procedure) -> Result<(), NoMemory>
+    ensures { OnOk result (text.new.items ≡ text.old.items
+        ++ group_lines group.now (view_procedure procedure.now)) }
+{
+    if procedure.others.is_empty() {
+        Ok(())
+    } else {
+        add_group(text, group, procedure)
+    }
+}
+
+/// Adds the lines that declare the functions of a procedure.
+fn add_functions(text: &mut Vec<u8>, call: &Call, procedure: &Procedure) -> Result<(), NoMemory>
+    ensures { OnOk result (text.new.items ≡ text.old.items
+        ++ function_lines call.now.function.items call.now.group.items (view_procedure procedure.now)) }
+{
+    let argument = argument_in(&call.group, procedure).name;
+    let result = passed_type(&procedure.result).name;
+    let function = &call.function;
+    add(
+        text,
+        &[
+            b"extern ",
+            result,
+            b" *",
+            function,
+            b"(",
+            argument,
+            b" *, CLIENT *);\n",
+            b"extern ",
+            result,
+            b" *",
+            function,
+            b"_svc(",
+            argument,
+            b" *, struct svc_req *);\n",
+        ],
+    )
+}
+
+/// The lines of a procedure.
+struct ProcedureLines;
+
+impl ProcedurePiece for ProcedureLines {
+    ghost use Rattle.x_gen.specs.Header.{procedure_lines};
+
+    ghost piece = { λ _. procedure_lines };
+
+    fn add(
+        &self,
+        alloc: Global,
+        text: &mut Vec<u8>,
+        version: &Version,
+        procedure: &Procedure,
+    ) -> Result<(), NoMemory> {
+        let call = Call::of(alloc, version, procedure)?;
+        add_group_lines(text, &call.group, procedure)?;
+        add_constant(text, &procedure.name, &procedure.number)?;
+        add_functions(text, &call, procedure)
+    }
+}
+
+/// Adds the lines of a version.
+fn add_version(alloc: Global, text: &mut Vec<u8>, version: &Version) -> Result<(), NoMemory>
+    ensures { OnOk result (text.new.items ≡ text.old.items ++ version_lines (view_version version.now)) }
+{
+    add_constant(text, &version.name, &version.number)?;
+    add_procedures(alloc, text, &ProcedureLines, version)
+}
+
+/// Adds the piece of a program.
+pub fn add_program(
+    alloc: Global,
+    text: &mut Vec<u8>,
+    name: &[u8],
+    versions: &[Version],
+    number: &[u8],
+) -> Result<(), NoMemory>
+    ensures { OnOk result (text.new.items ≡ text.old.items
+        ++ program_header name.now (map view_version versions.now) number.now) }
+{
+    add_constant(text, name, number)?;
+    for version in versions {
+        add_version(alloc, text, version)?;
+    }
+    text.extend_from_slice(b"\n")?;
+    Ok(())
+}
