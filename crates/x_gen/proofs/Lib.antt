@@ -1,4 +1,5 @@
 pub mod Adding
+pub mod HeaderLemmas
 pub mod LengthLemmas
 pub mod Listing
 pub mod PartLemmas
