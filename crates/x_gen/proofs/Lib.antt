@@ -1,5 +1,7 @@
 pub mod Adding
+pub mod HeaderLemmas
 pub mod LengthLemmas
 pub mod Listing
 pub mod PartLemmas
 pub mod PieceListLemmas
+pub mod VoidLemmas
