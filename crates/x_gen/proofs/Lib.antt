@@ -3,5 +3,6 @@ pub mod HeaderLemmas
 pub mod LengthLemmas
 pub mod Listing
 pub mod PartLemmas
+pub mod PartingLemmas
 pub mod PieceListLemmas
 pub mod VoidLemmas
