@@ -1,5 +1,5 @@
 -- The command lines of the programs, in clap's words: what a program knows, and what it reads.
-use Rattle.std.specs.Prelude.{◌≡◌, Bool, List, [], ◌∷◌, ◌++◌, Option, None, Some, true, false, codes, find, is_some}
+use Rattle.std.specs.Prelude.{◌≡◌, ℕ, Bool, ◌&&◌, not, List, [], ◌∷◌, ◌++◌, Option, None, Some, true, false, codes, find, is_some}
 use Rattle.std.specs.Prelude.{option_and_then, option_map, slice_get}
 use Rattle.std.specs.Str.{bytes_eq}
 use Rattle.clap.specs.Words.{App, IsParsedFrom, Row, Rule, Text, first_of, first_value}
@@ -15,25 +15,29 @@ use Rattle.x_gen.specs.declared.which.Which.TheVariants.{Header, Routines, Stubs
 use Rattle.rpcx.specs.declared.program.editing_args.EditArgs.{EditArgs}
 use Rattle.rpcx.specs.declared.program.generating_args.GenArgs.{GenArgs}
 
+-- the id is neither empty nor one of clap's own
+abbrev pub is_own : Text → Bool
+is_own id = not (bytes_eq id []) && (not (bytes_eq id (codes "help")) && not (bytes_eq id (codes "version")))
+
 -- a letter without a value
-abbrev pub flag_rule : Text → Text → Rule
-flag_rule id letter = record (new_rule id) { short = slice_get letter 0; action = Some SetTrue }
+abbrev pub flag_rule : Text → Option ℕ → Rule
+flag_rule id letter = record (new_rule id) { short = letter; action = Some SetTrue }
 
 -- `-c`
 abbrev pub routines_rule : Rule
-routines_rule = flag_rule (codes "routines") (codes "c")
+routines_rule = flag_rule (codes "routines") (slice_get (codes "c") 0)
 
 -- `-h`
 abbrev pub header_rule : Rule
-header_rule = flag_rule (codes "header") (codes "h")
+header_rule = flag_rule (codes "header") (slice_get (codes "h") 0)
 
 -- `-l`
 abbrev pub stubs_rule : Rule
-stubs_rule = flag_rule (codes "stubs") (codes "l")
+stubs_rule = flag_rule (codes "stubs") (slice_get (codes "l") 0)
 
 -- `-t`
 abbrev pub table_rule : Rule
-table_rule = flag_rule (codes "table") (codes "t")
+table_rule = flag_rule (codes "table") (slice_get (codes "t") 0)
 
 -- `-o OUT`, a letter with a value
 abbrev pub output_rule : Rule

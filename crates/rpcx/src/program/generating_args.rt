@@ -5,6 +5,7 @@ ghost use Rattle.clap.specs.Words.{FailsBy, app_of, fault_of, found_of, matches_
 ghost use Rattle.rpcx.specs.Generate.{IsTold};
 ghost use Rattle.rpcx.specs.Args.{AlwaysHas, IsGenArgs, asked_by, gen_app, is_in_words, only_of};
 
+use crate::program::arguments::{file, flag};
 use crate::program::complaint::complain;
 use clap::parser::ValueSource;
 use clap::{Arg, ArgAction, ArgMatches, Command, Error};
@@ -61,30 +62,15 @@ fn gen_command<'a>(alloc: Global) -> Result<Command<'a>, AllocError>
     ensures app { IfOk result (λ c. app_of c ≡ gen_app) }
     ensures file { IfOk result (AlwaysHas (codes "file")) }
 {
-    let routines = Arg::new(alloc, "routines")
-        .short('c')
-        .action(ArgAction::SetTrue);
-    let header = Arg::new(alloc, "header")
-        .short('h')
-        .action(ArgAction::SetTrue);
-    let stubs = Arg::new(alloc, "stubs")
-        .short('l')
-        .action(ArgAction::SetTrue);
-    let table = Arg::new(alloc, "table")
-        .short('t')
-        .action(ArgAction::SetTrue);
     let output = Arg::new(alloc, "output").short('o').action(ArgAction::Set);
-    let file = Arg::new(alloc, "file")
-        .required(true)
-        .action(ArgAction::Set);
     Command::new(alloc, "rpcgen")
         .disable_help_flag(true)
-        .arg(routines)?
-        .arg(header)?
-        .arg(stubs)?
-        .arg(table)?
+        .arg(flag(alloc, "routines", 'c'))?
+        .arg(flag(alloc, "header", 'h'))?
+        .arg(flag(alloc, "stubs", 'l'))?
+        .arg(flag(alloc, "table", 't'))?
         .arg(output)?
-        .arg(file)
+        .arg(file(alloc))
 }
 
 /// The text that a command line asks for: exactly one letter tells it.

@@ -1,4 +1,4 @@
-use Rattle.std.proofs.Common.{◌≡◌, ℕ, ◌<◌, ◌≤◌, List, [], ◌∷◌, length, ap, sym, subst, ◌∙◌, refl, arith}
+use Rattle.std.proofs.Common.{◌≡◌, ℕ, ◌<◌, ◌≤◌, List, [], ◌∷◌, length, ap, subst, ◌∙◌, refl, arith}
 use Rattle.x_session.specs.Session.{Compiles}
 use Rattle.x_session.specs.Compile.{faults_of}
 use Rattle.x_session.specs.declared.compile.fault.Fault.{Fault}
