@@ -1,4 +1,4 @@
-//! `rpcgen`: writes the header of a `.x` file.
+//! `rpcgen`: writes a text that is generated of a `.x` file.
 #![tactic(auto)]
 
 use rpcx::{
