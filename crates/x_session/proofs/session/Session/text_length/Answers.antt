@@ -10,11 +10,11 @@ use Rattle.x_session.proofs.session.Session.text_length.Goals as goal
 
 pub returns : goal.returns
 returns c =
-    let items = items_of c.self.inside.source c.self.inside.tokens.list c.self.inside.items.items c.self.invariant.compiled.results in
+    let items = items_of c.self.inside.source c.self.inside.tokens.list c.self.inside.items.items c.self.invariant.results in
     let front = c.self.inside.prologue.items in
     let body = c.self.inside.body.items in
     let front_is = c.self.invariant.front_is in
-    let body_is = c.self.invariant.compiled.body_is in
+    let body_is = c.self.invariant.body_is in
     let text : front ++ body ++ EPILOGUE.now ≡ header c.self.inside.base.items items = λ i. front_is i ++ body_is i ++ epilogue_is i in
     let seven : length EPILOGUE.now ≡ 7 = refl in
     let one = c.len.ensures in
@@ -25,4 +25,4 @@ returns c =
     let parted = length-append front body in
     let size : c.len.result + c.len-2.result + 7 ≡ length (front ++ body ++ EPILOGUE.now) = omega (arith, seven, one, two, first.0, second.0, split, parted) in
     subst (λ v. Compiles v.text (λ is. c.len.result + c.len-2.result + 7 ≡ length (text_of c.args.which v.base is))) c.self.view_is
-    (c.self.inside.tokens.list, items, c.self.invariant.compiled.compiles, size ∙ ap length (text ∙ is_header c.args.which c.self.inside.base.items items))
+    (c.self.inside.tokens.list, items, c.self.invariant.compiles, size ∙ ap length (text ∙ is_header c.args.which c.self.inside.base.items items))

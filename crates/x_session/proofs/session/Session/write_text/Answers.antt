@@ -1,7 +1,7 @@
 use Rattle.std.proofs.Common.{[], sym, subst}
 use Rattle.x_text.specs.Writing.{Inked, Writes}
 use Rattle.x_text.proofs.Pens.{writes_none}
-use Rattle.x_session.specs.Header.{text_of}
+use Rattle.x_session.specs.Generated.{text_of}
 use Rattle.x_session.proofs.session.Session.write_text.Goals as goal
 
 pub returns : goal.returns
