@@ -4,6 +4,7 @@ pub mod CommandLemmas
 pub mod Compiled
 pub mod DefinitionLemmas
 pub mod EditLists
+pub mod GeneratedLemmas
 pub mod ItemLemmas
 pub mod LineLemmas
 pub mod Listing

@@ -1,5 +1,5 @@
 -- Items without faults and lines.
-use Rattle.std.proofs.Common.{◌≡◌, Bool, true, false, cond, List, [], ◌∷◌, map, take, drop, Option, refl, ap, sym, ◌∙◌, true≢false}
+use Rattle.std.proofs.Common.{◌≡◌, Bool, true, false, cond, List, [], ◌∷◌, ◌++◌, map, take, drop, Option, refl, ap, sym, ◌∙◌, true≢false}
 use Rattle.std.specs.Prelude.{codes, option_map, ◌||◌}
 use Rattle.std.specs.List.{filter, flat_map}
 use Rattle.x_lex.specs.Places.{Lexeme}

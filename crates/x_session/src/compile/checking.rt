@@ -158,7 +158,7 @@ fn view_of<'v>(item: usize, name: &[u8], first: Option<Declarer>, results: &'v R
 
 /// The faults of an item by the rules, at its words, by what checking it found.
 pub fn rule_faults(checked: Option<&Checked>) -> &[WordFault]
-    ensures { result.now ≡ rule_faults (lent_outcome checked) }
+    ensures { result.now ≡ rule_faults (lent_outcome checked.entry) }
 {
     match checked {
         Some(checked) => checked.faults(),

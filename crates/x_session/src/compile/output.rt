@@ -92,9 +92,9 @@ impl Gathering<'_> {
         requires marked { item.now.has_lines ≡ has_lines (take item.now.tokens self.old.walk) }
         requires checked { IsChecked (kept_definition item.now) (lent_outcome checked) }
         ensures faults { OnOk result (self.new.output.faults.items ≡ self.old.output.faults.items
-            ++ item_faults self.old.lines index (item_with self.old.walk item.now (lent_outcome checked))) }
+            ++ item_faults self.old.lines index (item_with self.old.walk item.now (lent_outcome checked.entry))) }
         ensures generated { OnOk result (self.new.output.generated ≡ self.old.output.generated
-            ++ part_of (item_with self.old.walk item.now (lent_outcome checked)) ∷ []) }
+            ++ part_of (item_with self.old.walk item.now (lent_outcome checked.entry)) ∷ []) }
         ensures walk { OnOk result (self.new.walk ≡ drop item.now.tokens self.old.walk) }
         ensures lines { self.new.lines ≡ self.old.lines }
     {
