@@ -1,4 +1,5 @@
--- How C declares what a declaration declares, and how its XDR routine calls those of its parts (RFC 4506, section 4).
+-- How C declares what a declaration declares, and how its XDR routine calls those of its parts: this project's profile of what rpcgen(1)
+-- writes. `around` is the name of the type that a declaration stands in, and for a `typedef` the name that it declares itself.
 use Rattle.std.specs.Prelude.{ℕ, Bool, true, false, List, [], ◌++◌, codes}
 use Rattle.x_item.specs.Tree.{Declaration, Void, Of, Opaque, String, Length, Fixed, Variable, Shape, Plain, Optional, Array}
 use Rattle.x_item.specs.Gloss.{lifted_name}
