@@ -3,3 +3,4 @@ pub mod LengthLemmas
 pub mod Listing
 pub mod PartLemmas
 pub mod PieceListLemmas
+pub mod RoutineLemmas

@@ -6,5 +6,5 @@ use Rattle.x_gen.proofs.add.add.Goals as goal
 
 pub returns : goal.returns
 returns c =
-    sym (ap (λ ps. behind c.loop-part.text.items (map (λ p. p.now) ps)) (drop_all c.args.parts.now c.loop-part.part-index c.loop-part-test.false))
+    sym (ap (λ ps. behind c.loop-part.text.items (map (λ p. p.now) ps)) (drop_all _ _ c.loop-part-test.false))
     ∙ c.loop-part.invariant ∙ behind_is c.args.text.now.items (map (λ p. p.now) c.args.parts.now)
