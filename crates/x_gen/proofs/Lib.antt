@@ -1,6 +1,8 @@
 pub mod Adding
+pub mod HeaderLemmas
 pub mod LengthLemmas
 pub mod Listing
 pub mod PartLemmas
+pub mod PartingLemmas
 pub mod PieceListLemmas
-pub mod RoutineLemmas
+pub mod VoidLemmas

@@ -153,7 +153,6 @@ fn add_struct(
 }
 
 /// Adds what the routine of a union does.
-#[tactic(auto, using(x_item::proofs::Rows::union_parts))]
 fn add_union(alloc: Global, text: &mut Vec<u8>, name: &[u8], body: &UnionBody) -> Result<(), NoMemory>
     ensures { OnOk result (text.new.items ≡ text.old.items ++ body_calls name.now (view_union body.now)) }
 {

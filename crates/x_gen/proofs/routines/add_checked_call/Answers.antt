@@ -1,17 +1,11 @@
-use Rattle.std.proofs.Common.{◌≡◌, ◌++◌, false, ap, ◌∙◌}
+use Rattle.std.proofs.Common.{◌++◌, sym, ap, ◌∙◌}
 use Rattle.std.proofs.lemmas.Result.{on_ok_weaker}
-use Rattle.x_item.specs.View.{view_declaration}
-use Rattle.x_gen.specs.Declarations.{is_void}
-use Rattle.x_gen.specs.Views.{view_place}
 use Rattle.x_gen.proofs.PartLemmas.{then_two}
-use Rattle.x_gen.proofs.RoutineLemmas.{checked_is}
+use Rattle.x_gen.proofs.VoidLemmas.{checked_call_of}
 use Rattle.x_gen.proofs.routines.add_checked_call.Goals as goal
 
 pub returns : goal.returns
-returns c =
-    let d = view_declaration c.args.declaration.now in
-    let is : is_void d ≡ false = cc in
-    on_ok_weaker c.add-2.result
+returns c = on_ok_weaker c.add-2.result
     (λ last. then_two _ _ _ _ _ _ _ c.in_ok-add.ensures c.in_ok-add_call.ensures last
-    ∙ ap (λ t. c.args.text.now.items ++ t) (checked_is c.args.indent.now c.args.around.now (view_place c.args.place) d is))
+    ∙ ap (λ l. c.args.text.now.items ++ l) (sym (checked_call_of _ _ _ _ (sym c.is_void.ensures ∙ c.if-is_void.false))))
     c.add-2.ensures

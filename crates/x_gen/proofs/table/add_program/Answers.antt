@@ -1,11 +1,14 @@
-use Rattle.std.proofs.Common.{map, refl}
+use Rattle.std.proofs.Common.{◌+◌, ◌∷◌, drop, map, refl, sym, ap, ◌∙◌}
+use Rattle.std.proofs.lemmas.List.{drop_more}
 use Rattle.x_item.specs.View.{view_version}
-use Rattle.x_gen.specs.Table.{program_table, version_table}
-use Rattle.x_gen.proofs.RoutineLemmas.{over}
+use Rattle.x_gen.specs.Table.{version_table, program_table}
+use Rattle.x_gen.proofs.PartLemmas.{next}
 use Rattle.x_gen.proofs.table.add_program.Goals as goal
 
 pub loop-version-preserved : goal.loop-version-preserved
 loop-version-preserved c =
-    over (λ vs. program_table c.args.program.now (map view_version vs)) c.args.versions.now c.loop-version.version-index c.version-item.result
-    _ _ (version_table c.args.program.now (view_version c.version-item.result)) _
-    c.loop-version-test.true c.version-item.is refl c.loop-version.invariant c.in_ok-add_version.ensures
+    let program = c.args.program.now in
+    let rest = drop (c.loop-version.version-index + 1) c.args.versions.now in
+    next (λ versions. program_table program (map view_version versions)) _ rest c.version-item.result (version_table program (view_version c.version-item.result)) _ _ _
+    (drop_more c.args.versions.now c.loop-version.version-index _ c.loop-version-test.true ∙ ap (λ x. x ∷ rest) (sym c.version-item.is))
+    refl c.in_ok-add_version.ensures c.loop-version.invariant
