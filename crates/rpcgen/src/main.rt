@@ -2,11 +2,11 @@
 #![tactic(auto)]
 
 use rpcx::{
-    Session, Status, Which, gen_args, gen_mode, gen_open, gen_write, read_text, read_words,
-    tell_of_file,
+    Status, gen_args, gen_mode, gen_open, gen_write, read_text, read_words, tell_of_file,
 };
 use std::process::ExitCode;
 use std::{fs, mem};
+use x_session::{Session, Which};
 use x_text::{Out, Sink};
 
 /// Writes a generated text to the file, or to standard output where none is named.

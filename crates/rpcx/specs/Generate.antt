@@ -4,14 +4,14 @@ use Rattle.std.specs.List.{after_last, flat_map}
 use Rattle.std.specs.Io.KnownBytes.{Appends}
 use Rattle.std.specs.Str.{bytes_eq}
 use Rattle.x_text.specs.Streams.{Stream}
-use Rattle.rpcx.specs.declared.compile.fault.Fault.{Fault}
-use Rattle.rpcx.specs.Faults.{fault_text}
-use Rattle.rpcx.specs.declared.script.EngineFault.{EngineFault}
-use Rattle.rpcx.specs.declared.script.EngineFault.TheVariants.{Read, Write, NoMemory}
-use Rattle.rpcx.specs.Answers.{fault_place}
-use Rattle.rpcx.specs.Compile.{definitions_of, faults_of}
-use Rattle.rpcx.specs.Definitions.{are_constants}
-use Rattle.rpcx.specs.Session.{Compiles}
+use Rattle.x_session.specs.declared.compile.fault.Fault.{Fault}
+use Rattle.x_session.specs.Faults.{fault_text}
+use Rattle.x_session.specs.declared.script.EngineFault.{EngineFault}
+use Rattle.x_session.specs.declared.script.EngineFault.TheVariants.{Read, Write, NoMemory}
+use Rattle.x_session.specs.Answers.{fault_place}
+use Rattle.x_session.specs.Compile.{definitions_of, faults_of}
+use Rattle.x_session.specs.Definitions.{are_constants}
+use Rattle.x_session.specs.Session.{Compiles}
 use Rattle.x_text.specs.declared.fault.TextFault.{TextFault}
 use Rattle.x_text.specs.declared.fault.TextFault.TheVariants as faults
 use Rattle.x_text.specs.declared.source.TheConstants.{MAX_TEXT}

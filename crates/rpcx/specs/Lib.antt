@@ -1,16 +1,4 @@
-pub mod Answers
 pub mod Args
-pub mod Checking
-pub mod Commands
-pub mod Compile
-pub mod Definitions
-pub mod Faults
+pub mod Editing
 pub mod Generate
-pub mod Header
-pub mod ItemView
-pub mod Lines
-pub mod Script
-pub mod Seats
-pub mod Session
-pub mod SessionState
 pub mod Status

@@ -4,12 +4,4 @@
 #[cfg(test)]
 mod arguments;
 #[cfg(test)]
-mod lines;
-#[cfg(test)]
 mod runs;
-#[cfg(test)]
-mod scripts;
-#[cfg(test)]
-mod sessions;
-#[cfg(test)]
-mod texts;

@@ -1,17 +1,7 @@
-use rpcx::{EditArgs, Session, Status, Which, edit_run, gen_write};
+use rpcx::{EditArgs, Status, edit_run, gen_write};
 use std::test::Fail;
-use x_text::{MemSink, MemTap, WriteFault};
-
-#[test]
-fn a_sink_of_ten_bytes_has_the_first_ten(rt: HostRuntime) -> Result<(), Fail> {
-    let session = Session::open(rt.alloc(), b"t", b"const A = 12;")?;
-    let mut room = [0u8; 10];
-    let mut sink = MemSink::new(&mut room, 256, 256);
-    let answer = session.write_text(Which::Header, &mut sink);
-    assert_eq!(rt; answer, Err(WriteFault { written: 10 }));
-    assert_eq!(rt; sink.bytes(), b"/* Generat".as_slice());
-    Ok(())
-}
+use x_session::{Session, Which};
+use x_text::{MemSink, MemTap};
 
 #[test]
 fn a_generator_tells_of_a_full_sink(rt: HostRuntime) -> Result<(), Fail> {

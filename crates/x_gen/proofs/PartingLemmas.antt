@@ -1,7 +1,6 @@
 -- Pieces that stand in one text, one behind another.
-use Rattle.std.proofs.Common.{◌≡◌, ℕ, ◌+◌, ◌-◌, List, ◌++◌, length, take, drop, arith, refl, sym, ap, ◌∙◌, append_assoc, length-append}
+use Rattle.std.proofs.Common.{◌≡◌, ℕ, ◌-◌, List, ◌++◌, length, take, drop, arith, refl, ap, ◌∙◌, append_assoc, length-append}
 use Rattle.std.proofs.Math.Seq.{take-append_seam, drop-append_seam}
-use Rattle.x_gen.specs.Pieces.{Pieces}
 use Rattle.x_gen.specs.Parting.{parted}
 use Rattle.x_gen.specs.declared.pieces.Ends.{Ends}
 
@@ -30,8 +29,13 @@ third_of f h r s t m n begins ends =
 pub parted_is : (f h r s t : List ℕ) (e : Ends) → e.forward ≡ length f → e.header ≡ length (f ++ h) → e.routines ≡ length (f ++ h ++ r)
     → e.stubs ≡ length (f ++ h ++ r ++ s)
     → parted (f ++ h ++ r ++ s ++ t) e ≡ record { forward = f; header = h; routines = r; stubs = s; table = t }
-parted_is f h r s t e a b c d = rw (first_of f h r s t e.forward a, second_of f h r s t e.forward e.header a b, third_of f h r s t e.header e.routines b c,
-    between (f ++ h ++ r) s t e.routines e.stubs c d, ap (λ n. drop n (f ++ h ++ r ++ s ++ t)) d ∙ drop-append_seam (f ++ h ++ r ++ s) t) refl
+parted_is f h r s t e a b c d = rw (
+  first_of f h r s t e.forward a,
+  second_of f h r s t e.forward e.header a b,
+  third_of f h r s t e.header e.routines b c,
+  between (f ++ h ++ r) s t e.routines e.stubs c d,
+  ap (λ n. drop n (f ++ h ++ r ++ s ++ t)) d ∙ drop-append_seam (f ++ h ++ r ++ s) t,
+) refl
 
 -- the same of a text to which they were added one after another
 pub grown_is : (one two three four five f h r s t : List ℕ) (e : Ends) → one ≡ f → two ≡ one ++ h → three ≡ two ++ r → four ≡ three ++ s → five ≡ four ++ t

@@ -1,5 +1,5 @@
 -- What is generated of a declaration that is not `void`.
-use Rattle.std.proofs.Common.{◌≡◌, ℕ, List, ◌++◌, Bool, false, codes, refl}
+use Rattle.std.proofs.Common.{◌≡◌, ℕ, List, ◌++◌, false, codes, refl}
 use Rattle.x_item.specs.Tree.{Declaration, Void, Of, Opaque, String}
 use Rattle.x_gen.specs.Declarations.{Place, Alone, name_of, is_void, c_declaration, call}
 use Rattle.x_gen.specs.Header.{routine_line, typedef_header}

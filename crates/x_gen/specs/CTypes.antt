@@ -1,5 +1,5 @@
 -- The type of C and the XDR routine of each type of the language.
-use Rattle.std.specs.Prelude.{ℕ, List, [], ◌++◌, codes, Option, Some, None}
+use Rattle.std.specs.Prelude.{ℕ, List, [], codes, Option, Some, None}
 use Rattle.x_item.specs.Tree.{DataType, Simple, Name, Tagged, Inline, Argument, Text, Typed, Value, Number, Named}
 use Rattle.x_item.specs.declared.trees.declaration.Basic.{Basic}
 use Rattle.x_item.specs.declared.trees.declaration.Basic.TheVariants as basics

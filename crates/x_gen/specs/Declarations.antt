@@ -1,5 +1,5 @@
 -- How C declares what a declaration declares, and how its XDR routine calls those of its parts (RFC 4506, section 4).
-use Rattle.std.specs.Prelude.{ℕ, Bool, true, false, List, [], ◌++◌, codes, Option}
+use Rattle.std.specs.Prelude.{ℕ, Bool, true, false, List, [], ◌++◌, codes}
 use Rattle.x_item.specs.Tree.{Declaration, Void, Of, Opaque, String, Length, Fixed, Variable, Shape, Plain, Optional, Array}
 use Rattle.x_item.specs.Gloss.{lifted_name}
 use Rattle.x_gen.specs.CTypes.{CType, c_type, spelled, most}

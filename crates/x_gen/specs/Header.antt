@@ -1,8 +1,8 @@
 -- The pieces of the header.
-use Rattle.std.specs.Prelude.{ℕ, suc, Bool, true, false, ◌||◌, List, [], ◌∷◌, ◌++◌, codes, Option, Some, None, if◌then◌else◌}
+use Rattle.std.specs.Prelude.{ℕ, suc, Bool, true, false, List, [], ◌∷◌, ◌++◌, codes, Option, Some, None, if◌then◌else◌}
 use Rattle.std.specs.List.{flat_map}
 use Rattle.std.specs.Fmt.{decimal}
-use Rattle.x_item.specs.Tree.{Value, Enumerator, Body, Enum, Struct, Union, Declaration, Void, Of, Opaque, String, Argument, Procedure, Version}
+use Rattle.x_item.specs.Tree.{Value, Enumerator, Body, Enum, Struct, Union, Declaration, Void, Argument, Procedure, Version}
 use Rattle.x_item.specs.Tree.{Declarations, none, more, Arms, no_arm, arm, Default, no_default, default}
 use Rattle.x_gen.specs.CTypes.{CType, spelled, passed_type}
 use Rattle.x_gen.specs.Declarations.{name_of, is_void, c_declaration}

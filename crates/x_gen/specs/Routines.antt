@@ -1,8 +1,8 @@
 -- The pieces of the XDR routines.
-use Rattle.std.specs.Prelude.{ℕ, suc, List, [], ◌∷◌, ◌++◌, codes, Option, Some, None, if◌then◌else◌}
+use Rattle.std.specs.Prelude.{ℕ, suc, List, [], ◌∷◌, ◌++◌, codes, Some, if◌then◌else◌}
 use Rattle.std.specs.List.{flat_map}
 use Rattle.std.specs.Fmt.{decimal}
-use Rattle.x_item.specs.Tree.{Value, Body, Enum, Struct, Union, Declaration, Void, Of, Opaque, String, Argument, Procedure, Version}
+use Rattle.x_item.specs.Tree.{Value, Body, Enum, Struct, Union, Declaration, Void, Argument, Procedure, Version}
 use Rattle.x_item.specs.Tree.{Declarations, none, more, Arms, no_arm, arm, Default, no_default, default}
 use Rattle.x_gen.specs.CTypes.{CType, spelled, passed_type}
 use Rattle.x_gen.specs.Declarations.{Place, InStruct, InUnion, Alone, name_of, call}

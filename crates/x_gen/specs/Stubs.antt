@@ -1,5 +1,5 @@
 -- The pieces of the client's stubs.
-use Rattle.std.specs.Prelude.{ℕ, List, [], ◌++◌, codes, Option, Some, None}
+use Rattle.std.specs.Prelude.{ℕ, List, ◌++◌, codes, Option, Some, None}
 use Rattle.std.specs.List.{flat_map}
 use Rattle.x_item.specs.Tree.{Argument, Procedure, Version}
 use Rattle.x_gen.specs.CTypes.{CType, passed_type}

@@ -1,5 +1,5 @@
 -- The pieces of the server's tables.
-use Rattle.std.specs.Prelude.{ℕ, List, [], ◌++◌, codes, if◌then◌else◌}
+use Rattle.std.specs.Prelude.{ℕ, List, ◌++◌, codes, if◌then◌else◌}
 use Rattle.std.specs.List.{flat_map}
 use Rattle.x_item.specs.Tree.{Procedure, Version}
 use Rattle.x_gen.specs.CTypes.{CType, own}

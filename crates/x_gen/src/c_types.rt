@@ -65,7 +65,12 @@ pub fn c_type<'d>(lifted: &'d [u8], typed: &'d DataType) -> CType<'d>
 
 /// The lifted name of a type that stands in the declaration of `name`, inside the type that `around` names: nothing, where the type
 /// is no inline one.
-pub fn lifted(alloc: Global, around: &[u8], name: &[u8], typed: &DataType) -> Result<Vec<u8>, NoMemory>
+pub fn lifted(
+    alloc: Global,
+    around: &[u8],
+    name: &[u8],
+    typed: &DataType,
+) -> Result<Vec<u8>, NoMemory>
     ensures { IfOk result (λ lifted. c_type lifted.items (view_type typed.now)
         ≡ c_type (lifted_name around.now name.now) (view_type typed.now)) }
 {

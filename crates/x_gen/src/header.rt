@@ -23,7 +23,10 @@ pub fn add_forward(text: &mut Vec<u8>, named: &NamedBody) -> Result<(), NoMemory
 {
     match named.body {
         Body::Enum(_) => Ok(()),
-        _ => add(text, &[b"typedef struct ", &named.name, b" ", &named.name, b";\n"]),
+        _ => add(
+            text,
+            &[b"typedef struct ", &named.name, b" ", &named.name, b";\n"],
+        ),
     }
 }
 
@@ -31,7 +34,10 @@ pub fn add_forward(text: &mut Vec<u8>, named: &NamedBody) -> Result<(), NoMemory
 pub fn add_routine_line(text: &mut Vec<u8>, name: &[u8]) -> Result<(), NoMemory>
     ensures { OnOk result (text.new.items ≡ text.old.items ++ routine_line name.now) }
 {
-    add(text, &[b"extern bool_t xdr_", name, b"(XDR *, ", name, b" *);\n"])
+    add(
+        text,
+        &[b"extern bool_t xdr_", name, b"(XDR *, ", name, b" *);\n"],
+    )
 }
 
 /// Adds the line of a constant.
@@ -196,7 +202,12 @@ fn add_struct(
 }
 
 /// Adds the lines of a union.
-fn add_union(alloc: Global, text: &mut Vec<u8>, name: &[u8], body: &UnionBody) -> Result<(), NoMemory>
+fn add_union(
+    alloc: Global,
+    text: &mut Vec<u8>,
+    name: &[u8],
+    body: &UnionBody,
+) -> Result<(), NoMemory>
     ensures { OnOk result (text.new.items ≡ text.old.items ++ body_lines name.now (view_union body.now)) }
 {
     add(text, &[b"struct ", name, b" {\n"])?;
@@ -229,7 +240,11 @@ pub fn add_type(alloc: Global, text: &mut Vec<u8>, named: &NamedBody) -> Result<
 }
 
 /// Adds the piece of a `typedef`.
-pub fn add_typedef(alloc: Global, text: &mut Vec<u8>, declaration: &Declaration) -> Result<(), NoMemory>
+pub fn add_typedef(
+    alloc: Global,
+    text: &mut Vec<u8>,
+    declaration: &Declaration,
+) -> Result<(), NoMemory>
     ensures { OnOk result (text.new.items ≡ text.old.items ++ typedef_header (view_declaration declaration.now)) }
 {
     if is_void(declaration) {

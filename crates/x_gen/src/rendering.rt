@@ -51,7 +51,11 @@ fn add_routines(alloc: Global, text: &mut Vec<u8>, types: &[NamedBody]) -> Resul
 }
 
 /// Adds what stands in the header behind the types of a definition.
-fn add_own_header(alloc: Global, text: &mut Vec<u8>, definition: &Definition) -> Result<(), NoMemory>
+fn add_own_header(
+    alloc: Global,
+    text: &mut Vec<u8>,
+    definition: &Definition,
+) -> Result<(), NoMemory>
     ensures { OnOk result (text.new.items ≡ text.old.items ++ own_header (view_definition definition.now)) }
 {
     match definition {
@@ -71,7 +75,11 @@ fn add_own_header(alloc: Global, text: &mut Vec<u8>, definition: &Definition) ->
 }
 
 /// Adds what stands in the routines behind those of the types of a definition.
-fn add_own_routines(alloc: Global, text: &mut Vec<u8>, definition: &Definition) -> Result<(), NoMemory>
+fn add_own_routines(
+    alloc: Global,
+    text: &mut Vec<u8>,
+    definition: &Definition,
+) -> Result<(), NoMemory>
     ensures { OnOk result (text.new.items ≡ text.old.items ++ own_routines (view_definition definition.now)) }
 {
     match definition {
@@ -96,7 +104,9 @@ fn add_tables(alloc: Global, text: &mut Vec<u8>, definition: &Definition) -> Res
     ensures { OnOk result (text.new.items ≡ text.old.items ++ table_of (view_definition definition.now)) }
 {
     match definition {
-        Definition::Program { name, versions, .. } => table::add_program(alloc, text, name, versions),
+        Definition::Program { name, versions, .. } => table::add_program(
+            alloc, text, name, versions,
+        ),
         _ => Ok(()),
     }
 }
@@ -118,7 +128,11 @@ impl Renderer {
     }
 
     /// What is generated of a definition, which checking found without a fault.
-    pub fn render(&mut self, definition: &Definition, _checked: &Checked) -> Result<Pieces, NoMemory>
+    pub fn render(
+        &mut self,
+        definition: &Definition,
+        _checked: &Checked,
+    ) -> Result<Pieces, NoMemory>
         ensures { IfOk result (λ pieces. pieces ≡ pieces_of (view_definition definition.now)) }
     {
         let alloc = self.alloc;

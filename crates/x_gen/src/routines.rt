@@ -24,7 +24,16 @@ use x_text::NoMemory;
 fn add_front(text: &mut Vec<u8>, name: &[u8]) -> Result<(), NoMemory>
     ensures { OnOk result (text.new.items ≡ text.old.items ++ routine_front name.now) }
 {
-    add(text, &[b"bool_t\nxdr_", name, b"(XDR *xdrs, ", name, b" *objp)\n{\n"])
+    add(
+        text,
+        &[
+            b"bool_t\nxdr_",
+            name,
+            b"(XDR *xdrs, ",
+            name,
+            b" *objp)\n{\n",
+        ],
+    )
 }
 
 /// Adds what a routine ends with where all was read or written.
@@ -91,7 +100,14 @@ fn add_arm(
     ensures { OnOk result (text.new.items ≡ text.old.items
         ++ arm_calls name.now (view_declaration declaration.now)) }
 {
-    add_checked_call(alloc, text, b"        ", name, Place::InUnion(name), declaration)?;
+    add_checked_call(
+        alloc,
+        text,
+        b"        ",
+        name,
+        Place::InUnion(name),
+        declaration,
+    )?;
     text.extend_from_slice(b"        break;\n")?;
     Ok(())
 }
@@ -153,12 +169,20 @@ fn add_struct(
 }
 
 /// Adds what the routine of a union does.
-fn add_union(alloc: Global, text: &mut Vec<u8>, name: &[u8], body: &UnionBody) -> Result<(), NoMemory>
+fn add_union(
+    alloc: Global,
+    text: &mut Vec<u8>,
+    name: &[u8],
+    body: &UnionBody,
+) -> Result<(), NoMemory>
     ensures { OnOk result (text.new.items ≡ text.old.items ++ body_calls name.now (view_union body.now)) }
 {
     let discriminant = &body.discriminant;
     add_checked_call(alloc, text, b"    ", name, Place::InStruct, discriminant)?;
-    add(text, &[b"    switch (objp->", name_of(discriminant), b") {\n"])?;
+    add(
+        text,
+        &[b"    switch (objp->", name_of(discriminant), b") {\n"],
+    )?;
     add_arms(alloc, text, name, &body.arms)?;
     add_default(alloc, text, name, &body.default)?;
     text.extend_from_slice(b"    }\n")?;
@@ -186,7 +210,11 @@ pub fn add_type(alloc: Global, text: &mut Vec<u8>, named: &NamedBody) -> Result<
 }
 
 /// Adds the routine of a `typedef`.
-pub fn add_typedef(alloc: Global, text: &mut Vec<u8>, declaration: &Declaration) -> Result<(), NoMemory>
+pub fn add_typedef(
+    alloc: Global,
+    text: &mut Vec<u8>,
+    declaration: &Declaration,
+) -> Result<(), NoMemory>
     ensures { OnOk result (text.new.items ≡ text.old.items
         ++ typedef_routine (view_declaration declaration.now)) }
 {

@@ -33,7 +33,12 @@ fn kept_place(passed: &Option<Argument>) -> &'static [u8]
 }
 
 /// Adds the head of a stub.
-fn add_head(text: &mut Vec<u8>, function: &[u8], argument: CType, passed: CType) -> Result<(), NoMemory>
+fn add_head(
+    text: &mut Vec<u8>,
+    function: &[u8],
+    argument: CType,
+    passed: CType,
+) -> Result<(), NoMemory>
     ensures { OnOk result (text.new.items ≡ text.old.items
         ++ stub_head function.now (view_c argument.entry) (view_c passed.entry)) }
 {

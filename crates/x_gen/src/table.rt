@@ -8,7 +8,9 @@ ghost use Rattle.x_gen.specs.Views.{view_c};
 
 use crate::add::add;
 use crate::c_types::{CType, argument_type, own, passed_type};
-use crate::procedures::{Call, ProcedurePiece, add_decimal, add_lower, add_procedures, argument_in};
+use crate::procedures::{
+    Call, ProcedurePiece, add_decimal, add_lower, add_procedures, argument_in,
+};
 use std::alloc::Global;
 use x_item::{Argument, Procedure, Version};
 use x_text::NoMemory;
@@ -34,7 +36,11 @@ fn add_size(text: &mut Vec<u8>, passed: &Option<Argument>) -> Result<(), NoMemor
 }
 
 /// Adds how large the argument of a function is.
-fn add_argument_size(text: &mut Vec<u8>, group: &[u8], procedure: &Procedure) -> Result<(), NoMemory>
+fn add_argument_size(
+    text: &mut Vec<u8>,
+    group: &[u8],
+    procedure: &Procedure,
+) -> Result<(), NoMemory>
     ensures { OnOk result (text.new.items ≡ text.old.items
         ++ argument_size group.now (view_procedure procedure.now)) }
 {
@@ -65,7 +71,16 @@ impl ProcedurePiece for Row {
         let passed = passed_type(&procedure.result).routine;
         text.extend_from_slice(b"    { ")?;
         add_decimal(text, &procedure.number)?;
-        add(text, &[b", (char *(*)())", &call.function, b"_svc, (xdrproc_t)xdr_", argument, b", "])?;
+        add(
+            text,
+            &[
+                b", (char *(*)())",
+                &call.function,
+                b"_svc, (xdrproc_t)xdr_",
+                argument,
+                b", ",
+            ],
+        )?;
         add_argument_size(text, &call.group, procedure)?;
         add(text, &[b", (xdrproc_t)xdr_", passed, b", "])?;
         add_size(text, &procedure.result)?;

@@ -22,7 +22,10 @@ pub struct NamedBody<'d> {
 }
 
 /// The types that a definition writes, each behind those that stand inside it.
-pub fn types_of<'d>(alloc: Global, definition: &'d Definition) -> Result<Vec<NamedBody<'d>>, NoMemory>
+pub fn types_of<'d>(
+    alloc: Global,
+    definition: &'d Definition,
+) -> Result<Vec<NamedBody<'d>>, NoMemory>
     ensures { IfOk result (λ types. view_types types.items ≡ types_of (view_definition definition.now)) }
 {
     let mut types = Vec::new(alloc);

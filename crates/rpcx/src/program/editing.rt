@@ -3,15 +3,16 @@
 ghost use Rattle.std.specs.Prelude.{◌≡◌, ◌≢◌, ◌⊎◌, ◌<◌, MatchOption, length};
 ghost use Rattle.x_text.specs.declared.source.TheConstants.{MAX_TEXT};
 ghost use Rattle.rpcx.specs.Generate.{base_of, stop_told, IsTold, NotRun, Stops};
-ghost use Rattle.rpcx.specs.Script.{Answers, EndsEarly, IsUntouched, WorksOn};
+ghost use Rattle.x_session.specs.Script.{WorksOn};
+ghost use Rattle.rpcx.specs.Editing.{Answers, EndsEarly, IsUntouched};
 
 use crate::program::base::base_of_file;
 use crate::program::complaint::{complain, tell_unopened};
 use crate::program::editing_args::EditArgs;
 use crate::program::status::Status;
-use crate::{EngineFault, Outcome, Session, run_script};
 use std::alloc::Global;
 use std::mem;
+use x_session::{EngineFault, Outcome, Session, run_script};
 use x_text::{Sink, Tap};
 
 /// Opens the text of a file, carries out the script of the input, and answers the status: `Done` where each line was

@@ -5,17 +5,16 @@ ghost use Rattle.std.specs.Io.KnownBytes.{Appends};
 ghost use Rattle.x_text.specs.Writing.{Adds};
 ghost use Rattle.x_text.specs.declared.source.TheConstants.{MAX_TEXT};
 ghost use Rattle.rpcx.specs.Generate.{base_of, told_fault, told_faults, Grows, IsTold, NotOpened};
-ghost use Rattle.rpcx.specs.Session.{Compiles};
-ghost use Rattle.rpcx.specs.Compile.{definitions_of, faults_of};
-ghost use Rattle.rpcx.specs.Definitions.{are_constants};
-ghost use Rattle.rpcx.specs.Header.{text_of};
+ghost use Rattle.x_session.specs.Session.{Compiles};
+ghost use Rattle.x_session.specs.Compile.{definitions_of, faults_of};
+ghost use Rattle.x_session.specs.Definitions.{are_constants};
+ghost use Rattle.x_session.specs.Header.{text_of};
 
 use crate::program::base::base_of_file;
 use crate::program::complaint::{complain, tell_of_file, tell_unopened};
 use crate::program::status::Status;
-use crate::script::add_place;
-use crate::{Fault, Session, Which};
 use std::alloc::Global;
+use x_session::{Fault, Session, Which, add_place};
 use x_text::{Pen, Sink};
 
 /// Opens the text of a file for a run, or tells what is wrong with it and answers the status: `Faulty` where the text has faults,

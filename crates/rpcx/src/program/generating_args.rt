@@ -5,12 +5,12 @@ ghost use Rattle.clap.specs.Words.{FailsBy, app_of, fault_of, found_of, matches_
 ghost use Rattle.rpcx.specs.Generate.{IsTold};
 ghost use Rattle.rpcx.specs.Args.{AlwaysHas, IsGenArgs, gen_app, is_in_words};
 
-use crate::Which;
 use crate::program::complaint::complain;
 use clap::parser::ValueSource;
 use clap::{Arg, ArgAction, ArgMatches, Command, Error};
 use std::alloc::{AllocError, Global};
 use std::convert::AsStr;
+use x_session::Which;
 use x_text::Sink;
 
 /// What a command line of `rpcgen` asks for.

@@ -1,6 +1,6 @@
-use Rattle.std.proofs.Common.{◌≡◌, ◌++◌, map, drop, sym, ap, ◌∙◌}
+use Rattle.std.proofs.Common.{map, sym, ap, ◌∙◌}
 use Rattle.std.proofs.lemmas.List.{drop_all}
-use Rattle.x_gen.specs.Parts.{behind, together}
+use Rattle.x_gen.specs.Parts.{behind}
 use Rattle.x_gen.proofs.PartLemmas.{behind_is}
 use Rattle.x_gen.proofs.add.add.Goals as goal
 

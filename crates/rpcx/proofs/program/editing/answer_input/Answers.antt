@@ -1,7 +1,8 @@
 use Rattle.std.proofs.Common.{ap, sym}
-use Rattle.rpcx.specs.Script.{is_refused, status_of}
+use Rattle.x_session.specs.Script.{is_refused}
+use Rattle.rpcx.specs.Editing.{status_of}
 use Rattle.rpcx.specs.declared.program.status.Status.TheVariants.{Done, Faulty}
-use Rattle.rpcx.proofs.Running.{answers_all, ends_early}
+use Rattle.rpcx.proofs.Editing.{answers_all, ends_early}
 use Rattle.rpcx.proofs.program.editing.answer_input.Goals as goal
 
 pub returns-in-Ok-Clean-clause-answers : goal.returns-in-Ok-Clean-clause-answers

@@ -1,8 +1,8 @@
 use Rattle.std.proofs.Common.{ℕ, List, subst, ◌∙◌}
 use Rattle.std.specs.Prelude.{MatchOption}
-use Rattle.rpcx.specs.Script.{Answers, EndsEarly}
+use Rattle.rpcx.specs.Editing.{Answers, EndsEarly}
 use Rattle.rpcx.specs.Generate.{base_of}
-use Rattle.rpcx.proofs.Running.{begun, not_begun}
+use Rattle.rpcx.proofs.Editing.{begun, not_begun}
 use Rattle.rpcx.proofs.Stopped.{not_run}
 use Rattle.rpcx.proofs.program.editing.edit_run.Goals as goal
 

@@ -1,11 +1,11 @@
 use Rattle.std.proofs.Common.{◌≡◌, ℕ, false, ◌<◌, ◌≤◌, List, [], ◌∷◌, length, ap, sym, subst, ◌∙◌, refl, arith}
-use Rattle.rpcx.specs.Session.{Compiles}
-use Rattle.rpcx.specs.Compile.{faults_of}
-use Rattle.rpcx.specs.declared.compile.fault.Fault.{Fault}
-use Rattle.rpcx.specs.Compile.{definitions_of}
-use Rattle.rpcx.specs.Definitions.{are_constants}
+use Rattle.x_session.specs.Session.{Compiles}
+use Rattle.x_session.specs.Compile.{faults_of}
+use Rattle.x_session.specs.declared.compile.fault.Fault.{Fault}
+use Rattle.x_session.specs.Compile.{definitions_of}
+use Rattle.x_session.specs.Definitions.{are_constants}
 use Rattle.rpcx.specs.Generate.{told_faults, IsTold, OtherDefinitions}
-use Rattle.rpcx.proofs.Compiled.{one_compilation}
+use Rattle.x_session.proofs.Compiled.{one_compilation}
 use Rattle.rpcx.proofs.Stopped.{not_opened}
 use Rattle.rpcx.proofs.program.generating.gen_open.Goals as goal
 

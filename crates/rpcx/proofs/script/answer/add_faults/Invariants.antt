@@ -1,9 +1,0 @@
-use Rattle.std.proofs.Common.{drop}
-use Rattle.rpcx.specs.Answers.{fault_line}
-use Rattle.rpcx.specs.declared.compile.fault.Fault.{Fault}
-use Rattle.rpcx.proofs.Listing.{HasListed}
-use Rattle.rpcx.proofs.script.answer.add_faults.Given as goal
-
-abbrev pub invariant-loop-fault : goal.invariant-loop-fault
-invariant-loop-fault g l = HasListed Fault fault_line l.fault-items (drop l.fault-index l.fault-items)
-    l.initial.pen (g.S.Sink.state l.initial.sink) l.pen (g.S.Sink.state l.sink)

@@ -1,6 +1,0 @@
-use Rattle.std.proofs.Common.{◌≡◌, drop}
-use Rattle.rpcx.proofs.EditLists.{HasTaken}
-use Rattle.rpcx.proofs.session.Session.apply_all.Given as goal
-
-abbrev pub invariant-loop-index : goal.invariant-loop-index
-invariant-loop-index l = HasTaken l.fn.self.text l.edits (drop l.index l.edits) l.self.text l.index × (l.self.base ≡ l.fn.self.base)

@@ -1,0 +1,16 @@
+use Rattle.std.proofs.Common.{◌≤◌, length}
+use Rattle.x_text.specs.declared.source.TheConstants.{MAX_TEXT}
+use Rattle.x_lex.specs.Places.{lexemes}
+use Rattle.x_session.proofs.ItemLemmas.{Parsing, HasCounted, steps_left}
+use Rattle.x_session.proofs.compile.parsing.parse_items.Given as goal
+
+abbrev pub invariant-loop-whole : goal.invariant-loop-whole
+invariant-loop-whole l = record {
+  parsed : Parsing l.whole (lexemes l.fn.source l.fn.tokens.list) l.walk l.items.items;
+  short : length (lexemes l.fn.source l.fn.tokens.list) ≤ MAX_TEXT;
+  small : length l.walk ≤ MAX_TEXT;
+  counted : HasCounted l.fn.meter l.meter (length l.items.items);
+}
+
+abbrev pub decreases-loop-whole : goal.decreases-loop-whole
+decreases-loop-whole l = steps_left l.whole l.walk

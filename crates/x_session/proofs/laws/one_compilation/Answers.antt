@@ -1,0 +1,5 @@
+use Rattle.x_session.proofs.Compiled.{one_compilation}
+use Rattle.x_session.proofs.laws.one_compilation.Goals as goal
+
+pub returns : goal.returns
+returns c = one_compilation

@@ -1,0 +1,32 @@
+use Rattle.std.proofs.Common.{◌+◌, [], drop, get_or, ap, subst, ◌∙◌}
+use Rattle.x_text.specs.declared.edit.Edit.{Edit}
+use Rattle.x_text.specs.Edits.{change_of}
+use Rattle.x_session.proofs.EditLists.{HasTaken, taken_more, stops_at, refuses_by}
+use Rattle.x_sema.proofs.ListLemmas.{drop_one}
+use Rattle.x_session.proofs.session.Session.apply_all.Goals as goal
+
+-- what stands where there is no edit
+abbrev none : Edit
+none = record { start = 0; end = 0; insert = record { ref_ptr = (0, 0); now = [] } }
+
+pub loop-index-preserved : goal.loop-index-preserved
+loop-index-preserved c =
+    let text = c.args.self.now.text in
+    let edits = c.args.edits.now in
+    let index = c.loop-index.index in
+    let now = c.loop-index.self.text in
+    let taken = subst (λ es. HasTaken text edits es now index) (drop_one edits index none c.loop-index-test.true) c.loop-index.invariant.0 in (
+      taken_more text edits (drop (index + 1) edits) (get_or edits index none) now c.apply.new.self.text index taken c.in-Ok.ensures.fault.fits c.in-Ok.ensures.text,
+      c.in-Ok.ensures.base ∙ c.loop-index.invariant.1,
+    )
+
+pub returns-in-Err-clause-stops : goal.returns-in-Err-clause-stops
+returns-in-Err-clause-stops c =
+    let text = c.args.self.now.text in
+    let edits = c.args.edits.now in
+    let index = c.loop-index.index in
+    let now = c.loop-index.self.text in
+    let edit = get_or edits index none in
+    let taken = subst (λ es. HasTaken text edits es now index) (drop_one edits index none c.loop-index-test.true) c.loop-index.invariant.0 in
+    stops_at text edits (drop (index + 1) edits) edit now c.apply.new.self.text index c.in-Err.fault taken (ap (λ s. s.text) c.in-Err.ensures.same)
+    (refuses_by (change_of now edit) c.in-Err.fault c.in-Err.ensures.fault)

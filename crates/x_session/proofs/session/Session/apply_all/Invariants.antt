@@ -1,0 +1,6 @@
+use Rattle.std.proofs.Common.{◌≡◌, drop}
+use Rattle.x_session.proofs.EditLists.{HasTaken}
+use Rattle.x_session.proofs.session.Session.apply_all.Given as goal
+
+abbrev pub invariant-loop-index : goal.invariant-loop-index
+invariant-loop-index l = HasTaken l.fn.self.text l.edits (drop l.index l.edits) l.self.text l.index × (l.self.base ≡ l.fn.self.base)

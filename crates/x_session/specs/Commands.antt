@@ -1,0 +1,53 @@
+-- What a line of a script asks for.
+use Rattle.std.specs.Prelude.{ℕ, ◌+◌, ◌*◌, ◌%◌, Bool, ◌&&◌, ◌==◌, nat_lt, nat_le, if◌then◌else◌, List, [], ◌∷◌, length, codes, bytes_eq}
+use Rattle.std.specs.List.{list_all, slice_split}
+use Rattle.std.specs.Char.{is_ascii_digit, is_ascii_hexdigit, digit_value}
+use Rattle.std.specs.Str.Parse.{digits_value}
+use Rattle.x_session.specs.declared.script.command.Command.{Command}
+use Rattle.x_session.specs.declared.script.command.Command.TheVariants.{Edit, Tokens, Definitions, Faults, Header, Bad}
+
+-- the words of a line; each space parts two, so that one of them may be empty
+abbrev pub words_of : List ℕ → List (List ℕ)
+words_of line = slice_split (λ b. b == 32) line
+
+-- 1 to 9 decimal digits
+abbrev pub is_number : List ℕ → Bool
+is_number word = nat_lt 0 (length word) && nat_le (length word) 9 && list_all is_ascii_digit word
+
+-- one or more pairs of hexadecimal digits
+abbrev pub is_hex : List ℕ → Bool
+is_hex word = nat_lt 0 (length word) && length word % 2 == 0 && list_all is_ascii_hexdigit word
+
+-- the bytes that pairs of hexadecimal digits write
+abbrev pub bytes_of : List ℕ → List ℕ
+bytes_of (high ∷ low ∷ rest) = (16 * digit_value high + digit_value low) ∷ bytes_of rest
+bytes_of _ = []
+
+-- an edit from one number to another
+abbrev pub edit_of : List ℕ → List ℕ → List ℕ → Command
+edit_of start end insert = if is_number start && is_number end then Edit (digits_value 10 start) (digits_value 10 end) insert else Bad
+
+-- a line that is one word
+abbrev pub one_word : List ℕ → Command
+one_word name =
+    if bytes_eq name (codes "tokens") then Tokens
+    else if bytes_eq name (codes "definitions") then Definitions
+    else if bytes_eq name (codes "faults") then Faults
+    else if bytes_eq name (codes "header") then Header
+    else Bad
+
+-- what the words behind `edit` ask for
+abbrev pub edit_by : List (List ℕ) → Command
+edit_by (start ∷ end ∷ []) = edit_of start end []
+edit_by (start ∷ end ∷ hex ∷ []) = if is_hex hex then edit_of start end (bytes_of hex) else Bad
+edit_by _ = Bad
+
+-- what the words of a line ask for
+abbrev pub asked_by : List (List ℕ) → Command
+asked_by [] = Bad
+asked_by (name ∷ []) = one_word name
+asked_by (name ∷ words) = if bytes_eq name (codes "edit") then edit_by words else Bad
+
+-- what a line asks for
+abbrev pub command_of : List ℕ → Command
+command_of line = asked_by (words_of line)

@@ -1,0 +1,13 @@
+pub mod Answers
+pub mod Checking
+pub mod Commands
+pub mod Compile
+pub mod Definitions
+pub mod Faults
+pub mod Header
+pub mod ItemView
+pub mod Lines
+pub mod Script
+pub mod Seats
+pub mod Session
+pub mod SessionState

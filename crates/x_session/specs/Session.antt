@@ -1,0 +1,46 @@
+-- What a session is a view of: the text, and the base of the names in what is generated of it.
+use Rattle.std.specs.Prelude.{◌≡◌, ℕ, List, [], ◌∷◌, ◌++◌, length}
+use Rattle.x_text.specs.Edits.{change_of, edited_by, Fits, Refuses}
+use Rattle.x_text.specs.declared.edit.Edit.{Edit}
+use Rattle.x_text.specs.declared.fault.TextFault.{TextFault}
+use Rattle.x_lex.specs.declared.kind.Kind.{Kind}
+use Rattle.x_session.specs.Compile.{Item, IsCompilation}
+
+pub record Document : Type 0 where
+  pub base : List ℕ
+  pub text : List ℕ
+
+-- the session has this text now, and the base that it had
+pub record LeavesText (old new : Document) (text : List ℕ) : Type 0 where
+  pub text_is : new.text ≡ text
+  pub base_is : new.base ≡ old.base
+
+-- the session is one of this base and this text
+pub record IsOpenOf (session : Document) (base text : List ℕ) : Type 0 where
+  pub base_is : session.base ≡ base
+  pub text_is : session.text ≡ text
+
+-- this holds of what compiling the text from scratch gives
+abbrev pub Compiles : List ℕ → (List Item → Type 0) → Type 0
+Compiles text P = (tokens : List (Kind × ℕ)) × (items : List Item) × IsCompilation text tokens items × P items
+
+-- the text after all edits, one after another
+abbrev pub edited_by_all : List ℕ → List Edit → List ℕ
+edited_by_all text [] = text
+edited_by_all text (e ∷ es) = edited_by_all (edited_by (change_of text e)) es
+
+-- the text takes each of the edits in its turn
+abbrev pub TakesAll : List ℕ → List Edit → Type 0
+TakesAll text [] = Unit {0}
+TakesAll text (e ∷ es) = Fits (change_of text e) × TakesAll (edited_by (change_of text e)) es
+
+-- The text takes the edits before the one at the index, which leave this text, and refuses that one.
+pub record StopsAt (text : List ℕ) (edits : List Edit) (left : List ℕ) (index : ℕ) (fault : TextFault) : Type 0 where
+  pub before : List Edit
+  pub edit : Edit
+  pub behind : List Edit
+  pub edits_are : edits ≡ before ++ edit ∷ behind
+  pub index_is : index ≡ length before
+  pub takes : TakesAll text before
+  pub left_is : left ≡ edited_by_all text before
+  pub refuses : Refuses (change_of left edit) fault

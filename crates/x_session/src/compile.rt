@@ -1,0 +1,49 @@
+//! Compiling a text from scratch.
+
+ghost use Rattle.std.specs.Prelude.{IfOk};
+ghost use Rattle.x_session.specs.SessionState.{IsCompiled};
+
+mod checking;
+mod fault;
+mod header;
+mod item;
+mod output;
+mod parsing;
+mod placing;
+mod results;
+
+use checking::{check_items, names_of};
+pub use fault::{Fault, FaultCode};
+pub(crate) use header::{EPILOGUE, prologue};
+pub(crate) use item::{Item, is_constant};
+use output::{Output, output_of};
+use parsing::parse_items;
+use std::alloc::Global;
+use x_lex::{Tokens, lex};
+use x_text::{Meter, NoMemory, Source};
+
+/// What is kept of compiling a text.
+#[derive(Drop)]
+pub struct Compilation {
+    pub tokens: Tokens,
+    pub items: Vec<Item>,
+    pub output: Output,
+}
+
+/// Compiles a text from scratch. What checking the items found is kept no longer than it takes: faults and generated texts say it all.
+pub fn compile(alloc: Global, source: &Source, meter: &mut Meter) -> Result<Compilation, NoMemory>
+    ensures { IfOk result
+        (λ c. IsCompiled source.now c.tokens.list c.items.items c.output.faults.items c.output.body.items) }
+{
+    let tokens = lex(alloc, source, meter)?;
+    let items = parse_items(alloc, &tokens, source, meter)?;
+    let names = names_of(alloc, &items)?;
+    let results = check_items(alloc, &items, &names, meter)?;
+    drop(names);
+    let output = output_of(alloc, &tokens, source, &items, &results)?;
+    Ok(Compilation {
+        tokens,
+        items,
+        output,
+    })
+}

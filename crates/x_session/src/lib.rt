@@ -1,0 +1,16 @@
+//! A `.x` text that stays open: all that compiling it gives, its edits, and scripts of edits and questions.
+#![tactic(auto)]
+
+mod compile;
+mod laws;
+mod script;
+mod session;
+
+pub use compile::{Fault, FaultCode};
+pub use laws::one_compilation;
+pub use script::{
+    Command, EngineFault, Found, Insert, LONGEST, LineFault, LineReader, Outcome, add_place,
+    parse_command, run_script,
+};
+pub use session::{Session, Which, Work};
+pub use x_sema::RuleCode;

@@ -1,0 +1,221 @@
+//! Scripts of edits and questions.
+
+ghost use Rattle.std.specs.Prelude.{◌≡◌, ◌≤◌, ◌||◌, ℕ, List, length, IfOk, IfErr, OnErr, MatchOption, IsTrue};
+ghost use Rattle.x_text.specs.Edits.{change_of};
+ghost use Rattle.x_text.specs.Writing.{Adds};
+ghost use Rattle.x_session.specs.Session.{Compiles};
+ghost use Rattle.x_session.specs.Answers.{answer, edit_answer, line_answer};
+ghost use Rattle.x_session.specs.declared.script.lines.TheConstants.{LONGEST};
+ghost use Rattle.x_session.specs.Script.{AddsIfFound, IsGiven, HasGiven, GoesOn, NamesCause, Runs, is_refused};
+ghost use Rattle.x_session.specs.Lines.{FailsBy};
+
+mod answer;
+mod byte_queue;
+mod command;
+mod lines;
+
+use crate::{Session, Which};
+pub use answer::add_place;
+use answer::{add_counted, add_definitions, add_faults, add_text, add_tokens};
+pub use command::{Command, Insert, parse_command};
+pub use lines::{Found, LONGEST, LineFault, LineReader};
+use std::alloc::Global;
+use thiserror::Error;
+use x_text::{Edit, NoMemory, Pen, Sink, Tap, TextFault};
+
+/// How a script ended.
+#[derive(Clone, Copy, Debug, PartialEq, Eq)]
+pub enum Outcome {
+    /// Each line was carried out.
+    Clean,
+    /// A line was refused.
+    Refused,
+}
+
+impl Outcome {
+    /// The outcome with one line more.
+    fn with(self, refused: bool) -> Outcome
+        ensures { is_refused result ≡ (is_refused self || refused) }
+    {
+        if refused { Outcome::Refused } else { self }
+    }
+}
+
+/// Why a script stopped, and how many bytes of its answers were written.
+#[derive(Clone, Copy, Debug, PartialEq, Eq, Error)]
+pub enum EngineFault {
+    /// The script could not be read on.
+    #[error("a read failed, with {written} bytes written")]
+    Read { written: u64 },
+    /// An answer could not be written.
+    #[error("a write failed after {written} bytes")]
+    Write { written: u64 },
+    /// Memory ran out.
+    #[error("out of memory, with {written} bytes written")]
+    NoMemory { written: u64 },
+}
+
+/// Carries out the script that a tap gives, line by line, and writes the answer to each line before it carries out the next.
+///
+/// # Errors
+/// The tap or the sink failed, or memory ran out: the lines before are answered and carried out. Where the sink failed, the line
+/// whose answer was not written whole is carried out too.
+pub fn run_script<R: Tap, S: Sink>(
+    alloc: Global,
+    session: &mut Session,
+    tap: &mut R,
+    sink: &mut S,
+) -> Result<Outcome, EngineFault>
+    ensures runs { MatchOption (R.state tap.old).bytes (Unit {0})
+        (λ script. Runs script (R.state tap.new).bytes session.old session.new (S.state sink.old)
+        (S.state sink.new) result) }
+    ensures cause { NamesCause result (R.state tap.old).failed (R.state tap.new).failed
+        (S.state sink.old).failed (S.state sink.new).failed }
+{
+    let mut reader = LineReader::new(alloc);
+    let mut pen = Pen::new();
+    let mut outcome = Outcome::Clean;
+    for _ in 0..u64::MAX {
+        match next_answer(alloc, session, &mut reader, tap, &mut pen, sink) {
+            Ok(None) => return Ok(outcome),
+            Ok(Some(refused)) => outcome = outcome.with(refused),
+            Err(LineFault::Read) => {
+                return Err(EngineFault::Read {
+                    written: pen.written(),
+                });
+            }
+            Err(LineFault::NoMemory) => {
+                return Err(EngineFault::NoMemory {
+                    written: pen.written(),
+                });
+            }
+        }
+        pen.flush(sink);
+        if pen.has_stopped() {
+            return Err(EngineFault::Write {
+                written: pen.written(),
+            });
+        }
+    }
+    // No tap comes to so many lines.
+    Err(EngineFault::NoMemory {
+        written: pen.written(),
+    })
+}
+
+/// Finds the next line and answers it. It answers whether that was refused, or `None` at the end of the script.
+fn next_answer<R: Tap, S: Sink>(
+    alloc: Global,
+    session: &mut Session,
+    reader: &mut LineReader,
+    tap: &mut R,
+    pen: &mut Pen,
+    sink: &mut S,
+) -> Result<Option<bool>, LineFault>
+    ensures given { (script : List ℕ) (given : List (List ℕ))
+        → HasGiven script reader.old (R.state tap.old).bytes given →
+        GoesOn session.old session.new script reader.new (R.state tap.new).bytes given result
+        pen.old (S.state sink.old) pen.new (S.state sink.new) }
+    ensures adds { AddsIfFound result sink.old sink.new
+        ((told : List ℕ) × Adds pen.old (S.state sink.old) pen.new (S.state sink.new) told) }
+    ensures failed { FailsBy result (R.state tap.old).failed (R.state tap.new).failed }
+{
+    // So that the contract of `item_count` says that the text has items, of which a line that is too long asks nothing.
+    let _items = session.item_count();
+    let refused = match reader.next(tap)? {
+        Found::End => return Ok(None),
+        Found::TooLong => {
+            pen.add(b"refused 44 LongLine\n", sink);
+            true
+        }
+        Found::Line => match answer_line(alloc, session, reader.line(), pen, sink) {
+            Ok(refused) => refused,
+            Err(NoMemory) => return Err(LineFault::NoMemory),
+        },
+    };
+    Ok(Some(refused))
+}
+
+/// Carries out a command, adds its answer, and answers whether that refuses it. Without memory nothing is done.
+fn carry_out<S: Sink>(
+    session: &mut Session,
+    command: &Command,
+    pen: &mut Pen,
+    sink: &mut S,
+) -> Result<bool, NoMemory>
+    ensures given { IfOk result
+        (λ refused. Compiles session.old.text
+        (λ items. IsGiven (answer session.old.base session.old.text items command.now)
+        session.old session.new refused pen.old (S.state sink.old) pen.new (S.state sink.new))) }
+    ensures same { OnErr result ((session.new ≡ session.old) × (pen.new ≡ pen.old) × (sink.new ≡ sink.old)) }
+{
+    // So that the contract of `item_count` says that the text has items, of which an edit asks nothing.
+    let _items = session.item_count();
+    match command {
+        Command::Edit { start, end, insert } => {
+            let edit = Edit {
+                start: *start,
+                end: *end,
+                insert: insert.bytes(),
+            };
+            return carry_out_edit(session, &edit, pen, sink);
+        }
+        Command::Tokens => add_tokens(session, pen, sink),
+        Command::Definitions => add_definitions(session, pen, sink),
+        Command::Faults => add_faults(session, pen, sink),
+        Command::Header => add_text(Which::Header, session, pen, sink),
+        Command::Bad => {
+            pen.add(b"refused 43 BadLine\n", sink);
+            return Ok(true);
+        }
+    }
+    Ok(false)
+}
+
+/// Answers a line, and answers whether that refuses it. Without memory nothing is done.
+fn answer_line<S: Sink>(
+    alloc: Global,
+    session: &mut Session,
+    line: &[u8],
+    pen: &mut Pen,
+    sink: &mut S,
+) -> Result<bool, NoMemory>
+    requires { length line.now ≤ LONGEST }
+    ensures given { IfOk result
+        (λ refused. Compiles session.old.text
+        (λ items. IsGiven (line_answer session.old.base session.old.text items line.now)
+        session.old session.new refused pen.old (S.state sink.old) pen.new (S.state sink.new))) }
+    ensures same { OnErr result ((session.new ≡ session.old) × (pen.new ≡ pen.old) × (sink.new ≡ sink.old)) }
+{
+    let command = parse_command(alloc, line)?;
+    carry_out(session, &command, pen, sink)
+}
+
+/// Carries out an edit, adds its answer, and answers whether that refuses it.
+fn carry_out_edit<S: Sink>(
+    session: &mut Session,
+    edit: &Edit,
+    pen: &mut Pen,
+    sink: &mut S,
+) -> Result<bool, NoMemory>
+    ensures given { IfOk result
+        (λ refused. IsGiven (edit_answer (change_of session.old.text edit.now))
+        session.old session.new refused pen.old (S.state sink.old) pen.new (S.state sink.new)) }
+    ensures same { OnErr result ((session.new ≡ session.old) × (pen.new ≡ pen.old) × (sink.new ≡ sink.old)) }
+{
+    match session.apply(edit) {
+        Ok(_) => {
+            add_counted("ok", session.bytes().len(), pen, sink);
+            Ok(false)
+        }
+        Err(TextFault::BadRange) => {
+            pen.add(b"refused 1 BadRange\n", sink);
+            Ok(true)
+        }
+        Err(TextFault::TooLarge) => {
+            pen.add(b"refused 2 TooLarge\n", sink);
+            Ok(true)
+        }
+        Err(TextFault::NoMemory) => Err(NoMemory),
+    }
+}

@@ -1,0 +1,256 @@
+//! A text that stays open, with all that compiling it gives.
+
+ghost use Rattle.std.specs.Prelude.{◌≡◌, ◌↔◌, ◌<◌, ◌≤◌, ℕ, List, Option, length, map, option_map, option_and_then, slice_get, IfOk, OnOk, OnErr, IfErr, IsErrOf, IsTrue, Some, None};
+ghost use Rattle.x_text.specs.Counts.{raised};
+ghost use Rattle.x_text.specs.Edits.{change_of, edited_by, Judges};
+ghost use Rattle.x_text.specs.declared.source.TheConstants.{MAX_TEXT};
+ghost use Rattle.x_lex.specs.Places.{lexeme};
+ghost use Rattle.x_sema.specs.DeclarerTable.{tree_at};
+ghost use Rattle.x_session.specs.Session.{Document, Compiles, edited_by_all, TakesAll, StopsAt};
+ghost use Rattle.x_session.specs.Compile.{tokens_of, definitions_of, definition_at, faults_of};
+ghost use Rattle.x_session.specs.ItemView.{kept_definition};
+ghost use Rattle.x_session.specs.Definitions.{numbered, are_constants};
+
+mod which;
+mod work;
+
+use crate::compile::{Compilation, Fault, Item, compile, is_constant, prologue};
+use std::alloc::Global;
+use std::marker::Model;
+pub use which::Which;
+pub use work::Work;
+use x_item::Definition;
+use x_lex::{Token, Tokens, Walk};
+use x_text::{Edit, Meter, NoMemory, Source, TextFault};
+
+/// A text that stays open: its tokens, definitions and faults, and what is generated of it.
+#[derive(Drop)]
+pub struct Session {
+    alloc: Global,
+    base: Vec<u8>,
+    source: Source,
+    tokens: Tokens,
+    items: Vec<Item>,
+    faults: Vec<Fault>,
+    prologue: Vec<u8>,
+    body: Vec<u8>,
+}
+
+impl Model for Session {
+    ghost use Rattle.x_session.specs.Session.{Document};
+    ghost use Rattle.x_session.specs.SessionState.{IsUpToDate};
+
+    ghost Value = { Document };
+
+    ghost view = { λ s. record { base = s.base.items; text = s.source } };
+
+    ghost invariant = { λ s. IsUpToDate s.base.items s.source s.tokens.list s.items.items s.faults.items
+        s.prologue.items s.body.items };
+}
+
+impl Session {
+    /// Opens a text: [`TextFault::TooLarge`] or [`TextFault::NoMemory`]. `base` is the name that the generated texts use.
+    pub fn open(alloc: Global, base: &[u8], bytes: &[u8]) -> Result<Session, TextFault>
+        ensures base { IfOk result (λ s. s.base ≡ base.now) }
+        ensures text { IfOk result (λ s. s.text ≡ bytes.now) }
+        ensures too_large { IsErrOf result TextFault.TooLarge ↔ (MAX_TEXT < length bytes.now) }
+        ensures in_range { IsErrOf result TextFault.BadRange → ⊥ }
+    {
+        let source = Source::from_bytes(alloc, bytes)?;
+        match Session::compiled(alloc, base, source) {
+            Ok(session) => Ok(session),
+            Err(NoMemory) => Err(TextFault::NoMemory),
+        }
+    }
+
+    /// The session of a text.
+    fn compiled(alloc: Global, base: &[u8], source: Source) -> Result<Session, NoMemory>
+        ensures base { IfOk result (λ s. s.base ≡ base.now) }
+        ensures text { IfOk result (λ s. s.text ≡ source) }
+    {
+        let mut meter = Meter::new();
+        let base = Vec::from_slice(alloc, base)?;
+        let prologue = prologue(alloc, &base)?;
+        let Compilation {
+            tokens,
+            items,
+            output,
+        } = compile(alloc, &source, &mut meter)?;
+        Ok(Session {
+            alloc,
+            base,
+            source,
+            tokens,
+            items,
+            faults: output.faults,
+            prologue,
+            body: output.body,
+        })
+    }
+
+    /// Carries an edit out, with the faults of [`Source::replace`], and answers what work it took. After a fault all is as before.
+    pub fn apply(&mut self, edit: &Edit) -> Result<Work, TextFault>
+        ensures text { OnOk result (self.new.text ≡ edited_by (change_of self.old.text edit.now)) }
+        ensures base { self.new.base ≡ self.old.base }
+        ensures fault { Judges (change_of self.old.text edit.now) result }
+        ensures same { OnErr result (self.new ≡ self.old) }
+    {
+        let source = self.source.edited(self.alloc, edit)?;
+        let mut meter = Meter::new();
+        let Compilation {
+            tokens,
+            items,
+            output,
+        } = match compile(self.alloc, &source, &mut meter) {
+            Ok(compiled) => compiled,
+            Err(NoMemory) => return Err(TextFault::NoMemory),
+        };
+        self.source = source;
+        self.tokens = tokens;
+        self.items = items;
+        self.faults = output.faults;
+        self.body = output.body;
+        Ok(Work::of(&meter))
+    }
+
+    /// Carries the edits out in order, and answers what work they took. At the first that is refused it stops and answers its index,
+    /// from 0, and the fault: the edits before it are done.
+    pub fn apply_all(&mut self, edits: &[Edit]) -> Result<Work, (usize, TextFault)>
+        ensures text { OnOk result (self.new.text ≡ edited_by_all self.old.text edits.now) }
+        ensures takes { OnOk result (TakesAll self.old.text edits.now) }
+        ensures stops { IfErr result
+            (λ fault. StopsAt self.old.text edits.now self.new.text fault.0 fault.1) }
+        ensures base { self.new.base ≡ self.old.base }
+    {
+        let mut total = Work::default();
+        for (index, edit) in edits.iter().enumerate() {
+            match self.apply(edit) {
+                Ok(work) => total = total.with(&work),
+                Err(fault) => return Err((index, fault)),
+            }
+        }
+        Ok(total)
+    }
+
+    /// The bytes of the text.
+    pub fn bytes(&self) -> &[u8]
+        ensures { result.now ≡ self.now.text }
+    {
+        self.source.bytes()
+    }
+
+    /// How many tokens the text has.
+    pub fn token_count(&self) -> usize
+        ensures { Compiles self.now.text (λ items. result ≡ length (tokens_of items)) }
+    {
+        self.tokens.len()
+    }
+
+    /// The token at an index.
+    pub fn token(&self, index: usize) -> Option<Token<'_>>
+        ensures { Compiles self.now.text
+            (λ items. option_map lexeme result ≡ slice_get (tokens_of items) index) }
+    {
+        self.tokens.token(index, &self.source)
+    }
+
+    /// The tokens of the text, one after another.
+    pub fn tokens(&self) -> Walk<'_>
+        ensures { Compiles self.now.text (λ items. result ≡ tokens_of items) }
+    {
+        self.tokens.iter(&self.source)
+    }
+
+    /// How many items the text has: one more than end with their own `;`.
+    pub fn item_count(&self) -> usize
+        ensures { Compiles self.now.text (λ items. result ≡ length items) }
+    {
+        self.items.len()
+    }
+
+    /// The definition of the item at an index, if it has one.
+    pub fn definition(&self, index: usize) -> Option<&Definition>
+        ensures { Compiles self.now.text (λ items. tree_at result ≡ definition_at items index) }
+    {
+        definition_in(&self.items, index)
+    }
+
+    /// How many items have a definition.
+    pub(crate) fn definition_count(&self) -> usize
+        ensures { Compiles self.now.text (λ items. result ≡ length (numbered 0 (definitions_of items))) }
+    {
+        count_definitions(&self.items)
+    }
+
+    /// Whether each definition is that of a constant.
+    pub fn has_constants_alone(&self) -> bool
+        ensures { Compiles self.now.text (λ items. result ≡ are_constants (definitions_of items)) }
+    {
+        are_constants(&self.items)
+    }
+
+    /// How many faults the text has.
+    pub fn fault_count(&self) -> usize
+        ensures { Compiles self.now.text (λ items. result ≡ length (faults_of self.now.text items)) }
+    {
+        self.faults.len()
+    }
+
+    /// The fault at an index: faults stand in order of item, then of place, then of code.
+    pub fn fault(&self, index: usize) -> Option<Fault>
+        ensures { Compiles self.now.text (λ items. result ≡ slice_get (faults_of self.now.text items) index) }
+    {
+        fault_in(&self.faults, index)
+    }
+
+    /// The faults of the text, in the order of [`Session::fault`].
+    pub fn faults(&self) -> &[Fault]
+        ensures { Compiles self.now.text (λ items. result.now ≡ faults_of self.now.text items) }
+    {
+        &self.faults
+    }
+}
+
+/// How many of the items have a definition.
+fn count_definitions(items: &[Item]) -> usize
+    ensures { result ≡ length (numbered 0 (map kept_definition items.now)) }
+{
+    let mut count = 0;
+    for item in items {
+        if item.definition().is_some() {
+            count += 1;
+        }
+    }
+    count
+}
+
+/// Whether the definition of each item is that of a constant.
+fn are_constants(items: &[Item]) -> bool
+    ensures { result ≡ are_constants (map kept_definition items.now) }
+{
+    for item in items {
+        if let Some(definition) = item.definition()
+            && !is_constant(definition)
+        {
+            return false;
+        }
+    }
+    true
+}
+
+/// The definition of the item at an index, if it has one.
+fn definition_in(items: &[Item], index: usize) -> Option<&Definition>
+    ensures { tree_at result ≡ option_and_then kept_definition (slice_get items.now index) }
+{
+    match items.get(index) {
+        Some(item) => item.definition(),
+        None => None,
+    }
+}
+
+/// The fault at an index.
+fn fault_in(faults: &[Fault], index: usize) -> Option<Fault>
+    ensures { result ≡ slice_get faults.now index }
+{
+    faults.get(index).copied()
+}

@@ -1,0 +1,56 @@
+//! The texts that are generated of a session's text.
+
+ghost use Rattle.std.specs.Prelude.{◌≡◌, length};
+ghost use Rattle.x_text.specs.Writing.{Adds, IsWritten};
+ghost use Rattle.x_session.specs.Session.{Compiles};
+ghost use Rattle.x_session.specs.Header.{text_of};
+
+use crate::Session;
+use crate::compile::EPILOGUE;
+use x_text::{Pen, Sink, WriteFault};
+
+/// A text that is generated.
+#[derive(Clone, Copy, Debug, PartialEq, Eq)]
+pub enum Which {
+    /// The header, `BASE.h`.
+    Header,
+}
+
+impl Session {
+    /// Writes a generated text. After a fault the sink has exactly its first `written` bytes.
+    pub fn write_text<S: Sink>(&self, which: Which, sink: &mut S) -> Result<(), WriteFault>
+        ensures { Compiles self.now.text
+            (λ items. IsWritten result (S.state sink.old) (S.state sink.new)
+            (text_of which self.now.base items)) }
+    {
+        let mut pen = Pen::new();
+        self.add_text(which, &mut pen, sink);
+        pen.finish(sink)
+    }
+
+    /// Adds a generated text.
+    pub(crate) fn add_text<S: Sink>(&self, which: Which, pen: &mut Pen, sink: &mut S)
+        ensures { Compiles self.now.text
+            (λ items. Adds pen.old (S.state sink.old) pen.new (S.state sink.new)
+            (text_of which self.now.base items)) }
+    {
+        match which {
+            Which::Header => {
+                pen.add(&self.prologue, sink);
+                pen.add(&self.body, sink);
+                pen.add(EPILOGUE, sink);
+            }
+        }
+    }
+
+    /// How many bytes a generated text has.
+    pub(crate) fn text_length(&self, which: Which) -> u128
+        ensures { Compiles self.now.text (λ items. result ≡ length (text_of which self.now.base items)) }
+    {
+        match which {
+            Which::Header => {
+                self.prologue.len() as u128 + self.body.len() as u128 + EPILOGUE.len() as u128
+            }
+        }
+    }
+}

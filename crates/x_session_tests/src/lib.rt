@@ -1,0 +1,11 @@
+//! Tests of `x_session` by its public calls: what no contract says and no program shows.
+#![tactic(auto)]
+
+#[cfg(test)]
+mod lines;
+#[cfg(test)]
+mod scripts;
+#[cfg(test)]
+mod sessions;
+#[cfg(test)]
+mod texts;
