@@ -1,4 +1,4 @@
-//! `rpcgen`: writes the header of a `.x` file.
+//! `rpcgen`: writes one of the four texts that are generated of a `.x` file.
 #![tactic(auto)]
 
 use rpcx::{

@@ -4,7 +4,7 @@ pub mod CommandLemmas
 pub mod Compiled
 pub mod DefinitionLemmas
 pub mod EditLists
-pub mod Ends
+pub mod GeneratedLemmas
 pub mod ItemLemmas
 pub mod LineLemmas
 pub mod Listing
@@ -16,5 +16,4 @@ pub mod ReadingLemmas
 pub mod Running
 pub mod Scripts
 pub mod SearchLemmas
-pub mod TextLemmas
 pub mod WalkLemmas

@@ -1,13 +1,16 @@
 -- Items without faults and lines.
-use Rattle.std.proofs.Common.{◌≡◌, Bool, true, false, cond, List, [], ◌∷◌, ◌++◌, map, drop, refl, ap, sym, ◌∙◌, true≢false}
-use Rattle.std.specs.Prelude.{codes, ◌||◌}
+use Rattle.std.proofs.Common.{◌≡◌, Bool, true, false, cond, List, [], ◌∷◌, ◌++◌, map, take, drop, Option, refl, ap, sym, ◌∙◌, true≢false}
+use Rattle.std.specs.Prelude.{codes, option_map, ◌||◌}
 use Rattle.std.specs.List.{filter, flat_map}
 use Rattle.x_lex.specs.Places.{Lexeme}
 use Rattle.x_item.specs.Parse.{Parse, Nothing, Def, Fault}
 use Rattle.x_sema.specs.declared.fault.WordFault.{WordFault}
-use Rattle.x_session.specs.Compile.{at_token, faults_at, spells_none}
-use Rattle.x_session.specs.Header.{is_percent, lines_of, clean_piece}
-use Rattle.x_session.specs.ItemView.{has_lines}
+use Rattle.x_session.specs.Compile.{at_token, faults_at, rule_faults, spells_none}
+use Rattle.x_sema.specs.Results.{Outcome}
+use Rattle.x_gen.specs.Rendering.{pieces_of}
+use Rattle.x_session.specs.Generated.{faultless, is_percent, lines_of, part_of}
+use Rattle.x_session.specs.ItemView.{has_lines, item_with, view_parse}
+use Rattle.x_session.specs.declared.compile.item.Item.{Item}
 
 -- an item that has no fault by the rules, and spells something or nothing
 pub no_faults : (tokens : List Lexeme) (parse : Parse) (ruled : List WordFault) → spells_none parse ≡ false → ruled ≡ [] → faults_at tokens parse ruled ≡ []
@@ -27,7 +30,9 @@ no_lines (t ∷ tokens) none = by (is_percent t.kind) refl none (no_lines tokens
         ∙ later (sym (ap (λ x. x || has_lines tokens) is) ∙ h)
 
 -- what is generated of an item without faults and lines
-pub plain_text : (tokens : List Lexeme) (parse : Parse) (ruled : List WordFault) → has_lines tokens ≡ false → spells_none parse ≡ false → ruled ≡ []
-    → lines_of tokens ++ clean_piece (faults_at tokens parse ruled) parse ≡ clean_piece [] parse
-plain_text tokens parse ruled lines spells none =
-    ap (λ l. l ++ clean_piece (faults_at tokens parse ruled) parse) (no_lines tokens lines) ∙ ap (λ fs. clean_piece fs parse) (no_faults tokens parse ruled spells none)
+pub plain_part : (item : Item) (tokens : List Lexeme) (checked : Option Outcome) → has_lines (take item.tokens tokens) ≡ false → spells_none (view_parse item.parse) ≡ false → rule_faults checked ≡ []
+    → record { lines = []; pieces = option_map pieces_of (faultless [] (view_parse item.parse)) } ≡ part_of (item_with tokens item checked)
+plain_part item tokens checked lines spells none =
+    let first = no_lines (take item.tokens tokens) lines in
+    let second = no_faults (take item.tokens tokens) (view_parse item.parse) (rule_faults checked) spells none in
+    λ i. record { lines = sym first i; pieces = option_map pieces_of (faultless (sym second i) (view_parse item.parse)) }

@@ -11,12 +11,11 @@ use Rattle.x_session.specs.Faults.{fault_text}
 use Rattle.x_session.specs.declared.script.lines.TheConstants.{LONGEST}
 use Rattle.x_session.specs.declared.script.command.Command.{Command}
 use Rattle.x_session.specs.declared.script.command.Command.TheVariants as commands
-use Rattle.x_session.specs.declared.session.which.Which.TheVariants as texts
 use Rattle.x_session.specs.Commands.{command_of}
 use Rattle.x_session.specs.Compile.{Item, tokens_of, definitions_of, faults_of}
 use Rattle.x_session.specs.Definitions.{numbered}
 use Rattle.x_item.specs.Tree.{Body, Enum, Struct, Union, Declaration, Void, Of, Opaque, String, Definition, Const, Typedef, NewType, Program}
-use Rattle.x_session.specs.Header.{text_of}
+use Rattle.x_session.specs.Generated.{text_of}
 
 -- what a line is answered, whether that refuses it, and the text that it leaves
 pub record Answer : Type 0 where
@@ -113,7 +112,7 @@ answer base text items (commands.Edit start end insert) =
 answer base text items commands.Tokens = answered text (tokens_answer (tokens_of items))
 answer base text items commands.Definitions = answered text (definitions_answer (definitions_of items))
 answer base text items commands.Faults = answered text (faults_answer (faults_of text items))
-answer base text items commands.Header = answered text (text_answer (text_of texts.Header base items))
+answer base text items (commands.Text which) = answered text (text_answer (text_of which base items))
 answer base text items commands.Bad = refused text (codes "refused 43 BadLine\n")
 
 -- what a line is answered, over a text that has these items

@@ -4,7 +4,8 @@ use Rattle.std.specs.List.{list_all, slice_split}
 use Rattle.std.specs.Char.{is_ascii_digit, is_ascii_hexdigit, digit_value}
 use Rattle.std.specs.Str.Parse.{digits_value}
 use Rattle.x_session.specs.declared.script.command.Command.{Command}
-use Rattle.x_session.specs.declared.script.command.Command.TheVariants.{Edit, Tokens, Definitions, Faults, Header, Bad}
+use Rattle.x_session.specs.declared.script.command.Command.TheVariants.{Edit, Tokens, Definitions, Faults, Text, Bad}
+use Rattle.x_gen.specs.declared.which.Which.TheVariants.{Header, Routines, Stubs, Table}
 
 -- the words of a line; each space parts two, so that one of them may be empty
 abbrev pub words_of : List ℕ → List (List ℕ)
@@ -33,7 +34,10 @@ one_word name =
     if bytes_eq name (codes "tokens") then Tokens
     else if bytes_eq name (codes "definitions") then Definitions
     else if bytes_eq name (codes "faults") then Faults
-    else if bytes_eq name (codes "header") then Header
+    else if bytes_eq name (codes "header") then Text Header
+    else if bytes_eq name (codes "routines") then Text Routines
+    else if bytes_eq name (codes "stubs") then Text Stubs
+    else if bytes_eq name (codes "table") then Text Table
     else Bad
 
 -- what the words behind `edit` ask for

@@ -7,8 +7,10 @@ use Rattle.x_item.specs.Tree as tree
 use Rattle.x_item.specs.Parse.{IsParse}
 use Rattle.x_item.specs.Parse as parse
 use Rattle.x_item.specs.View.{view_definition}
+use Rattle.x_sema.specs.Results.{Outcome}
+use Rattle.x_session.specs.Compile as compile
 use Rattle.x_session.specs.Compile.{parsed_definition}
-use Rattle.x_session.specs.Header.{is_percent}
+use Rattle.x_session.specs.Generated.{is_percent}
 use Rattle.x_session.specs.declared.compile.item.Item.{Item}
 use Rattle.x_session.specs.declared.compile.item.Parse.{Parse}
 use Rattle.x_session.specs.declared.compile.item.Parse.TheVariants as kept
@@ -26,6 +28,10 @@ view_item i = (i.tokens, view_parse i.parse)
 -- the definition of an item
 abbrev pub kept_definition : Item → Option tree.Definition
 kept_definition i = parsed_definition (view_parse i.parse)
+
+-- the item that has the first of these tokens, with its result
+abbrev pub item_with : List Lexeme → Item → Option Outcome → compile.Item
+item_with tokens i result = record { tokens = take i.tokens tokens; parse = view_parse i.parse; result = result }
 
 -- whether a line that passes through is among the tokens
 abbrev pub has_lines : List Lexeme → Bool

@@ -4,7 +4,8 @@ pub mod Commands
 pub mod Compile
 pub mod Definitions
 pub mod Faults
-pub mod Header
+pub mod Generated
+pub mod GeneratedView
 pub mod ItemView
 pub mod Lines
 pub mod Script

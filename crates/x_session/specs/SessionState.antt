@@ -1,12 +1,14 @@
 -- What a session keeps beside its text.
-use Rattle.std.specs.Prelude.{◌≡◌, ℕ, List, map, Option}
+use Rattle.std.specs.Prelude.{◌≡◌, ◌≤◌, ◌+◌, ℕ, List, length, map, Option}
+use Rattle.x_text.specs.declared.source.TheConstants.{MAX_TEXT}
 use Rattle.x_lex.specs.declared.kind.Kind.{Kind}
 use Rattle.x_lex.specs.Places.{lexemes}
 use Rattle.x_sema.specs.Results.{Outcome, result_at}
 use Rattle.x_session.specs.ItemView.{view_item}
 use Rattle.x_session.specs.Compile as compile
 use Rattle.x_session.specs.Compile.{IsCompilation, parts, faults_of}
-use Rattle.x_session.specs.Header.{body_of, prologue}
+use Rattle.x_gen.specs.Pieces.{Part}
+use Rattle.x_session.specs.Generated.{part_of}
 use Rattle.x_session.specs.declared.compile.item.Item.{Item}
 use Rattle.x_session.specs.declared.compile.fault.Fault.{Fault}
 
@@ -14,14 +16,10 @@ use Rattle.x_session.specs.declared.compile.fault.Fault.{Fault}
 abbrev pub items_of : List ℕ → List (Kind × ℕ) → List Item → List (Option Outcome) → List compile.Item
 items_of text tokens items results = parts (result_at results) 0 (lexemes text tokens) (map view_item items)
 
--- All that is found of a text is what compiling it from scratch gives. The results themselves are not kept.
-pub record IsCompiled (text : List ℕ) (tokens : List (Kind × ℕ)) (items : List Item) (faults : List Fault) (body : List ℕ) : Type 0 where
+-- All that is kept of a text is what compiling it from scratch gives. The results themselves are not kept.
+pub record IsCompiled (text : List ℕ) (tokens : List (Kind × ℕ)) (items : List Item) (faults : List Fault) (generated : List Part) : Type 0 where
   pub results : List (Option Outcome)
   pub compiles : IsCompilation text tokens (items_of text tokens items results)
   pub faults_are : faults ≡ faults_of text (items_of text tokens items results)
-  pub body_is : body ≡ body_of (items_of text tokens items results)
-
--- all that is kept is what compiling the text from scratch gives
-pub record IsUpToDate (base text : List ℕ) (tokens : List (Kind × ℕ)) (items : List Item) (faults : List Fault) (front body : List ℕ) : Type 0 where
-  pub compiled : IsCompiled text tokens items faults body
-  pub front_is : front ≡ prologue base
+  pub generated_is : generated ≡ map part_of (items_of text tokens items results)
+  pub few : length generated ≤ MAX_TEXT + 1

@@ -5,7 +5,7 @@ ghost use Rattle.x_session.specs.SessionState.{IsCompiled};
 
 mod checking;
 mod fault;
-mod header;
+mod generated;
 mod item;
 mod output;
 mod parsing;
@@ -14,8 +14,8 @@ mod results;
 
 use checking::{check_items, names_of};
 pub use fault::{Fault, FaultCode};
-pub(crate) use header::{EPILOGUE, prologue};
-pub(crate) use item::{Item, is_constant};
+pub(crate) use generated::Generated;
+pub(crate) use item::Item;
 use output::{Output, output_of};
 use parsing::parse_items;
 use std::alloc::Global;
@@ -33,7 +33,7 @@ pub struct Compilation {
 /// Compiles a text from scratch. What checking the items found is kept no longer than it takes: faults and generated texts say it all.
 pub fn compile(alloc: Global, source: &Source, meter: &mut Meter) -> Result<Compilation, NoMemory>
     ensures { IfOk result
-        (λ c. IsCompiled source.now c.tokens.list c.items.items c.output.faults.items c.output.body.items) }
+        (λ c. IsCompiled source.now c.tokens.list c.items.items c.output.faults.items c.output.generated) }
 {
     let tokens = lex(alloc, source, meter)?;
     let items = parse_items(alloc, &tokens, source, meter)?;

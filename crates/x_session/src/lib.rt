@@ -12,5 +12,6 @@ pub use script::{
     Command, EngineFault, Found, Insert, LONGEST, LineFault, LineReader, Outcome, add_place,
     parse_command, run_script,
 };
-pub use session::{Session, Which, Work};
+pub use session::{Session, Work};
+pub use x_gen::Which;
 pub use x_sema::RuleCode;

@@ -14,7 +14,7 @@ mod byte_queue;
 mod command;
 mod lines;
 
-use crate::{Session, Which};
+use crate::Session;
 pub use answer::add_place;
 use answer::{add_counted, add_definitions, add_faults, add_text, add_tokens};
 pub use command::{Command, Insert, parse_command};
@@ -163,7 +163,7 @@ fn carry_out<S: Sink>(
         Command::Tokens => add_tokens(session, pen, sink),
         Command::Definitions => add_definitions(session, pen, sink),
         Command::Faults => add_faults(session, pen, sink),
-        Command::Header => add_text(Which::Header, session, pen, sink),
+        Command::Text(which) => add_text(*which, session, pen, sink),
         Command::Bad => {
             pen.add(b"refused 43 BadLine\n", sink);
             return Ok(true);

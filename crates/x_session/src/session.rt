@@ -9,15 +9,14 @@ ghost use Rattle.x_sema.specs.DeclarerTable.{tree_at};
 ghost use Rattle.x_session.specs.Session.{Document, Compiles, edited_by_all, TakesAll, StopsAt};
 ghost use Rattle.x_session.specs.Compile.{tokens_of, definitions_of, definition_at, faults_of};
 ghost use Rattle.x_session.specs.ItemView.{kept_definition};
-ghost use Rattle.x_session.specs.Definitions.{numbered, are_constants};
+ghost use Rattle.x_session.specs.Definitions.{numbered};
 
-mod which;
+mod texts;
 mod work;
 
-use crate::compile::{Compilation, Fault, Item, compile, is_constant, prologue};
+use crate::compile::{Compilation, Fault, Generated, Item, compile};
 use std::alloc::Global;
 use std::marker::Model;
-pub use which::Which;
 pub use work::Work;
 use x_item::Definition;
 use x_lex::{Token, Tokens, Walk};
@@ -32,20 +31,18 @@ pub struct Session {
     tokens: Tokens,
     items: Vec<Item>,
     faults: Vec<Fault>,
-    prologue: Vec<u8>,
-    body: Vec<u8>,
+    generated: Generated,
 }
 
 impl Model for Session {
     ghost use Rattle.x_session.specs.Session.{Document};
-    ghost use Rattle.x_session.specs.SessionState.{IsUpToDate};
+    ghost use Rattle.x_session.specs.SessionState.{IsCompiled};
 
     ghost Value = { Document };
 
     ghost view = { λ s. record { base = s.base.items; text = s.source } };
 
-    ghost invariant = { λ s. IsUpToDate s.base.items s.source s.tokens.list s.items.items s.faults.items
-        s.prologue.items s.body.items };
+    ghost invariant = { λ s. IsCompiled s.source s.tokens.list s.items.items s.faults.items s.generated };
 }
 
 impl Session {
@@ -70,7 +67,6 @@ impl Session {
     {
         let mut meter = Meter::new();
         let base = Vec::from_slice(alloc, base)?;
-        let prologue = prologue(alloc, &base)?;
         let Compilation {
             tokens,
             items,
@@ -83,8 +79,7 @@ impl Session {
             tokens,
             items,
             faults: output.faults,
-            prologue,
-            body: output.body,
+            generated: output.generated,
         })
     }
 
@@ -109,7 +104,7 @@ impl Session {
         self.tokens = tokens;
         self.items = items;
         self.faults = output.faults;
-        self.body = output.body;
+        self.generated = output.generated;
         Ok(Work::of(&meter))
     }
 
@@ -182,13 +177,6 @@ impl Session {
         count_definitions(&self.items)
     }
 
-    /// Whether each definition is that of a constant.
-    pub fn has_constants_alone(&self) -> bool
-        ensures { Compiles self.now.text (λ items. result ≡ are_constants (definitions_of items)) }
-    {
-        are_constants(&self.items)
-    }
-
     /// How many faults the text has.
     pub fn fault_count(&self) -> usize
         ensures { Compiles self.now.text (λ items. result ≡ length (faults_of self.now.text items)) }
@@ -222,20 +210,6 @@ fn count_definitions(items: &[Item]) -> usize
         }
     }
     count
-}
-
-/// Whether the definition of each item is that of a constant.
-fn are_constants(items: &[Item]) -> bool
-    ensures { result ≡ are_constants (map kept_definition items.now) }
-{
-    for item in items {
-        if let Some(definition) = item.definition()
-            && !is_constant(definition)
-        {
-            return false;
-        }
-    }
-    true
 }
 
 /// The definition of the item at an index, if it has one.

@@ -1,9 +1,9 @@
 //! The command line of `rpcgen`, and the text that it asks for.
 
-ghost use Rattle.std.specs.Prelude.{◌≡◌, ◌≢◌, None, Some, IfOk, codes, map, if◌then◌else◌};
+ghost use Rattle.std.specs.Prelude.{◌≡◌, ◌≢◌, None, IfOk, codes, map};
 ghost use Rattle.clap.specs.Words.{FailsBy, app_of, fault_of, found_of, matches_of, rows_of};
 ghost use Rattle.rpcx.specs.Generate.{IsTold};
-ghost use Rattle.rpcx.specs.Args.{AlwaysHas, IsGenArgs, gen_app, is_in_words};
+ghost use Rattle.rpcx.specs.Args.{AlwaysHas, IsGenArgs, gen_app, is_in_words, mode_of};
 
 use crate::program::complaint::complain;
 use clap::parser::ValueSource;
@@ -16,8 +16,14 @@ use x_text::Sink;
 /// What a command line of `rpcgen` asks for.
 #[derive(Clone, Copy, Debug, PartialEq, Eq)]
 pub struct GenArgs<'a> {
+    /// `-c`: the routines are wanted.
+    pub routines: bool,
     /// `-h`: the header is wanted.
     pub header: bool,
+    /// `-l`: the stubs are wanted.
+    pub stubs: bool,
+    /// `-t`: the tables are wanted.
+    pub table: bool,
     /// `-o OUT`: the file that the text goes to, in place of standard output.
     pub output: Option<&'a str>,
     /// FILE: the text that is read.
@@ -34,7 +40,10 @@ pub fn gen_args<'a, S: AsStr>(alloc: Global, words: &'a [S]) -> Result<GenArgs<'
 {
     let matches = gen_command(alloc)?.try_get_matches_from(words)?;
     Ok(GenArgs {
+        routines: is_given(&matches, "routines"),
         header: is_given(&matches, "header"),
+        stubs: is_given(&matches, "stubs"),
+        table: is_given(&matches, "table"),
         output: matches.get_str("output"),
         file: matches.get_str("file").unwrap(),
     })
@@ -52,8 +61,17 @@ fn gen_command<'a>(alloc: Global) -> Result<Command<'a>, AllocError>
     ensures app { IfOk result (λ c. app_of c ≡ gen_app) }
     ensures file { IfOk result (AlwaysHas (codes "file")) }
 {
+    let routines = Arg::new(alloc, "routines")
+        .short('c')
+        .action(ArgAction::SetTrue);
     let header = Arg::new(alloc, "header")
         .short('h')
+        .action(ArgAction::SetTrue);
+    let stubs = Arg::new(alloc, "stubs")
+        .short('l')
+        .action(ArgAction::SetTrue);
+    let table = Arg::new(alloc, "table")
+        .short('t')
         .action(ArgAction::SetTrue);
     let output = Arg::new(alloc, "output").short('o').action(ArgAction::Set);
     let file = Arg::new(alloc, "file")
@@ -61,21 +79,37 @@ fn gen_command<'a>(alloc: Global) -> Result<Command<'a>, AllocError>
         .action(ArgAction::Set);
     Command::new(alloc, "rpcgen")
         .disable_help_flag(true)
+        .arg(routines)?
         .arg(header)?
+        .arg(stubs)?
+        .arg(table)?
         .arg(output)?
         .arg(file)
 }
 
 /// The text that a command line asks for: exactly one letter tells it.
 pub fn gen_mode<E: Sink>(args: &GenArgs, err: &mut E) -> Option<Which>
-    ensures mode { result ≡ (if args.now.header then Some Which.Header else None) }
+    ensures mode { result ≡ mode_of args.now }
     ensures told { result ≡ None
         → IsTold (E.state err.old) (E.state err.new) (codes "rpcgen: exactly one of -c, -h, -l, -t\n") }
     ensures quiet { result ≢ None → err.new ≡ err.old }
 {
-    if args.header {
-        return Some(Which::Header);
+    let mode = mode_of(args);
+    if mode.is_none() {
+        complain("rpcgen: exactly one of -c, -h, -l, -t\n", err);
     }
-    complain("rpcgen: exactly one of -c, -h, -l, -t\n", err);
-    None
+    mode
+}
+
+/// The text that the letters ask for, where exactly one is there.
+fn mode_of(args: &GenArgs) -> Option<Which>
+    ensures { result ≡ mode_of args.now }
+{
+    match (args.routines, args.header, args.stubs, args.table) {
+        (true, false, false, false) => Some(Which::Routines),
+        (false, true, false, false) => Some(Which::Header),
+        (false, false, true, false) => Some(Which::Stubs),
+        (false, false, false, true) => Some(Which::Table),
+        _ => None,
+    }
 }

@@ -5,6 +5,7 @@ ghost use Rattle.x_item.specs.Tree as tree;
 ghost use Rattle.x_item.specs.View.{view_definition};
 ghost use Rattle.x_sema.specs.Declarers.{AreShort, IsShort, FirstIs};
 ghost use Rattle.x_sema.specs.DeclarerTable.{first_in, tree_at};
+ghost use Rattle.x_sema.specs.KeptViews.{lent_outcome};
 ghost use Rattle.x_sema.specs.Outlined.{IsOutline, outlined};
 ghost use Rattle.x_sema.specs.Results.{AreResults, IsResult, result_at};
 ghost use Rattle.x_sema.specs.RustViews.{view_view};
@@ -155,11 +156,11 @@ fn view_of<'v>(item: usize, name: &[u8], first: Option<Declarer>, results: &'v R
     View::of(item, name, first, declaring)
 }
 
-/// The faults of the item at an index by the rules, at its words.
-pub fn rule_faults(results: &Results, index: usize) -> &[WordFault]
-    ensures { result.now ≡ rule_faults (result_at results.now index) }
+/// The faults of an item by the rules, at its words, by what checking it found.
+pub fn rule_faults(checked: Option<&Checked>) -> &[WordFault]
+    ensures { result.now ≡ rule_faults (lent_outcome checked.entry) }
 {
-    match results.get(index) {
+    match checked {
         Some(checked) => checked.faults(),
         None => &[],
     }

@@ -4,11 +4,9 @@ ghost use Rattle.std.specs.Prelude.{◌≡◌, ◌≤◌, [], false, length, IfO
 ghost use Rattle.x_text.specs.Counts.{raised};
 ghost use Rattle.x_text.specs.declared.source.TheConstants.{MAX_TEXT};
 ghost use Rattle.x_lex.specs.Places.{lexeme};
-ghost use Rattle.x_item.specs.View.{view_definition};
 ghost use Rattle.x_sema.specs.DeclarerTable.{tree_at};
 ghost use Rattle.x_session.specs.ItemView.{IsItem, has_lines, view_parse, kept_definition};
 ghost use Rattle.x_session.specs.Compile.{spells_none};
-ghost use Rattle.x_session.specs.Definitions.{is_constant};
 
 use std::alloc::Global;
 use x_item::{Definition, FaultCode, Parsed, parse_item};
@@ -96,11 +94,4 @@ fn has_lines(tokens: &[Token]) -> bool
         }
     }
     false
-}
-
-/// Whether the definition is that of a constant.
-pub fn is_constant(definition: &Definition) -> bool
-    ensures { result ≡ is_constant (view_definition definition.now) }
-{
-    matches!(definition, Definition::Const { .. })
 }

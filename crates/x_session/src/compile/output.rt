@@ -1,24 +1,27 @@
 //! The faults of the items of a text, and what is generated of them.
 
-ghost use Rattle.std.specs.Prelude.{◌≡◌, ◌≤◌, ◌+◌, ◌++◌, map, take, drop, length, IfOk, OnOk};
+ghost use Rattle.std.specs.Prelude.{◌≡◌, ◌≤◌, ◌+◌, ◌++◌, [], ◌∷◌, map, take, drop, length, IfOk, OnOk};
 ghost use Rattle.x_text.specs.declared.source.TheConstants.{MAX_TEXT};
 ghost use Rattle.x_lex.specs.Tiling.{AreTokens};
 ghost use Rattle.x_lex.specs.Places.{lexeme, lexemes};
-ghost use Rattle.x_sema.specs.Results.{result_at};
-ghost use Rattle.x_session.specs.Compile.{token_of_word, at_token, faults_at, token_faults, start_of, placed, parts, faults_of};
-ghost use Rattle.x_session.specs.ItemView.{view_item, view_parse, has_lines, AreMarked};
-ghost use Rattle.x_session.specs.Header.{lines_of, clean_piece, body_of};
+ghost use Rattle.x_sema.specs.KeptViews.{lent_outcome};
+ghost use Rattle.x_session.specs.Checking.{AreChecked, IsChecked};
+ghost use Rattle.x_session.specs.Compile.{faults_at, faults_of, item_faults, placed};
+ghost use Rattle.x_session.specs.Generated.{part_of};
+ghost use Rattle.x_session.specs.ItemView.{AreMarked, has_lines, item_with, kept_definition, view_parse};
+ghost use Rattle.x_session.specs.SessionState.{items_of};
 
 use crate::compile::checking::rule_faults;
 use crate::compile::fault::{Fault, FaultCode, TokenFault};
-use crate::compile::header::{add_clean, add_item};
+use crate::compile::generated::{Generated, lines_of, pieces_of};
 use crate::compile::item::{Item, Parse};
 use crate::compile::parsing::take_tokens;
 use crate::compile::placing::{at_tokens, placed};
 use crate::compile::results::Results;
 use std::alloc::Global;
+use x_gen::Renderer;
 use x_lex::{Token, Tokens, Walk};
-use x_sema::WordFault;
+use x_sema::{Checked, WordFault};
 use x_text::{Lines, NoMemory, Source};
 
 /// The faults of an item at its tokens, where these are those by the rules.
@@ -63,46 +66,61 @@ fn add_faults(
 }
 
 /// What is found of the items of a text.
-#[derive(Debug, Drop)]
+#[derive(Drop)]
 pub struct Output {
     /// All faults, by item, then by place, then by code.
     pub faults: Vec<Fault>,
-    /// The lines and pieces of the header.
-    pub body: Vec<u8>,
+    /// What is generated of each item.
+    pub generated: Generated,
 }
 
-/// Adds the faults of the item and what is generated of it, where these are its faults by the rules. Its tokens are the next ones of the
-/// walk; where neither a fault nor a line stands among them it passes over them.
-fn add_output(
+/// What goes on from item to item.
+#[derive(Drop)]
+struct Gathering<'t> {
     alloc: Global,
-    output: &mut Output,
-    index: u32,
-    item: &Item,
-    ruled: &[WordFault],
-    walk: &mut Walk,
-    lines: &mut Lines,
-) -> Result<(), NoMemory>
-    requires small { length walk.old ≤ MAX_TEXT }
-    requires marked { item.now.has_lines ≡ has_lines (take item.now.tokens walk.old) }
-    ensures faults { OnOk result (output.new.faults.items ≡ output.old.faults.items
-        ++ map (placed lines.old index (take item.now.tokens walk.old))
-        (faults_at (take item.now.tokens walk.old) (view_parse item.now.parse) ruled.now)) }
-    ensures body { OnOk result (output.new.body.items ≡ output.old.body.items
-        ++ (lines_of (take item.now.tokens walk.old)
-        ++ clean_piece (faults_at (take item.now.tokens walk.old) (view_parse item.now.parse) ruled.now)
-        (view_parse item.now.parse))) }
-    ensures walk { OnOk result (walk.new ≡ drop item.now.tokens walk.old) }
-    ensures lines { lines.new ≡ lines.old }
-{
-    if item.is_plain(ruled) {
-        walk.pass(item.tokens as usize);
-        return add_clean(&mut output.body, &item.parse);
+    walk: Walk<'t>,
+    lines: Lines<'t>,
+    renderer: Renderer,
+    output: Output,
+}
+
+impl Gathering<'_> {
+    /// Adds the faults of the item and what is generated of it, by what checking it found. Its tokens are the next ones of the walk;
+    /// where neither a fault nor a line stands among them it passes over them.
+    fn add(&mut self, index: u32, item: &Item, checked: Option<&Checked>) -> Result<(), NoMemory>
+        requires small { length self.old.walk ≤ MAX_TEXT }
+        requires marked { item.now.has_lines ≡ has_lines (take item.now.tokens self.old.walk) }
+        requires checked { IsChecked (kept_definition item.now) (lent_outcome checked) }
+        ensures faults { OnOk result (self.new.output.faults.items ≡ self.old.output.faults.items
+            ++ item_faults self.old.lines index (item_with self.old.walk item.now (lent_outcome checked.entry))) }
+        ensures generated { OnOk result (self.new.output.generated ≡ self.old.output.generated
+            ++ part_of (item_with self.old.walk item.now (lent_outcome checked.entry)) ∷ []) }
+        ensures walk { OnOk result (self.new.walk ≡ drop item.now.tokens self.old.walk) }
+        ensures lines { self.new.lines ≡ self.old.lines }
+    {
+        let ruled = rule_faults(checked);
+        if item.is_plain(ruled) {
+            self.walk.pass(item.tokens as usize);
+            let pieces = pieces_of(&mut self.renderer, &item.parse, &[], checked)?;
+            return self
+                .output
+                .generated
+                .push(self.alloc, Vec::new(self.alloc), pieces);
+        }
+        let mut part = Vec::new(self.alloc);
+        take_tokens(&mut part, &mut self.walk, item.tokens as usize)?;
+        let found = faults_at(self.alloc, &part, &item.parse, ruled)?;
+        add_faults(
+            &mut self.output.faults,
+            index,
+            &part,
+            &found,
+            &mut self.lines,
+        )?;
+        let lines = lines_of(self.alloc, &part)?;
+        let pieces = pieces_of(&mut self.renderer, &item.parse, &found, checked)?;
+        self.output.generated.push(self.alloc, lines, pieces)
     }
-    let mut part = Vec::new(alloc);
-    take_tokens(&mut part, walk, item.tokens as usize)?;
-    let found = faults_at(alloc, &part, &item.parse, ruled)?;
-    add_faults(&mut output.faults, index, &part, &found, lines)?;
-    add_item(&mut output.body, &part, &item.parse, &found)
 }
 
 /// The faults of the items, and what is generated of them, by what checking them found.
@@ -116,29 +134,26 @@ pub fn output_of(
     requires tokens { AreTokens source.now tokens.now.list }
     requires few { length items.now ≤ MAX_TEXT + 1 }
     requires marked { AreMarked (lexemes source.now tokens.now.list) items.now }
-    ensures faults { IfOk result (λ found. found.faults.items
-        ≡ faults_of source.now (parts (result_at results.now) 0
-        (lexemes source.now tokens.now.list) (map view_item items.now))) }
-    ensures body { IfOk result (λ found. found.body.items
-        ≡ body_of (parts (result_at results.now) 0
-        (lexemes source.now tokens.now.list) (map view_item items.now))) }
+    requires checked { AreChecked items.now results.now }
+    ensures faults { IfOk result
+        (λ output. output.faults.items ≡ faults_of source.now
+        (items_of source.now tokens.now.list items.now results.now)) }
+    ensures generated { IfOk result
+        (λ output. output.generated ≡ map part_of
+        (items_of source.now tokens.now.list items.now results.now)) }
 {
-    let mut output = Output {
-        faults: Vec::new(alloc),
-        body: Vec::new(alloc),
+    let mut gathering = Gathering {
+        alloc,
+        walk: tokens.iter(source),
+        lines: Lines::of(source),
+        renderer: Renderer::new(alloc),
+        output: Output {
+            faults: Vec::new(alloc),
+            generated: Generated::new(alloc),
+        },
     };
-    let mut lines = Lines::of(source);
-    let mut walk = tokens.iter(source);
     for (index, item) in items.iter().enumerate() {
-        add_output(
-            alloc,
-            &mut output,
-            index as u32,
-            item,
-            rule_faults(results, index),
-            &mut walk,
-            &mut lines,
-        )?;
+        gathering.add(index as u32, item, results.get(index))?;
     }
-    Ok(output)
+    Ok(gathering.output)
 }

@@ -6,11 +6,12 @@ ghost use Rattle.x_lex.specs.Places.{lexeme};
 ghost use Rattle.x_session.specs.Session.{Compiles};
 ghost use Rattle.x_item.specs.View.{view_body, view_declaration, view_definition};
 ghost use Rattle.x_session.specs.Compile.{tokens_of, definitions_of, faults_of};
-ghost use Rattle.x_session.specs.Header.{text_of};
+ghost use Rattle.x_session.specs.Generated.{text_of};
 ghost use Rattle.x_session.specs.Answers.{counted_by, body_keyword, keyword_of, given_name, own_name, shown_name, definition_line, token_line, fault_line, tokens_answer, definitions_answer, fault_place, faults_answer, text_answer};
 
-use crate::{Fault, Session, Which};
+use crate::{Fault, Session};
 use itoa::{Buffer, Integer};
+use x_gen::Which;
 use x_item::{Body, Declaration, Definition};
 use x_lex::Token;
 use x_text::{Pen, Sink};

@@ -7,6 +7,7 @@ ghost use Rattle.x_session.specs.Commands.{edit_by, command_of, words_of, one_wo
 use memchr::memchr;
 use std::alloc::Global;
 use std::marker::Model;
+use x_gen::Which;
 use x_text::NoMemory;
 
 /// The bytes that an edit puts in. They are seen as their list.
@@ -56,8 +57,8 @@ pub enum Command {
     Definitions,
     /// `faults`: the faults of the text.
     Faults,
-    /// `header`: the C header.
-    Header,
+    /// `header`, `routines`, `stubs` or `table`: a text that is generated.
+    Text(Which),
     /// No command.
     Bad,
 }
@@ -121,7 +122,13 @@ fn one_word(line: &[u8]) -> Command
     } else if line == b"faults".as_slice() {
         Command::Faults
     } else if line == b"header".as_slice() {
-        Command::Header
+        Command::Text(Which::Header)
+    } else if line == b"routines".as_slice() {
+        Command::Text(Which::Routines)
+    } else if line == b"stubs".as_slice() {
+        Command::Text(Which::Stubs)
+    } else if line == b"table".as_slice() {
+        Command::Text(Which::Table)
     } else {
         Command::Bad
     }

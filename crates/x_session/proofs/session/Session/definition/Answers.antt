@@ -13,6 +13,6 @@ use Rattle.x_session.proofs.session.Session.definition.Goals as goal
 pub returns : goal.returns
 returns c =
     let tokens = lexemes c.self.inside.source c.self.inside.tokens.list in
-    let items = items_of c.self.inside.source c.self.inside.tokens.list c.self.inside.items.items c.self.invariant.compiled.results in
-    let found = c.definition_in.ensures ∙ ap (λ is. option_and_then kept_definition (slice_get is c.args.index)) c.deref.ensures.value ∙ definition_found (result_at c.self.invariant.compiled.results) tokens c.self.inside.items.items c.args.index in
-    subst (λ v. Compiles v.text (λ is. tree_at c.definition_in.result ≡ definition_at is c.args.index)) c.self.view_is (c.self.inside.tokens.list, items, c.self.invariant.compiled.compiles, found)
+    let items = items_of c.self.inside.source c.self.inside.tokens.list c.self.inside.items.items c.self.invariant.results in
+    let found = c.definition_in.ensures ∙ ap (λ is. option_and_then kept_definition (slice_get is c.args.index)) c.deref.ensures.value ∙ definition_found (result_at c.self.invariant.results) tokens c.self.inside.items.items c.args.index in
+    subst (λ v. Compiles v.text (λ is. tree_at c.definition_in.result ≡ definition_at is c.args.index)) c.self.view_is (c.self.inside.tokens.list, items, c.self.invariant.compiles, found)

@@ -1,12 +1,17 @@
-use Rattle.std.proofs.Common.{[], sym, subst}
-use Rattle.x_text.specs.Writing.{Inked, Writes}
-use Rattle.x_text.proofs.Pens.{writes_none}
-use Rattle.x_session.specs.Header.{text_of}
+use Rattle.std.proofs.Common.{subst}
+use Rattle.x_text.specs.Writing.{IsWritten}
+use Rattle.x_gen.specs.Texts.{text}
+use Rattle.x_session.specs.Session.{Compiles}
+use Rattle.x_session.specs.SessionState.{items_of}
+use Rattle.x_session.specs.Generated.{text_of}
 use Rattle.x_session.proofs.session.Session.write_text.Goals as goal
 
 pub returns : goal.returns
 returns g c =
     let start = g.S.Sink.state c.args.sink.now in
-    let added = c.add_text.ensures in
-    let none : Writes start [] c.new-pen.result start = subst (λ (p : Inked). Writes start [] p start) (sym c.new-pen.ensures) (writes_none start) in
-    (added.0, added.1, added.2, c.finish.ensures start (text_of c.args.which c.args.self.now.base added.1) (added.3.goes_on start [] none))
+    let end = g.S.Sink.state c.write_text.new.sink in
+    let items = items_of c.self.inside.source c.self.inside.tokens.list c.self.inside.items.items c.self.invariant.results in
+    let told = subst (λ t. IsWritten c.write_text.result start end t)
+    (λ i. text c.args.which (c.deref.ensures.value i) (c.self.invariant.generated_is i)) c.write_text.ensures in
+    subst (λ v. Compiles v.text (λ is. IsWritten c.write_text.result start end (text_of c.args.which v.base is))) c.self.view_is
+    (c.self.inside.tokens.list, items, c.self.invariant.compiles, told)

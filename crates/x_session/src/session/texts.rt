@@ -3,18 +3,11 @@
 ghost use Rattle.std.specs.Prelude.{◌≡◌, length};
 ghost use Rattle.x_text.specs.Writing.{Adds, IsWritten};
 ghost use Rattle.x_session.specs.Session.{Compiles};
-ghost use Rattle.x_session.specs.Header.{text_of};
+ghost use Rattle.x_session.specs.Generated.{text_of};
 
 use crate::Session;
-use crate::compile::EPILOGUE;
+use x_gen::Which;
 use x_text::{Pen, Sink, WriteFault};
-
-/// A text that is generated.
-#[derive(Clone, Copy, Debug, PartialEq, Eq)]
-pub enum Which {
-    /// The header, `BASE.h`.
-    Header,
-}
 
 impl Session {
     /// Writes a generated text. After a fault the sink has exactly its first `written` bytes.
@@ -23,9 +16,7 @@ impl Session {
             (λ items. IsWritten result (S.state sink.old) (S.state sink.new)
             (text_of which self.now.base items)) }
     {
-        let mut pen = Pen::new();
-        self.add_text(which, &mut pen, sink);
-        pen.finish(sink)
+        x_gen::write_text(which, &self.base, &self.generated, sink)
     }
 
     /// Adds a generated text.
@@ -34,23 +25,13 @@ impl Session {
             (λ items. Adds pen.old (S.state sink.old) pen.new (S.state sink.new)
             (text_of which self.now.base items)) }
     {
-        match which {
-            Which::Header => {
-                pen.add(&self.prologue, sink);
-                pen.add(&self.body, sink);
-                pen.add(EPILOGUE, sink);
-            }
-        }
+        x_gen::add_text(which, &self.base, &self.generated, pen, sink);
     }
 
     /// How many bytes a generated text has.
     pub(crate) fn text_length(&self, which: Which) -> u128
         ensures { Compiles self.now.text (λ items. result ≡ length (text_of which self.now.base items)) }
     {
-        match which {
-            Which::Header => {
-                self.prologue.len() as u128 + self.body.len() as u128 + EPILOGUE.len() as u128
-            }
-        }
+        x_gen::text_length(which, &self.base, &self.generated)
     }
 }
