@@ -18,16 +18,12 @@ use Rattle.clap.specs.Built.{FitsChain, HasDistinctIds, TakesValue}
 use Rattle.clap.specs.declared.builder.arg.Arg.{Arg}
 use Rattle.clap.specs.declared.builder.command.Command.{Command}
 use Rattle.clap.specs.declared.builder.command.Command.TheViews.{out-Command}
-use Rattle.rpcx.specs.Args.{AlwaysHas, plain_app, source_of}
+use Rattle.rpcx.specs.Args.{AlwaysHas, is_own, plain_app, source_of}
 
 -- a new command without clap's own help flag
 pub plain_is : (old new : Command) (name : Text) → app_of old ≡ new_app name
     → out-Command new ≡ record (out-Command old) { disable_help_flag = true } → app_of new ≡ plain_app name
 plain_is old new name is fields = ap app_of_fields fields ∙ ap (on_top (λ s. record s { disable_help_flag = true })) is
-
--- the id is neither empty nor one of clap's own
-abbrev pub is_own : Text → Bool
-is_own id = not (bytes_eq id []) && (not (bytes_eq id (codes "help")) && not (bytes_eq id (codes "version")))
 
 -- no two ids are one
 abbrev pub are_distinct : List Text → Bool

@@ -1,8 +1,8 @@
 -- What a sink has of a text that was written as well as it could be.
-use Rattle.std.proofs.Common.{◌≡◌, ℕ, Bool, true, false, List, length, Result, Ok, Err, arith, sym, subst}
+use Rattle.std.proofs.Common.{◌≡◌, ℕ, Bool, true, false, List, length, take, Option, Some, None, Result, Ok, Err, arith, sym, subst, ◌∙◌}
 use Rattle.std.proofs.lemmas.List.{take_all}
 use Rattle.std.specs.Prelude.{MatchBool}
-use Rattle.std.specs.Io.KnownBytes.{Appends}
+use Rattle.std.specs.Io.KnownBytes.{Appends, Keeps}
 use Rattle.x_text.specs.declared.pen.WriteFault.{WriteFault}
 use Rattle.x_text.specs.Streams.{Stream}
 use Rattle.x_text.specs.Writing.{IsWritten}
@@ -26,3 +26,15 @@ told (Err fault) before after text h = on after.failed h.failed
     on : (failed : Bool) → failed ≡ true → MatchBool failed (Grows before after text) (Appends before.bytes after.bytes text)
     on true fails = (h.front.count, h.front.within, h.front.taken)
     on false fails = absurd (cc)
+
+-- what was written stays
+pub grown_kept : {T : Type 0} (result : Result T WriteFault) (before mid after : Stream) (text : List ℕ) → IsWritten result before mid text → Keeps mid.bytes after.bytes → Grows before after text
+grown_kept result before mid after text written kept =
+    let so = grows result before mid text written in
+    (so.0, so.1, stays before.bytes mid.bytes after.bytes (take so.0 text) so.2 kept)
+  where
+    stays : (a b c : Option (List ℕ)) (bs : List ℕ) → Appends a b bs → Keeps b c → Appends a c bs
+    stays None b c bs p q = tt
+    stays (Some x) None c bs p q = absurd p
+    stays (Some x) (Some y) None bs p q = absurd q
+    stays (Some x) (Some y) (Some z) bs p q = q ∙ p

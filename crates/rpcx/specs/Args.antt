@@ -1,5 +1,5 @@
 -- The command lines of the programs, in clap's words: what a program knows, and what it reads.
-use Rattle.std.specs.Prelude.{◌≡◌, Bool, List, Option, Some, true, false, codes, find, is_some}
+use Rattle.std.specs.Prelude.{◌≡◌, ℕ, Bool, ◌&&◌, not, List, [], ◌∷◌, ◌++◌, Option, None, Some, true, false, codes, find, is_some}
 use Rattle.std.specs.Prelude.{option_and_then, option_map, slice_get}
 use Rattle.std.specs.Str.{bytes_eq}
 use Rattle.clap.specs.Words.{App, IsParsedFrom, Row, Rule, Text, first_of, first_value}
@@ -10,12 +10,34 @@ use Rattle.clap.specs.declared.builder.command.Command.{Command}
 use Rattle.clap.specs.declared.parser.matches.ArgMatches.{ArgMatches}
 use Rattle.clap.specs.declared.parser.matches.ValueSource.{ValueSource}
 use Rattle.clap.specs.declared.parser.matches.ValueSource.TheVariants.{CommandLine}
+use Rattle.x_gen.specs.declared.which.Which.{Which}
+use Rattle.x_gen.specs.declared.which.Which.TheVariants.{Header, Routines, Stubs, Table}
 use Rattle.rpcx.specs.declared.program.editing_args.EditArgs.{EditArgs}
 use Rattle.rpcx.specs.declared.program.generating_args.GenArgs.{GenArgs}
 
--- `-h`, a flag
+-- the id is neither empty nor one of clap's own
+abbrev pub is_own : Text → Bool
+is_own id = not (bytes_eq id []) && (not (bytes_eq id (codes "help")) && not (bytes_eq id (codes "version")))
+
+-- a letter without a value
+abbrev pub flag_rule : Text → Option ℕ → Rule
+flag_rule id letter = record (new_rule id) { short = letter; action = Some SetTrue }
+
+-- `-c`
+abbrev pub routines_rule : Rule
+routines_rule = flag_rule (codes "routines") (slice_get (codes "c") 0)
+
+-- `-h`
 abbrev pub header_rule : Rule
-header_rule = record (new_rule (codes "header")) { short = slice_get (codes "h") 0; action = Some SetTrue }
+header_rule = flag_rule (codes "header") (slice_get (codes "h") 0)
+
+-- `-l`
+abbrev pub stubs_rule : Rule
+stubs_rule = flag_rule (codes "stubs") (slice_get (codes "l") 0)
+
+-- `-t`
+abbrev pub table_rule : Rule
+table_rule = flag_rule (codes "table") (slice_get (codes "t") 0)
 
 -- `-o OUT`, a letter with a value
 abbrev pub output_rule : Rule
@@ -29,9 +51,13 @@ file_rule = record (new_rule (codes "file")) { action = Some Set; required = tru
 abbrev pub plain_app : Text → App
 plain_app name = on_top (λ s. record s { disable_help_flag = true }) (new_app name)
 
--- `rpcgen [-h] [-o OUT] FILE`
+-- the four letters of `rpcgen` behind what a command knows
+abbrev pub with_letters : App → App
+with_letters app = with_rule (with_rule (with_rule (with_rule app routines_rule) header_rule) stubs_rule) table_rule
+
+-- `rpcgen [-c] [-h] [-l] [-t] [-o OUT] FILE`
 unfoldable pub gen_app : App
-gen_app = with_rule (with_rule (with_rule (plain_app (codes "rpcgen")) header_rule) output_rule) file_rule
+gen_app = with_rule (with_rule (with_letters (plain_app (codes "rpcgen"))) output_rule) file_rule
 
 -- `rpcedit FILE`
 unfoldable pub edit_app : App
@@ -56,10 +82,27 @@ is_in_words id rows = is_command_line (source_of id rows)
 
 -- the letters and values of `rpcgen`, as clap read them
 pub record IsGenArgs (rows : List Row) (args : GenArgs) : Type 0 where
+  pub routines : args.routines ≡ is_in_words (codes "routines") rows
   pub header : args.header ≡ is_in_words (codes "header") rows
+  pub stubs : args.stubs ≡ is_in_words (codes "stubs") rows
+  pub table : args.table ≡ is_in_words (codes "table") rows
   pub output : option_map (λ s. s.now) args.output ≡ first_of (codes "output") rows
   pub file : Some args.file.now ≡ first_of (codes "file") rows
 
 -- the value of `rpcedit`, as clap read it
 pub record IsEditArgs (rows : List Row) (args : EditArgs) : Type 0 where
   pub file : Some args.file.now ≡ first_of (codes "file") rows
+
+abbrev pub if_asked : Bool → Which → List Which
+if_asked true which = which ∷ []
+if_asked false which = []
+
+-- the texts that the letters ask for
+abbrev pub asked_by : GenArgs → List Which
+asked_by args =
+    if_asked args.routines Routines ++ if_asked args.header Header ++ if_asked args.stubs Stubs ++ if_asked args.table Table
+
+-- the text of a list that has one
+abbrev pub only_of : List Which → Option Which
+only_of (which ∷ []) = Some which
+only_of all = None

@@ -1,5 +1,5 @@
 -- What runs of `rpcgen` and `rpcedit` do, and what they tell.
-use Rattle.std.specs.Prelude.{◌≡◌, ℕ, Bool, true, false, MatchBool, ◌-◌, ◌<◌, ◌≤◌, ◌==◌, List, [], ◌++◌, length, take, drop, codes, if◌then◌else◌}
+use Rattle.std.specs.Prelude.{◌≡◌, ℕ, Bool, true, MatchBool, ◌-◌, ◌<◌, ◌≤◌, ◌==◌, List, ◌++◌, length, take, drop, codes, if◌then◌else◌}
 use Rattle.std.specs.List.{after_last, flat_map}
 use Rattle.std.specs.Io.KnownBytes.{Appends}
 use Rattle.std.specs.Str.{bytes_eq}
@@ -9,9 +9,6 @@ use Rattle.x_session.specs.Faults.{fault_text}
 use Rattle.x_session.specs.declared.script.EngineFault.{EngineFault}
 use Rattle.x_session.specs.declared.script.EngineFault.TheVariants.{Read, Write, NoMemory}
 use Rattle.x_session.specs.Answers.{fault_place}
-use Rattle.x_session.specs.Compile.{definitions_of, faults_of}
-use Rattle.x_session.specs.Definitions.{are_constants}
-use Rattle.x_session.specs.Session.{Compiles}
 use Rattle.x_text.specs.declared.fault.TextFault.{TextFault}
 use Rattle.x_text.specs.declared.fault.TextFault.TheVariants as faults
 use Rattle.x_text.specs.declared.source.TheConstants.{MAX_TEXT}
@@ -49,12 +46,10 @@ abbrev pub unopened_told : List ℕ → List ℕ → TextFault → List ℕ
 unopened_told program file faults.TooLarge = program ++ codes ": " ++ file ++ codes ": 2 TooLarge\n"
 unopened_told program file fault = told_of program (codes "out of memory")
 
--- Why `rpcgen` opens no session of a file's text that it can read, as it tells it: the text is too large, or it has no fault and another definition than
--- constants, or memory ran out. A text with faults has them told.
+-- Why `rpcgen` opens no session of a file's text that it can read, as it tells it: the text is too large, or memory ran out. A text
+-- with faults has them told.
 pub data NotOpened (file text : List ℕ) (before after : Stream) : Type 0 where
   TooLarge : MAX_TEXT < length text → IsTold before after (codes "rpcgen: " ++ file ++ codes ": 2 TooLarge\n") → NotOpened file text before after
-  OtherDefinitions : Compiles text (λ items. (faults_of text items ≡ []) × (are_constants (definitions_of items) ≡ false))
-      → IsTold before after (codes "rpcgen: " ++ file ++ codes ": only const definitions yet\n") → NotOpened file text before after
   NoRoom : length text ≤ MAX_TEXT → IsTold before after (codes "rpcgen: out of memory\n") → NotOpened file text before after
 
 -- what `rpcedit` tells where a script stops

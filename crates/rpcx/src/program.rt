@@ -1,5 +1,6 @@
 //! What the programs do, over texts that were read, taps and sinks.
 
+mod arguments;
 mod base;
 mod complaint;
 mod editing;

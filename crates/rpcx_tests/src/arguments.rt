@@ -6,7 +6,10 @@ use std::test::Fail;
 #[test]
 fn sweep_reading(rt: HostRuntime) -> Result<(), Fail> {
     let wanted = GenArgs {
+        routines: false,
         header: true,
+        stubs: false,
+        table: false,
         output: None,
         file: "t.x",
     };
@@ -23,7 +26,7 @@ fn sweep_reading(rt: HostRuntime) -> Result<(), Fail> {
 /// The same of a line that is no command line: the error is its own or `OutOfMemory`.
 #[test]
 fn sweep_refusing(rt: HostRuntime) -> Result<(), Fail> {
-    let kind = gen_args(rt.alloc(), ["rpcgen", "-c"].as_slice())
+    let kind = gen_args(rt.alloc(), ["rpcgen", "-s"].as_slice())
         .err()
         .map(|error| error.kind());
     if kind == Some(ErrorKind::UnknownArgument) {

@@ -1,6 +1,5 @@
 -- What is generated of the items of a text, by what the program keeps.
-use Rattle.std.proofs.Common.{◌≡◌, ℕ, suc, zero, List, [], ◌∷◌, map, length, Option, None, Some, refl, ap, subst}
-use Rattle.std.specs.Prelude.{option_and_then, slice_get}
+use Rattle.std.proofs.Common.{ℕ, suc, zero, List, [], ◌∷◌, map, Option, None, Some}
 use Rattle.x_item.specs.Tree.{Definition}
 use Rattle.x_sema.specs.Results.{Outcome, IsResult, AreResultsFrom, AreResults, result_at}
 use Rattle.x_session.specs.Checking.{IsChecked, AreChecked}

@@ -1,5 +1,5 @@
 -- How a run of a script goes on.
-use Rattle.std.proofs.Common.{◌≡◌, ◌≤◌, ℕ, arith, Bool, true, false, ◌||◌, List, [], ◌∷◌, ◌++◌, length, Option, Some, None, Ok, Err, refl, sym, ap, subst, ◌∙◌, append-nil, ◌⊎◌, inl, inr}
+use Rattle.std.proofs.Common.{◌≡◌, ◌≤◌, ℕ, arith, Bool, true, false, ◌||◌, List, [], ◌∷◌, ◌++◌, length, Option, Some, None, Ok, refl, sym, ap, subst, ◌∙◌, append-nil}
 use Rattle.std.specs.Prelude.{MatchOption}
 use Rattle.std.specs.Io.KnownBytes.{Appends}
 use Rattle.x_text.specs.Streams.{Stream}
@@ -12,8 +12,6 @@ use Rattle.x_lex.specs.declared.kind.Kind.{Kind}
 use Rattle.x_session.specs.Compile.{Item, IsCompilation}
 use Rattle.x_session.specs.declared.script.lines.State.TheVariants.{Between}
 use Rattle.x_session.specs.Script.{then_answer, AreAnswered, IsGiven, HasGiven, IsAsBefore, HasRun, HasStopped, HasFailed, IsFrontOf, WorksOn, AddsIfFound}
-use Rattle.x_session.specs.declared.script.Outcome.{Outcome}
-use Rattle.x_session.specs.declared.script.EngineFault.{EngineFault}
 use Rattle.x_session.proofs.Scripts.{answered_more}
 
 -- between two lines: the lines that were given are answered, and their answers are written

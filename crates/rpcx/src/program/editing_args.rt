@@ -4,7 +4,8 @@ ghost use Rattle.std.specs.Prelude.{◌≡◌, IfOk, codes, map};
 ghost use Rattle.clap.specs.Words.{FailsBy, app_of, fault_of, matches_of};
 ghost use Rattle.rpcx.specs.Args.{AlwaysHas, IsEditArgs, edit_app};
 
-use clap::{Arg, ArgAction, Command, Error};
+use crate::program::arguments::file;
+use clap::{Command, Error};
 use std::alloc::{AllocError, Global};
 use std::convert::AsStr;
 
@@ -34,10 +35,7 @@ fn edit_command<'a>(alloc: Global) -> Result<Command<'a>, AllocError>
     ensures app { IfOk result (λ c. app_of c ≡ edit_app) }
     ensures file { IfOk result (AlwaysHas (codes "file")) }
 {
-    let file = Arg::new(alloc, "file")
-        .required(true)
-        .action(ArgAction::Set);
     Command::new(alloc, "rpcedit")
         .disable_help_flag(true)
-        .arg(file)
+        .arg(file(alloc))
 }

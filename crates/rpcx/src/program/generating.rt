@@ -6,20 +6,18 @@ ghost use Rattle.x_text.specs.Writing.{Adds};
 ghost use Rattle.x_text.specs.declared.source.TheConstants.{MAX_TEXT};
 ghost use Rattle.rpcx.specs.Generate.{base_of, told_fault, told_faults, Grows, IsTold, NotOpened};
 ghost use Rattle.x_session.specs.Session.{Compiles};
-ghost use Rattle.x_session.specs.Compile.{definitions_of, faults_of};
-ghost use Rattle.x_session.specs.Definitions.{are_constants};
-ghost use Rattle.x_session.specs.Header.{text_of};
+ghost use Rattle.x_session.specs.Compile.{faults_of};
+ghost use Rattle.x_session.specs.Generated.{text_of};
 
 use crate::program::base::base_of_file;
-use crate::program::complaint::{complain, tell_of_file, tell_unopened};
+use crate::program::complaint::{complain, tell_unopened};
 use crate::program::status::Status;
 use std::alloc::Global;
 use x_session::{Fault, Session, Which, add_place};
 use x_text::{Pen, Sink};
 
 /// Opens the text of a file for a run, or tells what is wrong with it and answers the status: `Faulty` where the text has faults,
-/// which are written one a line, and `Failed` where it is too large, has a definition of which nothing is generated yet, or memory
-/// runs out.
+/// which are written one a line, and `Failed` where it is too large or memory runs out.
 pub fn gen_open<E: Sink>(
     alloc: Global,
     file: &str,
@@ -29,8 +27,6 @@ pub fn gen_open<E: Sink>(
     ensures base { IfOk result (λ s. s.base ≡ base_of file.now) }
     ensures text { IfOk result (λ s. s.text ≡ bytes.now) }
     ensures clean { OnOk result (Compiles bytes.now (λ items. faults_of bytes.now items ≡ [])) }
-    ensures constants { OnOk result
-        (Compiles bytes.now (λ items. are_constants (definitions_of items) ≡ true)) }
     ensures faulty { IsErrOf result Status.Faulty
         → Compiles bytes.now (λ items. (0 < length (faults_of bytes.now items))
         × IsTold (E.state err.old) (E.state err.new) (told_faults file.now (faults_of bytes.now items))) }
@@ -45,10 +41,6 @@ pub fn gen_open<E: Sink>(
             if session.fault_count() > 0 {
                 tell_faults(file, session.faults(), err);
                 return Err(Status::Faulty);
-            }
-            if !session.has_constants_alone() {
-                tell_of_file("rpcgen", file, ": only const definitions yet\n", err);
-                return Err(Status::Failed);
             }
             Ok(session)
         }

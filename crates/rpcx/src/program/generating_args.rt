@@ -1,10 +1,11 @@
 //! The command line of `rpcgen`, and the text that it asks for.
 
-ghost use Rattle.std.specs.Prelude.{◌≡◌, ◌≢◌, None, Some, IfOk, codes, map, if◌then◌else◌};
+ghost use Rattle.std.specs.Prelude.{◌≡◌, ◌≢◌, None, IfOk, codes, map};
 ghost use Rattle.clap.specs.Words.{FailsBy, app_of, fault_of, found_of, matches_of, rows_of};
 ghost use Rattle.rpcx.specs.Generate.{IsTold};
-ghost use Rattle.rpcx.specs.Args.{AlwaysHas, IsGenArgs, gen_app, is_in_words};
+ghost use Rattle.rpcx.specs.Args.{AlwaysHas, IsGenArgs, asked_by, gen_app, is_in_words, only_of};
 
+use crate::program::arguments::{file, flag};
 use crate::program::complaint::complain;
 use clap::parser::ValueSource;
 use clap::{Arg, ArgAction, ArgMatches, Command, Error};
@@ -16,8 +17,14 @@ use x_text::Sink;
 /// What a command line of `rpcgen` asks for.
 #[derive(Clone, Copy, Debug, PartialEq, Eq)]
 pub struct GenArgs<'a> {
+    /// `-c`: the XDR routines are wanted.
+    pub routines: bool,
     /// `-h`: the header is wanted.
     pub header: bool,
+    /// `-l`: the client's stubs are wanted.
+    pub stubs: bool,
+    /// `-t`: the server's tables are wanted.
+    pub table: bool,
     /// `-o OUT`: the file that the text goes to, in place of standard output.
     pub output: Option<&'a str>,
     /// FILE: the text that is read.
@@ -34,7 +41,10 @@ pub fn gen_args<'a, S: AsStr>(alloc: Global, words: &'a [S]) -> Result<GenArgs<'
 {
     let matches = gen_command(alloc)?.try_get_matches_from(words)?;
     Ok(GenArgs {
+        routines: is_given(&matches, "routines"),
         header: is_given(&matches, "header"),
+        stubs: is_given(&matches, "stubs"),
+        table: is_given(&matches, "table"),
         output: matches.get_str("output"),
         file: matches.get_str("file").unwrap(),
     })
@@ -52,30 +62,40 @@ fn gen_command<'a>(alloc: Global) -> Result<Command<'a>, AllocError>
     ensures app { IfOk result (λ c. app_of c ≡ gen_app) }
     ensures file { IfOk result (AlwaysHas (codes "file")) }
 {
-    let header = Arg::new(alloc, "header")
-        .short('h')
-        .action(ArgAction::SetTrue);
     let output = Arg::new(alloc, "output").short('o').action(ArgAction::Set);
-    let file = Arg::new(alloc, "file")
-        .required(true)
-        .action(ArgAction::Set);
     Command::new(alloc, "rpcgen")
         .disable_help_flag(true)
-        .arg(header)?
+        .arg(flag(alloc, "routines", 'c'))?
+        .arg(flag(alloc, "header", 'h'))?
+        .arg(flag(alloc, "stubs", 'l'))?
+        .arg(flag(alloc, "table", 't'))?
         .arg(output)?
-        .arg(file)
+        .arg(file(alloc))
 }
 
 /// The text that a command line asks for: exactly one letter tells it.
 pub fn gen_mode<E: Sink>(args: &GenArgs, err: &mut E) -> Option<Which>
-    ensures mode { result ≡ (if args.now.header then Some Which.Header else None) }
+    ensures mode { result ≡ only_of (asked_by args.now) }
     ensures told { result ≡ None
         → IsTold (E.state err.old) (E.state err.new) (codes "rpcgen: exactly one of -c, -h, -l, -t\n") }
     ensures quiet { result ≢ None → err.new ≡ err.old }
 {
-    if args.header {
-        return Some(Which::Header);
+    let only = only_letter(args);
+    if only.is_none() {
+        complain("rpcgen: exactly one of -c, -h, -l, -t\n", err);
     }
-    complain("rpcgen: exactly one of -c, -h, -l, -t\n", err);
-    None
+    only
+}
+
+/// The text of the letter, where there is exactly one.
+fn only_letter(args: &GenArgs) -> Option<Which>
+    ensures { result ≡ only_of (asked_by args.now) }
+{
+    match (args.routines, args.header, args.stubs, args.table) {
+        (true, false, false, false) => Some(Which::Routines),
+        (false, true, false, false) => Some(Which::Header),
+        (false, false, true, false) => Some(Which::Stubs),
+        (false, false, false, true) => Some(Which::Table),
+        _ => None,
+    }
 }

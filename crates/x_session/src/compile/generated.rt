@@ -90,10 +90,7 @@ impl PieceList for Generated {
     }
 
     fn pieces(&self, index: usize) -> Option<&Pieces> {
-        match &self.parts[index] {
-            Some(part) => part.pieces.as_ref(),
-            None => None,
-        }
+        self.parts[index].as_ref()?.pieces.as_ref()
     }
 }
 

@@ -3,7 +3,6 @@ use Rattle.std.proofs.lemmas.List.{length-map}
 use Rattle.x_text.specs.declared.source.TheConstants.{MAX_TEXT}
 use Rattle.x_lex.specs.Places.{lexemes}
 use Rattle.x_sema.specs.Results.{AreResults, result_at}
-use Rattle.x_session.specs.Checking.{AreChecked}
 use Rattle.x_session.specs.Compile.{faults_of}
 use Rattle.x_session.specs.Generated.{part_of}
 use Rattle.x_session.specs.ItemView.{kept_definition, view_item}

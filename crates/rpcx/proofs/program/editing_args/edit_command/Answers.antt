@@ -1,27 +1,26 @@
-use Rattle.std.proofs.Common.{◌≡◌, ◌∙◌, [], ◌∷◌, rules, refl, ap₂, arith, codes}
+use Rattle.std.proofs.Common.{◌∙◌, [], ◌∷◌, rules, refl, ap, ap₂, arith, codes}
 use Rattle.std.proofs.lemmas.Result.{IfOk-weaker}
 use Rattle.std.proofs.lemmas.List.Elements.{All-cons, All-nil}
-use Rattle.clap.specs.Words.{rule_of, with_rule}
+use Rattle.clap.specs.Words.{Rule, with_rule}
 use Rattle.clap.specs.Built.{FitsChain}
-use Rattle.rpcx.specs.Args.{edit_app, file_rule}
-use Rattle.rpcx.proofs.Commands.{always_has, distinct_ids, fits_chain, plain_is}
+use Rattle.rpcx.specs.Args.{edit_app}
+use Rattle.rpcx.proofs.Commands.{always_has, distinct_ids, plain_is}
 use Rattle.rpcx.proofs.program.editing_args.edit_command.Goals as goal
 
 pub returns-clause-app : goal.returns-clause-app
 unfolding edit_app
 returns-clause-app c =
-    let file_is : rule_of c.action-file.result ≡ file_rule = search rules in
-    let plain = plain_is c.new-2.result c.disable_help_flag.result (codes "rpcedit") c.new-2.ensures.app c.disable_help_flag.ensures in
-    IfOk-weaker c.arg.result _ _ (λ r h. h.shape (search rules) ∙ ap₂ with_rule plain file_is) c.arg.ensures
+    let plain = plain_is c.new.result c.disable_help_flag.result (codes "rpcedit") c.new.ensures.app c.disable_help_flag.ensures in
+    IfOk-weaker c.arg.result _ _ (λ r h. h.shape (search rules) ∙ ap₂ with_rule plain c.file.ensures.rule) c.arg.ensures
 
 pub returns-clause-file : goal.returns-clause-file
 returns-clause-file c =
-    let file = fits_chain c.action-file.result (codes "file") (search rules) (search rules) (search rules) refl in
-    let one = c.action-file.result ∷ [] in
-    let fit = All-cons FitsChain c.action-file.result [] file (All-nil FitsChain) in
-    let ids = distinct_ids one (codes "file" ∷ []) (search rules) refl in
+    let one = c.file.result ∷ [] in
+    let fit = All-cons FitsChain c.file.result [] c.file.ensures.fits (All-nil FitsChain) in
+    let id = ap (λ (r : Rule). r.id) c.file.ensures.rule in
+    let ids = distinct_ids one (codes "file" ∷ []) (λ i. id i ∷ []) refl in
     IfOk-weaker c.arg.result _ _
-    (λ r h. always_has c.new-2.result c.disable_help_flag.result r one 0 c.action-file.result (codes "file")
-    c.disable_help_flag.ensures c.new-2.ensures.empty c.new-2.ensures.local c.new-2.ensures.negates
-    (_, h, refl) fit ids (omega arith) (search rules) (search rules))
+    (λ r h. always_has c.new.result c.disable_help_flag.result r one 0 c.file.result (codes "file")
+    c.disable_help_flag.ensures c.new.ensures.empty c.new.ensures.local c.new.ensures.negates
+    (_, h, refl) fit ids (omega arith) c.file.ensures.value id)
     c.arg.ensures

@@ -1,10 +1,8 @@
-use Rattle.std.proofs.Common.{◌≡◌, ℕ, false, ◌<◌, ◌≤◌, List, [], ◌∷◌, length, ap, sym, subst, ◌∙◌, refl, arith}
+use Rattle.std.proofs.Common.{◌≡◌, ℕ, ◌<◌, ◌≤◌, List, [], ◌∷◌, length, ap, subst, ◌∙◌, refl, arith}
 use Rattle.x_session.specs.Session.{Compiles}
 use Rattle.x_session.specs.Compile.{faults_of}
 use Rattle.x_session.specs.declared.compile.fault.Fault.{Fault}
-use Rattle.x_session.specs.Compile.{definitions_of}
-use Rattle.x_session.specs.Definitions.{are_constants}
-use Rattle.rpcx.specs.Generate.{told_faults, IsTold, OtherDefinitions}
+use Rattle.rpcx.specs.Generate.{told_faults, IsTold}
 use Rattle.x_session.proofs.Compiled.{one_compilation}
 use Rattle.rpcx.proofs.Stopped.{not_opened}
 use Rattle.rpcx.proofs.program.generating.gen_open.Goals as goal
@@ -13,8 +11,8 @@ no_fault : (fs : List Fault) (n : ℕ) → n ≡ length fs → n ≤ 0 → fs �
 no_fault [] n is none = refl
 no_fault (f ∷ fs) n is none = absurd (omega (arith, is, none))
 
-pub returns-else-not-has_constants_alone-clause-clean : goal.returns-else-not-has_constants_alone-clause-clean
-returns-else-not-has_constants_alone-clause-clean g c =
+pub returns-else-fault_count-gt0-clause-clean : goal.returns-else-fault_count-gt0-clause-clean
+returns-else-fault_count-gt0-clause-clean g c =
     let h = c.fault_count.ensures in
     let text = c.in-Ok.ensures.text in
     subst (λ t. Compiles t (λ items. faults_of t items ≡ [])) text (h.0, h.1, h.2, no_fault (faults_of c.in-Ok.session.text h.1) c.fault_count.result h.3 c.if-fault_count-gt0.false)
@@ -33,18 +31,6 @@ returns-then-fault_count-gt0-clause-faulty g c e =
     subst (λ fs. IsTold before after (told_faults c.args.file.now fs)) all.3 c.tell_faults.ensures in
     subst (λ t. Compiles t (λ items. (0 < length (faults_of t items)) × IsTold before after (told_faults c.args.file.now (faults_of t items)))) (c.in-Ok.ensures.text)
     (all.0, all.1, all.2, (some, told))
-
-pub returns-then-not-has_constants_alone-clause-failed : goal.returns-then-not-has_constants_alone-clause-failed
-returns-then-not-has_constants_alone-clause-failed g c e =
-    let count = c.fault_count.ensures in
-    let all = c.has_constants_alone.ensures in
-    let here = c.in-Ok.session.text in
-    let same : count.1 ≡ all.1 = (one_compilation here count.0 all.0 count.1 all.1 count.2 all.2).1 in
-    let none : faults_of here all.1 ≡ [] = ap (faults_of here) (sym same) ∙ no_fault (faults_of here count.1) c.fault_count.result count.3 c.if-fault_count-gt0.false in
-    let others : are_constants (definitions_of all.1) ≡ false = sym all.3 ∙ c.if-not-has_constants_alone.true in
-    OtherDefinitions
-    (subst (λ t. Compiles t (λ items. (faults_of t items ≡ []) × (are_constants (definitions_of items) ≡ false))) (c.in-Ok.ensures.text) (all.0, all.1, all.2, (none, others)))
-    c.tell_of_file.ensures
 
 pub returns-in-Err-clause-failed : goal.returns-in-Err-clause-failed
 returns-in-Err-clause-failed g c e =

@@ -38,7 +38,10 @@ returns-clause-reads g c =
     let rows : rows_of found ≡ matches_of gen_app words =
     (c.in_ok-matches.ensures.matches (ap is_simple app ∙ is_plain)).0 ∙ ap (λ a. matches_of a words) app in
     record {
-      header = c.is_given.ensures ∙ ap (is_in_words (codes "header")) rows;
+      routines = c.is_given.ensures ∙ ap (is_in_words (codes "routines")) rows;
+      header = c.is_given-2.ensures ∙ ap (is_in_words (codes "header")) rows;
+      stubs = c.is_given-3.ensures ∙ ap (is_in_words (codes "stubs")) rows;
+      table = c.is_given-4.ensures ∙ ap (is_in_words (codes "table")) rows;
       output = c.get_str.ensures ∙ first_value-rows found (codes "output") ∙ ap (first_of (codes "output")) rows;
       file = ap (option_map (λ s. s.now)) (sym c.unwrap.ensures) ∙ c.get_str-2.ensures ∙ first_value-rows found (codes "file") ∙ ap (first_of (codes "file")) rows;
     }

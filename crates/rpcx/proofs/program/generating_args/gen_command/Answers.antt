@@ -1,36 +1,62 @@
-use Rattle.std.proofs.Common.{◌≡◌, ◌∙◌, [], ◌∷◌, rules, refl, ap₂, arith, codes}
+use Rattle.std.proofs.Common.{◌≡◌, ◌∙◌, [], ◌∷◌, rules, refl, ap, ap₂, arith, codes}
 use Rattle.std.proofs.lemmas.Result.{IfOk-weaker}
 use Rattle.std.proofs.lemmas.List.Elements.{All-cons, All-nil}
-use Rattle.clap.specs.Words.{rule_of, with_rule}
+use Rattle.clap.specs.Words.{Rule, Text, rule_of, with_rule}
 use Rattle.clap.specs.Built.{FitsChain}
-use Rattle.rpcx.specs.Args.{file_rule, gen_app, header_rule, output_rule}
+use Rattle.rpcx.specs.Args.{gen_app, output_rule}
 use Rattle.rpcx.proofs.Commands.{always_has, distinct_ids, fits_chain, plain_is}
 use Rattle.rpcx.proofs.program.generating_args.gen_command.Goals as goal
 
 pub returns-clause-app : goal.returns-clause-app
 unfolding gen_app
 returns-clause-app c =
-    let header_is : rule_of c.action-header.result ≡ header_rule = search rules in
     let output_is : rule_of c.action-output.result ≡ output_rule = search rules in
-    let file_is : rule_of c.action-file.result ≡ file_rule = search rules in
-    let plain = plain_is c.new-4.result c.disable_help_flag.result (codes "rpcgen") c.new-4.ensures.app c.disable_help_flag.ensures in
-    let one = c.in_ok-arg.ensures.shape (search rules) ∙ ap₂ with_rule plain header_is in
-    let two = c.in_ok-arg-2.ensures.shape (search rules) ∙ ap₂ with_rule one output_is in
-    IfOk-weaker c.arg-3.result _ _ (λ r h. h.shape (search rules) ∙ ap₂ with_rule two file_is) c.arg-3.ensures
+    let plain = plain_is c.new-2.result c.disable_help_flag.result (codes "rpcgen") c.new-2.ensures.app c.disable_help_flag.ensures in
+    let one = c.in_ok-arg.ensures.shape (search rules) ∙ ap₂ with_rule plain c.flag.ensures.rule in
+    let two = c.in_ok-arg-2.ensures.shape (search rules) ∙ ap₂ with_rule one c.flag-2.ensures.rule in
+    let three = c.in_ok-arg-3.ensures.shape (search rules) ∙ ap₂ with_rule two c.flag-3.ensures.rule in
+    let four = c.in_ok-arg-4.ensures.shape (search rules) ∙ ap₂ with_rule three c.flag-4.ensures.rule in
+    let five = c.in_ok-arg-5.ensures.shape (search rules) ∙ ap₂ with_rule four output_is in
+    IfOk-weaker c.arg-6.result _ _ (λ r h. h.shape (search rules) ∙ ap₂ with_rule five c.file.ensures.rule) c.arg-6.ensures
 
 pub returns-clause-file : goal.returns-clause-file
 returns-clause-file c =
-    let header = fits_chain c.action-header.result (codes "header") (search rules) (search rules) (search rules) refl in
     let output = fits_chain c.action-output.result (codes "output") (search rules) (search rules) (search rules) refl in
-    let file = fits_chain c.action-file.result (codes "file") (search rules) (search rules) (search rules) refl in
-    let one = c.action-file.result ∷ [] in
+    let output_id : c.action-output.result.id.now ≡ codes "output" = search rules in
+    let id : Rule → Text = λ r. r.id in
+    let one = c.file.result ∷ [] in
     let two = c.action-output.result ∷ one in
-    let three = c.action-header.result ∷ two in
-    let fit = All-cons FitsChain c.action-header.result two header
-    (All-cons FitsChain c.action-output.result one output (All-cons FitsChain c.action-file.result [] file (All-nil FitsChain))) in
-    let ids = distinct_ids three (codes "header" ∷ codes "output" ∷ codes "file" ∷ []) (search rules) refl in
-    IfOk-weaker c.arg-3.result _ _
-    (λ r h. always_has c.new-4.result c.disable_help_flag.result r three 2 c.action-file.result (codes "file")
-    c.disable_help_flag.ensures c.new-4.ensures.empty c.new-4.ensures.local c.new-4.ensures.negates
-    (_, c.in_ok-arg.ensures, (_, c.in_ok-arg-2.ensures, (_, h, refl))) fit ids (omega arith) (search rules) (search rules))
-    c.arg-3.ensures
+    let three = c.flag-4.result ∷ two in
+    let four = c.flag-3.result ∷ three in
+    let five = c.flag-2.result ∷ four in
+    let six = c.flag.result ∷ five in
+    let fit_one = All-cons FitsChain c.file.result [] c.file.ensures.fits (All-nil FitsChain) in
+    let fit_two = All-cons FitsChain c.action-output.result one output fit_one in
+    let fit_three = All-cons FitsChain c.flag-4.result two c.flag-4.ensures.fits fit_two in
+    let fit_four = All-cons FitsChain c.flag-3.result three c.flag-3.ensures.fits fit_three in
+    let fit_five = All-cons FitsChain c.flag-2.result four c.flag-2.ensures.fits fit_four in
+    let fit = All-cons FitsChain c.flag.result five c.flag.ensures.fits fit_five in
+    let names = codes "routines" ∷ codes "header" ∷ codes "stubs" ∷ codes "table" ∷ codes "output" ∷ codes "file" ∷ [] in
+    let ids = distinct_ids six names
+    (λ i. ap id c.flag.ensures.rule i ∷ ap id c.flag-2.ensures.rule i ∷ ap id c.flag-3.ensures.rule i ∷ ap id c.flag-4.ensures.rule i
+    ∷ output_id i ∷ ap id c.file.ensures.rule i ∷ []) refl in
+    IfOk-weaker c.arg-6.result _ _
+    (λ r h. always_has c.new-2.result c.disable_help_flag.result r six 5 c.file.result (codes "file")
+    c.disable_help_flag.ensures c.new-2.ensures.empty c.new-2.ensures.local c.new-2.ensures.negates (
+      _,
+      c.in_ok-arg.ensures,
+      (
+        _,
+        c.in_ok-arg-2.ensures,
+        (
+          _,
+          c.in_ok-arg-3.ensures,
+          (
+            _,
+            c.in_ok-arg-4.ensures,
+            (_, c.in_ok-arg-5.ensures, (_, h, refl)),
+          ),
+        ),
+      ),
+    ) fit ids (omega arith) c.file.ensures.value (ap id c.file.ensures.rule))
+    c.arg-6.ensures
