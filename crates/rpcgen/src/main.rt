@@ -1,9 +1,7 @@
 //! `rpcgen`: writes a text that is generated of a `.x` file.
 #![tactic(auto)]
 
-use rpcx::{
-    Status, gen_args, gen_mode, gen_open, gen_write, read_text, read_words, tell_of_file,
-};
+use rpcx::{Status, gen_args, gen_mode, gen_open, gen_write, read_text, read_words, tell_of_file};
 use std::process::ExitCode;
 use std::{fs, mem};
 use x_session::{Session, Which};

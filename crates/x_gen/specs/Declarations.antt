@@ -1,4 +1,5 @@
--- How C declares what a declaration declares, and how its XDR routine calls those of its parts (RFC 4506, section 4).
+-- How C declares what a declaration declares, and how its XDR routine calls those of its parts: this project's profile of what rpcgen(1)
+-- writes. `around` is the name of the type that a declaration stands in, and for a `typedef` the name that it declares itself.
 use Rattle.std.specs.Prelude.{ℕ, Bool, true, false, List, [], ◌++◌, codes}
 use Rattle.x_item.specs.Tree.{Declaration, Void, Of, Opaque, String, Length, Fixed, Variable, Shape, Plain, Optional, Array}
 use Rattle.x_item.specs.Gloss.{lifted_name}
@@ -32,14 +33,15 @@ opaque_declaration x (Fixed v) = codes "char " ++ x ++ codes "[" ++ spelled v ++
 opaque_declaration x (Variable m) =
     codes "struct { u_int " ++ x ++ codes "_len; char *" ++ x ++ codes "_val; } " ++ x
 
--- the declaration in C, inside the type that `around` names
+-- the declaration in C
 abbrev pub c_declaration : List ℕ → Declaration → List ℕ
 c_declaration around Void = []
 c_declaration around (Of type x shape) = declared_as (c_type (lifted_name around x) type).name x shape
 c_declaration around (Opaque x length) = opaque_declaration x length
 c_declaration around (String x m) = codes "char *" ++ x
 
--- where a value lies that a routine reads or writes: in a field of a struct, in an arm of the union of a name, or by itself
+-- where a value lies that a routine reads or writes: in a field of a struct or in a union's discriminant, in an arm of the union of a
+-- name, or by itself, as that of a `typedef`
 pub data Place : Type 0 where
   InStruct : Place
   InUnion : (union : List ℕ) → Place
@@ -79,6 +81,6 @@ call_at around e (Of type x shape) = call_as (c_type (lifted_name around x) type
 call_at around e (Opaque x length) = opaque_call e x length
 call_at around e (String x m) = codes "xdr_string(xdrs, &" ++ e ++ codes ", " ++ most m ++ codes ")"
 
--- the call for what a declaration declares, inside the type that `around` names
+-- the call for what a declaration declares
 abbrev pub call : List ℕ → Place → Declaration → List ℕ
 call around place d = call_at around (lies_at place (name_of d)) d

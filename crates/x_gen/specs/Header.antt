@@ -1,4 +1,4 @@
--- The pieces of the header.
+-- The pieces of the header: this project's profile of what rpcgen(1) writes. A union is a struct in C.
 use Rattle.std.specs.Prelude.{ℕ, suc, Bool, true, false, List, [], ◌∷◌, ◌++◌, codes, Option, Some, None, if◌then◌else◌}
 use Rattle.std.specs.List.{flat_map}
 use Rattle.std.specs.Fmt.{decimal}
@@ -9,7 +9,7 @@ use Rattle.x_gen.specs.Declarations.{name_of, is_void, c_declaration}
 use Rattle.x_gen.specs.InlineTypes.{NamedBody}
 use Rattle.x_gen.specs.Procedures.{function_name, are_several, group_name, argument_in, result_type}
 
--- an enum needs none
+-- the line that names a type before it is declared: an enum needs none
 abbrev pub forward_of_body : List ℕ → Body → List ℕ
 forward_of_body name (Enum es) = []
 forward_of_body name body = codes "typedef struct " ++ name ++ codes " " ++ name ++ codes ";\n"

@@ -43,7 +43,7 @@ abbrev mutual
   types_of_default around no_default = []
   types_of_default around (default d) = types_of_declaration around d
 
--- the types that a definition writes
+-- the types that a definition writes: an inline type as an argument or a result is a fault, so a program writes none
 abbrev pub types_of : Definition → List NamedBody
 types_of (Const name value) = []
 types_of (Typedef d) = types_of_declaration (name_of d) d

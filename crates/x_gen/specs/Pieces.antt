@@ -1,4 +1,4 @@
--- What is generated of a definition.
+-- The pieces that are generated of a definition, and the items of a text.
 use Rattle.std.specs.Prelude.{ℕ, List, [], Option, None, slice_get}
 use Rattle.std.specs.Option.{option_map_or}
 use Rattle.x_gen.specs.declared.which.Which.{Which}

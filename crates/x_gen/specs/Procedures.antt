@@ -13,7 +13,7 @@ lower_byte b = if is_upper b then b + 32 else b
 abbrev pub lower : List ℕ → List ℕ
 lower name = map lower_byte name
 
--- a number in decimal, however it is spelled
+-- a number in decimal, however it is spelled; nothing for one that is out of range, which is a fault
 abbrev pub in_decimal : List ℕ → List ℕ
 in_decimal text = if in_range text then signed_decimal (value text) else []
 
@@ -43,7 +43,7 @@ result_type p = passed_type p.result
 abbrev pub sized : CType → List ℕ
 sized c = codes "sizeof (" ++ c.name ++ codes ")"
 
--- how large an argument or a result is: `void` has no size
+-- how large an argument or a result is: `0` for `void`
 abbrev pub size_of : Option Argument → List ℕ
 size_of None = codes "0"
 size_of (Some a) = sized (passed_type (Some a))

@@ -1,4 +1,4 @@
--- What is generated of a definition.
+-- Which pieces are generated of a definition.
 use Rattle.std.specs.Prelude.{ℕ, List, [], ◌++◌, codes}
 use Rattle.std.specs.List.{flat_map}
 use Rattle.x_item.specs.Tree.{Definition, Const, Typedef, NewType, Program}

@@ -1,4 +1,4 @@
--- The pieces of the XDR routines.
+-- The pieces of the XDR routines: this project's profile of what rpcgen(1) writes.
 use Rattle.std.specs.Prelude.{ℕ, suc, List, [], ◌∷◌, ◌++◌, codes, Some, if◌then◌else◌}
 use Rattle.std.specs.List.{flat_map}
 use Rattle.std.specs.Fmt.{decimal}

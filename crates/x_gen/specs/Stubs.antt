@@ -1,4 +1,4 @@
--- The pieces of the client's stubs.
+-- The pieces of the client's stubs: this project's profile of what rpcgen(1) writes.
 use Rattle.std.specs.Prelude.{ℕ, List, ◌++◌, codes, Option, Some, None}
 use Rattle.std.specs.List.{flat_map}
 use Rattle.x_item.specs.Tree.{Argument, Procedure, Version}

@@ -1,4 +1,4 @@
--- The pieces of the server's tables.
+-- The pieces of the server's tables: this project's profile of what rpcgen(1) writes.
 use Rattle.std.specs.Prelude.{ℕ, List, ◌++◌, codes, if◌then◌else◌}
 use Rattle.std.specs.List.{flat_map}
 use Rattle.x_item.specs.Tree.{Procedure, Version}

@@ -1,4 +1,4 @@
-//! What is generated of a definition.
+//! The pieces that are generated of a definition.
 
 ghost use Rattle.std.specs.Prelude.{◌≡◌, ◌≤◌, ◌+◌, ◌++◌, length, IfOk};
 ghost use Rattle.x_gen.specs.Parting.{parted, InOrder};

@@ -1,4 +1,4 @@
-//! What is generated of a definition.
+//! Making the pieces of a definition.
 
 ghost use Rattle.std.specs.Prelude.{◌≡◌, ◌++◌, [], OnOk, IfOk};
 ghost use Rattle.std.specs.List.{flat_map};

@@ -1,7 +1,7 @@
-/// A text that is generated, named after `rpcgen`'s letters.
+/// A text that is generated: one for each of `rpcgen`'s letters `-h`, `-c`, `-l` and `-t`.
 #[derive(Clone, Copy, Debug, PartialEq, Eq)]
 pub enum Which {
-    /// The header, `BASE.h`: types, constants and what is declared of procedures.
+    /// The header: types, constants and what is declared of procedures.
     Header,
     /// The XDR routines of the types.
     Routines,

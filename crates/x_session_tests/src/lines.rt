@@ -1,10 +1,10 @@
 ghost use Rattle.std.specs.Prelude.{◌≡◌, length, IfOk, IfSome};
 ghost use Rattle.x_session.specs.Lines.{script_lines};
 
-use x_session::{Found, LineFault, LineReader};
 use std::alloc::Global;
 use std::process::Abort;
 use std::test::Fail;
+use x_session::{Found, LineFault, LineReader};
 use x_text::{MemTap, Tap};
 
 /// Checks that the reader finds a line next.

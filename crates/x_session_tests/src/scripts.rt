@@ -1,8 +1,8 @@
-use x_session::{EngineFault, Outcome, Session, run_script};
 use std::alloc::Global;
 use std::io::{self, Write};
 use std::process::Abort;
 use std::test::Fail;
+use x_session::{EngineFault, Outcome, Session, run_script};
 use x_text::{Edit, MemSink, MemTap, Out, TextFault};
 
 #[test]

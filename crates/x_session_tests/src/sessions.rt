@@ -1,7 +1,7 @@
-use x_session::{FaultCode, Session, Which, Work};
 use std::process::Abort;
 use std::test::Fail;
 use x_lex::Kind;
+use x_session::{FaultCode, Session, Which, Work};
 use x_text::{Edit, MemSink, TextFault, WriteFault};
 
 /// Checks the token and the definition of a session of the text `const A = 12;;`.

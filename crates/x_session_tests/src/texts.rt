@@ -1,5 +1,5 @@
-use x_session::{EngineFault, FaultCode, LineFault, RuleCode, one_compilation};
 use std::test::Fail;
+use x_session::{EngineFault, FaultCode, LineFault, RuleCode, one_compilation};
 
 #[test]
 fn faults_have_their_texts(rt: HostRuntime) -> Result<(), Fail> {
