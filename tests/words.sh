@@ -67,3 +67,10 @@ marked() {
         printf '%s\n' "$text"
     done
 }
+
+# links TYPE COUNT [LAST]: the line that shows a type of so many words 1 and a last word, which is 0 where none is named.
+links() {
+    printf 'dump %s ' "$1"
+    yes 00000001 | head -n "$2" | tr -d '\n'
+    echo "${3:-00000000}"
+}

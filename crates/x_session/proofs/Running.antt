@@ -5,13 +5,13 @@ use Rattle.std.specs.Io.KnownBytes.{Appends}
 use Rattle.x_text.specs.Streams.{Stream}
 use Rattle.x_text.specs.Writing.{Inked, Writes, Adds, counted}
 use Rattle.x_text.proofs.Pens.{writes_none, all_written, counted_all, front_written}
-use Rattle.x_session.specs.Session.{Document, LeavesText, Compiles}
-use Rattle.x_session.specs.Answers.{Answer, line_answer}
+use Rattle.x_session.specs.Session.{Document, LeavesText}
+use Rattle.x_session.specs.Answers.{Answer, IsLineAnswer}
 use Rattle.x_session.specs.Lines.{Reading, IsUnread, script_lines}
 use Rattle.x_lex.specs.declared.kind.Kind.{Kind}
 use Rattle.x_session.specs.Compile.{Item, IsCompilation}
 use Rattle.x_session.specs.declared.script.lines.State.TheVariants.{Between}
-use Rattle.x_session.specs.Script.{then_answer, AreAnswered, IsGiven, HasGiven, IsAsBefore, HasRun, HasStopped, HasFailed, IsFrontOf, WorksOn, AddsIfFound}
+use Rattle.x_session.specs.Script.{then_answer, LineAnswers, AreAnswered, IsGiven, HasGiven, IsAsBefore, HasRun, HasStopped, HasFailed, IsFrontOf, WorksOn, AddsIfFound}
 use Rattle.x_session.proofs.Scripts.{answered_more}
 
 -- between two lines: the lines that were given are answered, and their answers are written
@@ -57,12 +57,14 @@ pub record IsBehind (script : List ℕ) (old : Document) (start : Stream) (sessi
   pub all : Answer
   pub tokens : List (Kind × ℕ)
   pub items : List Item
+  pub answer : Answer
   pub reads : HasGiven script reader left (earlier ++ last ∷ [])
   pub answered : AreAnswered old.base old.text earlier all
   pub compiled : IsCompilation all.text tokens items
-  pub session_is : LeavesText old session (line_answer old.base all.text items last).text
-  pub refused_is : refused ≡ (all.refused || (line_answer old.base all.text items last).refused)
-  pub writes : Writes start (all.told ++ (line_answer old.base all.text items last).told) pen now
+  pub is_answer : IsLineAnswer old.base all.text items last answer
+  pub session_is : LeavesText old session answer.text
+  pub refused_is : refused ≡ (all.refused || answer.refused)
+  pub writes : Writes start (all.told ++ answer.told) pen now
   pub whole : counted (length all.told) ≤ pen.written
 
 no_fewer_then : (a b c d : ℕ) → b ≡ a → b ≤ c → c ≤ d → a ≤ d
@@ -70,7 +72,7 @@ no_fewer_then a b c d is first second = omega (arith, is, first, second)
 
 pub behind : (script : List ℕ) (old : Document) (start : Stream) (session new : Document) (reader reader' : Reading) (left left' : Option (List ℕ)) (refused refuses : Bool)
     (p q r : Inked) (now now' now'' : Stream) → (h : IsBetween script old start session reader left refused p now)
-    → ((line : List ℕ) × HasGiven script reader' left' (h.given ++ line ∷ []) × Compiles session.text (λ items. IsGiven (line_answer session.base session.text items line) session new refuses p now q now'))
+    → ((line : List ℕ) × HasGiven script reader' left' (h.given ++ line ∷ []) × LineAnswers session.base session.text line (λ a. IsGiven a session new refuses p now q now'))
     → Adds q now' r now'' []
     → IsBehind script old start new reader' left' (refused || refuses) r now''
 behind script old start session new reader reader' left left' refused refuses p q r now now' now'' h k flushed =
@@ -78,9 +80,9 @@ behind script old start session new reader reader' left left' refused refuses p 
     let items = k.2.1 in
     let text_is : session.text ≡ h.all.text = h.session_is.text_is in
     let base_is : session.base ≡ old.base = h.session_is.base_is in
-    let a = line_answer old.base h.all.text items line in
-    let same : line_answer session.base session.text items line ≡ a = λ i. line_answer (base_is i) (text_is i) items line in
-    let given : IsGiven a session new refuses p now q now' = subst (λ b. IsGiven b session new refuses p now q now') same k.2.3 in
+    let a = k.2.3.0 in
+    let is_answer : IsLineAnswer old.base h.all.text items line a = subst (λ b. IsLineAnswer b h.all.text items line a) base_is (subst (λ t. IsLineAnswer session.base t items line a) text_is k.2.3.1) in
+    let given : IsGiven a session new refuses p now q now' = k.2.3.2 in
     let told = flushed.goes_on start (h.all.told ++ a.told) (given.added.goes_on start h.all.told h.writes) in
     record {
       earlier = h.given;
@@ -88,6 +90,8 @@ behind script old start session new reader reader' left left' refused refuses p 
       all = h.all;
       tokens = k.2.0;
       items = items;
+      answer = a;
+      is_answer = is_answer;
       reads = k.1;
       answered = h.answered;
       compiled = subst (λ t. IsCompilation t k.2.0 items) text_is k.2.2;
@@ -101,9 +105,9 @@ pub between : (script : List ℕ) (old : Document) (start : Stream) (session : D
     → IsBehind script old start session reader left refused pen now → pen.stopped ≡ false → pen.pending ≡ [] → IsBetween script old start session reader left refused pen now
 between script old start session reader left refused pen now h goes empty = record {
   given = h.earlier ++ h.last ∷ [];
-  all = then_answer h.all (line_answer old.base h.all.text h.items h.last);
+  all = then_answer h.all h.answer;
   reads = h.reads;
-  answered = answered_more old.base old.text h.earlier h.last h.all h.answered h.tokens h.items h.compiled;
+  answered = answered_more old.base old.text h.earlier h.last h.all h.answered h.answer (λ P k. (h.tokens, h.items, h.compiled, (h.answer, h.is_answer, k)));
   session_is = h.session_is;
   refused_is = h.refused_is;
   writes = h.writes;
@@ -115,7 +119,7 @@ between script old start session reader left refused pen now h goes empty = reco
 pub at_stop : (script : List ℕ) (old : Document) (start : Stream) (session : Document) (reader : Reading) (left : Option (List ℕ)) (refused : Bool) (pen : Inked) (now : Stream)
     → IsBehind script old start session reader left refused pen now → pen.stopped ≡ true → IsFrontOf script (λ lines. HasFailed lines old session start now pen.written) × (now.failed ≡ true)
 at_stop script old start session reader left refused pen now h stops =
-    let last = line_answer old.base h.all.text h.items h.last in
+    let last = h.answer in
     let front = front_written pen start now (h.all.told ++ last.told) stops h.writes in
     let fails : HasFailed (h.earlier ++ h.last ∷ []) old session start now pen.written = record {
       earlier = h.earlier;
@@ -123,7 +127,7 @@ at_stop script old start session reader left refused pen now h stops =
       lines_are = refl;
       all = h.all;
       answered = h.answered;
-      within = (h.tokens, h.items, h.compiled, record { front = front.front; whole = h.whole; session_is = h.session_is });
+      within = (h.tokens, h.items, h.compiled, (last, h.is_answer, record { front = front.front; whole = h.whole; session_is = h.session_is }));
     } in
     ((h.earlier ++ h.last ∷ [], script_lines (h.reads.unread ++ h.reads.later), h.reads.lines_are, fails), front.failed)
 

@@ -5,10 +5,8 @@ use Rattle.std.specs.Prelude.{MatchResult}
 use Rattle.std.specs.Io.KnownBytes.{Consumes, IsAtEnd}
 use Rattle.x_lex.specs.declared.kind.Kind.{Kind}
 use Rattle.x_session.specs.Compile.{Item, IsCompilation}
-use Rattle.x_session.specs.Answers.{Answer, answer, line_answer, refused}
-use Rattle.x_session.specs.Commands.{command_of}
-use Rattle.x_session.specs.declared.script.lines.TheConstants.{LONGEST}
-use Rattle.x_session.specs.Script.{then_answer, AreAnswered, HasGiven}
+use Rattle.x_session.specs.Answers.{Answer}
+use Rattle.x_session.specs.Script.{then_answer, LineAnswers, AreAnswered, HasGiven}
 use Rattle.x_session.specs.declared.script.lines.Found.{Found}
 use Rattle.x_session.specs.declared.script.lines.Found.TheVariants.{Line, TooLong, End}
 use Rattle.x_session.specs.declared.script.lines.State.{State}
@@ -38,17 +36,16 @@ then_nothing a = λ i. record { told = sym (append-nil a.told) i; refused = sym 
 
 -- one line more
 pub answered_more : (base text : List ℕ) (lines : List (List ℕ)) (line : List ℕ) (all : Answer) → AreAnswered base text lines all
-    → (tokens : List (Kind × ℕ)) (items : List Item) → IsCompilation all.text tokens items → AreAnswered base text (lines ++ line ∷ []) (then_answer all (line_answer base all.text items line))
-answered_more base text [] line all k tokens items h = subst (λ a. (tokens : List (Kind × ℕ)) (items : List Item) → IsCompilation a.text tokens items → AreAnswered base text (line ∷ []) (then_answer a (line_answer base a.text items line))) (sym k)
-    (λ tokens items h. (tokens, items, h, (nothing (line_answer base text items line).text, refl, then_nothing (line_answer base text items line)))) tokens items h
-answered_more base text (l ∷ ls) line all k tokens items h =
-    let first = line_answer base text k.1 l in
-    let rest = k.3.0 in
-    let left = subst (λ a. IsCompilation a.text tokens items) k.3.2 h in
-    let more = answered_more base first.text ls line rest k.3.1 tokens items left in
-    let same : then_answer all (line_answer base all.text items line) ≡ then_answer first (then_answer rest (line_answer base rest.text items line)) =
-    ap (λ a. then_answer a (line_answer base a.text items line)) k.3.2 ∙ then_assoc first rest (line_answer base rest.text items line) in
-    (k.0, k.1, k.2, (then_answer rest (line_answer base rest.text items line), more, same))
+    → (last : Answer) → ((P : Answer → Type 0) → P last → LineAnswers base all.text line P) → AreAnswered base text (lines ++ line ∷ []) (then_answer all last)
+answered_more base text [] line all k last h =
+    subst (λ a. ((P : Answer → Type 0) → P last → LineAnswers base a.text line P) → AreAnswered base text (line ∷ []) (then_answer a last)) (sym k)
+    (λ h. h (λ first. (rest : Answer) × (rest ≡ nothing first.text) × (then_answer (nothing text) last ≡ then_answer first rest)) (nothing last.text, refl, then_nothing last)) h
+answered_more base text (l ∷ ls) line all k last h =
+    let first = k.3.0 in
+    let rest = k.3.2.0 in
+    let left : (P : Answer → Type 0) → P last → LineAnswers base rest.text line P = subst (λ a. (P : Answer → Type 0) → P last → LineAnswers base a.text line P) k.3.2.2 h in
+    let more = answered_more base first.text ls line rest k.3.2.1 last left in
+    (k.0, k.1, k.2, (first, k.3.1, (then_answer rest last, more, ap (λ a. then_answer a last) k.3.2.2 ∙ then_assoc first rest last)))
 
 -- what is left of what the tap told
 come_split : (left : Option (List ℕ)) (later come : List ℕ) → Consumes (Some later) left come → (rest : List ℕ) × (left ≡ Some rest) × (later ≡ come ++ rest)
@@ -138,7 +135,3 @@ stops_behind script given old reader left result fault h before_end is = on faul
 -- memory ran out behind some lines of a script
 pub some_given : (script : List ℕ) (given : List (List ℕ)) (old reader : Reading) (left : Option (List ℕ)) (result : Result Found LineFault) → HasRead script given old reader left result → StopsBehind NoMemory script left given
 some_given script given old reader left result h = (script_lines (h.text ++ h.later), h.lines_are)
-
--- the answer of a line that is too long
-pub too_long : (base text : List ℕ) (items : List Item) (line : List ℕ) → LONGEST < length line → line_answer base text items line ≡ refused text (codes "refused 44 LongLine\n")
-too_long base text items line far = ap (λ b. cond b (answer base text items (command_of line)) (refused text (codes "refused 44 LongLine\n"))) (lt-leb (length line) LONGEST far)

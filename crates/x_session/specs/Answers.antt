@@ -1,5 +1,5 @@
 -- What a script of edits and questions is answered, over a text and its items.
-use Rattle.std.specs.Prelude.{ℕ, Bool, true, false, ◌&&◌, nat_le, List, ◌++◌, Option, Some, None, length, codes, if◌then◌else◌}
+use Rattle.std.specs.Prelude.{◌≡◌, ◌<◌, ◌≤◌, ℕ, Bool, true, false, ◌&&◌, nat_le, List, ◌++◌, Option, Some, None, length, codes, if◌then◌else◌}
 use Rattle.std.specs.List.{flat_map}
 use Rattle.std.specs.Fmt.{decimal}
 use Rattle.x_text.specs.Edits.{Change, edited_by}
@@ -115,7 +115,7 @@ answer base text items commands.Faults = answered text (faults_answer (faults_of
 answer base text items (commands.Text which) = answered text (text_answer (text_of which base items))
 answer base text items commands.Bad = refused text (codes "refused 43 BadLine\n")
 
--- what a line is answered, over a text that has these items
-abbrev pub line_answer : List ℕ → List ℕ → List Item → List ℕ → Answer
-line_answer base text items line =
-    if nat_le (length line) LONGEST then answer base text items (command_of line) else refused text (codes "refused 44 LongLine\n")
+-- a line is answered so, over a text that has these items
+pub data IsLineAnswer (base text : List ℕ) (items : List Item) (line : List ℕ) (a : Answer) : Type 0 where
+  within : length line ≤ LONGEST → a ≡ answer base text items (command_of line) → IsLineAnswer base text items line a
+  too_long : LONGEST < length line → a ≡ refused text (codes "refused 44 LongLine\n") → IsLineAnswer base text items line a

@@ -3,7 +3,7 @@ use Rattle.std.specs.Prelude.{◌≡◌, ◌≤◌, ℕ, Bool, true, false, ◌|
 use Rattle.x_text.specs.Streams.{Stream}
 use Rattle.x_text.specs.Writing.{Inked, Adds}
 use Rattle.x_session.specs.Session.{Document, LeavesText, Compiles}
-use Rattle.x_session.specs.Answers.{Answer, line_answer}
+use Rattle.x_session.specs.Answers.{Answer, IsLineAnswer}
 use Rattle.x_session.specs.declared.script.lines.LineFault.{LineFault}
 use Rattle.x_session.specs.declared.script.lines.State.TheVariants.{Ended}
 use Rattle.x_session.specs.declared.script.Outcome.{Outcome}
@@ -18,11 +18,15 @@ use Rattle.std.specs.Io.KnownBytes.{Appends, Consumes}
 abbrev pub then_answer : Answer → Answer → Answer
 then_answer first rest = record { told = first.told ++ rest.told; refused = first.refused || rest.refused; text = rest.text }
 
+-- this holds of what a line is answered, over what compiling the text gives
+abbrev pub LineAnswers : (base text line : List ℕ) → (Answer → Type 0) → Type 0
+LineAnswers base text line P = Compiles text (λ items. (a : Answer) × IsLineAnswer base text items line a × P a)
+
 -- the lines, one after another, get these answers in all, and leave this text
 abbrev pub AreAnswered : List ℕ → List ℕ → List (List ℕ) → Answer → Type 0
 AreAnswered base text [] all = all ≡ record { told = []; refused = false; text = text }
-AreAnswered base text (line ∷ lines) all = Compiles text (λ items. (rest : Answer)
-    × AreAnswered base (line_answer base text items line).text lines rest × (all ≡ then_answer (line_answer base text items line) rest))
+AreAnswered base text (line ∷ lines) all =
+    LineAnswers base text line (λ first. (rest : Answer) × AreAnswered base first.text lines rest × (all ≡ then_answer first rest))
 
 -- an answer was given: it was added to what is written, and the session has the text that it leaves
 pub record IsGiven (a : Answer) (old new : Document) (refused : Bool) (p : Inked) (now : Stream) (q : Inked) (now' : Stream) : Type 0 where
@@ -52,7 +56,7 @@ pub record IsAsBefore (old new : Document) (p : Inked) (now : Stream) (q : Inked
 abbrev pub GoesOn : (old new : Document) (script : List ℕ) (reader : Reading) (left : Option (List ℕ)) (given : List (List ℕ)) → Result (Option Bool) LineFault
     → (p : Inked) (now : Stream) (q : Inked) (now' : Stream) → Type 0
 GoesOn old new script reader left given (Ok (Some refused)) p now q now' =
-    (line : List ℕ) × HasGiven script reader left (given ++ line ∷ []) × Compiles old.text (λ items. IsGiven (line_answer old.base old.text items line) old new refused p now q now')
+    (line : List ℕ) × HasGiven script reader left (given ++ line ∷ []) × LineAnswers old.base old.text line (λ a. IsGiven a old new refused p now q now')
 GoesOn old new script reader left given (Ok None) p now q now' = (script_lines script ≡ given) × IsAsBefore old new p now q now'
 GoesOn old new script reader left given (Err fault) p now q now' = StopsBehind fault script left given × IsAsBefore old new p now q now'
 
@@ -87,7 +91,7 @@ pub record HasFailed (lines : List (List ℕ)) (old new : Document) (before afte
   pub lines_are : lines ≡ earlier ++ last ∷ []
   pub all : Answer
   pub answered : AreAnswered old.base old.text earlier all
-  pub within : Compiles all.text (λ items. FailsWithin all (line_answer old.base all.text items last) old new before after written)
+  pub within : LineAnswers old.base all.text last (λ a. FailsWithin all a old new before after written)
 
 abbrev pub is_refused : Outcome → Bool
 is_refused Clean = false

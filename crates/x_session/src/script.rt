@@ -4,9 +4,9 @@ ghost use Rattle.std.specs.Prelude.{◌≡◌, ◌≤◌, ◌||◌, ℕ, List, l
 ghost use Rattle.x_text.specs.Edits.{change_of};
 ghost use Rattle.x_text.specs.Writing.{Adds};
 ghost use Rattle.x_session.specs.Session.{Compiles};
-ghost use Rattle.x_session.specs.Answers.{answer, edit_answer, line_answer};
+ghost use Rattle.x_session.specs.Answers.{answer, edit_answer};
 ghost use Rattle.x_session.specs.declared.script.lines.TheConstants.{LONGEST};
-ghost use Rattle.x_session.specs.Script.{AddsIfFound, IsGiven, HasGiven, GoesOn, NamesCause, Runs, is_refused};
+ghost use Rattle.x_session.specs.Script.{AddsIfFound, IsGiven, LineAnswers, HasGiven, GoesOn, NamesCause, Runs, is_refused};
 ghost use Rattle.x_session.specs.Lines.{FailsBy};
 
 mod answer;
@@ -182,9 +182,8 @@ fn answer_line<S: Sink>(
 ) -> Result<bool, NoMemory>
     requires { length line.now ≤ LONGEST }
     ensures given { IfOk result
-        (λ refused. Compiles session.old.text
-        (λ items. IsGiven (line_answer session.old.base session.old.text items line.now)
-        session.old session.new refused pen.old (S.state sink.old) pen.new (S.state sink.new))) }
+        (λ refused. LineAnswers session.old.base session.old.text line.now
+        (λ a. IsGiven a session.old session.new refused pen.old (S.state sink.old) pen.new (S.state sink.new))) }
     ensures same { OnErr result ((session.new ≡ session.old) × (pen.new ≡ pen.old) × (sink.new ≡ sink.old)) }
 {
     let command = parse_command(alloc, line)?;

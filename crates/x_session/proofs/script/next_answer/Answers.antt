@@ -1,11 +1,12 @@
 use Rattle.std.proofs.Common.{ℕ, Bool, Option, Result, Err, true, List, Ok, refl, sym, ap, subst, ◌∙◌}
-use Rattle.x_session.specs.Session.{Compiles}
-use Rattle.x_session.specs.Answers.{Answer, line_answer}
+use Rattle.std.specs.Prelude.{codes}
+use Rattle.x_session.specs.Answers.{refused}
+use Rattle.x_session.specs.Answers.IsLineAnswer as answers
 use Rattle.x_session.specs.declared.script.lines.LineFault.{LineFault}
 use Rattle.x_session.specs.declared.script.lines.Found.TheVariants.{Line, TooLong, End}
-use Rattle.x_session.specs.Script.{IsGiven, GoesOn}
+use Rattle.x_session.specs.Script.{IsGiven, LineAnswers, GoesOn}
 use Rattle.std.proofs.lemmas.Result.{err_from_is_err_and}
-use Rattle.x_session.proofs.Scripts.{has_read, line_given, all_given, found_as, stops_behind, before_line, before_long, before_fault, too_long}
+use Rattle.x_session.proofs.Scripts.{has_read, line_given, all_given, found_as, stops_behind, before_line, before_long, before_fault}
 use Rattle.x_session.proofs.script.next_answer.Goals as goal
 
 pub returns-in-End-clause-given : goal.returns-in-End-clause-given
@@ -21,17 +22,15 @@ returns-in-TooLong-clause-given g c script given h =
     let read = has_read script given c.args.reader.now c.next.new.self (g.R.Tap.state c.args.tap.now).bytes left c.next.result h c.next.ensures.lines in
     let told = found_as script given c.args.reader.now c.next.new.self left c.next.result TooLong read (c.in_ok-next.was ∙ ap Ok c.in-TooLong.is) in
     let text = c.args.session.now.text in
-    let base = c.args.session.now.base in
     let items = c.item_count-items.ensures.1 in
-    let is_given : Answer → Type 0 = λ a. IsGiven a c.args.session.now c.args.session.now true c.args.pen.now (g.S.Sink.state c.args.sink.now)
-    c.add.new.self (g.S.Sink.state c.add.new.sink) in (
+    let a = refused text (codes "refused 44 LongLine\n") in (
       told.0,
       line_given script given c.args.reader.now c.next.new.self left c.next.result told.0 read (before_long c.args.reader.now.state c.next.result c.next.ensures.ended (c.in_ok-next.was ∙ ap Ok c.in-TooLong.is)) told.2,
       (
         c.item_count-items.ensures.0,
         items,
         c.item_count-items.ensures.2,
-        subst is_given (sym (too_long base text items told.0 told.1)) (record { added = c.add.ensures; refused_is = refl; session_is = record { text_is = refl; base_is = refl } }),
+        (a, answers.too_long told.1 refl, record { added = c.add.ensures; refused_is = refl; session_is = record { text_is = refl; base_is = refl } }),
       ),
     )
 
@@ -40,7 +39,7 @@ returns-in-Ok-clause-given g c script given h =
     let left = (g.R.Tap.state c.next.new.tap).bytes in
     let read = has_read script given c.args.reader.now c.next.new.self (g.R.Tap.state c.args.tap.now).bytes left c.next.result h c.next.ensures.lines in
     let told = found_as script given c.args.reader.now c.next.new.self left c.next.result Line read (c.in_ok-next.was ∙ ap Ok c.in-Line.is) in
-    let is_given : List ℕ → Type 0 = λ line. Compiles c.args.session.now.text (λ items. IsGiven (line_answer c.args.session.now.base c.args.session.now.text items line) c.args.session.now c.answer_line.new.session c.in-Ok.refused
+    let is_given : List ℕ → Type 0 = λ line. LineAnswers c.args.session.now.base c.args.session.now.text line (λ a. IsGiven a c.args.session.now c.answer_line.new.session c.in-Ok.refused
     c.args.pen.now (g.S.Sink.state c.args.sink.now) c.answer_line.new.pen (g.S.Sink.state c.answer_line.new.sink)) in (
       c.next.new.self.line,
       line_given script given c.args.reader.now c.next.new.self left c.next.result c.next.new.self.line read (before_line c.args.reader.now.state c.next.result c.next.ensures.ended (c.in_ok-next.was ∙ ap Ok c.in-Line.is)) told.1,
