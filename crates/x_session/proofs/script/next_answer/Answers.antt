@@ -1,7 +1,7 @@
 use Rattle.std.proofs.Common.{ℕ, Bool, Option, Result, Err, true, List, Ok, refl, sym, ap, subst, ◌∙◌}
 use Rattle.std.specs.Prelude.{codes}
 use Rattle.x_session.specs.Answers.{refused}
-use Rattle.x_session.specs.Answers.IsLineAnswer as answers
+use Rattle.x_session.specs.Answers.{too_long}
 use Rattle.x_session.specs.declared.script.lines.LineFault.{LineFault}
 use Rattle.x_session.specs.declared.script.lines.Found.TheVariants.{Line, TooLong, End}
 use Rattle.x_session.specs.Script.{IsGiven, LineAnswers, GoesOn}
@@ -30,7 +30,7 @@ returns-in-TooLong-clause-given g c script given h =
         c.item_count-items.ensures.0,
         items,
         c.item_count-items.ensures.2,
-        (a, answers.too_long told.1 refl, record { added = c.add.ensures; refused_is = refl; session_is = record { text_is = refl; base_is = refl } }),
+        (a, too_long told.1 refl, record { added = c.add.ensures; refused_is = refl; session_is = record { text_is = refl; base_is = refl } }),
       ),
     )
 
