@@ -2,6 +2,7 @@
 
 mod declaration;
 mod definition;
+mod fitted;
 mod program;
 mod spelling;
 mod value;
@@ -12,6 +13,7 @@ pub use declaration::{
 };
 pub(crate) use declaration::{inline, struct_body, union_body};
 pub use definition::Definition;
+pub(crate) use fitted::fitted;
 pub use program::{Argument, Procedure, Version};
 pub use spelling::Spelling;
 pub use value::Value;

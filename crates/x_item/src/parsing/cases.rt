@@ -11,7 +11,7 @@ ghost use Rattle.x_item.specs.Reading.{IsRead, Fails};
 use super::ParseError;
 use super::ending::Ending;
 use super::words::{after, expect, value};
-use crate::trees::Value;
+use crate::trees::{Value, fitted};
 use std::alloc::Global;
 use x_lex::{Mark, Token};
 
@@ -35,7 +35,7 @@ pub fn cases<'w, 't>(
         cases.push(next)?;
         left = rest;
     }
-    Ok((cases, left))
+    Ok((fitted(cases), left))
 }
 
 /// Reads a value and its `:`.

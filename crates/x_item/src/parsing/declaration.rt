@@ -22,7 +22,7 @@ use super::ending::Ending;
 use super::enumerators::enumerators;
 use super::words::{Word, after, closed, expect, first, name, stuck_at};
 use crate::trees::{
-    Arm, Basic, Body, DataType, Declaration, Spelling, Tag, inline, struct_body, union_body,
+    Arm, Basic, Body, DataType, Declaration, Spelling, Tag, fitted, inline, struct_body, union_body,
 };
 use std::alloc::Global;
 use x_lex::{Mark, Token};
@@ -163,7 +163,7 @@ fn body_of_enum<'w, 't>(
 {
     let rest = expect(Mark::OpenBrace, tokens)?;
     let (members, rest) = enumerators(alloc, rest)?;
-    Ok((Body::Enum(members), rest))
+    Ok((Body::Enum(fitted(members)), rest))
 }
 
 /// Reads the body of a struct.

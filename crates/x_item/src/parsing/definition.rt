@@ -13,7 +13,7 @@ use super::declaration::{body, declared};
 use super::ending::Ending;
 use super::program::{numbered, versions};
 use super::words::{Word, closed, expect, first, name, stuck_at, value};
-use crate::trees::{Definition, MOST_INLINE, Tag};
+use crate::trees::{Definition, MOST_INLINE, Tag, fitted};
 use std::alloc::Global;
 use x_lex::{Mark, Token};
 
@@ -94,7 +94,7 @@ fn program<'w, 't>(
     let (number, rest) = numbered(alloc, rest)?;
     let definition = Definition::Program {
         name,
-        versions,
+        versions: fitted(versions),
         number,
     };
     Ok((definition, rest))

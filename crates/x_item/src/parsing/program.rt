@@ -15,7 +15,7 @@ ghost use Rattle.x_item.specs.Reading.{IsRead, Fails};
 use super::ParseError;
 use super::declaration::data_type;
 use super::words::{after, expect, name, number};
-use crate::trees::{Argument, MOST_INLINE, Procedure, Spelling, Version};
+use crate::trees::{Argument, MOST_INLINE, Procedure, Spelling, Version, fitted};
 use std::alloc::Global;
 use x_lex::{Mark, Token};
 
@@ -177,7 +177,7 @@ fn version<'w, 't>(
     let (number, rest) = numbered(alloc, rest)?;
     let version = Version {
         name,
-        procedures,
+        procedures: fitted(procedures),
         number,
     };
     Ok((version, rest))

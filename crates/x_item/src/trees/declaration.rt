@@ -4,7 +4,7 @@ ghost use Rattle.x_item.specs.Tree.{Inline, Struct, Union};
 ghost use Rattle.x_item.specs.View.{view_type, view_body, view_declaration, view_declarations, view_arms};
 ghost use Rattle.x_item.specs.View.{view_default};
 
-use super::{Spelling, Value};
+use super::{Spelling, Value, fitted};
 use std::alloc::{AllocError, Global};
 use x_lex::Mark;
 
@@ -176,7 +176,7 @@ pub(crate) fn inline(alloc: Global, body: Body) -> Result<DataType, AllocError>
 pub(crate) fn struct_body(declarations: Vec<Declaration>) -> Body
     ensures { view_body result ≡ Struct (view_declarations declarations.items) }
 {
-    Body::Struct(declarations)
+    Body::Struct(fitted(declarations))
 }
 
 /// The body of a union.
@@ -191,7 +191,7 @@ pub(crate) fn union_body(
 {
     let body = UnionBody {
         discriminant,
-        arms,
+        arms: fitted(arms),
         default,
     };
     Ok(Body::Union(Box::new(alloc, body)?))

@@ -1,8 +1,9 @@
-use Rattle.std.proofs.Common.{ℕ, [], ◌∷◌, refl}
+use Rattle.std.proofs.Common.{ℕ, [], ◌∷◌, ap, map, refl}
 use Rattle.x_item.specs.Words.{Fixed}
 use Rattle.x_lex.specs.declared.mark.Mark.TheVariants as marks
 use Rattle.x_item.specs.Symbols.{AnyValue, Token, AfterCase}
 use Rattle.x_item.specs.View.{view_value}
+use Rattle.x_item.specs.Spell.{spell_cases}
 use Rattle.x_item.specs.Reading.{Fails}
 use Rattle.x_item.proofs.ReadLemmas.{exit_at, fails_more, fails_then, read_as, read_on, read_then, read_more, read_after_word, read_first}
 use Rattle.x_item.proofs.LoopLemmas.{one_only, has_pushed, cases_one, cases_more, no_case}
@@ -23,7 +24,7 @@ loop-rest-init c =
     }
 
 pub returns-clause-read : goal.returns-clause-read
-returns-clause-read c = λ n. read_on (c.loop-rest.invariant.read n) (no_case n c.in_default.ensures.none)
+returns-clause-read c = λ n. read_as (ap (λ cases. spell_cases (map view_value cases)) c.fitted.ensures) (read_on (c.loop-rest.invariant.read n) (no_case n c.in_default.ensures.none))
 
 pub returns-in_err-next-clause-stuck : goal.returns-in_err-next-clause-stuck
 returns-in_err-next-clause-stuck c =

@@ -18,4 +18,4 @@ returns-in_err-members-clause-stuck c =
 pub returns-clause-read : goal.returns-clause-read
 returns-clause-read c =
     let start = read_alike (of_enum c.args.depth c.args.tokens.now) (read_more (Token marks.OpenBrace ∷ []) (Enumerators ∷ []) c.in_ok-rest.ensures.read) in
-    read_then (Enumerators ∷ []) [] start c.in_ok-members.ensures.read
+    rw c.fitted.ensures at (read_then (Enumerators ∷ []) [] start c.in_ok-members.ensures.read)

@@ -1,7 +1,10 @@
-use Rattle.std.proofs.Common.{ap, ◌∙◌}
-use Rattle.x_item.specs.View.{view_union}
+use Rattle.std.proofs.Common.{ap, sym, ◌∙◌}
+use Rattle.x_item.specs.Tree.{Union}
+use Rattle.x_item.specs.View.{view_arms, view_declaration, view_default, view_union}
 use Rattle.x_item.proofs.Rows.{union_view}
 use Rattle.x_item.proofs.trees.declaration.union_body.Goals as goal
 
 pub returns : goal.returns
-returns c = ap view_union c.in_ok-new.ensures.ok ∙ union_view c.args.discriminant c.args.arms c.args.default
+returns c =
+    ap view_union c.in_ok-new.ensures.ok ∙ union_view c.args.discriminant c.fitted.result c.args.default
+    ∙ ap (λ arms. Union (view_declaration c.args.discriminant) (view_arms arms) (view_default c.args.default)) (sym c.fitted.ensures)
