@@ -3,6 +3,7 @@
 ghost use Rattle.std.specs.Prelude.{◌≡◌, ◌++◌, [], map, OnOk, IfOk};
 ghost use Rattle.x_gen.specs.Parts.{together};
 
+use smallvec::SmallVec;
 use std::alloc::Global;
 use x_text::NoMemory;
 
@@ -23,6 +24,20 @@ pub fn joined(alloc: Global, parts: &[&[u8]]) -> Result<Vec<u8>, NoMemory>
 {
     let mut text = Vec::with_capacity(alloc, length_of(parts))?;
     add(&mut text, parts)?;
+    Ok(text)
+}
+
+/// What is made of parts: at most 48 bytes take no memory of their own.
+pub type Made = SmallVec<u8, 48>;
+
+/// The parts, one behind another.
+pub fn made(alloc: Global, parts: &[&[u8]]) -> Result<Made, NoMemory>
+    ensures { IfOk result (λ text. text.items ≡ together (map (λ p. p.now) parts.now)) }
+{
+    let mut text = Made::new(alloc);
+    for part in parts {
+        text.extend_from_slice(part)?;
+    }
     Ok(text)
 }
 

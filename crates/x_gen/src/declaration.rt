@@ -7,7 +7,7 @@ ghost use Rattle.x_gen.specs.Declarations.{name_of, is_void, declared_array, dec
 ghost use Rattle.x_gen.specs.Declarations.{opaque_declaration, array_call, call_as, opaque_call, call_at, call};
 ghost use Rattle.x_gen.specs.Views.{view_c, view_place};
 
-use crate::add::{add, joined};
+use crate::add::{Made, add, made};
 use crate::c_types::{CType, c_type, lifted, most, spelled};
 use std::alloc::Global;
 use x_item::{Declaration, Length, Shape};
@@ -123,13 +123,13 @@ pub fn add_declaration(
 }
 
 /// Where the value lies that is declared as `name`, in C.
-fn lies_at(alloc: Global, place: Place, name: &[u8]) -> Result<Vec<u8>, NoMemory>
+fn lies_at(alloc: Global, place: Place, name: &[u8]) -> Result<Made, NoMemory>
     ensures { IfOk result (λ e. e.items ≡ lies_at (view_place place.entry) name.now) }
 {
     match place {
-        Place::InStruct => joined(alloc, &[b"objp->", name]),
-        Place::InUnion(union) => joined(alloc, &[b"objp->", union, b"_u.", name]),
-        Place::Alone => joined(alloc, &[b"(*objp)"]),
+        Place::InStruct => made(alloc, &[b"objp->", name]),
+        Place::InUnion(union) => made(alloc, &[b"objp->", union, b"_u.", name]),
+        Place::Alone => made(alloc, &[b"(*objp)"]),
     }
 }
 

@@ -8,7 +8,7 @@ ghost use Rattle.x_gen.specs.Procedures.{lower_byte, lower, in_decimal, function
 ghost use Rattle.x_gen.specs.Procedures.{size_of, sized};
 ghost use Rattle.x_gen.specs.Views.{view_c};
 
-use crate::add::{add, joined};
+use crate::add::{Made, made};
 use crate::c_types::{CType, own, passed_type};
 use itoa::Buffer;
 use std::alloc::Global;
@@ -50,13 +50,16 @@ pub fn add_decimal(text: &mut Vec<u8>, number: &[u8]) -> Result<(), NoMemory>
     }
 }
 
+/// How many bytes stand behind the name in that of a function: `_` and a number of 32 bits.
+const MOST_BEHIND_NAME: usize = 11;
+
 /// The names that C has for a procedure.
 #[derive(Drop)]
 pub struct Call {
     /// The function: the name in lower case, and the version's number.
     pub function: Vec<u8>,
     /// The struct of several arguments.
-    pub group: Vec<u8>,
+    pub group: Made,
 }
 
 impl Call {
@@ -67,11 +70,14 @@ impl Call {
         ensures group { IfOk result (λ call. call.group.items
             ≡ group_name (view_version version.now) (view_procedure procedure.now)) }
     {
-        let mut function = Vec::new(alloc);
+        let mut function = Vec::with_capacity(
+            alloc,
+            procedure.name.len().saturating_add(MOST_BEHIND_NAME),
+        )?;
         add_lower(&mut function, &procedure.name)?;
         function.push(b'_')?;
         add_decimal(&mut function, &version.number)?;
-        let group = joined(alloc, &[&function, b"_argument"])?;
+        let group = made(alloc, &[&function, b"_argument"])?;
         Ok(Call { function, group })
     }
 }
