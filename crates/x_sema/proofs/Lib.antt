@@ -13,7 +13,12 @@ pub mod FieldLemmas
 pub mod HasResults
 pub mod HeightLemmas
 pub mod InOrder
+pub mod KeyedTables
 pub mod ListLemmas
+pub mod MakerArms
+pub mod MakerForms
+pub mod MakerItems
+pub mod MakerSteps
 pub mod MeaningLemmas
 pub mod MemberWalkLemmas
 pub mod MentionLemmas
@@ -30,5 +35,6 @@ pub mod PlaceLemmas
 pub mod RepeatLemmas
 pub mod ResultLaws
 pub mod RuleTextLemmas
+pub mod SchemaLemmas
 pub mod SortedFaults
 pub mod WordRuleLemmas

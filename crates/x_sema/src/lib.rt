@@ -11,6 +11,7 @@ mod number;
 mod numbers;
 mod outline;
 mod rules;
+mod schema;
 mod views;
 
 pub use check::{check_item, check_outline};
@@ -23,4 +24,7 @@ pub use names::{Declarer, Names};
 pub use number::number_value;
 pub use numbers::Numbers;
 pub use outline::Outline;
+pub use schema::{
+    Arm, Arms, Enumerators, Field, Form, FormIndex, LinkIndex, NameIndex, Root, Schema, TypeId,
+};
 pub use views::{Class, MOST_HEIGHT, Meaning, View};

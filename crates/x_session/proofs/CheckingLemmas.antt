@@ -23,7 +23,7 @@ use Rattle.x_sema.proofs.OutlineLemmas.{map_map}
 use Rattle.x_sema.proofs.ResultLaws.{AgreeBefore}
 use Rattle.x_session.specs.ItemView.{kept_definition}
 use Rattle.x_session.specs.declared.compile.item.Item.{Item}
-use Rattle.x_session.proofs.Listing.{mapped_one}
+use Rattle.x_text.proofs.Listing.{mapped_one}
 use Rattle.x_session.specs.Checking.{with_number, IsShortAt, counted, view_by_first}
 
 -- ---- results by numbers

@@ -1,6 +1,6 @@
 -- Words, numbers and pairs of hexadecimal digits.
-use Rattle.std.proofs.Common.{◌≡◌, ℕ, suc, ◌+◌, ◌-◌, ◌*◌, ◌^◌, ◌<◌, ◌≤◌, true, false, List, [], ◌∷◌, ◌++◌, length, take, drop, get_or, eqb, Option, None, Some, arith, rules, refl, sym, ap, ◌∙◌, drop-cons, append_assoc, add-one}
-use Rattle.std.specs.Prelude.{codes, bytes_eq, if◌then◌else◌}
+use Rattle.std.proofs.Common.{◌≡◌, ℕ, suc, ◌+◌, ◌-◌, ◌*◌, ◌^◌, ◌<◌, ◌≤◌, true, false, Bool, ◌&&◌, List, [], ◌∷◌, ◌++◌, length, take, drop, get_or, eqb, Option, None, Some, arith, rules, refl, sym, ap, ◌∙◌, drop-cons, append_assoc, add-one}
+use Rattle.std.specs.Prelude.{codes, bytes_eq, nat_lt, if◌then◌else◌}
 use Rattle.std.specs.List.{list_all, join_with_byte}
 use Rattle.std.specs.Char.{is_ascii_digit, is_ascii_hexdigit, digit_value}
 use Rattle.std.specs.Int.{IsInRange}
@@ -14,6 +14,7 @@ use Rattle.std.proofs.lemmas.List.Recursion.{and_at}
 use Rattle.std.proofs.lemmas.List.Splits.{slice_split_none, length-slice_split, join_with_byte-slice_split}
 use Rattle.x_session.specs.declared.script.command.Command.TheVariants.{Bad}
 use Rattle.x_session.specs.Commands.{words_of, is_hex, bytes_of, edit_of, edit_by, asked_by, command_of}
+use Rattle.x_session.specs.Commands.{asked_if, dump_by, dump_asked_by, dump_asked}
 
 own : IsNumeralModel (λ ds. list_all is_ascii_digit ds ≡ true) (digits_value 10)
 own = numerals_by_value _ (search rules)
@@ -114,3 +115,49 @@ edit_by_two words start end first second = ap edit_by (first ∙ ap (λ l. start
 pub three_words : (words start rest end hex : List ℕ) → words_of words ≡ start ∷ words_of rest → words_of rest ≡ end ∷ words_of hex → 2 < length (words_of words)
 three_words words start rest end hex first second =
     omega (arith, ap length first, ap length second, length-slice_split (λ b. eqb b 32) hex)
+
+-- ---- `dump`
+
+-- a line of one word asks for no value
+pub dump_of_one : (line : List ℕ) → words_of line ≡ line ∷ [] → None ≡ dump_asked line
+dump_of_one line one = sym (ap dump_asked_by one ∙ none (bytes_eq line (codes "dump")))
+  where
+    none : (b : Bool) → (if b then dump_by [] else None) ≡ None
+    none true = refl
+    none false = refl
+
+-- a line whose first word is another asks for none
+pub dump_of_other : (line word rest : List ℕ) → words_of line ≡ word ∷ words_of rest → bytes_eq word (codes "dump") ≡ false → None ≡ dump_asked line
+dump_of_other line word rest parts is = sym (ap dump_asked_by parts ∙ ap (λ b. if b then dump_by (words_of rest) else None) is)
+
+-- what stands behind `dump`
+pub dump_of_rest : (line word rest : List ℕ) → words_of line ≡ word ∷ words_of rest → bytes_eq word (codes "dump") ≡ true → dump_asked line ≡ dump_by (words_of rest)
+dump_of_rest line word rest parts is = ap dump_asked_by parts ∙ ap (λ b. if b then dump_by (words_of rest) else None) is
+
+-- one word behind it is a type
+pub dump_of_type : (words : List ℕ) → words_of words ≡ words ∷ [] → dump_by (words_of words) ≡ asked_if (nat_lt 0 (length words)) words []
+dump_of_type words one = ap dump_by one
+
+-- of two words behind it the second is in hexadecimal
+pub dump_of_hex : (words name hex : List ℕ) → words_of words ≡ name ∷ words_of hex → is_hex hex ≡ true
+    → dump_by (words_of words) ≡ asked_if (nat_lt 0 (length name)) name (bytes_of hex)
+dump_of_hex words name hex parts is =
+    ap dump_by (parts ∙ ap (λ l. name ∷ l) (hex_is_word hex is)) ∙ ap (λ b. asked_if (nat_lt 0 (length name) && b) name (bytes_of hex)) is ∙ same (nat_lt 0 (length name))
+  where
+    same : (b : Bool) → asked_if (b && true) name (bytes_of hex) ≡ asked_if b name (bytes_of hex)
+    same true = refl
+    same false = refl
+
+pub dump_of_no_hex : (words name hex : List ℕ) → words_of words ≡ name ∷ words_of hex → is_hex hex ≡ false → None ≡ dump_by (words_of words)
+dump_of_no_hex words name hex parts is =
+    sym (ap dump_by parts ∙ other (words_of hex) (rw length-slice_split (omega arith)) (one_is_all hex))
+  where
+    bad : (b : Bool) → asked_if (b && false) name (bytes_of hex) ≡ None
+    bad true = refl
+    bad false = refl
+
+    other : (parts : List (List ℕ)) → 0 < length parts → ((word : List ℕ) → parts ≡ word ∷ [] → word ≡ hex) → dump_by (name ∷ parts) ≡ None
+    other [] some one = absurd (omega arith)
+    other (word ∷ []) some one = ap (λ w. asked_if (nat_lt 0 (length name) && is_hex w) name (bytes_of w)) (one word refl)
+        ∙ ap (λ b. asked_if (nat_lt 0 (length name) && b) name (bytes_of hex)) is ∙ bad (nat_lt 0 (length name))
+    other (word ∷ next ∷ parts) some one = refl

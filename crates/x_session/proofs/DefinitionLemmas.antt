@@ -12,7 +12,7 @@ use Rattle.x_session.specs.Answers.{definition_line}
 use Rattle.x_session.specs.Session.{Compiles}
 use Rattle.x_session.proofs.Compiled.{one_compilation}
 use Rattle.x_sema.proofs.ListLemmas.{drop_none}
-use Rattle.x_session.proofs.Listing.{HasListed, lists_none, lists_more, lists_all}
+use Rattle.x_text.proofs.Listing.{HasListed, lists_none, lists_more, lists_all}
 
 -- the definitions of the first items are listed
 pub record HasDefinitions (text : List ℕ) (n : ℕ) (p : Inked) (before : Stream) (q : Inked) (now : Stream) : Type 0 where

@@ -1,13 +1,12 @@
-pub mod Adding
 pub mod CheckingLemmas
 pub mod CommandLemmas
 pub mod Compiled
 pub mod DefinitionLemmas
+pub mod DumpLines
 pub mod EditLists
 pub mod GeneratedLemmas
 pub mod ItemLemmas
 pub mod LineLemmas
-pub mod Listing
 pub mod Parting
 pub mod PlacingLemmas
 pub mod PlainLemmas
@@ -16,4 +15,6 @@ pub mod ReadingLemmas
 pub mod Running
 pub mod Scripts
 pub mod SearchLemmas
+pub mod ShowingLemmas
+pub mod TypedLemmas
 pub mod WalkLemmas

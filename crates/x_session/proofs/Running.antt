@@ -6,7 +6,8 @@ use Rattle.x_text.specs.Streams.{Stream}
 use Rattle.x_text.specs.Writing.{Inked, Writes, Adds, counted}
 use Rattle.x_text.proofs.Pens.{writes_none, all_written, counted_all, front_written}
 use Rattle.x_session.specs.Session.{Document, LeavesText}
-use Rattle.x_session.specs.Answers.{Answer, IsLineAnswer}
+use Rattle.x_session.specs.Answers.{Answer}
+use Rattle.x_session.specs.LineAnswers.{IsLineAnswer}
 use Rattle.x_session.specs.Lines.{Reading, IsUnread, script_lines}
 use Rattle.x_lex.specs.declared.kind.Kind.{Kind}
 use Rattle.x_session.specs.Compile.{Item, IsCompilation}

@@ -114,8 +114,3 @@ answer base text items commands.Definitions = answered text (definitions_answer 
 answer base text items commands.Faults = answered text (faults_answer (faults_of text items))
 answer base text items (commands.Text which) = answered text (text_answer (text_of which base items))
 answer base text items commands.Bad = refused text (codes "refused 43 BadLine\n")
-
--- a line is answered so, over a text that has these items
-pub data IsLineAnswer (base text : List ℕ) (items : List Item) (line : List ℕ) (a : Answer) : Type 0 where
-  within : length line ≤ LONGEST → a ≡ answer base text items (command_of line) → IsLineAnswer base text items line a
-  too_long : LONGEST < length line → a ≡ refused text (codes "refused 44 LongLine\n") → IsLineAnswer base text items line a

@@ -1,5 +1,5 @@
 -- What a line of a script asks for.
-use Rattle.std.specs.Prelude.{ℕ, ◌+◌, ◌*◌, ◌%◌, Bool, ◌&&◌, ◌==◌, nat_lt, nat_le, if◌then◌else◌, List, [], ◌∷◌, length, codes, bytes_eq}
+use Rattle.std.specs.Prelude.{ℕ, ◌+◌, ◌*◌, ◌%◌, Bool, ◌&&◌, ◌==◌, nat_lt, nat_le, if◌then◌else◌, List, [], ◌∷◌, length, Option, Some, None, codes, bytes_eq}
 use Rattle.std.specs.List.{list_all, slice_split}
 use Rattle.std.specs.Char.{is_ascii_digit, is_ascii_hexdigit, digit_value}
 use Rattle.std.specs.Str.Parse.{digits_value}
@@ -55,3 +55,21 @@ asked_by (name ∷ words) = if bytes_eq name (codes "edit") then edit_by words e
 -- what a line asks for
 abbrev pub command_of : List ℕ → Command
 command_of line = asked_by (words_of line)
+
+-- a type's name and a message, if they are asked for
+abbrev pub asked_if : Bool → List ℕ → List ℕ → Option (List ℕ × List ℕ)
+asked_if is name message = if is then Some (name, message) else None
+
+-- the type and the message that the words behind `dump` name; a type has one or more bytes, and without digits the message is empty
+abbrev pub dump_by : List (List ℕ) → Option (List ℕ × List ℕ)
+dump_by (name ∷ []) = asked_if (nat_lt 0 (length name)) name []
+dump_by (name ∷ hex ∷ []) = asked_if (nat_lt 0 (length name) && is_hex hex) name (bytes_of hex)
+dump_by _ = None
+
+abbrev pub dump_asked_by : List (List ℕ) → Option (List ℕ × List ℕ)
+dump_asked_by [] = None
+dump_asked_by (word ∷ words) = if bytes_eq word (codes "dump") then dump_by words else None
+
+-- the type and the message that a line asks to show, if it asks for a value
+abbrev pub dump_asked : List ℕ → Option (List ℕ × List ℕ)
+dump_asked line = dump_asked_by (words_of line)

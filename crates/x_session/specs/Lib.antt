@@ -7,8 +7,12 @@ pub mod Faults
 pub mod Generated
 pub mod GeneratedView
 pub mod ItemView
+pub mod LineAnswers
 pub mod Lines
 pub mod Script
 pub mod Seats
 pub mod Session
 pub mod SessionState
+pub mod Showing
+pub mod Typed
+pub mod ValueTexts

@@ -3,7 +3,8 @@ use Rattle.std.specs.Prelude.{◌≡◌, ◌≤◌, ℕ, Bool, true, false, ◌|
 use Rattle.x_text.specs.Streams.{Stream}
 use Rattle.x_text.specs.Writing.{Inked, Adds}
 use Rattle.x_session.specs.Session.{Document, LeavesText, Compiles}
-use Rattle.x_session.specs.Answers.{Answer, IsLineAnswer}
+use Rattle.x_session.specs.Answers.{Answer}
+use Rattle.x_session.specs.LineAnswers.{IsLineAnswer}
 use Rattle.x_session.specs.declared.script.lines.LineFault.{LineFault}
 use Rattle.x_session.specs.declared.script.lines.State.TheVariants.{Ended}
 use Rattle.x_session.specs.declared.script.Outcome.{Outcome}
@@ -27,6 +28,16 @@ abbrev pub AreAnswered : List ℕ → List ℕ → List (List ℕ) → Answer �
 AreAnswered base text [] all = all ≡ record { told = []; refused = false; text = text }
 AreAnswered base text (line ∷ lines) all =
     LineAnswers base text line (λ first. (rest : Answer) × AreAnswered base first.text lines rest × (all ≡ then_answer first rest))
+
+-- an answer was added to what is written, and it leaves this text
+pub record IsTold (a : Answer) (text : List ℕ) (refused : Bool) (p : Inked) (now : Stream) (q : Inked) (now' : Stream) : Type 0 where
+  pub added : Adds p now q now' a.told
+  pub refused_is : refused ≡ a.refused
+  pub text_is : text ≡ a.text
+
+-- over any text, an answer of which this holds was added, and it leaves the text
+abbrev pub TellsOver : (List ℕ → Answer → Type 0) → Bool → Inked → Stream → Inked → Stream → Type 0
+TellsOver P refused p now q now' = (text : List ℕ) → (a : Answer) × P text a × IsTold a text refused p now q now'
 
 -- an answer was given: it was added to what is written, and the session has the text that it leaves
 pub record IsGiven (a : Answer) (old new : Document) (refused : Bool) (p : Inked) (now : Stream) (q : Inked) (now' : Stream) : Type 0 where

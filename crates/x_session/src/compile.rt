@@ -1,6 +1,8 @@
 //! Compiling a text from scratch.
 
-ghost use Rattle.std.specs.Prelude.{IfOk};
+ghost use Rattle.std.specs.Prelude.{IfOk, map};
+ghost use Rattle.x_sema.specs.SchemaOf.{IsSchemaOf};
+ghost use Rattle.x_session.specs.ItemView.{kept_definition};
 ghost use Rattle.x_session.specs.SessionState.{IsCompiled};
 
 mod checking;
@@ -12,7 +14,7 @@ mod parsing;
 mod placing;
 mod results;
 
-use checking::{check_items, names_of};
+use checking::{check_items, definitions_in, names_of};
 pub use fault::{Fault, FaultCode};
 pub(crate) use generated::Generated;
 pub(crate) use item::Item;
@@ -20,6 +22,7 @@ use output::{Output, output_of};
 use parsing::parse_items;
 use std::alloc::Global;
 use x_lex::{Tokens, lex};
+use x_sema::Schema;
 use x_text::{Meter, NoMemory, Source};
 
 /// What is kept of compiling a text.
@@ -46,4 +49,11 @@ pub fn compile(alloc: Global, source: &Source, meter: &mut Meter) -> Result<Comp
         items,
         output,
     })
+}
+
+/// The types that the items define.
+pub fn schema_of(alloc: Global, items: &[Item]) -> Result<Schema, NoMemory>
+    ensures { IfOk result (λ schema. IsSchemaOf (map kept_definition items.now) schema) }
+{
+    Schema::of(alloc, &definitions_in(alloc, items)?)
 }

@@ -5,13 +5,15 @@ mod compile;
 mod laws;
 mod script;
 mod session;
+mod values;
 
 pub use compile::{Fault, FaultCode};
 pub use laws::one_compilation;
 pub use script::{
     Command, EngineFault, Found, Insert, LONGEST, LineFault, LineReader, Outcome, add_place,
-    parse_command, run_script,
+    dump_words, parse_command, run_script,
 };
-pub use session::{Session, Work};
+pub use session::{SchemaFault, Session, Work};
+pub use values::dump_value;
 pub use x_gen::Which;
-pub use x_sema::RuleCode;
+pub use x_sema::{RuleCode, Schema, TypeId};

@@ -13,12 +13,14 @@ mod answer;
 mod byte_queue;
 mod command;
 mod lines;
+mod showing;
 
 use crate::Session;
 pub use answer::add_place;
 use answer::{add_counted, add_definitions, add_faults, add_text, add_tokens};
-pub use command::{Command, Insert, parse_command};
+pub use command::{Command, Insert, dump_words, parse_command};
 pub use lines::{Found, LONGEST, LineFault, LineReader};
+use showing::answer_dump;
 use std::alloc::Global;
 use thiserror::Error;
 use x_text::{Edit, NoMemory, Pen, Sink, Tap, TextFault};
@@ -186,6 +188,9 @@ fn answer_line<S: Sink>(
         (λ a. IsGiven a session.old session.new refused pen.old (S.state sink.old) pen.new (S.state sink.new))) }
     ensures same { OnErr result ((session.new ≡ session.old) × (pen.new ≡ pen.old) × (sink.new ≡ sink.old)) }
 {
+    if let Some((name, hex)) = dump_words(line) {
+        return answer_dump(alloc, session, name, hex, pen, sink);
+    }
     let command = parse_command(alloc, line)?;
     carry_out(session, &command, pen, sink)
 }

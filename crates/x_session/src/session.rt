@@ -10,16 +10,20 @@ ghost use Rattle.x_session.specs.Session.{Document, Compiles, edited_by_all, Tak
 ghost use Rattle.x_session.specs.Compile.{tokens_of, definitions_of, definition_at, faults_of};
 ghost use Rattle.x_session.specs.ItemView.{kept_definition};
 ghost use Rattle.x_session.specs.Definitions.{numbered};
+ghost use Rattle.x_session.specs.Typed.{GivesSchema};
 
+mod schema_fault;
 mod texts;
 mod work;
 
-use crate::compile::{Compilation, Fault, Generated, Item, compile};
+use crate::compile::{Compilation, Fault, Generated, Item, compile, schema_of};
+pub use schema_fault::SchemaFault;
 use std::alloc::Global;
 use std::marker::Model;
 pub use work::Work;
 use x_item::Definition;
 use x_lex::{Token, Tokens, Walk};
+use x_sema::Schema;
 use x_text::{Edit, Meter, NoMemory, Source, TextFault};
 
 /// A text that stays open: its tokens, definitions and faults, and what is generated of it.
@@ -196,6 +200,19 @@ impl Session {
         ensures { Compiles self.now.text (λ items. result.now ≡ faults_of self.now.text items) }
     {
         &self.faults
+    }
+
+    /// The types of the text, by which values are read: [`SchemaFault::Faulty`] where the text has a fault.
+    pub fn schema(&self) -> Result<Schema, SchemaFault>
+        ensures { Compiles self.now.text (λ items. GivesSchema self.now.text items result) }
+    {
+        if !self.faults.is_empty() {
+            return Err(SchemaFault::Faulty);
+        }
+        match schema_of(self.alloc, &self.items) {
+            Ok(schema) => Ok(schema),
+            Err(NoMemory) => Err(SchemaFault::NoMemory),
+        }
     }
 }
 

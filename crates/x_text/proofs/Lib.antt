@@ -1,7 +1,9 @@
+pub mod Adding
 pub mod Columns
 pub mod Edits
 pub mod LengthLemmas
-pub mod Pens
-pub mod PatchLemmas
-pub mod SeqLemmas
+pub mod Listing
 pub mod PassLemmas
+pub mod PatchLemmas
+pub mod Pens
+pub mod SeqLemmas

@@ -137,7 +137,7 @@ fn table_of_many<'d>(
 }
 
 /// The number of an enumerator without a value, by that of the one before.
-fn next_number(before: Option<i128>) -> Option<i128>
+pub fn next_number(before: Option<i128>) -> Option<i128>
     ensures { result ≡ next_number before }
 {
     match before {

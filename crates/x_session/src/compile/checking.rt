@@ -21,16 +21,23 @@ use x_item::Definition;
 use x_sema::{Checked, Declarer, Names, Outline, View, WordFault, check_outline};
 use x_text::{Meter, NoMemory};
 
-/// The table of the names that the items declare.
-pub fn names_of(alloc: Global, items: &[Item]) -> Result<Names<'_>, NoMemory>
-    ensures { IfOk result (λ names. AreShort (map kept_definition items.now)
-        → (name : List ℕ) → FirstIs (map kept_definition items.now) name (first_in names name)) }
+/// The definitions of the items.
+pub fn definitions_in(alloc: Global, items: &[Item]) -> Result<Vec<Option<&Definition>>, NoMemory>
+    ensures { IfOk result (λ definitions. map tree_at definitions.items ≡ map kept_definition items.now) }
 {
     let mut definitions = Vec::with_capacity(alloc, items.len())?;
     for item in items {
         definitions.push(item.definition())?;
     }
-    Names::of(alloc, &definitions)
+    Ok(definitions)
+}
+
+/// The table of the names that the items declare.
+pub fn names_of(alloc: Global, items: &[Item]) -> Result<Names<'_>, NoMemory>
+    ensures { IfOk result (λ names. AreShort (map kept_definition items.now)
+        → (name : List ℕ) → FirstIs (map kept_definition items.now) name (first_in names name)) }
+{
+    Names::of(alloc, &definitions_in(alloc, items)?)
 }
 
 /// What checking the items finds, in their order. Each is checked by what was found of the items before it, and counted as checked

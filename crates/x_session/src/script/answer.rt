@@ -25,7 +25,7 @@ fn add_number<I: Integer, S: Sink>(number: I, pen: &mut Pen, sink: &mut S)
 }
 
 /// Adds a line with a name and a count.
-#[tactic(auto, using(crate::proofs::Adding::four))]
+#[tactic(auto, using(x_text::proofs::Adding::four))]
 pub(crate) fn add_counted<I: Integer, S: Sink>(name: &str, count: I, pen: &mut Pen, sink: &mut S)
     ensures { Adds pen.old (S.state sink.old) pen.new (S.state sink.new)
         (counted_by name.now (I.text count)) }
@@ -37,7 +37,7 @@ pub(crate) fn add_counted<I: Integer, S: Sink>(name: &str, count: I, pen: &mut P
 }
 
 /// Adds the line of a token.
-#[tactic(auto, using(crate::proofs::Adding::six))]
+#[tactic(auto, using(x_text::proofs::Adding::six))]
 fn add_token<S: Sink>(token: &Token, pen: &mut Pen, sink: &mut S)
     ensures { Adds pen.old (S.state sink.old) pen.new (S.state sink.new) (token_line (lexeme token.now)) }
 {
@@ -107,7 +107,7 @@ fn given_name(declaration: &Declaration) -> Option<&[u8]>
 }
 
 /// Adds the line of a definition, which is that of the item with this number.
-#[tactic(auto, using(crate::proofs::Adding::six))]
+#[tactic(auto, using(x_text::proofs::Adding::six))]
 fn add_definition<S: Sink>(item: usize, definition: &Definition, pen: &mut Pen, sink: &mut S)
     ensures { Adds pen.old (S.state sink.old) pen.new (S.state sink.new)
         (definition_line (item, view_definition definition.now)) }
@@ -130,7 +130,7 @@ pub fn add_place<S: Sink>(fault: &Fault, pen: &mut Pen, sink: &mut S)
 }
 
 /// Adds the line of a fault.
-#[tactic(auto, using(crate::proofs::Adding::four))]
+#[tactic(auto, using(x_text::proofs::Adding::four))]
 fn add_fault<S: Sink>(fault: &Fault, pen: &mut Pen, sink: &mut S)
     ensures { Adds pen.old (S.state sink.old) pen.new (S.state sink.new) (fault_line fault.now) }
 {

@@ -1,8 +1,8 @@
-ghost use Rattle.std.specs.Prelude.{◌≡◌, ◌<◌, ◌∷◌, [], true, length, IfOk, OnErr, IsTrue, MatchOption, SomeIff};
+ghost use Rattle.std.specs.Prelude.{◌≡◌, ◌<◌, ◌∷◌, [], true, length, IfOk, IfSome, OnErr, IsTrue, MatchOption, SomeIff, nat_lt, option_map};
 ghost use Rattle.std.specs.Char.{is_ascii_hexdigit, is_ascii_digit, digit_value};
 ghost use Rattle.std.specs.List.{list_all};
 ghost use Rattle.std.specs.Str.Parse.{digits_value};
-ghost use Rattle.x_session.specs.Commands.{edit_by, command_of, words_of, one_word, edit_of, is_number, is_hex, bytes_of};
+ghost use Rattle.x_session.specs.Commands.{edit_by, command_of, words_of, one_word, edit_of, is_number, is_hex, bytes_of, asked_if, dump_by, dump_asked};
 
 use memchr::memchr;
 use std::alloc::Global;
@@ -82,6 +82,58 @@ pub fn parse_command(alloc: Global, line: &[u8]) -> Result<Command, NoMemory>
     } else {
         Ok(Command::Bad)
     }
+}
+
+/// The type that a line asks to show a value of, by `dump TYPE` or `dump TYPE HEX`, and the hexadecimal digits of the message; `None` is
+/// answered of any other line.
+pub fn dump_words(line: &[u8]) -> Option<(&[u8], &[u8])>
+    ensures asked { option_map (λ p. (p.0.now, bytes_of p.1.now)) result ≡ dump_asked line.now }
+    ensures digits { IfSome result (λ p. 0 < length p.1.now → is_hex p.1.now ≡ true) }
+{
+    let Some((word, words)) = split_word(line) else {
+        return None;
+    };
+    if word == b"dump".as_slice() {
+        value_words(words)
+    } else {
+        None
+    }
+}
+
+/// The type and the digits that the words behind `dump` name.
+fn value_words(words: &[u8]) -> Option<(&[u8], &[u8])>
+    ensures asked { option_map (λ p. (p.0.now, bytes_of p.1.now)) result ≡ dump_by (words_of words.now) }
+    ensures digits { IfSome result (λ p. 0 < length p.1.now → is_hex p.1.now ≡ true) }
+{
+    let Some((name, hex)) = split_word(words) else {
+        return named(words, &[]);
+    };
+    if is_hex(hex) { named(name, hex) } else { None }
+}
+
+/// The two, if the name has a byte.
+fn named<'l>(name: &'l [u8], hex: &'l [u8]) -> Option<(&'l [u8], &'l [u8])>
+    requires { 0 < length hex.now → is_hex hex.now ≡ true }
+    ensures asked { option_map (λ p. (p.0.now, bytes_of p.1.now)) result
+        ≡ asked_if (nat_lt 0 (length name.now)) name.now (bytes_of hex.now) }
+    ensures digits { IfSome result (λ p. 0 < length p.1.now → is_hex p.1.now ≡ true) }
+{
+    if name.is_empty() {
+        None
+    } else {
+        Some((name, hex))
+    }
+}
+
+/// The bytes that the digits write; without digits there are none.
+pub(crate) fn message_bytes(alloc: Global, hex: &[u8]) -> Result<Vec<u8>, NoMemory>
+    requires { 0 < length hex.now → is_hex hex.now ≡ true }
+    ensures { IfOk result (λ bytes. bytes.items ≡ bytes_of hex.now) }
+{
+    if hex.is_empty() {
+        return Ok(Vec::new(alloc));
+    }
+    hex_bytes(alloc, hex)
 }
 
 /// What the words behind `edit` ask for.

@@ -1,7 +1,7 @@
 use Rattle.std.proofs.Common.{ℕ, Bool, Option, Result, Err, true, List, Ok, refl, sym, ap, subst, ◌∙◌}
 use Rattle.std.specs.Prelude.{codes}
 use Rattle.x_session.specs.Answers.{refused}
-use Rattle.x_session.specs.Answers.{too_long}
+use Rattle.x_session.specs.LineAnswers.{too_long}
 use Rattle.x_session.specs.declared.script.lines.LineFault.{LineFault}
 use Rattle.x_session.specs.declared.script.lines.Found.TheVariants.{Line, TooLong, End}
 use Rattle.x_session.specs.Script.{IsGiven, LineAnswers, GoesOn}

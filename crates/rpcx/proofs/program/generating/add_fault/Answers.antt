@@ -1,7 +1,7 @@
 use Rattle.std.proofs.Common.{◌++◌, codes, subst, ◌∙◌}
 use Rattle.x_text.specs.Writing.{Adds}
 use Rattle.x_session.specs.Answers.{fault_place}
-use Rattle.x_session.proofs.Adding.{six}
+use Rattle.x_text.proofs.Adding.{six}
 use Rattle.rpcx.proofs.program.generating.add_fault.Goals as goal
 
 pub returns : goal.returns

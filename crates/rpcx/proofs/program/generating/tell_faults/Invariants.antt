@@ -1,7 +1,7 @@
 use Rattle.std.proofs.Common.{drop}
 use Rattle.rpcx.specs.Generate.{told_fault}
 use Rattle.x_session.specs.declared.compile.fault.Fault.{Fault}
-use Rattle.x_session.proofs.Listing.{HasListed}
+use Rattle.x_text.proofs.Listing.{HasListed}
 use Rattle.rpcx.proofs.program.generating.tell_faults.Given as goal
 
 abbrev pub invariant-loop-fault : goal.invariant-loop-fault

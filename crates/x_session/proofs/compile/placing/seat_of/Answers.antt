@@ -2,7 +2,7 @@ use Rattle.std.proofs.Common.{map, ap, sym, ◌+◌, ◌<◌, ◌∙◌, length,
 use Rattle.std.proofs.lemmas.List.{length-map}
 use Rattle.x_lex.specs.Places.{lexeme}
 use Rattle.x_session.specs.declared.compile.placing.Seat.{Seat}
-use Rattle.x_session.proofs.Listing.{mapped_one}
+use Rattle.x_text.proofs.Listing.{mapped_one}
 use Rattle.x_session.proofs.PlacingLemmas.{seat_on, seat_past, seat_met}
 use Rattle.x_session.proofs.compile.placing.seat_of.Goals as goal
 use Rattle.x_session.proofs.compile.placing.seat_of.Goals.{then-is_significant+else-seat-word, else-is_significant}

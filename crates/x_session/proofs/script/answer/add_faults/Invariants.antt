@@ -1,7 +1,7 @@
 use Rattle.std.proofs.Common.{drop}
 use Rattle.x_session.specs.Answers.{fault_line}
 use Rattle.x_session.specs.declared.compile.fault.Fault.{Fault}
-use Rattle.x_session.proofs.Listing.{HasListed}
+use Rattle.x_text.proofs.Listing.{HasListed}
 use Rattle.x_session.proofs.script.answer.add_faults.Given as goal
 
 abbrev pub invariant-loop-fault : goal.invariant-loop-fault

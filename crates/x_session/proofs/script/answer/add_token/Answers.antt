@@ -1,7 +1,7 @@
 use Rattle.std.proofs.Common.{◌++◌, codes, subst, ◌∙◌}
 use Rattle.std.specs.Fmt.{decimal}
 use Rattle.x_text.specs.Writing.{Adds}
-use Rattle.x_session.proofs.Adding.{six}
+use Rattle.x_text.proofs.Adding.{six}
 use Rattle.x_session.proofs.script.answer.add_token.Goals as goal
 
 pub returns : goal.returns

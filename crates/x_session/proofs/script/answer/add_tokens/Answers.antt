@@ -6,7 +6,7 @@ use Rattle.x_lex.specs.Places.{Lexeme, lexeme}
 use Rattle.x_session.specs.Compile.{tokens_of}
 use Rattle.x_session.specs.Answers.{counted_line, token_line, tokens_answer}
 use Rattle.x_session.proofs.Compiled.{one_compilation}
-use Rattle.x_session.proofs.Listing.{HasListed, lists_more, lists_all}
+use Rattle.x_text.proofs.Listing.{HasListed, lists_more, lists_all}
 use Rattle.x_session.proofs.script.answer.add_tokens.Goals as goal
 
 pub loop-token-preserved : goal.loop-token-preserved

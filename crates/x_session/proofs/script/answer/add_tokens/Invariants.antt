@@ -1,6 +1,6 @@
 use Rattle.x_lex.specs.Places.{Lexeme}
 use Rattle.x_session.specs.Answers.{token_line}
-use Rattle.x_session.proofs.Listing.{HasListed}
+use Rattle.x_text.proofs.Listing.{HasListed}
 use Rattle.x_session.proofs.script.answer.add_tokens.Given as goal
 
 abbrev pub invariant-loop-token : goal.invariant-loop-token

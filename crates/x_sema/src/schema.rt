@@ -1,0 +1,147 @@
+//! The types of a text, as values are read by them.
+ghost use Rattle.std.specs.Prelude.{◌≡◌, ◌<◌, List, length, Some, IfSome};
+ghost use Rattle.x_sema.specs.Schema.{form_at, target_at, name_at, named_type, type_id, IsTypeId, id_named};
+ghost use Rattle.x_sema.specs.Sound.{IsSound};
+
+mod constants;
+mod form;
+mod maker;
+
+pub use form::{Arm, Arms, Enumerators, Field, Form, FormIndex, LinkIndex, NameIndex};
+use indexmap::IndexMap;
+use std::marker::Model;
+
+/// What asked for a type: it decides how the root of a value is labelled.
+#[derive(Clone, Copy, Debug, PartialEq, Eq)]
+pub enum Root {
+    /// The type of this name.
+    Type(NameIndex),
+    /// The arguments of a procedure.
+    Arguments,
+    /// The results of a procedure.
+    Results,
+}
+
+/// A type of a schema: one that has a name ([`Schema::type_named`]), or a procedure's arguments or results.
+#[derive(Clone, Copy, Debug, PartialEq, Eq)]
+pub struct TypeId {
+    root: Root,
+    form: FormIndex,
+}
+
+impl TypeId {
+    /// What asked for the type.
+    pub fn root(self) -> Root
+        ensures { result ≡ self.root }
+    {
+        self.root
+    }
+
+    /// Its form.
+    pub fn form(self) -> FormIndex
+        ensures { result ≡ self.form }
+    {
+        self.form
+    }
+}
+
+/// A type that has a name.
+#[derive(Clone, Copy, Debug, PartialEq, Eq)]
+pub(crate) struct NamedType {
+    /// The name.
+    pub(crate) name: NameIndex,
+    /// What the type is.
+    pub(crate) form: FormIndex,
+}
+
+/// The types of a text without a fault. A type is a place in a list of forms, and a typedef leads to the form that it stands for, so
+/// that reading a value follows no chain of names.
+#[derive(Drop)]
+pub struct Schema {
+    pub(crate) names: Vec<Vec<u8>>,
+    pub(crate) forms: Vec<Form>,
+    /// The forms that links lead to: a link may look ahead.
+    pub(crate) links: Vec<FormIndex>,
+    pub(crate) types: IndexMap<Vec<u8>, NamedType>,
+}
+
+impl Model for Schema {
+    ghost use Rattle.std.specs.Prelude.{map};
+    ghost use Rattle.x_sema.specs.Schema.{Schema, named_types};
+
+    ghost Value = { Schema };
+
+    ghost view = { λ s. record {
+      names = map (λ n. n.items) s.names.items;
+      forms = s.forms.items;
+      links = s.links.items;
+      types = named_types s.types.entries;
+    } };
+
+    ghost use Rattle.x_sema.specs.Sound.{IsSound};
+
+    ghost invariant = { λ s. IsSound (record {
+      names = map (λ n. n.items) s.names.items;
+      forms = s.forms.items;
+      links = s.links.items;
+      types = named_types s.types.entries;
+    }) };
+}
+
+impl Schema {
+    /// The type of this name, if the text has one: a type definition's own name, or that of an inline type in it.
+    pub fn type_named(&self, name: &[u8]) -> Option<TypeId>
+        ensures named { result ≡ id_named self.now name.now }
+        ensures known { IfSome result (IsTypeId self.now) }
+    {
+        match self.named(name) {
+            Some(named) => Some(TypeId {
+                root: Root::Type(named.name),
+                form: named.form,
+            }),
+            None => None,
+        }
+    }
+
+    /// What the name of a type stands for.
+    #[tactic(auto, using(crate::proofs::SchemaLemmas::lookup_read))]
+    fn named(&self, name: &[u8]) -> Option<NamedType>
+        ensures named { result ≡ named_type self.now name.now }
+        ensures known { IfSome result (λ t. IsTypeId self.now (type_id t)) }
+    {
+        self.types.get(name).copied()
+    }
+
+    /// What the type is: its kind, with its sizes, fields, arms or enumerators.
+    pub fn form(&self, id: TypeId) -> &Form
+        requires { IsTypeId self.now id }
+        ensures { result.now ≡ form_at self.now id.form }
+    {
+        &self.forms[id.form]
+    }
+
+    /// The form at a place, as a field or an element has it.
+    pub fn form_at(&self, form: FormIndex) -> &Form
+        requires { form < length self.now.forms }
+        ensures form { result.now ≡ form_at self.now form }
+        ensures sound { IsSound self.now }
+    {
+        &self.forms[form]
+    }
+
+    /// The form that a link leads to.
+    pub fn target(&self, link: LinkIndex) -> FormIndex
+        requires { link < length self.now.links }
+        ensures { result ≡ target_at self.now link }
+    {
+        self.links[link]
+    }
+
+    /// A name of a field, an enumerator or a type.
+    pub fn name(&self, name: NameIndex) -> &[u8]
+        requires { name < length self.now.names }
+        ensures { result.now ≡ name_at self.now name }
+    {
+        &self.names[name as usize]
+    }
+}

@@ -1,0 +1,14 @@
+pub mod Bodies
+pub mod Bytes
+pub mod EntryLemmas
+pub mod Faults
+pub mod Fronts
+pub mod LineLemmas
+pub mod Opening
+pub mod Pieces
+pub mod Sound
+pub mod StepLemmas
+pub mod TurnLemmas
+pub mod Unions
+pub mod Unique
+pub mod Weights

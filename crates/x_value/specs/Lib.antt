@@ -1,0 +1,12 @@
+pub mod Dumps
+pub mod Entries
+pub mod FaultTexts
+pub mod Jobs
+pub mod Language
+pub mod Layouts
+pub mod Lines
+pub mod NodeList
+pub mod Readings
+pub mod Shown
+pub mod Values
+pub mod Work

@@ -1,0 +1,71 @@
+//! What stands at the nodes of a value (RFC 4506, section 4).
+ghost use Rattle.std.specs.Prelude.{◌≡◌, ◌<◌, ◌≤◌, ℕ, List, length, IsTrue, is_some};
+ghost use Rattle.std.specs.Int.{from_be_bytes, w32, w64};
+ghost use Rattle.x_sema.specs.Choices.{name_for};
+ghost use Rattle.x_sema.specs.Schema.{Schema};
+ghost use Rattle.x_sema.specs.Sound.{AreSoundEnumerators, is_legal};
+ghost use Rattle.x_value.specs.Layouts.{body_leaf, number_size, enumerator, discriminant_leaf};
+ghost use Rattle.x_value.specs.Entries.{leaf_of, body_at, IsKept};
+ghost use Rattle.x_value.specs.Work.{IsNamedForm};
+
+use crate::entry::Kept;
+use x_sema::{Enumerators, Form};
+
+fn word_of(bytes: &[u8]) -> u32
+    requires { 4 ≤ length bytes.now }
+    ensures { result ≡ from_be_bytes w32 bytes.now }
+{
+    u32::from_be_bytes([bytes[0], bytes[1], bytes[2], bytes[3]])
+}
+
+fn words_of(bytes: &[u8]) -> u64
+    requires { 8 ≤ length bytes.now }
+    ensures { result ≡ from_be_bytes w64 bytes.now }
+{
+    u64::from_be_bytes([
+        bytes[0], bytes[1], bytes[2], bytes[3], bytes[4], bytes[5], bytes[6], bytes[7],
+    ])
+}
+
+/// What a body of the form is shown as, where it stands at a place of the message.
+pub(crate) fn kept_body(form: &Form, body: &[u8], len: u32, at: usize) -> Kept
+    requires { number_size form.now ≤ length body.now }
+    ensures shown { (s : Schema) (m : List ℕ) → body_at m at len ≡ body.now → leaf_of s m result ≡ body_leaf form.now body.now }
+    ensures named { (n : ℕ) → IsKept n result }
+{
+    match form {
+        Form::Void => Kept::Void,
+        Form::Int => Kept::Signed(i64::from(word_of(body).cast_signed())),
+        Form::UnsignedInt => Kept::Unsigned(u64::from(word_of(body))),
+        Form::Hyper => Kept::Signed(words_of(body).cast_signed()),
+        Form::UnsignedHyper => Kept::Unsigned(words_of(body)),
+        Form::String(_) => Kept::Text(len, at),
+        _ => Kept::Hex(len, at),
+    }
+}
+
+/// The enumerator of the number that the word stands for.
+pub(crate) fn kept_enumerator(names: &Enumerators, word: u32) -> Kept
+    requires { IsTrue (is_some (name_for names.now word)) }
+    ensures shown { (s : Schema) (m : List ℕ) → leaf_of s m result ≡ enumerator s names.now word }
+    ensures named { (n : ℕ) → AreSoundEnumerators n names.now → IsKept n result }
+{
+    match names.name(word) {
+        Some(name) => Kept::Enumerator(name, word.cast_signed()),
+        None => Kept::Void,
+    }
+}
+
+/// The discriminant of a union, whose form this is.
+pub(crate) fn kept_discriminant(form: &Form, word: u32) -> Kept
+    requires { IsTrue (is_legal form.now word) }
+    ensures shown { (s : Schema) (m : List ℕ) → leaf_of s m result ≡ discriminant_leaf s form.now word }
+    ensures named { (n : ℕ) → IsNamedForm n form.now → IsKept n result }
+{
+    match form {
+        Form::Bool => Kept::Truth(word == 1),
+        Form::Enum(names) => kept_enumerator(names, word),
+        Form::UnsignedInt => Kept::Unsigned(u64::from(word)),
+        _ => Kept::Signed(i64::from(word.cast_signed())),
+    }
+}

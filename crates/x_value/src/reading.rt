@@ -1,0 +1,64 @@
+//! Reads a value.
+ghost use Rattle.std.specs.Prelude.{◌≡◌, ◌⊎◌, ◌∷◌, [], length, IfErr, IfOk};
+ghost use Rattle.x_sema.specs.Schema.{Schema, IsTypeId, IsRoot};
+ghost use Rattle.x_value.specs.Dumps.{root_label, IsEncoding, IsFault, IsShown};
+ghost use Rattle.x_value.specs.Entries.{label_of, IsCalled};
+
+use crate::entry::{Called, Dump};
+use crate::fault::{ReadCode, ReadFault};
+use crate::steps::counted_from;
+use crate::task::{Spot, Task};
+use crate::turns::{carry_out, put};
+use std::alloc::Global;
+use x_sema::{Root, Schema, TypeId};
+
+/// What the root of a value is called.
+fn called(root: Root) -> Called
+    ensures label { (s : Schema) → label_of s result ≡ root_label s root }
+    ensures known { (s : Schema) → IsRoot s root → IsCalled (length s.names) result }
+{
+    match root {
+        Root::Type(name) => Called::Name(name),
+        Root::Arguments => Called::Arguments,
+        Root::Results => Called::Results,
+    }
+}
+
+/// The nodes of the value of this type whose encoding the bytes are (RFC 4506, section 4), or the place and the reason of their refusal.
+pub fn dump<'a>(
+    alloc: Global,
+    schema: &'a Schema,
+    id: TypeId,
+    bytes: &'a [u8],
+) -> Result<Dump<'a>, ReadFault>
+    requires { IsTypeId schema.now id }
+    ensures ok { IfOk result (λ d. IsShown schema.now id bytes.now d) }
+    ensures err { IfErr result (λ e. IsFault schema.now id bytes.now e.at e.code) }
+    ensures only { IfErr result (λ e. e.code ≡ ReadCode.NoMemory ⊎ (IsEncoding schema.now id bytes.now → ⊥)) }
+{
+    let form = id.form();
+    let _form = schema.form_at(form);
+    let spot = Spot {
+        called: called(id.root()),
+        level: 0,
+        links: 0,
+    };
+    let mut stack = Vec::new(alloc);
+    let mut entries = Vec::new(alloc);
+    put(&mut stack, Task::One(form, spot))?;
+    let mut rest = bytes;
+    while let Some(task) = stack.pop() {
+        rest = match carry_out(schema, bytes, &mut stack, &mut entries, task, rest) {
+            Ok(rest) => rest,
+            Err(fault) => return Err(counted_from(fault, bytes.len() - rest.len())),
+        };
+    }
+    if rest.is_empty() {
+        Ok(Dump::of(schema, bytes, entries))
+    } else {
+        Err(ReadFault {
+            at: bytes.len() - rest.len(),
+            code: ReadCode::Trailing,
+        })
+    }
+}

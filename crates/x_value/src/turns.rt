@@ -1,0 +1,173 @@
+//! One turn of the reader: a task is taken from the stack and carried out.
+ghost use Rattle.std.specs.Prelude.{◌≡◌, ◌<◌, ◌≤◌, ◌+◌, ◌++◌, ◌∷◌, [], ℕ, List, length, drop, IfOk, IfErr, OnOk, MatchOption};
+ghost use Rattle.x_sema.specs.Schema.{Schema, form_at};
+ghost use Rattle.x_sema.specs.Sound.{IsSound};
+ghost use Rattle.x_value.specs.Jobs.{Refused};
+ghost use Rattle.x_value.specs.Work.{fields, value_job, jobs_of_task, pending, tasks_of_option, shown_entries, IsTyped, AreTasks, IsSpot, IsRear, Stacked, Turn};
+
+use crate::entry::{Called, Entry};
+use crate::fault::{ReadCode, ReadFault};
+use crate::steps::value;
+use crate::task::{Spot, Task};
+use x_sema::{Field, Form, FormIndex, Schema};
+
+pub(crate) fn put(stack: &mut Vec<Task>, task: Task) -> Result<(), ReadFault>
+    ensures ok { OnOk result (stack.new.items ≡ stack.old.items ++ task ∷ []) }
+    ensures err { IfErr result (λ e. (e.code ≡ ReadCode.NoMemory) × (e.at ≡ 0)) }
+{
+    stack.push(task)?;
+    Ok(())
+}
+
+fn put_next(stack: &mut Vec<Task>, next: Option<Task>) -> Result<(), ReadFault>
+    ensures ok { OnOk result (stack.new.items ≡ stack.old.items ++ tasks_of_option next) }
+    ensures err { IfErr result (λ e. (e.code ≡ ReadCode.NoMemory) × (e.at ≡ 0)) }
+{
+    match next {
+        Some(task) => put(stack, task),
+        None => Ok(()),
+    }
+}
+
+fn show(entries: &mut Vec<Entry>, entry: Entry) -> Result<(), ReadFault>
+    ensures ok { OnOk result (entries.new.items ≡ entries.old.items ++ entry ∷ []) }
+    ensures err { IfErr result (λ e. (e.code ≡ ReadCode.NoMemory) × (e.at ≡ 0)) }
+{
+    entries.push(entry)?;
+    Ok(())
+}
+
+#[tactic(auto, using(crate::proofs::TurnLemmas::shown_two))]
+fn show_all(entries: &mut Vec<Entry>, first: Entry, second: Option<Entry>) -> Result<(), ReadFault>
+    ensures ok { OnOk result (entries.new.items ≡ entries.old.items ++ shown_entries first second) }
+    ensures err { IfErr result (λ e. (e.code ≡ ReadCode.NoMemory) × (e.at ≡ 0)) }
+{
+    show(entries, first)?;
+    match second {
+        Some(second) => show(entries, second),
+        None => Ok(()),
+    }
+}
+
+/// Begins a value.
+fn begin<'a>(
+    schema: &Schema,
+    message: &'a [u8],
+    stack: &mut Vec<Task>,
+    entries: &mut Vec<Entry>,
+    form: FormIndex,
+    spot: Spot,
+    bytes: &'a [u8],
+) -> Result<&'a [u8], ReadFault>
+    requires sound { IsSound schema.now }
+    requires known { form < length schema.now.forms }
+    requires spot { IsSpot schema.now spot }
+    requires rear { IsRear message.now bytes.now }
+    requires tasks { AreTasks schema.now stack.old.items }
+    ensures ok { IfOk result (λ rest. Turn schema.now message.now (Task.One form spot) stack.old.items entries.old.items bytes.now stack.new.items entries.new.items rest.now) }
+    ensures err { IfErr result (λ e. Refused schema.now (value_job schema.now form spot ∷ pending schema.now stack.old.items) bytes.now e.at e.code) }
+{
+    let step = value(schema, message, form, spot, bytes)?;
+    show_all(entries, step.first, step.second)?;
+    put_next(stack, step.next)?;
+    Ok(step.rest)
+}
+
+/// The field at a place, and the place behind it.
+fn field_at(form: &Form, place: usize) -> Option<(Field, usize)>
+    ensures { MatchOption result (drop place (fields form.now) ≡ []) (λ r. (r.1 ≡ place + 1) × (drop place (fields form.now) ≡ r.0 ∷ drop (place + 1) (fields form.now))) }
+{
+    match form {
+        Form::Struct(fields) => {
+            if place < fields.len() {
+                Some((fields[place], place + 1))
+            } else {
+                None
+            }
+        }
+        _ => None,
+    }
+}
+
+fn next_field(
+    schema: &Schema,
+    stack: &mut Vec<Task>,
+    form: FormIndex,
+    place: usize,
+    level: u32,
+    links: u32,
+) -> Result<(), ReadFault>
+    requires sound { IsSound schema.now }
+    requires task { IsTyped schema.now (Task.Fields form place level links) }
+    requires tasks { AreTasks schema.now stack.old.items }
+    ensures ok { OnOk result (Stacked schema.now (Task.Fields form place level links) stack.old.items stack.new.items) }
+    ensures err { IfErr result (λ e. (e.code ≡ ReadCode.NoMemory) × (e.at ≡ 0)) }
+{
+    let Some((field, next)) = field_at(schema.form_at(form), place) else {
+        return Ok(());
+    };
+    put(stack, Task::Fields(form, next, level, links))?;
+    let spot = Spot {
+        called: Called::Name(field.name),
+        level,
+        links,
+    };
+    put(stack, Task::One(field.form, spot))?;
+    Ok(())
+}
+
+fn next_element(
+    schema: &Schema,
+    stack: &mut Vec<Task>,
+    form: FormIndex,
+    next: u32,
+    end: u32,
+    level: u32,
+    links: u32,
+) -> Result<(), ReadFault>
+    requires task { IsTyped schema.now (Task.Elements form next end level links) }
+    requires tasks { AreTasks schema.now stack.old.items }
+    ensures ok { OnOk result (Stacked schema.now (Task.Elements form next end level links) stack.old.items stack.new.items) }
+    ensures err { IfErr result (λ e. (e.code ≡ ReadCode.NoMemory) × (e.at ≡ 0)) }
+{
+    if next >= end {
+        return Ok(());
+    }
+    put(stack, Task::Elements(form, next + 1, end, level, links))?;
+    let spot = Spot {
+        called: Called::Index(next),
+        level,
+        links,
+    };
+    put(stack, Task::One(form, spot))?;
+    Ok(())
+}
+
+/// Carries a task out, and gives the bytes behind those that it read.
+pub(crate) fn carry_out<'a>(
+    schema: &Schema,
+    message: &'a [u8],
+    stack: &mut Vec<Task>,
+    entries: &mut Vec<Entry>,
+    task: Task,
+    bytes: &'a [u8],
+) -> Result<&'a [u8], ReadFault>
+    requires sound { IsSound schema.now }
+    requires task { IsTyped schema.now task }
+    requires tasks { AreTasks schema.now stack.old.items }
+    requires rear { IsRear message.now bytes.now }
+    ensures ok { IfOk result (λ rest. Turn schema.now message.now task stack.old.items entries.old.items bytes.now stack.new.items entries.new.items rest.now) }
+    ensures err { IfErr result (λ e. Refused schema.now (jobs_of_task schema.now task ++ pending schema.now stack.old.items) bytes.now e.at e.code) }
+{
+    match task {
+        Task::One(form, spot) => begin(schema, message, stack, entries, form, spot, bytes),
+        Task::Fields(form, place, level, links) => {
+            next_field(schema, stack, form, place, level, links)?;
+            Ok(bytes)
+        }
+        Task::Elements(form, next, end, level, links) => {
+            next_element(schema, stack, form, next, end, level, links)?;
+            Ok(bytes)
+        }
+    }
+}
