@@ -32,6 +32,7 @@ pub mod OutlineLemmas
 pub mod OwnNames
 pub mod PastLastLemmas
 pub mod PlaceLemmas
+pub mod ProcedureLemmas
 pub mod RepeatLemmas
 pub mod ResultLaws
 pub mod RuleTextLemmas

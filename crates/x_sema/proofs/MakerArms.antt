@@ -1,21 +1,20 @@
 -- What enums and unions make of a schema in the making.
-use Rattle.std.proofs.Common.{◌≡◌, ℕ, ◌+◌, ◌-◌, ◌<◌, ◌≤◌, ◌^◌, arith, nat_lt, nat_eq, Bool, true, false, cond, IsTrue, is_some, map, length, get_or, ℤ, pos, negsuc, List, [], ◌∷◌, ◌++◌, Option, None, Some, option_and_then, refl, sym, ap, subst, ◌∙◌, append_assoc, append-nil}
+use Rattle.std.proofs.Common.{◌≡◌, ℕ, ◌-◌, ◌<◌, ◌^◌, arith, nat_lt, nat_eq, Bool, true, false, cond, IsTrue, is_some, length, get_or, ℤ, pos, negsuc, List, [], ◌∷◌, ◌++◌, Option, None, Some, option_and_then, refl, sym, ap, subst, ◌∙◌, append_assoc, append-nil}
 use Rattle.std.proofs.lemmas.Bool.Decides.{nat_tests}
 use Rattle.std.specs.Map.{lookup}
 use Rattle.x_item.specs.Tree as tree
-use Rattle.x_sema.specs.Choices.{Choice, arm_for, or_default, name_for}
+use Rattle.x_sema.specs.Choices.{Choice, or_default}
 use Rattle.x_sema.specs.Constants.{next_number}
 use Rattle.x_sema.specs.Schema.{Schema, form_at, name_at}
-use Rattle.x_sema.specs.SchemaOf.{Known, Numbers, AreArms, IsArmOf, IsBody, IsDeclared, IsDefault, IsEnum, number_in, case_word, if_legal, word_by, signed_word, unsigned_word, enum_form, name_of, number_given, place_in, typedefs_inside, typedefs_of, typedefs_of_arms, typedefs_of_default, union_form, with_cases, with_first, with_word, words_from}
-use Rattle.x_sema.specs.SchemaMaking.{IsFront, Completes, Behind, IsGood, Puts, PutsAll, PutsPlace, AddsName, AddsForm, AreSoundCases, AreSoundWords, IsSoundDefault, words_named}
-use Rattle.x_sema.specs.Sound.{IsSoundForm, IsSoundField, IsSoundArm, IsSoundUnion, AreSoundEnumerators, is_legal}
+use Rattle.x_sema.specs.SchemaOf.{Known, Numbers, AreArms, IsBody, IsDefault, IsEnum, number_in, case_word, if_legal, word_by, signed_word, unsigned_word, enum_form, number_given, typedefs_inside, typedefs_of, typedefs_of_arms, typedefs_of_default, union_form, with_cases, with_word, words_from}
+use Rattle.x_sema.specs.SchemaMaking.{Completes, IsGood, Puts, PutsAll, PutsPlace, AddsName, AddsForm, AreSoundCases, AreSoundWords, IsSoundDefault, words_named}
+use Rattle.x_sema.specs.Sound.{IsSoundForm, IsSoundField, IsSoundArm, is_legal}
 use Rattle.x_sema.specs.declared.schema.form.Arm.{Arm}
-use Rattle.x_sema.specs.declared.schema.form.Arm.TheVariants as arms
 use Rattle.x_sema.specs.declared.schema.form.Field.{Field}
 use Rattle.x_sema.specs.declared.schema.form.Form.{Form}
 use Rattle.x_sema.specs.declared.schema.form.Form.TheVariants as forms
 use Rattle.x_sema.specs.declared.schema.maker.Maker.{Maker}
-use Rattle.x_sema.proofs.MakerSteps.{behind_of, and_then, front_get, put_as, puts_none, puts_name}
+use Rattle.x_sema.proofs.MakerSteps.{and_then, front_get, put_as, puts_none, puts_name}
 use Rattle.x_sema.proofs.MakerForms.{IsArm, IsFieldOf, place_within, with_form}
 
 same_nat : (n : ℕ) → nat_eq n n ≡ true

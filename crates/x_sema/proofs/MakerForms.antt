@@ -1,5 +1,5 @@
 -- What each form of the grammar makes of a schema in the making.
-use Rattle.std.proofs.Common.{◌≡◌, ℕ, ◌+◌, ◌<◌, ◌≤◌, ◌^◌, arith, nat_lt, nat_eq, Bool, true, false, cond, IsTrue, is_some, map, length, get_or, drop, ℤ, pos, List, [], ◌∷◌, ◌++◌, Option, None, Some, option_and_then, refl, sym, ap, subst, ◌∙◌, append_assoc, append-nil}
+use Rattle.std.proofs.Common.{◌≡◌, ℕ, ◌<◌, arith, true, false, map, length, get_or, List, [], ◌∷◌, ◌++◌, Option, None, Some, refl, sym, ap, subst, ◌∙◌, append_assoc, append-nil}
 use Rattle.std.specs.Global.{Global}
 use Rattle.std.specs.declared.vec.Vec.{Vec}
 use Rattle.std.specs.Map.{lookup}
@@ -9,27 +9,25 @@ use Rattle.x_item.specs.Tree as tree
 use Rattle.x_item.specs.declared.trees.declaration.Basic.{Basic}
 use Rattle.x_item.specs.declared.trees.declaration.Basic.TheVariants as basics
 use Rattle.x_item.specs.declared.names.mention.Use.TheVariants as uses
-use Rattle.x_sema.specs.Choices.{Choice, arm_for}
 use Rattle.x_sema.specs.Schema.{Schema, form_at, name_at, target_at}
-use Rattle.x_sema.specs.SchemaOf.{Known, Types, Numbers, AreArms, AreFields, IsArmOf, IsBody, IsDeclared, IsDefault, IsEnum, IsType, as_typedef, limit_in, size_in, basic_form, enum_form, is_void, name_of, opaque_form, place_in, place_named, typedefs_inside, typedefs_of, typedefs_of_arms, typedefs_of_default, typedefs_of_fields, union_form, with_cases, words_from}
-use Rattle.x_sema.specs.SchemaMaking.{IsFront, Completes, Behind, IsGood, Puts, PutsAll, PutsPlace, PutsLink, AddsName, AddsForm, AddsLink, AddsFound, AreSoundCases, AreSoundWords, IsSoundDefault, IsStart, names_made, place_linked, words_named}
-use Rattle.x_sema.specs.Sound.{IsSoundForm, IsSoundField, IsSoundArm, IsSoundUnion, AreSoundFields, AreSoundEnumerators, is_legal}
+use Rattle.x_sema.specs.SchemaOf.{Known, Types, Numbers, AreFields, IsArmOf, IsBody, IsDeclared, IsType, as_typedef, limit_in, size_in, basic_form, is_void, name_of, opaque_form, place_in, place_named, typedefs_inside, typedefs_of, typedefs_of_fields}
+use Rattle.x_sema.specs.SchemaMaking.{Completes, IsGood, Puts, PutsAll, PutsPlace, PutsLink, AddsName, AddsForm, AddsLink, AddsFound, names_made, place_linked}
+use Rattle.x_sema.specs.Sound.{IsSoundForm, IsSoundField, IsSoundArm, AreSoundFields}
 use Rattle.x_sema.specs.declared.schema.form.Arm.{Arm}
 use Rattle.x_sema.specs.declared.schema.form.Arm.TheVariants as arms
 use Rattle.x_sema.specs.declared.schema.form.Field.{Field}
 use Rattle.x_sema.specs.declared.schema.form.Form.{Form}
 use Rattle.x_sema.specs.declared.schema.form.Form.TheVariants as forms
-use Rattle.x_sema.specs.declared.schema.maker.Link.{Link}
 use Rattle.x_sema.specs.declared.schema.maker.Link.TheVariants as links
 use Rattle.x_sema.specs.declared.schema.maker.Maker.{Maker}
 use Rattle.x_sema.specs.declared.schema.NamedType.{NamedType}
-use Rattle.x_sema.proofs.MakerSteps.{behind_of, and_then, front_get, put_as, puts_none, puts_form, puts_link, puts_name, puts_found}
+use Rattle.x_sema.proofs.MakerSteps.{behind_of, and_then, put_as, puts_none, puts_form, puts_link, puts_name, puts_found}
 use Rattle.std.specs.Borrow.{Bor}
 
 -- ---- a schema that a maker may end with
 
 abbrev pub some_schema : Maker → Schema
-some_schema m = record { names = names_made m; forms = m.forms.items; links = map (place_linked []) m.links.items; types = [] }
+some_schema m = record { names = names_made m; forms = m.forms.items; links = map (place_linked []) m.links.items; types = []; procedures = [] }
 
 pub some_completes : (m : Maker) → Completes m (some_schema m)
 some_completes m = record {

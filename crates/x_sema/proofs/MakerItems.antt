@@ -1,13 +1,16 @@
 -- The items of a text, one behind another, and the schema at their end.
-use Rattle.std.proofs.Common.{◌≡◌, ℕ, zero, suc, ◌+◌, ◌<◌, ◌≤◌, arith, Bool, true, false, cond, is_some, map, length, get_or, List, [], ◌∷◌, ◌++◌, Option, None, Some, refl, sym, ap, subst, ◌∙◌, append_assoc, append-nil}
+use Rattle.std.proofs.Common.{◌≡◌, ℕ, zero, suc, ◌<◌, ◌≤◌, arith, Bool, true, false, cond, is_some, map, length, get_or, List, [], ◌∷◌, ◌++◌, Option, None, Some, refl, sym, ap, subst, ◌∙◌, append_assoc, append-nil}
 use Rattle.std.specs.Map.{lookup}
 use Rattle.std.specs.Str.{bytes_eq}
 use Rattle.x_item.specs.Tree as tree
 use Rattle.x_sema.specs.Declarers.{or_else}
-use Rattle.x_sema.specs.Schema.{Schema, form_at, name_at}
-use Rattle.x_sema.specs.SchemaOf.{Known, Types, AreTypesOf, IsBody, IsDeclared, IsSchemaOf, as_typedef, is_void, name_of, place_named, typedefs, typedefs_inside, typedefs_of, with_first, with_types, numbers_of}
+use Rattle.x_sema.specs.Schema.{Schema, IsKeptWithin, form_at, name_at, same_numbers}
+use Rattle.x_sema.specs.ProcedureMaking.{AreKeptWithin, PutsProcedures}
+use Rattle.x_sema.specs.ProceduresOf.{AreProceduresBehind, Numbered, Table, procedures_of}
+use Rattle.x_sema.specs.Schemas.{IsSchemaOf}
+use Rattle.x_sema.specs.SchemaOf.{Known, Types, AreTypesOf, IsBody, IsDeclared, as_typedef, is_void, name_of, place_named, typedefs, typedefs_inside, typedefs_of, with_first, with_types, numbers_of}
 use Rattle.x_sema.specs.SchemaTables.{numbers_held}
-use Rattle.x_sema.specs.SchemaMaking.{IsFront, Completes, Behind, IsGood, IsStart, Puts, PutsAll, PutsPlace, AddsFound, FindsItem, FindsItems, TakesFound, AreLinksWithin, AreWithin, IsWithin, names_made, place_linked, view_known, with_found}
+use Rattle.x_sema.specs.SchemaMaking.{Completes, Behind, IsGood, IsStart, PutsAll, PutsPlace, AddsFound, FindsItem, FindsItems, TakesFound, AreLinksWithin, AreWithin, IsWithin, names_made, place_linked, view_known, with_found}
 use Rattle.x_sema.specs.Sound.{IsSound, IsSoundForm}
 use Rattle.x_sema.specs.declared.schema.form.Form.TheVariants as forms
 use Rattle.x_sema.specs.declared.schema.maker.Known as held
@@ -16,6 +19,7 @@ use Rattle.x_sema.specs.declared.schema.maker.Link.TheVariants as links
 use Rattle.x_sema.specs.declared.schema.maker.Maker.{Maker}
 use Rattle.x_sema.specs.declared.schema.NamedType.{NamedType}
 use Rattle.x_sema.proofs.NameLemmas.{lookup_more}
+use Rattle.x_sema.proofs.ProcedureLemmas.{kept_found}
 use Rattle.x_sema.proofs.MakerSteps.{and_then, put_as, puts_none, puts_found, front_get, front_same, good_same, named_long, names_same}
 use Rattle.x_sema.proofs.MakerForms.{some_schema, some_completes, named_within, void_there}
 
@@ -194,8 +198,8 @@ mapped_long : {X Y : Type 0} (f : X → Y) (xs : List X) → length (map f xs) �
 mapped_long f [] = refl
 mapped_long f (x ∷ xs) = ap suc (mapped_long f xs)
 
-pub end_sound : (m : Maker) (s : Schema) → IsGood s.types m → s.names ≡ names_made m → s.forms ≡ m.forms.items → s.links ≡ map (place_linked s.types) m.links.items → IsSound s
-end_sound m s g names fs ls = record {
+pub end_sound : (m : Maker) (s : Schema) → IsGood s.types m → AreKeptWithin (length m.names.items) (length m.forms.items) s.procedures → s.names ≡ names_made m → s.forms ≡ m.forms.items → s.links ≡ map (place_linked s.types) m.links.items → IsSound s
+end_sound m s g kept names fs ls = record {
   forms = λ i lt. g.sound s (end_completes m s names fs ls) i (subst (λ l. i < length l) fs lt);
   links = λ l lt. subst (λ x. get_or s.links l 0 < length x) (sym fs) (subst (λ x. get_or x l 0 < length m.forms.items) (sym ls)
       (links_sound s.types (length m.forms.items) m.links.items g.links (λ name. named_within s.types m name g) l (long l lt)));
@@ -203,26 +207,41 @@ end_sound m s g names fs ls = record {
     subst (λ x. t.form < length x) (sym fs) (g.within name t is).0,
     subst (λ x. t.name < length x) (sym names) (subst (λ n. t.name < n) (sym (named_long m)) (g.within name t is).1),
   );
+  procedures = λ numbers of is.
+      subst (λ x. IsKeptWithin (length s.names) (length x) of) (sym fs) (subst (λ x. IsKeptWithin (length x) (length m.forms.items) of) (sym names)
+      (subst (λ n. IsKeptWithin n (length m.forms.items) of) (sym (named_long m)) (kept_found (length m.names.items) (length m.forms.items) (same_numbers numbers) s.procedures of kept is)));
 }
   where
     long : (l : ℕ) → l < length s.links → l < length m.links.items
     long l lt = subst (λ n. l < n) (ap length ls ∙ mapped_long (place_linked s.types) m.links.items) lt
 
-pub end_types : (start m : Maker) (s : Schema) (before after : held.Known) (definitions : List (Option tree.Definition)) → IsStart start → FindsItems start m before after definitions
+pub end_types : (start m last : Maker) (s : Schema) (before after : held.Known) (definitions : List (Option tree.Definition)) → IsStart start → FindsItems start m before after definitions
     → (view_known before).types ≡ [] → numbers_held before.constants ≡ numbers_of definitions → s.types ≡ (view_known after).types
-    → s.names ≡ names_made m → s.forms ≡ m.forms.items → s.links ≡ map (place_linked s.types) m.links.items → IsSchemaOf definitions s
-end_types start m s before after definitions is finds empty numbers types names fs ls =
-    let good : IsGood (view_known before).types start = subst (λ t. IsGood t start) (sym empty) (start_good start is) in
-    let c = end_completes m s names fs ls in
-    let b : Behind m (length m.names.items) (length m.forms.items) s = record { names = omega arith; forms = omega arith; completes = c } in
-    let all : AreTypesOf s (view_known before).numbers (view_known before).types (definitions ++ []) = finds.types is.found good (length m.names.items) (length m.forms.items) s b [] types in
+    → PutsProcedures (view_known after) m last [] s.procedures (procedures_of definitions) → Completes last s → IsSchemaOf definitions s
+end_types start m last s before after definitions is finds empty numbers types put c =
+    let first : IsGood (view_known before).types start = subst (λ t. IsGood t start) (sym empty) (start_good start is) in
+    let good = (finds.good is.found first).0 in
+    let puts = put good in
+    let b : Behind last (length last.names.items) (length last.forms.items) s = record { names = omega arith; forms = omega arith; completes = c } in
+    let back : Behind m (length last.names.items) (length last.forms.items) s = puts.behind (length last.names.items) (length last.forms.items) s b in
+    let all : AreTypesOf s (view_known before).numbers (view_known before).types (definitions ++ []) = finds.types is.found first (length last.names.items) (length last.forms.items) s back [] types in
     let told : AreTypesOf s (view_known before).numbers (view_known before).types definitions = subst (λ ds. AreTypesOf s (view_known before).numbers (view_known before).types ds) (append-nil definitions) all in
     let told_empty : AreTypesOf s (view_known before).numbers [] definitions = subst (λ t. AreTypesOf s (view_known before).numbers t definitions) empty told in
     record {
-      void = void_there (view_known after).types m s (finds.good is.found good).0 c;
+      void = void_there (view_known after).types last s puts.good c;
       types = subst (λ n. AreTypesOf s n [] definitions) numbers told_empty;
+      procedures = subst (AreProceduresBehind s []) (append-nil (procedures_of definitions))
+          ((puts.is (length last.names.items) (length last.forms.items) s b).procedures types [] refl);
     }
 
 pub end_good : (start m : Maker) (before after : held.Known) (definitions : List (Option tree.Definition)) → IsStart start → FindsItems start m before after definitions
     → (view_known before).types ≡ [] → IsGood (view_known after).types m
 end_good start m before after definitions is finds empty = (finds.good is.found (subst (λ t. IsGood t start) (sym empty) (start_good start is))).0
+
+-- behind the procedures too
+pub end_last : (start m last : Maker) (before after : held.Known) (definitions : List (Option tree.Definition)) (table : Table) (ps : List Numbered) → IsStart start → FindsItems start m before after definitions
+    → (view_known before).types ≡ [] → PutsProcedures (view_known after) m last [] table ps
+    → IsGood (view_known after).types last × AreKeptWithin (length last.names.items) (length last.forms.items) table
+end_last start m last before after definitions table ps is finds empty put =
+    let puts = put (end_good start m before after definitions is finds empty) in
+    (puts.good, (puts.is (length last.names.items) (length last.forms.items) (some_schema last) (some_behind last)).within tt)

@@ -1,14 +1,11 @@
 -- Steps of the maker of a schema, one behind another.
-use Rattle.std.proofs.Common.{◌≡◌, ℕ, ◌+◌, ◌<◌, ◌≤◌, arith, nat_lt, Bool, true, false, IsTrue, map, length, get_or, slice_get, List, [], ◌∷◌, ◌++◌, Option, None, Some, refl, sym, ap, subst, ◌∙◌, append_assoc, append-nil, length-append}
+use Rattle.std.proofs.Common.{◌≡◌, ℕ, ◌+◌, ◌<◌, ◌≤◌, arith, nat_lt, Bool, true, false, map, length, get_or, List, [], ◌∷◌, ◌++◌, refl, sym, ap, subst, ◌∙◌, append_assoc, append-nil, length-append}
 use Rattle.std.proofs.lemmas.List.{length-map, get_or_at, get_or_append_left}
 use Rattle.std.proofs.lemmas.Bool.Decides.{nat_tests}
-use Rattle.std.specs.Map.{lookup}
-use Rattle.std.specs.Option.{option_map_or}
-use Rattle.std.specs.Str.{bytes_eq}
 use Rattle.x_item.specs.Tree as tree
 use Rattle.x_sema.specs.Schema.{Schema, form_at, name_at, target_at}
-use Rattle.x_sema.specs.SchemaOf.{Known, Types, AreNamed, IsDeclared, place_named, name_of}
-use Rattle.x_sema.specs.SchemaMaking.{IsFront, Completes, Behind, IsGood, Puts, IsStart, AddsName, AddsForm, AddsLink, AddsFound, AreLinksWithin, AreWithin, IsWithin, names_made, place_linked}
+use Rattle.x_sema.specs.SchemaOf.{Known, Types, AreNamed, IsDeclared, name_of}
+use Rattle.x_sema.specs.SchemaMaking.{IsFront, Completes, Behind, IsGood, Puts, AddsName, AddsForm, AddsLink, AddsFound, AreLinksWithin, AreWithin, IsWithin, names_made, place_linked}
 use Rattle.x_sema.specs.Sound.{IsSoundForm}
 use Rattle.x_sema.specs.declared.schema.form.Form.{Form}
 use Rattle.x_sema.specs.declared.schema.form.Form.TheVariants as forms

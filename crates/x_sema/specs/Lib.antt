@@ -17,12 +17,15 @@ pub mod Numbers
 pub mod Outlined
 pub mod Results
 pub mod RuleTexts
+pub mod ProcedureMaking
+pub mod ProceduresOf
 pub mod Rules
 pub mod RustViews
 pub mod Schema
 pub mod SchemaMaking
 pub mod SchemaOf
 pub mod SchemaTables
+pub mod Schemas
 pub mod Sound
 pub mod Tables
 pub mod Types

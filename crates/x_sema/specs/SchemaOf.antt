@@ -1,6 +1,6 @@
 -- What the types of a text are: the form of each type that an item declares, as RFC 4506, section 4, gives it to the words of the item.
 -- They are told of any text. What is a fault counts as something: a name that is no type is `void`, a number that is not known is none.
-use Rattle.std.specs.Prelude.{◌≡◌, ℕ, ◌-◌, ◌^◌, ℤ, pos, negsuc, nat_lt, nat_eq, Bool, true, false, not, is_some, IsTrue, List, [], ◌∷◌, ◌++◌, map, Option, Some, None, option_and_then, codes, if◌then◌else◌}
+use Rattle.std.specs.Prelude.{◌≡◌, ℕ, ◌-◌, ◌^◌, ℤ, pos, negsuc, nat_lt, nat_eq, Bool, true, false, is_some, List, [], ◌∷◌, ◌++◌, map, Option, Some, None, option_and_then, codes, if◌then◌else◌}
 use Rattle.std.specs.Map.{lookup}
 use Rattle.std.specs.Option.{option_map_or}
 use Rattle.std.specs.Str.{bytes_eq}
@@ -12,7 +12,6 @@ use Rattle.x_item.specs.declared.names.mention.Use.{Use}
 use Rattle.x_item.specs.declared.names.mention.Use.TheVariants as uses
 use Rattle.x_item.specs.declared.trees.declaration.Basic.{Basic}
 use Rattle.x_item.specs.declared.trees.declaration.Basic.TheVariants as basics
-use Rattle.x_sema.specs.Numbers.{is_enum_number}
 use Rattle.x_sema.specs.Constants.{next_number, number_spelled}
 use Rattle.x_sema.specs.Choices.{Choice}
 use Rattle.x_sema.specs.Schema.{Schema, form_at, name_at, target_at}
@@ -352,8 +351,3 @@ AreTypesOf s numbers types [] = s.types ≡ types
 AreTypesOf s numbers types (d ∷ ds) =
     (found : List NamedType) × AreNamed s (record { numbers = numbers; types = types }) (typedefs d) found
     × AreTypesOf s numbers (with_types s types found) ds
-
--- the types are those of a text of these items
-pub record IsSchemaOf (definitions : List (Option tree.Definition)) (s : Schema) : Type 0 where
-  pub void : form_at s 0 ≡ forms.Void
-  pub types : AreTypesOf s (numbers_of definitions) [] definitions

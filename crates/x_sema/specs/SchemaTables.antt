@@ -1,6 +1,5 @@
 -- The tables that a schema is made with, as the definitions have them.
-use Rattle.std.specs.Prelude.{ℕ, ℤ, List, map}
-use Rattle.std.specs.Borrow.{Bor}
+use Rattle.std.specs.Prelude.{map}
 use Rattle.x_sema.specs.SchemaOf as schema
 use Rattle.x_sema.specs.declared.schema.constants.Constants.{Constants}
 

@@ -5,10 +5,12 @@ use Rattle.x_sema.specs.declared.schema.form.Arm.{Arm}
 use Rattle.x_sema.specs.declared.schema.form.Arm.TheVariants as arms
 use Rattle.x_sema.specs.declared.schema.form.Field.{Field}
 use Rattle.x_sema.specs.declared.schema.form.Form.{Form}
-use Rattle.x_sema.specs.declared.schema.form.Form.TheVariants.{Void, Int, UnsignedInt, Hyper, UnsignedHyper, Float, Double, Quadruple, Bool as Truth, Enum, FixedOpaque, Opaque, String, FixedArray, Array, Optional, Struct, Union}
+use Rattle.x_sema.specs.declared.schema.form.Form.TheVariants.{Int, UnsignedInt, Bool as Truth, Enum, FixedArray, Array, Optional, Struct, Union}
 use Rattle.x_sema.specs.declared.schema.NamedType.{NamedType}
 use Rattle.x_sema.specs.Choices.{Choice, arm_for, name_for}
-use Rattle.x_sema.specs.Schema.{Schema, form_at, named_type, target_at}
+use Rattle.x_sema.specs.declared.schema.procedure.KeptProcedure.{KeptProcedure}
+use Rattle.x_sema.specs.declared.schema.procedure.ProcedureNumbers.{ProcedureNumbers}
+use Rattle.x_sema.specs.Schema.{Schema, IsKeptWithin, form_at, named_type, procedure_at, target_at}
 
 -- whether the word stands for a number of the discriminant's type
 abbrev pub is_legal : Form → ℕ → Bool
@@ -59,3 +61,4 @@ pub record IsSound (s : Schema) : Type 0 where
   pub forms : (i : ℕ) → i < length s.forms → IsSoundForm s i (form_at s i)
   pub links : (l : ℕ) → l < length s.links → target_at s l < length s.forms
   pub types : (name : List ℕ) (t : NamedType) → named_type s name ≡ Some t → (t.form < length s.forms) × (t.name < length s.names)
+  pub procedures : (numbers : ProcedureNumbers) (kept : KeptProcedure) → procedure_at s numbers ≡ Some kept → IsKeptWithin (length s.names) (length s.forms) kept

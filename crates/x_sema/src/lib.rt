@@ -25,6 +25,7 @@ pub use number::number_value;
 pub use numbers::Numbers;
 pub use outline::Outline;
 pub use schema::{
-    Arm, Arms, Enumerators, Field, Form, FormIndex, LinkIndex, NameIndex, Root, Schema, TypeId,
+    Arm, Arms, Enumerators, Field, Form, FormIndex, LinkIndex, NameIndex, Procedure,
+    ProcedureNumbers, Root, Schema, TypeId,
 };
 pub use views::{Class, MOST_HEIGHT, Meaning, View};

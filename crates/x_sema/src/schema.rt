@@ -1,14 +1,19 @@
-//! The types of a text, as values are read by them.
-ghost use Rattle.std.specs.Prelude.{◌≡◌, ◌<◌, List, length, Some, IfSome};
+//! The types and procedures of a text, as values are read by them.
+ghost use Rattle.std.specs.Prelude.{◌≡◌, ◌<◌, List, length, Some, None, IfSome, MatchOption};
 ghost use Rattle.x_sema.specs.Schema.{form_at, target_at, name_at, named_type, type_id, IsTypeId, id_named};
+ghost use Rattle.x_sema.specs.Schema.{procedure_at, IsProcedureAt, IsKeptWithin, arguments_id, results_id};
 ghost use Rattle.x_sema.specs.Sound.{IsSound};
 
 mod constants;
 mod form;
 mod maker;
+mod procedure;
+mod procedures;
 
 pub use form::{Arm, Arms, Enumerators, Field, Form, FormIndex, LinkIndex, NameIndex};
 use indexmap::IndexMap;
+pub(crate) use procedure::KeptProcedure;
+pub use procedure::{Procedure, ProcedureNumbers};
 use std::marker::Model;
 
 /// What asked for a type: it decides how the root of a value is labelled.
@@ -63,6 +68,7 @@ pub struct Schema {
     /// The forms that links lead to: a link may look ahead.
     pub(crate) links: Vec<FormIndex>,
     pub(crate) types: IndexMap<Vec<u8>, NamedType>,
+    pub(crate) procedures: IndexMap<ProcedureNumbers, KeptProcedure>,
 }
 
 impl Model for Schema {
@@ -76,6 +82,7 @@ impl Model for Schema {
       forms = s.forms.items;
       links = s.links.items;
       types = named_types s.types.entries;
+      procedures = s.procedures.entries;
     } };
 
     ghost use Rattle.x_sema.specs.Sound.{IsSound};
@@ -85,6 +92,7 @@ impl Model for Schema {
       forms = s.forms.items;
       links = s.links.items;
       types = named_types s.types.entries;
+      procedures = s.procedures.entries;
     }) };
 }
 
@@ -110,6 +118,52 @@ impl Schema {
         ensures known { IfSome result (λ t. IsTypeId self.now (type_id t)) }
     {
         self.types.get(name).copied()
+    }
+
+    /// The procedure of these numbers, if the text has one; where two programs have one number, the first that has the version and the
+    /// procedure (RFC 5531, section 8).
+    pub fn procedure(&self, prog: u32, vers: u32, proc: u32) -> Option<Procedure<'_>>
+        ensures found { MatchOption result (procedure_at self.now (record { program = prog; version = vers; procedure = proc }) ≡ None)
+            (λ p. IsProcedureAt self.now (record { program = prog; version = vers; procedure = proc }) p.name.now p.arg p.res) }
+        ensures known { IfSome result (λ p. IsTypeId self.now p.arg × IsTypeId self.now p.res) }
+    {
+        let numbers = ProcedureNumbers {
+            program: prog,
+            version: vers,
+            procedure: proc,
+        };
+        match self.kept(numbers) {
+            Some(kept) => Some(self.shown(kept)),
+            None => None,
+        }
+    }
+
+    /// What is kept of the procedure of these numbers.
+    fn kept(&self, numbers: ProcedureNumbers) -> Option<KeptProcedure>
+        ensures kept { result ≡ procedure_at self.now numbers }
+        ensures within { IfSome result (λ kept. IsKeptWithin (length self.now.names) (length self.now.forms) kept) }
+    {
+        self.procedures.get(&numbers).copied()
+    }
+
+    /// A procedure of which this is kept.
+    fn shown(&self, kept: KeptProcedure) -> Procedure<'_>
+        requires { IsKeptWithin (length self.now.names) (length self.now.forms) kept }
+        ensures name { result.name.now ≡ name_at self.now kept.name }
+        ensures arg { result.arg ≡ arguments_id kept }
+        ensures res { result.res ≡ results_id kept }
+    {
+        Procedure {
+            name: self.name(kept.name),
+            arg: TypeId {
+                root: Root::Arguments,
+                form: kept.arguments,
+            },
+            res: TypeId {
+                root: Root::Results,
+                form: kept.results,
+            },
+        }
     }
 
     /// What the type is: its kind, with its sizes, fields, arms or enumerators.

@@ -1,5 +1,10 @@
 //! Where bytes are refused, and why.
+ghost use Rattle.std.specs.Prelude.{Some};
+ghost use Rattle.x_value.specs.FaultTexts.{read_text};
+
 use std::alloc::{AllocError, AllocFailed};
+use std::fmt;
+use thiserror::Error;
 use x_text::NoMemory;
 
 /// Why bytes are no value of a type.
@@ -25,8 +30,17 @@ pub enum ReadCode {
     NoMemory,
 }
 
+impl fmt::Display for ReadCode {
+    ghost output = { λ code. Some (read_text code) };
+
+    fn fmt<W: fmt::Write>(&self, f: &mut fmt::Formatter<W>) -> fmt::Result {
+        f.write_str(self.text())
+    }
+}
+
 /// Where bytes are refused, and why.
-#[derive(Clone, Copy, Debug, PartialEq, Eq)]
+#[derive(Clone, Copy, Debug, PartialEq, Eq, Error)]
+#[error("{code} at {at}")]
 pub struct ReadFault {
     /// The place, in bytes from the first of the value; 0 where memory ran out.
     pub at: usize,

@@ -110,9 +110,9 @@ fn add_array<S: Sink>(count: u32, pen: &mut Pen, sink: &mut S)
     add_number(count, pen, sink);
 }
 
-/// Adds bytes in hexadecimal.
+/// Adds bytes in hexadecimal, `0x` and two lower-case digits each.
 #[tactic(auto, using(x_text::proofs::Adding::two))]
-fn add_hex<S: Sink>(bytes: &[u8], pen: &mut Pen, sink: &mut S)
+pub fn add_hex<S: Sink>(bytes: &[u8], pen: &mut Pen, sink: &mut S)
     ensures { Adds pen.old (S.state sink.old) pen.new (S.state sink.new) (hex_text bytes.now) }
 {
     pen.add(b"0x", sink);

@@ -7,7 +7,8 @@ ghost use Rattle.x_item.specs.View.{view_length, view_most, view_declaration, vi
 ghost use Rattle.x_item.specs.View.{view_default, view_definition};
 ghost use Rattle.x_item.specs.declared.names.mention.Use.TheVariants as uses;
 ghost use Rattle.x_sema.specs.Schema.{form_at, named_types, name_at};
-ghost use Rattle.x_sema.specs.SchemaOf.{IsSchemaOf, IsArmOf, IsBody, IsDeclared, IsDefault, IsEnum, IsType, AreArms, AreFields};
+ghost use Rattle.x_sema.specs.Schemas.{IsSchemaOf};
+ghost use Rattle.x_sema.specs.SchemaOf.{IsArmOf, IsBody, IsDeclared, IsDefault, IsEnum, IsType, AreArms, AreFields};
 ghost use Rattle.x_sema.specs.SchemaOf.{AreTypesOf, basic_form, case_word, enum_form, union_form, name_of, opaque_form};
 ghost use Rattle.x_sema.specs.SchemaOf.{place_in, place_named, with_cases, with_first, with_word, word_by, words_from, as_typedef};
 ghost use Rattle.x_sema.specs.SchemaOf.{typedefs, typedefs_inside, typedefs_of, typedefs_of_type, typedefs_of_fields};
@@ -48,7 +49,7 @@ pub struct Known<'d> {
 
 impl<'d> Known<'d> {
     /// The place of a type that is used by value; that of `void`, if no item before declares the name as a type.
-    fn place(&self, name: &[u8]) -> FormIndex
+    pub(super) fn place(&self, name: &[u8]) -> FormIndex
         ensures { result ≡ place_named (named_types self.now.types.entries) name.now }
     {
         place_named(&self.types, name)
@@ -92,7 +93,7 @@ pub struct Maker<'d> {
 }
 
 /// The form of a type that is spelled by keywords alone.
-fn basic_form(basic: Basic) -> Form
+pub(super) fn basic_form(basic: Basic) -> Form
     ensures { result ≡ basic_form basic }
 {
     match basic {
@@ -257,7 +258,7 @@ impl<'d> Maker<'d> {
         })
     }
 
-    fn name(&mut self, alloc: Global, name: &[u8]) -> Result<NameIndex, NoMemory>
+    pub(super) fn name(&mut self, alloc: Global, name: &[u8]) -> Result<NameIndex, NoMemory>
         ensures { IfOk result (λ index. AddsName self.old self.new name.now index) }
     {
         let Ok(index) = u32::try_from(self.names.len()) else {
@@ -267,7 +268,7 @@ impl<'d> Maker<'d> {
         Ok(index)
     }
 
-    fn form(&mut self, form: Form) -> Result<FormIndex, NoMemory>
+    pub(super) fn form(&mut self, form: Form) -> Result<FormIndex, NoMemory>
         ensures { IfOk result (λ place. AddsForm self.old self.new form place) }
     {
         let place = self.forms.len();
@@ -828,8 +829,8 @@ fn places_linked(
 }
 
 impl Schema {
-    /// The types of the items' definitions; an item without one declares none. They are those of the text where it has no fault, and
-    /// where it has, a name that is no type counts as `void`. It takes time in proportion to the definitions.
+    /// The types and procedures of the items' definitions; an item without one declares none. They are those of the text where it has no
+    /// fault, and where it has, a name that is no type counts as `void`. It takes time in proportion to the definitions.
     ///
     /// # Errors
     ///
@@ -842,12 +843,14 @@ impl Schema {
         let mut known = Known { constants, types };
         let mut maker = Maker::new(alloc)?;
         maker.items(alloc, &mut known, definitions)?;
+        let procedures = maker.procedures(alloc, &known, definitions)?;
         let links = places_linked(alloc, &known.types, &maker.links)?;
         Ok(Schema {
             names: maker.names,
             forms: maker.forms,
             links,
             types: known.types,
+            procedures,
         })
     }
 }

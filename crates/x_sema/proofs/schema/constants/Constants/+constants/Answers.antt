@@ -1,10 +1,10 @@
-use Rattle.std.proofs.Common.{◌≡◌, ◌∷◌, ◌+◌, drop, OnOk, refl, ap, sym, subst, ◌∙◌}
+use Rattle.std.proofs.Common.{◌≡◌, ◌∷◌, ◌+◌, drop, ap, sym, ◌∙◌}
 use Rattle.std.proofs.lemmas.Result.{on_ok_weaker}
-use Rattle.x_item.specs.Tree.{Struct, Union}
-use Rattle.x_item.specs.View.{view_body, view_union, view_declaration, view_declarations, view_arms, view_default}
+use Rattle.x_item.specs.Tree.{Struct}
+use Rattle.x_item.specs.View.{view_body, view_declarations, view_arms, view_default}
 use Rattle.x_item.specs.declared.trees.declaration.Body.TheViews.{out-UnionBody}
 use Rattle.x_item.proofs.Rows.{struct_view, union_parts}
-use Rattle.x_sema.specs.SchemaOf.{with_body, with_declaration, with_declarations, with_arms, with_default}
+use Rattle.x_sema.specs.SchemaOf.{with_body, with_declarations, with_arms, with_default}
 use Rattle.x_sema.specs.SchemaTables.{numbers_held}
 use Rattle.x_sema.proofs.ListLemmas.{drop_one, drop_none}
 use Rattle.x_sema.proofs.schema.constants.Constants.+constants.Goals as goal

@@ -1,7 +1,6 @@
-use Rattle.std.proofs.Common.{◌≡◌, ◌∷◌, ◌+◌, drop, map, refl, ap, sym, ◌∙◌}
-use Rattle.x_item.specs.View.{view_enumerator, view_most}
-use Rattle.x_sema.specs.Constants.{next_number}
-use Rattle.x_sema.specs.SchemaOf.{with_enumerators, with_number, number_given}
+use Rattle.std.proofs.Common.{◌≡◌, ◌∷◌, ◌+◌, drop, map, ap, sym, ◌∙◌}
+use Rattle.x_item.specs.View.{view_enumerator}
+use Rattle.x_sema.specs.SchemaOf.{with_enumerators}
 use Rattle.x_sema.specs.SchemaTables.{numbers_held}
 use Rattle.x_sema.proofs.ListLemmas.{drop_one, drop_none}
 use Rattle.x_sema.proofs.KeyedTables.{enumerators_more}

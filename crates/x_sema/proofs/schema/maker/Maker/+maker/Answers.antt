@@ -1,4 +1,4 @@
-use Rattle.std.proofs.Common.{◌≡◌, ℕ, ◌+◌, ◌<◌, ◌∷◌, ◌++◌, [], List, Some, drop, length, map, true, false, refl, ap, sym, subst, ◌∙◌}
+use Rattle.std.proofs.Common.{◌≡◌, ◌+◌, ◌<◌, ◌∷◌, ◌++◌, [], Some, drop, length, map, ap, sym, subst, ◌∙◌}
 use Rattle.std.proofs.lemmas.Result.{IfOk-weaker}
 use Rattle.x_item.specs.Tree as tree
 use Rattle.x_item.specs.Gloss.{lifted_name}
@@ -6,17 +6,14 @@ use Rattle.x_item.specs.View.{view_type, view_shape, view_length, view_most, vie
 use Rattle.x_item.specs.declared.names.mention.Use.TheVariants as uses
 use Rattle.x_item.specs.declared.trees.declaration.Body.TheViews.{out-UnionBody}
 use Rattle.x_item.proofs.Rows.{struct_view, union_parts}
-use Rattle.x_sema.specs.Schema.{Schema, form_at}
-use Rattle.x_sema.specs.SchemaOf.{Known, AreArms, AreFields, IsBody, IsDeclared, IsDefault, IsEnum, IsType, as_typedef, basic_form, opaque_form, limit_in, place_named, typedefs_inside, typedefs_of, typedefs_of_arms, typedefs_of_default, typedefs_of_fields, typedefs_of_type, union_form}
-use Rattle.x_sema.specs.SchemaTables.{numbers_held}
-use Rattle.x_sema.specs.SchemaMaking.{Puts, PutsAll, PutsPlace, PutsLink, AddsForm, AddsLink, AddsName, AddsFound, AreSoundCases, IsSoundDefault, view_known}
+use Rattle.x_sema.specs.Schema.{form_at}
+use Rattle.x_sema.specs.SchemaOf.{AreArms, AreFields, IsBody, IsDeclared, IsDefault, IsEnum, IsType, as_typedef, basic_form, opaque_form, limit_in, place_named, typedefs_inside, typedefs_of, typedefs_of_arms, typedefs_of_default, typedefs_of_fields, typedefs_of_type, union_form}
+use Rattle.x_sema.specs.SchemaMaking.{PutsAll, PutsPlace, PutsLink, AddsForm, AreSoundCases, IsSoundDefault, view_known}
 use Rattle.x_sema.specs.Sound.{AreSoundFields}
-use Rattle.x_sema.specs.declared.schema.form.Arm.TheVariants as arms
 use Rattle.x_sema.specs.declared.schema.form.Form.TheVariants as forms
-use Rattle.x_sema.specs.declared.schema.maker.Link.TheVariants as links
 use Rattle.x_sema.proofs.ListLemmas.{drop_one, drop_none}
-use Rattle.x_sema.proofs.MakerForms.{IsArm, IsFieldOf, FieldsSoFar, held_basic, held_named, held_void, held_opaque, held_string, to_link, to_named, optional, counted, fixed, plain, named_type, field_put, fields_start, fields_more, fields_end, struct_put, arm_void, arm_field}
-use Rattle.x_sema.proofs.MakerArms.{ArmsSoFar, arms_start, arms_more, arms_end, default_some, default_none, union_put}
+use Rattle.x_sema.proofs.MakerForms.{FieldsSoFar, held_basic, held_named, held_opaque, held_string, to_link, to_named, optional, counted, fixed, plain, named_type, field_put, fields_start, fields_more, fields_end, struct_put, arm_field}
+use Rattle.x_sema.proofs.MakerArms.{ArmsSoFar, arms_start, arms_more, arms_end, default_some, union_put}
 use Rattle.x_sema.proofs.schema.maker.Maker.+maker.Goals as goal
 
 pub arm-returns : goal.arm-returns

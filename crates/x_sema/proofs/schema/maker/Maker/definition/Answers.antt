@@ -1,4 +1,4 @@
-use Rattle.std.proofs.Common.{◌≡◌, ◌++◌, ◌∷◌, [], Some, sym, subst}
+use Rattle.std.proofs.Common.{◌++◌, ◌∷◌, [], Some, sym, subst}
 use Rattle.std.proofs.lemmas.Result.{on_ok_weaker}
 use Rattle.x_item.specs.Tree as tree
 use Rattle.x_item.specs.View.{view_body, view_declaration, view_definition}

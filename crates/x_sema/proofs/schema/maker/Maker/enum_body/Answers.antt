@@ -1,4 +1,4 @@
-use Rattle.std.proofs.Common.{◌≡◌, map}
+use Rattle.std.proofs.Common.{map}
 use Rattle.std.proofs.lemmas.Result.{IfOk-weaker}
 use Rattle.x_item.specs.View.{view_enumerator}
 use Rattle.x_sema.specs.SchemaOf.{enum_form}

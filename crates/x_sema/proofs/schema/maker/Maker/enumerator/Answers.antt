@@ -1,4 +1,4 @@
-use Rattle.std.proofs.Common.{◌≡◌, [], Some, None, refl, sym, subst}
+use Rattle.std.proofs.Common.{◌≡◌, [], None, refl, sym, subst}
 use Rattle.std.proofs.lemmas.Result.{on_ok_weaker}
 use Rattle.x_sema.specs.SchemaOf as schema
 use Rattle.x_sema.specs.SchemaOf.{with_word}

@@ -1,4 +1,4 @@
-use Rattle.std.proofs.Common.{◌≡◌, ◌+◌, ◌∷◌, [], drop, map, pos, Some, refl, ap, sym, subst, ◌∙◌}
+use Rattle.std.proofs.Common.{◌≡◌, ◌+◌, ◌∷◌, [], drop, map, pos, Some, ap, sym, subst, ◌∙◌}
 use Rattle.x_item.specs.View.{view_enumerator}
 use Rattle.x_sema.specs.SchemaOf.{with_word}
 use Rattle.x_sema.specs.SchemaTables.{numbers_held}

@@ -1,4 +1,4 @@
-use Rattle.std.proofs.Common.{◌≡◌, sym, subst}
+use Rattle.std.proofs.Common.{sym, subst}
 use Rattle.std.proofs.lemmas.Result.{on_ok_weaker}
 use Rattle.x_sema.specs.DeclarerTable.{tree_at}
 use Rattle.x_sema.specs.SchemaOf.{typedefs}
