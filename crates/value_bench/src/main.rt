@@ -36,7 +36,8 @@ fn time(rt: &HostRuntime, schema: &Schema, id: TypeId, message: &[u8]) -> io::Re
                 return println!(rt; "refused at {at}");
             }
         }
-        least = least.min(start.elapsed(rt)?.as_nanos() as u64);
+        let taken = u64::try_from(start.elapsed(rt)?.as_nanos()).unwrap_or(u64::MAX);
+        least = least.min(taken);
     }
     let bytes = message.len();
     println!(rt; "{bytes} bytes, {nodes} nodes: {least} ns")
