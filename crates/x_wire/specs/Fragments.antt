@@ -1,5 +1,5 @@
 -- Streams as fragments (RFC 5531, section 11), and the records that these make.
-use Rattle.std.specs.Prelude.{ℕ, ◌+◌, ◌<◌, ◌≤◌, Bool, true, false, List, [], ◌∷◌, ◌++◌, length, Option, Some, None, if◌then◌else◌}
+use Rattle.std.specs.Prelude.{ℕ, ◌+◌, ◌-◌, ◌<◌, ◌≤◌, Bool, true, false, List, [], ◌∷◌, ◌++◌, length, Option, Some, None, if◌then◌else◌}
 use Rattle.std.specs.Int.{to_be_bytes, w32}
 use Rattle.x_wire.specs.declared.records.TheConstants.{MAX_RECORD}
 use Rattle.x_wire.specs.declared.records.framer.TheConstants.{HEADER_LEN, LAST_BIT}
@@ -15,17 +15,17 @@ pub data Frames : (at : ℕ) → (open_data : Option (List ℕ)) → (stream : L
   in_header : {at : ℕ} {joined : Option (List ℕ)} {bytes : List ℕ} → length bytes < HEADER_LEN →
       Frames at joined bytes [] (record { taken = at + length bytes; stand = InHeader bytes joined })
   -- it begins with a header whose length takes the record over the limit: whatever follows, it ends there
-  too_long : {at : ℕ} {joined : Option (List ℕ)} {last : Bool} {size : ℕ} {rest : List ℕ} → size < LAST_BIT → MAX_RECORD < length (data_of joined) + size →
+  too_long : {at : ℕ} {joined : Option (List ℕ)} (last : Bool) (size : ℕ) (rest : List ℕ) → size < LAST_BIT → MAX_RECORD < length (data_of joined) + size →
       Frames at joined (header last size ++ rest) [] (record { taken = at + HEADER_LEN; stand = TooLong at })
   -- it ends inside a fragment
-  in_data : {at : ℕ} {joined : Option (List ℕ)} {last : Bool} {size : ℕ} {bytes : List ℕ} → length bytes < size → length (data_of joined) + size ≤ MAX_RECORD →
+  in_data : {at : ℕ} {joined : Option (List ℕ)} (last : Bool) (size : ℕ) (bytes : List ℕ) → length bytes < size → length (data_of joined) + size ≤ MAX_RECORD →
       Frames at joined (header last size ++ bytes) []
       (record { taken = at + HEADER_LEN + length bytes; stand = InData (size - length bytes) last (data_of joined ++ bytes) })
   -- it begins with a whole fragment that isn't the last of its record: the record goes on
-  more : {at : ℕ} {joined : Option (List ℕ)} {bytes stream : List ℕ} {records : List (List ℕ)} {left : Left} → length (data_of joined) + length bytes ≤ MAX_RECORD →
+  more : {at : ℕ} {joined : Option (List ℕ)} (bytes stream : List ℕ) {records : List (List ℕ)} {left : Left} → length (data_of joined) + length bytes ≤ MAX_RECORD →
       Frames (at + HEADER_LEN + length bytes) (Some (data_of joined ++ bytes)) stream records left →
       Frames at joined (header false (length bytes) ++ (bytes ++ stream)) records left
   -- it begins with the last fragment of a record: the record is whole
-  last : {at : ℕ} {joined : Option (List ℕ)} {bytes stream : List ℕ} {records : List (List ℕ)} {left : Left} → length (data_of joined) + length bytes ≤ MAX_RECORD →
+  last : {at : ℕ} {joined : Option (List ℕ)} (bytes stream : List ℕ) {records : List (List ℕ)} {left : Left} → length (data_of joined) + length bytes ≤ MAX_RECORD →
       Frames (at + HEADER_LEN + length bytes) None stream records left →
       Frames at joined (header true (length bytes) ++ (bytes ++ stream)) ((data_of joined ++ bytes) ∷ records) left

@@ -21,7 +21,7 @@ left_by framer = record { taken = framer.taken; stand = stand_by framer.stand fr
 
 -- a header lacks a byte at least, and so does an open fragment
 abbrev pub IsOpen : Stand → Type 0
-IsOpen (InHeader bytes count is_open) = count < HEADER_LEN
+IsOpen (InHeader bytes count is_open) = (count < HEADER_LEN) × (length bytes ≡ HEADER_LEN)
 IsOpen (InData lacks last) = 0 < lacks
 IsOpen (TooLong at) = Unit {0}
 
@@ -31,6 +31,12 @@ IsClear (InHeader bytes count true) joined = Unit {0}
 IsClear (InHeader bytes count false) joined = joined ≡ []
 IsClear (InData lacks last) joined = Unit {0}
 IsClear (TooLong at) joined = Unit {0}
+
+-- whether it stands behind a header that takes its record over the limit
+abbrev pub is_too_long : Stand → Bool
+is_too_long (InHeader bytes count is_open) = false
+is_too_long (InData lacks last) = false
+is_too_long (TooLong at) = true
 
 -- a framer that can take bytes
 pub record IsReady (framer : Framer) : Type 0 where
@@ -48,6 +54,7 @@ pub record MadeMove (move : Moved) (new : Framer) (whole : Bool) : Type 0 where
   pub told_is : move.told ≡ whole_in new whole
   pub is_open : IsOpen new.stand
   pub clear : whole ≡ false → IsClear new.stand new.joined.items
+  pub sound : whole ≡ true → is_too_long new.stand ≡ false
 
 -- A framer took these bytes, of which no front but all of them makes a record whole.
 pub record TookBytes (old : Framer) (bytes : List ℕ) (new : Framer) (whole : Bool) : Type 0 where
@@ -56,16 +63,11 @@ pub record TookBytes (old : Framer) (bytes : List ℕ) (new : Framer) (whole : B
   pub first : (k : ℕ) → k < length bytes → told (left_by old) (take k bytes) ≡ []
   pub is_open : IsOpen new.stand
   pub clear : whole ≡ false → IsClear new.stand new.joined.items
+  pub sound : whole ≡ true → is_too_long new.stand ≡ false
 
 -- data was added behind the old
 abbrev pub HasGrown : List ℕ → List ℕ → Type 0
 HasGrown old new = (more : List ℕ) × (new ≡ old ++ more)
-
--- whether it stands behind a header that takes its record over the limit
-abbrev pub is_too_long : Stand → Bool
-is_too_long (InHeader bytes count is_open) = false
-is_too_long (InData lacks last) = false
-is_too_long (TooLong at) = true
 
 -- The front of a piece was taken up to the end of the first record that it completes, else all of the piece.
 pub record FedBytes (old : Framer) (piece : List ℕ) (used : ℕ) (new : Framer) (whole : Bool) : Type 0 where

@@ -72,11 +72,13 @@ pub struct Records {
 
 impl Model for Records {
     ghost use Rattle.x_wire.specs.Records.{Left};
-    ghost use Rattle.x_wire.specs.Framers.{left_by};
+    ghost use Rattle.x_wire.specs.Framers.{left_by, IsOpen};
 
     ghost Value = { Left };
 
     ghost view = { λ records. left_by records.framer };
+
+    ghost invariant = { λ records. IsOpen records.framer.stand };
 }
 
 impl Records {
@@ -103,9 +105,12 @@ impl Records {
         ensures within { IfOk result (λ fed. fed.used ≤ length piece.now) }
         ensures* fed { sem 𝓛 (Rests the_row self.entry (HasFed self.old piece.now result)) }
     {
-        let (used, whole) = self.framer.feed(piece)?;
-        let whole = if whole { Some(self.framer.joined()) } else { None };
-        Ok(Fed { used, whole })
+        let (used, is_whole) = self.framer.feed(piece)?;
+        if is_whole {
+            let whole = Some(self.framer.joined());
+            return Ok(Fed { used, whole });
+        }
+        Ok(Fed { used, whole: None })
     }
 
     /// Tells how a stream ends that ends here. It takes no memory.

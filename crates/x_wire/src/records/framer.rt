@@ -230,22 +230,31 @@ impl Framer {
 
     /// The fault at the end of a stream that ends here.
     pub(crate) fn end_fault(&self) -> Option<RecordFault>
+        requires { IsOpen self.now.stand }
         ensures { result ≡ end_fault (left_by self.now) }
     {
         match self.stand {
-            Stand::InHeader {
-                count: 0,
-                is_open: false,
-                ..
-            } => None,
+            Stand::InHeader { count, is_open, .. } => {
+                if count == 0 && !is_open {
+                    return None;
+                }
+                Some(self.truncated())
+            }
+            Stand::InData { .. } => Some(self.truncated()),
             Stand::TooLong { at } => Some(RecordFault {
                 at,
                 code: RecordCode::RecordTooLong,
             }),
-            _ => Some(RecordFault {
-                at: self.taken,
-                code: RecordCode::Truncated,
-            }),
+        }
+    }
+
+    /// The fault of a stream that ends here where it may not.
+    fn truncated(&self) -> RecordFault
+        ensures { result ≡ record { at = self.now.taken; code = RecordCode.Truncated } }
+    {
+        RecordFault {
+            at: self.taken,
+            code: RecordCode::Truncated,
         }
     }
 }
