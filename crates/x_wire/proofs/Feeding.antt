@@ -57,3 +57,9 @@ refused_of RecordTooLong old new l piece at e h = record {
   fault = ap (λ s. fault_at (stand_by s new.joined.items)) h.stand_is;
 }
 refused_of Truncated old new l piece at e h = h
+
+-- what `feed` answers of bytes that make a record whole
+pub fed_whole : (old new : Framer) (l : Left) (piece : List ℕ) (used : ℕ) (whole : Bool) (joined : List ℕ) → left_by old ≡ l → FedBytes old piece used new whole →
+    whole ≡ true → joined ≡ new.joined.items → Feeds l piece used (Some joined) (left_by new)
+fed_whole old new l piece used whole joined e fed is joined_is =
+    fed_of old new l piece used whole (Some joined) e fed (ap (whole_in new) is ∙ ap (λ t. t ∷ []) (sym joined_is)) (λ h. absurd (cc))

@@ -1,3 +1,4 @@
 pub mod Feeding
+pub mod FragmentLemmas
 pub mod Framed
 pub mod Moves

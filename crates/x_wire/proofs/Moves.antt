@@ -10,10 +10,10 @@ use Rattle.x_wire.specs.Records.{Stand, InHeader, InData, TooLong, Left, Moved, 
 abbrev pub run : Left → List ℕ → Moved
 run l bs = record { left = after l bs; told = told l bs }
 
-lt_true : (a b : ℕ) → a < b → nat_lt a b ≡ true
+pub lt_true : (a b : ℕ) → a < b → nat_lt a b ≡ true
 lt_true a b h = grind (arith, nat_tests)
 
-lt_false : (a b : ℕ) → b ≤ a → nat_lt a b ≡ false
+pub lt_false : (a b : ℕ) → b ≤ a → nat_lt a b ≡ false
 lt_false a b h = grind (arith, nat_tests)
 
 pub run_one : (l : Left) (b : ℕ) → run l (b ∷ []) ≡ step l b
@@ -29,7 +29,7 @@ unfolding step
 step_data taken lacks b last joined = refl
 
 -- a fragment that lacks more
-stays : (taken n : ℕ) (last : Bool) (joined : List ℕ) → 0 < n → in_fragment taken n last joined ≡ quiet taken (InData n last joined)
+pub stays : (taken n : ℕ) (last : Bool) (joined : List ℕ) → 0 < n → in_fragment taken n last joined ≡ quiet taken (InData n last joined)
 stays taken n last joined h = rw (lt_true 0 n h) refl
 
 -- bytes of data at once
@@ -60,7 +60,7 @@ data_by : (is_open : Bool) (joined : List ℕ) → (is_open ≡ false → joined
 data_by true joined h = refl
 data_by false joined h = sym (h refl)
 
-step_header : (taken b : ℕ) (header : List ℕ) (joined : Option (List ℕ)) →
+pub step_header : (taken b : ℕ) (header : List ℕ) (joined : Option (List ℕ)) →
     step (record { taken = taken; stand = InHeader header joined }) b ≡ header_byte (counted taken 1) (header ++ b ∷ []) joined
 unfolding step
 step_header taken b header joined = refl

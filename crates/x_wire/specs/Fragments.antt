@@ -12,20 +12,20 @@ header last length = to_be_bytes w32 ((if last then LAST_BIT else 0) + length)
 -- A stream from this place on, where the joined data of the open record is so far `open_data`, if a record is open: the records that it makes whole, and what it leaves.
 pub data Frames : (at : ℕ) → (open_data : Option (List ℕ)) → (stream : List ℕ) → (records : List (List ℕ)) → Left → Type 0 where
   -- it ends inside a header, or before one
-  in_header : {at : ℕ} {joined : Option (List ℕ)} {bytes : List ℕ} → length bytes < HEADER_LEN →
+  ends_in_header : {at : ℕ} {joined : Option (List ℕ)} {bytes : List ℕ} → length bytes < HEADER_LEN →
       Frames at joined bytes [] (record { taken = at + length bytes; stand = InHeader bytes joined })
   -- it begins with a header whose length takes the record over the limit: whatever follows, it ends there
-  too_long : {at : ℕ} {joined : Option (List ℕ)} (last : Bool) (size : ℕ) (rest : List ℕ) → size < LAST_BIT → MAX_RECORD < length (data_of joined) + size →
+  ends_too_long : {at : ℕ} {joined : Option (List ℕ)} (last : Bool) (size : ℕ) (rest : List ℕ) → size < LAST_BIT → MAX_RECORD < length (data_of joined) + size →
       Frames at joined (header last size ++ rest) [] (record { taken = at + HEADER_LEN; stand = TooLong at })
   -- it ends inside a fragment
-  in_data : {at : ℕ} {joined : Option (List ℕ)} (last : Bool) (size : ℕ) (bytes : List ℕ) → length bytes < size → length (data_of joined) + size ≤ MAX_RECORD →
+  ends_in_data : {at : ℕ} {joined : Option (List ℕ)} (last : Bool) (size : ℕ) (bytes : List ℕ) → length bytes < size → length (data_of joined) + size ≤ MAX_RECORD →
       Frames at joined (header last size ++ bytes) []
       (record { taken = at + HEADER_LEN + length bytes; stand = InData (size - length bytes) last (data_of joined ++ bytes) })
   -- it begins with a whole fragment that isn't the last of its record: the record goes on
-  more : {at : ℕ} {joined : Option (List ℕ)} (bytes stream : List ℕ) {records : List (List ℕ)} {left : Left} → length (data_of joined) + length bytes ≤ MAX_RECORD →
+  fragment : {at : ℕ} {joined : Option (List ℕ)} (bytes stream : List ℕ) {records : List (List ℕ)} {left : Left} → length (data_of joined) + length bytes ≤ MAX_RECORD →
       Frames (at + HEADER_LEN + length bytes) (Some (data_of joined ++ bytes)) stream records left →
       Frames at joined (header false (length bytes) ++ (bytes ++ stream)) records left
   -- it begins with the last fragment of a record: the record is whole
-  last : {at : ℕ} {joined : Option (List ℕ)} (bytes stream : List ℕ) {records : List (List ℕ)} {left : Left} → length (data_of joined) + length bytes ≤ MAX_RECORD →
+  last_fragment : {at : ℕ} {joined : Option (List ℕ)} (bytes stream : List ℕ) {records : List (List ℕ)} {left : Left} → length (data_of joined) + length bytes ≤ MAX_RECORD →
       Frames (at + HEADER_LEN + length bytes) None stream records left →
       Frames at joined (header true (length bytes) ++ (bytes ++ stream)) ((data_of joined ++ bytes) ∷ records) left
