@@ -2,15 +2,15 @@
 use Rattle.std.proofs.Common.{◌≡◌, ℕ, ◌<◌, ◌≤◌, Bool, true, false, List, [], ◌∷◌, ◌++◌, length, take, refl, sym, ap, subst, ◌∙◌, append_assoc}
 use Rattle.std.specs.Prelude.{Option, Some, None}
 use Rattle.std.proofs.lemmas.List.{append-nil}
-use Rattle.x_wire.specs.declared.records.framer.Stand.{Stand}
-use Rattle.x_wire.specs.declared.records.framer.Stand.TheVariants.{InHeader, InData, TooLong}
+use Rattle.x_wire.specs.declared.records.framer.Phase.{Phase}
+use Rattle.x_wire.specs.declared.records.framer.Phase.TheVariants.{InHeader, InData, TooLong}
 use Rattle.x_wire.specs.declared.records.framer.Framer.{Framer}
 use Rattle.x_wire.specs.declared.records.RecordCode.{RecordCode}
 use Rattle.x_wire.specs.declared.records.RecordCode.TheVariants.{NoMemory, RecordTooLong, Truncated}
 use Rattle.x_wire.specs.Records.{Left, after, told, left, records, nothing_left}
 use Rattle.x_wire.specs.RecordFaults.{fault_at}
-use Rattle.x_wire.specs.Framers.{left_by, stand_by, is_too_long, whole_in, FedBytes, StoppedAt, RefusedBytes}
-use Rattle.x_wire.specs.Framing.{Takes, IsFirst, answered, Feeds, Stops, StopsBy}
+use Rattle.x_wire.specs.Framers.{left_by, phase_by, is_too_long, whole_in, FedBytes, StoppedAt, RefusedBytes}
+use Rattle.x_wire.specs.Framing.{Carries, IsFirst, given_by, Feeds, Overflows, Refuses}
 use Rattle.x_wire.proofs.Framed.{after_append, told_append}
 
 -- what more bytes leave
@@ -21,7 +21,7 @@ left_append stream bytes = after_append nothing_left stream bytes
 pub records_append : (stream bytes : List ℕ) → records (stream ++ bytes) ≡ records stream ++ told (left stream) bytes
 records_append stream bytes = told_append nothing_left stream bytes
 
-takes_of : (old new : Left) (bytes : List ℕ) (whole : List (List ℕ)) → new ≡ after old bytes → told old bytes ≡ whole → Takes old bytes new whole
+takes_of : (old new : Left) (bytes : List ℕ) (whole : List (List ℕ)) → new ≡ after old bytes → told old bytes ≡ whole → Carries old bytes new whole
 takes_of old new bytes whole l t stream e =
     (left_append stream bytes ∙ ap (λ s. after s bytes) e ∙ sym l,
      records_append stream bytes ∙ ap (λ s. records stream ++ told s bytes) e ∙ ap (λ r. records stream ++ r) t)
@@ -30,31 +30,31 @@ first_of : (old : Left) (bytes : List ℕ) → ((k : ℕ) → k < length bytes �
 first_of old bytes h k lt stream e =
     records_append stream (take k bytes) ∙ ap (λ s. records stream ++ told s (take k bytes)) e ∙ ap (λ r. records stream ++ r) (h k lt) ∙ append-nil (records stream)
 
-sound_of : (stand : Stand) (joined : List ℕ) → is_too_long stand ≡ false → fault_at (stand_by stand joined) ≡ None
+sound_of : (phase : Phase) (joined : List ℕ) → is_too_long phase ≡ false → fault_at (phase_by phase joined) ≡ None
 sound_of (InHeader bytes count is_open) joined h = refl
 sound_of (InData lacks last) joined h = refl
 sound_of (TooLong at) joined h = absurd (cc)
 
 -- what `feed` answers of bytes that it took
 pub fed_of : (old new : Framer) (l : Left) (piece : List ℕ) (used : ℕ) (whole : Bool) (answer : Option (List ℕ)) → left_by old ≡ l → FedBytes old piece used new whole →
-    whole_in new whole ≡ answered answer → (answer ≡ None → whole ≡ false) → Feeds l piece used answer (left_by new)
+    whole_in new whole ≡ given_by answer → (answer ≡ None → whole ≡ false) → Feeds l piece used answer (left_by new)
 fed_of old new l piece used whole answer e fed told_is none = record {
   within = fed.within;
-  takes = takes_of l (left_by new) (take used piece) (answered answer) (fed.took.left_is ∙ ap (λ s. after s (take used piece)) e)
+  takes = takes_of l (left_by new) (take used piece) (given_by answer) (fed.took.left_is ∙ ap (λ s. after s (take used piece)) e)
     (ap (λ s. told s (take used piece)) (sym e) ∙ fed.took.told_is ∙ told_is);
   first = first_of l (take used piece) (λ k lt. ap (λ s. told s (take k (take used piece))) (sym e) ∙ fed.took.first k lt);
   all = λ h. fed.all (none h);
-  sound = sound_of new.stand new.joined.items fed.sound;
+  sound = sound_of new.phase new.joined.items fed.sound;
 }
 
 -- what `feed` refuses
-pub refused_of : (code : RecordCode) (old new : Framer) (l : Left) (piece : List ℕ) (at : ℕ) → left_by old ≡ l → RefusedBytes code old piece at new → StopsBy code l piece at (left_by new)
+pub refused_of : (code : RecordCode) (old new : Framer) (l : Left) (piece : List ℕ) (at : ℕ) → left_by old ≡ l → RefusedBytes code old piece at new → Refuses code l piece at (left_by new)
 refused_of NoMemory old new l piece at e h = (h.0, h.1 ∙ e)
 refused_of RecordTooLong old new l piece at e h = record {
   used = h.used;
   within = h.within;
   takes = takes_of l (left_by new) (take h.used piece) [] (h.left_is ∙ ap (λ s. after s (take h.used piece)) e) (ap (λ s. told s (take h.used piece)) (sym e) ∙ h.told_is);
-  fault = ap (λ s. fault_at (stand_by s new.joined.items)) h.stand_is;
+  fault = ap (λ s. fault_at (phase_by s new.joined.items)) h.phase_is;
 }
 refused_of Truncated old new l piece at e h = h
 

@@ -7,7 +7,9 @@ use Rattle.std.proofs.lemmas.List.Elements.{All-get_or, All-take, All-drop}
 use Rattle.std.proofs.lemmas.Nat.{be_bytes_4, from_be_bytes-to_be_bytes_4}
 use Rattle.std.proofs.lemmas.Bool.{cases_lt}
 use Rattle.std.proofs.lemmas.Bool.Decides.{nat_tests}
-use Rattle.x_wire.specs.Records.{Stand, InHeader, InData, TooLong, Left, Moved, counted, data_of, quiet, in_fragment, behind_header, header_byte, moved, step, after, told, left, records, nothing_left}
+use Rattle.x_wire.specs.declared.records.TheConstants.{MAX_RECORD}
+use Rattle.x_wire.specs.declared.records.framer.TheConstants.{LAST_BIT}
+use Rattle.x_wire.specs.Records.{Phase, InHeader, InData, TooLong, Left, Moved, count_after, data_of, quiet, in_fragment, behind_header, header_byte, moved, step, after, told, left, records, nothing_left}
 use Rattle.x_wire.specs.Fragments.{header, Frames, ends_in_header, ends_too_long, ends_in_data, fragment, last_fragment}
 use Rattle.x_wire.proofs.Moves.{run, run_one, run_data, stays, step_header, lt_true, lt_false}
 use Rattle.x_wire.proofs.Framed.{after_append, told_append}
@@ -24,24 +26,24 @@ run_cons l b bs = refl
 
 -- a byte that leaves a header open
 step_short : (taken b : ℕ) (bytes : List ℕ) (joined : Option (List ℕ)) → taken + 1 < 2 ^ 64 → length (bytes ++ b ∷ []) < 4 →
-    step (record { taken = taken; stand = InHeader bytes joined }) b ≡ quiet (taken + 1) (InHeader (bytes ++ b ∷ []) joined)
+    step (record { taken = taken; phase = InHeader bytes joined }) b ≡ quiet (taken + 1) (InHeader (bytes ++ b ∷ []) joined)
 step_short taken b bytes joined room short =
     step_header taken b bytes joined ∙ rw (lt_true (length (bytes ++ b ∷ [])) 4 short) (ap (λ t. quiet t (InHeader (bytes ++ b ∷ []) joined)) (omega arith))
 
 -- a byte that makes a header whole
 step_full : (taken b : ℕ) (bytes : List ℕ) (joined : Option (List ℕ)) → taken + 1 < 2 ^ 64 → 4 ≤ length (bytes ++ b ∷ []) →
-    step (record { taken = taken; stand = InHeader bytes joined }) b ≡ behind_header (taken + 1) (from_be_bytes w32 (bytes ++ b ∷ [])) (data_of joined)
+    step (record { taken = taken; phase = InHeader bytes joined }) b ≡ behind_header (taken + 1) (from_be_bytes w32 (bytes ++ b ∷ [])) (data_of joined)
 step_full taken b bytes joined room full =
     step_header taken b bytes joined ∙ rw (lt_false (length (bytes ++ b ∷ [])) 4 full) (ap (λ t. behind_header t (from_be_bytes w32 (bytes ++ b ∷ [])) (data_of joined)) (omega arith))
 
 -- bytes that leave a header open
 pub run_short : (taken : ℕ) (bytes bs : List ℕ) (joined : Option (List ℕ)) → taken + length bs < 2 ^ 64 → length bytes + length bs < 4 →
-    run (record { taken = taken; stand = InHeader bytes joined }) bs ≡ quiet (taken + length bs) (InHeader (bytes ++ bs) joined)
+    run (record { taken = taken; phase = InHeader bytes joined }) bs ≡ quiet (taken + length bs) (InHeader (bytes ++ bs) joined)
 run_short taken bytes [] joined room short =
     ap (λ t. quiet t (InHeader bytes joined)) (omega arith) ∙ ap (λ t. quiet (taken + 0) (InHeader t joined)) (sym (append-nil bytes))
 run_short taken bytes (b ∷ bs) joined room short =
     let len = length-append bytes (b ∷ []) in
-    run_cons (record { taken = taken; stand = InHeader bytes joined }) b bs
+    run_cons (record { taken = taken; phase = InHeader bytes joined }) b bs
     ∙ ap (λ m. then_run m bs) (step_short taken b bytes joined (omega arith) (omega arith))
     ∙ run_short (taken + 1) (bytes ++ b ∷ []) bs joined (omega arith) (omega arith)
     ∙ ap (λ t. quiet t (InHeader ((bytes ++ b ∷ []) ++ bs) joined)) (omega arith)
@@ -49,14 +51,14 @@ run_short taken bytes (b ∷ bs) joined room short =
 
 -- bytes that make a header whole
 pub run_full : (taken : ℕ) (bytes bs : List ℕ) (joined : Option (List ℕ)) → taken + length bs < 2 ^ 64 → length bytes < 4 → length bytes + length bs ≡ 4 →
-    run (record { taken = taken; stand = InHeader bytes joined }) bs ≡ behind_header (taken + length bs) (from_be_bytes w32 (bytes ++ bs)) (data_of joined)
+    run (record { taken = taken; phase = InHeader bytes joined }) bs ≡ behind_header (taken + length bs) (from_be_bytes w32 (bytes ++ bs)) (data_of joined)
 run_full taken bytes [] joined room short full = absurd (omega arith)
 run_full taken bytes (b ∷ []) joined room short full =
     let len = length-append bytes (b ∷ []) in
-    run_one (record { taken = taken; stand = InHeader bytes joined }) b ∙ step_full taken b bytes joined (omega arith) (omega arith)
+    run_one (record { taken = taken; phase = InHeader bytes joined }) b ∙ step_full taken b bytes joined (omega arith) (omega arith)
 run_full taken bytes (b ∷ c ∷ bs) joined room short full =
     let len = length-append bytes (b ∷ []) in
-    run_cons (record { taken = taken; stand = InHeader bytes joined }) b (c ∷ bs)
+    run_cons (record { taken = taken; phase = InHeader bytes joined }) b (c ∷ bs)
     ∙ ap (λ m. then_run m (c ∷ bs)) (step_short taken b bytes joined (omega arith) (omega arith))
     ∙ run_full (taken + 1) (bytes ++ b ∷ []) (c ∷ bs) joined (omega arith) (omega arith) (omega arith)
     ∙ ap (λ t. behind_header t (from_be_bytes w32 ((bytes ++ b ∷ []) ++ (c ∷ bs))) (data_of joined)) (omega arith)
@@ -64,13 +66,13 @@ run_full taken bytes (b ∷ c ∷ bs) joined room short full =
 
 -- the number of a header
 abbrev pub number_of : Bool → ℕ → ℕ
-number_of last size = (if last then 2147483648 else 0) + size
+number_of last size = (if last then LAST_BIT else 0) + size
 
 number_below : (last : Bool) (size : ℕ) → size < 2 ^ 31 → number_of last size < 2 ^ 32
 number_below true size h = omega arith
 number_below false size h = omega arith
 
-number_size : (last : Bool) (size : ℕ) → size < 2 ^ 31 → number_of last size % 2147483648 ≡ size
+number_size : (last : Bool) (size : ℕ) → size < 2 ^ 31 → number_of last size % LAST_BIT ≡ size
 number_size true size h = omega arith
 number_size false size h = omega arith
 
@@ -80,28 +82,28 @@ le_true a b h = grind (arith, nat_tests)
 le_false : (a b : ℕ) → b < a → nat_le a b ≡ false
 le_false a b h = grind (arith, nat_tests)
 
-number_last : (last : Bool) (size : ℕ) → size < 2 ^ 31 → nat_le 2147483648 (number_of last size) ≡ last
-number_last true size h = le_true 2147483648 (2147483648 + size) (omega arith)
-number_last false size h = le_false 2147483648 (0 + size) (omega arith)
+number_last : (last : Bool) (size : ℕ) → size < 2 ^ 31 → nat_le LAST_BIT (number_of last size) ≡ last
+number_last true size h = le_true LAST_BIT (LAST_BIT + size) (omega arith)
+number_last false size h = le_false LAST_BIT (0 + size) (omega arith)
 
 -- a header of a record that stays within the limit
-fits : (taken : ℕ) (last : Bool) (size : ℕ) (joined : List ℕ) → size < 2 ^ 31 → length joined + size ≤ 1048576 →
+fits : (taken : ℕ) (last : Bool) (size : ℕ) (joined : List ℕ) → size < 2 ^ 31 → length joined + size ≤ MAX_RECORD →
     behind_header taken (number_of last size) joined ≡ in_fragment taken size last joined
 fits taken last size joined small fit =
-    ap (λ n. if nat_lt 1048576 (length joined + n) then quiet taken (TooLong (taken - 4)) else in_fragment taken n (nat_le 2147483648 (number_of last size)) joined) (number_size last size small)
-    ∙ ap (λ b. if b then quiet taken (TooLong (taken - 4)) else in_fragment taken size (nat_le 2147483648 (number_of last size)) joined) (lt_false 1048576 (length joined + size) fit)
+    ap (λ n. if nat_lt MAX_RECORD (length joined + n) then quiet taken (TooLong (taken - 4)) else in_fragment taken n (nat_le LAST_BIT (number_of last size)) joined) (number_size last size small)
+    ∙ ap (λ b. if b then quiet taken (TooLong (taken - 4)) else in_fragment taken size (nat_le LAST_BIT (number_of last size)) joined) (lt_false MAX_RECORD (length joined + size) fit)
     ∙ ap (λ b. in_fragment taken size b joined) (number_last last size small)
 
 -- a header that takes its record over the limit
-overflows : (taken : ℕ) (last : Bool) (size : ℕ) (joined : List ℕ) → size < 2 ^ 31 → 1048576 < length joined + size →
+overflows : (taken : ℕ) (last : Bool) (size : ℕ) (joined : List ℕ) → size < 2 ^ 31 → MAX_RECORD < length joined + size →
     behind_header taken (number_of last size) joined ≡ quiet taken (TooLong (taken - 4))
 overflows taken last size joined small over =
-    ap (λ n. if nat_lt 1048576 (length joined + n) then quiet taken (TooLong (taken - 4)) else in_fragment taken n (nat_le 2147483648 (number_of last size)) joined) (number_size last size small)
-    ∙ ap (λ b. if b then quiet taken (TooLong (taken - 4)) else in_fragment taken size (nat_le 2147483648 (number_of last size)) joined) (lt_true 1048576 (length joined + size) over)
+    ap (λ n. if nat_lt MAX_RECORD (length joined + n) then quiet taken (TooLong (taken - 4)) else in_fragment taken n (nat_le LAST_BIT (number_of last size)) joined) (number_size last size small)
+    ∙ ap (λ b. if b then quiet taken (TooLong (taken - 4)) else in_fragment taken size (nat_le LAST_BIT (number_of last size)) joined) (lt_true MAX_RECORD (length joined + size) over)
 
 -- a whole header
 run_header : (taken : ℕ) (joined : Option (List ℕ)) (last : Bool) (size : ℕ) → taken + 4 < 2 ^ 64 → size < 2 ^ 31 →
-    run (record { taken = taken; stand = InHeader [] joined }) (header last size) ≡ behind_header (taken + 4) (number_of last size) (data_of joined)
+    run (record { taken = taken; phase = InHeader [] joined }) (header last size) ≡ behind_header (taken + 4) (number_of last size) (data_of joined)
 run_header taken joined last size room small =
     run_full taken [] (header last size) joined room (omega arith) refl
     ∙ ap (λ n. behind_header (taken + 4) n (data_of joined)) (from_be_bytes-to_be_bytes_4 (number_of last size) (number_below last size small))
@@ -114,17 +116,17 @@ then_run_append m a b =
     ∙ ap (λ t. record { left = after (after m.left a) b; told = m.told ++ t }) (told_append m.left a b)
     ∙ ap (λ t. record { left = after (after m.left a) b; told = t }) (sym (append_assoc m.told (told m.left a) (told (after m.left a) b)))
 
-step_long : (taken at b : ℕ) → step (record { taken = taken; stand = TooLong at }) b ≡ quiet taken (TooLong at)
+step_long : (taken at b : ℕ) → step (record { taken = taken; phase = TooLong at }) b ≡ quiet taken (TooLong at)
 unfolding step
 step_long taken at b = refl
 
 -- behind a header that takes its record over the limit no byte counts
-run_long : (taken at : ℕ) (bs : List ℕ) → run (record { taken = taken; stand = TooLong at }) bs ≡ quiet taken (TooLong at)
+run_long : (taken at : ℕ) (bs : List ℕ) → run (record { taken = taken; phase = TooLong at }) bs ≡ quiet taken (TooLong at)
 run_long taken at [] = refl
-run_long taken at (b ∷ bs) = run_cons (record { taken = taken; stand = TooLong at }) b bs ∙ ap (λ m. then_run m bs) (step_long taken at b) ∙ run_long taken at bs
+run_long taken at (b ∷ bs) = run_cons (record { taken = taken; phase = TooLong at }) b bs ∙ ap (λ m. then_run m bs) (step_long taken at b) ∙ run_long taken at bs
 
-counted_in : (taken more : ℕ) → taken + more < 2 ^ 64 → counted taken more ≡ taken + more
-counted_in taken more h = omega arith
+count_after_in : (taken more : ℕ) → taken + more < 2 ^ 64 → count_after taken more ≡ taken + more
+count_after_in taken more h = omega arith
 
 -- all the data of a fragment
 run_fragment : (taken : ℕ) (last : Bool) (joined bytes : List ℕ) → taken + length bytes < 2 ^ 64 →
@@ -135,27 +137,27 @@ run_fragment taken last joined [] room =
 run_fragment taken last joined (b ∷ bs) room =
     ap (λ m. then_run m (b ∷ bs)) (stays taken (suc (length bs)) last joined (omega arith))
     ∙ run_data taken (suc (length bs)) 0 last joined b bs (omega arith)
-    ∙ ap (λ t. in_fragment t 0 last (joined ++ (b ∷ bs))) (counted_in taken (suc (length bs)) room)
+    ∙ ap (λ t. in_fragment t 0 last (joined ++ (b ∷ bs))) (count_after_in taken (suc (length bs)) room)
 
 -- some of the data of a fragment
 run_part : (taken size : ℕ) (last : Bool) (joined bytes : List ℕ) → taken + length bytes < 2 ^ 64 → length bytes < size →
-    run (record { taken = taken; stand = InData size last joined }) bytes ≡ quiet (taken + length bytes) (InData (size - length bytes) last (joined ++ bytes))
+    run (record { taken = taken; phase = InData size last joined }) bytes ≡ quiet (taken + length bytes) (InData (size - length bytes) last (joined ++ bytes))
 run_part taken size last joined [] room some =
     ap (λ t. quiet t (InData size last joined)) (omega arith) ∙ ap (λ t. quiet (taken + 0) (InData t last joined)) (omega arith)
     ∙ ap (λ t. quiet (taken + 0) (InData (size - 0) last t)) (sym (append-nil joined))
 run_part taken size last joined (b ∷ bs) room some =
     run_data taken size (size - suc (length bs)) last joined b bs (omega arith)
-    ∙ ap (λ t. in_fragment t (size - suc (length bs)) last (joined ++ (b ∷ bs))) (counted_in taken (suc (length bs)) room)
+    ∙ ap (λ t. in_fragment t (size - suc (length bs)) last (joined ++ (b ∷ bs))) (count_after_in taken (suc (length bs)) room)
     ∙ stays (taken + suc (length bs)) (size - suc (length bs)) last (joined ++ (b ∷ bs)) (omega arith)
 
 run_behind : (taken : ℕ) (joined : Option (List ℕ)) (last : Bool) (size : ℕ) (rest : List ℕ) → taken + 4 < 2 ^ 64 → size < 2 ^ 31 →
-    run (record { taken = taken; stand = InHeader [] joined }) (header last size ++ rest) ≡ then_run (behind_header (taken + 4) (number_of last size) (data_of joined)) rest
+    run (record { taken = taken; phase = InHeader [] joined }) (header last size ++ rest) ≡ then_run (behind_header (taken + 4) (number_of last size) (data_of joined)) rest
 run_behind taken joined last size rest room small =
-    run_append (record { taken = taken; stand = InHeader [] joined }) (header last size) rest ∙ ap (λ m. then_run m rest) (run_header taken joined last size room small)
+    run_append (record { taken = taken; phase = InHeader [] joined }) (header last size) rest ∙ ap (λ m. then_run m rest) (run_header taken joined last size room small)
 
 -- a whole fragment
-run_whole : (taken : ℕ) (joined : Option (List ℕ)) (last : Bool) (bytes rest : List ℕ) → taken + 4 + length bytes < 2 ^ 64 → length (data_of joined) + length bytes ≤ 1048576 →
-    run (record { taken = taken; stand = InHeader [] joined }) (header last (length bytes) ++ (bytes ++ rest))
+run_whole : (taken : ℕ) (joined : Option (List ℕ)) (last : Bool) (bytes rest : List ℕ) → taken + 4 + length bytes < 2 ^ 64 → length (data_of joined) + length bytes ≤ MAX_RECORD →
+    run (record { taken = taken; phase = InHeader [] joined }) (header last (length bytes) ++ (bytes ++ rest))
     ≡ then_run (in_fragment (taken + 4 + length bytes) 0 last (data_of joined ++ bytes)) rest
 run_whole taken joined last bytes rest room fit =
     run_behind taken joined last (length bytes) (bytes ++ rest) (omega arith) (omega arith)
@@ -164,7 +166,7 @@ run_whole taken joined last bytes rest room fit =
     ∙ ap (λ m. then_run m rest) (run_fragment (taken + 4) last (data_of joined) bytes room)
 
 pub run_frames : {at : ℕ} {joined : Option (List ℕ)} {stream : List ℕ} {rs : List (List ℕ)} {l : Left} → Frames at joined stream rs l → at + length stream < 2 ^ 63 →
-    run (record { taken = at; stand = InHeader [] joined }) stream ≡ record { left = l; told = rs }
+    run (record { taken = at; phase = InHeader [] joined }) stream ≡ record { left = l; told = rs }
 run_frames (ends_in_header {at = at} {joined = joined} {bytes = bytes} short) room = run_short at [] bytes joined (omega arith) (omega arith)
 run_frames (ends_too_long {at = at} {joined = joined} last size rest small over) room =
     run_behind at joined last size rest (omega arith) small
@@ -208,13 +210,13 @@ header_of h len all =
 abbrev Goes : List ℕ → Type 0
 Goes rest = (at : ℕ) (joined : Option (List ℕ)) (stream : List ℕ) → length stream ≤ length rest → All (λ b. b < 256) stream → SomeFrames at joined stream
 
-whole_frames : (at : ℕ) (joined : Option (List ℕ)) (last : Bool) (size : ℕ) (rest : List ℕ) → size ≤ length rest → length (data_of joined) + size ≤ 1048576 → All (λ b. b < 256) rest → Goes rest →
+whole_frames : (at : ℕ) (joined : Option (List ℕ)) (last : Bool) (size : ℕ) (rest : List ℕ) → size ≤ length rest → length (data_of joined) + size ≤ MAX_RECORD → All (λ b. b < 256) rest → Goes rest →
     SomeFrames at joined (header last size ++ rest)
 whole_frames at joined last size rest le fit all goes =
     let len : length (take size rest) ≡ size = length-take size rest ∙ omega arith in
     let e : header last (length (take size rest)) ++ (take size rest ++ drop size rest) ≡ header last size ++ rest =
       ap (λ n. header last n ++ (take size rest ++ drop size rest)) len ∙ ap (λ t. header last size ++ t) (take-append-drop size rest) in
-    let within : length (data_of joined) + length (take size rest) ≤ 1048576 = omega arith in
+    let within : length (data_of joined) + length (take size rest) ≤ MAX_RECORD = omega arith in
     let shorter : length (drop size rest) ≤ length rest = simp length-drop (omega arith) in
     let all' = All-drop (λ b. b < 256) size rest all in
     subst (SomeFrames at joined) e
@@ -227,10 +229,10 @@ whole_frames at joined last size rest le fit all goes =
 
 header_frames : (at : ℕ) (joined : Option (List ℕ)) (last : Bool) (size : ℕ) (rest : List ℕ) → size < 2 ^ 31 → All (λ b. b < 256) rest → Goes rest → SomeFrames at joined (header last size ++ rest)
 header_frames at joined last size rest small all goes =
-    elim (cases_lt 1048576 (length (data_of joined) + size)) [
-      inl over ↦ ([], record { taken = at + 4; stand = TooLong at }, ends_too_long last size rest small over)
+    elim (cases_lt MAX_RECORD (length (data_of joined) + size)) [
+      inl over ↦ ([], record { taken = at + 4; phase = TooLong at }, ends_too_long last size rest small over)
     | inr fit ↦ elim (cases_lt (length rest) size) [
-        inl part ↦ ([], record { taken = at + 4 + length rest; stand = InData (size - length rest) last (data_of joined ++ rest) }, ends_in_data last size rest part fit)
+        inl part ↦ ([], record { taken = at + 4 + length rest; phase = InData (size - length rest) last (data_of joined ++ rest) }, ends_in_data last size rest part fit)
       | inr le ↦ whole_frames at joined last size rest le fit all goes
       ]
     ]
@@ -238,7 +240,7 @@ header_frames at joined last size rest small all goes =
 next_frames : (at : ℕ) (joined : Option (List ℕ)) (stream : List ℕ) → All (λ b. b < 256) stream → (4 ≤ length stream → Goes (drop 4 stream)) → SomeFrames at joined stream
 next_frames at joined stream all goes =
     elim (cases_lt (length stream) 4) [
-      inl short ↦ ([], record { taken = at + length stream; stand = InHeader stream joined }, ends_in_header short)
+      inl short ↦ ([], record { taken = at + length stream; phase = InHeader stream joined }, ends_in_header short)
     | inr long ↦ (let len : length (take 4 stream) ≡ 4 = length-take 4 stream ∙ omega arith in
         let h = header_of (take 4 stream) len (All-take (λ b. b < 256) 4 stream all) in
         subst (SomeFrames at joined) (ap (λ t. t ++ drop 4 stream) h.3 ∙ take-append-drop 4 stream)

@@ -5,12 +5,12 @@ use Rattle.std.specs.Int.{from_be_bytes, w32}
 use Rattle.std.proofs.lemmas.List.{length-take, length-set, length-append, take-append-le, take_rest}
 use Rattle.std.proofs.Math.Seq.{take-append-add}
 use Rattle.std.proofs.lemmas.Bool.{cases_lt}
-use Rattle.x_wire.specs.declared.records.framer.Stand.{Stand}
-use Rattle.x_wire.specs.declared.records.framer.Stand.TheVariants.{InHeader, InData, TooLong}
+use Rattle.x_wire.specs.declared.records.framer.Phase.{Phase}
+use Rattle.x_wire.specs.declared.records.framer.Phase.TheVariants.{InHeader, InData, TooLong}
 use Rattle.x_wire.specs.declared.records.framer.Framer.{Framer}
-use Rattle.x_wire.specs.Records.{Left, Moved, counted, in_fragment, behind_header, quiet, step, after, told}
+use Rattle.x_wire.specs.Records.{Left, Moved, count_after, in_fragment, behind_header, quiet, step, after, told}
 use Rattle.x_wire.specs.Records as model
-use Rattle.x_wire.specs.Framers.{left_by, stand_by, IsOpen, IsClear, IsReady, MadeMove, TookBytes, HasGrown, StoppedAt, is_too_long, whole_in}
+use Rattle.x_wire.specs.Framers.{left_by, phase_by, IsOpen, IsClear, IsReady, MadeMove, TookBytes, HasGrown, StoppedAt, is_too_long, whole_in}
 use Rattle.x_wire.proofs.Moves.{run, run_one, run_data, told_short, step_begun, step_whole}
 
 -- no byte makes a record whole
@@ -46,23 +46,23 @@ took_byte old new byte move whole e made = record {
   sound = made.sound;
 }
 
--- what a framer leaves, where its stand is known
-left_at : (old : Framer) (stand : Stand) → old.stand ≡ stand → left_by old ≡ record { taken = old.taken; stand = stand_by stand old.joined.items }
-left_at old stand e = ap (λ (s : Stand). record { taken = old.taken; stand = stand_by s old.joined.items }) e
+-- what a framer leaves, where its phase is known
+left_at : (old : Framer) (phase : Phase) → old.phase ≡ phase → left_by old ≡ record { taken = old.taken; phase = phase_by phase old.joined.items }
+left_at old phase e = ap (λ (s : Phase). record { taken = old.taken; phase = phase_by s old.joined.items }) e
 
 clear_of : (bytes : List ℕ) (count : ℕ) (is_open : Bool) (joined : List ℕ) → IsClear (InHeader bytes count is_open) joined → is_open ≡ false → joined ≡ []
 clear_of bytes count true joined h e = absurd (cc)
 clear_of bytes count false joined h e = h
 
 -- the last byte of a header
-pub took_header : (old new : Framer) (bytes : List ℕ) (count byte taken number : ℕ) (is_open whole : Bool) → old.stand ≡ InHeader bytes count is_open → IsReady old → count + 1 ≡ 4 →
-    taken ≡ counted old.taken 1 → number ≡ from_be_bytes w32 (slice_set bytes count byte) →
+pub took_header : (old new : Framer) (bytes : List ℕ) (count byte taken number : ℕ) (is_open whole : Bool) → old.phase ≡ InHeader bytes count is_open → IsReady old → count + 1 ≡ 4 →
+    taken ≡ count_after old.taken 1 → number ≡ from_be_bytes w32 (slice_set bytes count byte) →
     MadeMove (behind_header taken number old.joined.items) new whole → TookBytes old (byte ∷ []) new whole
-took_header old new bytes count byte taken number is_open whole stand ready at t n made =
-    let in_header : IsOpen (InHeader bytes count is_open) = subst IsOpen stand ready.is_open in
-    let clear : IsClear (InHeader bytes count is_open) old.joined.items = subst (λ s. IsClear s old.joined.items) stand ready.clear in
+took_header old new bytes count byte taken number is_open whole phase ready at t n made =
+    let in_header : IsOpen (InHeader bytes count is_open) = subst IsOpen phase ready.is_open in
+    let clear : IsClear (InHeader bytes count is_open) old.joined.items = subst (λ s. IsClear s old.joined.items) phase ready.clear in
     took_byte old new byte (behind_header taken number old.joined.items) whole
-    (ap (λ l. step l byte) (left_at old (InHeader bytes count is_open) stand)
+    (ap (λ l. step l byte) (left_at old (InHeader bytes count is_open) phase)
     ∙ step_whole old.taken byte count bytes old.joined.items is_open in_header.1 at (clear_of bytes count is_open old.joined.items clear)
     ∙ ap (λ t'. behind_header t' (from_be_bytes w32 (slice_set bytes count byte)) old.joined.items) (sym t) ∙ ap (λ n'. behind_header taken n' old.joined.items) (sym n))
     made
@@ -72,42 +72,42 @@ clear_by bytes bytes' count count' true joined h = tt
 clear_by bytes bytes' count count' false joined h = h
 
 -- a byte of a header that is not its last
-pub took_begun : (old new : Framer) (bytes : List ℕ) (count byte : ℕ) (is_open : Bool) → old.stand ≡ InHeader bytes count is_open → IsReady old → (count + 1 ≡ 4 → ⊥) →
-    new.taken ≡ counted old.taken 1 → new.stand ≡ InHeader (slice_set bytes count byte) (count + 1) is_open → new.joined.items ≡ old.joined.items → TookBytes old (byte ∷ []) new false
-took_begun old new bytes count byte is_open stand ready more t s e =
-    let in_header : IsOpen (InHeader bytes count is_open) = subst IsOpen stand ready.is_open in
-    let clear : IsClear (InHeader bytes count is_open) old.joined.items = subst (λ s. IsClear s old.joined.items) stand ready.clear in
+pub took_begun : (old new : Framer) (bytes : List ℕ) (count byte : ℕ) (is_open : Bool) → old.phase ≡ InHeader bytes count is_open → IsReady old → (count + 1 ≡ 4 → ⊥) →
+    new.taken ≡ count_after old.taken 1 → new.phase ≡ InHeader (slice_set bytes count byte) (count + 1) is_open → new.joined.items ≡ old.joined.items → TookBytes old (byte ∷ []) new false
+took_begun old new bytes count byte is_open phase ready more t s e =
+    let in_header : IsOpen (InHeader bytes count is_open) = subst IsOpen phase ready.is_open in
+    let clear : IsClear (InHeader bytes count is_open) old.joined.items = subst (λ s. IsClear s old.joined.items) phase ready.clear in
     let clear' : IsClear (InHeader (slice_set bytes count byte) (count + 1) is_open) old.joined.items = clear_by bytes (slice_set bytes count byte) count (count + 1) is_open old.joined.items clear in
     let len : length (slice_set bytes count byte) ≡ 4 = length-set bytes count byte ∙ in_header.1 in
     let open' : IsOpen (InHeader (slice_set bytes count byte) (count + 1) is_open) = (omega arith, len) in
-    let clear_new : IsClear new.stand old.joined.items = subst (λ v. IsClear v old.joined.items) (sym s) clear' in
-    took_byte old new byte (quiet (counted old.taken 1) (stand_by (InHeader (slice_set bytes count byte) (count + 1) is_open) old.joined.items)) false
-    (ap (λ l. step l byte) (left_at old (InHeader bytes count is_open) stand)
+    let clear_new : IsClear new.phase old.joined.items = subst (λ v. IsClear v old.joined.items) (sym s) clear' in
+    took_byte old new byte (quiet (count_after old.taken 1) (phase_by (InHeader (slice_set bytes count byte) (count + 1) is_open) old.joined.items)) false
+    (ap (λ l. step l byte) (left_at old (InHeader bytes count is_open) phase)
     ∙ step_begun old.taken byte count bytes (if is_open then Some old.joined.items else None) in_header.1 (omega arith))
     (record {
-      left_is = left_at new (InHeader (slice_set bytes count byte) (count + 1) is_open) s ∙ ap (λ n. record { taken = n; stand = stand_by (InHeader (slice_set bytes count byte) (count + 1) is_open) new.joined.items }) t
-        ∙ ap (λ v. record { taken = counted old.taken 1; stand = stand_by (InHeader (slice_set bytes count byte) (count + 1) is_open) v }) e;
+      left_is = left_at new (InHeader (slice_set bytes count byte) (count + 1) is_open) s ∙ ap (λ n. record { taken = n; phase = phase_by (InHeader (slice_set bytes count byte) (count + 1) is_open) new.joined.items }) t
+        ∙ ap (λ v. record { taken = count_after old.taken 1; phase = phase_by (InHeader (slice_set bytes count byte) (count + 1) is_open) v }) e;
       told_is = refl;
       is_open = subst IsOpen (sym s) open';
-      clear = λ _. subst (IsClear new.stand) (sym e) clear_new;
+      clear = λ _. subst (IsClear new.phase) (sym e) clear_new;
       sound = λ h. absurd (cc);
     })
 
 -- bytes of the open fragment
-pub took_data : (old new : Framer) (lacks taken : ℕ) (last whole : Bool) (bytes items : List ℕ) → old.stand ≡ InData lacks last → 0 < length bytes → length bytes ≤ lacks →
-    taken ≡ counted old.taken (length bytes) → items ≡ old.joined.items ++ bytes →
+pub took_data : (old new : Framer) (lacks taken : ℕ) (last whole : Bool) (bytes items : List ℕ) → old.phase ≡ InData lacks last → 0 < length bytes → length bytes ≤ lacks →
+    taken ≡ count_after old.taken (length bytes) → items ≡ old.joined.items ++ bytes →
     MadeMove (in_fragment taken (lacks - length bytes) last items) new whole → TookBytes old bytes new whole
-took_data old new lacks taken last whole [] items stand some within t e made = absurd (omega arith)
-took_data old new lacks taken last whole (b ∷ bs) items stand some within t e made =
+took_data old new lacks taken last whole [] items phase some within t e made = absurd (omega arith)
+took_data old new lacks taken last whole (b ∷ bs) items phase some within t e made =
     let ran : run (left_by old) (b ∷ bs) ≡ in_fragment taken (lacks - suc (length bs)) last items =
-      ap (λ l. run l (b ∷ bs)) (left_at old (InData lacks last) stand)
+      ap (λ l. run l (b ∷ bs)) (left_at old (InData lacks last) phase)
       ∙ run_data old.taken lacks (lacks - suc (length bs)) last old.joined.items b bs (omega arith)
       ∙ ap (λ t'. in_fragment t' (lacks - suc (length bs)) last (old.joined.items ++ (b ∷ bs))) (sym t)
       ∙ ap (in_fragment taken (lacks - suc (length bs)) last) (sym e) in
     record {
       left_is = made.left_is ∙ sym (ap (λ (m : Moved). m.left) ran);
       told_is = ap (λ (m : Moved). m.told) ran ∙ made.told_is;
-      first = λ k lt. ap (λ l. told l (take k (b ∷ bs))) (left_at old (InData lacks last) stand)
+      first = λ k lt. ap (λ l. told l (take k (b ∷ bs))) (left_at old (InData lacks last) phase)
         ∙ told_short old.taken lacks last old.joined.items (take k (b ∷ bs)) (simp length-take (omega arith));
       is_open = made.is_open;
       clear = made.clear;
@@ -149,12 +149,12 @@ grown_more a b c (x, p) (y, q) = (x ++ y, q ∙ ap (λ t. t ++ y) p ∙ append_a
 
 -- the header of a record that is too long
 pub stopped : (old mid new : Framer) (piece : List ℕ) (used at : ℕ) (whole : Bool) → left_by mid ≡ left_by old → used ≤ length piece → TookBytes mid (take used piece) new whole →
-    new.stand ≡ TooLong at → StoppedAt old piece at new
-stopped old mid new piece used at true e le took stand = absurd (let s = took.sound refl in let t = ap is_too_long stand in cc)
-stopped old mid new piece used at false e le took stand = record {
+    new.phase ≡ TooLong at → StoppedAt old piece at new
+stopped old mid new piece used at true e le took phase = absurd (let s = took.sound refl in let t = ap is_too_long phase in cc)
+stopped old mid new piece used at false e le took phase = record {
   used = used;
   within = le;
   left_is = took.left_is ∙ ap (λ l. after l (take used piece)) e;
   told_is = ap (λ l. told l (take used piece)) (sym e) ∙ took.told_is;
-  stand_is = stand;
+  phase_is = phase;
 }

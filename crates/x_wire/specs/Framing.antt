@@ -9,8 +9,8 @@ use Rattle.x_wire.specs.Records.{Left, left, records}
 use Rattle.x_wire.specs.RecordFaults.{fault_at}
 
 -- The bytes were taken: of each stream that left the old, they leave the new, and behind its records they make these whole.
-abbrev pub Takes : (old : Left) → (bytes : List ℕ) → (new : Left) → (whole : List (List ℕ)) → Type 0
-Takes old bytes new whole = (stream : List ℕ) → left stream ≡ old →
+abbrev pub Carries : (old : Left) → (bytes : List ℕ) → (new : Left) → (whole : List (List ℕ)) → Type 0
+Carries old bytes new whole = (stream : List ℕ) → left stream ≡ old →
     (left (stream ++ bytes) ≡ new) × (records (stream ++ bytes) ≡ records stream ++ whole)
 
 -- no front of the bytes but all of them makes a record whole
@@ -18,33 +18,33 @@ abbrev pub IsFirst : Left → List ℕ → Type 0
 IsFirst old bytes = (k : ℕ) → k < length bytes → (stream : List ℕ) → left stream ≡ old → records (stream ++ take k bytes) ≡ records stream
 
 -- the record that a call answers, if it answers one
-abbrev pub answered : Option (List ℕ) → List (List ℕ)
-answered None = []
-answered (Some whole) = whole ∷ []
+abbrev pub given_by : Option (List ℕ) → List (List ℕ)
+given_by None = []
+given_by (Some whole) = whole ∷ []
 
--- The front of a piece was taken up to the end of the first record that it completes, which is answered; all, where it completes none.
+-- The front of a piece was taken up to the end of the first record that it completes, which is given_by; all, where it completes none.
 pub record Feeds (old : Left) (piece : List ℕ) (used : ℕ) (whole : Option (List ℕ)) (new : Left) : Type 0 where
   pub within : used ≤ length piece
-  pub takes : Takes old (take used piece) new (answered whole)
+  pub takes : Carries old (take used piece) new (given_by whole)
   pub first : IsFirst old (take used piece)
   pub all : whole ≡ None → used ≡ length piece
-  pub sound : fault_at new.stand ≡ None
+  pub sound : fault_at new.phase ≡ None
 
 -- A front of the piece ends with a header that takes its record over the limit, before a record ends in the piece; or the old has that fault, and the front is empty.
-pub record Stops (old : Left) (piece : List ℕ) (at : ℕ) (new : Left) : Type 0 where
+pub record Overflows (old : Left) (piece : List ℕ) (at : ℕ) (new : Left) : Type 0 where
   pub used : ℕ
   pub within : used ≤ length piece
-  pub takes : Takes old (take used piece) new []
-  pub fault : fault_at new.stand ≡ Some at
+  pub takes : Carries old (take used piece) new []
+  pub fault : fault_at new.phase ≡ Some at
 
 -- a refused piece: a record is too long, or memory ran out and nothing was taken
-abbrev pub StopsBy : RecordCode → (old : Left) → (piece : List ℕ) → (at : ℕ) → (new : Left) → Type 0
-StopsBy NoMemory old piece at new = (at ≡ 0) × (new ≡ old)
-StopsBy RecordTooLong old piece at new = Stops old piece at new
-StopsBy Truncated old piece at new = ⊥
+abbrev pub Refuses : RecordCode → (old : Left) → (piece : List ℕ) → (at : ℕ) → (new : Left) → Type 0
+Refuses NoMemory old piece at new = (at ≡ 0) × (new ≡ old)
+Refuses RecordTooLong old piece at new = Overflows old piece at new
+Refuses Truncated old piece at new = ⊥
 
 -- what a call makes of a piece
 abbrev pub HasFed : Left → List ℕ → Result Fed RecordFault → Left → Type 0
 HasFed old piece result new = MatchResult result
     (λ fed. Feeds old piece fed.used (option_copied fed.whole) new)
-    (λ fault. StopsBy fault.code old piece fault.at new)
+    (λ fault. Refuses fault.code old piece fault.at new)

@@ -3,7 +3,7 @@ use Rattle.std.specs.Prelude.{ℕ, List, [], ◌∷◌, codes, Option, Some, Non
 use Rattle.x_wire.specs.declared.records.RecordCode.{RecordCode}
 use Rattle.x_wire.specs.declared.records.RecordCode.TheVariants.{NoMemory, RecordTooLong, Truncated}
 use Rattle.x_wire.specs.declared.records.RecordFault.{RecordFault}
-use Rattle.x_wire.specs.Records.{Stand, InHeader, InData, TooLong, Left}
+use Rattle.x_wire.specs.Records.{Phase, InHeader, InData, TooLong, Left}
 
 -- the number and the name of the reason
 abbrev pub record_text : RecordCode → List ℕ
@@ -12,13 +12,13 @@ record_text RecordTooLong = codes "60 RecordTooLong"
 record_text Truncated = codes "61 Truncated"
 
 -- the place of the header whose length takes its record over the limit, where a stream stands behind one
-abbrev pub fault_at : Stand → Option ℕ
+abbrev pub fault_at : Phase → Option ℕ
 fault_at (InHeader header joined) = None
 fault_at (InData lacks last joined) = None
 fault_at (TooLong at) = Some at
 
 -- the fault of a stream that ends where it stands, after so many bytes: none, only where neither a header nor a record is open
-abbrev pub end_at : Stand → ℕ → Option RecordFault
+abbrev pub end_at : Phase → ℕ → Option RecordFault
 end_at (InHeader [] None) taken = None
 end_at (InHeader [] (Some joined)) taken = Some (record { at = taken; code = Truncated })
 end_at (InHeader (b ∷ bs) joined) taken = Some (record { at = taken; code = Truncated })
@@ -27,4 +27,4 @@ end_at (TooLong at) taken = Some (record { at = at; code = RecordTooLong })
 
 -- the fault at the end of a stream that leaves this
 abbrev pub end_fault : Left → Option RecordFault
-end_fault left = end_at left.stand left.taken
+end_fault left = end_at left.phase left.taken

@@ -5,22 +5,22 @@ use Rattle.x_wire.specs.declared.records.TheConstants.{MAX_RECORD}
 use Rattle.x_wire.specs.declared.records.framer.TheConstants.{HEADER_LEN, LAST_BIT}
 
 -- Where a stream stands.
-pub data Stand : Type 0 where
+pub data Phase : Type 0 where
   -- Inside a header of which these bytes came, fewer than four; with the joined data of the record that is open, if one is.
-  InHeader : List ℕ → Option (List ℕ) → Stand
+  InHeader : List ℕ → Option (List ℕ) → Phase
   -- Inside a fragment: how many bytes of its data lack, whether it is the last of its record, and the record's joined data.
-  InData : ℕ → Bool → List ℕ → Stand
+  InData : ℕ → Bool → List ℕ → Phase
   -- Behind the header at this place, whose length takes its record over the limit. Nothing is open, and no byte counts any more.
-  TooLong : ℕ → Stand
+  TooLong : ℕ → Phase
 
 -- What a stream leaves: how many of its bytes count, and where it stands. The count stays at the greatest `u64`.
 pub record Left : Type 0 where
   pub taken : ℕ
-  pub stand : Stand
+  pub phase : Phase
 
 -- the count after so many bytes more
-abbrev pub counted : ℕ → ℕ → ℕ
-counted taken more = min (taken + more) (2 ^ 64 - 1)
+abbrev pub count_after : ℕ → ℕ → ℕ
+count_after taken more = min (taken + more) (2 ^ 64 - 1)
 
 -- the joined data of the open record: none yet, where none is open
 abbrev pub data_of : Option (List ℕ) → List ℕ
@@ -33,14 +33,14 @@ pub record Moved : Type 0 where
   pub told : List (List ℕ)
 
 -- a move that makes no record whole
-abbrev pub quiet : ℕ → Stand → Moved
-quiet taken stand = record { left = record { taken = taken; stand = stand }; told = [] }
+abbrev pub quiet : ℕ → Phase → Moved
+quiet taken phase = record { left = record { taken = taken; phase = phase }; told = [] }
 
 -- A fragment that lacks so many bytes, in a record with this data so far: once nothing lacks, the next header follows, and the last fragment makes its record whole.
 abbrev pub in_fragment : (taken lacks : ℕ) → Bool → List ℕ → Moved
 in_fragment taken lacks last joined =
     if nat_lt 0 lacks then quiet taken (InData lacks last joined)
-    else (if last then record { left = record { taken = taken; stand = InHeader [] None }; told = joined ∷ [] }
+    else (if last then record { left = record { taken = taken; phase = InHeader [] None }; told = joined ∷ [] }
     else quiet taken (InHeader [] (Some joined)))
 
 -- A whole header, by its number: its top bit says that its fragment is the last of its record, the other 31 are the fragment's length.
@@ -55,15 +55,15 @@ header_byte taken header joined =
     if nat_lt (length header) HEADER_LEN then quiet taken (InHeader header joined)
     else behind_header taken (from_be_bytes w32 header) (data_of joined)
 
--- one byte more where a stream stands, of which so many bytes counted before
-abbrev pub moved : Stand → (taken byte : ℕ) → Moved
-moved (InHeader header joined) taken byte = header_byte (counted taken 1) (header ++ byte ∷ []) joined
-moved (InData lacks last joined) taken byte = in_fragment (counted taken 1) (lacks - 1) last (joined ++ byte ∷ [])
+-- one byte more where a stream stands, of which so many bytes count_after before
+abbrev pub moved : Phase → (taken byte : ℕ) → Moved
+moved (InHeader header joined) taken byte = header_byte (count_after taken 1) (header ++ byte ∷ []) joined
+moved (InData lacks last joined) taken byte = in_fragment (count_after taken 1) (lacks - 1) last (joined ++ byte ∷ [])
 moved (TooLong at) taken byte = quiet taken (TooLong at)
 
 -- the move by one byte
 unfoldable pub step : Left → ℕ → Moved
-step left byte = moved left.stand left.taken byte
+step left byte = moved left.phase left.taken byte
 
 -- what is left behind more bytes
 abbrev pub after : Left → List ℕ → Left
@@ -77,7 +77,7 @@ told l (b ∷ bs) = (step l b).told ++ told (step l b).left bs
 
 -- what no byte leaves
 abbrev pub nothing_left : Left
-nothing_left = record { taken = 0; stand = InHeader [] None }
+nothing_left = record { taken = 0; phase = InHeader [] None }
 
 -- what a stream leaves
 abbrev pub left : List ℕ → Left

@@ -64,7 +64,7 @@ pub struct Fed<'a> {
 }
 
 /// The records of a stream that comes in pieces, however it is cut (RFC 5531, section 11). It is seen as what the bytes taken so
-/// far leave open: how many they are, and where they stand.
+/// far leave open: how many they are, and where they phase.
 #[derive(Drop)]
 pub struct Records {
     framer: Framer,
@@ -78,7 +78,7 @@ impl Model for Records {
 
     ghost view = { λ records. left_by records.framer };
 
-    ghost invariant = { λ records. IsOpen records.framer.stand };
+    ghost invariant = { λ records. IsOpen records.framer.phase };
 }
 
 impl Records {

@@ -20,7 +20,7 @@ const OUT_OF_MEMORY: RecordFault = RecordFault {
 
 /// Where a stream stands.
 #[derive(Clone, Copy)]
-pub(crate) enum Stand {
+pub(crate) enum Phase {
     /// Inside a header, of which so many bytes came; the record is open, if one is, from its first header on.
     InHeader {
         bytes: [u8; HEADER_LEN],
@@ -37,7 +37,7 @@ pub(crate) enum Stand {
 #[derive(Drop)]
 pub(crate) struct Framer {
     taken: u64,
-    stand: Stand,
+    phase: Phase,
     joined: Vec<u8>,
 }
 
@@ -47,11 +47,11 @@ impl Framer {
     /// No byte came. It takes no memory.
     pub(crate) fn new(alloc: Global) -> Framer
         ensures left { left_by result ≡ nothing_left }
-        ensures is_open { IsOpen result.stand }
+        ensures is_open { IsOpen result.phase }
     {
         Framer {
             taken: 0,
-            stand: Stand::InHeader {
+            phase: Phase::InHeader {
                 bytes: [0; HEADER_LEN],
                 count: 0,
                 is_open: false,
@@ -73,10 +73,10 @@ impl Framer {
         ensures same { self.new.joined.items ≡ self.old.joined.items }
     {
         if lacks > 0 {
-            self.stand = Stand::InData { lacks, last };
+            self.phase = Phase::InData { lacks, last };
             return false;
         }
-        self.stand = Stand::InHeader {
+        self.phase = Phase::InHeader {
             bytes: [0; HEADER_LEN],
             count: 0,
             is_open: !last,
@@ -92,7 +92,7 @@ impl Framer {
         let size = number % LAST_BIT;
         if self.joined.len() + size as usize > MAX_RECORD {
             let at = self.taken.saturating_sub(HEADER_LEN as u64);
-            self.stand = Stand::TooLong { at };
+            self.phase = Phase::TooLong { at };
             return false;
         }
         self.enter_fragment(size, number >= LAST_BIT)
@@ -106,7 +106,7 @@ impl Framer {
         is_open: bool,
         byte: u8,
     ) -> bool
-        requires stand { self.old.stand ≡ Stand.InHeader bytes count is_open }
+        requires phase { self.old.phase ≡ Phase.InHeader bytes count is_open }
         requires ready { IsReady self.old }
         ensures took { TookBytes self.old (byte ∷ []) self.new result }
         ensures same { self.new.joined.items ≡ self.old.joined.items }
@@ -117,7 +117,7 @@ impl Framer {
         if count + 1 == HEADER_LEN {
             return self.pass_header(u32::from_be_bytes(bytes));
         }
-        self.stand = Stand::InHeader {
+        self.phase = Phase::InHeader {
             bytes,
             count: count + 1,
             is_open,
@@ -127,7 +127,7 @@ impl Framer {
 
     /// Takes all these bytes of the open fragment's data. Answers whether a record is whole.
     fn take_data(&mut self, lacks: u32, last: bool, bytes: &[u8]) -> Result<bool, AllocError>
-        requires stand { self.old.stand ≡ Stand.InData lacks last }
+        requires phase { self.old.phase ≡ Phase.InData lacks last }
         requires some { 0 < length bytes.now }
         requires within { length bytes.now ≤ lacks }
         ensures took { IfOk result (λ whole. TookBytes self.old bytes.now self.new whole) }
@@ -143,32 +143,32 @@ impl Framer {
     fn advance(&mut self, piece: &[u8]) -> Result<(usize, bool), AllocError>
         requires some { 0 < length piece.now }
         requires ready { IsReady self.old }
-        requires goes_on { is_too_long self.old.stand ≡ false }
+        requires goes_on { is_too_long self.old.phase ≡ false }
         ensures some { IfOk result (λ r. 0 < r.0) }
         ensures within { IfOk result (λ r. r.0 ≤ length piece.now) }
         ensures took { IfOk result (λ r. TookBytes self.old (take r.0 piece.now) self.new r.1) }
         ensures grown { HasGrown self.old.joined.items self.new.joined.items }
     {
-        match self.stand {
-            Stand::InHeader {
+        match self.phase {
+            Phase::InHeader {
                 bytes,
                 count,
                 is_open,
             } => Ok((1, self.take_header_byte(bytes, count, is_open, piece[0]))),
-            Stand::InData { lacks, last } => {
+            Phase::InData { lacks, last } => {
                 let size = piece.len().min(lacks as usize);
                 let whole = self.take_data(lacks, last, &piece[..size])?;
                 Ok((size, whole))
             }
-            Stand::TooLong { .. } => Ok((0, false)),
+            Phase::TooLong { .. } => Ok((0, false)),
         }
     }
 
     /// Whether it stands behind a header whose length takes its record over the limit.
     fn is_too_long(&self) -> bool
-        ensures { result ≡ is_too_long self.now.stand }
+        ensures { result ≡ is_too_long self.now.phase }
     {
-        matches!(self.stand, Stand::TooLong { .. })
+        matches!(self.phase, Phase::TooLong { .. })
     }
 
     /// Takes bytes up to the end of the first record that they complete, or of a header that takes its record over the limit, else
@@ -177,7 +177,7 @@ impl Framer {
         requires ready { IsReady self.old }
         ensures within { IfOk result (λ r. r.0 ≤ length piece.now) }
         ensures took { IfOk result (λ r. TookBytes self.old (take r.0 piece.now) self.new r.1) }
-        ensures all { IfOk result (λ r. r.1 ≡ false → is_too_long self.new.stand ≡ false
+        ensures all { IfOk result (λ r. r.1 ≡ false → is_too_long self.new.phase ≡ false
             → r.0 ≡ length piece.now) }
         ensures grown { HasGrown self.old.joined.items self.new.joined.items }
     {
@@ -194,11 +194,11 @@ impl Framer {
 
     /// Forgets the last whole record, where none is open.
     fn forget_whole(&mut self)
-        requires is_open { IsOpen self.old.stand }
+        requires is_open { IsOpen self.old.phase }
         ensures left { left_by self.new ≡ left_by self.old }
         ensures ready { IsReady self.new }
     {
-        if let Stand::InHeader { is_open: false, .. } = self.stand {
+        if let Phase::InHeader { is_open: false, .. } = self.phase {
             self.joined.clear();
         }
     }
@@ -206,20 +206,20 @@ impl Framer {
     /// Takes bytes up to the end of the first record that they complete, and all where they complete none. Answers how many it
     /// took, and whether a record is whole. After want of memory all is as before.
     pub(crate) fn feed(&mut self, piece: &[u8]) -> Result<(usize, bool), RecordFault>
-        requires is_open { IsOpen self.old.stand }
+        requires is_open { IsOpen self.old.phase }
         ensures ok { IfOk result (λ r. FedBytes self.old piece.now r.0 self.new r.1) }
         ensures err { IfErr result (λ fault. RefusedBytes fault.code self.old piece.now fault.at self.new) }
-        ensures is_open { IsOpen self.new.stand }
+        ensures is_open { IsOpen self.new.phase }
     {
         self.forget_whole();
-        let (taken, stand, len) = (self.taken, self.stand, self.joined.len());
+        let (taken, phase, len) = (self.taken, self.phase, self.joined.len());
         let Ok((used, whole)) = self.take(piece) else {
             self.taken = taken;
-            self.stand = stand;
+            self.phase = phase;
             self.joined.truncate(len);
             return Err(OUT_OF_MEMORY);
         };
-        if let Stand::TooLong { at } = self.stand {
+        if let Phase::TooLong { at } = self.phase {
             return Err(RecordFault {
                 at,
                 code: RecordCode::RecordTooLong,
@@ -230,18 +230,18 @@ impl Framer {
 
     /// The fault at the end of a stream that ends here.
     pub(crate) fn end_fault(&self) -> Option<RecordFault>
-        requires { IsOpen self.now.stand }
+        requires { IsOpen self.now.phase }
         ensures { result ≡ end_fault (left_by self.now) }
     {
-        match self.stand {
-            Stand::InHeader { count, is_open, .. } => {
+        match self.phase {
+            Phase::InHeader { count, is_open, .. } => {
                 if count == 0 && !is_open {
                     return None;
                 }
                 Some(self.truncated())
             }
-            Stand::InData { .. } => Some(self.truncated()),
-            Stand::TooLong { at } => Some(RecordFault {
+            Phase::InData { .. } => Some(self.truncated()),
+            Phase::TooLong { at } => Some(RecordFault {
                 at,
                 code: RecordCode::RecordTooLong,
             }),
