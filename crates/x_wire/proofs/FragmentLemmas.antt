@@ -9,7 +9,7 @@ use Rattle.std.proofs.lemmas.Bool.{cases_lt}
 use Rattle.std.proofs.lemmas.Bool.Decides.{nat_tests}
 use Rattle.x_wire.specs.declared.records.TheConstants.{MAX_RECORD}
 use Rattle.x_wire.specs.declared.records.framer.TheConstants.{LAST_BIT}
-use Rattle.x_wire.specs.Records.{Phase, InHeader, InData, TooLong, Left, Moved, count_after, data_of, quiet, in_fragment, behind_header, header_byte, moved, step, after, told, left, records, nothing_left}
+use Rattle.x_wire.specs.Records.{Phase, InHeader, InData, TooLong, Left, Moved, count_after, data_of, quiet, in_fragment, behind_header, in_header, moved, step, after, told, left, records, nothing_left}
 use Rattle.x_wire.specs.Fragments.{header, Frames, ends_in_header, ends_too_long, ends_in_data, fragment, last_fragment}
 use Rattle.x_wire.proofs.Moves.{run, run_one, run_data, stays, step_header, lt_true, lt_false}
 use Rattle.x_wire.proofs.Framed.{after_append, told_append}

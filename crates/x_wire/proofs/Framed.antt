@@ -10,7 +10,7 @@ use Rattle.x_wire.specs.declared.records.framer.Phase.TheVariants.{InHeader, InD
 use Rattle.x_wire.specs.declared.records.framer.Framer.{Framer}
 use Rattle.x_wire.specs.Records.{Left, Moved, count_after, in_fragment, behind_header, quiet, step, after, told}
 use Rattle.x_wire.specs.Records as model
-use Rattle.x_wire.specs.Framers.{left_by, phase_by, IsOpen, IsClear, IsReady, MadeMove, TookBytes, HasGrown, StoppedAt, is_too_long, whole_in}
+use Rattle.x_wire.specs.Framers.{left_by, phase_by, IsOpen, IsClear, IsReady, MadeMove, TookBytes, HasGrown, whole_in}
 use Rattle.x_wire.proofs.Moves.{run, run_one, run_data, told_short, step_begun, step_whole}
 
 -- no byte makes a record whole
@@ -146,15 +146,3 @@ took_more old mid new piece i n found whole e le one two =
 -- data grows and grows
 pub grown_more : (a b c : List ℕ) → HasGrown a b → HasGrown b c → HasGrown a c
 grown_more a b c (x, p) (y, q) = (x ++ y, q ∙ ap (λ t. t ++ y) p ∙ append_assoc a x y)
-
--- the header of a record that is too long
-pub stopped : (old mid new : Framer) (piece : List ℕ) (used at : ℕ) (whole : Bool) → left_by mid ≡ left_by old → used ≤ length piece → TookBytes mid (take used piece) new whole →
-    new.phase ≡ TooLong at → StoppedAt old piece at new
-stopped old mid new piece used at true e le took phase = absurd (let s = took.sound refl in let t = ap is_too_long phase in cc)
-stopped old mid new piece used at false e le took phase = record {
-  used = used;
-  within = le;
-  left_is = took.left_is ∙ ap (λ l. after l (take used piece)) e;
-  told_is = ap (λ l. told l (take used piece)) (sym e) ∙ took.told_is;
-  phase_is = phase;
-}

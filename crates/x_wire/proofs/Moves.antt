@@ -4,7 +4,7 @@ use Rattle.std.specs.Prelude.{min, nat_lt, Option, Some, None, if◌then◌else�
 use Rattle.std.specs.Int.{from_be_bytes, w32}
 use Rattle.std.proofs.lemmas.List.{append-nil, length-take, take_more_set, take_all, length-set}
 use Rattle.std.proofs.lemmas.Bool.Decides.{nat_tests}
-use Rattle.x_wire.specs.Records.{Phase, InHeader, InData, TooLong, Left, Moved, count_after, data_of, quiet, in_fragment, behind_header, header_byte, moved, step, after, told}
+use Rattle.x_wire.specs.Records.{Phase, InHeader, InData, TooLong, Left, Moved, count_after, data_of, quiet, in_fragment, behind_header, in_header, moved, step, after, told}
 
 -- a move by many bytes
 abbrev pub run : Left → List ℕ → Moved
@@ -61,7 +61,7 @@ data_by true joined h = refl
 data_by false joined h = sym (h refl)
 
 pub step_header : (taken b : ℕ) (header : List ℕ) (joined : Option (List ℕ)) →
-    step (record { taken = taken; phase = InHeader header joined }) b ≡ header_byte (count_after taken 1) (header ++ b ∷ []) joined
+    step (record { taken = taken; phase = InHeader header joined }) b ≡ in_header (count_after taken 1) (header ++ b ∷ []) joined
 unfolding step
 step_header taken b header joined = refl
 
@@ -71,7 +71,7 @@ pub step_begun : (taken b count : ℕ) (bytes : List ℕ) (joined : Option (List
 step_begun taken b count bytes joined len lt =
     let e : take (count + 1) (slice_set bytes count b) ≡ take count bytes ++ b ∷ [] = take_more_set bytes count b (omega arith) in
     let short : length (take (count + 1) (slice_set bytes count b)) < 4 = simp length-take (omega arith) in
-    step_header taken b (take count bytes) joined ∙ ap (λ t. header_byte (count_after taken 1) t joined) (sym e) ∙ rw (lt_true _ 4 short) refl
+    step_header taken b (take count bytes) joined ∙ ap (λ t. in_header (count_after taken 1) t joined) (sym e) ∙ rw (lt_true _ 4 short) refl
 
 -- the last byte of a header
 pub step_whole : (taken b count : ℕ) (bytes joined : List ℕ) (is_open : Bool) → length bytes ≡ 4 → count + 1 ≡ 4 → (is_open ≡ false → joined ≡ []) →
@@ -82,5 +82,5 @@ step_whole taken b count bytes joined is_open len at clear =
     let e : take (count + 1) (slice_set bytes count b) ≡ take count bytes ++ b ∷ [] = take_more_set bytes count b (omega arith) in
     let all : slice_set bytes count b ≡ take count bytes ++ b ∷ [] = sym (take_all (count + 1) (slice_set bytes count b) (omega arith)) ∙ e in
     step_header taken b (take count bytes) (if is_open then Some joined else None)
-    ∙ ap (λ t. header_byte (count_after taken 1) t (if is_open then Some joined else None)) (sym all)
+    ∙ ap (λ t. in_header (count_after taken 1) t (if is_open then Some joined else None)) (sym all)
     ∙ rw (lt_false (length (slice_set bytes count b)) 4 (omega arith)) (ap (behind_header (count_after taken 1) (from_be_bytes w32 (slice_set bytes count b))) (data_by is_open joined clear))

@@ -5,6 +5,7 @@ use Rattle.x_wire.specs.declared.records.framer.Phase.{Phase}
 use Rattle.x_wire.specs.declared.records.framer.Phase.TheVariants.{InHeader, InData, TooLong}
 use Rattle.x_wire.specs.declared.records.framer.Framer.{Framer}
 use Rattle.x_wire.specs.Records.{Left, Moved, after, told}
+use Rattle.x_wire.specs.RecordFaults.{fault_at}
 use Rattle.x_wire.specs.Records as model
 use Rattle.x_wire.specs.declared.records.RecordCode.{RecordCode}
 use Rattle.x_wire.specs.declared.records.RecordCode.TheVariants.{NoMemory, RecordTooLong, Truncated}
@@ -32,12 +33,6 @@ IsClear (InHeader bytes count false) joined = joined ≡ []
 IsClear (InData lacks last) joined = Unit {0}
 IsClear (TooLong at) joined = Unit {0}
 
--- whether it stands behind a header that takes its record over the limit
-abbrev pub is_too_long : Phase → Bool
-is_too_long (InHeader bytes count is_open) = false
-is_too_long (InData lacks last) = false
-is_too_long (TooLong at) = true
-
 -- a framer that can take bytes
 pub record IsReady (framer : Framer) : Type 0 where
   pub is_open : IsOpen framer.phase
@@ -54,7 +49,7 @@ pub record MadeMove (move : Moved) (new : Framer) (whole : Bool) : Type 0 where
   pub told_is : move.told ≡ whole_in new whole
   pub is_open : IsOpen new.phase
   pub clear : whole ≡ false → IsClear new.phase new.joined.items
-  pub sound : whole ≡ true → is_too_long new.phase ≡ false
+  pub sound : whole ≡ true → fault_at (left_by new).phase ≡ None
 
 -- A framer took these bytes, of which no front but all of them makes a record whole.
 pub record TookBytes (old : Framer) (bytes : List ℕ) (new : Framer) (whole : Bool) : Type 0 where
@@ -63,7 +58,7 @@ pub record TookBytes (old : Framer) (bytes : List ℕ) (new : Framer) (whole : B
   pub first : (k : ℕ) → k < length bytes → told (left_by old) (take k bytes) ≡ []
   pub is_open : IsOpen new.phase
   pub clear : whole ≡ false → IsClear new.phase new.joined.items
-  pub sound : whole ≡ true → is_too_long new.phase ≡ false
+  pub sound : whole ≡ true → fault_at (left_by new).phase ≡ None
 
 -- data was added behind the old
 abbrev pub HasGrown : List ℕ → List ℕ → Type 0
@@ -74,7 +69,7 @@ pub record FedBytes (old : Framer) (piece : List ℕ) (used : ℕ) (new : Framer
   pub within : used ≤ length piece
   pub took : TookBytes old (take used piece) new whole
   pub all : whole ≡ false → used ≡ length piece
-  pub sound : is_too_long new.phase ≡ false
+  pub sound : fault_at (left_by new).phase ≡ None
 
 -- A front of the piece was taken, which completes no record, to the end of a header that takes its record over the limit.
 pub record StoppedAt (old : Framer) (piece : List ℕ) (at : ℕ) (new : Framer) : Type 0 where
@@ -82,7 +77,7 @@ pub record StoppedAt (old : Framer) (piece : List ℕ) (at : ℕ) (new : Framer)
   pub within : used ≤ length piece
   pub left_is : left_by new ≡ after (left_by old) (take used piece)
   pub told_is : told (left_by old) (take used piece) ≡ []
-  pub phase_is : new.phase ≡ TooLong at
+  pub fault_is : fault_at (left_by new).phase ≡ Some at
 
 -- what a refusal leaves
 abbrev pub RefusedBytes : RecordCode → (old : Framer) → (piece : List ℕ) → (at : ℕ) → (new : Framer) → Type 0

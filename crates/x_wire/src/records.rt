@@ -83,7 +83,7 @@ impl Model for Records {
 
 impl Records {
     ghost use Rattle.x_wire.specs.contracts.records.Records.{the_row};
-    ghost use Rattle.x_wire.specs.Framing.{HasFed};
+    ghost use Rattle.x_wire.specs.Framing.{HasFed, StaysRefused};
 
     /// Records of a stream of which no byte came. It takes no memory.
     pub fn new(alloc: Global) -> Records
@@ -103,6 +103,7 @@ impl Records {
     /// the call.
     pub fn feed(&mut self, piece: &[u8]) -> Result<Fed<'_>, RecordFault>
         ensures within { IfOk result (λ fed. fed.used ≤ length piece.now) }
+        ensures refused { StaysRefused self.old result }
         ensures* fed { sem 𝓛 (Rests the_row self.entry (HasFed self.old piece.now result)) }
     {
         let (used, is_whole) = self.framer.feed(piece)?;

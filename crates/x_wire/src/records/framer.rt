@@ -1,7 +1,7 @@
 //! Bytes of a stream, taken header by header and fragment by fragment.
-ghost use Rattle.std.specs.Prelude.{◌≡◌, ◌<◌, ◌≤◌, ◌∷◌, [], length, take, false, IfOk, IfErr};
+ghost use Rattle.std.specs.Prelude.{◌≡◌, ◌<◌, ◌≤◌, ◌∷◌, [], length, take, false, IfOk, IfErr, MatchOption, ⊤};
 ghost use Rattle.x_wire.specs.Records.{nothing_left, in_fragment, behind_header};
-ghost use Rattle.x_wire.specs.RecordFaults.{end_fault};
+ghost use Rattle.x_wire.specs.RecordFaults.{end_fault, fault_at};
 
 use crate::records::{MAX_RECORD, RecordCode, RecordFault};
 use std::alloc::{AllocError, Global};
@@ -17,6 +17,16 @@ const OUT_OF_MEMORY: RecordFault = RecordFault {
     at: 0,
     code: RecordCode::NoMemory,
 };
+
+/// The header at this place takes its record over the limit.
+fn too_long(at: u64) -> RecordFault
+    ensures { result ≡ record { at = at; code = RecordCode.RecordTooLong } }
+{
+    RecordFault {
+        at,
+        code: RecordCode::RecordTooLong,
+    }
+}
 
 /// Where a stream stands.
 #[derive(Clone, Copy)]
@@ -42,7 +52,7 @@ pub(crate) struct Framer {
 }
 
 impl Framer {
-    ghost use Rattle.x_wire.specs.Framers.{left_by, is_too_long, IsOpen, IsReady, MadeMove, TookBytes, FedBytes, RefusedBytes, HasGrown};
+    ghost use Rattle.x_wire.specs.Framers.{left_by, IsOpen, IsReady, MadeMove, TookBytes, FedBytes, RefusedBytes, HasGrown};
 
     /// No byte came. It takes no memory.
     pub(crate) fn new(alloc: Global) -> Framer
@@ -143,7 +153,7 @@ impl Framer {
     fn advance(&mut self, piece: &[u8]) -> Result<(usize, bool), AllocError>
         requires some { 0 < length piece.now }
         requires ready { IsReady self.old }
-        requires goes_on { is_too_long self.old.phase ≡ false }
+        requires goes_on { fault_at (left_by self.old).phase ≡ None }
         ensures some { IfOk result (λ r. 0 < r.0) }
         ensures within { IfOk result (λ r. r.0 ≤ length piece.now) }
         ensures took { IfOk result (λ r. TookBytes self.old (take r.0 piece.now) self.new r.1) }
@@ -164,11 +174,14 @@ impl Framer {
         }
     }
 
-    /// Whether it stands behind a header whose length takes its record over the limit.
-    fn is_too_long(&self) -> bool
-        ensures { result ≡ is_too_long self.now.phase }
+    /// The place of the header whose length takes its record over the limit, behind one.
+    fn fault(&self) -> Option<u64>
+        ensures { result ≡ fault_at (left_by self.now).phase }
     {
-        matches!(self.phase, Phase::TooLong { .. })
+        match self.phase {
+            Phase::TooLong { at } => Some(at),
+            _ => None,
+        }
     }
 
     /// Takes bytes up to the end of the first record that they complete, or of a header that takes its record over the limit, else
@@ -177,12 +190,12 @@ impl Framer {
         requires ready { IsReady self.old }
         ensures within { IfOk result (λ r. r.0 ≤ length piece.now) }
         ensures took { IfOk result (λ r. TookBytes self.old (take r.0 piece.now) self.new r.1) }
-        ensures all { IfOk result (λ r. r.1 ≡ false → is_too_long self.new.phase ≡ false
+        ensures all { IfOk result (λ r. r.1 ≡ false → fault_at (left_by self.new).phase ≡ None
             → r.0 ≡ length piece.now) }
         ensures grown { HasGrown self.old.joined.items self.new.joined.items }
     {
         let mut used = 0;
-        while used < piece.len() && !self.is_too_long() {
+        while used < piece.len() && self.fault().is_none() {
             let (count, whole) = self.advance(&piece[used..])?;
             used += count;
             if whole {
@@ -208,24 +221,26 @@ impl Framer {
     pub(crate) fn feed(&mut self, piece: &[u8]) -> Result<(usize, bool), RecordFault>
         requires is_open { IsOpen self.old.phase }
         ensures ok { IfOk result (λ r. FedBytes self.old piece.now r.0 self.new r.1) }
+        ensures refused { MatchOption (fault_at (left_by self.old).phase) ⊤
+            (λ at. result ≡ Err (record { at = at; code = RecordCode.RecordTooLong })) }
         ensures err { IfErr result (λ fault. RefusedBytes fault.code self.old piece.now fault.at self.new) }
         ensures is_open { IsOpen self.new.phase }
     {
+        if let Some(at) = self.fault() {
+            return Err(too_long(at));
+        }
         self.forget_whole();
         let (taken, phase, len) = (self.taken, self.phase, self.joined.len());
-        let Ok((used, whole)) = self.take(piece) else {
+        let Ok((used, is_whole)) = self.take(piece) else {
             self.taken = taken;
             self.phase = phase;
             self.joined.truncate(len);
             return Err(OUT_OF_MEMORY);
         };
-        if let Phase::TooLong { at } = self.phase {
-            return Err(RecordFault {
-                at,
-                code: RecordCode::RecordTooLong,
-            });
+        if let Some(at) = self.fault() {
+            return Err(too_long(at));
         }
-        Ok((used, whole))
+        Ok((used, is_whole))
     }
 
     /// The fault at the end of a stream that ends here.
@@ -241,10 +256,7 @@ impl Framer {
                 Some(self.truncated())
             }
             Phase::InData { .. } => Some(self.truncated()),
-            Phase::TooLong { at } => Some(RecordFault {
-                at,
-                code: RecordCode::RecordTooLong,
-            }),
+            Phase::TooLong { at } => Some(too_long(at)),
         }
     }
 
