@@ -1,5 +1,5 @@
 -- What a call of `feed` makes of the streams that it may have taken before.
-use Rattle.std.proofs.Common.{◌≡◌, ℕ, ◌<◌, ◌≤◌, Bool, true, false, List, [], ◌∷◌, ◌++◌, length, take, refl, sym, ap, subst, ◌∙◌, append_assoc}
+use Rattle.std.proofs.Common.{◌≡◌, ℕ, zero, suc, ◌<◌, ◌≤◌, Bool, true, false, List, [], ◌∷◌, ◌++◌, length, take, refl, sym, ap, subst, ◌∙◌, append_assoc, arith}
 use Rattle.std.specs.Prelude.{Option, Some, None, Result, Ok, Err, MatchOption}
 use Rattle.std.proofs.lemmas.List.{append-nil}
 use Rattle.x_wire.specs.declared.records.framer.Phase.{Phase}
@@ -60,6 +60,12 @@ pub fed_whole : (old new : Framer) (l : Left) (piece : List ℕ) (used : ℕ) (w
     whole ≡ true → joined ≡ new.joined.items → Feeds l piece used (Some joined) (left_by new)
 fed_whole old new l piece used whole joined e fed is joined_is =
     fed_of old new l piece used whole (Some joined) e fed (ap (whole_in new) is ∙ ap (λ t. t ∷ []) (sym joined_is)) (λ h. absurd (cc))
+
+-- bytes are taken where there are some
+pub some_used : (old new : Framer) (piece : List ℕ) (used : ℕ) (whole : Bool) → FedBytes old piece used new whole → 0 < length piece → 0 < used
+some_used old new piece (suc used) whole fed some = omega arith
+some_used old new piece zero true fed some = absurd (let h : [] ≡ new.joined.items ∷ [] = fed.took.told_is in cc)
+some_used old new piece zero false fed some = absurd (let h = fed.all refl in omega arith)
 
 -- an answer of the inner call says the same of the outer one's
 pub same_fault : (o p : Option ℕ) (fault : RecordFault) → o ≡ p →

@@ -121,7 +121,7 @@ unfolding step
 step_long taken at b = refl
 
 -- behind a header that takes its record over the limit no byte counts
-run_long : (taken at : ℕ) (bs : List ℕ) → run (record { taken = taken; phase = TooLong at }) bs ≡ quiet taken (TooLong at)
+pub run_long : (taken at : ℕ) (bs : List ℕ) → run (record { taken = taken; phase = TooLong at }) bs ≡ quiet taken (TooLong at)
 run_long taken at [] = refl
 run_long taken at (b ∷ bs) = run_cons (record { taken = taken; phase = TooLong at }) b bs ∙ ap (λ m. then_run m bs) (step_long taken at b) ∙ run_long taken at bs
 

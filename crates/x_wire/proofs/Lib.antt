@@ -1,3 +1,4 @@
+pub mod Composing
 pub mod Feeding
 pub mod FragmentLemmas
 pub mod Framed

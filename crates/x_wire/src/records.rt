@@ -103,6 +103,7 @@ impl Records {
     /// the call.
     pub fn feed(&mut self, piece: &[u8]) -> Result<Fed<'_>, RecordFault>
         ensures within { IfOk result (λ fed. fed.used ≤ length piece.now) }
+        ensures some { IfOk result (λ fed. 0 < length piece.now → 0 < fed.used) }
         ensures refused { StaysRefused self.old result }
         ensures* fed { sem 𝓛 (Rests the_row self.entry (HasFed self.old piece.now result)) }
     {
