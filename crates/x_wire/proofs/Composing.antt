@@ -45,6 +45,13 @@ block_at stream block i used =
     append_assoc stream (take i block) (take used (take (length block - i) (drop i block)))
     ∙ ap (λ t. stream ++ (take i block ++ take used t)) (take_rest block i) ∙ ap (λ t. stream ++ t) (sym (take-add i used block))
 
+-- the same, whether `feed` answered a record or not
+pub block_led : (stream block : List ℕ) (given : List (List ℕ)) (i used : ℕ) (whole : Option (List ℕ)) (old new : Left) → IsRead (stream ++ take i block) given old →
+    Feeds old (take (length block - i) (drop i block)) used whole new → IsRead (stream ++ take (i + used) block) (given ++ in_list whole) new
+block_led stream block given i used whole old new read feeds =
+    subst (λ s. IsRead s (given ++ in_list whole) new) (block_at stream block i used)
+    (read_led (stream ++ take i block) (take used (take (length block - i) (drop i block))) given (in_list whole) old new read feeds.leads)
+
 -- `feed` answered a record of the rest of a block
 pub block_whole : (stream block : List ℕ) (given : List (List ℕ)) (i used : ℕ) (whole : List ℕ) (old new : Left) → IsRead (stream ++ take i block) given old →
     Feeds old (take (length block - i) (drop i block)) used (Some whole) new → IsRead (stream ++ take (i + used) block) (given ++ whole ∷ []) new
