@@ -1,5 +1,6 @@
 -- What the fields of a framer phase for.
-use Rattle.std.specs.Prelude.{◌≡◌, ℕ, ◌<◌, ◌≤◌, Bool, true, false, List, [], ◌∷◌, ◌++◌, take, length, Option, Some, None, if◌then◌else◌}
+use Rattle.std.specs.Prelude.{◌≡◌, ℕ, ◌<◌, ◌≤◌, Bool, true, false, List, [], ◌∷◌, ◌++◌, take, length}
+use Rattle.std.specs.Prelude.{Some, None, if◌then◌else◌}
 use Rattle.x_wire.specs.declared.records.framer.TheConstants.{HEADER_LEN}
 use Rattle.x_wire.specs.declared.records.framer.Phase.{Phase}
 use Rattle.x_wire.specs.declared.records.framer.Phase.TheVariants.{InHeader, InData, TooLong}
@@ -12,7 +13,8 @@ use Rattle.x_wire.specs.declared.records.RecordCode.TheVariants.{NoMemory, Recor
 
 -- where a stream stands, with this joined data of the open record
 abbrev pub phase_by : Phase → List ℕ → model.Phase
-phase_by (InHeader bytes count is_open) joined = model.InHeader (take count bytes) (if is_open then Some joined else None)
+phase_by (InHeader bytes count is_open) joined =
+    model.InHeader (take count bytes) (if is_open then Some joined else None)
 phase_by (InData lacks last) joined = model.InData lacks last joined
 phase_by (TooLong at) joined = model.TooLong at
 
@@ -71,7 +73,8 @@ pub record FedBytes (old : Framer) (piece : List ℕ) (used : ℕ) (new : Framer
   pub all : whole ≡ false → used ≡ length piece
   pub sound : fault_at (left_by new).phase ≡ None
 
--- A front of the piece was taken, which completes no record, to the end of a header that takes its record over the limit.
+-- A front of the piece was taken, which completes no record, to the end of a header that takes its record
+-- over the limit.
 pub record StoppedAt (old : Framer) (piece : List ℕ) (at : ℕ) (new : Framer) : Type 0 where
   pub used : ℕ
   pub within : used ≤ length piece

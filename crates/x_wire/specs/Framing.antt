@@ -8,7 +8,8 @@ use Rattle.x_wire.specs.declared.records.Fed.{Fed}
 use Rattle.x_wire.specs.Records.{Left, left, records}
 use Rattle.x_wire.specs.RecordFaults.{fault_at}
 
--- These bytes lead each stream that leaves the old to one that leaves the new, with these records behind its own.
+-- These bytes lead each stream that leaves the old to one that leaves the new, with these records behind its
+-- own.
 abbrev pub Leads : (old : Left) → (bytes : List ℕ) → (new : Left) → (told : List (List ℕ)) → Type 0
 Leads old bytes new told = (stream : List ℕ) → left stream ≡ old →
     (left (stream ++ bytes) ≡ new) × (records (stream ++ bytes) ≡ records stream ++ told)
@@ -23,17 +24,18 @@ abbrev pub in_list : Option (List ℕ) → List (List ℕ)
 in_list None = []
 in_list (Some whole) = whole ∷ []
 
--- So many bytes of a piece were taken: up to the end of the first record that they make whole, which is answered; all,
--- where they make none whole. No header among them takes its record over the limit.
-pub record Feeds (old : Left) (piece : List ℕ) (used : ℕ) (whole : Option (List ℕ)) (new : Left) : Type 0 where
+-- So many bytes of a piece were taken: up to the end of the first record that they make whole, which is
+-- answered; all, where they make none whole. No header among them takes its record over the limit.
+pub record Feeds (old : Left) (piece : List ℕ) (used : ℕ) (whole : Option (List ℕ)) (new : Left) :
+    Type 0 where
   pub within : used ≤ length piece
   pub leads : Leads old (take used piece) new (in_list whole)
   pub first : IsFirst old (take used piece)
   pub all : whole ≡ None → used ≡ length piece
   pub sound : fault_at new.phase ≡ None
 
--- Before a record ends in the piece, a header takes its record over the limit: the bytes up to the header's end were
--- taken. Or one did so before, and none was taken.
+-- Before a record ends in the piece, a header takes its record over the limit: the bytes up to the header's
+-- end were taken. Or one did so before, and none was taken.
 pub record Overflows (old : Left) (piece : List ℕ) (at : ℕ) (new : Left) : Type 0 where
   pub used : ℕ
   pub within : used ≤ length piece

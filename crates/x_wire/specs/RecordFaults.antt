@@ -17,7 +17,8 @@ fault_at (InHeader bytes joined) = None
 fault_at (InData lacks last joined) = None
 fault_at (TooLong at) = Some at
 
--- the fault of a stream that ends here, after so many bytes: none only where neither a header nor a record is open
+-- the fault of a stream that ends here, after so many bytes: none only where neither a header nor a record is
+-- open
 abbrev pub end_at : Phase → ℕ → Option RecordFault
 end_at (InHeader [] None) taken = None
 end_at (InHeader [] (Some joined)) taken = Some (record { at = taken; code = Truncated })

@@ -1,6 +1,6 @@
--- Record marking (RFC 5531, section 11), byte by byte: the records of a stream, and what a stream leaves open.
--- Fragments.antt says the same by whole fragments, and a law that the two agree.
-use Rattle.std.specs.Prelude.{◌≡◌, ℕ, ◌+◌, ◌-◌, ◌%◌, ◌^◌, min, Bool, List, [], ◌∷◌, ◌++◌, length}
+-- Record marking (RFC 5531, section 11), byte by byte: the records of a stream, and what a stream leaves
+-- open. Fragments.antt says the same by whole fragments, and a law that the two agree.
+use Rattle.std.specs.Prelude.{ℕ, ◌+◌, ◌-◌, ◌%◌, ◌^◌, min, Bool, List, [], ◌∷◌, ◌++◌, length}
 use Rattle.std.specs.Prelude.{Option, Some, None, nat_lt, nat_le, if◌then◌else◌}
 use Rattle.std.specs.Int.{from_be_bytes, w32}
 use Rattle.x_wire.specs.declared.records.TheConstants.{MAX_RECORD}
@@ -8,13 +8,14 @@ use Rattle.x_wire.specs.declared.records.framer.TheConstants.{HEADER_LEN, LAST_B
 
 -- Where a stream stands.
 pub data Phase : Type 0 where
-  -- Inside a header, of which these bytes came, fewer than four. A record is open from its first whole header on: its
-  -- joined data, where one is open.
+  -- Inside a header, of which these bytes came, fewer than four. A record is open from its first whole header
+  -- on: its joined data, where one is open.
   InHeader : List ℕ → Option (List ℕ) → Phase
-  -- Inside a fragment: how many bytes of its data lack, whether it is the last of its record, and the joined data.
+  -- Inside a fragment: how many bytes of its data lack, whether it is the last of its record, and the joined
+  -- data.
   InData : ℕ → Bool → List ℕ → Phase
-  -- Behind the header at this place, whose length takes its record over the limit. Nothing is open, and no byte counts
-  -- any more.
+  -- Behind the header at this place, whose length takes its record over the limit. Nothing is open, and no
+  -- byte counts any more.
   TooLong : ℕ → Phase
 
 -- What a stream leaves: how many of its bytes count, and where it stands.
@@ -40,16 +41,16 @@ pub record Moved : Type 0 where
 abbrev pub quiet : ℕ → Phase → Moved
 quiet taken phase = record { left = record { taken = taken; phase = phase }; told = [] }
 
--- A fragment that lacks so many bytes, of a record with this data so far. Once nothing lacks, the next header follows;
--- and the last fragment makes its record whole.
+-- A fragment that lacks so many bytes, of a record with this data so far. Once nothing lacks, the next header
+-- follows; and the last fragment makes its record whole.
 abbrev pub in_fragment : (taken lacks : ℕ) → Bool → List ℕ → Moved
 in_fragment taken lacks last joined =
     if nat_lt 0 lacks then quiet taken (InData lacks last joined)
-    else (if last then record { left = record { taken = taken; phase = InHeader [] None }; told = joined ∷ [] }
+    else (if last then record (quiet taken (InHeader [] None)) { told = joined ∷ [] }
     else quiet taken (InHeader [] (Some joined)))
 
--- A whole header, by its number: the top bit says that its fragment is the last of its record, the other 31 bits are the
--- fragment's length.
+-- A whole header, by its number: the top bit says that its fragment is the last of its record, the other 31
+-- bits are the fragment's length.
 abbrev pub behind_header : (taken number : ℕ) → List ℕ → Moved
 behind_header taken number joined =
     if nat_lt MAX_RECORD (length joined + number % LAST_BIT) then quiet taken (TooLong (taken - HEADER_LEN))

@@ -1,5 +1,6 @@
-//! Records of a stream of bytes (RFC 5531, section 11): a record comes as fragments, each behind a header of its own.
-ghost use Rattle.std.specs.Prelude.{◌≡◌, ◌<◌, ◌≤◌, ◌^◌, ◌++◌, ℕ, List, All, length, IfOk, MatchResult, MatchOption};
+//! Records of a stream of bytes (RFC 5531, section 11): a record comes as fragments, each behind a header.
+ghost use Rattle.std.specs.Prelude.{◌≡◌, ◌<◌, ◌≤◌, ◌^◌, ◌++◌, ℕ, List, All, length, IfOk, MatchResult};
+ghost use Rattle.std.specs.Prelude.{MatchOption};
 ghost use Rattle.std.specs.Borrow.{sem};
 ghost use Rattle.std.specs.Io.BufRead.{Rests};
 ghost use Rattle.x_wire.specs.Records.{Left, left, nothing_left, records};
@@ -47,8 +48,8 @@ impl RecordCode {
 #[derive(Clone, Copy, Debug, PartialEq, Eq, Error)]
 #[error("{code} at {at}")]
 pub struct RecordFault {
-    /// The place, in bytes from the first of the stream: of the header whose length takes its record over the limit, or of the
-    /// stream's end; 0 where memory ran out.
+    /// The place, in bytes from the first of the stream: of the header whose length takes its record over the
+    /// limit, or of the stream's end; 0 where memory ran out.
     pub at: u64,
     /// The reason.
     pub code: RecordCode,
@@ -63,8 +64,8 @@ pub struct Fed<'a> {
     pub whole: Option<&'a [u8]>,
 }
 
-/// The records of a stream that comes in pieces, however it is cut (RFC 5531, section 11). It is seen as what the bytes taken so
-/// far leave open: how many they are, and where they phase.
+/// The records of a stream that comes in pieces, however it is cut (RFC 5531, section 11). It is seen as what
+/// the bytes taken so far leave open: how many they are, and where they phase.
 #[derive(Drop)]
 pub struct Records {
     framer: Framer,
@@ -94,13 +95,13 @@ impl Records {
         }
     }
 
-    /// Takes bytes up to the end of the first record that they complete, and all where they complete none. Memory is asked for by
-    /// the bytes that came, never by a header's length alone.
+    /// Takes bytes up to the end of the first record that they complete, and all where they complete none.
+    /// Memory is asked for by the bytes that came, never by a header's length alone.
     ///
     /// # Errors
-    /// [`RecordCode::RecordTooLong`] at the first header whose length takes its record over the limit: the bytes up to its end
-    /// are taken. From then on each call answers this fault again and takes no byte. [`RecordCode::NoMemory`]: all is as before
-    /// the call.
+    /// [`RecordCode::RecordTooLong`] at the first header whose length takes its record over the limit: the
+    /// bytes up to its end are taken. From then on each call answers this fault again and takes no byte.
+    /// [`RecordCode::NoMemory`]: all is as before the call.
     pub fn feed(&mut self, piece: &[u8]) -> Result<Fed<'_>, RecordFault>
         ensures within { IfOk result (λ fed. fed.used ≤ length piece.now) }
         ensures some { IfOk result (λ fed. 0 < length piece.now → 0 < fed.used) }
@@ -121,7 +122,8 @@ impl Records {
     /// [`RecordCode::Truncated`] at the stream's length, where a header or a record is open; behind
     /// [`RecordCode::RecordTooLong`] that fault again.
     pub fn finish(&self) -> Result<(), RecordFault>
-        ensures { MatchResult result (λ _. end_fault self.now ≡ None) (λ fault. end_fault self.now ≡ Some fault) }
+        ensures { MatchResult result
+            (λ _. end_fault self.now ≡ None) (λ fault. end_fault self.now ≡ Some fault) }
     {
         match self.framer.end_fault() {
             Some(fault) => Err(fault),
@@ -130,8 +132,11 @@ impl Records {
     }
 }
 
-/// Each stream of bytes is fragments, in one way: so its records and what it leaves are those that its fragments make.
+/// Each stream of bytes is fragments, in one way: so its records and what it leaves are those that its
+/// fragments make.
 pub fn records_law()
-    ensures some { (stream : List ℕ) → All (λ b. b < 256) stream → length stream < 2 ^ 63 → Frames 0 None stream (records stream) (left stream) }
-    ensures one { (stream : List ℕ) (rs : List (List ℕ)) (l : Left) → length stream < 2 ^ 63 → Frames 0 None stream rs l → (rs ≡ records stream) × (l ≡ left stream) }
+    ensures some { (stream : List ℕ) → All (λ b. b < 256) stream → length stream < 2 ^ 63 →
+        Frames 0 None stream (records stream) (left stream) }
+    ensures one { (stream : List ℕ) (rs : List (List ℕ)) (l : Left) → length stream < 2 ^ 63 →
+        Frames 0 None stream rs l → (rs ≡ records stream) × (l ≡ left stream) }
 {}

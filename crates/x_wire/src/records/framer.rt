@@ -9,7 +9,8 @@ use std::alloc::{AllocError, Global};
 /// The bytes of a header.
 const HEADER_LEN: usize = 4;
 
-/// The bit of a header that says that its fragment is the last of its record; the bits below it are the fragment's length.
+/// The bit of a header that says that its fragment is the last of its record; the bits below it are the
+/// fragment's length.
 const LAST_BIT: u32 = 0x8000_0000;
 
 /// Memory ran out.
@@ -38,12 +39,18 @@ pub(crate) enum Phase {
         is_open: bool,
     },
     /// Inside a fragment that lacks so many bytes, at least one.
-    InData { lacks: u32, last: bool },
+    InData {
+        lacks: u32,
+        last: bool,
+    },
     /// Behind the header at this place, whose length takes its record over the limit.
-    TooLong { at: u64 },
+    TooLong {
+        at: u64,
+    },
 }
 
-/// Takes the bytes of a stream. It keeps the joined data of the open record, or where none is open that of the last whole one.
+/// Takes the bytes of a stream. It keeps the joined data of the open record, or where none is open that of
+/// the last whole one.
 #[derive(Drop)]
 pub(crate) struct Framer {
     taken: u64,
@@ -52,7 +59,8 @@ pub(crate) struct Framer {
 }
 
 impl Framer {
-    ghost use Rattle.x_wire.specs.Framers.{left_by, IsOpen, IsReady, MadeMove, TookBytes, FedBytes, RefusedBytes, HasGrown};
+    ghost use Rattle.x_wire.specs.Framers.{left_by, IsOpen, IsReady, MadeMove, TookBytes, FedBytes};
+    ghost use Rattle.x_wire.specs.Framers.{RefusedBytes, HasGrown};
 
     /// No byte came. It takes no memory.
     pub(crate) fn new(alloc: Global) -> Framer
@@ -79,7 +87,8 @@ impl Framer {
 
     /// Stands in a fragment that lacks so many bytes, or behind it. Answers whether a record is whole.
     fn enter_fragment(&mut self, lacks: u32, last: bool) -> bool
-        ensures made { MadeMove (in_fragment self.old.taken lacks last self.old.joined.items) self.new result }
+        ensures made { MadeMove
+            (in_fragment self.old.taken lacks last self.old.joined.items) self.new result }
         ensures same { self.new.joined.items ≡ self.old.joined.items }
     {
         if lacks > 0 {
@@ -148,8 +157,8 @@ impl Framer {
         Ok(self.enter_fragment(lacks - bytes.len() as u32, last))
     }
 
-    /// Takes a header's byte, or the bytes of a fragment's data, of a piece that is not empty. Answers how many bytes it took, and
-    /// whether a record is whole.
+    /// Takes a header's byte, or the bytes of a fragment's data, of a piece that is not empty. Answers how
+    /// many bytes it took, and whether a record is whole.
     fn advance(&mut self, piece: &[u8]) -> Result<(usize, bool), AllocError>
         requires some { 0 < length piece.now }
         requires ready { IsReady self.old }
@@ -184,8 +193,8 @@ impl Framer {
         }
     }
 
-    /// Takes bytes up to the end of the first record that they complete, or of a header that takes its record over the limit, else
-    /// all. Answers how many it took, and whether a record is whole.
+    /// Takes bytes up to the end of the first record that they complete, or of a header that takes its record
+    /// over the limit, else all. Answers how many it took, and whether a record is whole.
     fn take(&mut self, piece: &[u8]) -> Result<(usize, bool), AllocError>
         requires ready { IsReady self.old }
         ensures within { IfOk result (λ r. r.0 ≤ length piece.now) }
@@ -216,8 +225,8 @@ impl Framer {
         }
     }
 
-    /// Takes bytes up to the end of the first record that they complete, and all where they complete none. Answers how many it
-    /// took, and whether a record is whole. After want of memory all is as before.
+    /// Takes bytes up to the end of the first record that they complete, and all where they complete none.
+    /// Answers how many it took, and whether a record is whole. After want of memory all is as before.
     pub(crate) fn feed(&mut self, piece: &[u8]) -> Result<(usize, bool), RecordFault>
         requires is_open { IsOpen self.old.phase }
         ensures ok { IfOk result (λ r. FedBytes self.old piece.now r.0 self.new r.1) }
