@@ -101,7 +101,10 @@ fn fragments_add_up_to_a_record_that_is_too_long(rt: HostRuntime) -> Result<(), 
     assert_eq!(rt; feed_all(&mut records, b"\0\x08\0\0", &mut text), Ok(()));
     assert_eq!(rt; feed_all(&mut records, &data, &mut text), Ok(()));
     let too_long = refusal(524_292, RecordCode::RecordTooLong);
-    assert_eq!(rt; feed_all(&mut records, b"\x80\x08\0\x01", &mut text), too_long);
+    assert_eq!(rt;
+        feed_all(&mut records, b"\x80\x08\0\x01", &mut text),
+        too_long
+    );
     assert_eq!(rt; records.finish(), too_long);
     Ok(())
 }
@@ -130,7 +133,8 @@ fn a_reason_has_its_text(rt: HostRuntime) -> Result<(), Fail> {
 }
 
 /// One record of four fragments, for which memory grows again and again.
-const GROWING: &[u8] = b"\0\0\0\x05aaaaa\0\0\0\x00\0\0\0\x14bbbbbbbbbbbbbbbbbbbb\x80\0\0\x46cccccccccccccccccccccccccccccccccccccccccccccccccccccccccccccccccccccc";
+const GROWING: &[u8] =
+    b"\0\0\0\x05aaaaa\0\0\0\x00\0\0\0\x14bbbbbbbbbbbbbbbbbbbb\x80\0\0\x46cccccccccccccccccccccccccccccccccccccccccccccccccccccccccccccccccccccc";
 
 #[test]
 fn a_call_without_memory_leaves_all_as_before(rt: HostRuntime) {
