@@ -9,7 +9,7 @@ use Rattle.x_wire.specs.Records.{Phase, InHeader, InData, TooLong, Left, Moved, 
 use Rattle.x_wire.specs.Records.{left, records, nothing_left}
 use Rattle.x_wire.specs.RecordFaults.{fault_at, end_at, end_fault}
 use Rattle.x_wire.specs.Framing.{Leads, in_list, Feeds, Overflows, IsRead}
-use Rattle.x_wire.proofs.Moves.{run}
+use Rattle.x_wire.proofs.Moves.{stands, run}
 use Rattle.x_wire.proofs.FragmentLemmas.{run_long}
 use Rattle.x_wire.proofs.Feeding.{left_append, records_append}
 
@@ -27,11 +27,11 @@ read_led stream bytes given whole old new read leads = record {
 }
 
 -- `feed` answered a record
-pub read_whole : (stream piece : List ℕ) (given : List (List ℕ)) (used : ℕ) (whole : List ℕ) (old new : Left)
-    → IsRead stream given old → Feeds old piece used (Some whole) new →
+pub read_whole : (stream piece : List ℕ) (given : List (List ℕ)) (used : ℕ) (whole : List ℕ)
+    (old new : Left) → IsRead stream given old → Feeds old piece used (Some whole) new →
     IsRead (stream ++ take used piece) (given ++ whole ∷ []) new
-read_whole stream piece given used whole old new read feeds = read_led stream (take used piece) given (whole ∷
-    []) old new read feeds.leads
+read_whole stream piece given used whole old new read feeds =
+    read_led stream (take used piece) given (whole ∷ []) old new read feeds.leads
 
 -- `feed` answered no record
 pub read_piece : (stream piece : List ℕ) (given : List (List ℕ)) (used : ℕ) (old new : Left) →
@@ -40,30 +40,30 @@ pub read_piece : (stream piece : List ℕ) (given : List (List ℕ)) (used : ℕ
 read_piece stream piece given used old new read feeds =
     let all : take used piece ≡ piece = let e = feeds.all refl in take_all used piece (omega arith) in
     subst (λ g. IsRead (stream ++ piece) g new) (append-nil given)
-    (subst (λ p. IsRead (stream ++ p) (given ++ []) new) all (read_led stream (take used piece) given [] old
-    new read feeds.leads))
+    (subst (λ p. IsRead (stream ++ p) (given ++ []) new) all
+    (read_led stream (take used piece) given [] old new read feeds.leads))
 
 -- the rest of a block, from its byte i on, was fed: as a slice is seen
-block_at : (stream block : List ℕ) (i used : ℕ) → (stream ++ take i block) ++ take used (take (length block -
-    i) (drop i block)) ≡ stream ++ take (i + used) block
+block_at : (stream block : List ℕ) (i used : ℕ) → (stream ++ take i block) ++ take used
+    (take (length block - i) (drop i block)) ≡ stream ++ take (i + used) block
 block_at stream block i used =
     append_assoc stream (take i block) (take used (take (length block - i) (drop i block)))
     ∙ ap (λ t. stream ++ (take i block ++ take used t)) (take_rest block i)
     ∙ ap (λ t. stream ++ t) (sym (take-add i used block))
 
 -- the same, whether `feed` answered a record or not
-pub block_led : (stream block : List ℕ) (given : List (List ℕ)) (i used : ℕ) (whole : Option (List ℕ)) (old
-    new : Left) → IsRead (stream ++ take i block) given old →
+pub block_led : (stream block : List ℕ) (given : List (List ℕ)) (i used : ℕ) (whole : Option (List ℕ))
+    (old new : Left) → IsRead (stream ++ take i block) given old →
     Feeds old (take (length block - i) (drop i block)) used whole new →
     IsRead (stream ++ take (i + used) block) (given ++ in_list whole) new
 block_led stream block given i used whole old new read feeds =
     subst (λ s. IsRead s (given ++ in_list whole) new) (block_at stream block i used)
-    (read_led (stream ++ take i block) (take used (take (length block - i) (drop i block))) given (in_list
-    whole) old new read feeds.leads)
+    (read_led (stream ++ take i block) (take used (take (length block - i) (drop i block))) given
+    (in_list whole) old new read feeds.leads)
 
 -- `feed` answered a record of the rest of a block
-pub block_whole : (stream block : List ℕ) (given : List (List ℕ)) (i used : ℕ) (whole : List ℕ) (old new :
-    Left) → IsRead (stream ++ take i block) given old →
+pub block_whole : (stream block : List ℕ) (given : List (List ℕ)) (i used : ℕ) (whole : List ℕ)
+    (old new : Left) → IsRead (stream ++ take i block) given old →
     Feeds old (take (length block - i) (drop i block)) used (Some whole) new →
     IsRead (stream ++ take (i + used) block) (given ++ whole ∷ []) new
 block_whole stream block given i used whole old new read feeds =
@@ -80,18 +80,18 @@ block_rest stream block given i used old new read feeds =
     append_assoc stream (take i block) (take (length block - i) (drop i block))
     ∙ ap (λ t. stream ++ (take i block ++ t)) (take_rest block i)
     ∙ ap (λ t. stream ++ t) (take-append-drop i block) in
-    subst (λ s. IsRead s given new) e (read_piece (stream ++ take i block) (take (length block - i) (drop i
-    block)) given used old new read feeds)
+    subst (λ s. IsRead s given new) e (read_piece (stream ++ take i block)
+    (take (length block - i) (drop i block)) given used old new read feeds)
 
 -- ---- the end of a stream
 
 -- the records of a front are a front of the records
-pub records_front : (stream more : List ℕ) → (rest : List (List ℕ)) × (records (stream ++ more) ≡ records
-    stream ++ rest)
+pub records_front : (stream more : List ℕ) → (rest : List (List ℕ)) × (records (stream ++ more)
+    ≡ records stream ++ rest)
 records_front stream more = (told (left stream) more, records_append stream more)
 
 phase_fault : (phase : Phase) (taken at : ℕ) (bytes : List ℕ) → fault_at phase ≡ Some at →
-    run (record { taken = taken; phase = phase }) bytes ≡ quiet taken phase
+    run (stands taken phase) bytes ≡ quiet taken phase
 phase_fault (InHeader header joined) taken at bytes h = absurd (cc)
 phase_fault (InData lacks last joined) taken at bytes h = absurd (cc)
 phase_fault (TooLong place) taken at bytes h = run_long taken place bytes
@@ -107,8 +107,8 @@ phase_rest (InHeader (b ∷ bs) joined) taken h = absurd (cc)
 phase_rest (InData lacks last joined) taken h = absurd (cc)
 phase_rest (TooLong at) taken h = absurd (cc)
 
-run_fault : (l : Left) (at : ℕ) (bytes : List ℕ) → fault_at l.phase ≡ Some at →
-    run l bytes ≡ quiet l.taken l.phase
+run_fault : (l : Left) (at : ℕ) (bytes : List ℕ) → fault_at l.phase ≡ Some at → run l bytes
+    ≡ quiet l.taken l.phase
 run_fault l at bytes h = phase_fault l.phase l.taken at bytes h
 
 -- behind a header that takes its record over the limit nothing counts
@@ -124,19 +124,20 @@ fault_stays stream more at h =
 -- a fault came where a front has it
 pub no_fault_front : (stream more : List ℕ) → fault_at (left (stream ++ more)).phase ≡ None →
     fault_at (left stream).phase ≡ None
-no_fault_front stream more h = none_of (fault_at (left stream).phase) (λ at e. let s = ap (λ (l : Left).
-    fault_at l.phase) (fault_stays stream more at e).0 in cc)
+no_fault_front stream more h =
+    none_of (fault_at (left stream).phase) (λ at e. let s =
+    ap (λ (l : Left). fault_at l.phase) (fault_stays stream more at e).0 in cc)
 
 -- `feed` answered that a record is too long: whatever follows, the stream has these records and this fault
 pub read_refused : (stream piece more : List ℕ) (given : List (List ℕ)) (at : ℕ) (old new : Left) →
     IsRead stream given old → Overflows old piece at new →
     IsRead (stream ++ (piece ++ more)) given new × (fault_at new.phase ≡ Some at)
 read_refused stream piece more given at old new read over =
-    let front : IsRead (stream ++ take over.used piece) given new = subst (λ g. IsRead (stream ++ take
-    over.used piece) g new) (append-nil given) (read_led stream (take over.used piece) given [] old new read
-    over.leads) in
-    let fault : fault_at (left (stream ++ take over.used piece)).phase ≡ Some at = ap (λ (l : Left). fault_at
-    l.phase) front.left_is ∙ over.fault in
+    let front : IsRead (stream ++ take over.used piece) given new =
+    subst (λ g. IsRead (stream ++ take over.used piece) g new) (append-nil given)
+    (read_led stream (take over.used piece) given [] old new read over.leads) in
+    let fault : fault_at (left (stream ++ take over.used piece)).phase
+    ≡ Some at = ap (λ (l : Left). fault_at l.phase) front.left_is ∙ over.fault in
     let stays = fault_stays (stream ++ take over.used piece) (drop over.used piece ++ more) at fault in
     let e : (stream ++ take over.used piece) ++ (drop over.used piece ++ more) ≡ stream ++ (piece ++ more) =
     append_assoc stream (take over.used piece) (drop over.used piece ++ more)
@@ -158,8 +159,8 @@ pub block_refused : (stream block more : List ℕ) (given : List (List ℕ)) (i 
 block_refused stream block more given i at old new read over =
     let r = read_refused (stream ++ take i block) (take (length block - i) (drop i block)) more given at old
     new read over in
-    let e : (stream ++ take i block) ++ (take (length block - i) (drop i block) ++ more) ≡ stream ++ (block ++
-    more) =
+    let e : (stream ++ take i block) ++ (take (length block - i) (drop i block) ++ more)
+    ≡ stream ++ (block ++ more) =
     append_assoc stream (take i block) (take (length block - i) (drop i block) ++ more)
     ∙ ap (λ t. stream ++ (take i block ++ (t ++ more))) (take_rest block i)
     ∙ ap (λ t. stream ++ t) (sym (append_assoc (take i block) (drop i block) more)

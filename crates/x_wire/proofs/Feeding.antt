@@ -18,12 +18,12 @@ pub left_append : (stream bytes : List ℕ) → left (stream ++ bytes) ≡ after
 left_append stream bytes = after_append nothing_left stream bytes
 
 -- the records that more bytes make whole come behind
-pub records_append : (stream bytes : List ℕ) → records (stream ++ bytes) ≡ records stream ++ told (left
-    stream) bytes
+pub records_append : (stream bytes : List ℕ) → records (stream ++ bytes)
+    ≡ records stream ++ told (left stream) bytes
 records_append stream bytes = told_append nothing_left stream bytes
 
-leads_of : (old new : Left) (bytes : List ℕ) (whole : List (List ℕ)) → new ≡ after old bytes →
-    told old bytes ≡ whole → Leads old bytes new whole
+leads_of : (old new : Left) (bytes : List ℕ) (whole : List (List ℕ)) → new ≡ after old bytes → told old bytes
+    ≡ whole → Leads old bytes new whole
 leads_of old new bytes whole l t stream e = (
   left_append stream bytes ∙ ap (λ s. after s bytes) e ∙ sym l,
   records_append stream bytes ∙ ap (λ s. records stream ++ told s bytes) e
@@ -37,8 +37,8 @@ first_of old bytes h k lt stream e =
     ∙ ap (λ r. records stream ++ r) (h k lt) ∙ append-nil (records stream)
 
 -- what `feed` answers of bytes that it took
-pub fed_of : (old new : Framer) (l : Left) (piece : List ℕ) (used : ℕ) (whole : Bool) (answer : Option (List
-    ℕ)) → left_by old ≡ l → FedBytes old piece used new whole →
+pub fed_of : (old new : Framer) (l : Left) (piece : List ℕ) (used : ℕ) (whole : Bool)
+    (answer : Option (List ℕ)) → left_by old ≡ l → FedBytes old piece used new whole →
     whole_in new whole ≡ in_list answer → (answer ≡ None → whole ≡ false) →
     Feeds l piece used answer (left_by new)
 fed_of old new l piece used whole answer e fed told_is none = record {
@@ -53,8 +53,8 @@ fed_of old new l piece used whole answer e fed told_is none = record {
 }
 
 -- what `feed` refuses
-pub refused_of : (code : RecordCode) (old new : Framer) (l : Left) (piece : List ℕ) (at : ℕ) →
-    left_by old ≡ l → RefusedBytes code old piece at new → Refuses code l piece at (left_by new)
+pub refused_of : (code : RecordCode) (old new : Framer) (l : Left) (piece : List ℕ) (at : ℕ) → left_by old
+    ≡ l → RefusedBytes code old piece at new → Refuses code l piece at (left_by new)
 refused_of NoMemory old new l piece at e h = (h.0, h.1 ∙ e)
 refused_of RecordTooLong old new l piece at e h = record {
   used = h.used;
@@ -77,41 +77,28 @@ fed_whole old new l piece used whole joined e fed is joined_is =
 pub some_used : (old new : Framer) (piece : List ℕ) (used : ℕ) (whole : Bool) →
     FedBytes old piece used new whole → 0 < length piece → 0 < used
 some_used old new piece (suc used) whole fed some = omega arith
-some_used old new piece zero true fed some = absurd (let h : [] ≡ new.joined.items ∷ [] = fed.took.told_is in
-    cc)
+some_used old new piece zero true fed some =
+    absurd (let h : [] ≡ new.joined.items ∷ [] = fed.took.told_is in cc)
 some_used old new piece zero false fed some = absurd (let h = fed.all refl in omega arith)
 
 -- an answer of the inner call says the same of the outer one's
 pub same_fault : (o p : Option ℕ) (fault : RecordFault) → o ≡ p →
-    MatchOption o (Unit {0}) (λ at. ◌≡◌ {A = Result (ℕ × Bool) RecordFault} (Err fault) (Err (record {
-      at =
-          at;
-      code = RecordTooLong;
-    }))) →
-    MatchOption p (Unit {0}) (λ at. ◌≡◌ {A = Result Fed RecordFault} (Err fault) (Err (record {
-      at = at;
-      code
-          = RecordTooLong;
-    })))
+    MatchOption o (Unit {0}) (λ at. ◌≡◌ {A = Result (ℕ × Bool) RecordFault} (Err fault)
+    (Err (record { at = at; code = RecordTooLong }))) →
+    MatchOption p (Unit {0}) (λ at. ◌≡◌ {A = Result Fed RecordFault} (Err fault)
+    (Err (record { at = at; code = RecordTooLong })))
 same_fault o None fault e h = tt
 same_fault o (Some at) fault e h =
-    let k : ◌≡◌ {A = Result (ℕ × Bool) RecordFault} (Err fault) (Err (record {
-      at = at;
-      code = RecordTooLong;
-    })) = rw e at h in
+    let k : ◌≡◌ {A = Result (ℕ × Bool) RecordFault} (Err fault)
+    (Err (record { at = at; code = RecordTooLong })) = rw e at h in
     let same : fault ≡ record { at = at; code = RecordTooLong } = cc in
     ap Err same
 
 pub no_fault : (o p : Option ℕ) (x : ℕ × Bool) (y : Fed) → o ≡ p →
-    MatchOption o (Unit {0}) (λ at. ◌≡◌ {A = Result (ℕ × Bool) RecordFault} (Ok x) (Err (record {
-      at = at;
-      code = RecordTooLong;
-    }))) →
-    MatchOption p (Unit {0}) (λ at. ◌≡◌ {A = Result Fed RecordFault} (Ok y) (Err (record {
-      at = at;
-      code =
-          RecordTooLong;
-    })))
+    MatchOption o (Unit {0}) (λ at. ◌≡◌ {A = Result (ℕ × Bool) RecordFault} (Ok x)
+    (Err (record { at = at; code = RecordTooLong }))) →
+    MatchOption p (Unit {0}) (λ at. ◌≡◌ {A = Result Fed RecordFault} (Ok y)
+    (Err (record { at = at; code = RecordTooLong })))
 no_fault o None x y e h = tt
 no_fault o (Some at) x y e h =
     let k : ◌≡◌ {A = Result (ℕ × Bool) RecordFault} (Ok x) (Err (record { at = at; code = RecordTooLong })) =

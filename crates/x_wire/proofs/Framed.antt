@@ -26,11 +26,13 @@ after_append l (x ∷ a) b = after_append (step l x).left a b
 
 pub told_append : (l : Left) (a b : List ℕ) → told l (a ++ b) ≡ told l a ++ told (after l a) b
 told_append l [] b = refl
-told_append l (x ∷ a) b = ap (λ t. (step l x).told ++ t) (told_append (step l x).left a b)
+told_append l (x ∷ a) b =
+    ap (λ t. (step l x).told ++ t) (told_append (step l x).left a b)
     ∙ sym (append_assoc (step l x).told (told (step l x).left a) (told (after (step l x).left a) b))
 
-first_of_both : (l : Left) (a b : List ℕ) → told l a ≡ [] → ((k : ℕ) → k < length a →
-    told l (take k a) ≡ []) → ((k : ℕ) → k < length b → told (after l a) (take k b) ≡ []) →
+first_of_both : (l : Left) (a b : List ℕ) → told l a ≡ [] →
+    ((k : ℕ) → k < length a → told l (take k a) ≡ []) → ((k : ℕ) → k < length b → told (after l a) (take k b)
+    ≡ []) →
     (k : ℕ) → k < length (a ++ b) → (k < length a) ⊎ (length a ≤ k) → told l (take k (a ++ b)) ≡ []
 first_of_both l a b none one two k lt (inl h) = ap (told l) (take-append-le k a b (omega arith)) ∙ one k h
 first_of_both l a b none one two k lt (inr h) =
@@ -53,8 +55,8 @@ took_byte old new byte move whole e made = record {
 }
 
 -- what a framer leaves, where its phase is known
-left_at : (old : Framer) (phase : Phase) → old.phase ≡ phase →
-    left_by old ≡ record { taken = old.taken; phase = phase_by phase old.joined.items }
+left_at : (old : Framer) (phase : Phase) → old.phase ≡ phase → left_by old
+    ≡ record { taken = old.taken; phase = phase_by phase old.joined.items }
 left_at old phase e = ap (λ (s : Phase). record { taken = old.taken; phase = phase_by s old.joined.items }) e
 
 clear_of : (bytes : List ℕ) (count : ℕ) (is_open : Bool) (joined : List ℕ) →
@@ -69,12 +71,12 @@ pub took_header : (old new : Framer) (bytes : List ℕ) (count byte taken number
     MadeMove (behind_header taken number old.joined.items) new whole → TookBytes old (byte ∷ []) new whole
 took_header old new bytes count byte taken number is_open whole phase ready at t n made =
     let in_header : IsOpen (InHeader bytes count is_open) = subst IsOpen phase ready.is_open in
-    let clear : IsClear (InHeader bytes count is_open) old.joined.items = subst (λ s. IsClear s
-    old.joined.items) phase ready.clear in
+    let clear : IsClear (InHeader bytes count is_open) old.joined.items =
+    subst (λ s. IsClear s old.joined.items) phase ready.clear in
     took_byte old new byte (behind_header taken number old.joined.items) whole
     (ap (λ l. step l byte) (left_at old (InHeader bytes count is_open) phase)
-    ∙ step_whole old.taken byte count bytes old.joined.items is_open in_header.1 at (clear_of bytes count
-    is_open old.joined.items clear)
+    ∙ step_whole old.taken byte count bytes old.joined.items is_open in_header.1 at
+    (clear_of bytes count is_open old.joined.items clear)
     ∙ ap (λ t'. behind_header t' (from_be_bytes w32 (slice_set bytes count byte)) old.joined.items) (sym t)
     ∙ ap (λ n'. behind_header taken n' old.joined.items) (sym n))
     made
@@ -85,22 +87,22 @@ clear_by bytes bytes' count count' true joined h = tt
 clear_by bytes bytes' count count' false joined h = h
 
 -- a byte of a header that is not its last
-pub took_begun : (old new : Framer) (bytes : List ℕ) (count byte : ℕ) (is_open : Bool) →
-    old.phase ≡ InHeader bytes count is_open → IsReady old → (count + 1 ≡ 4 → ⊥) →
+pub took_begun : (old new : Framer) (bytes : List ℕ) (count byte : ℕ) (is_open : Bool) → old.phase
+    ≡ InHeader bytes count is_open → IsReady old → (count + 1 ≡ 4 → ⊥) →
     new.taken ≡ count_after old.taken 1 → new.phase ≡ InHeader (slice_set bytes count byte) (count + 1)
     is_open → new.joined.items ≡ old.joined.items → TookBytes old (byte ∷ []) new false
 took_begun old new bytes count byte is_open phase ready more t s e =
     let in_header : IsOpen (InHeader bytes count is_open) = subst IsOpen phase ready.is_open in
-    let clear : IsClear (InHeader bytes count is_open) old.joined.items = subst (λ s. IsClear s
-    old.joined.items) phase ready.clear in
+    let clear : IsClear (InHeader bytes count is_open) old.joined.items =
+    subst (λ s. IsClear s old.joined.items) phase ready.clear in
     let clear' : IsClear (InHeader (slice_set bytes count byte) (count + 1) is_open) old.joined.items =
     clear_by bytes (slice_set bytes count byte) count (count + 1) is_open old.joined.items clear in
     let len : length (slice_set bytes count byte) ≡ 4 = length-set bytes count byte ∙ in_header.1 in
     let open' : IsOpen (InHeader (slice_set bytes count byte) (count + 1) is_open) = (omega arith, len) in
     let clear_new : IsClear new.phase old.joined.items = subst (λ v. IsClear v old.joined.items) (sym s)
     clear' in
-    took_byte old new byte (quiet (count_after old.taken 1) (phase_by (InHeader (slice_set bytes count byte)
-    (count + 1) is_open) old.joined.items)) false
+    took_byte old new byte (quiet (count_after old.taken 1)
+    (phase_by (InHeader (slice_set bytes count byte) (count + 1) is_open) old.joined.items)) false
     (ap (λ l. step l byte) (left_at old (InHeader bytes count is_open) phase)
     ∙ step_begun old.taken byte count bytes (if is_open then Some old.joined.items else None) in_header.1
     (omega arith))
@@ -113,8 +115,8 @@ took_begun old new bytes count byte is_open phase ready more t s e =
           }) t
           ∙ ap (λ v. record {
             taken = count_after old.taken 1;
-            phase = phase_by (InHeader (slice_set bytes count
-                byte) (count + 1) is_open) v;
+            phase =
+                phase_by (InHeader (slice_set bytes count byte) (count + 1) is_open) v;
           }) e;
       told_is = refl;
       is_open = subst IsOpen (sym s) open';
@@ -123,8 +125,8 @@ took_begun old new bytes count byte is_open phase ready more t s e =
     })
 
 -- bytes of the open fragment
-pub took_data : (old new : Framer) (lacks taken : ℕ) (last whole : Bool) (bytes items : List ℕ) →
-    old.phase ≡ InData lacks last → 0 < length bytes → length bytes ≤ lacks →
+pub took_data : (old new : Framer) (lacks taken : ℕ) (last whole : Bool) (bytes items : List ℕ) → old.phase
+    ≡ InData lacks last → 0 < length bytes → length bytes ≤ lacks →
     taken ≡ count_after old.taken (length bytes) → items ≡ old.joined.items ++ bytes →
     MadeMove (in_fragment taken (lacks - length bytes) last items) new whole → TookBytes old bytes new whole
 took_data old new lacks taken last whole [] items phase some within t e made = absurd (omega arith)
@@ -138,7 +140,8 @@ took_data old new lacks taken last whole (b ∷ bs) items phase some within t e 
       left_is = made.left_is ∙ sym (ap (λ (m : Moved). m.left) ran);
       told_is = ap (λ (m : Moved). m.told) ran ∙ made.told_is;
       first = λ k lt. ap (λ l. told l (take k (b ∷ bs))) (left_at old (InData lacks last) phase)
-          ∙ told_short old.taken lacks last old.joined.items (take k (b ∷ bs)) (simp length-take (omega arith));
+          ∙ told_short old.taken lacks last old.joined.items (take k (b ∷ bs))
+          (simp length-take (omega arith));
       is_open = made.is_open;
       clear = made.clear;
       sound = made.sound;
@@ -146,15 +149,16 @@ took_data old new lacks taken last whole (b ∷ bs) items phase some within t e 
 
 -- nothing was taken
 pub took_none : (old : Framer) → IsReady old → TookBytes old [] old false
-took_none old ready = record {
-  left_is = refl;
-  told_is = refl;
-  first = λ k lt. absurd (omega arith);
-  is_open =
-      ready.is_open;
-  clear = λ _. ready.clear;
-  sound = λ h. absurd (cc);
-}
+took_none old ready =
+    record {
+      left_is = refl;
+      told_is = refl;
+      first = λ k lt. absurd (omega arith);
+      is_open =
+          ready.is_open;
+      clear = λ _. ready.clear;
+      sound = λ h. absurd (cc);
+    }
 
 pub ready_of : (old new : Framer) (bytes : List ℕ) → TookBytes old bytes new false → IsReady new
 ready_of old new bytes took = record { is_open = took.is_open; clear = took.clear refl }
@@ -168,8 +172,8 @@ took_both old mid new a b whole one two =
       left_is = two.left_is ∙ ap (λ t. after t b) one.left_is ∙ sym (after_append (left_by old) a b);
       told_is = told_append (left_by old) a b ∙ ap (λ t. t ++ told (after (left_by old) a) b) one.told_is
           ∙ ap (λ t. told t b) (sym one.left_is) ∙ two.told_is;
-      first = λ k lt. first_of_both (left_by old) a b one.told_is one.first (λ j h. ap (λ t. told t (take j
-          b)) (sym one.left_is) ∙ two.first j h) k lt (cases_lt k (length a));
+      first = λ k lt. first_of_both (left_by old) a b one.told_is one.first (λ j h.
+          ap (λ t. told t (take j b)) (sym one.left_is) ∙ two.first j h) k lt (cases_lt k (length a));
       is_open = two.is_open;
       clear = two.clear;
       sound = two.sound;
@@ -181,14 +185,14 @@ pub took_more : (old mid new : Framer) (piece : List ℕ) (i n : ℕ) (found who
     TookBytes mid (take n (take (length piece - i) (drop i piece))) new found →
     TookBytes old (take (i + n) piece) new whole
 took_more old mid new piece i n found whole e le one two =
-    let rest : take n (take (length piece - i) (drop i piece)) ≡ take n (drop i piece) = ap (take n)
-    (take_rest piece i) in
-    let two' : TookBytes mid (take n (drop i piece)) new found = subst (λ t. TookBytes mid t new found) rest
-    two in
-    let both : TookBytes old (take i piece ++ take n (drop i piece)) new found = took_both old mid new (take i
-    piece) (take n (drop i piece)) found one two' in
-    subst (λ w. TookBytes old (take (i + n) piece) new w) e (subst (λ t. TookBytes old t new found) (sym
-    (take-add i n piece)) both)
+    let rest : take n (take (length piece - i) (drop i piece))
+    ≡ take n (drop i piece) = ap (take n) (take_rest piece i) in
+    let two' : TookBytes mid (take n (drop i piece)) new found =
+    subst (λ t. TookBytes mid t new found) rest two in
+    let both : TookBytes old (take i piece ++ take n (drop i piece)) new found =
+    took_both old mid new (take i piece) (take n (drop i piece)) found one two' in
+    subst (λ w. TookBytes old (take (i + n) piece) new w) e
+    (subst (λ t. TookBytes old t new found) (sym (take-add i n piece)) both)
 
 -- data grows and grows
 pub grown_more : (a b c : List ℕ) → HasGrown a b → HasGrown b c → HasGrown a c

@@ -1,4 +1,4 @@
--- What the fields of a framer phase for.
+-- What the fields of a framer stand for.
 use Rattle.std.specs.Prelude.{◌≡◌, ℕ, ◌<◌, ◌≤◌, Bool, true, false, List, [], ◌∷◌, ◌++◌, take, length}
 use Rattle.std.specs.Prelude.{Some, None, if◌then◌else◌}
 use Rattle.x_wire.specs.declared.records.framer.TheConstants.{HEADER_LEN}

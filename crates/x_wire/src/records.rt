@@ -65,7 +65,7 @@ pub struct Fed<'a> {
 }
 
 /// The records of a stream that comes in pieces, however it is cut (RFC 5531, section 11). It is seen as what
-/// the bytes taken so far leave open: how many they are, and where they phase.
+/// the bytes taken so far leave open: how many they are, and where they stand.
 #[derive(Drop)]
 pub struct Records {
     framer: Framer,

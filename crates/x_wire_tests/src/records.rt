@@ -134,7 +134,7 @@ fn a_reason_has_its_text(rt: HostRuntime) -> Result<(), Fail> {
 
 /// One record of four fragments, for which memory grows again and again.
 const GROWING: &[u8] =
-    b"\0\0\0\x05aaaaa\0\0\0\x00\0\0\0\x14bbbbbbbbbbbbbbbbbbbb\x80\0\0\x46cccccccccccccccccccccccccccccccccccccccccccccccccccccccccccccccccccccc";
+    b"\0\0\0\x05aaaaa\0\0\0\0\0\0\0\x14bbbbbbbbbbbbbbbbbbbb\x80\0\0\x1eccccccccccccccccccccccccccccc.";
 
 #[test]
 fn a_call_without_memory_leaves_all_as_before(rt: HostRuntime) {
@@ -152,7 +152,7 @@ fn a_call_without_memory_leaves_all_as_before(rt: HostRuntime) {
             Ok(fed) => (fed.used, fed.whole.map(|whole| whole.len())),
             Err(_) => (0, None),
         };
-        assert_eq!(rt; sizes, (109, Some(95)));
+        assert_eq!(rt; sizes, (69, Some(55)));
     }
     assert_eq!(rt; records.finish(), Ok(()));
 }

@@ -14,7 +14,8 @@ returns-in_err-used c =
         refl,
         λ _. tt,
         refused_of c.in_err-used.field-0.0.code c.self.inside.framer c.feed.new.self
-            c.args.self.now c.args.piece.now c.in_err-used.field-0.0.at c.self.view_is c.in_err-used.ensures.err,
+            c.args.self.now c.args.piece.now c.in_err-used.field-0.0.at c.self.view_is
+            c.in_err-used.ensures.err,
       ),
       record {
         within = tt;

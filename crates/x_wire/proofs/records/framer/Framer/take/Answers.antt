@@ -18,8 +18,8 @@ loop-used-preserved c = record {
       omega (
         arith,
         le,
-        length-take (length c.args.piece.now - c.loop-used.used) (drop c.loop-used.used
-            c.args.piece.now),
+        length-take (length c.args.piece.now - c.loop-used.used)
+            (drop c.loop-used.used c.args.piece.now),
         length-drop c.loop-used.used c.args.piece.now,
       ));
   grown = grown_more c.args.self.now.joined.items c.loop-used.self.joined.items
