@@ -1,0 +1,5 @@
+pub mod Composing
+pub mod Feeding
+pub mod FragmentLemmas
+pub mod Framed
+pub mod Moves

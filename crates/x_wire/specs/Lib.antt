@@ -1,0 +1,5 @@
+pub mod Fragments
+pub mod Framers
+pub mod Framing
+pub mod RecordFaults
+pub mod Records
