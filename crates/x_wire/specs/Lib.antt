@@ -1,0 +1,3 @@
+pub mod HeaderFaults
+pub mod Headers
+pub mod Messages
