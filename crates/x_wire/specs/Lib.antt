@@ -1,3 +1,4 @@
 pub mod HeaderFaults
+pub mod HeaderForms
 pub mod Headers
 pub mod Messages

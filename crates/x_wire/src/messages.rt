@@ -1,5 +1,6 @@
 //! Headers of messages (RFC 5531, sections 8 and 9).
 
+mod fields;
 mod laws;
 mod parts;
 mod reading;
