@@ -112,13 +112,13 @@ one_path (Next k n) (f ∷ fs) (f' ∷ gs) g h x y p q e =
 
 -- ---- each form has a header
 
-some_field : FieldKind → Field
+pub some_field : FieldKind → Field
 some_field AnyNumber = Number 0
 some_field (AnyState last) = State (suc last) 0
 some_field AnyLength = Length 0
 some_field (BodyOf n) = Body (copies n 0)
 
-some_field_is : (k : FieldKind) → IsOf k (some_field k)
+pub some_field_is : (k : FieldKind) → IsOf k (some_field k)
 unfolding some_field
 some_field_is AnyNumber = lit< tt
 some_field_is (AnyState last) = (refl, omega arith, lit< tt)
@@ -161,8 +161,8 @@ moves_one k n g bytes rest o e = record {
 pub moves_nowhere : (form : Form) (bytes : List ℕ) → Moves form bytes form bytes
 moves_nowhere form bytes = record { fields = []; path = refl; parts = refl }
 
-pub moves_then : (a b c : Form) (x y z : List ℕ) → Moves a x b y → Moves b y c z → Moves a x c z
-moves_then a b c x y z f g = record {
+pub moves_then : {a b c : Form} {x y z : List ℕ} → Moves a x b y → Moves b y c z → Moves a x c z
+moves_then {a = a} {b = b} {c = c} {z = z} f g = record {
   fields = f.fields ++ g.fields;
   path = path-append a f.fields g.fields b c f.path g.path;
   parts =
@@ -216,7 +216,7 @@ bad_behind a b x y left code m k = record {
       );
 }
 
-pub behind : (a b : Form) (x y : List ℕ) (left : ℕ) (code : ReadCode) → Moves a x b y → FormFault b y left code → FormFault a x left code
-behind a b x y left code m (ends c l k) = ends c l (cut_behind a b x y m k)
-behind a b x y left code m (stops k) = stops (bad_behind a b x y left code m k)
-behind a b x y left code m (trails c h rest k bare some l) = trails c h rest (moves_then a b (Whole h) x y rest m k) bare some l
+pub behind : {a b : Form} {x y : List ℕ} {left : ℕ} {code : ReadCode} → Moves a x b y → FormFault b y left code → FormFault a x left code
+behind {a = a} {b = b} {x = x} {y = y} m (ends c l k) = ends c l (cut_behind a b x y m k)
+behind {a = a} {b = b} {x = x} {y = y} {left = left} {code = code} m (stops k) = stops (bad_behind a b x y left code m k)
+behind m (trails c h rest k bare some l) = trails c h rest (moves_then m k) bare some l

@@ -38,7 +38,6 @@ fn bounds(bytes: &[u8]) -> Result<(u32, u32), Refusal>
 
 /// What became of a call that was accepted, by the number of the state.
 fn accept_stat(number: u32, bytes: &[u8]) -> Result<AcceptStat<'_>, Refusal>
-    requires { number < 6 }
     ensures ok { IfOk result (λ r. (xid : ℕ) (verf : AuthField)
         → Moves (accept_form xid verf number) bytes.now (Whole (Accepted xid verf (accept_of r))) (results_of r)) }
     ensures err { IfErr result (λ e. (xid : ℕ) (verf : AuthField)
