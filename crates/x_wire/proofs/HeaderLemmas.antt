@@ -1,6 +1,6 @@
 -- Headers are what the form of headers leads to; what is refused, and what is not.
 use Rattle.std.proofs.Common.{◌≡◌, ℕ, zero, suc, ◌+◌, ◌-◌, ◌*◌, ◌^◌, ◌<◌, ◌≤◌, List, [], ◌∷◌, ◌++◌, length, refl, sym, ◌∙◌, ap, subst, append_assoc, arith, inl, inr, lit<, Bool, true, false}
-use Rattle.std.specs.Prelude.{Some, None, Option, if◌then◌else◌, nat_lt, drop}
+use Rattle.std.specs.Prelude.{Some, None, Option, if◌then◌else◌, ◌==◌, nat_lt, drop}
 use Rattle.std.specs.Int.{from_be_bytes, w32}
 use Rattle.std.proofs.lemmas.List.{append-nil, length-append}
 use Rattle.std.proofs.lemmas.Bool.{cases_lt}
@@ -9,6 +9,12 @@ use Rattle.x_value.specs.declared.fault.ReadCode.TheVariants as codes
 use Rattle.x_value.specs.Readings.{IsByteList, are_zeros}
 use Rattle.x_value.proofs.Fronts.{cut_longer, append_is_nil}
 use Rattle.x_wire.specs.declared.messages.parts.TheConstants.{MOST_AUTH_BYTES}
+use Rattle.x_wire.specs.declared.messages.parts.AcceptStat.{AcceptStat}
+use Rattle.x_wire.specs.declared.messages.parts.AcceptStat.TheVariants as accepts
+use Rattle.x_wire.specs.declared.messages.parts.Reply.TheVariants as replies
+use Rattle.x_wire.specs.declared.messages.parts.Kind.{Kind}
+use Rattle.x_wire.specs.declared.messages.parts.Kind.TheVariants as kinds
+use Rattle.x_wire.specs.Messages.{auth_of, accept_of, results_of, header_of_kind, body_of_kind}
 use Rattle.x_wire.specs.Headers.{Auth, Accept, Success, ProgUnavail, ProgMismatch, ProcUnavail, GarbageArgs, SystemErr, Reject, RpcMismatch, AuthError, Header, Call, Accepted, Denied, Field, Number, State, Length, Body, AreFields, fields_bytes, header_fields, header_bytes, IsHeader, IsBare, IsMessage}
 use Rattle.x_wire.specs.HeaderFaults.{UnitKind, AnyUnit, StateUnit, LengthUnit, PaddedUnit, fields_units, unit_fault, BeginsHeader, NoFrontIsHeader, IsHeaderFault, trailing, bad_unit, cut_short}
 use Rattle.x_wire.specs.HeaderForms.{FieldKind, AnyNumber, AnyState, AnyLength, BodyOf, IsOf, Form, Whole, Next, Path, auth, number_form, state_form, length_form, body_form, auth_form, bounds_form, call_form, accept_form, accepted_form, reject_form, denied_form, reply_form, kind_form, header_form, Moves, BegunForm, BadForm, CutForm, FormFault, ends, stops, trails}
@@ -295,3 +301,59 @@ one_answer_lem bytes h body at code m (trailing c k) =
     omega arith
 one_answer_lem bytes h body at code m (bad_unit k) = k.none h body m.fits m.parts
 one_answer_lem bytes h body at code m (cut_short c k) = k.none h body m.fits m.parts
+
+-- ---- parts of replies
+
+pub some_left : (xs : List ℕ) (b : Bool) → b ≡ (length xs == 0) → b ≡ false → 0 < length xs
+some_left [] b e h = absurd cc
+some_left (x ∷ xs) b e h = omega arith
+
+-- of a state that ends its header
+pub accept_ends : (xid : ℕ) (verf : Auth) (n left : ℕ) (bytes : List ℕ) (code : ReadCode) → (n ≡ 0 → ⊥) → (n ≡ 2 → ⊥) → ((h : Header) → IsBare h → FormFault (Whole h) bytes left code) →
+    FormFault (accept_form xid verf n) bytes left code
+accept_ends xid verf zero left bytes code a b f = absurd (a refl)
+accept_ends xid verf (suc zero) left bytes code a b f = f (Accepted xid verf ProgUnavail) tt
+accept_ends xid verf (suc (suc zero)) left bytes code a b f = absurd (b refl)
+accept_ends xid verf (suc (suc (suc zero))) left bytes code a b f = f (Accepted xid verf ProcUnavail) tt
+accept_ends xid verf (suc (suc (suc (suc zero)))) left bytes code a b f = f (Accepted xid verf GarbageArgs) tt
+accept_ends xid verf (suc (suc (suc (suc (suc n))))) left bytes code a b f = f (Accepted xid verf SystemErr) tt
+
+abbrev pub by_reason : ℕ → ℕ → Form
+by_reason xid stat = Whole (Denied xid (AuthError stat))
+
+pub reject_other : (xid n : ℕ) → (n ≡ 0 → ⊥) → reject_form xid n ≡ number_form (λ stat. by_reason xid stat)
+reject_other xid zero h = absurd (h refl)
+reject_other xid (suc n) h = refl
+
+pub reply_other : (xid n : ℕ) → (n ≡ 0 → ⊥) → reply_form xid n ≡ denied_form xid
+reply_other xid zero h = absurd (h refl)
+reply_other xid (suc n) h = refl
+
+pub kind_other : (xid n : ℕ) → (n ≡ 0 → ⊥) → kind_form xid n ≡ state_form 1 (λ n. reply_form xid n)
+kind_other xid zero h = absurd (h refl)
+kind_other xid (suc n) h = refl
+
+-- the form that a number chooses
+pub fault_at : (f : ℕ → Form) (n m left : ℕ) (bytes : List ℕ) (code : ReadCode) → n ≡ m → FormFault (f m) bytes left code → FormFault (f n) bytes left code
+fault_at f n m left bytes code e h = subst (λ t. FormFault (f t) bytes left code) (sym e) h
+
+pub fault_of_form : (a b : Form) (left : ℕ) (bytes : List ℕ) (code : ReadCode) → a ≡ b → FormFault b bytes left code → FormFault a bytes left code
+fault_of_form a b left bytes code e h = subst (λ t. FormFault t bytes left code) (sym e) h
+
+pub moves_of_form : (a b on : Form) (bytes rest : List ℕ) → a ≡ b → Moves b bytes on rest → Moves a bytes on rest
+moves_of_form a b on bytes rest e h = subst (λ t. Moves t bytes on rest) (sym e) h
+
+-- ---- where no body stands
+
+bare_accept : (xid : ℕ) (verf : Auth) (s : AcceptStat) → IsBare (Accepted xid verf (accept_of s)) → results_of s ≡ []
+bare_accept xid verf (accepts.Success body) b = absurd b
+bare_accept xid verf accepts.ProgUnavail b = refl
+bare_accept xid verf (accepts.ProgMismatch low high) b = refl
+bare_accept xid verf accepts.ProcUnavail b = refl
+bare_accept xid verf accepts.GarbageArgs b = refl
+bare_accept xid verf accepts.SystemErr b = refl
+
+pub bare_body : (xid : ℕ) (kind : Kind) → IsBare (header_of_kind xid kind) → body_of_kind kind ≡ []
+bare_body xid (kinds.Call call) b = absurd b
+bare_body xid (kinds.Reply (replies.Accepted verf stat)) b = bare_accept xid (auth_of verf) stat b
+bare_body xid (kinds.Reply (replies.Denied stat)) b = refl
