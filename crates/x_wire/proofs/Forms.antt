@@ -192,6 +192,10 @@ cut_behind a b x y m k = record {
   begun = begun_behind a b m.fields k.front m.path k.begun;
 }
 
+units_behind : (ps fs more : List Field) (before after : List UnitKind) (kind : UnitKind) → fs ≡ ps ++ more → fields_units more ≡ before ++ (kind ∷ after) → fields_units fs ≡ (fields_units ps ++ before) ++ (kind ∷ after)
+units_behind ps fs more before after kind e h =
+    ap (λ t. fields_units t) e ∙ fields_units-append ps more ∙ ap (λ t. fields_units ps ++ t) h ∙ sym (append_assoc (fields_units ps) before (kind ∷ after))
+
 bad_behind : (a b : Form) (x y : List ℕ) (left : ℕ) (code : ReadCode) → Moves a x b y → BadForm b y left code → BadForm a x left code
 bad_behind a b x y left code m k = record {
   front = fields_bytes m.fields ++ k.front;
@@ -210,7 +214,7 @@ bad_behind a b x y left code m k = record {
         fields_units m.fields ++ why.0,
         why.1,
         why.2,
-        ap (λ t. fields_units t) r.same ∙ fields_units-append m.fields r.more ∙ ap (λ t. fields_units m.fields ++ t) why.3 ∙ sym (append_assoc (fields_units m.fields) why.0 (why.1 ∷ why.2)),
+        units_behind m.fields fs r.more why.0 why.2 why.1 r.same why.3,
         (let l = length-append (fields_bytes m.fields) k.front in let u = length-append (fields_units m.fields) why.0 in let w : length k.front ≡ 4 * length why.0 = why.4 in let f = fields_fill m.fields in omega arith),
         why.5,
       );

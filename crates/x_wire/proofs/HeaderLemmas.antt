@@ -36,10 +36,34 @@ reject_path xid (RpcMismatch low high) h = (h.0, ((refl, lit< tt, lit< tt), ((re
 reject_path xid (AuthError stat) h = (h.0, ((refl, lit< tt, lit< tt), ((refl, lit< tt, lit< tt), ((refl, lit< tt, lit< tt), (h.1.1.1.1.0, refl)))))
 
 pub header_path : (h : Header) → IsHeader h → Path header_form (header_fields h) (Whole h)
-header_path (Call xid r p v q c w) h =
-    (h.0, ((refl, lit< tt, lit< tt), (h.1.1.0, (h.1.1.1.0, (h.1.1.1.1.0, (h.1.1.1.1.1.0,
-    (h.1.1.1.1.1.1.0, (h.1.1.1.1.1.1.1.0, ((refl, h.1.1.1.1.1.1.1.1.0),
-    (h.1.1.1.1.1.1.1.1.1.0, (h.1.1.1.1.1.1.1.1.1.1.0, ((refl, h.1.1.1.1.1.1.1.1.1.1.1.0), refl))))))))))))
+header_path (Call xid r p v q c w) h = (
+  h.0,
+  (
+    (refl, lit< tt, lit< tt),
+    (
+      h.1.1.0,
+      (
+        h.1.1.1.0,
+        (
+          h.1.1.1.1.0,
+          (
+            h.1.1.1.1.1.0,
+            (
+              h.1.1.1.1.1.1.0,
+              (
+                h.1.1.1.1.1.1.1.0,
+                (
+                  (refl, h.1.1.1.1.1.1.1.1.0),
+                  (h.1.1.1.1.1.1.1.1.1.0, (h.1.1.1.1.1.1.1.1.1.1.0, ((refl, h.1.1.1.1.1.1.1.1.1.1.1.0), refl))),
+                ),
+              ),
+            ),
+          ),
+        ),
+      ),
+    ),
+  ),
+)
 header_path (Accepted xid verf a) h = accept_path xid verf a h
 header_path (Denied xid r) h = reject_path xid r h
 

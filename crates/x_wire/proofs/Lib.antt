@@ -1,3 +1,4 @@
 pub mod Forms
 pub mod HeaderLemmas
 pub mod Leaves
+pub mod OneFault

@@ -43,8 +43,10 @@ header_units h = fields_units (header_fields h)
 -- why four bytes may not be such a unit, if they may not
 abbrev pub unit_fault : UnitKind → List ℕ → Option ReadCode
 unit_fault AnyUnit bytes = None
-unit_fault (StateUnit count) bytes = if nat_lt (from_be_bytes w32 bytes) count then None else Some codes.BadEnum
-unit_fault LengthUnit bytes = if nat_lt MOST_AUTH_BYTES (from_be_bytes w32 bytes) then Some codes.TooMany else None
+unit_fault (StateUnit count) bytes =
+    if nat_lt (from_be_bytes w32 bytes) count then None else Some codes.BadEnum
+unit_fault LengthUnit bytes =
+    if nat_lt MOST_AUTH_BYTES (from_be_bytes w32 bytes) then Some codes.TooMany else None
 unit_fault (PaddedUnit k) bytes = if are_zeros (drop k bytes) then None else Some codes.BadPad
 
 -- ---- faults

@@ -5,5 +5,5 @@ mod messages;
 
 pub use messages::{
     AcceptStat, Auth, Call, Kind, MOST_AUTH_BYTES, Message, RejectStat, Reply, message, one_answer,
-    one_message,
+    one_fault, one_message,
 };

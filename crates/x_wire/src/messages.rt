@@ -5,6 +5,6 @@ mod laws;
 mod parts;
 mod reading;
 
-pub use laws::{one_answer, one_message};
+pub use laws::{one_answer, one_fault, one_message};
 pub use parts::{AcceptStat, Auth, Call, Kind, MOST_AUTH_BYTES, Message, RejectStat, Reply};
 pub use reading::message;

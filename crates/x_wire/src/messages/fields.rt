@@ -49,7 +49,8 @@ pub(super) fn number(bytes: &[u8]) -> Result<(u32, &[u8]), Refusal>
 /// A number of an enum that is numbered from 0 to the last.
 pub(super) fn state(last: u32, bytes: &[u8]) -> Result<(u32, &[u8]), Refusal>
     ensures ok { IfOk result (λ r. (on : ℕ → Form) → Moves (state_form last on) bytes.now (on r.0) r.1.now) }
-    ensures err { IfErr result (λ e. (on : ℕ → Form) → FormFault (state_form last on) bytes.now e.left e.code) }
+    ensures err { IfErr result (λ e. (on : ℕ → Form)
+        → FormFault (state_form last on) bytes.now e.left e.code) }
 {
     let Some((state, rest)) = word_at(bytes) else {
         return Err(CUT);
@@ -88,8 +89,10 @@ fn is_zeros(bytes: &[u8]) -> bool
 
 /// So many bytes, and what stands behind the zeros that fill their last unit up.
 fn body(length: u32, bytes: &[u8]) -> Result<(&[u8], &[u8]), Refusal>
-    ensures ok { IfOk result (λ r. (on : List ℕ → Form) → Moves (body_form length on) bytes.now (on r.0.now) r.1.now) }
-    ensures err { IfErr result (λ e. (on : List ℕ → Form) → FormFault (body_form length on) bytes.now e.left e.code) }
+    ensures ok { IfOk result (λ r. (on : List ℕ → Form)
+        → Moves (body_form length on) bytes.now (on r.0.now) r.1.now) }
+    ensures err { IfErr result (λ e. (on : List ℕ → Form)
+        → FormFault (body_form length on) bytes.now e.left e.code) }
 {
     let size = length as usize;
     let filled = (4 - size % 4) % 4;
@@ -109,8 +112,10 @@ fn body(length: u32, bytes: &[u8]) -> Result<(&[u8], &[u8]), Refusal>
 
 /// An authentication field.
 pub(super) fn auth(bytes: &[u8]) -> Result<(Auth<'_>, &[u8]), Refusal>
-    ensures ok { IfOk result (λ r. (on : AuthField → Form) → Moves (auth_form on) bytes.now (on (auth_of r.0)) r.1.now) }
-    ensures err { IfErr result (λ e. (on : AuthField → Form) → FormFault (auth_form on) bytes.now e.left e.code) }
+    ensures ok { IfOk result (λ r. (on : AuthField → Form)
+        → Moves (auth_form on) bytes.now (on (auth_of r.0)) r.1.now) }
+    ensures err { IfErr result (λ e. (on : AuthField → Form)
+        → FormFault (auth_form on) bytes.now e.left e.code) }
 {
     let (flavor, rest) = number(bytes)?;
     let (length, rest) = body_length(rest)?;

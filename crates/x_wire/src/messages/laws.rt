@@ -12,6 +12,12 @@ pub fn one_message()
 
 /// Bytes that are a message have no fault.
 pub fn one_answer()
-    ensures { (bytes : List ℕ) (h : Header) (body : List ℕ) (at : ℕ) (code : ReadCode) → IsMessage bytes h body
-        → IsHeaderFault bytes at code → ⊥ }
+    ensures { (bytes : List ℕ) (h : Header) (body : List ℕ) (at : ℕ) (code : ReadCode)
+        → IsMessage bytes h body → IsHeaderFault bytes at code → ⊥ }
+{}
+
+/// Bytes have one fault at the most.
+pub fn one_fault()
+    ensures { (bytes : List ℕ) (at at' : ℕ) (code code' : ReadCode) → IsHeaderFault bytes at code
+        → IsHeaderFault bytes at' code' → (at ≡ at') × (code ≡ code') }
 {}

@@ -26,7 +26,8 @@ fn end(bytes: &[u8]) -> Result<(), Refusal>
 
 /// The lowest and the highest version, at the end of a message.
 fn bounds(bytes: &[u8]) -> Result<(u32, u32), Refusal>
-    ensures ok { IfOk result (λ r. (on : ℕ → ℕ → Header) → Moves (bounds_form on) bytes.now (Whole (on r.0 r.1)) []) }
+    ensures ok { IfOk result (λ r. (on : ℕ → ℕ → Header)
+        → Moves (bounds_form on) bytes.now (Whole (on r.0 r.1)) []) }
     ensures err { IfErr result (λ e. (on : ℕ → ℕ → Header) → ((low high : ℕ) → IsBare (on low high))
         → FormFault (bounds_form on) bytes.now e.left e.code) }
 {
@@ -39,7 +40,8 @@ fn bounds(bytes: &[u8]) -> Result<(u32, u32), Refusal>
 /// What became of a call that was accepted, by the number of the state.
 fn accept_stat(number: u32, bytes: &[u8]) -> Result<AcceptStat<'_>, Refusal>
     ensures ok { IfOk result (λ r. (xid : ℕ) (verf : AuthField)
-        → Moves (accept_form xid verf number) bytes.now (Whole (Accepted xid verf (accept_of r))) (results_of r)) }
+        → Moves (accept_form xid verf number) bytes.now (Whole (Accepted xid verf (accept_of r)))
+        (results_of r)) }
     ensures err { IfErr result (λ e. (xid : ℕ) (verf : AuthField)
         → FormFault (accept_form xid verf number) bytes.now e.left e.code) }
 {
@@ -73,7 +75,8 @@ fn accepted(bytes: &[u8]) -> Result<Reply<'_>, Refusal>
 
 /// Why a call was denied, by the number of the reason.
 fn reject_stat(reason: u32, bytes: &[u8]) -> Result<RejectStat, Refusal>
-    ensures ok { IfOk result (λ r. (xid : ℕ) → Moves (reject_form xid reason) bytes.now (Whole (Denied xid (reject_of r))) []) }
+    ensures ok { IfOk result (λ r. (xid : ℕ)
+        → Moves (reject_form xid reason) bytes.now (Whole (Denied xid (reject_of r))) []) }
     ensures err { IfErr result (λ e. (xid : ℕ) → FormFault (reject_form xid reason) bytes.now e.left e.code) }
 {
     if reason == 0 {
@@ -125,7 +128,11 @@ fn reply(number: u32, bytes: &[u8]) -> Result<Reply<'_>, Refusal>
         → Moves (reply_form xid number) bytes.now (Whole (header_of_reply xid r)) (body_of_reply r)) }
     ensures err { IfErr result (λ e. (xid : ℕ) → FormFault (reply_form xid number) bytes.now e.left e.code) }
 {
-    if number == 0 { accepted(bytes) } else { denied(bytes) }
+    if number == 0 {
+        accepted(bytes)
+    } else {
+        denied(bytes)
+    }
 }
 
 /// A call or a reply, by the number of its type.
@@ -152,9 +159,14 @@ fn whole(bytes: &[u8]) -> Result<Message<'_>, Refusal>
     Ok(Message { xid, kind })
 }
 
-/// The message that the bytes are (RFC 5531, section 9), or the place and the reason of their refusal: [`ReadCode::Trailing`] for
-/// bytes behind a reply that is no success; `BadEnum`, `TooMany` or `BadPad` for the first unit of four bytes that cannot stand
-/// where it stands; else `Short`.
+/// The message that the bytes are (RFC 5531, section 9). The body of a call, or of a reply that is a success, is
+/// all that stands behind its header.
+///
+/// # Errors
+///
+/// The place, in bytes from the first, and the reason of a refusal: [`ReadCode::Trailing`] where bytes stand
+/// behind a reply that is no success; else [`ReadCode::BadEnum`], [`ReadCode::TooMany`] or [`ReadCode::BadPad`]
+/// at the first unit of four bytes to whose end the bytes begin no header; else [`ReadCode::Short`] at their end.
 pub fn message(bytes: &[u8]) -> Result<Message<'_>, ReadFault>
     ensures ok { IfOk result (λ m. IsMessage bytes.now (header_of m) (body_of m)) }
     ensures err { IfErr result (λ e. IsHeaderFault bytes.now e.at e.code) }
