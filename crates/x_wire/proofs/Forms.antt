@@ -1,16 +1,11 @@
 -- What forms lead to, and what is refused behind a front of one.
-use Rattle.std.proofs.Common.{◌≡◌, ℕ, zero, suc, ◌+◌, ◌-◌, ◌*◌, ◌^◌, ◌<◌, ◌≤◌, List, [], ◌∷◌, ◌++◌, length, refl, sym, ◌∙◌, ap, subst, append_assoc, arith, inl, inr, lit<}
-use Rattle.std.specs.Prelude.{Some}
+use Rattle.std.proofs.Common.{◌≡◌, ℕ, zero, suc, ◌+◌, ◌*◌, ◌<◌, List, [], ◌∷◌, ◌++◌, length, refl, sym, ◌∙◌, ap, subst, append_assoc, arith, lit<}
 use Rattle.std.proofs.lemmas.List.{append-nil, length-append}
-use Rattle.std.proofs.lemmas.Bool.{cases_lt}
 use Rattle.x_value.specs.declared.fault.ReadCode.{ReadCode}
-use Rattle.x_value.specs.declared.fault.ReadCode.TheVariants as codes
-use Rattle.x_value.specs.Readings.{IsByteList}
-use Rattle.x_value.specs.Values.{word, copies, padding}
+use Rattle.x_value.specs.Values.{copies, padding}
 use Rattle.x_value.proofs.Bytes.{word_length, word_cancel, body_cancel, body_length, copies_length, IsByteList-zeros}
-use Rattle.x_value.proofs.Fronts.{cut_longer, cut_same, append_is_nil}
-use Rattle.x_wire.specs.Headers.{Header, Field, Number, State, Length, Body, field_bytes, fields_bytes, IsBare}
-use Rattle.x_wire.specs.HeaderFaults.{UnitKind, PaddedUnit, AnyUnit, body_units, field_units, fields_units, unit_fault}
+use Rattle.x_wire.specs.Headers.{Header, Field, Number, State, Length, Body, field_bytes, fields_bytes}
+use Rattle.x_wire.specs.HeaderFaults.{UnitKind, body_units, field_units, fields_units}
 use Rattle.x_wire.specs.HeaderForms.{FieldKind, AnyNumber, AnyState, AnyLength, BodyOf, IsOf, Form, Whole, Next, Path, Moves, BegunForm, BadForm, CutForm, FormFault, ends, stops, trails}
 
 -- ---- fields

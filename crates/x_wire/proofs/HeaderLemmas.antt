@@ -17,7 +17,7 @@ use Rattle.x_wire.specs.declared.messages.parts.Kind.TheVariants as kinds
 use Rattle.x_wire.specs.Messages.{auth_of, accept_of, results_of, header_of_kind, body_of_kind}
 use Rattle.x_wire.specs.Headers.{Auth, Accept, Success, ProgUnavail, ProgMismatch, ProcUnavail, GarbageArgs, SystemErr, Reject, RpcMismatch, AuthError, Header, Call, Accepted, Denied, Field, Number, State, Length, Body, AreFields, fields_bytes, header_fields, header_bytes, IsHeader, IsBare, IsMessage}
 use Rattle.x_wire.specs.HeaderFaults.{UnitKind, AnyUnit, StateUnit, LengthUnit, PaddedUnit, fields_units, unit_fault, BeginsHeader, NoFrontIsHeader, IsHeaderFault, trailing, bad_unit, cut_short}
-use Rattle.x_wire.specs.HeaderForms.{FieldKind, AnyNumber, AnyState, AnyLength, BodyOf, IsOf, Form, Whole, Next, Path, auth, number_form, state_form, length_form, body_form, auth_form, bounds_form, call_form, accept_form, accepted_form, reject_form, denied_form, reply_form, kind_form, header_form, Moves, BegunForm, BadForm, CutForm, FormFault, ends, stops, trails}
+use Rattle.x_wire.specs.HeaderForms.{IsOf, Form, Whole, Next, Path, auth, number_form, state_form, length_form, body_form, auth_form, call_form, accept_form, reject_form, denied_form, reply_form, kind_form, header_form, Moves, BegunForm, BadForm, CutForm, FormFault, ends, stops, trails}
 use Rattle.x_wire.proofs.Forms.{fields_fill, one_path}
 
 -- ---- the fields of a header are a path

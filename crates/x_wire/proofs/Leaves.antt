@@ -1,21 +1,20 @@
 -- Words, bodies and their faults.
-use Rattle.std.proofs.Common.{◌≡◌, ℕ, zero, suc, ◌+◌, ◌-◌, ◌*◌, ◌/◌, ◌%◌, ◌^◌, ◌<◌, ◌≤◌, List, [], ◌∷◌, ◌++◌, length, refl, sym, ◌∙◌, ap, subst, append_assoc, arith, Bool, true, false, take, drop, get_or}
+use Rattle.std.proofs.Common.{◌≡◌, ℕ, zero, suc, ◌+◌, ◌-◌, ◌*◌, ◌/◌, ◌%◌, ◌^◌, ◌<◌, ◌≤◌, List, [], ◌∷◌, ◌++◌, length, refl, sym, ◌∙◌, ap, subst, append_assoc, arith, Bool, true, false, take, drop}
 use Rattle.std.specs.Prelude.{if◌then◌else◌, nat_lt, Option, Some, None}
-use Rattle.std.specs.Int.{from_be_bytes, w32}
 use Rattle.std.proofs.lemmas.Bool.Decides.{nat_tests}
-use Rattle.std.proofs.lemmas.List.{append-nil, length-append, take-append-drop, length-take, length-drop}
+use Rattle.std.proofs.lemmas.List.{length-append, take-append-drop, length-take, length-drop}
 use Rattle.std.proofs.Math.Seq.{drop-append_seam}
 use Rattle.x_value.specs.declared.fault.ReadCode.{ReadCode}
 use Rattle.x_value.specs.declared.fault.ReadCode.TheVariants as codes
 use Rattle.x_value.specs.Readings.{IsByteList, are_zeros}
 use Rattle.x_value.specs.Values.{word, copies, padding}
-use Rattle.x_value.proofs.Bytes.{word_length, word_from, copies_length, padding_least, zeros_true, zeros_copies, IsByteList_of, IsByteList-append, IsByteList-zeros, IsByteList-left, unit_full, pad_left}
+use Rattle.x_value.proofs.Bytes.{word_length, word_from, copies_length, padding_least, zeros_true, zeros_copies, IsByteList-append, IsByteList-zeros, IsByteList-left, pad_left}
 use Rattle.x_value.proofs.Fronts.{cut_same}
 use Rattle.x_wire.specs.declared.messages.parts.TheConstants.{MOST_AUTH_BYTES}
-use Rattle.x_wire.specs.Headers.{Header, Field, Number, State, Length, Body, field_bytes, fields_bytes, IsBare}
+use Rattle.x_wire.specs.Headers.{Header, Field, Number, State, Length, Body, field_bytes, fields_bytes}
 use Rattle.x_wire.specs.HeaderFaults.{UnitKind, AnyUnit, StateUnit, LengthUnit, PaddedUnit, body_units, field_units, fields_units, unit_fault}
-use Rattle.x_wire.specs.HeaderForms.{FieldKind, AnyNumber, AnyState, AnyLength, BodyOf, IsOf, Form, Whole, Next, Path, number_form, state_form, length_form, body_form, bytes_in, Moves, BegunForm, BadForm, CutForm, FormFault, ends, stops, trails}
-use Rattle.x_wire.proofs.Forms.{some_field, some_field_is, begun_field, moves_one, moves_nowhere}
+use Rattle.x_wire.specs.HeaderForms.{FieldKind, AnyNumber, AnyState, AnyLength, BodyOf, IsOf, Form, Whole, Next, Path, number_form, state_form, length_form, body_form, bytes_in, Moves, BegunForm, BadForm, CutForm, FormFault, ends, stops}
+use Rattle.x_wire.proofs.Forms.{some_field, some_field_is, begun_field, moves_one}
 
 abbrev no_code : Option ReadCode
 no_code = None

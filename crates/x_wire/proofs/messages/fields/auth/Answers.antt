@@ -1,4 +1,4 @@
-use Rattle.std.proofs.Common.{ℕ, List}
+use Rattle.std.proofs.Common.{ℕ}
 use Rattle.std.proofs.lemmas.Result.{err_from_is_err_and}
 use Rattle.x_wire.specs.Headers.{Auth}
 use Rattle.x_wire.specs.HeaderForms.{Form, auth, length_form, body_form}

@@ -1,4 +1,3 @@
-use Rattle.std.proofs.Common.{arith}
 use Rattle.x_wire.proofs.Leaves.{length_moves, length_cut, length_bad}
 use Rattle.x_wire.proofs.messages.fields.body_length.Goals as goal
 

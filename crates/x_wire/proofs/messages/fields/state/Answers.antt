@@ -1,4 +1,3 @@
-use Rattle.std.proofs.Common.{arith}
 use Rattle.x_wire.proofs.Leaves.{state_moves, state_cut, state_bad}
 use Rattle.x_wire.proofs.messages.fields.state.Goals as goal
 

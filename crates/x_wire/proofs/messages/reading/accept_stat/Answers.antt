@@ -1,4 +1,3 @@
-use Rattle.std.proofs.Common.{arith}
 use Rattle.std.proofs.lemmas.Result.{err_from_is_err_and}
 use Rattle.x_wire.specs.Headers.{Accepted, ProgMismatch}
 use Rattle.x_wire.specs.HeaderForms.{accept_form}

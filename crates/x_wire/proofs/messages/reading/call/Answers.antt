@@ -1,4 +1,3 @@
-use Rattle.std.proofs.Common.{ℕ, ◌++◌, List}
 use Rattle.std.proofs.lemmas.Result.{err_from_is_err_and}
 use Rattle.x_wire.specs.Headers.{Call}
 use Rattle.x_wire.specs.HeaderForms.{Whole}
