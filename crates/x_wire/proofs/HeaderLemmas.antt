@@ -15,14 +15,14 @@ use Rattle.x_wire.specs.declared.messages.parts.Reply.TheVariants as replies
 use Rattle.x_wire.specs.declared.messages.parts.Kind.{Kind}
 use Rattle.x_wire.specs.declared.messages.parts.Kind.TheVariants as kinds
 use Rattle.x_wire.specs.Messages.{auth_of, accept_of, results_of, header_of_kind, body_of_kind}
-use Rattle.x_wire.specs.Headers.{Auth, Accept, Success, ProgUnavail, ProgMismatch, ProcUnavail, GarbageArgs, SystemErr, Reject, RpcMismatch, AuthError, Header, Call, Accepted, Denied, Field, Number, State, Length, Body, AreFields, fields_bytes, header_fields, header_bytes, IsHeader, IsBare, IsMessage}
+use Rattle.x_wire.specs.Headers.{Auth, Accept, Success, ProgUnavail, ProgMismatch, ProcUnavail, GarbageArgs, SystemErr, Reject, RpcMismatch, AuthError, Header, Call, Accepted, Denied, HeaderField, Number, State, Length, Body, AreHeaderFields, fields_bytes, header_fields, header_bytes, IsHeader, IsBare, IsMessage}
 use Rattle.x_wire.specs.HeaderFaults.{UnitKind, AnyUnit, StateUnit, LengthUnit, PaddedUnit, fields_units, unit_fault, BeginsHeader, NoFrontIsHeader, IsHeaderFault, trailing, bad_unit, cut_short}
-use Rattle.x_wire.specs.HeaderForms.{IsOf, Form, Whole, Next, Path, auth, number_form, state_form, length_form, body_form, auth_form, call_form, accept_form, reject_form, denied_form, reply_form, kind_form, header_form, Moves, BegunForm, BadForm, CutForm, FormFault, ends, stops, trails}
+use Rattle.x_wire.specs.HeaderForms.{IsOfKind, HeaderForm, Whole, Next, Path, auth, number_form, state_form, length_form, body_form, auth_form, call_form, accept_form, reject_form, denied_form, reply_form, kind_form, header_form, Reads, BegunForm, BadForm, CutForm, FormFault, ends, stops, trails}
 use Rattle.x_wire.proofs.Forms.{fields_fill, one_path}
 
 -- ---- the fields of a header are a path
 
-accept_path : (xid : ℕ) (verf : Auth) (a : Accept) → AreFields (header_fields (Accepted xid verf a)) → Path header_form (header_fields (Accepted xid verf a)) (Whole (Accepted xid verf a))
+accept_path : (xid : ℕ) (verf : Auth) (a : Accept) → AreHeaderFields (header_fields (Accepted xid verf a)) → Path header_form (header_fields (Accepted xid verf a)) (Whole (Accepted xid verf a))
 accept_path xid verf Success h = (h.0, ((refl, lit< tt, lit< tt), ((refl, lit< tt, lit< tt), (h.1.1.1.0, (h.1.1.1.1.0, ((refl, h.1.1.1.1.1.0), ((refl, lit< tt, lit< tt), refl)))))))
 accept_path xid verf ProgUnavail h = (h.0, ((refl, lit< tt, lit< tt), ((refl, lit< tt, lit< tt), (h.1.1.1.0, (h.1.1.1.1.0, ((refl, h.1.1.1.1.1.0), ((refl, lit< tt, lit< tt), refl)))))))
 accept_path xid verf (ProgMismatch low high) h =
@@ -31,7 +31,7 @@ accept_path xid verf ProcUnavail h = (h.0, ((refl, lit< tt, lit< tt), ((refl, li
 accept_path xid verf GarbageArgs h = (h.0, ((refl, lit< tt, lit< tt), ((refl, lit< tt, lit< tt), (h.1.1.1.0, (h.1.1.1.1.0, ((refl, h.1.1.1.1.1.0), ((refl, lit< tt, lit< tt), refl)))))))
 accept_path xid verf SystemErr h = (h.0, ((refl, lit< tt, lit< tt), ((refl, lit< tt, lit< tt), (h.1.1.1.0, (h.1.1.1.1.0, ((refl, h.1.1.1.1.1.0), ((refl, lit< tt, lit< tt), refl)))))))
 
-reject_path : (xid : ℕ) (r : Reject) → AreFields (header_fields (Denied xid r)) → Path header_form (header_fields (Denied xid r)) (Whole (Denied xid r))
+reject_path : (xid : ℕ) (r : Reject) → AreHeaderFields (header_fields (Denied xid r)) → Path header_form (header_fields (Denied xid r)) (Whole (Denied xid r))
 reject_path xid (RpcMismatch low high) h = (h.0, ((refl, lit< tt, lit< tt), ((refl, lit< tt, lit< tt), ((refl, lit< tt, lit< tt), (h.1.1.1.1.0, (h.1.1.1.1.1.0, refl))))))
 reject_path xid (AuthError stat) h = (h.0, ((refl, lit< tt, lit< tt), ((refl, lit< tt, lit< tt), ((refl, lit< tt, lit< tt), (h.1.1.1.1.0, refl)))))
 
@@ -70,11 +70,11 @@ header_path (Denied xid r) h = reject_path xid r h
 -- ---- each path is the fields of a header
 
 -- whatever the form leads to is a header whose fields begin with these
-Leads : Form → List Field → Type 0
+Leads : HeaderForm → List HeaderField → Type 0
 Leads (Whole h) before = IsHeader h × (header_fields h ≡ before)
-Leads (Next k f) before = (g : Field) → IsOf k g → Leads (f g) (before ++ (g ∷ []))
+Leads (Next k f) before = (g : HeaderField) → IsOfKind k g → Leads (f g) (before ++ (g ∷ []))
 
-leads_path : (form : Form) (before fs : List Field) (h : Header) → Leads form before → Path form fs (Whole h) → IsHeader h × (header_fields h ≡ before ++ fs)
+leads_path : (form : HeaderForm) (before fs : List HeaderField) (h : Header) → Leads form before → Path form fs (Whole h) → IsHeader h × (header_fields h ≡ before ++ fs)
 unfolding Leads
 leads_path (Whole a) before [] h l p =
     let is : a ≡ h = cc in
@@ -85,14 +85,14 @@ leads_path (Next k n) before (f ∷ fs) h l p =
     let on = leads_path (n f) (before ++ (f ∷ [])) fs h (l f p.0) p.1 in
     (on.0, on.1 ∙ append_assoc before (f ∷ []) fs)
 
-leads_number : (on : ℕ → Form) (before : List Field) → ((n : ℕ) → n < 2 ^ 32 → Leads (on n) (before ++ (Number n ∷ []))) → Leads (number_form on) before
+leads_number : (on : ℕ → HeaderForm) (before : List HeaderField) → ((n : ℕ) → n < 2 ^ 32 → Leads (on n) (before ++ (Number n ∷ []))) → Leads (number_form on) before
 unfolding Leads
 leads_number on before l (Number n) o = l n o
 leads_number on before l (State c n) o = absurd o
 leads_number on before l (Length n) o = absurd o
 leads_number on before l (Body bs) o = absurd o
 
-leads_state : (last : ℕ) (on : ℕ → Form) (before : List Field) → ((n : ℕ) → n < suc last → Leads (on n) (before ++ (State (suc last) n ∷ []))) → Leads (state_form last on) before
+leads_state : (last : ℕ) (on : ℕ → HeaderForm) (before : List HeaderField) → ((n : ℕ) → n < suc last → Leads (on n) (before ++ (State (suc last) n ∷ []))) → Leads (state_form last on) before
 unfolding Leads
 leads_state last on before l (Number n) o = absurd o
 leads_state last on before l (State c n) o =
@@ -100,21 +100,21 @@ leads_state last on before l (State c n) o =
 leads_state last on before l (Length n) o = absurd o
 leads_state last on before l (Body bs) o = absurd o
 
-leads_length : (on : ℕ → Form) (before : List Field) → ((n : ℕ) → n ≤ MOST_AUTH_BYTES → Leads (on n) (before ++ (Length n ∷ []))) → Leads (length_form on) before
+leads_length : (on : ℕ → HeaderForm) (before : List HeaderField) → ((n : ℕ) → n ≤ MOST_AUTH_BYTES → Leads (on n) (before ++ (Length n ∷ []))) → Leads (length_form on) before
 unfolding Leads
 leads_length on before l (Number n) o = absurd o
 leads_length on before l (State c n) o = absurd o
 leads_length on before l (Length n) o = l n o
 leads_length on before l (Body bs) o = absurd o
 
-leads_body : (n : ℕ) (on : List ℕ → Form) (before : List Field) → ((bs : List ℕ) → length bs ≡ n → IsByteList bs → Leads (on bs) (before ++ (Body bs ∷ []))) → Leads (body_form n on) before
+leads_body : (n : ℕ) (on : List ℕ → HeaderForm) (before : List HeaderField) → ((bs : List ℕ) → length bs ≡ n → IsByteList bs → Leads (on bs) (before ++ (Body bs ∷ []))) → Leads (body_form n on) before
 unfolding Leads
 leads_body n on before l (Number m) o = absurd o
 leads_body n on before l (State c m) o = absurd o
 leads_body n on before l (Length m) o = absurd o
 leads_body n on before l (Body bs) o = l bs o.0 o.1
 
-leads_auth : (on : Auth → Form) (before : List Field) →
+leads_auth : (on : Auth → HeaderForm) (before : List HeaderField) →
     ((a : Auth) → a.flavor < 2 ^ 32 → length a.body ≤ MOST_AUTH_BYTES → IsByteList a.body → Leads (on a) (((before ++ (Number a.flavor ∷ [])) ++ (Length (length a.body) ∷ [])) ++ (Body a.body ∷ []))) → Leads (auth_form on) before
 leads_auth on before l =
     leads_number (λ flavor. length_form (λ n. body_form n (λ bs. on (auth flavor bs)))) before (λ flavor lf.
@@ -123,24 +123,24 @@ leads_auth on before l =
     subst (λ t. Leads (on (auth flavor bs)) (((before ++ (Number flavor ∷ [])) ++ (Length t ∷ [])) ++ (Body bs ∷ []))) long
     (l (auth flavor bs) lf (subst (λ t. t ≤ MOST_AUTH_BYTES) (sym long) ln) fit))))
 
-leads_whole : (h : Header) (before : List Field) → IsHeader h → header_fields h ≡ before → Leads (Whole h) before
+leads_whole : (h : Header) (before : List HeaderField) → IsHeader h → header_fields h ≡ before → Leads (Whole h) before
 unfolding Leads
 leads_whole h before fit e = (fit, e)
 
 -- what stands behind the fields of a call
-abbrev pub by_cred : ℕ → ℕ → ℕ → ℕ → ℕ → Auth → Form
+abbrev pub by_cred : ℕ → ℕ → ℕ → ℕ → ℕ → Auth → HeaderForm
 by_cred xid rpcvers prog vers proc cred = auth_form (λ verf. Whole (Call xid rpcvers prog vers proc cred verf))
 
-abbrev pub by_proc : ℕ → ℕ → ℕ → ℕ → ℕ → Form
+abbrev pub by_proc : ℕ → ℕ → ℕ → ℕ → ℕ → HeaderForm
 by_proc xid rpcvers prog vers proc = auth_form (λ cred. by_cred xid rpcvers prog vers proc cred)
 
-abbrev pub by_vers : ℕ → ℕ → ℕ → ℕ → Form
+abbrev pub by_vers : ℕ → ℕ → ℕ → ℕ → HeaderForm
 by_vers xid rpcvers prog vers = number_form (λ proc. by_proc xid rpcvers prog vers proc)
 
-abbrev pub by_prog : ℕ → ℕ → ℕ → Form
+abbrev pub by_prog : ℕ → ℕ → ℕ → HeaderForm
 by_prog xid rpcvers prog = number_form (λ vers. by_vers xid rpcvers prog vers)
 
-abbrev pub by_rpcvers : ℕ → ℕ → Form
+abbrev pub by_rpcvers : ℕ → ℕ → HeaderForm
 by_rpcvers xid rpcvers = number_form (λ prog. by_prog xid rpcvers prog)
 
 call_leads : (xid : ℕ) → xid < 2 ^ 32 → Leads (call_form xid) (Number xid ∷ (State 2 0 ∷ []))
@@ -182,7 +182,7 @@ kind_leads xid lx (suc (suc n)) lt = absurd (omega arith)
 header_leads : Leads header_form []
 header_leads = leads_number (λ xid. state_form 1 (λ n. kind_form xid n)) [] (λ xid lx. leads_state 1 (λ n. kind_form xid n) _ (λ n ln. kind_leads xid lx n ln))
 
-path_header : (fs : List Field) (h : Header) → Path header_form fs (Whole h) → IsHeader h × (header_fields h ≡ fs)
+path_header : (fs : List HeaderField) (h : Header) → Path header_form fs (Whole h) → IsHeader h × (header_fields h ≡ fs)
 path_header fs h p = leads_path header_form [] fs h header_leads p
 
 -- ---- no header is a front of what is refused
@@ -191,7 +191,7 @@ between_units : (u y e : ℕ) → 4 * y ≡ 4 * u + e → 0 < e → e < 4 → �
 between_units u y e eq pos lt = omega arith
 
 -- of a proper front of a header nothing is a header
-within_begun : (form : Form) (front c : List ℕ) (fs : List Field) (h : Header) → BegunForm form front → Path form fs (Whole h) → front ≡ fields_bytes fs ++ c → ⊥
+within_begun : (form : HeaderForm) (front c : List ℕ) (fs : List HeaderField) (h : Header) → BegunForm form front → Path form fs (Whole h) → front ≡ fields_bytes fs ++ c → ⊥
 within_begun form front c fs h k p e =
     let same : fields_bytes fs ++ (c ++ k.rest) ≡ fields_bytes k.fields ++ [] = sym (append_assoc (fields_bytes fs) c k.rest) ∙ ap (λ t. t ++ k.rest) (sym e) ∙ k.parts ∙ sym (append-nil (fields_bytes k.fields)) in
     let none = append_is_nil c k.rest (one_path form fs k.fields h k.header (c ++ k.rest) [] p k.path same).1 in
@@ -199,7 +199,7 @@ within_begun form front c fs h k p e =
     let some = k.some in
     omega arith
 
-none_cut : (form : Form) (bytes : List ℕ) → CutForm form bytes → (fs : List Field) (h : Header) (rest : List ℕ) → Path form fs (Whole h) → bytes ≡ fields_bytes fs ++ rest → ⊥
+none_cut : (form : HeaderForm) (bytes : List ℕ) → CutForm form bytes → (fs : List HeaderField) (h : Header) (rest : List ℕ) → Path form fs (Whole h) → bytes ≡ fields_bytes fs ++ rest → ⊥
 none_cut form bytes k fs h rest p e =
     elim (cases_lt (length k.front) (length (fields_bytes fs))) [
       | inr le ↦ (let c = cut_longer (fields_bytes fs) rest k.front k.tail (sym e ∙ k.parts) le in within_begun form k.front c.0 fs h k.begun p c.1)
@@ -210,7 +210,7 @@ none_cut form bytes k fs h rest p e =
           between_units k.units (length (fields_units fs)) (length c.0) (sym (fields_fill fs) ∙ split ∙ ap (λ v. v + length c.0) k.whole) (omega arith) (let q = k.part in omega arith))
     ]
 
-none_bad : (form : Form) (bytes : List ℕ) (left : ℕ) (code : ReadCode) → BadForm form bytes left code → (fs : List Field) (h : Header) (rest : List ℕ) → Path form fs (Whole h) → bytes ≡ fields_bytes fs ++ rest → ⊥
+none_bad : (form : HeaderForm) (bytes : List ℕ) (left : ℕ) (code : ReadCode) → BadForm form bytes left code → (fs : List HeaderField) (h : Header) (rest : List ℕ) → Path form fs (Whole h) → bytes ≡ fields_bytes fs ++ rest → ⊥
 none_bad form bytes left code k fs h rest p e =
     let why = k.cause k.begun.rest k.begun.fields k.begun.header k.begun.path k.begun.parts in
     let place : length k.front ≡ 4 * length why.0 = why.4 in
@@ -232,7 +232,7 @@ begins_of front k =
     let is = path_header k.fields k.header k.path in
     (k.rest, k.header, is.0, k.parts ∙ ap (λ t. fields_bytes t) (sym is.1))
 
-no_front : (bytes : List ℕ) → ((fs : List Field) (h : Header) (rest : List ℕ) → Path header_form fs (Whole h) → bytes ≡ fields_bytes fs ++ rest → ⊥) → NoFrontIsHeader bytes
+no_front : (bytes : List ℕ) → ((fs : List HeaderField) (h : Header) (rest : List ℕ) → Path header_form fs (Whole h) → bytes ≡ fields_bytes fs ++ rest → ⊥) → NoFrontIsHeader bytes
 no_front bytes none h rest fit e = none (header_fields h) h rest (header_path h fit) e
 
 pub fault_is : (bytes : List ℕ) (left at : ℕ) (code : ReadCode) → FormFault header_form bytes left code → at ≡ length bytes - left → IsHeaderFault bytes at code
@@ -266,7 +266,7 @@ fault_is bytes left at code (trails c h rest k bare some l) place =
     let len : length bytes ≡ length (header_bytes h) + length rest = ap length parts ∙ length-append (header_bytes h) rest in
     trailing c (record { header = h; more = rest; fits = is.0; bare = bare; parts = parts; some = some; place = place ∙ omega arith })
 
-pub fault_within : (form : Form) (bytes : List ℕ) (left : ℕ) (code : ReadCode) → FormFault form bytes left code → left ≤ length bytes
+pub fault_within : (form : HeaderForm) (bytes : List ℕ) (left : ℕ) (code : ReadCode) → FormFault form bytes left code → left ≤ length bytes
 fault_within form bytes left code (ends c l k) = omega arith
 fault_within form bytes left code (stops k) = let p = k.place in let l = ap length k.parts ∙ length-append k.front (k.unit ++ k.rest) in omega arith
 fault_within form bytes left code (trails c h rest k bare some l) = let n = ap length k.parts ∙ length-append (fields_bytes k.fields) rest in omega arith
@@ -299,7 +299,7 @@ not_short e = cc
 not_trailing : codes.Trailing ≡ codes.NoMemory → ⊥
 not_trailing e = cc
 
-pub no_memory : (form : Form) (bytes : List ℕ) (left : ℕ) (code : ReadCode) → FormFault form bytes left code → code ≡ codes.NoMemory → ⊥
+pub no_memory : (form : HeaderForm) (bytes : List ℕ) (left : ℕ) (code : ReadCode) → FormFault form bytes left code → code ≡ codes.NoMemory → ⊥
 no_memory form bytes left code (ends c l k) e = not_short (sym c ∙ e)
 no_memory form bytes left code (stops k) e =
     let why = k.cause k.begun.rest k.begun.fields k.begun.header k.begun.path k.begun.parts in
@@ -308,7 +308,7 @@ no_memory form bytes left code (trails c h rest k bare some l) e = not_trailing 
 
 -- ---- messages
 
-pub message_is : (bytes : List ℕ) (h : Header) (body : List ℕ) → Moves header_form bytes (Whole h) body → (IsBare h → body ≡ []) → IsMessage bytes h body
+pub message_is : (bytes : List ℕ) (h : Header) (body : List ℕ) → Reads header_form bytes (Whole h) body → (IsBare h → body ≡ []) → IsMessage bytes h body
 message_is bytes h body m whole =
     let is = path_header m.fields h m.path in
     record { fits = is.0; parts = m.parts ∙ ap (λ t. fields_bytes t ++ body) (sym is.1); whole = whole }
@@ -342,7 +342,7 @@ accept_ends xid verf (suc (suc (suc zero))) left bytes code a b f = f (Accepted 
 accept_ends xid verf (suc (suc (suc (suc zero)))) left bytes code a b f = f (Accepted xid verf GarbageArgs) tt
 accept_ends xid verf (suc (suc (suc (suc (suc n))))) left bytes code a b f = f (Accepted xid verf SystemErr) tt
 
-abbrev pub by_reason : ℕ → ℕ → Form
+abbrev pub by_reason : ℕ → ℕ → HeaderForm
 by_reason xid stat = Whole (Denied xid (AuthError stat))
 
 pub reject_other : (xid n : ℕ) → (n ≡ 0 → ⊥) → reject_form xid n ≡ number_form (λ stat. by_reason xid stat)
@@ -358,14 +358,14 @@ kind_other xid zero h = absurd (h refl)
 kind_other xid (suc n) h = refl
 
 -- the form that a number chooses
-pub fault_at : (f : ℕ → Form) (n m left : ℕ) (bytes : List ℕ) (code : ReadCode) → n ≡ m → FormFault (f m) bytes left code → FormFault (f n) bytes left code
+pub fault_at : (f : ℕ → HeaderForm) (n m left : ℕ) (bytes : List ℕ) (code : ReadCode) → n ≡ m → FormFault (f m) bytes left code → FormFault (f n) bytes left code
 fault_at f n m left bytes code e h = subst (λ t. FormFault (f t) bytes left code) (sym e) h
 
-pub fault_of_form : (a b : Form) (left : ℕ) (bytes : List ℕ) (code : ReadCode) → a ≡ b → FormFault b bytes left code → FormFault a bytes left code
+pub fault_of_form : (a b : HeaderForm) (left : ℕ) (bytes : List ℕ) (code : ReadCode) → a ≡ b → FormFault b bytes left code → FormFault a bytes left code
 fault_of_form a b left bytes code e h = subst (λ t. FormFault t bytes left code) (sym e) h
 
-pub moves_of_form : (a b on : Form) (bytes rest : List ℕ) → a ≡ b → Moves b bytes on rest → Moves a bytes on rest
-moves_of_form a b on bytes rest e h = subst (λ t. Moves t bytes on rest) (sym e) h
+pub reads_of_form : (a b on : HeaderForm) (bytes rest : List ℕ) → a ≡ b → Reads b bytes on rest → Reads a bytes on rest
+reads_of_form a b on bytes rest e h = subst (λ t. Reads t bytes on rest) (sym e) h
 
 -- ---- where no body stands
 

@@ -11,10 +11,10 @@ use Rattle.x_value.specs.Values.{word, copies, padding}
 use Rattle.x_value.proofs.Bytes.{word_length, word_from, copies_length, padding_least, zeros_true, zeros_copies, IsByteList-append, IsByteList-zeros, IsByteList-left, pad_left}
 use Rattle.x_value.proofs.Fronts.{cut_same}
 use Rattle.x_wire.specs.declared.messages.parts.TheConstants.{MOST_AUTH_BYTES}
-use Rattle.x_wire.specs.Headers.{Header, Field, Number, State, Length, Body, field_bytes, fields_bytes}
+use Rattle.x_wire.specs.Headers.{Header, HeaderField, Number, State, Length, Body, field_bytes, fields_bytes}
 use Rattle.x_wire.specs.HeaderFaults.{UnitKind, AnyUnit, StateUnit, LengthUnit, PaddedUnit, body_units, field_units, fields_units, unit_fault}
-use Rattle.x_wire.specs.HeaderForms.{FieldKind, AnyNumber, AnyState, AnyLength, BodyOf, IsOf, Form, Whole, Next, Path, number_form, state_form, length_form, body_form, bytes_in, Moves, BegunForm, BadForm, CutForm, FormFault, ends, stops}
-use Rattle.x_wire.proofs.Forms.{some_field, some_field_is, begun_field, moves_one}
+use Rattle.x_wire.specs.HeaderForms.{FieldKind, AnyNumber, AnyState, AnyLength, BodyOf, IsOfKind, HeaderForm, Whole, Next, Path, number_form, state_form, length_form, body_form, bytes_in, Reads, BegunForm, BadForm, CutForm, FormFault, ends, stops}
+use Rattle.x_wire.proofs.Forms.{some_field, some_field_is, begun_field, reads_one}
 
 abbrev no_code : Option ReadCode
 no_code = None
@@ -26,14 +26,14 @@ none_some : (c : ReadCode) → no_code ≡ some_code c → ⊥
 none_some c e = cc
 
 -- the first field of what is to be read
-record First (k : FieldKind) (n : Field → Form) (fs : List Field) (h : Header) : Type 0 where
-  pub field : Field
-  pub more : List Field
+record First (k : FieldKind) (n : HeaderField → HeaderForm) (fs : List HeaderField) (h : Header) : Type 0 where
+  pub field : HeaderField
+  pub more : List HeaderField
   pub same : fs ≡ field ∷ more
-  pub of : IsOf k field
+  pub of : IsOfKind k field
   pub path : Path (n field) more (Whole h)
 
-first : (k : FieldKind) (n : Field → Form) (fs : List Field) (h : Header) → Path (Next k n) fs (Whole h) → First k n fs h
+first : (k : FieldKind) (n : HeaderField → HeaderForm) (fs : List HeaderField) (h : Header) → Path (Next k n) fs (Whole h) → First k n fs h
 first k n [] h p = absurd cc
 first k n (f ∷ fs) h p = record { field = f; more = fs; same = refl; of = p.0; path = p.1 }
 
@@ -41,11 +41,11 @@ first k n (f ∷ fs) h p = record { field = f; more = fs; same = refl; of = p.0;
 
 -- the fields of the kind are words, and each has this unit
 record IsWordKind (k : FieldKind) (u : UnitKind) : Type 0 where
-  pub wide : (g : Field) → IsOf k g → length (field_bytes g) ≡ 4
-  pub unit : (g : Field) → IsOf k g → field_units g ≡ u ∷ []
-  pub fine : (g : Field) → IsOf k g → unit_fault u (field_bytes g) ≡ no_code
+  pub wide : (g : HeaderField) → IsOfKind k g → length (field_bytes g) ≡ 4
+  pub unit : (g : HeaderField) → IsOfKind k g → field_units g ≡ u ∷ []
+  pub fine : (g : HeaderField) → IsOfKind k g → unit_fault u (field_bytes g) ≡ no_code
 
-word_cut : (k : FieldKind) (u : UnitKind) (n : Field → Form) (bytes : List ℕ) → IsWordKind k u → length bytes < 4 → CutForm (Next k n) bytes
+word_cut : (k : FieldKind) (u : UnitKind) (n : HeaderField → HeaderForm) (bytes : List ℕ) → IsWordKind k u → length bytes < 4 → CutForm (Next k n) bytes
 word_cut k u n bytes w short = record {
   front = [];
   tail = bytes;
@@ -56,7 +56,7 @@ word_cut k u n bytes w short = record {
   begun = begun_field k n (some_field k) [] (field_bytes (some_field k)) (some_field_is k) refl (let l = w.wide (some_field k) (some_field_is k) in omega arith);
 }
 
-word_bad : (k : FieldKind) (u : UnitKind) (n : Field → Form) (unit rest : List ℕ) (code : ReadCode) → IsWordKind k u → length unit ≡ 4 → unit_fault u unit ≡ some_code code →
+word_bad : (k : FieldKind) (u : UnitKind) (n : HeaderField → HeaderForm) (unit rest : List ℕ) (code : ReadCode) → IsWordKind k u → length unit ≡ 4 → unit_fault u unit ≡ some_code code →
     BadForm (Next k n) (unit ++ rest) (length (unit ++ rest)) code
 word_bad k u n unit rest code w wide fault = record {
   front = [];
@@ -98,13 +98,13 @@ lt_false a b h = grind (arith, nat_tests)
 
 -- numbers
 
-number_wide : (g : Field) → IsOf AnyNumber g → length (field_bytes g) ≡ 4
+number_wide : (g : HeaderField) → IsOfKind AnyNumber g → length (field_bytes g) ≡ 4
 number_wide (Number n) o = word_length n
 number_wide (State c n) o = absurd o
 number_wide (Length n) o = absurd o
 number_wide (Body bs) o = absurd o
 
-number_unit : (g : Field) → IsOf AnyNumber g → field_units g ≡ AnyUnit ∷ []
+number_unit : (g : HeaderField) → IsOfKind AnyNumber g → field_units g ≡ AnyUnit ∷ []
 number_unit (Number n) o = refl
 number_unit (State c n) o = absurd o
 number_unit (Length n) o = absurd o
@@ -113,21 +113,21 @@ number_unit (Body bs) o = absurd o
 number_kind : IsWordKind AnyNumber AnyUnit
 number_kind = record { wide = number_wide; unit = number_unit; fine = λ g o. refl }
 
-pub number_moves : (on : ℕ → Form) (n : ℕ) (bytes rest : List ℕ) → bytes ≡ word n ++ rest → n < 2 ^ 32 → Moves (number_form on) bytes (on n) rest
-number_moves on n bytes rest e lt = moves_one AnyNumber _ (Number n) bytes rest lt e
+pub number_reads : (on : ℕ → HeaderForm) (n : ℕ) (bytes rest : List ℕ) → bytes ≡ word n ++ rest → n < 2 ^ 32 → Reads (number_form on) bytes (on n) rest
+number_reads on n bytes rest e lt = reads_one AnyNumber _ (Number n) bytes rest lt e
 
-pub number_cut : (on : ℕ → Form) (bytes : List ℕ) → length bytes < 4 → FormFault (number_form on) bytes 0 codes.Short
+pub number_cut : (on : ℕ → HeaderForm) (bytes : List ℕ) → length bytes < 4 → FormFault (number_form on) bytes 0 codes.Short
 number_cut on bytes short = ends refl refl (word_cut AnyNumber AnyUnit _ bytes number_kind short)
 
 -- states
 
-state_wide : (last : ℕ) (g : Field) → IsOf (AnyState last) g → length (field_bytes g) ≡ 4
+state_wide : (last : ℕ) (g : HeaderField) → IsOfKind (AnyState last) g → length (field_bytes g) ≡ 4
 state_wide last (Number n) o = absurd o
 state_wide last (State c n) o = word_length n
 state_wide last (Length n) o = absurd o
 state_wide last (Body bs) o = absurd o
 
-state_unit : (last : ℕ) (g : Field) → IsOf (AnyState last) g → field_units g ≡ StateUnit (suc last) ∷ []
+state_unit : (last : ℕ) (g : HeaderField) → IsOfKind (AnyState last) g → field_units g ≡ StateUnit (suc last) ∷ []
 state_unit last (Number n) o = absurd o
 state_unit last (State c n) o = ap (λ t. StateUnit t ∷ []) o.0
 state_unit last (Length n) o = absurd o
@@ -136,7 +136,7 @@ state_unit last (Body bs) o = absurd o
 state_test : (count n : ℕ) → n < 2 ^ 32 → unit_fault (StateUnit count) (word n) ≡ (if nat_lt n count then no_code else some_code codes.BadEnum)
 state_test count n lt = ap (λ t. if nat_lt t count then no_code else some_code codes.BadEnum) (word_from n lt)
 
-state_fine : (last : ℕ) (g : Field) → IsOf (AnyState last) g → unit_fault (StateUnit (suc last)) (field_bytes g) ≡ no_code
+state_fine : (last : ℕ) (g : HeaderField) → IsOfKind (AnyState last) g → unit_fault (StateUnit (suc last)) (field_bytes g) ≡ no_code
 state_fine last (Number n) o = absurd o
 state_fine last (State c n) o =
     let lt : n < suc last = omega arith in
@@ -147,26 +147,26 @@ state_fine last (Body bs) o = absurd o
 state_kind : (last : ℕ) → IsWordKind (AnyState last) (StateUnit (suc last))
 state_kind last = record { wide = state_wide last; unit = state_unit last; fine = state_fine last }
 
-pub state_moves : (last : ℕ) (on : ℕ → Form) (n : ℕ) (bytes rest : List ℕ) → bytes ≡ word n ++ rest → n < 2 ^ 32 → n ≤ last → Moves (state_form last on) bytes (on n) rest
-state_moves last on n bytes rest e lt le = moves_one (AnyState last) _ (State (suc last) n) bytes rest (refl, omega arith, lt) e
+pub state_reads : (last : ℕ) (on : ℕ → HeaderForm) (n : ℕ) (bytes rest : List ℕ) → bytes ≡ word n ++ rest → n < 2 ^ 32 → n ≤ last → Reads (state_form last on) bytes (on n) rest
+state_reads last on n bytes rest e lt le = reads_one (AnyState last) _ (State (suc last) n) bytes rest (refl, omega arith, lt) e
 
-pub state_cut : (last : ℕ) (on : ℕ → Form) (bytes : List ℕ) → length bytes < 4 → FormFault (state_form last on) bytes 0 codes.Short
+pub state_cut : (last : ℕ) (on : ℕ → HeaderForm) (bytes : List ℕ) → length bytes < 4 → FormFault (state_form last on) bytes 0 codes.Short
 state_cut last on bytes short = ends refl refl (word_cut (AnyState last) (StateUnit (suc last)) _ bytes (state_kind last) short)
 
-pub state_bad : (last : ℕ) (on : ℕ → Form) (n : ℕ) (bytes rest : List ℕ) → bytes ≡ word n ++ rest → n < 2 ^ 32 → last < n → FormFault (state_form last on) bytes (length bytes) codes.BadEnum
+pub state_bad : (last : ℕ) (on : ℕ → HeaderForm) (n : ℕ) (bytes rest : List ℕ) → bytes ≡ word n ++ rest → n < 2 ^ 32 → last < n → FormFault (state_form last on) bytes (length bytes) codes.BadEnum
 state_bad last on n bytes rest e lt over =
     let fault : unit_fault (StateUnit (suc last)) (word n) ≡ some_code codes.BadEnum = state_test (suc last) n lt ∙ if_false (nat_lt n (suc last)) no_code (some_code codes.BadEnum) (lt_false n (suc last) (omega arith)) in
     stops (subst (λ t. BadForm (state_form last on) t (length t) codes.BadEnum) (sym e) (word_bad (AnyState last) (StateUnit (suc last)) _ (word n) rest codes.BadEnum (state_kind last) (word_length n) fault))
 
 -- lengths
 
-length_wide : (g : Field) → IsOf AnyLength g → length (field_bytes g) ≡ 4
+length_wide : (g : HeaderField) → IsOfKind AnyLength g → length (field_bytes g) ≡ 4
 length_wide (Number n) o = absurd o
 length_wide (State c n) o = absurd o
 length_wide (Length n) o = word_length n
 length_wide (Body bs) o = absurd o
 
-length_unit : (g : Field) → IsOf AnyLength g → field_units g ≡ LengthUnit ∷ []
+length_unit : (g : HeaderField) → IsOfKind AnyLength g → field_units g ≡ LengthUnit ∷ []
 length_unit (Number n) o = absurd o
 length_unit (State c n) o = absurd o
 length_unit (Length n) o = refl
@@ -175,7 +175,7 @@ length_unit (Body bs) o = absurd o
 length_test : (n : ℕ) → n < 2 ^ 32 → unit_fault LengthUnit (word n) ≡ (if nat_lt MOST_AUTH_BYTES n then some_code codes.TooMany else no_code)
 length_test n lt = ap (λ t. if nat_lt MOST_AUTH_BYTES t then some_code codes.TooMany else no_code) (word_from n lt)
 
-length_fine : (g : Field) → IsOf AnyLength g → unit_fault LengthUnit (field_bytes g) ≡ no_code
+length_fine : (g : HeaderField) → IsOfKind AnyLength g → unit_fault LengthUnit (field_bytes g) ≡ no_code
 length_fine (Number n) o = absurd o
 length_fine (State c n) o = absurd o
 length_fine (Length n) o =
@@ -185,13 +185,13 @@ length_fine (Body bs) o = absurd o
 length_kind : IsWordKind AnyLength LengthUnit
 length_kind = record { wide = length_wide; unit = length_unit; fine = length_fine }
 
-pub length_moves : (on : ℕ → Form) (n : ℕ) (bytes rest : List ℕ) → bytes ≡ word n ++ rest → n ≤ MOST_AUTH_BYTES → Moves (length_form on) bytes (on n) rest
-length_moves on n bytes rest e le = moves_one AnyLength _ (Length n) bytes rest le e
+pub length_reads : (on : ℕ → HeaderForm) (n : ℕ) (bytes rest : List ℕ) → bytes ≡ word n ++ rest → n ≤ MOST_AUTH_BYTES → Reads (length_form on) bytes (on n) rest
+length_reads on n bytes rest e le = reads_one AnyLength _ (Length n) bytes rest le e
 
-pub length_cut : (on : ℕ → Form) (bytes : List ℕ) → length bytes < 4 → FormFault (length_form on) bytes 0 codes.Short
+pub length_cut : (on : ℕ → HeaderForm) (bytes : List ℕ) → length bytes < 4 → FormFault (length_form on) bytes 0 codes.Short
 length_cut on bytes short = ends refl refl (word_cut AnyLength LengthUnit _ bytes length_kind short)
 
-pub length_bad : (on : ℕ → Form) (n : ℕ) (bytes rest : List ℕ) → bytes ≡ word n ++ rest → n < 2 ^ 32 → MOST_AUTH_BYTES < n → FormFault (length_form on) bytes (length bytes) codes.TooMany
+pub length_bad : (on : ℕ → HeaderForm) (n : ℕ) (bytes rest : List ℕ) → bytes ≡ word n ++ rest → n < 2 ^ 32 → MOST_AUTH_BYTES < n → FormFault (length_form on) bytes (length bytes) codes.TooMany
 length_bad on n bytes rest e lt over =
     let fault : unit_fault LengthUnit (word n) ≡ some_code codes.TooMany = length_test n lt ∙ if_true (nat_lt MOST_AUTH_BYTES n) (some_code codes.TooMany) no_code (lt_true MOST_AUTH_BYTES n over) in
     stops (subst (λ t. BadForm (length_form on) t (length t) codes.TooMany) (sym e) (word_bad AnyLength LengthUnit _ (word n) rest codes.TooMany length_kind (word_length n) fault))
@@ -199,15 +199,15 @@ length_bad on n bytes rest e lt over =
 -- ---- bodies
 
 -- the first field is a body of so many bytes
-record FirstBody (n : ℕ) (fs : List Field) : Type 0 where
+record FirstBody (n : ℕ) (fs : List HeaderField) : Type 0 where
   pub bs : List ℕ
-  pub more : List Field
+  pub more : List HeaderField
   pub same : fs ≡ Body bs ∷ more
   pub long : length bs ≡ n
   pub bytes : fields_bytes fs ≡ bs ++ (copies (padding n) 0 ++ fields_bytes more)
   pub units : fields_units fs ≡ body_units n ++ fields_units more
 
-first_body_of : (n : ℕ) (f : Field) (fs more : List Field) → IsOf (BodyOf n) f → fs ≡ f ∷ more → FirstBody n fs
+first_body_of : (n : ℕ) (f : HeaderField) (fs more : List HeaderField) → IsOfKind (BodyOf n) f → fs ≡ f ∷ more → FirstBody n fs
 first_body_of n (Number m) fs more o e = absurd o
 first_body_of n (State c m) fs more o e = absurd o
 first_body_of n (Length m) fs more o e = absurd o
@@ -221,18 +221,18 @@ first_body_of n (Body bs) fs more o e = record {
   units = ap (λ t. fields_units t) e ∙ ap (λ t. body_units t ++ fields_units more) o.0;
 }
 
-first_body : (n : ℕ) (f : Field → Form) (fs : List Field) (h : Header) → Path (Next (BodyOf n) f) fs (Whole h) → FirstBody n fs
+first_body : (n : ℕ) (f : HeaderField → HeaderForm) (fs : List HeaderField) (h : Header) → Path (Next (BodyOf n) f) fs (Whole h) → FirstBody n fs
 first_body n f fs h p = let one = first (BodyOf n) f fs h p in first_body_of n one.field fs one.more one.of one.same
 
-pub body_moves : (n : ℕ) (on : List ℕ → Form) (bs zeros rest bytes : List ℕ) → IsByteList bytes → bytes ≡ bs ++ (zeros ++ rest) → length bs ≡ n → length zeros ≡ padding n → are_zeros zeros ≡ true →
-    Moves (body_form n on) bytes (on bs) rest
-body_moves n on bs zeros rest bytes fit parts long some clear =
+pub body_reads : (n : ℕ) (on : List ℕ → HeaderForm) (bs zeros rest bytes : List ℕ) → IsByteList bytes → bytes ≡ bs ++ (zeros ++ rest) → length bs ≡ n → length zeros ≡ padding n → are_zeros zeros ≡ true →
+    Reads (body_form n on) bytes (on bs) rest
+body_reads n on bs zeros rest bytes fit parts long some clear =
     let same : zeros ≡ copies (padding (length bs)) 0 = zeros_copies (padding n) zeros some clear ∙ ap (λ t. copies (padding t) 0) (sym long) in
-    moves_one (BodyOf n) _ (Body bs) bytes rest (long, IsByteList-left bs (zeros ++ rest) (subst IsByteList parts fit))
+    reads_one (BodyOf n) _ (Body bs) bytes rest (long, IsByteList-left bs (zeros ++ rest) (subst IsByteList parts fit))
     (parts ∙ ap (λ t. bs ++ (t ++ rest)) same ∙ sym (append_assoc bs (copies (padding (length bs)) 0) rest))
 
 -- the front of a body of n bytes, cut where a unit ends
-body_begun : (n q : ℕ) (f : Field → Form) (a : List ℕ) → IsByteList a → length a ≡ 4 * q → 4 * q ≤ n → 4 * q < n + padding n → BegunForm (Next (BodyOf n) f) a
+body_begun : (n q : ℕ) (f : HeaderField → HeaderForm) (a : List ℕ) → IsByteList a → length a ≡ 4 * q → 4 * q ≤ n → 4 * q < n + padding n → BegunForm (Next (BodyOf n) f) a
 body_begun n q f a fit len small less =
     let zeros : length (copies {A = ℕ} (n - 4 * q) 0) ≡ n - 4 * q = copies_length (n - 4 * q) 0 in
     let pads : length (copies {A = ℕ} (padding n) 0) ≡ padding n = copies_length (padding n) 0 in
@@ -242,7 +242,7 @@ body_begun n q f a fit len small less =
     (sym (append_assoc a (copies (n - 4 * q) 0) (copies (padding n) 0)) ∙ ap (λ t. (a ++ copies (n - 4 * q) 0) ++ copies (padding t) 0) (sym long))
     (let l = length-append (copies {A = ℕ} (n - 4 * q) 0) (copies {A = ℕ} (padding n) 0) in omega arith)
 
-pub body_cut : (n : ℕ) (on : List ℕ → Form) (bytes : List ℕ) → IsByteList bytes → length bytes < n + padding n → FormFault (body_form n on) bytes 0 codes.Short
+pub body_cut : (n : ℕ) (on : List ℕ → HeaderForm) (bytes : List ℕ) → IsByteList bytes → length bytes < n + padding n → FormFault (body_form n on) bytes 0 codes.Short
 body_cut n on bytes fit short =
     let q : ℕ = length bytes / 4 in
     let cut : take (4 * q) bytes ++ drop (4 * q) bytes ≡ bytes = take-append-drop (4 * q) bytes in
@@ -277,7 +277,7 @@ drop_seam : (k : ℕ) (b p : List ℕ) → length b ≡ k → drop k (b ++ p) �
 drop_seam k b p e = ap (λ t. drop t (b ++ p)) (sym e) ∙ drop-append_seam b p
 
 -- the last unit of a body of n = 4 q + k bytes holds k of them, and then bad
-bad_unit_of : (n q k : ℕ) (f : Field → Form) (a b bad rest : List ℕ) → 4 * q + k ≡ n → IsByteList a → length a ≡ 4 * q → length b ≡ k → 0 < k → k < 4 → length bad ≡ padding n → k + padding n ≡ 4 → are_zeros bad ≡ false →
+bad_unit_of : (n q k : ℕ) (f : HeaderField → HeaderForm) (a b bad rest : List ℕ) → 4 * q + k ≡ n → IsByteList a → length a ≡ 4 * q → length b ≡ k → 0 < k → k < 4 → length bad ≡ padding n → k + padding n ≡ 4 → are_zeros bad ≡ false →
     BadForm (Next (BodyOf n) f) (a ++ ((b ++ bad) ++ rest)) (length ((b ++ bad) ++ rest)) codes.BadPad
 bad_unit_of n q k f a b bad rest is fit lena lenb pos small lenp four not_zero = record {
   front = a;
@@ -313,7 +313,7 @@ padded_four : (n : ℕ) → 0 < n % 4 → n % 4 + padding n ≡ 4
 unfolding padding
 padded_four n h = omega arith
 
-body_bad_of : (n q k : ℕ) (on : List ℕ → Form) (a b bad rest bytes : List ℕ) → bytes ≡ (a ++ b) ++ (bad ++ rest) → 4 * q + k ≡ n → IsByteList a → length a ≡ 4 * q → length b ≡ k → 0 < k → k < 4 → length bad ≡ padding n → k + padding n ≡ 4 → are_zeros bad ≡ false →
+body_bad_of : (n q k : ℕ) (on : List ℕ → HeaderForm) (a b bad rest bytes : List ℕ) → bytes ≡ (a ++ b) ++ (bad ++ rest) → 4 * q + k ≡ n → IsByteList a → length a ≡ 4 * q → length b ≡ k → 0 < k → k < 4 → length bad ≡ padding n → k + padding n ≡ 4 → are_zeros bad ≡ false →
     FormFault (body_form n on) bytes (length rest + 4) codes.BadPad
 body_bad_of n q k on a b bad rest bytes e is fit lena lenb pos small lenp four not_zero =
     let parts : a ++ ((b ++ bad) ++ rest) ≡ bytes = ap (λ t. a ++ t) (append_assoc b bad rest) ∙ sym (append_assoc a b (bad ++ rest)) ∙ sym e in
@@ -321,7 +321,7 @@ body_bad_of n q k on a b bad rest bytes e is fit lena lenb pos small lenp four n
     stops (subst (λ t. BadForm (body_form n on) t (length rest + 4) codes.BadPad) parts
     (subst (λ t. BadForm (body_form n on) (a ++ ((b ++ bad) ++ rest)) t codes.BadPad) left (bad_unit_of n q k (λ f. on (bytes_in f)) a b bad rest is fit lena lenb pos small lenp four not_zero)))
 
-pub body_bad : (n : ℕ) (on : List ℕ → Form) (bs bad rest bytes : List ℕ) → IsByteList bytes → bytes ≡ bs ++ (bad ++ rest) → length bs ≡ n → length bad ≡ padding n → are_zeros bad ≡ false →
+pub body_bad : (n : ℕ) (on : List ℕ → HeaderForm) (bs bad rest bytes : List ℕ) → IsByteList bytes → bytes ≡ bs ++ (bad ++ rest) → length bs ≡ n → length bad ≡ padding n → are_zeros bad ≡ false →
     FormFault (body_form n on) bytes (length rest + 4) codes.BadPad
 body_bad n on bs bad rest bytes fit parts long lenp not_zero =
     let some = some_bytes bad not_zero in

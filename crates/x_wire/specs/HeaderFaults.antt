@@ -5,7 +5,7 @@ use Rattle.x_value.specs.declared.fault.ReadCode.{ReadCode}
 use Rattle.x_value.specs.declared.fault.ReadCode.TheVariants as codes
 use Rattle.x_value.specs.Readings.{are_zeros}
 use Rattle.x_wire.specs.declared.messages.parts.TheConstants.{MOST_AUTH_BYTES}
-use Rattle.x_wire.specs.Headers.{Header, Field, Number, State, Length, Body, header_fields, header_bytes, IsHeader, IsBare}
+use Rattle.x_wire.specs.Headers.{Header, HeaderField, Number, State, Length, Body, header_fields, header_bytes, IsHeader, IsBare}
 
 -- ---- what each unit of four bytes in a header is
 
@@ -27,13 +27,13 @@ body_units (suc (suc zero)) = PaddedUnit 2 ∷ []
 body_units (suc (suc (suc zero))) = PaddedUnit 3 ∷ []
 body_units (suc (suc (suc (suc n)))) = AnyUnit ∷ body_units n
 
-abbrev pub field_units : Field → List UnitKind
+abbrev pub field_units : HeaderField → List UnitKind
 field_units (Number n) = AnyUnit ∷ []
 field_units (State count n) = StateUnit count ∷ []
 field_units (Length n) = LengthUnit ∷ []
 field_units (Body bs) = body_units (length bs)
 
-abbrev pub fields_units : List Field → List UnitKind
+abbrev pub fields_units : List HeaderField → List UnitKind
 fields_units [] = []
 fields_units (f ∷ fs) = field_units f ++ fields_units fs
 

@@ -38,33 +38,33 @@ pub data Header : Type 0 where
 
 -- ---- their fields
 
-pub data Field : Type 0 where
+pub data HeaderField : Type 0 where
   -- any number
-  Number : ℕ → Field
+  Number : ℕ → HeaderField
   -- of an enum of so many, numbered from 0, this one
-  State : ℕ → ℕ → Field
+  State : ℕ → ℕ → HeaderField
   -- the length of a body
-  Length : ℕ → Field
+  Length : ℕ → HeaderField
   -- a body, and zeros that fill its last unit up
-  Body : List ℕ → Field
+  Body : List ℕ → HeaderField
 
-abbrev pub auth_fields : Auth → List Field
+abbrev pub auth_fields : Auth → List HeaderField
 auth_fields a = Number a.flavor ∷ (Length (length a.body) ∷ (Body a.body ∷ []))
 
 -- msg_type, reply_stat, accept_stat and reject_stat, in this order
-abbrev pub message_type : ℕ → Field
+abbrev pub message_type : ℕ → HeaderField
 message_type n = State 2 n
 
-abbrev pub reply_state : ℕ → Field
+abbrev pub reply_state : ℕ → HeaderField
 reply_state n = State 2 n
 
-abbrev pub accept_state : ℕ → Field
+abbrev pub accept_state : ℕ → HeaderField
 accept_state n = State 6 n
 
-abbrev pub reject_state : ℕ → Field
+abbrev pub reject_state : ℕ → HeaderField
 reject_state n = State 2 n
 
-abbrev pub accept_fields : Accept → List Field
+abbrev pub accept_fields : Accept → List HeaderField
 accept_fields Success = accept_state 0 ∷ []
 accept_fields ProgUnavail = accept_state 1 ∷ []
 accept_fields (ProgMismatch low high) = accept_state 2 ∷ (Number low ∷ (Number high ∷ []))
@@ -72,12 +72,12 @@ accept_fields ProcUnavail = accept_state 3 ∷ []
 accept_fields GarbageArgs = accept_state 4 ∷ []
 accept_fields SystemErr = accept_state 5 ∷ []
 
-abbrev pub reject_fields : Reject → List Field
+abbrev pub reject_fields : Reject → List HeaderField
 reject_fields (RpcMismatch low high) = reject_state 0 ∷ (Number low ∷ (Number high ∷ []))
 reject_fields (AuthError stat) = reject_state 1 ∷ (Number stat ∷ [])
 
 -- the fields of a header in their order
-abbrev pub header_fields : Header → List Field
+abbrev pub header_fields : Header → List HeaderField
 header_fields (Call xid rpcvers prog vers proc cred verf) =
     Number xid ∷ (message_type 0 ∷ (Number rpcvers ∷ (Number prog ∷ (Number vers ∷ (Number proc ∷
     (auth_fields cred ++ auth_fields verf))))))
@@ -88,27 +88,27 @@ header_fields (Denied xid reject) =
 
 -- ---- their bytes
 
-abbrev pub IsField : Field → Type 0
-IsField (Number n) = n < 2 ^ 32
-IsField (State count n) = n < count
-IsField (Length n) = n ≤ MOST_AUTH_BYTES
-IsField (Body bs) = IsByteList bs
+abbrev pub IsHeaderField : HeaderField → Type 0
+IsHeaderField (Number n) = n < 2 ^ 32
+IsHeaderField (State count n) = n < count
+IsHeaderField (Length n) = n ≤ MOST_AUTH_BYTES
+IsHeaderField (Body bs) = IsByteList bs
 
-abbrev pub AreFields : List Field → Type 0
-AreFields [] = Unit {0}
-AreFields (f ∷ fs) = IsField f × AreFields fs
+abbrev pub AreHeaderFields : List HeaderField → Type 0
+AreHeaderFields [] = Unit {0}
+AreHeaderFields (f ∷ fs) = IsHeaderField f × AreHeaderFields fs
 
 -- the numbers and bytes in it fit their places
 abbrev pub IsHeader : Header → Type 0
-IsHeader h = AreFields (header_fields h)
+IsHeader h = AreHeaderFields (header_fields h)
 
-abbrev pub field_bytes : Field → List ℕ
+abbrev pub field_bytes : HeaderField → List ℕ
 field_bytes (Number n) = word n
 field_bytes (State count n) = word n
 field_bytes (Length n) = word n
 field_bytes (Body bs) = bs ++ copies (padding (length bs)) 0
 
-abbrev pub fields_bytes : List Field → List ℕ
+abbrev pub fields_bytes : List HeaderField → List ℕ
 fields_bytes [] = []
 fields_bytes (f ∷ fs) = field_bytes f ++ fields_bytes fs
 

@@ -1,9 +1,9 @@
 //! The fields of headers (RFC 5531, section 8.2; RFC 4506, sections 4.2, 4.3 and 4.10).
-ghost use Rattle.std.specs.Prelude.{◌≡◌, ◌<◌, ◌^◌, ◌+◌, ◌++◌, ℕ, List, length, IfSome, IfNone, IfOk, IfErr};
+ghost use Rattle.std.specs.Prelude.{◌≡◌, ◌<◌, ◌^◌, ◌++◌, ℕ, List, length, IfSome, IfNone, IfOk, IfErr};
 ghost use Rattle.x_value.specs.Readings.{are_zeros};
 ghost use Rattle.x_value.specs.Values.{word};
 ghost use Rattle.x_wire.specs.Headers.{Auth as AuthField};
-ghost use Rattle.x_wire.specs.HeaderForms.{Form, number_form, state_form, length_form, body_form, auth_form, Moves, FormFault};
+ghost use Rattle.x_wire.specs.HeaderForms.{HeaderForm, number_form, state_form, length_form, body_form, auth_form, Reads, FormFault};
 ghost use Rattle.x_wire.specs.Messages.{auth_of};
 
 use super::parts::{Auth, MOST_AUTH_BYTES};
@@ -37,8 +37,10 @@ fn word_at(bytes: &[u8]) -> Option<(u32, &[u8])>
 
 /// Any number.
 pub(super) fn number(bytes: &[u8]) -> Result<(u32, &[u8]), Refusal>
-    ensures ok { IfOk result (λ r. (on : ℕ → Form) → Moves (number_form on) bytes.now (on r.0) r.1.now) }
-    ensures err { IfErr result (λ e. (on : ℕ → Form) → FormFault (number_form on) bytes.now e.left e.code) }
+    ensures ok { IfOk result (λ r. (on : ℕ → HeaderForm)
+        → Reads (number_form on) bytes.now (on r.0) r.1.now) }
+    ensures err { IfErr result (λ e. (on : ℕ → HeaderForm)
+        → FormFault (number_form on) bytes.now e.left e.code) }
 {
     match word_at(bytes) {
         Some((number, rest)) => Ok((number, rest)),
@@ -48,8 +50,9 @@ pub(super) fn number(bytes: &[u8]) -> Result<(u32, &[u8]), Refusal>
 
 /// A number of an enum that is numbered from 0 to the last.
 pub(super) fn state(last: u32, bytes: &[u8]) -> Result<(u32, &[u8]), Refusal>
-    ensures ok { IfOk result (λ r. (on : ℕ → Form) → Moves (state_form last on) bytes.now (on r.0) r.1.now) }
-    ensures err { IfErr result (λ e. (on : ℕ → Form)
+    ensures ok { IfOk result (λ r. (on : ℕ → HeaderForm)
+        → Reads (state_form last on) bytes.now (on r.0) r.1.now) }
+    ensures err { IfErr result (λ e. (on : ℕ → HeaderForm)
         → FormFault (state_form last on) bytes.now e.left e.code) }
 {
     let Some((state, rest)) = word_at(bytes) else {
@@ -66,8 +69,10 @@ pub(super) fn state(last: u32, bytes: &[u8]) -> Result<(u32, &[u8]), Refusal>
 
 /// The length of a body.
 fn body_length(bytes: &[u8]) -> Result<(u32, &[u8]), Refusal>
-    ensures ok { IfOk result (λ r. (on : ℕ → Form) → Moves (length_form on) bytes.now (on r.0) r.1.now) }
-    ensures err { IfErr result (λ e. (on : ℕ → Form) → FormFault (length_form on) bytes.now e.left e.code) }
+    ensures ok { IfOk result (λ r. (on : ℕ → HeaderForm)
+        → Reads (length_form on) bytes.now (on r.0) r.1.now) }
+    ensures err { IfErr result (λ e. (on : ℕ → HeaderForm)
+        → FormFault (length_form on) bytes.now e.left e.code) }
 {
     let Some((length, rest)) = word_at(bytes) else {
         return Err(CUT);
@@ -89,9 +94,9 @@ fn is_zeros(bytes: &[u8]) -> bool
 
 /// So many bytes, and what stands behind the zeros that fill their last unit up.
 fn body(length: u32, bytes: &[u8]) -> Result<(&[u8], &[u8]), Refusal>
-    ensures ok { IfOk result (λ r. (on : List ℕ → Form)
-        → Moves (body_form length on) bytes.now (on r.0.now) r.1.now) }
-    ensures err { IfErr result (λ e. (on : List ℕ → Form)
+    ensures ok { IfOk result (λ r. (on : List ℕ → HeaderForm)
+        → Reads (body_form length on) bytes.now (on r.0.now) r.1.now) }
+    ensures err { IfErr result (λ e. (on : List ℕ → HeaderForm)
         → FormFault (body_form length on) bytes.now e.left e.code) }
 {
     let size = length as usize;
@@ -112,9 +117,9 @@ fn body(length: u32, bytes: &[u8]) -> Result<(&[u8], &[u8]), Refusal>
 
 /// An authentication field.
 pub(super) fn auth(bytes: &[u8]) -> Result<(Auth<'_>, &[u8]), Refusal>
-    ensures ok { IfOk result (λ r. (on : AuthField → Form)
-        → Moves (auth_form on) bytes.now (on (auth_of r.0)) r.1.now) }
-    ensures err { IfErr result (λ e. (on : AuthField → Form)
+    ensures ok { IfOk result (λ r. (on : AuthField → HeaderForm)
+        → Reads (auth_form on) bytes.now (on (auth_of r.0)) r.1.now) }
+    ensures err { IfErr result (λ e. (on : AuthField → HeaderForm)
         → FormFault (auth_form on) bytes.now e.left e.code) }
 {
     let (flavor, rest) = number(bytes)?;

@@ -1,13 +1,25 @@
 //! Reads the header of a message.
-ghost use Rattle.std.specs.Prelude.{◌≡◌, ◌<◌, ℕ, [], IfOk, IfErr};
+ghost use Rattle.std.specs.Prelude.{◌≡◌, ℕ, [], IfOk, IfErr};
 ghost use Rattle.x_wire.specs.Headers.{Auth as AuthField, Header, Accepted, Denied, IsBare, IsMessage};
 ghost use Rattle.x_wire.specs.HeaderFaults.{IsHeaderFault};
-ghost use Rattle.x_wire.specs.HeaderForms.{Whole, bounds_form, call_form, accept_form, accepted_form, reject_form, denied_form, reply_form, kind_form, header_form, Moves, FormFault};
+ghost use Rattle.x_wire.specs.HeaderForms.{Whole, bounds_form, call_form, accept_form, accepted_form, reject_form, denied_form, reply_form, kind_form, header_form, Reads, FormFault};
 ghost use Rattle.x_wire.specs.Messages.{accept_of, results_of, reject_of, header_of_reply, body_of_reply, header_of_kind, body_of_kind, header_of, body_of};
 
 use super::fields::{Refusal, auth, number, state};
 use super::parts::{AcceptStat, Call, Kind, Message, RejectStat, Reply};
 use x_value::{ReadCode, ReadFault};
+
+/// `msg_type` is 0 for a call and 1 for a reply.
+const LAST_MSG_TYPE: u32 = 1;
+
+/// `reply_stat` is 0 where the call was accepted, and 1 where it was denied.
+const LAST_REPLY_STAT: u32 = 1;
+
+/// `accept_stat` numbers the states of [`AcceptStat`] in their order, from 0.
+const LAST_ACCEPT_STAT: u32 = 5;
+
+/// `reject_stat` numbers the reasons of [`RejectStat`] in their order, from 0.
+const LAST_REJECT_STAT: u32 = 1;
 
 /// Nothing may stand behind the header.
 fn end(bytes: &[u8]) -> Result<(), Refusal>
@@ -27,7 +39,7 @@ fn end(bytes: &[u8]) -> Result<(), Refusal>
 /// The lowest and the highest version, at the end of a message.
 fn bounds(bytes: &[u8]) -> Result<(u32, u32), Refusal>
     ensures ok { IfOk result (λ r. (on : ℕ → ℕ → Header)
-        → Moves (bounds_form on) bytes.now (Whole (on r.0 r.1)) []) }
+        → Reads (bounds_form on) bytes.now (Whole (on r.0 r.1)) []) }
     ensures err { IfErr result (λ e. (on : ℕ → ℕ → Header) → ((low high : ℕ) → IsBare (on low high))
         → FormFault (bounds_form on) bytes.now e.left e.code) }
 {
@@ -40,7 +52,7 @@ fn bounds(bytes: &[u8]) -> Result<(u32, u32), Refusal>
 /// What became of a call that was accepted, by the number of the state.
 fn accept_stat(number: u32, bytes: &[u8]) -> Result<AcceptStat<'_>, Refusal>
     ensures ok { IfOk result (λ r. (xid : ℕ) (verf : AuthField)
-        → Moves (accept_form xid verf number) bytes.now (Whole (Accepted xid verf (accept_of r)))
+        → Reads (accept_form xid verf number) bytes.now (Whole (Accepted xid verf (accept_of r)))
         (results_of r)) }
     ensures err { IfErr result (λ e. (xid : ℕ) (verf : AuthField)
         → FormFault (accept_form xid verf number) bytes.now e.left e.code) }
@@ -64,11 +76,11 @@ fn accept_stat(number: u32, bytes: &[u8]) -> Result<AcceptStat<'_>, Refusal>
 /// A reply of a server that took the call.
 fn accepted(bytes: &[u8]) -> Result<Reply<'_>, Refusal>
     ensures ok { IfOk result (λ r. (xid : ℕ)
-        → Moves (accepted_form xid) bytes.now (Whole (header_of_reply xid r)) (body_of_reply r)) }
+        → Reads (accepted_form xid) bytes.now (Whole (header_of_reply xid r)) (body_of_reply r)) }
     ensures err { IfErr result (λ e. (xid : ℕ) → FormFault (accepted_form xid) bytes.now e.left e.code) }
 {
     let (verf, rest) = auth(bytes)?;
-    let (number, rest) = state(5, rest)?;
+    let (number, rest) = state(LAST_ACCEPT_STAT, rest)?;
     let stat = accept_stat(number, rest)?;
     Ok(Reply::Accepted { verf, stat })
 }
@@ -76,7 +88,7 @@ fn accepted(bytes: &[u8]) -> Result<Reply<'_>, Refusal>
 /// Why a call was denied, by the number of the reason.
 fn reject_stat(reason: u32, bytes: &[u8]) -> Result<RejectStat, Refusal>
     ensures ok { IfOk result (λ r. (xid : ℕ)
-        → Moves (reject_form xid reason) bytes.now (Whole (Denied xid (reject_of r))) []) }
+        → Reads (reject_form xid reason) bytes.now (Whole (Denied xid (reject_of r))) []) }
     ensures err { IfErr result (λ e. (xid : ℕ) → FormFault (reject_form xid reason) bytes.now e.left e.code) }
 {
     if reason == 0 {
@@ -89,12 +101,12 @@ fn reject_stat(reason: u32, bytes: &[u8]) -> Result<RejectStat, Refusal>
 }
 
 /// A reply of a server that did not.
-fn denied<'a>(bytes: &'a [u8]) -> Result<Reply<'a>, Refusal>
+fn denied(bytes: &[u8]) -> Result<Reply<'_>, Refusal>
     ensures ok { IfOk result (λ r. (xid : ℕ)
-        → Moves (denied_form xid) bytes.now (Whole (header_of_reply xid r)) (body_of_reply r)) }
+        → Reads (denied_form xid) bytes.now (Whole (header_of_reply xid r)) (body_of_reply r)) }
     ensures err { IfErr result (λ e. (xid : ℕ) → FormFault (denied_form xid) bytes.now e.left e.code) }
 {
-    let (reason, rest) = state(1, bytes)?;
+    let (reason, rest) = state(LAST_REJECT_STAT, bytes)?;
     let stat = reject_stat(reason, rest)?;
     Ok(Reply::Denied(stat))
 }
@@ -102,7 +114,7 @@ fn denied<'a>(bytes: &'a [u8]) -> Result<Reply<'a>, Refusal>
 /// A call.
 fn call(bytes: &[u8]) -> Result<Call<'_>, Refusal>
     ensures ok { IfOk result (λ c. (xid : ℕ)
-        → Moves (call_form xid) bytes.now (Whole (header_of_kind xid (Kind.Call c))) c.body.now) }
+        → Reads (call_form xid) bytes.now (Whole (header_of_kind xid (Kind.Call c))) c.body.now) }
     ensures err { IfErr result (λ e. (xid : ℕ) → FormFault (call_form xid) bytes.now e.left e.code) }
 {
     let (rpcvers, rest) = number(bytes)?;
@@ -125,7 +137,7 @@ fn call(bytes: &[u8]) -> Result<Call<'_>, Refusal>
 /// A reply, by the number of its state.
 fn reply(number: u32, bytes: &[u8]) -> Result<Reply<'_>, Refusal>
     ensures ok { IfOk result (λ r. (xid : ℕ)
-        → Moves (reply_form xid number) bytes.now (Whole (header_of_reply xid r)) (body_of_reply r)) }
+        → Reads (reply_form xid number) bytes.now (Whole (header_of_reply xid r)) (body_of_reply r)) }
     ensures err { IfErr result (λ e. (xid : ℕ) → FormFault (reply_form xid number) bytes.now e.left e.code) }
 {
     if number == 0 {
@@ -138,35 +150,35 @@ fn reply(number: u32, bytes: &[u8]) -> Result<Reply<'_>, Refusal>
 /// A call or a reply, by the number of its type.
 fn kind(number: u32, bytes: &[u8]) -> Result<Kind<'_>, Refusal>
     ensures ok { IfOk result (λ r. (xid : ℕ)
-        → Moves (kind_form xid number) bytes.now (Whole (header_of_kind xid r)) (body_of_kind r)) }
+        → Reads (kind_form xid number) bytes.now (Whole (header_of_kind xid r)) (body_of_kind r)) }
     ensures err { IfErr result (λ e. (xid : ℕ) → FormFault (kind_form xid number) bytes.now e.left e.code) }
 {
     if number == 0 {
         return Ok(Kind::Call(call(bytes)?));
     }
-    let (number, rest) = state(1, bytes)?;
+    let (number, rest) = state(LAST_REPLY_STAT, bytes)?;
     Ok(Kind::Reply(reply(number, rest)?))
 }
 
 /// A whole message.
 fn whole(bytes: &[u8]) -> Result<Message<'_>, Refusal>
-    ensures ok { IfOk result (λ m. Moves header_form bytes.now (Whole (header_of m)) (body_of m)) }
+    ensures ok { IfOk result (λ m. Reads header_form bytes.now (Whole (header_of m)) (body_of m)) }
     ensures err { IfErr result (λ e. FormFault header_form bytes.now e.left e.code) }
 {
     let (xid, rest) = number(bytes)?;
-    let (number, rest) = state(1, rest)?;
+    let (number, rest) = state(LAST_MSG_TYPE, rest)?;
     let kind = kind(number, rest)?;
     Ok(Message { xid, kind })
 }
 
-/// The message that the bytes are (RFC 5531, section 9). The body of a call, or of a reply that is a success, is
-/// all that stands behind its header.
+/// The message that the bytes are (RFC 5531, section 9). The body of a call, or of a reply that is a success,
+/// is all that stands behind its header.
 ///
 /// # Errors
 ///
-/// The place, in bytes from the first, and the reason of a refusal: [`ReadCode::Trailing`] where bytes stand
-/// behind a reply that is no success; else [`ReadCode::BadEnum`], [`ReadCode::TooMany`] or [`ReadCode::BadPad`]
-/// at the first unit of four bytes to whose end the bytes begin no header; else [`ReadCode::Short`] at their end.
+/// The place, in bytes from the first, and the reason: [`ReadCode::Trailing`] where bytes stand behind a reply
+/// that is no success; else [`ReadCode::BadEnum`], [`ReadCode::TooMany`] or [`ReadCode::BadPad`] at the first
+/// unit of four bytes to whose end the bytes begin no header; else [`ReadCode::Short`] at their end.
 pub fn message(bytes: &[u8]) -> Result<Message<'_>, ReadFault>
     ensures ok { IfOk result (λ m. IsMessage bytes.now (header_of m) (body_of m)) }
     ensures err { IfErr result (λ e. IsHeaderFault bytes.now e.at e.code) }

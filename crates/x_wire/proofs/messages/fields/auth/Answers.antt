@@ -1,15 +1,15 @@
 use Rattle.std.proofs.Common.{ℕ}
 use Rattle.std.proofs.lemmas.Result.{err_from_is_err_and}
 use Rattle.x_wire.specs.Headers.{Auth}
-use Rattle.x_wire.specs.HeaderForms.{Form, auth, length_form, body_form}
-use Rattle.x_wire.proofs.Forms.{moves_then, behind}
+use Rattle.x_wire.specs.HeaderForms.{HeaderForm, auth, length_form, body_form}
+use Rattle.x_wire.proofs.Forms.{reads_then, behind}
 use Rattle.x_wire.proofs.messages.fields.auth.Goals as goal
 
 -- what stands behind the flavor, and behind the length
-abbrev by_length : (Auth → Form) → ℕ → ℕ → Form
+abbrev by_length : (Auth → HeaderForm) → ℕ → ℕ → HeaderForm
 by_length on flavor n = body_form n (λ bs. on (auth flavor bs))
 
-abbrev by_flavor : (Auth → Form) → ℕ → Form
+abbrev by_flavor : (Auth → HeaderForm) → ℕ → HeaderForm
 by_flavor on flavor = length_form (by_length on flavor)
 
 pub returns-in_err-flavor-clause-err : goal.returns-in_err-flavor-clause-err
@@ -24,10 +24,10 @@ returns-in_err-length-clause-err c =
 pub returns-in_err-body-clause-err : goal.returns-in_err-body-clause-err
 returns-in_err-body-clause-err c =
     let p = err_from_is_err_and c.from_residual-in_err-body.result c.from_residual-in_err-body.ensures.1 in rw (p.1, p.2) (λ on.
-    behind (moves_then (c.in_ok-flavor.ensures.ok (by_flavor on)) (c.in_ok-length.ensures.ok (by_length on c.in_ok-flavor.flavor)))
+    behind (reads_then (c.in_ok-flavor.ensures.ok (by_flavor on)) (c.in_ok-length.ensures.ok (by_length on c.in_ok-flavor.flavor)))
     (c.in_err-body.ensures.err (λ bs. on (auth c.in_ok-flavor.flavor bs))))
 
 pub returns-clause-ok : goal.returns-clause-ok
 returns-clause-ok c = λ on.
-    moves_then (moves_then (c.in_ok-flavor.ensures.ok (by_flavor on)) (c.in_ok-length.ensures.ok (by_length on c.in_ok-flavor.flavor)))
+    reads_then (reads_then (c.in_ok-flavor.ensures.ok (by_flavor on)) (c.in_ok-length.ensures.ok (by_length on c.in_ok-flavor.flavor)))
     (c.in_ok-body.ensures.ok (λ bs. on (auth c.in_ok-flavor.flavor bs)))

@@ -1,4 +1,4 @@
-use Rattle.x_wire.proofs.Leaves.{length_moves, length_cut, length_bad}
+use Rattle.x_wire.proofs.Leaves.{length_reads, length_cut, length_bad}
 use Rattle.x_wire.proofs.messages.fields.body_length.Goals as goal
 
 pub returns-in_default-clause-err : goal.returns-in_default-clause-err
@@ -10,4 +10,4 @@ returns-then-length-gt-MOST_AUTH_BYTES-clause-err c =
 
 pub returns-clause-ok : goal.returns-clause-ok
 returns-clause-ok c =
-    λ on. length_moves on c.in-Some.length c.args.bytes.now c.in-Some.rest.now c.in-Some.ensures.some.0 c.if-length-gt-MOST_AUTH_BYTES.false
+    λ on. length_reads on c.in-Some.length c.args.bytes.now c.in-Some.rest.now c.in-Some.ensures.some.0 c.if-length-gt-MOST_AUTH_BYTES.false

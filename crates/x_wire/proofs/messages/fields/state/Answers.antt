@@ -1,4 +1,4 @@
-use Rattle.x_wire.proofs.Leaves.{state_moves, state_cut, state_bad}
+use Rattle.x_wire.proofs.Leaves.{state_reads, state_cut, state_bad}
 use Rattle.x_wire.proofs.messages.fields.state.Goals as goal
 
 pub returns-in_default-clause-err : goal.returns-in_default-clause-err
@@ -10,4 +10,4 @@ returns-then-state-last-clause-err c =
 
 pub returns-clause-ok : goal.returns-clause-ok
 returns-clause-ok c =
-    λ on. state_moves c.args.last on c.in-Some.state c.args.bytes.now c.in-Some.rest.now c.in-Some.ensures.some.0 c.in-Some.ensures.some.1 c.if-state-last.false
+    λ on. state_reads c.args.last on c.in-Some.state c.args.bytes.now c.in-Some.rest.now c.in-Some.ensures.some.0 c.in-Some.ensures.some.1 c.if-state-last.false

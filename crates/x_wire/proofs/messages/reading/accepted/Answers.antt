@@ -1,13 +1,13 @@
 use Rattle.std.proofs.Common.{ℕ}
 use Rattle.std.proofs.lemmas.Result.{err_from_is_err_and}
 use Rattle.x_wire.specs.Headers.{Auth}
-use Rattle.x_wire.specs.HeaderForms.{Form, accept_form, state_form}
+use Rattle.x_wire.specs.HeaderForms.{HeaderForm, accept_form, state_form}
 use Rattle.x_wire.specs.Messages.{auth_of}
-use Rattle.x_wire.proofs.Forms.{moves_then, behind}
+use Rattle.x_wire.proofs.Forms.{reads_then, behind}
 use Rattle.x_wire.proofs.messages.reading.accepted.Goals as goal
 
 -- what stands behind the authentication field
-abbrev by_verf : ℕ → Auth → Form
+abbrev by_verf : ℕ → Auth → HeaderForm
 by_verf xid verf = state_form 5 (λ n. accept_form xid verf n)
 
 pub returns-in_err-verf-clause-err : goal.returns-in_err-verf-clause-err
@@ -22,10 +22,10 @@ returns-in_err-number-clause-err c =
 pub returns-in_err-stat-clause-err : goal.returns-in_err-stat-clause-err
 returns-in_err-stat-clause-err c =
     let p = err_from_is_err_and c.from_residual-in_err-stat.result c.from_residual-in_err-stat.ensures.1 in rw (p.1, p.2) (λ xid.
-    behind (moves_then (c.in_ok-verf.ensures.ok (by_verf xid)) (c.in_ok-number.ensures.ok (accept_form xid (auth_of c.in_ok-verf.verf))))
+    behind (reads_then (c.in_ok-verf.ensures.ok (by_verf xid)) (c.in_ok-number.ensures.ok (accept_form xid (auth_of c.in_ok-verf.verf))))
     (c.in_err-stat.ensures.err xid (auth_of c.in_ok-verf.verf)))
 
 pub returns-clause-ok : goal.returns-clause-ok
 returns-clause-ok c = λ xid.
-    moves_then (moves_then (c.in_ok-verf.ensures.ok (by_verf xid)) (c.in_ok-number.ensures.ok (accept_form xid (auth_of c.in_ok-verf.verf))))
+    reads_then (reads_then (c.in_ok-verf.ensures.ok (by_verf xid)) (c.in_ok-number.ensures.ok (accept_form xid (auth_of c.in_ok-verf.verf))))
     (c.in_ok-stat.ensures.ok xid (auth_of c.in_ok-verf.verf))

@@ -2,7 +2,7 @@ use Rattle.std.proofs.lemmas.Result.{err_from_is_err_and}
 use Rattle.x_wire.specs.Headers.{Call}
 use Rattle.x_wire.specs.HeaderForms.{Whole}
 use Rattle.x_wire.specs.Messages.{auth_of}
-use Rattle.x_wire.proofs.Forms.{moves_then, behind}
+use Rattle.x_wire.proofs.Forms.{reads_then, behind}
 use Rattle.x_wire.proofs.HeaderLemmas.{by_rpcvers, by_prog, by_vers, by_proc, by_cred}
 use Rattle.x_wire.proofs.messages.reading.call.Goals as goal
 
@@ -18,7 +18,7 @@ returns-in_err-prog-clause-err c =
 pub returns-in_err-vers-clause-err : goal.returns-in_err-vers-clause-err
 returns-in_err-vers-clause-err c =
     let p = err_from_is_err_and c.from_residual-in_err-vers.result c.from_residual-in_err-vers.ensures.1 in rw (p.1, p.2) (λ xid.
-    behind (moves_then (c.in_ok-rpcvers.ensures.ok (by_rpcvers xid)) (c.in_ok-prog.ensures.ok (by_prog xid c.in_ok-rpcvers.rpcvers)))
+    behind (reads_then (c.in_ok-rpcvers.ensures.ok (by_rpcvers xid)) (c.in_ok-prog.ensures.ok (by_prog xid c.in_ok-rpcvers.rpcvers)))
     (c.in_err-vers.ensures.err (by_vers xid c.in_ok-rpcvers.rpcvers c.in_ok-prog.prog)))
 
 pub returns-in_err-proc-clause-err : goal.returns-in_err-proc-clause-err
@@ -47,8 +47,8 @@ returns-in_err-verf-clause-err c =
 
 pub returns-clause-ok : goal.returns-clause-ok
 returns-clause-ok c = λ xid.
-    moves_then (c.in_ok-rpcvers.ensures.ok (by_rpcvers xid)) (moves_then (c.in_ok-prog.ensures.ok (by_prog xid c.in_ok-rpcvers.rpcvers))
-    (moves_then (c.in_ok-vers.ensures.ok (by_vers xid c.in_ok-rpcvers.rpcvers c.in_ok-prog.prog))
-    (moves_then (c.in_ok-proc.ensures.ok (by_proc xid c.in_ok-rpcvers.rpcvers c.in_ok-prog.prog c.in_ok-vers.vers))
-    (moves_then (c.in_ok-cred.ensures.ok (by_cred xid c.in_ok-rpcvers.rpcvers c.in_ok-prog.prog c.in_ok-vers.vers c.in_ok-proc.proc))
+    reads_then (c.in_ok-rpcvers.ensures.ok (by_rpcvers xid)) (reads_then (c.in_ok-prog.ensures.ok (by_prog xid c.in_ok-rpcvers.rpcvers))
+    (reads_then (c.in_ok-vers.ensures.ok (by_vers xid c.in_ok-rpcvers.rpcvers c.in_ok-prog.prog))
+    (reads_then (c.in_ok-proc.ensures.ok (by_proc xid c.in_ok-rpcvers.rpcvers c.in_ok-prog.prog c.in_ok-vers.vers))
+    (reads_then (c.in_ok-cred.ensures.ok (by_cred xid c.in_ok-rpcvers.rpcvers c.in_ok-prog.prog c.in_ok-vers.vers c.in_ok-proc.proc))
     (c.in_ok-verf.ensures.ok (λ verf. Whole (Call xid c.in_ok-rpcvers.rpcvers c.in_ok-prog.prog c.in_ok-vers.vers c.in_ok-proc.proc (auth_of c.in_ok-cred.cred) verf)))))))

@@ -1,6 +1,6 @@
 use Rattle.std.proofs.lemmas.Result.{err_from_is_err_and}
 use Rattle.x_wire.specs.HeaderForms.{reject_form}
-use Rattle.x_wire.proofs.Forms.{moves_then, behind}
+use Rattle.x_wire.proofs.Forms.{reads_then, behind}
 use Rattle.x_wire.proofs.messages.reading.denied.Goals as goal
 
 pub returns-in_err-reason-clause-err : goal.returns-in_err-reason-clause-err
@@ -13,4 +13,4 @@ returns-in_err-stat-clause-err c =
     behind (c.in_ok-reason.ensures.ok (reject_form xid)) (c.in_err-stat.ensures.err xid))
 
 pub returns-clause-ok : goal.returns-clause-ok
-returns-clause-ok c = λ xid. moves_then (c.in_ok-reason.ensures.ok (reject_form xid)) (c.in_ok-stat.ensures.ok xid)
+returns-clause-ok c = λ xid. reads_then (c.in_ok-reason.ensures.ok (reject_form xid)) (c.in_ok-stat.ensures.ok xid)

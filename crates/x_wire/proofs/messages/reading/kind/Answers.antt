@@ -1,8 +1,8 @@
 use Rattle.std.proofs.lemmas.Result.{err_from_is_err_and}
 use Rattle.x_wire.specs.HeaderForms.{kind_form, reply_form, state_form, Whole}
 use Rattle.x_wire.specs.Messages.{header_of_reply, body_of_reply}
-use Rattle.x_wire.proofs.Forms.{moves_then, behind}
-use Rattle.x_wire.proofs.HeaderLemmas.{kind_other, fault_at, fault_of_form, moves_of_form}
+use Rattle.x_wire.proofs.Forms.{reads_then, behind}
+use Rattle.x_wire.proofs.HeaderLemmas.{kind_other, fault_at, fault_of_form, reads_of_form}
 use Rattle.x_wire.proofs.messages.reading.kind.Goals as goal
 
 pub returns-in_err-call-clause-err : goal.returns-in_err-call-clause-err
@@ -26,5 +26,5 @@ returns-in_err-reply-clause-err c =
 
 pub returns-clause-ok : goal.returns-clause-ok
 returns-clause-ok c = λ xid.
-    moves_of_form (kind_form xid c.args.number) (state_form 1 (reply_form xid)) (Whole (header_of_reply xid c.in_ok-reply.field-0)) c.args.bytes.now (body_of_reply c.in_ok-reply.field-0) (kind_other xid c.args.number c.if-number-eq0.false)
-    (moves_then (c.in_ok-number.ensures.ok (reply_form xid)) (c.in_ok-reply.ensures.ok xid))
+    reads_of_form (kind_form xid c.args.number) (state_form 1 (reply_form xid)) (Whole (header_of_reply xid c.in_ok-reply.field-0)) c.args.bytes.now (body_of_reply c.in_ok-reply.field-0) (kind_other xid c.args.number c.if-number-eq0.false)
+    (reads_then (c.in_ok-number.ensures.ok (reply_form xid)) (c.in_ok-reply.ensures.ok xid))

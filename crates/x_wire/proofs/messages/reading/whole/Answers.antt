@@ -1,11 +1,11 @@
 use Rattle.std.proofs.Common.{ℕ}
 use Rattle.std.proofs.lemmas.Result.{err_from_is_err_and}
-use Rattle.x_wire.specs.HeaderForms.{Form, kind_form, state_form}
-use Rattle.x_wire.proofs.Forms.{moves_then, behind}
+use Rattle.x_wire.specs.HeaderForms.{HeaderForm, kind_form, state_form}
+use Rattle.x_wire.proofs.Forms.{reads_then, behind}
 use Rattle.x_wire.proofs.messages.reading.whole.Goals as goal
 
 -- what stands behind the xid
-abbrev by_xid : ℕ → Form
+abbrev by_xid : ℕ → HeaderForm
 by_xid xid = state_form 1 (λ n. kind_form xid n)
 
 pub returns-in_err-xid-clause-err : goal.returns-in_err-xid-clause-err
@@ -20,8 +20,8 @@ returns-in_err-number-clause-err c =
 pub returns-in_err-kind-clause-err : goal.returns-in_err-kind-clause-err
 returns-in_err-kind-clause-err c =
     let p = err_from_is_err_and c.from_residual-in_err-kind.result c.from_residual-in_err-kind.ensures.1 in rw (p.1, p.2)
-    (behind (moves_then (c.in_ok-xid.ensures.ok by_xid) (c.in_ok-number.ensures.ok (kind_form c.in_ok-xid.xid))) (c.in_err-kind.ensures.err c.in_ok-xid.xid))
+    (behind (reads_then (c.in_ok-xid.ensures.ok by_xid) (c.in_ok-number.ensures.ok (kind_form c.in_ok-xid.xid))) (c.in_err-kind.ensures.err c.in_ok-xid.xid))
 
 pub returns-clause-ok : goal.returns-clause-ok
 returns-clause-ok c =
-    moves_then (moves_then (c.in_ok-xid.ensures.ok by_xid) (c.in_ok-number.ensures.ok (kind_form c.in_ok-xid.xid))) (c.in_ok-kind.ensures.ok c.in_ok-xid.xid)
+    reads_then (reads_then (c.in_ok-xid.ensures.ok by_xid) (c.in_ok-number.ensures.ok (kind_form c.in_ok-xid.xid))) (c.in_ok-kind.ensures.ok c.in_ok-xid.xid)
