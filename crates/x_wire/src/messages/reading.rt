@@ -176,9 +176,9 @@ fn whole(bytes: &[u8]) -> Result<Message<'_>, Refusal>
 ///
 /// # Errors
 ///
-/// The place, in bytes from the first, and the reason: [`ReadCode::Trailing`] where bytes stand behind a reply
-/// that is no success; else [`ReadCode::BadEnum`], [`ReadCode::TooMany`] or [`ReadCode::BadPad`] at the first
-/// unit of four bytes to whose end the bytes begin no header; else [`ReadCode::Short`] at their end.
+/// The place, in bytes from the first, and the reason: [`ReadCode::Trailing`] where bytes stand behind a
+/// reply that is no success; else [`ReadCode::BadEnum`], [`ReadCode::TooMany`] or [`ReadCode::BadPad`] at the
+/// first unit of four bytes to whose end the bytes begin no header; else [`ReadCode::Short`] at their end.
 pub fn message(bytes: &[u8]) -> Result<Message<'_>, ReadFault>
     ensures ok { IfOk result (λ m. IsMessage bytes.now (header_of m) (body_of m)) }
     ensures err { IfErr result (λ e. IsHeaderFault bytes.now e.at e.code) }
