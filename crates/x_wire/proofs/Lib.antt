@@ -1,5 +1,9 @@
 pub mod Composing
 pub mod Feeding
+pub mod Forms
 pub mod FragmentLemmas
 pub mod Framed
+pub mod HeaderLemmas
+pub mod Leaves
 pub mod Moves
+pub mod OneFault

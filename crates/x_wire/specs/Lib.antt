@@ -1,5 +1,9 @@
 pub mod Fragments
 pub mod Framers
 pub mod Framing
+pub mod HeaderFaults
+pub mod HeaderForms
+pub mod Headers
+pub mod Messages
 pub mod RecordFaults
 pub mod Records
