@@ -2,6 +2,8 @@
 //! nothing.
 #![tactic(auto)]
 
+ghost use Rattle.x_sema.specs.Schema.{IsTypeId};
+
 use std::io::Read;
 use std::process::ExitCode;
 use std::time::Instant;
@@ -23,8 +25,10 @@ fn read(rt: &HostRuntime, file: &str) -> io::Result<Vec<u8>> {
     Ok(bytes)
 }
 
-/// Reads the message again and again, and prints the least time and how many nodes there are.
-fn time(rt: &HostRuntime, schema: &Schema, id: TypeId, message: &[u8]) -> io::Result<()> {
+/// Reads the message again and again, and prints the least time and how many nodes there are. The id is one of the schema's.
+fn time(rt: &HostRuntime, schema: &Schema, id: TypeId, message: &[u8]) -> io::Result<()>
+    requires { IsTypeId schema.now id }
+{
     let mut least = u64::MAX;
     let mut nodes = 0;
     for _ in 0..ROUNDS {
