@@ -108,3 +108,14 @@ fn sweep_open(rt: HostRuntime) -> Result<(), Fail> {
     }
     Ok(())
 }
+
+#[test]
+fn a_schema_has_the_procedures_of_a_program(rt: HostRuntime) -> Result<(), Fail> {
+    let text = b"program P { version V { int F(int, string) = 1; } = 2; } = 3;";
+    let session = Session::open(rt.alloc(), b"t", text)?;
+    let schema = session.schema()?;
+    let name = schema.procedure(3, 2, 1).map(|procedure| procedure.name);
+    assert_eq!(rt; name, Some(b"F".as_slice()));
+    assert!(rt; schema.procedure(3, 2, 2).is_none());
+    Ok(())
+}
