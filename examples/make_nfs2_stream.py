@@ -1,10 +1,10 @@
 #!/usr/bin/env python3
-"""Makes nfs2.stream: a client of NFS version 2 looks up a file, reads it and lists its folder (RFC 1094, RFC 5531).
+"""Makes nfs2.stream: a client of NFS version 2 looks up a file, reads it and lists its folder (RFC 1094).
 
     make_nfs2_stream.py >nfs2.stream
 
-Both directions in the order of time, as `rpcdump` reads them: each message is a record of one fragment, but for the
-listing, whose record has two.
+Both directions in the order of time, as `rpcdump` reads them: each message is a record of one fragment (RFC 5531,
+section 11), but for the listing, whose record has two.
 """
 import struct
 import sys
@@ -44,7 +44,7 @@ def reply(xid, results):
 
 
 def attributes(kind, mode, size, number):
-    """Type, mode, links, owner, group, size, block size, device, blocks, file system, number; then three times."""
+    """Type, mode, links, owner, group, size, block size, device, blocks, file system, number; three times."""
     return words(kind, mode, 1, 1000, 100, size, 4096, 0, 1, 7, number) + 3 * words(1704067200, 0)
 
 
@@ -53,8 +53,8 @@ def entry(number, name, cookie):
 
 
 def record(*fragments):
-    last = len(fragments) - 1
-    return b"".join(words(len(data) | (LAST_FRAGMENT if k == last else 0)) + data for k, data in enumerate(fragments))
+    marks = [0] * (len(fragments) - 1) + [LAST_FRAGMENT]
+    return b"".join(words(mark | len(data)) + data for mark, data in zip(marks, fragments))
 
 
 HOME, NOTES = handle(2), handle(42)

@@ -1,11 +1,12 @@
 #!/usr/bin/env python3
-"""Makes of a TCP connection what rpcdump reads: each record of either direction where its last byte was recorded.
+"""Makes of a TCP connection what rpcdump reads: each record of either direction, where its end was recorded.
 
     tshark -r CAPTURE -q -z follow,tcp,raw,NUMBER | stream_of_follow.py >STREAM
 
-tshark prints the bytes in the order of the capture, in lines of hexadecimal digits, those of the second direction behind
-a tab. Where a client sends a call while an answer is on its way, a record of one direction may stand between two parts
-of one of the other; here each is kept whole (RFC 5531, section 11). What is left at the end of each direction comes last.
+tshark prints the bytes in the order of the capture, in lines of hexadecimal digits, those of the second direction
+behind a tab. Where a client sends a call while an answer is on its way, a record of one direction may stand between
+two parts of one of the other; here each is kept whole (RFC 5531, section 11). What is left at the end of each direction
+comes last.
 """
 import re
 import sys

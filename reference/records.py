@@ -1,4 +1,4 @@
-"""Records and messages of RPC (RFC 5531): what a recorded stream is cut into, and what the front of a message says."""
+"""Records and messages of RPC (RFC 5531): what a stream is cut into, and what the front of a message says."""
 from collections import namedtuple
 
 GREATEST_RECORD = 1_048_576
@@ -9,15 +9,15 @@ ACCEPTED, DENIED = 0, 1
 ACCEPT_STATES = ["SUCCESS", "PROG_UNAVAIL", "PROG_MISMATCH", "PROC_UNAVAIL", "GARBAGE_ARGS", "SYSTEM_ERR"]
 REJECT_STATES = ["RPC_MISMATCH", "AUTH_ERROR"]
 
-# An authentication field is a pair of flavor and body. A reply has a verifier where it is accepted, the details that its
-# state calls for, as pairs of name and number, and a body where it is a SUCCESS.
+# An authentication field is a pair of flavor and body. A reply has a verifier where it is accepted, the details that
+# its state calls for, as pairs of name and number, and a body where it is a SUCCESS.
 Call = namedtuple("Call", "xid rpcvers program version procedure credential verifier body")
 Reply = namedtuple("Reply", "xid accepted state verifier details body")
 
 
 def records_of(stream):
-    """The records, and the code and place of the stream's fault, or None (RFC 5531 section 11). A record is the data of
-    its fragments, one behind the other; the top bit of a fragment's header says that it is the last."""
+    """The records, and the code and place of the stream's fault, or None (RFC 5531 section 11). A record is the data
+    of its fragments, one behind the other; the top bit of a fragment's header says that it is the last."""
     records, fragments, size, inside, at = [], [], 0, False, 0
     while at < len(stream):
         if len(stream) < at + 4:
@@ -68,7 +68,7 @@ class Header:
         return number if number < count else self.refuse(52)
 
     def authentication(self):
-        """A flavor, and a body of at most 400 bytes, which zero bytes fill up to a whole unit (section 8.2)."""
+        """A flavor and a body of at most 400 bytes, which zero bytes fill up to a whole unit (section 8.2)."""
         flavor, length = self.number(), self.number()
         if length > GREATEST_AUTHENTICATION:
             self.refuse(54)

@@ -1,6 +1,6 @@
 #!/usr/bin/env python3
-"""rpcdump [-x SCHEMA] [-b | -t TYPE] FILE: shows the calls and replies of a recorded stream, of one bare message (-b) or
-a bare value of a type (-t). Without SCHEMA the procedures are those of NFS version 2 (nfs2.x)."""
+"""rpcdump [-x SCHEMA] [-b | -t TYPE] FILE: shows the calls and replies of a recorded stream, one bare message (-b) or
+one bare value of a type (-t). Without SCHEMA the procedures are those of NFS version 2 (nfs2.x)."""
 import getopt
 import os
 import sys
@@ -30,12 +30,12 @@ def authentication(word, field):
 
 
 class Dump:
-    """The messages so far. A message's text is a function of the schema, its bytes and the messages before it."""
+    """The messages so far. A message's text is a function of the schema, its bytes and those before it."""
 
     def __init__(self, schema):
         self.schema = schema
         self.count = 0
-        self.calls = {}         # of each xid the last call: its number and its procedure, or None where it isn't known
+        self.calls = {}         # of each xid the last call: its number, and its procedure or None
         self.refused = False
 
     def refuse(self, text):
@@ -174,7 +174,7 @@ def run(schema_path, bare, type_name, path):
     else:
         data, whole = read_input(descriptor)
         found, ended = records.records_of(data)
-        # A read that fails says nothing of the stream's end, but a stream ends at a header that makes a record too long.
+        # A read that fails says nothing of the stream's end, but a header that makes a record too long is one.
         unread = not whole and (ended is None or ended[0] != 60)
         write_texts(dump.stream(found, None if unread else ended))
         if unread:

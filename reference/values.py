@@ -34,7 +34,7 @@ class Schema:
         for definition in compilation.definitions:
             for part in rpclang.parts_of(definition) if definition is not None else []:
                 self.bodies[part.name] = part.body
-        self.programs = [program for program in compilation.definitions if isinstance(program, rpclang.Program)]
+        self.programs = [item for item in compilation.definitions if isinstance(item, rpclang.Program)]
         self.made = {}
 
     def number(self, word):
@@ -80,15 +80,12 @@ class Schema:
         return Type(form, size=size, element=element)
 
     def procedure(self, program, version, number):
-        """The procedure of these numbers, in the first program of the text that has it; None where there is none."""
-        for definition in self.programs:
-            if rpclang.number_of(definition.number.text) != program:
-                continue
-            for part in definition.versions:
-                for found in part.procedures:
-                    if (rpclang.number_of(part.number.text), rpclang.number_of(found.number.text)) == (version, number):
-                        kinds = [self.type_of_argument(kind) for kind in found.arguments]
-                        return Procedure(found.name.text, together(kinds), self.type_of_argument(found.result))
+        """The procedure of these numbers, in the first program of the text that has it, or None."""
+        for definition, part in ((item, part) for item in self.programs for part in item.versions):
+            for found in part.procedures:
+                if [rpclang.number_of(of.number.text) for of in (definition, part, found)] == [program, version, number]:
+                    kinds = [self.type_of_argument(kind) for kind in found.arguments]
+                    return Procedure(found.name.text, together(kinds), self.type_of_argument(found.result))
         return None
 
     def type_of_argument(self, kind):
