@@ -19,9 +19,12 @@ BITS = {"float": 4, "double": 8, "quadruple": 16}
 Type = namedtuple("Type", "kind size element entries fields discriminant arms default", defaults=[None] * 7)
 VOID = Type("void")
 
+# A procedure of a program: its name, and the types of its argument and its result.
+Procedure = namedtuple("Procedure", "name argument result")
+
 
 class Schema:
-    """The types that the names of a faultless text stand for."""
+    """The types that the names of a faultless text stand for, and the procedures of its programs."""
 
     def __init__(self, compilation):
         assert not compilation.faults
@@ -31,6 +34,7 @@ class Schema:
         for definition in compilation.definitions:
             for part in rpclang.parts_of(definition) if definition is not None else []:
                 self.bodies[part.name] = part.body
+        self.programs = [item for item in compilation.definitions if isinstance(item, rpclang.Program)]
         self.made = {}
 
     def number(self, word):
@@ -74,6 +78,28 @@ class Schema:
         if form == "plain":
             return element()
         return Type(form, size=size, element=element)
+
+    def procedure(self, program, version, number):
+        """The procedure of these numbers, in the first program of the text that has it, or None."""
+        for definition, part in ((item, part) for item in self.programs for part in item.versions):
+            for found in part.procedures:
+                if [rpclang.number_of(of.number.text) for of in (definition, part, found)] == [program, version, number]:
+                    kinds = [self.type_of_argument(kind) for kind in found.arguments]
+                    return Procedure(found.name.text, together(kinds), self.type_of_argument(found.result))
+        return None
+
+    def type_of_argument(self, kind):
+        """The type of an argument or a result. A string there has any length."""
+        if kind.basic == "string":
+            return Type("string", size=GREATEST_SIZE)
+        return Type(kind.basic) if kind.basic else self.type_named(kind.name.text)
+
+
+def together(kinds):
+    """Several arguments are one struct, whose fields have names by their numbers (RFC 5531 section 12.1)."""
+    if len(kinds) == 1:
+        return kinds[0]
+    return Type("struct", fields=[(b"arg%d" % k, lambda kind=kind: kind) for k, kind in enumerate(kinds, 1)])
 
 
 def hexadecimal(data):

@@ -74,3 +74,68 @@ links() {
     yes 00000001 | head -n "$2" | tr -d '\n'
     echo "${3:-00000000}"
 }
+
+# bytes HEX..: the bytes of these digits, among which there may be blanks.
+bytes() {
+    local digits
+    digits=$(printf %s "$@" | tr -d ' \n')
+    printf %b "$(sed 's/../\\x&/g' <<<"$digits")"
+}
+
+# record HEX: these bytes as a record of one fragment.
+record() {
+    local digits=${1//[[:space:]]/}
+    bytes "$(printf %08x $((0x80000000 + ${#digits} / 2)))$digits"
+}
+
+# fragments SIZE HEX: these bytes as a record of fragments of so many bytes each, the last of which may be shorter.
+fragments() {
+    local digits=${2//[[:space:]]/} size=$((2 * $1))
+    while [ ${#digits} -gt "$size" ]; do
+        bytes "$(printf %08x "$1")${digits:0:size}"
+        digits=${digits:size}
+    done
+    record "$digits"
+}
+
+# call XID PROCEDURE [HEX]: a call of NFS version 2 without credentials, with these arguments.
+call() { printf '%08x 00000000 00000002 000186a3 00000002 %08x 00000000 00000000 00000000 00000000 %s' "$1" "$2" "${3:-}"; }
+
+# success XID [HEX]: an accepted reply with these results.
+success() { printf '%08x 00000001 00000000 00000000 00000000 00000000 %s' "$1" "${2:-}"; }
+
+# handle BYTE: a file handle of NFS version 2, of this byte 32 times.
+handle() { printf "$1%.0s" {1..32}; }
+
+# stream HEX..: what rpcdump shows of a stream of these bytes, which is then in s.
+stream() {
+    bytes "$@" >s
+    rpcdump s
+}
+
+# records HEX..: of a stream of these records, which is then in s.
+records() {
+    local one
+    for one in "$@"; do record "$one"; done >s
+    rpcdump s
+}
+
+# message HEX: of one bare message.
+message() {
+    bytes "$1" >m
+    rpcdump -b m
+}
+
+# value TYPE HEX: of one bare value.
+value() {
+    bytes "$2" >v
+    rpcdump -t "$1" v
+}
+
+# given TEXT HEX..: of a stream of these records, by the schema of the text.
+given() {
+    local one
+    printf %b "$1" >t.x
+    for one in "${@:2}"; do record "$one"; done >s
+    rpcdump -x t.x s
+}

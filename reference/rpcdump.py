@@ -1,0 +1,206 @@
+#!/usr/bin/env python3
+"""rpcdump [-x SCHEMA] [-b | -t TYPE] FILE: shows the calls and replies of a recorded stream, one bare message (-b) or
+one bare value of a type (-t). Without SCHEMA the procedures are those of NFS version 2 (nfs2.x)."""
+import getopt
+import os
+import sys
+
+sys.dont_write_bytecode = True
+
+import records
+import rpcedit
+import rpclang
+import values
+
+CODE_NAMES = {**values.CODE_NAMES, 60: "RecordTooLong", 61: "Truncated"}
+BUILT_IN = os.path.join(os.path.dirname(os.path.realpath(__file__)), "nfs2.x")
+
+
+def fault(code, at):
+    return b"fault %d %s at %d\n" % (code, CODE_NAMES[code].encode(), at)
+
+
+def raw(data):
+    return b"raw %s\n" % values.hexadecimal(data)
+
+
+def authentication(word, field):
+    flavor, body = field
+    return b"%s %d %s\n" % (word, flavor, values.hexadecimal(body))
+
+
+class Dump:
+    """The messages so far. A message's text is a function of the schema, its bytes and those before it."""
+
+    def __init__(self, schema):
+        self.schema = schema
+        self.count = 0
+        self.calls = {}         # of each xid the last call: its number, and its procedure or None
+        self.refused = False
+
+    def refuse(self, text):
+        self.refused = True
+        return text
+
+    def message(self, data):
+        """The lines of the next message."""
+        self.count += 1
+        message = records.message_of(data)
+        if isinstance(message, records.Refused):
+            return self.refuse(b"# %d %s%s" % (self.count, fault(*message.args), raw(data)))
+        return self.call(message) if isinstance(message, records.Call) else self.reply(message)
+
+    def call(self, call):
+        numbers = call.program, call.version, call.procedure
+        procedure = self.schema.procedure(*numbers) if call.rpcvers == 2 else None
+        self.calls[call.xid] = self.count, procedure
+        name = procedure.name if procedure else b"?"
+        line = b"# %d call xid=%d rpcvers=%d prog=%d vers=%d proc=%d %s\n"
+        return (line % (self.count, call.xid, call.rpcvers, *numbers, name)
+                + authentication(b"cred", call.credential) + authentication(b"verf", call.verifier)
+                + self.body(procedure and procedure.argument, call.body, b"args"))
+
+    def reply(self, reply):
+        number, procedure = self.calls.get(reply.xid, (None, None))
+        name = procedure.name if procedure else b"?"
+        state = (b"accepted " if reply.accepted else b"denied ") + reply.state.encode()
+        whose = b"none" if number is None else b"%d" % number
+        text = b"# %d reply xid=%d %s call=%s %s\n" % (self.count, reply.xid, state, whose, name)
+        if reply.accepted:
+            text += authentication(b"verf", reply.verifier)
+        if reply.details:
+            text += b" ".join(b"%s %d" % (word.encode(), number) for word, number in reply.details) + b"\n"
+        if reply.body is not None:
+            text += self.body(procedure and procedure.result, reply.body, b"results")
+        return text
+
+    def body(self, kind, data, label):
+        """Arguments or results: as they stand where the type isn't known, or where it refuses them."""
+        if kind is None:
+            return raw(data)
+        refused = values.refusal(kind, data)
+        if refused:
+            return self.refuse(fault(*refused) + raw(data))
+        return b"".join(values.reading_of(kind, data, label).lines)
+
+    def stream(self, found, ended):
+        """The texts of the records of a stream, one after the other, and of its fault where it has one."""
+        for record in found:
+            yield self.message(record)
+        if ended:
+            yield self.refuse(fault(*ended))
+
+    def value(self, name, data):
+        kind = self.schema.type_named(name)
+        refused = values.refusal(kind, data)
+        if refused:
+            return self.refuse(fault(*refused))
+        return b"".join(values.reading_of(kind, data, name).lines)
+
+
+class Stop(Exception):
+    """The run can't be carried out: the line that says why."""
+
+
+def read_schema(path):
+    """The text of the schema."""
+    try:
+        with open(path, "rb") as file:
+            return file.read(rpcedit.GREATEST_TEXT + 1)
+    except OSError:
+        raise Stop(b"%s: cannot be read" % path) from None
+
+
+def open_input(path):
+    """Its descriptor. A directory can be opened too."""
+    try:
+        return os.open(path, os.O_RDONLY)
+    except OSError:
+        raise Stop(b"%s: cannot be read" % path) from None
+
+
+def compile_schema(path, text):
+    """The schema, or None where the text has faults, which are told."""
+    if len(text) > rpcedit.GREATEST_TEXT:
+        raise Stop(b"%s: 2 TooLarge" % path)
+    compilation = rpclang.Compilation(text)
+    for found in compilation.faults:
+        place = b"%s:%d:%d: %d " % (path, found.line, found.column, found.code)
+        os.write(2, place + rpclang.CODE_NAMES[found.code].encode() + b"\n")
+    return None if compilation.faults else values.Schema(compilation)
+
+
+def read_input(descriptor, most=None):
+    """All that can be read, or so much of it, and whether no read failed."""
+    pieces, length = [], 0
+    while most is None or length < most:
+        try:
+            pieces.append(os.read(descriptor, 2 ** 20 if most is None else min(2 ** 20, most - length)))
+        except OSError:
+            return b"".join(pieces), False
+        if not pieces[-1]:
+            break
+        length += len(pieces[-1])
+    return b"".join(pieces), True
+
+
+def write_texts(texts):
+    out = rpcedit.standard_output()
+    try:
+        for text in texts:
+            out.write(text)
+            out.flush()
+    except OSError:
+        raise Stop(b"output cannot be written") from None
+
+
+def run(schema_path, bare, type_name, path):
+    """The status. What can go wrong is asked for in this order."""
+    text = read_schema(schema_path or os.fsencode(BUILT_IN))
+    descriptor = open_input(path)
+    schema = compile_schema(schema_path, text)
+    if schema is None:
+        return 1
+    if type_name is not None and schema.type_named(type_name) is None:
+        raise Stop(b"no type %s" % type_name)
+    dump = Dump(schema)
+    if bare or type_name is not None:
+        data, whole = read_input(descriptor, rpcedit.GREATEST_TEXT + 1)
+        if not whole:
+            raise Stop(b"%s: cannot be read" % path)
+        if len(data) > rpcedit.GREATEST_TEXT:
+            raise Stop(b"%s: 2 TooLarge" % path)
+        write_texts([dump.message(data) if bare else dump.value(type_name, data)])
+    else:
+        data, whole = read_input(descriptor)
+        found, ended = records.records_of(data)
+        # A read that fails says nothing of the stream's end, but a header that makes a record too long is one.
+        unread = not whole and (ended is None or ended[0] != 60)
+        write_texts(dump.stream(found, None if unread else ended))
+        if unread:
+            raise Stop(b"%s: cannot be read" % path)
+    return 1 if dump.refused else 0
+
+
+def main(words):
+    def stop(reason):
+        os.write(2, b"rpcdump: %s\n" % reason)
+        return 2
+    try:
+        letters, files = getopt.gnu_getopt(words, "x:bt:")
+    except getopt.GetoptError as error:
+        return stop(str(error).encode())
+    given = dict(letters)
+    if len(files) != 1 or len(given) != len(letters):
+        return stop(b"one FILE is wanted, and each letter at most once")
+    if "-b" in given and "-t" in given:
+        return stop(b"-b and -t exclude each other")
+    names = [os.fsencode(given[letter]) if letter in given else None for letter in ("-x", "-t")]
+    try:
+        return run(names[0], "-b" in given, names[1], os.fsencode(files[0]))
+    except Stop as reason:
+        return stop(*reason.args)
+
+
+if __name__ == "__main__":
+    sys.exit(main(sys.argv[1:]))
