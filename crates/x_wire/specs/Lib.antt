@@ -1,9 +1,14 @@
+pub mod Bodies
+pub mod Calls
 pub mod Fragments
 pub mod Framers
 pub mod Framing
 pub mod HeaderFaults
 pub mod HeaderForms
 pub mod Headers
+pub mod MessageTexts
 pub mod Messages
 pub mod RecordFaults
 pub mod Records
+pub mod StreamTexts
+pub mod Tellers

@@ -1,11 +1,21 @@
-//! Remote procedure calls as they were recorded (RFC 5531): the records of a stream of bytes, and the headers of messages.
+//! Remote procedure calls as they were recorded (RFC 5531): the records of a stream of bytes, the headers of messages, and the text that is
+//! printed of them. What reads values is offered again.
 #![tactic(auto)]
 
 mod messages;
+mod nfs2;
 mod records;
+mod telling;
 
 pub use messages::{
     AcceptStat, Auth, Call, Kind, MOST_AUTH_BYTES, Message, RejectStat, Reply, message, one_answer,
     one_fault, one_message,
 };
 pub use records::{Fed, MAX_RECORD, RecordCode, RecordFault, Records, records_law};
+pub use nfs2::NFS2_X;
+pub use telling::{dump_message, dump_stream};
+pub use x_sema::{Procedure, Schema, TypeId};
+pub use x_session::{EngineFault, Outcome, dump_value};
+pub use x_value::{
+    Dump, Label, Leaf, MOST_LINKS, Node, Nodes, ReadCode, ReadFault, add_hex, dump, enc_law,
+};

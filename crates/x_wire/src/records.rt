@@ -9,7 +9,7 @@ ghost use Rattle.x_wire.specs.RecordFaults.{end_fault, record_text};
 
 mod framer;
 
-use framer::Framer;
+pub(crate) use framer::Framer;
 use std::alloc::Global;
 use std::marker::Model;
 use thiserror::Error;

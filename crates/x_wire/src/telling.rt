@@ -1,0 +1,11 @@
+//! What is printed of recorded calls: a stream of them, or one message.
+
+mod body;
+mod dumper;
+mod lines;
+mod single;
+mod stream;
+mod teller;
+
+pub use single::dump_message;
+pub use stream::dump_stream;

@@ -1,0 +1,114 @@
+//! What is printed of a stream that comes in blocks.
+ghost use Rattle.std.specs.Prelude.{◌≡◌};
+ghost use Rattle.x_session.specs.Script.{is_refused};
+
+use super::lines::add_record_fault;
+use super::teller::Teller;
+use crate::RecordCode;
+use crate::records::Framer;
+use std::alloc::Global;
+use x_sema::Schema;
+use x_session::Outcome;
+use x_text::{NoMemory, Pen, Sink};
+
+/// Tells the messages of a stream that comes in blocks.
+#[derive(Drop)]
+pub(super) struct Dumper {
+    framer: Framer,
+    teller: Teller,
+    /// Whether a fault was told.
+    refused: bool,
+}
+
+impl Dumper {
+    /// Of a stream of which no byte came. It takes no memory.
+    pub(super) fn new(alloc: Global) -> Dumper {
+        Dumper {
+            framer: Framer::new(alloc),
+            teller: Teller::new(alloc),
+            refused: false,
+        }
+    }
+
+    /// Tells the messages that become whole by a block, and answers whether the stream goes on: it ends behind a header that takes
+    /// its record over the limit. Without memory the messages before are told.
+    pub(super) fn take<S: Sink>(
+        &mut self,
+        alloc: Global,
+        schema: &Schema,
+        block: &[u8],
+        pen: &mut Pen,
+        sink: &mut S,
+    ) -> Result<bool, NoMemory> {
+        let mut rest = block;
+        while !rest.is_empty() {
+            let Some(used) = self.take_record(alloc, schema, rest, pen, sink)? else {
+                return Ok(false);
+            };
+            rest = &rest[used..];
+        }
+        Ok(true)
+    }
+
+    /// Takes bytes up to the end of the first record that they complete, if they complete one, and tells its message. Answers how many
+    /// it took, or `None` behind a header that takes its record over the limit.
+    fn take_record<S: Sink>(
+        &mut self,
+        alloc: Global,
+        schema: &Schema,
+        piece: &[u8],
+        pen: &mut Pen,
+        sink: &mut S,
+    ) -> Result<Option<usize>, NoMemory> {
+        match self.framer.feed(piece) {
+            Ok((used, is_whole)) => {
+                if is_whole {
+                    self.tell_record(alloc, schema, pen, sink)?;
+                }
+                Ok(Some(used))
+            }
+            Err(fault) => {
+                if fault.code == RecordCode::NoMemory {
+                    return Err(NoMemory);
+                }
+                Ok(None)
+            }
+        }
+    }
+
+    /// Tells the message of the last whole record. Without memory nothing is told.
+    fn tell_record<S: Sink>(
+        &mut self,
+        alloc: Global,
+        schema: &Schema,
+        pen: &mut Pen,
+        sink: &mut S,
+    ) -> Result<(), NoMemory> {
+        let record = self.framer.joined();
+        let refused = self.teller.tell(alloc, schema, record, pen, sink)?;
+        self.refused = self.refused || refused;
+        Ok(())
+    }
+
+    /// Tells the fault of the stream, where it has one if it ends here, and answers how all went.
+    pub(super) fn tell_end<S: Sink>(&self, pen: &mut Pen, sink: &mut S) -> Outcome {
+        match self.framer.end_fault() {
+            Some(fault) => {
+                add_record_fault(fault, pen, sink);
+                Outcome::Refused
+            }
+            None => outcome_of(self.refused),
+        }
+    }
+}
+
+/// How all went, by whether a fault was told.
+pub(super) fn outcome_of(refused: bool) -> Outcome
+    ensures { is_refused result ≡ refused }
+{
+    if refused {
+        Outcome::Refused
+    } else {
+        Outcome::Clean
+    }
+}
