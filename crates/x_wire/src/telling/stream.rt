@@ -13,6 +13,7 @@ use x_text::{NoMemory, Pen, Sink, Tap};
 const BLOCK: usize = 65_536;
 
 /// Why no more is told.
+#[derive(Drop)]
 enum Halt {
     /// The stream could not be read on.
     Unread,
