@@ -66,10 +66,6 @@ pub record IsIdle (c : Course) : Type 0 where
   pub unread : c.file' ≡ c.file
   pub unwritten : c.out' ≡ c.out
 
--- a front of the bytes was read
-abbrev pub HasRead : (file file' : Option (List ℕ)) → (List ℕ → Type 0) → Type 0
-HasRead file file' P = (read : List ℕ) × Consumes file file' read × P read
-
 -- all bytes were read, which are not too many
 pub record IsRead (bytes : List ℕ) (left : Option (List ℕ)) : Type 0 where
   pub fits : length bytes ≤ MAX_TEXT
@@ -90,21 +86,30 @@ ShowsFile mode type s c result =
 
 -- ---- what halts it
 
+-- some front of the bytes was read
+abbrev pub HasRead : (file file' : Option (List ℕ)) → (List ℕ → Type 0) → Type 0
+HasRead file file' P = (read : List ℕ) × Consumes file file' read × P read
+
+-- why a file is not read as a whole
+abbrev pub StopsAt : (file file' : Stream) → Halt → Type 0
+StopsAt file file' Unread = HasRead file.bytes file'.bytes (λ read. Unit {0}) × (file'.failed ≡ true)
+StopsAt file file' TooLarge = HasRead file.bytes file'.bytes (λ read. MAX_TEXT < length read)
+StopsAt file file' NoRoom = HasRead file.bytes file'.bytes (λ read. Unit {0})
+StopsAt file file' _ = ⊥
+
 -- the reading of a file as a whole stopped, and nothing of it was shown
-pub record StopsReading (mode : Mode) (c : Course) (P : List ℕ → Type 0) : Type 0 where
+pub record StopsReading (mode : Mode) (c : Course) (halt : Halt) : Type 0 where
   pub whole : mode ≢ modes.Stream
-  pub read : HasRead c.file.bytes c.file'.bytes P
+  pub stops : StopsAt c.file c.file' halt
   pub unwritten : c.out' ≡ c.out
 
 -- Why a file is not shown to its end, and what was read and written then.
 abbrev pub Halts : Mode → (type : List ℕ) → Schema → Course → Halt → Type 0
 Halts mode type s c NoType = (mode ≡ modes.Value) × (id_named s type ≡ None) × IsIdle c
-Halts mode type s c Unread = StopsReading mode c (λ read. Unit {0}) × (c.file'.failed ≡ true)
-Halts mode type s c TooLarge = StopsReading mode c (λ read. MAX_TEXT < length read)
-Halts mode type s c NoRoom = StopsReading mode c (λ read. Unit {0})
 Halts mode type s c (Ended fault) =
     ShowsFile mode type s c (Err fault) × NamesCause (Err fault) c.file.failed c.file'.failed c.out.failed c.out'.failed
 Halts mode type s c Unwritten = ((outcome : Outcome) × ShowsFile mode type s c (Ok outcome)) × (c.out'.failed ≡ true)
+Halts mode type s c halt = StopsReading mode c halt
 
 -- and what is told of it
 abbrev pub halt_told : (type file : List ℕ) → Halt → List ℕ
@@ -114,6 +119,11 @@ halt_told type file TooLarge = codes "rpcdump: " ++ file ++ codes ": 2 TooLarge\
 halt_told type file NoRoom = codes "rpcdump: out of memory\n"
 halt_told type file (Ended fault) = stop_told (codes "rpcdump") file fault
 halt_told type file Unwritten = codes "rpcdump: output cannot be written\n"
+
+-- what was written of a file, before the output was asked to pass it on
+abbrev pub Goes : Mode → (type : List ℕ) → Schema → Course → Result Outcome Halt → Type 0
+Goes mode type s c (Ok outcome) = ShowsFile mode type s c (Ok outcome) × (c.file'.failed ≡ c.file.failed)
+Goes mode type s c (Err halt) = Halts mode type s c halt
 
 -- A file is shown to its end, and the output works, or it is not.
 abbrev pub Ends : Mode → (type : List ℕ) → Schema → Course → Result Outcome Halt → Type 0

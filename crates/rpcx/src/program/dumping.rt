@@ -1,11 +1,10 @@
 //! What `rpcdump` does over the text of a schema, a tap and sinks.
 
-ghost use Rattle.std.specs.Prelude.{◌≡◌, ◌<◌, ◌≤◌, ◌⊎◌, ℕ, List, [], Some, true, codes, length, option_map, MatchOption, IfOk, OnOk, IfErr, IsErrOf, Err};
+ghost use Rattle.std.specs.Prelude.{◌≡◌, ◌≢◌, ◌<◌, ◌≤◌, ◌×◌, ◌⊎◌, ◌++◌, ℕ, List, codes, length, option_map, unwrap_or, IfOk, OnOk, IfErr, IsErrOf};
+ghost use Rattle.std.specs.Io.KnownBytes.{Consumes, IsAtEnd};
 ghost use Rattle.x_text.specs.declared.source.TheConstants.{MAX_TEXT};
-ghost use Rattle.x_sema.specs.Schema.{IsTypeId};
-ghost use Rattle.rpcx.specs.Dumping.{course, halt_told, schema_name, schema_text, type_asked};
-ghost use Rattle.rpcx.specs.Dumping.{Ends, HasShown, HasTypes, IsFaultless, IsIdle, NotDumped, StopsAt, TellsFaults, EndsWhole, Shown};
-ghost use Rattle.rpcx.specs.Generate.{IsTold, NotOpened, told_of};
+ghost use Rattle.rpcx.specs.Dumping.{course, halt_told, schema_name, schema_text, type_asked, Ends, Goes, HasShown, HasTypes, IsFaultless, IsIdle, NotDumped, StopsAt, TellsFaults};
+ghost use Rattle.rpcx.specs.Generate.{IsTold, NotOpened};
 
 use crate::program::complaint::{tell_of_file, tell_stop};
 use crate::program::dumping_args::{DumpArgs, Mode};
@@ -20,7 +19,7 @@ use x_wire::{EngineFault, NFS2_X, Outcome, Schema, dump_message, dump_stream, du
 const BLOCK: usize = 65_536;
 
 /// Why the bytes of a file are not shown to their end.
-#[derive(Drop)]
+#[derive(Clone, Copy, Debug, PartialEq, Eq)]
 enum Halt {
     /// The schema has no type of the name.
     NoType,
@@ -47,7 +46,21 @@ pub fn dump_run<I: Tap, O: Sink, E: Sink>(
     input: &mut I,
     out: &mut O,
     err: &mut E,
-) -> Status {
+) -> Status
+    ensures done { result ≡ Status.Done → (err.new ≡ err.old)
+        × HasShown mode (type_asked args.now) (schema_text (option_map (λ t. t.now) schema))
+        (course (I.state input.old) (I.state input.new) (O.state out.old) (O.state out.new)) Outcome.Clean }
+    ensures faulty { result ≡ Status.Faulty
+        → TellsFaults (schema_name args.now) (schema_text (option_map (λ t. t.now) schema)) (E.state err.old) (E.state err.new)
+        × IsIdle (course (I.state input.old) (I.state input.new) (O.state out.old) (O.state out.new))
+        ⊎ (err.new ≡ err.old)
+        × HasShown mode (type_asked args.now) (schema_text (option_map (λ t. t.now) schema))
+        (course (I.state input.old) (I.state input.new) (O.state out.old) (O.state out.new)) Outcome.Refused }
+    ensures failed { result ≡ Status.Failed → NotDumped args.now mode (schema_text (option_map (λ t. t.now) schema))
+        (course (I.state input.old) (I.state input.new) (O.state out.old) (O.state out.new))
+        (E.state err.old) (E.state err.new) }
+    ensures too_large { MAX_TEXT < length (schema_text (option_map (λ t. t.now) schema)) → result ≡ Status.Failed }
+{
     let schema = match open_schema(alloc, args, schema, err) {
         Ok(schema) => schema,
         Err(status) => return status,
@@ -55,7 +68,7 @@ pub fn dump_run<I: Tap, O: Sink, E: Sink>(
     let shown = show(alloc, args, mode, &schema, input, out);
     // The process ends next, and gives all memory back at once.
     mem::forget(schema);
-    match passed_on(shown, out) {
+    match shown {
         Ok(Outcome::Clean) => Status::Done,
         Ok(Outcome::Refused) => Status::Faulty,
         Err(halt) => {
@@ -71,7 +84,19 @@ fn open_schema<E: Sink>(
     args: &DumpArgs,
     text: Option<&[u8]>,
     err: &mut E,
-) -> Result<Schema, Status> {
+) -> Result<Schema, Status>
+    ensures types { IfOk result (HasTypes (schema_text (option_map (λ t. t.now) text))) }
+    ensures faulty { IsErrOf result Status.Faulty
+        → TellsFaults (schema_name args.now) (schema_text (option_map (λ t. t.now) text)) (E.state err.old) (E.state err.new) }
+    ensures failed { IsErrOf result Status.Failed
+        → NotOpened (codes "rpcdump") (schema_name args.now) (schema_text (option_map (λ t. t.now) text))
+        (E.state err.old) (E.state err.new)
+        ⊎ IsFaultless (schema_text (option_map (λ t. t.now) text))
+        × IsTold (E.state err.old) (E.state err.new) (codes "rpcdump: out of memory\n") }
+    ensures others { IfErr result (λ status. (status ≡ Status.Faulty) ⊎ (status ≡ Status.Failed)) }
+    ensures too_large { MAX_TEXT < length (schema_text (option_map (λ t. t.now) text)) → IsErrOf result Status.Failed }
+    ensures quiet { OnOk result (err.new ≡ err.old) }
+{
     let file = args.schema.unwrap_or("nfs2.x");
     let text = text.unwrap_or(NFS2_X);
     let session = open_text(alloc, "rpcdump", file, text, err)?;
@@ -87,7 +112,7 @@ fn open_schema<E: Sink>(
     }
 }
 
-/// Shows the bytes of a file by the mode.
+/// Shows the bytes of a file, and has the output pass on what was shown.
 fn show<I: Tap, O: Sink>(
     alloc: Global,
     args: &DumpArgs,
@@ -95,7 +120,29 @@ fn show<I: Tap, O: Sink>(
     schema: &Schema,
     input: &mut I,
     out: &mut O,
-) -> Result<Outcome, Halt> {
+) -> Result<Outcome, Halt>
+    ensures { Ends mode (type_asked args.now) schema.now
+        (course (I.state input.old) (I.state input.new) (O.state out.old) (O.state out.new)) result }
+{
+    let outcome = show_by_mode(alloc, args, mode, schema, input, out)?;
+    match out.flush() {
+        Ok(()) => Ok(outcome),
+        Err(_) => Err(Halt::Unwritten),
+    }
+}
+
+/// Shows the bytes of a file by the mode.
+fn show_by_mode<I: Tap, O: Sink>(
+    alloc: Global,
+    args: &DumpArgs,
+    mode: Mode,
+    schema: &Schema,
+    input: &mut I,
+    out: &mut O,
+) -> Result<Outcome, Halt>
+    ensures { Goes mode (type_asked args.now) schema.now
+        (course (I.state input.old) (I.state input.new) (O.state out.old) (O.state out.new)) result }
+{
     match mode {
         Mode::Stream => show_stream(alloc, schema, input, out),
         Mode::Message => show_message(alloc, schema, input, out),
@@ -109,7 +156,10 @@ fn show_stream<I: Tap, O: Sink>(
     schema: &Schema,
     input: &mut I,
     out: &mut O,
-) -> Result<Outcome, Halt> {
+) -> Result<Outcome, Halt>
+    ensures { (name : List ℕ) → Goes Mode.Stream name schema.now
+        (course (I.state input.old) (I.state input.new) (O.state out.old) (O.state out.new)) result }
+{
     match dump_stream(alloc, schema, input, out) {
         Ok(outcome) => Ok(outcome),
         Err(fault) => Err(Halt::Ended(fault)),
@@ -122,7 +172,10 @@ fn show_message<I: Tap, O: Sink>(
     schema: &Schema,
     input: &mut I,
     out: &mut O,
-) -> Result<Outcome, Halt> {
+) -> Result<Outcome, Halt>
+    ensures { (name : List ℕ) → Goes Mode.Message name schema.now
+        (course (I.state input.old) (I.state input.new) (O.state out.old) (O.state out.new)) result }
+{
     let bytes = read_all(alloc, input)?;
     match dump_message(alloc, schema, &bytes, out) {
         Ok(outcome) => Ok(outcome),
@@ -137,7 +190,10 @@ fn show_value<I: Tap, O: Sink>(
     schema: &Schema,
     input: &mut I,
     out: &mut O,
-) -> Result<Outcome, Halt> {
+) -> Result<Outcome, Halt>
+    ensures { Goes Mode.Value type_name.now schema.now
+        (course (I.state input.old) (I.state input.new) (O.state out.old) (O.state out.new)) result }
+{
     let Some(id) = schema.type_named(type_name.as_bytes()) else {
         return Err(Halt::NoType);
     };
@@ -149,7 +205,13 @@ fn show_value<I: Tap, O: Sink>(
 }
 
 /// Reads all bytes of a tap, but no more of them than show that there are too many.
-fn read_all<I: Tap>(alloc: Global, input: &mut I) -> Result<Vec<u8>, Halt> {
+fn read_all<I: Tap>(alloc: Global, input: &mut I) -> Result<Vec<u8>, Halt>
+    ensures read { IfOk result (λ bytes. Consumes (I.state input.old).bytes (I.state input.new).bytes bytes.items) }
+    ensures all { OnOk result (IsAtEnd (I.state input.new).bytes) }
+    ensures fits { IfOk result (λ bytes. length bytes.items ≤ MAX_TEXT) }
+    ensures working { OnOk result ((I.state input.new).failed ≡ (I.state input.old).failed) }
+    ensures stops { IfErr result (StopsAt (I.state input.old) (I.state input.new)) }
+{
     let mut bytes = Vec::new(alloc);
     let Ok(mut block) = Vec::from_elem(alloc, 0, BLOCK) else {
         return Err(Halt::NoRoom);
@@ -169,17 +231,11 @@ fn read_all<I: Tap>(alloc: Global, input: &mut I) -> Result<Vec<u8>, Halt> {
     Err(Halt::TooLarge)
 }
 
-/// Has the output pass on what was shown.
-fn passed_on<O: Sink>(shown: Result<Outcome, Halt>, out: &mut O) -> Result<Outcome, Halt> {
-    let outcome = shown?;
-    if out.flush().is_err() {
-        return Err(Halt::Unwritten);
-    }
-    Ok(outcome)
-}
-
 /// Writes why a file is not shown to its end.
-fn tell_halt<E: Sink>(halt: Halt, args: &DumpArgs, err: &mut E) {
+fn tell_halt<E: Sink>(halt: Halt, args: &DumpArgs, err: &mut E)
+    ensures { IsTold (E.state err.old) (E.state err.new)
+        (halt_told (type_asked args.now) args.now.file.now halt) }
+{
     match halt {
         Halt::NoType => tell_no_type(args.type_name.unwrap_or(""), err),
         Halt::Unread => tell_of_file("rpcdump", args.file, ": cannot be read\n", err),
@@ -191,7 +247,10 @@ fn tell_halt<E: Sink>(halt: Halt, args: &DumpArgs, err: &mut E) {
 }
 
 /// Writes that the schema has no type of this name.
-fn tell_no_type<E: Sink>(name: &str, err: &mut E) {
+fn tell_no_type<E: Sink>(name: &str, err: &mut E)
+    ensures { IsTold (E.state err.old) (E.state err.new)
+        (codes "rpcdump: no type " ++ name.now ++ codes "\n") }
+{
     let mut pen = Pen::new();
     pen.add(b"rpcdump: no type ", err);
     pen.add(name.as_bytes(), err);
