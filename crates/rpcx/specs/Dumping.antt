@@ -1,5 +1,5 @@
 -- What a run of `rpcdump` does with the bytes of its file.
-use Rattle.std.specs.Prelude.{◌≡◌, ◌≢◌, ◌<◌, ◌≤◌, ℕ, Bool, true, false, List, [], ◌++◌, length, Option, Some, None, MatchOption, Result, Ok, Err, codes, option_map, unwrap_or}
+use Rattle.std.specs.Prelude.{◌≡◌, ◌≢◌, ◌⊎◌, ◌<◌, ◌≤◌, ℕ, Bool, true, false, List, [], ◌++◌, length, Option, Some, None, MatchOption, Result, Ok, Err, codes, option_map, unwrap_or}
 use Rattle.std.specs.Io.KnownBytes.{Consumes}
 use Rattle.x_text.specs.Streams.{Stream}
 use Rattle.x_text.specs.declared.source.TheConstants.{MAX_TEXT}
@@ -10,7 +10,9 @@ use Rattle.x_session.specs.Session.{Compiles}
 use Rattle.x_session.specs.Compile.{definitions_of, faults_of}
 use Rattle.x_session.specs.Script.{NamesCause}
 use Rattle.x_session.specs.ValueTexts.{WritesValue}
+use Rattle.x_session.specs.declared.compile.fault.Fault.{Fault}
 use Rattle.x_session.specs.declared.script.Outcome.{Outcome}
+use Rattle.x_session.specs.declared.script.Outcome.TheVariants.{Clean, Refused}
 use Rattle.x_session.specs.declared.script.EngineFault.{EngineFault}
 use Rattle.x_wire.specs.StreamTexts.{DumpsMessage, DumpsStream}
 use Rattle.x_wire.specs.declared.nfs2.TheConstants.{NFS2_X}
@@ -20,6 +22,8 @@ use Rattle.rpcx.specs.declared.program.dumping.Halt.TheVariants.{NoType, Unread,
 use Rattle.rpcx.specs.declared.program.dumping_args.DumpArgs.{DumpArgs}
 use Rattle.rpcx.specs.declared.program.dumping_args.Mode.{Mode}
 use Rattle.rpcx.specs.declared.program.dumping_args.Mode.TheVariants as modes
+use Rattle.rpcx.specs.declared.program.status.Status.{Status}
+use Rattle.rpcx.specs.declared.program.status.Status.TheVariants.{Done, Faulty, Failed}
 
 -- ---- the schema
 
@@ -40,14 +44,21 @@ pub record IsFaultless (text : List ℕ) : Type 0 where
   pub fits : length text ≤ MAX_TEXT
   pub clean : Compiles text (λ items. faults_of text items ≡ [])
 
+-- the text is one that can be compiled, and has faults of which this holds
+abbrev pub HasFaults : List ℕ → (List Fault → Type 0) → Type 0
+HasFaults text P = (length text ≤ MAX_TEXT) × Compiles text (λ items. (0 < length (faults_of text items)) × P (faults_of text items))
+
 -- the text has no fault, and these are its types
 abbrev pub HasTypes : List ℕ → Schema → Type 0
 HasTypes text s = (length text ≤ MAX_TEXT) × Compiles text (λ items. (faults_of text items ≡ []) × IsSchemaOf (definitions_of items) s)
 
--- the text has faults, which were told
-abbrev pub TellsFaults : (file text : List ℕ) → (before after : Stream) → Type 0
-TellsFaults file text before after =
-    Compiles text (λ items. (0 < length (faults_of text items)) × IsTold before after (told_faults file (faults_of text items)))
+-- What opening the types of a text comes to: there are such, or its faults were told, or it was told why it is not opened.
+abbrev pub Opens : (file text : List ℕ) → (before after : Stream) → Result Schema Status → Type 0
+Opens file text before after (Ok s) = HasTypes text s
+Opens file text before after (Err Faulty) = HasFaults text (λ all. IsTold before after (told_faults file all))
+Opens file text before after (Err Failed) = NotOpened (codes "rpcdump") file text before after
+    ⊎ IsFaultless text × IsTold before after (codes "rpcdump: out of memory\n")
+Opens file text before after (Err Done) = ⊥
 
 -- ---- what is shown
 
@@ -136,9 +147,18 @@ Ends mode type s c (Err halt) = Halts mode type s c halt
 abbrev pub HasShown : Mode → (type text : List ℕ) → Course → Outcome → Type 0
 HasShown mode type text c outcome = (s : Schema) × HasTypes text s × Ends mode type s c (Ok outcome)
 
--- Why a run is not carried out, as it is told: the schema's text is too large, or memory ran out over it; or the file is not shown to its end.
+-- Why a run is not carried out, as it is told: the schema's text is not opened, or memory ran out over it; or the file is not shown to its end.
 pub data NotDumped (args : DumpArgs) (mode : Mode) (text : List ℕ) (c : Course) (before after : Stream) : Type 0 where
   unopened : NotOpened (codes "rpcdump") (schema_name args) text before after → IsIdle c → NotDumped args mode text c before after
   untyped : IsFaultless text → IsTold before after (codes "rpcdump: out of memory\n") → IsIdle c → NotDumped args mode text c before after
   halted : (s : Schema) → HasTypes text s → (halt : Halt) → Halts mode (type_asked args) s c halt
       → IsTold before after (halt_told (type_asked args) args.file.now halt) → NotDumped args mode text c before after
+
+-- A run that ends with this status: the file was shown to its end without a fault; or the schema's text has faults, which were told, or what
+-- was shown has one; or the run was not carried out.
+abbrev pub HasDumped : DumpArgs → Mode → (text : List ℕ) → Course → (before after : Stream) → Status → Type 0
+HasDumped args mode text c before after Done = HasShown mode (type_asked args) text c Clean × (after ≡ before)
+HasDumped args mode text c before after Faulty =
+    HasFaults text (λ all. IsTold before after (told_faults (schema_name args) all)) × IsIdle c
+    ⊎ HasShown mode (type_asked args) text c Refused × (after ≡ before)
+HasDumped args mode text c before after Failed = NotDumped args mode text c before after

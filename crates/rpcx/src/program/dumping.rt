@@ -1,10 +1,10 @@
 //! What `rpcdump` does over the text of a schema, a tap and sinks.
 
-ghost use Rattle.std.specs.Prelude.{◌≡◌, ◌≢◌, ◌<◌, ◌≤◌, ◌×◌, ◌⊎◌, ◌++◌, ℕ, List, codes, length, option_map, unwrap_or, IfOk, OnOk, IfErr, IsErrOf};
+ghost use Rattle.std.specs.Prelude.{◌≡◌, ◌≤◌, ◌++◌, ℕ, List, codes, length, option_map, IfOk, OnOk, IfErr};
 ghost use Rattle.std.specs.Io.KnownBytes.{Consumes, IsAtEnd};
 ghost use Rattle.x_text.specs.declared.source.TheConstants.{MAX_TEXT};
-ghost use Rattle.rpcx.specs.Dumping.{course, halt_told, schema_name, schema_text, type_asked, Ends, Goes, HasShown, HasTypes, IsFaultless, IsIdle, NotDumped, StopsAt, TellsFaults};
-ghost use Rattle.rpcx.specs.Generate.{IsTold, NotOpened};
+ghost use Rattle.rpcx.specs.Dumping.{course, halt_told, schema_name, schema_text, type_asked, Ends, Goes, HasDumped, Opens, StopsAt};
+ghost use Rattle.rpcx.specs.Generate.{IsTold};
 
 use crate::program::complaint::{tell_of_file, tell_stop};
 use crate::program::dumping_args::{DumpArgs, Mode};
@@ -47,19 +47,10 @@ pub fn dump_run<I: Tap, O: Sink, E: Sink>(
     out: &mut O,
     err: &mut E,
 ) -> Status
-    ensures done { result ≡ Status.Done → (err.new ≡ err.old)
-        × HasShown mode (type_asked args.now) (schema_text (option_map (λ t. t.now) schema))
-        (course (I.state input.old) (I.state input.new) (O.state out.old) (O.state out.new)) Outcome.Clean }
-    ensures faulty { result ≡ Status.Faulty
-        → TellsFaults (schema_name args.now) (schema_text (option_map (λ t. t.now) schema)) (E.state err.old) (E.state err.new)
-        × IsIdle (course (I.state input.old) (I.state input.new) (O.state out.old) (O.state out.new))
-        ⊎ (err.new ≡ err.old)
-        × HasShown mode (type_asked args.now) (schema_text (option_map (λ t. t.now) schema))
-        (course (I.state input.old) (I.state input.new) (O.state out.old) (O.state out.new)) Outcome.Refused }
-    ensures failed { result ≡ Status.Failed → NotDumped args.now mode (schema_text (option_map (λ t. t.now) schema))
+    ensures dumped { HasDumped args.now mode (schema_text (option_map (λ t. t.now) schema.entry))
         (course (I.state input.old) (I.state input.new) (O.state out.old) (O.state out.new))
-        (E.state err.old) (E.state err.new) }
-    ensures too_large { MAX_TEXT < length (schema_text (option_map (λ t. t.now) schema)) → result ≡ Status.Failed }
+        (E.state err.old) (E.state err.new) result }
+    ensures quiet { result ≡ Status.Done → err.new ≡ err.old }
 {
     let schema = match open_schema(alloc, args, schema, err) {
         Ok(schema) => schema,
@@ -78,29 +69,34 @@ pub fn dump_run<I: Tap, O: Sink, E: Sink>(
     }
 }
 
-/// The types of a schema's text, or where it has none the status, as [`open_text`] tells it.
+/// The types of the schema, or where its text has none the status.
 fn open_schema<E: Sink>(
     alloc: Global,
     args: &DumpArgs,
     text: Option<&[u8]>,
     err: &mut E,
 ) -> Result<Schema, Status>
-    ensures types { IfOk result (HasTypes (schema_text (option_map (λ t. t.now) text))) }
-    ensures faulty { IsErrOf result Status.Faulty
-        → TellsFaults (schema_name args.now) (schema_text (option_map (λ t. t.now) text)) (E.state err.old) (E.state err.new) }
-    ensures failed { IsErrOf result Status.Failed
-        → NotOpened (codes "rpcdump") (schema_name args.now) (schema_text (option_map (λ t. t.now) text))
-        (E.state err.old) (E.state err.new)
-        ⊎ IsFaultless (schema_text (option_map (λ t. t.now) text))
-        × IsTold (E.state err.old) (E.state err.new) (codes "rpcdump: out of memory\n") }
-    ensures others { IfErr result (λ status. (status ≡ Status.Faulty) ⊎ (status ≡ Status.Failed)) }
-    ensures too_large { MAX_TEXT < length (schema_text (option_map (λ t. t.now) text)) → IsErrOf result Status.Failed }
+    ensures opens { Opens (schema_name args.now) (schema_text (option_map (λ t. t.now) text.entry))
+        (E.state err.old) (E.state err.new) result }
     ensures quiet { OnOk result (err.new ≡ err.old) }
 {
     let file = args.schema.unwrap_or("nfs2.x");
-    let text = text.unwrap_or(NFS2_X);
+    open_types(alloc, file, text.unwrap_or(NFS2_X), err)
+}
+
+/// The types of the text of a file, or where it has none the status: of its faults, as [`open_text`] tells them, or of want of memory.
+fn open_types<E: Sink>(
+    alloc: Global,
+    file: &str,
+    text: &[u8],
+    err: &mut E,
+) -> Result<Schema, Status>
+    ensures opens { Opens file.now text.now (E.state err.old) (E.state err.new) result }
+    ensures quiet { OnOk result (err.new ≡ err.old) }
+{
     let session = open_text(alloc, "rpcdump", file, text, err)?;
     let schema = session.schema();
+    // The process ends soon, and gives all memory back at once.
     mem::forget(session);
     match schema {
         Ok(schema) => Ok(schema),
