@@ -1,6 +1,6 @@
 -- What a run of `rpcdump` does with the bytes of its file.
 use Rattle.std.specs.Prelude.{◌≡◌, ◌≢◌, ◌⊎◌, ◌<◌, ◌≤◌, ℕ, Bool, true, false, List, [], ◌++◌, length, Option, Some, None, MatchOption, Result, Ok, Err, codes, option_map, unwrap_or}
-use Rattle.std.specs.Io.KnownBytes.{Consumes}
+use Rattle.std.specs.Io.KnownBytes.{Consumes, IsAtEnd}
 use Rattle.x_text.specs.Streams.{Stream}
 use Rattle.x_text.specs.declared.source.TheConstants.{MAX_TEXT}
 use Rattle.x_sema.specs.Schema.{Schema, id_named}
@@ -16,7 +16,7 @@ use Rattle.x_session.specs.declared.script.Outcome.TheVariants.{Clean, Refused}
 use Rattle.x_session.specs.declared.script.EngineFault.{EngineFault}
 use Rattle.x_wire.specs.StreamTexts.{DumpsMessage, DumpsStream}
 use Rattle.x_wire.specs.declared.nfs2.TheConstants.{NFS2_X}
-use Rattle.rpcx.specs.Generate.{IsTold, NotOpened, stop_told, told_faults, told_of}
+use Rattle.rpcx.specs.Generate.{IsTold, NotOpened, stop_told, told_faults}
 use Rattle.rpcx.specs.declared.program.dumping.Halt.{Halt}
 use Rattle.rpcx.specs.declared.program.dumping.Halt.TheVariants.{NoType, Unread, TooLarge, NoRoom, Ended, Unwritten}
 use Rattle.rpcx.specs.declared.program.dumping_args.DumpArgs.{DumpArgs}
@@ -82,13 +82,16 @@ pub record IsRead (bytes : List ℕ) (left : Option (List ℕ)) : Type 0 where
   pub fits : length bytes ≤ MAX_TEXT
   pub none_left : left ≡ Some []
 
+-- the text of a value of the named type was written
+abbrev pub WritesNamed : Schema → (type bytes : List ℕ) → (before after : Stream) → Result Outcome EngineFault → Type 0
+WritesNamed s type bytes before after result = (id : TypeId) × (id_named s type ≡ Some id) × WritesValue s id bytes before after result
+
 -- What is written of these bytes, of which the file has `left` then: as a stream; whole, as one message or as one value of the named type.
 abbrev pub Shows : Mode → (type : List ℕ) → Schema → (bytes : List ℕ) → (left : Option (List ℕ)) → (before after : Stream)
     → Result Outcome EngineFault → Type 0
 Shows modes.Stream type s bytes left before after result = DumpsStream s bytes left before after result
 Shows modes.Message type s bytes left before after result = IsRead bytes left × DumpsMessage s bytes before after result
-Shows modes.Value type s bytes left before after result =
-    IsRead bytes left × (id : TypeId) × (id_named s type ≡ Some id) × WritesValue s id bytes before after result
+Shows modes.Value type s bytes left before after result = IsRead bytes left × WritesNamed s type bytes before after result
 
 -- the same of a file, where it tells its bytes
 abbrev pub ShowsFile : Mode → (type : List ℕ) → Schema → Course → Result Outcome EngineFault → Type 0
@@ -107,6 +110,20 @@ StopsAt file file' Unread = HasRead file.bytes file'.bytes (λ read. Unit {0}) �
 StopsAt file file' TooLarge = HasRead file.bytes file'.bytes (λ read. MAX_TEXT < length read)
 StopsAt file file' NoRoom = HasRead file.bytes file'.bytes (λ read. Unit {0})
 StopsAt file file' _ = ⊥
+
+-- a file was read to its end, which has these bytes and not too many
+pub record ReadsAll (bytes : List ℕ) (file file' : Stream) : Type 0 where
+  pub read : Consumes file.bytes file'.bytes bytes
+  pub all : IsAtEnd file'.bytes
+  pub fits : length bytes ≤ MAX_TEXT
+  pub working : file'.failed ≡ file.failed
+
+-- a file is read on: some bytes came behind those that were there, or none is left
+abbrev pub ReadsOn : (old new : List ℕ) → (file file' : Stream) → Result Bool Halt → Type 0
+ReadsOn old new file file' (Ok true) = (more : List ℕ) × (new ≡ old ++ more) × (0 < length more) × Consumes file.bytes file'.bytes more
+    × (file'.failed ≡ file.failed)
+ReadsOn old new file file' (Ok false) = (new ≡ old) × Consumes file.bytes file'.bytes [] × IsAtEnd file'.bytes × (file'.failed ≡ file.failed)
+ReadsOn old new file file' (Err halt) = StopsAt file file' halt
 
 -- the reading of a file as a whole stopped, and nothing of it was shown
 pub record StopsReading (mode : Mode) (c : Course) (halt : Halt) : Type 0 where

@@ -1,9 +1,7 @@
 //! What `rpcdump` does over the text of a schema, a tap and sinks.
 
-ghost use Rattle.std.specs.Prelude.{◌≡◌, ◌≤◌, ◌++◌, ℕ, List, codes, length, option_map, IfOk, OnOk, IfErr};
-ghost use Rattle.std.specs.Io.KnownBytes.{Consumes, IsAtEnd};
-ghost use Rattle.x_text.specs.declared.source.TheConstants.{MAX_TEXT};
-ghost use Rattle.rpcx.specs.Dumping.{course, halt_told, schema_name, schema_text, type_asked, Ends, Goes, HasDumped, Opens, StopsAt};
+ghost use Rattle.std.specs.Prelude.{◌≡◌, ◌<◌, ◌++◌, ℕ, List, codes, length, option_map, IfOk, OnOk, IfErr};
+ghost use Rattle.rpcx.specs.Dumping.{course, halt_told, schema_name, schema_text, type_asked, Ends, Goes, HasDumped, Opens, ReadsAll, ReadsOn, StopsAt};
 ghost use Rattle.rpcx.specs.Generate.{IsTold};
 
 use crate::program::complaint::{tell_of_file, tell_stop};
@@ -202,29 +200,54 @@ fn show_value<I: Tap, O: Sink>(
 
 /// Reads all bytes of a tap, but no more of them than show that there are too many.
 fn read_all<I: Tap>(alloc: Global, input: &mut I) -> Result<Vec<u8>, Halt>
-    ensures read { IfOk result (λ bytes. Consumes (I.state input.old).bytes (I.state input.new).bytes bytes.items) }
-    ensures all { OnOk result (IsAtEnd (I.state input.new).bytes) }
-    ensures fits { IfOk result (λ bytes. length bytes.items ≤ MAX_TEXT) }
-    ensures working { OnOk result ((I.state input.new).failed ≡ (I.state input.old).failed) }
+    ensures read { IfOk result (λ bytes. ReadsAll bytes.items (I.state input.old) (I.state input.new)) }
+    ensures stops { IfErr result (StopsAt (I.state input.old) (I.state input.new)) }
+{
+    match Vec::from_elem(alloc, 0, BLOCK) {
+        Ok(mut block) => read_by_blocks(alloc, &mut block, input),
+        Err(_) => Err(Halt::NoRoom),
+    }
+}
+
+/// Reads them by way of a block.
+fn read_by_blocks<I: Tap>(
+    alloc: Global,
+    block: &mut [u8],
+    input: &mut I,
+) -> Result<Vec<u8>, Halt>
+    requires { 0 < length block.old }
+    ensures read { IfOk result (λ bytes. ReadsAll bytes.items (I.state input.old) (I.state input.new)) }
     ensures stops { IfErr result (StopsAt (I.state input.old) (I.state input.new)) }
 {
     let mut bytes = Vec::new(alloc);
-    let Ok(mut block) = Vec::from_elem(alloc, 0, BLOCK) else {
-        return Err(Halt::NoRoom);
-    };
     while bytes.len() <= MAX_TEXT {
-        let room = BLOCK.min(MAX_TEXT + 1 - bytes.len());
-        let Ok(count) = input.take(&mut block[..room]) else {
-            return Err(Halt::Unread);
-        };
-        if count == 0 {
+        let room = block.len().min(MAX_TEXT + 1 - bytes.len());
+        if !read_more(&mut block[..room], &mut bytes, input)? {
             return Ok(bytes);
-        }
-        if bytes.extend_from_slice(&block[..count]).is_err() {
-            return Err(Halt::NoRoom);
         }
     }
     Err(Halt::TooLarge)
+}
+
+/// Reads bytes of a tap by way of a buffer and puts them behind those that are there, and answers whether there were any left.
+fn read_more<I: Tap>(
+    buffer: &mut [u8],
+    bytes: &mut Vec<u8>,
+    input: &mut I,
+) -> Result<bool, Halt>
+    requires { 0 < length buffer.old }
+    ensures { ReadsOn bytes.old.items bytes.new.items (I.state input.old) (I.state input.new) result }
+{
+    let Ok(count) = input.take(buffer) else {
+        return Err(Halt::Unread);
+    };
+    if count == 0 {
+        return Ok(false);
+    }
+    match bytes.extend_from_slice(&buffer[..count]) {
+        Ok(()) => Ok(true),
+        Err(_) => Err(Halt::NoRoom),
+    }
 }
 
 /// Writes why a file is not shown to its end.

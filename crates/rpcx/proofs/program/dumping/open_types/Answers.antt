@@ -16,12 +16,12 @@ returns-in_err-session-clause-opens g c =
 
 pub returns-in-Ok-clause-opens : goal.returns-in-Ok-clause-opens
 returns-in-Ok-clause-opens g c =
-    has_types c.args.text.now c.in-Ok.schema c.in_ok-session.ensures.too_large
+    has_types c.args.text.now c.in-Ok.schema (λ more. let off = c.in_ok-session.ensures.too_large more in cc)
     (subst (λ t. Compiles t (λ items. GivesSchema t items (Ok c.in-Ok.schema))) c.in_ok-session.ensures.text c.in-Ok.ensures)
 
 pub returns-in-Err-clause-opens : goal.returns-in-Err-clause-opens
 returns-in-Err-clause-opens g c =
     inr (
-      faultless c.args.text.now c.in_ok-session.ensures.too_large c.in_ok-session.ensures.clean,
+      faultless c.args.text.now (λ more. let off = c.in_ok-session.ensures.too_large more in cc) c.in_ok-session.ensures.clean,
       subst (λ e. IsTold (g.E.Sink.state e) (g.E.Sink.state c.tell_of_file.new.err) (codes "rpcdump: out of memory\n")) c.in_ok-session.ensures.quiet c.tell_of_file.ensures,
     )

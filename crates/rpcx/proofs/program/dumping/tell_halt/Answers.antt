@@ -1,4 +1,4 @@
-use Rattle.std.proofs.Common.{sym, subst, ap, codes, ◌++◌}
+use Rattle.std.proofs.Common.{sym, subst, codes, ◌++◌}
 use Rattle.rpcx.specs.Dumping.{halt_told, type_asked}
 use Rattle.rpcx.specs.Generate.{IsTold}
 use Rattle.rpcx.proofs.Dumping.{now_or}

@@ -1,4 +1,4 @@
-use Rattle.std.proofs.Common.{◌≡◌, ◌∙◌, [], ◌∷◌, rules, refl, ap, ap₂, arith, codes}
+use Rattle.std.proofs.Common.{◌∙◌, [], ◌∷◌, rules, refl, ap, ap₂, arith, codes}
 use Rattle.std.proofs.lemmas.Result.{IfOk-weaker}
 use Rattle.std.proofs.lemmas.List.Elements.{All-cons, All-nil}
 use Rattle.clap.specs.Words.{Rule, Text, with_rule}
