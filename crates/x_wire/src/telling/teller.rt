@@ -123,17 +123,36 @@ impl Teller {
     {
         // No stream comes to so many messages.
         let number = self.count.checked_add(1).ok_or(NoMemory)?;
-        let refused = match message(bytes) {
-            Ok(message) => self.tell_message(alloc, schema, number, &message, pen, sink)?,
-            Err(fault) => {
-                add_bad_header(number, &fault, bytes, pen, sink);
-                true
-            }
-        };
+        let refused = self.tell_bytes(alloc, schema, number, bytes, pen, sink)?;
         self.count = number;
         Ok(refused)
     }
 
+    /// Tells the message of this number.
+    fn tell_bytes<S: Sink>(
+        &mut self,
+        alloc: Global,
+        schema: &Schema,
+        number: u64,
+        bytes: &[u8],
+        pen: &mut Pen,
+        sink: &mut S,
+    ) -> Result<bool, NoMemory>
+        ensures told { IfOk result (λ refused. TellsMessage schema.now number self.old.calls.entries bytes.now
+            refused self.new.calls.entries pen.old (S.state sink.old) pen.new (S.state sink.new)) }
+        ensures same { OnErr result ((pen.new ≡ pen.old) × (sink.new ≡ sink.old)) }
+        ensures count { self.new.count ≡ self.old.count }
+    {
+        match message(bytes) {
+            Ok(message) => self.tell_message(alloc, schema, number, &message, pen, sink),
+            Err(fault) => {
+                add_bad_header(number, &fault, bytes, pen, sink);
+                Ok(true)
+            }
+        }
+    }
+
+    /// Tells a message whose header is read.
     fn tell_message<S: Sink>(
         &mut self,
         alloc: Global,
