@@ -146,14 +146,14 @@ pub tells_bare : (s : Schema) (number xid : ℕ) (heard : Option Heard) (found :
     → Adds p start q end (reply_line number xid (codes "accepted " ++ accept_name accept) heard name ++ auth_line (codes "verf") verf ++ accept_details accept)
     → TellsReply s number xid heard (Accepted xid verf accept) body false p start q end
 tells_bare s number xid heard found name verf accept body p q start end is_found named behind added calls is = (
-      plain [],
-      behind calls,
-      record {
-        added = subst (λ t. Adds p start q end t) (accepted_is s number xid heard found name verf accept calls is_found named is
-            ∙ sym (append-nil (head_text s number calls (Accepted xid verf accept)))) added;
-        refused_is = refl;
-      },
-    )
+  plain [],
+  behind calls,
+  record {
+    added = subst (λ t. Adds p start q end t) (accepted_is s number xid heard found name verf accept calls is_found named is
+        ∙ sym (append-nil (head_text s number calls (Accepted xid verf accept)))) added;
+    refused_is = refl;
+  },
+)
 
 -- nothing stands behind a state other than a success
 pub bare_behind : (s : Schema) (calls : Calls) (xid : ℕ) (verf : Auth) (stat : AcceptStat) → ((body : Bor (List ℕ)) → stat ≡ accepts.Success body → ⊥)
@@ -218,9 +218,9 @@ pub tells_refused : (s : Schema) (number : ℕ) (entries : List (ℕ × Heard)) 
     → IsHeaderFault bytes at code → Adds p start q end (bad_header_line number at code ++ raw_line bytes)
     → TellsMessage s number entries bytes true entries p start q end
 tells_refused s number entries bytes at code p q start end is added calls knows = (
-      texts.refused (bad_header_line number at code ++ raw_line bytes),
-      calls,
-      texts.stuck at code is refl refl,
-      knows,
-      record { added = added; refused_is = refl },
-    )
+  texts.refused (bad_header_line number at code ++ raw_line bytes),
+  calls,
+  texts.stuck at code is refl refl,
+  knows,
+  record { added = added; refused_is = refl },
+)
