@@ -9,17 +9,9 @@ ghost use Rattle.x_wire.specs.StreamTexts.{record_line};
 
 use super::teller::Heard;
 use crate::{AcceptStat, Auth, Call, RecordFault, RejectStat};
-use itoa::{Buffer, Integer};
+use itoa::Integer;
 use x_text::{Pen, Sink};
-use x_value::{ReadFault, add_hex};
-
-/// Adds a number in decimal.
-fn add_number<I: Integer, S: Sink>(number: I, pen: &mut Pen, sink: &mut S)
-    ensures { Adds pen.old (S.state sink.old) pen.new (S.state sink.new) (I.text number) }
-{
-    let mut buffer = Buffer::new();
-    pen.add(buffer.format(number).as_bytes(), sink);
-}
+use x_value::{ReadFault, add_hex, add_number};
 
 /// Adds two numbers, each behind its words.
 #[tactic(auto, using(x_text::proofs::Adding::four))]
