@@ -7,3 +7,4 @@ pub mod HeaderLemmas
 pub mod Leaves
 pub mod Moves
 pub mod OneFault
+pub mod TellerLemmas

@@ -18,8 +18,8 @@ use Rattle.x_wire.specs.declared.records.RecordFault.{RecordFault}
 -- The texts of messages one behind another, the first of this number; and the calls behind them.
 abbrev pub AreTold : Schema → (number : ℕ) → Calls → List (List ℕ) → Told → Calls → Type 0
 AreTold s number calls [] t calls' = (t ≡ plain []) × (calls' ≡ calls)
-AreTold s number calls (record ∷ rest) t calls' =
-    (first : Told) × (between : Calls) × (others : Told) × IsMessageText s number calls record first between
+AreTold s number calls (bytes ∷ rest) t calls' =
+    (first : Told) × (between : Calls) × (others : Told) × IsMessageText s number calls bytes first between
     × AreTold s (number + 1) between rest others calls' × (t ≡ then_told first others)
 
 -- the texts of these messages, the first of a stream

@@ -1,5 +1,5 @@
 -- What a teller keeps of calls, and what it tells of a message.
-use Rattle.std.specs.Prelude.{◌≡◌, ℕ, nat_eq, Bool, List, Option, Some, None, MatchOption, codes}
+use Rattle.std.specs.Prelude.{◌≡◌, ℕ, nat_eq, Bool, List, Option, Some, None, MatchOption, option_map, codes}
 use Rattle.std.specs.Map.{lookup}
 use Rattle.x_text.specs.Streams.{Stream}
 use Rattle.x_text.specs.Writing.{Inked, Adds}
@@ -7,6 +7,7 @@ use Rattle.x_sema.specs.Schema.{Schema, IsTypeId, arguments_id, name_at, results
 use Rattle.x_sema.specs.declared.schema.procedure.KeptProcedure.{KeptProcedure}
 use Rattle.x_sema.specs.declared.schema.procedure.Procedure.{Procedure}
 use Rattle.x_sema.specs.declared.schema.procedure.ProcedureNumbers.{ProcedureNumbers}
+use Rattle.x_sema.specs.declared.schema.TypeId.{TypeId}
 use Rattle.x_wire.specs.Calls.{Calls, call_of, calls_behind, procedure_called}
 use Rattle.x_wire.specs.Headers.{Header}
 use Rattle.x_wire.specs.MessageTexts.{Told, plain, then_told, head_text, IsBehindHead, IsMessageText}
@@ -31,6 +32,12 @@ IsFound s numbers found = MatchOption found (procedure_called s numbers ≡ None
 abbrev pub name_found : Option Procedure → List ℕ
 name_found None = codes "?"
 name_found (Some p) = p.name.now
+
+abbrev pub arg_found : Option Procedure → Option TypeId
+arg_found found = option_map (λ p. p.arg) found
+
+abbrev pub res_found : Option Procedure → Option TypeId
+res_found found = option_map (λ p. p.res) found
 
 -- ---- messages
 

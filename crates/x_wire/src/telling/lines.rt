@@ -109,8 +109,17 @@ fn add_call_number<S: Sink>(heard: Option<Heard>, pen: &mut Pen, sink: &mut S)
     }
 }
 
+/// Adds one word right behind another.
+#[tactic(auto, using(x_text::proofs::Adding::two))]
+fn add_words<S: Sink>(first: &str, second: &str, pen: &mut Pen, sink: &mut S)
+    ensures { Adds pen.old (S.state sink.old) pen.new (S.state sink.new) (first.now ++ second.now) }
+{
+    pen.add(first.as_bytes(), sink);
+    pen.add(second.as_bytes(), sink);
+}
+
 /// Adds what became of a call, and the number of the call.
-#[tactic(auto, using(x_text::proofs::Adding::five))]
+#[tactic(auto, using(x_text::proofs::Adding::four))]
 fn add_state<S: Sink>(
     word: &str,
     state: &str,
@@ -122,8 +131,7 @@ fn add_state<S: Sink>(
         (codes " " ++ (word.now ++ state.now) ++ codes " call=" ++ call_number heard) }
 {
     pen.add(b" ", sink);
-    pen.add(word.as_bytes(), sink);
-    pen.add(state.as_bytes(), sink);
+    add_words(word, state, pen, sink);
     pen.add(b" call=", sink);
     add_call_number(heard, pen, sink);
 }

@@ -1,8 +1,8 @@
 //! What is printed of messages, one after another.
 ghost use Rattle.std.specs.Prelude.{◌≡◌, ◌+◌, [], IfOk, OnErr};
-ghost use Rattle.x_wire.specs.Calls.{numbers_called};
+ghost use Rattle.x_wire.specs.Calls.{numbers_called, numbers_heard};
 ghost use Rattle.x_wire.specs.Messages.{body_of, body_of_reply, header_of, header_of_kind, header_of_reply};
-ghost use Rattle.x_wire.specs.Tellers.{IsFound, Knows, TellsHeader, TellsMessage, TellsReply, name_found};
+ghost use Rattle.x_wire.specs.Tellers.{IsFound, Knows, TellsHeader, TellsMessage, TellsReply, arg_found, name_found, res_found};
 ghost use Rattle.x_wire.specs.declared.messages.parts.Kind.TheVariants as kinds;
 
 use super::body::read_body;
@@ -10,7 +10,7 @@ use super::lines::{add_accepted, add_bad_header, add_call, add_denied};
 use crate::{AcceptStat, Call, Kind, Message, RejectStat, Reply, message};
 use indexmap::IndexMap;
 use std::alloc::Global;
-use x_sema::{Procedure, ProcedureNumbers, Schema};
+use x_sema::{Procedure, ProcedureNumbers, Schema, TypeId};
 use x_text::{NoMemory, Pen, Sink};
 
 /// The version of the protocol whose messages are read (RFC 5531, section 9).
@@ -55,6 +55,16 @@ fn find(schema: &Schema, numbers: Option<ProcedureNumbers>) -> Option<Procedure<
     schema.procedure(numbers.program, numbers.version, numbers.procedure)
 }
 
+/// The procedure of a call, if the schema has it.
+fn find_heard(schema: &Schema, heard: Option<Heard>) -> Option<Procedure<'_>>
+    ensures { IsFound schema.now (numbers_heard heard) result }
+{
+    match heard {
+        Some(heard) => find(schema, heard.procedure),
+        None => None,
+    }
+}
+
 /// The name of a procedure, `?` where none is known.
 fn name_of<'s>(procedure: &Option<Procedure<'s>>) -> &'s [u8]
     ensures { result.now ≡ name_found procedure.now }
@@ -62,6 +72,26 @@ fn name_of<'s>(procedure: &Option<Procedure<'s>>) -> &'s [u8]
     match procedure {
         Some(procedure) => procedure.name,
         None => b"?",
+    }
+}
+
+/// What a procedure is called with, where one is known.
+fn arg_of(procedure: &Option<Procedure<'_>>) -> Option<TypeId>
+    ensures { result ≡ arg_found procedure.now }
+{
+    match procedure {
+        Some(procedure) => Some(procedure.arg),
+        None => None,
+    }
+}
+
+/// What a procedure answers, where one is known.
+fn res_of(procedure: &Option<Procedure<'_>>) -> Option<TypeId>
+    ensures { result ≡ res_found procedure.now }
+{
+    match procedure {
+        Some(procedure) => Some(procedure.res),
+        None => None,
     }
 }
 
@@ -147,11 +177,7 @@ impl Teller {
     {
         let numbers = numbers_called(call);
         let procedure = find(schema, numbers);
-        let id = match &procedure {
-            Some(procedure) => Some(procedure.arg),
-            None => None,
-        };
-        let arguments = read_body(alloc, schema, id, call.body)?;
+        let arguments = read_body(alloc, schema, arg_of(&procedure), call.body)?;
         let heard = Heard {
             number,
             procedure: numbers,
@@ -178,27 +204,19 @@ fn tell_reply<S: Sink>(
         pen.old (S.state sink.old) pen.new (S.state sink.new)) }
     ensures same { OnErr result ((pen.new ≡ pen.old) × (sink.new ≡ sink.old)) }
 {
-    let procedure = match heard {
-        Some(heard) => find(schema, heard.procedure),
-        None => None,
-    };
-    let name = name_of(&procedure);
+    let procedure = find_heard(schema, heard);
     match reply {
         Reply::Denied(stat) => {
-            add_denied(number, xid, stat, heard, name, pen, sink);
+            add_denied(number, xid, stat, heard, name_of(&procedure), pen, sink);
             Ok(false)
         }
         Reply::Accepted { verf, stat } => {
             let AcceptStat::Success { body } = stat else {
-                add_accepted(number, xid, verf, stat, heard, name, pen, sink);
+                add_accepted(number, xid, verf, stat, heard, name_of(&procedure), pen, sink);
                 return Ok(false);
             };
-            let id = match &procedure {
-                Some(procedure) => Some(procedure.res),
-                None => None,
-            };
-            let results = read_body(alloc, schema, id, body)?;
-            add_accepted(number, xid, verf, stat, heard, name, pen, sink);
+            let results = read_body(alloc, schema, res_of(&procedure), body)?;
+            add_accepted(number, xid, verf, stat, heard, name_of(&procedure), pen, sink);
             Ok(results.add_lines(body, pen, sink))
         }
     }
