@@ -94,12 +94,10 @@ impl Dumper {
                 }
                 Ok(Some(used))
             }
-            Err(fault) => {
-                if fault.code == RecordCode::NoMemory {
-                    return Err(NoMemory);
-                }
-                Ok(None)
-            }
+            Err(fault) => match fault.code {
+                RecordCode::NoMemory => Err(NoMemory),
+                _ => Ok(None),
+            },
         }
     }
 

@@ -51,7 +51,7 @@ pub fn dump_stream<R: Tap, S: Sink>(
     };
     let mut dumper = Dumper::new(alloc);
     let mut pen = Pen::new();
-    'blocks: for _ in 0..u64::MAX {
+    for _ in 0..u64::MAX {
         let Ok(turn) = tell_block(alloc, schema, &mut dumper, &mut block, tap, &mut pen, sink)
         else {
             return Err(EngineFault::Read {
