@@ -263,10 +263,8 @@ want_dumped s start before later turn d pen now written stream h is goes empty w
 
 not_failed : {X : Type 0} (b : Bool) (x : X) → (IsTrue b → IsErr {T = X} {E = Broken} (Ok x)) → b ≡ false
 not_failed false x h = refl
-not_failed true x h = absurd (h refl)
+not_failed true x h = let k : false ≡ true = h refl in absurd (cc)
 
 -- a call that did not fail leaves the tap as it was
-pub tap_still : {X : Type 0} (old new : Stream) (result : Result X Broken) (x : X) → result ≡ Ok x → FailsForGood old new result → new.failed ≡ old.failed
-tap_still old new result x is h =
-    let k = subst (λ r. FailsForGood old new r) is h in
-    k.failed ∙ sym (not_failed old.failed x k.for_good)
+pub tap_still : {X : Type 0} (old new : Stream) (x : X) → FailsForGood {T = X} old new (Ok x) → new.failed ≡ old.failed
+tap_still old new x h = h.failed ∙ sym (not_failed old.failed x h.for_good)
