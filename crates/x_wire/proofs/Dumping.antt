@@ -3,8 +3,8 @@ use Rattle.std.proofs.Common.{◌≡◌, ℕ, suc, ◌+◌, ◌-◌, ◌<◌, �
 use Rattle.std.specs.Prelude.{Option, Some, None, Result, Ok, Err, OnErr}
 use Rattle.std.proofs.lemmas.List.{length-append, take_rest, take_all, take-append-drop}
 use Rattle.x_text.specs.Streams.{Stream}
-use Rattle.x_text.specs.Writing.{Inked, Adds}
-use Rattle.x_text.proofs.Pens.{adds_none, adds_trans}
+use Rattle.x_text.specs.Writing.{Inked, Adds, Writes}
+use Rattle.x_text.proofs.Pens.{adds_none, adds_trans, writes_none}
 use Rattle.x_sema.specs.Schema.{Schema}
 use Rattle.x_wire.specs.Calls.{Calls}
 use Rattle.x_wire.specs.Dumpers.{HasTold, TellsMore, IsAt, Tells, TellsFront, IsOver, front_taken}
@@ -18,6 +18,7 @@ use Rattle.x_wire.specs.declared.records.framer.Framer.{Framer}
 use Rattle.x_wire.specs.declared.records.RecordCode.{RecordCode}
 use Rattle.x_wire.specs.declared.records.RecordCode.TheVariants.{NoMemory, RecordTooLong, Truncated}
 use Rattle.x_wire.specs.declared.telling.dumper.Dumper.{Dumper}
+use Rattle.x_wire.specs.declared.telling.teller.Heard.{Heard}
 use Rattle.x_wire.specs.declared.telling.teller.Teller.{Teller}
 use Rattle.x_wire.proofs.Composing.{fault_stays, records_front}
 use Rattle.x_wire.proofs.Feeding.{left_append, records_append}
@@ -247,3 +248,24 @@ taken_front s old mid block rest read t p q r now now' now'' h pen_same sink_sam
 pub on_err : {T E : Type 0} (r : Result T E) (P : Type 0) → P → OnErr r P
 on_err (Ok x) P p = tt
 on_err (Err e) P p = p
+
+-- ---- one message alone
+
+-- the text of the first message was given to a pen that was given nothing before
+pub record IsAlone (s : Schema) (bytes : List ℕ) (refused : Bool) (start : Stream) (pen : Inked) (now : Stream) : Type 0 where
+  pub text : Told
+  pub are : IsTextOf s (bytes ∷ []) text
+  pub writes : Writes start text.text pen now
+  pub refused_is : refused ≡ text.refused
+
+pub told_alone : (s : Schema) (bytes : List ℕ) (old : Teller) (entries : List (ℕ × Heard)) (refused : Bool) (start : Stream) (p q : Inked) (now : Stream)
+    → Knows old.calls.entries [] → old.count ≡ 0 → p ≡ record { pending = []; written = 0; stopped = false }
+    → TellsMessage s (old.count + 1) old.calls.entries bytes refused entries p start q now → IsAlone s bytes refused start q now
+told_alone s bytes old entries refused start p q now knows count is tells =
+    let k = tells [] knows in
+    record {
+      text = k.0;
+      are = (k.1, told_more s 1 (old.count + 1) [] [] bytes (plain []) k.0 [] k.1 (omega (arith, count)) (refl, refl) k.2);
+      writes = k.4.added.goes_on start [] (subst (λ (p : Inked). Writes start [] p start) (sym is) (writes_none start));
+      refused_is = k.4.refused_is;
+    }
