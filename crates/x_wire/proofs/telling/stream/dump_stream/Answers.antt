@@ -18,7 +18,7 @@ loop-init g c = record {
 
 pub returns-in_default-tell_block-clause-dumps : goal.returns-in_default-tell_block-clause-dumps
 returns-in_default-tell_block-clause-dumps g c =
-    match_some (g.R.Tap.state c.args.tap.now).bytes _ (λ stream from. 
+    match_some (g.R.Tap.state c.args.tap.now).bytes _ (λ stream from.
     unread_dumped c.args.schema.now (g.S.Sink.state c.args.sink.now) (g.R.Tap.state c.args.tap.now).bytes (g.R.Tap.state c.loop.tap).bytes
     (g.R.Tap.state c.tell_block.new.tap).bytes c.loop.dumper c.loop.pen c.tell_block.new.pen (g.S.Sink.state c.loop.sink)
     (g.S.Sink.state c.tell_block.new.sink) c.written.result stream c.loop.invariant.runs c.in_default-tell_block.ensures.kept
@@ -37,7 +37,7 @@ returns-then-has_stopped-clause-dumps g c =
     c.loop.pen c.tell_block.new.pen c.flush.new.self (g.S.Sink.state c.loop.sink) (g.S.Sink.state c.tell_block.new.sink) (g.S.Sink.state c.flush.new.sink)
     c.loop.invariant.runs c.in-Ok-tell_block.ensures.told c.flush.ensures.adds in
     let stops = sym c.has_stopped.ensures ∙ c.if-has_stopped.true in
-    match_some (g.R.Tap.state c.args.tap.now).bytes _ (λ stream from. 
+    match_some (g.R.Tap.state c.args.tap.now).bytes _ (λ stream from.
     unwritten_dumped c.args.schema.now start before later turn d pen now c.written-written.result stream k stops c.written-written.ensures from)
 
 pub returns-then-has_stopped-clause-cause : goal.returns-then-has_stopped-clause-cause
@@ -52,8 +52,7 @@ returns-then-has_stopped-clause-cause g c =
     let k = turned c.args.schema.now start before (g.R.Tap.state c.loop.tap).bytes later c.in-Ok-tell_block.turn c.loop.dumper c.tell_block.new.dumper
     c.loop.pen c.tell_block.new.pen c.flush.new.self (g.S.Sink.state c.loop.sink) (g.S.Sink.state c.tell_block.new.sink) (g.S.Sink.state c.flush.new.sink)
     c.loop.invariant.runs c.in-Ok-tell_block.ensures.told c.flush.ensures.adds in
-    let stops = sym c.has_stopped.ensures ∙ c.if-has_stopped.true in
-    (
+    let stops = sym c.has_stopped.ensures ∙ c.if-has_stopped.true in (
       tap_still (g.R.Tap.state c.loop.tap) (g.R.Tap.state c.tell_block.new.tap) c.in-Ok-tell_block.turn c.in-Ok-tell_block.ensures.fails ∙ c.loop.invariant.tap_is,
       sink_failed c.args.schema.now start before later turn d pen now k stops,
     )
@@ -71,7 +70,7 @@ returns-in-Ended-clause-dumps g c =
     c.loop.pen c.tell_block.new.pen c.flush.new.self (g.S.Sink.state c.loop.sink) (g.S.Sink.state c.tell_block.new.sink) (g.S.Sink.state c.flush.new.sink)
     c.loop.invariant.runs c.in-Ok-tell_block.ensures.told c.flush.ensures.adds in
     let goes = sym c.has_stopped.ensures ∙ c.if-has_stopped.false in
-    match_some (g.R.Tap.state c.args.tap.now).bytes _ (λ stream from. 
+    match_some (g.R.Tap.state c.args.tap.now).bytes _ (λ stream from.
     all_dumped c.args.schema.now start before later turn c.in-Ended.outcome d pen now stream k c.in-Ended.is goes (c.flush.ensures.empty goes) from)
 
 pub returns-in-Ended-clause-cause : goal.returns-in-Ended-clause-cause
@@ -93,7 +92,7 @@ returns-in-NoMemory-clause-dumps g c =
     c.loop.pen c.tell_block.new.pen c.flush.new.self (g.S.Sink.state c.loop.sink) (g.S.Sink.state c.tell_block.new.sink) (g.S.Sink.state c.flush.new.sink)
     c.loop.invariant.runs c.in-Ok-tell_block.ensures.told c.flush.ensures.adds in
     let goes = sym c.has_stopped.ensures ∙ c.if-has_stopped.false in
-    match_some (g.R.Tap.state c.args.tap.now).bytes _ (λ stream from. 
+    match_some (g.R.Tap.state c.args.tap.now).bytes _ (λ stream from.
     want_dumped c.args.schema.now start before later turn d pen now c.written-written.result stream k c.in-NoMemory.is goes (c.flush.ensures.empty goes) c.written-written.ensures from)
 
 pub returns-in-NoMemory-clause-cause : goal.returns-in-NoMemory-clause-cause
@@ -124,6 +123,6 @@ loop-preserved g c =
 
 pub returns-clause-dumps : goal.returns-clause-dumps
 returns-clause-dumps g c =
-    match_some (g.R.Tap.state c.args.tap.now).bytes _ (λ stream from. 
+    match_some (g.R.Tap.state c.args.tap.now).bytes _ (λ stream from.
     stopped_dumped c.args.schema.now (g.S.Sink.state c.args.sink.now) (g.R.Tap.state c.args.tap.now).bytes (g.R.Tap.state c.loop.tap).bytes
     c.loop.dumper c.loop.pen (g.S.Sink.state c.loop.sink) c.written-2.result stream c.loop.invariant.runs c.written-2.ensures from)
