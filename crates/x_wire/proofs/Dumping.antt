@@ -1,13 +1,13 @@
 -- How a dumper goes on.
-use Rattle.std.proofs.Common.{◌≡◌, ℕ, suc, ◌+◌, ◌-◌, ◌<◌, ◌≤◌, Bool, true, false, ◌||◌, List, [], ◌∷◌, ◌++◌, length, take, drop, refl, sym, ap, subst, ◌∙◌, append_assoc, append-nil, arith}
+use Rattle.std.proofs.Common.{◌≡◌, ℕ, ◌+◌, ◌-◌, Bool, true, false, ◌||◌, List, [], ◌∷◌, ◌++◌, length, take, drop, refl, sym, ap, subst, ◌∙◌, append_assoc, append-nil, arith}
 use Rattle.std.specs.Prelude.{Option, Some, None, Result, Ok, Err, OnErr}
-use Rattle.std.proofs.lemmas.List.{length-append, take_rest, take_all, take-append-drop}
+use Rattle.std.proofs.lemmas.List.{length-append, take_rest, take-append-drop}
 use Rattle.x_text.specs.Streams.{Stream}
 use Rattle.x_text.specs.Writing.{Inked, Adds, Writes}
 use Rattle.x_text.proofs.Pens.{adds_none, adds_trans, writes_none}
 use Rattle.x_sema.specs.Schema.{Schema}
 use Rattle.x_wire.specs.Calls.{Calls}
-use Rattle.x_wire.specs.Dumpers.{HasTold, TellsMore, IsAt, Tells, TellsFront, IsOver, front_taken}
+use Rattle.x_wire.specs.Dumpers.{HasTold, TellsMore, IsAt, Tells, TellsFront, front_taken}
 use Rattle.x_wire.specs.Framers.{left_by, whole_in, FedBytes, RefusedBytes}
 use Rattle.x_wire.specs.MessageTexts.{Told, plain, then_told, IsMessageText}
 use Rattle.x_wire.specs.RecordFaults.{fault_at}
@@ -20,7 +20,7 @@ use Rattle.x_wire.specs.declared.records.RecordCode.TheVariants.{NoMemory, Recor
 use Rattle.x_wire.specs.declared.telling.dumper.Dumper.{Dumper}
 use Rattle.x_wire.specs.declared.telling.teller.Heard.{Heard}
 use Rattle.x_wire.specs.declared.telling.teller.Teller.{Teller}
-use Rattle.x_wire.proofs.Composing.{fault_stays, records_front}
+use Rattle.x_wire.proofs.Composing.{fault_stays}
 use Rattle.x_wire.proofs.Feeding.{left_append, records_append}
 
 -- ---- texts

@@ -1,16 +1,15 @@
 -- How a stream goes on, block by block.
-use Rattle.std.proofs.Common.{◌≡◌, ℕ, ◌-◌, ◌<◌, ◌≤◌, Bool, true, false, ◌||◌, List, [], ◌++◌, length, take, refl, sym, ap, subst, ◌∙◌, inl, inr, append_assoc, append-nil, arith}
-use Rattle.std.specs.Prelude.{Option, Some, None, Result, Ok, Err, ◌⊎◌, IsErr, IsTrue}
+use Rattle.std.proofs.Common.{◌≡◌, ℕ, ◌≤◌, Bool, true, false, ◌||◌, List, [], ◌++◌, refl, sym, ap, subst, ◌∙◌, inl, inr, append_assoc, append-nil, arith}
+use Rattle.std.specs.Prelude.{Option, Some, None, Ok, Err, ◌⊎◌, IsErr, IsTrue}
 use Rattle.std.specs.Io.KnownBytes.{Consumes, IsAtEnd, Keeps}
 use Rattle.std.proofs.KnownBytes.{Appends-nil, Consumes-nil, Consumes-trans, Consumes-kept}
 use Rattle.x_text.specs.Streams.{Stream, FailsForGood}
 use Rattle.x_text.specs.declared.sink.Broken.{Broken}
-use Rattle.x_text.specs.Writing.{Inked, Writes, Adds, counted}
+use Rattle.x_text.specs.Writing.{Inked, Writes, Adds}
 use Rattle.x_text.proofs.Pens.{adds_trans, all_written, counted_all, front_written, writes_none}
 use Rattle.x_sema.specs.Schema.{Schema}
 use Rattle.x_session.specs.Script.{is_refused, WorksOn}
 use Rattle.x_session.specs.declared.script.Outcome.{Outcome}
-use Rattle.x_session.specs.declared.script.EngineFault.{EngineFault}
 use Rattle.x_session.specs.declared.script.EngineFault.TheVariants as faults
 use Rattle.x_wire.specs.Dumpers.{IsAt, Tells, TellsFront, IsOver, IsTurn, TellsTurn}
 use Rattle.x_wire.specs.Framers.{left_by}

@@ -1,5 +1,5 @@
 -- What a dumper told of a stream that comes in blocks.
-use Rattle.std.specs.Prelude.{◌≡◌, ℕ, ◌<◌, ◌≤◌, Bool, true, false, List, [], ◌∷◌, ◌++◌, length, take, Option, Some, None}
+use Rattle.std.specs.Prelude.{◌≡◌, ℕ, ◌<◌, ◌≤◌, Bool, List, [], ◌++◌, length, take, Option, Some, None}
 use Rattle.std.specs.Io.KnownBytes.{Consumes}
 use Rattle.x_text.specs.Streams.{Stream}
 use Rattle.x_text.specs.Writing.{Inked, Adds}
@@ -8,9 +8,9 @@ use Rattle.x_session.specs.Script.{is_refused}
 use Rattle.x_wire.specs.Calls.{Calls}
 use Rattle.x_wire.specs.Framers.{left_by}
 use Rattle.x_wire.specs.MessageTexts.{Told, then_told}
-use Rattle.x_wire.specs.RecordFaults.{end_fault, fault_at}
+use Rattle.x_wire.specs.RecordFaults.{fault_at}
 use Rattle.x_wire.specs.Records.{left, records}
-use Rattle.x_wire.specs.StreamTexts.{AreTold, IsTextOf, IsStreamText, IsFrontText, end_told}
+use Rattle.x_wire.specs.StreamTexts.{AreTold, IsStreamText, IsFrontText}
 use Rattle.x_wire.specs.Tellers.{Knows}
 use Rattle.x_wire.specs.declared.telling.dumper.Dumper.{Dumper}
 use Rattle.x_wire.specs.declared.telling.stream.Turn.{Turn}
