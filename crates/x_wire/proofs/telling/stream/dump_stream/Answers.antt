@@ -24,6 +24,12 @@ returns-in_default-tell_block-clause-dumps g c =
     (g.S.Sink.state c.tell_block.new.sink) c.written.result stream c.loop.invariant.runs c.in_default-tell_block.ensures.kept
     c.in_default-tell_block.ensures.same.0 (ap g.S.Sink.state c.in_default-tell_block.ensures.same.1) c.written.ensures from)
 
+pub returns-in_default-tell_block-clause-cause : goal.returns-in_default-tell_block-clause-cause
+returns-in_default-tell_block-clause-cause g c = (
+  c.in_default-tell_block.ensures.fails.failed,
+  λ works. ap (λ s. (g.S.Sink.state s).failed) c.in_default-tell_block.ensures.same.1 ∙ c.loop.invariant.runs.works works,
+)
+
 pub returns-then-has_stopped-clause-dumps : goal.returns-then-has_stopped-clause-dumps
 returns-then-has_stopped-clause-dumps g c =
     let start = g.S.Sink.state c.args.sink.now in
@@ -126,3 +132,6 @@ returns-clause-dumps g c =
     match_some (g.R.Tap.state c.args.tap.now).bytes _ (λ stream from.
     stopped_dumped c.args.schema.now (g.S.Sink.state c.args.sink.now) (g.R.Tap.state c.args.tap.now).bytes (g.R.Tap.state c.loop.tap).bytes
     c.loop.dumper c.loop.pen (g.S.Sink.state c.loop.sink) c.written-2.result stream c.loop.invariant.runs c.written-2.ensures from)
+
+pub returns-clause-cause : goal.returns-clause-cause
+returns-clause-cause g c = (c.loop.invariant.tap_is, c.loop.invariant.runs.works)
