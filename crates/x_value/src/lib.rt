@@ -19,6 +19,6 @@ pub use entry::{Dump, Nodes};
 pub use fault::{ReadCode, ReadFault};
 pub use heads::MOST_LINKS;
 pub use laws::enc_law;
-pub use lines::add_hex;
+pub use lines::{add_hex, add_number};
 pub use nodes::{Label, Leaf, Node};
 pub use reading::dump;

@@ -1,6 +1,6 @@
 //! The lines that the nodes of a value and a fault are written as.
 
-ghost use Rattle.std.specs.Prelude.{◌≡◌, ◌<◌, ◌++◌, Some, codes, decimal, length, slice_get};
+ghost use Rattle.std.specs.Prelude.{◌≡◌, ◌<◌, ◌≤◌, ◌++◌, Some, codes, decimal, length, slice_get};
 ghost use Rattle.std.specs.List.{flat_map};
 ghost use Rattle.x_text.specs.Writing.{Adds};
 ghost use Rattle.x_value.specs.FaultTexts.{read_text, fault_line};
@@ -9,11 +9,18 @@ ghost use Rattle.x_value.specs.Shown.{Node as Shown};
 ghost use Rattle.x_value.specs.NodeList.{shown_label, shown_leaf, shown_node};
 
 use crate::{Dump, Label, Leaf, Node, ReadCode, ReadFault};
+use arrayvec::ArrayVec;
 use itoa::{Buffer, Integer};
 use x_text::{Pen, Sink};
 
+/// How many bytes are written in hexadecimal at a time.
+const CHUNK: usize = 64;
+
+/// The digits of so many bytes.
+const DIGITS: usize = 2 * CHUNK;
+
 /// Adds a number in decimal.
-fn add_number<I: Integer, S: Sink>(number: I, pen: &mut Pen, sink: &mut S)
+pub fn add_number<I: Integer, S: Sink>(number: I, pen: &mut Pen, sink: &mut S)
     ensures { Adds pen.old (S.state sink.old) pen.new (S.state sink.new) (I.text number) }
 {
     let mut buffer = Buffer::new();
@@ -39,12 +46,26 @@ fn add_hex_byte<S: Sink>(byte: u8, pen: &mut Pen, sink: &mut S)
     pen.add(&[hex_digit(byte / 16), hex_digit(byte % 16)], sink);
 }
 
-/// Adds the two hexadecimal digits of each byte.
+/// The two hexadecimal digits of each byte.
+fn hex_digits(bytes: &[u8]) -> ArrayVec<u8, DIGITS>
+    requires { length bytes.now ≤ CHUNK }
+    ensures { result.items ≡ flat_map hex_byte bytes.now }
+{
+    let mut digits = ArrayVec::new();
+    for byte in bytes {
+        digits.push(hex_digit(*byte / 16));
+        digits.push(hex_digit(*byte % 16));
+    }
+    digits
+}
+
+/// Adds the two hexadecimal digits of each byte, those of many bytes at a time.
 fn add_hex_bytes<S: Sink>(bytes: &[u8], pen: &mut Pen, sink: &mut S)
     ensures { Adds pen.old (S.state sink.old) pen.new (S.state sink.new) (flat_map hex_byte bytes.now) }
 {
-    for byte in bytes {
-        add_hex_byte(*byte, pen, sink);
+    for chunk in bytes.chunks(CHUNK) {
+        let digits = hex_digits(chunk);
+        pen.add(&digits, sink);
     }
 }
 

@@ -1,4 +1,5 @@
 pub mod Composing
+pub mod Dumping
 pub mod Feeding
 pub mod Forms
 pub mod FragmentLemmas
@@ -8,3 +9,4 @@ pub mod Leaves
 pub mod Moves
 pub mod OneFault
 pub mod TellerLemmas
+pub mod Turning

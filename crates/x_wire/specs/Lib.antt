@@ -1,5 +1,6 @@
 pub mod Bodies
 pub mod Calls
+pub mod Dumpers
 pub mod Fragments
 pub mod Framers
 pub mod Framing

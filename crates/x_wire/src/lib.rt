@@ -11,8 +11,8 @@ pub use messages::{
     AcceptStat, Auth, Call, Kind, MOST_AUTH_BYTES, Message, RejectStat, Reply, message, one_answer,
     one_fault, one_message,
 };
-pub use records::{Fed, MAX_RECORD, RecordCode, RecordFault, Records, records_law};
 pub use nfs2::NFS2_X;
+pub use records::{Fed, MAX_RECORD, RecordCode, RecordFault, Records, records_law};
 pub use telling::{dump_message, dump_stream};
 pub use x_sema::{Procedure, Schema, TypeId};
 pub use x_session::{EngineFault, Outcome, dump_value};

@@ -7,7 +7,11 @@ use x_wire::{MAX_RECORD, RecordCode, RecordFault, Records};
 const STREAM: &[u8] = b"\0\0\0\x03abc\0\0\0\0\x80\0\0\x02de\x80\0\0\0\x80\0";
 
 /// Feeds a piece, and adds each record that it makes whole, and `;`, to the text.
-fn feed_all(records: &mut Records, piece: &[u8], text: &mut Vec<u8>) -> Result<(), RecordFault> {
+pub(crate) fn feed_all(
+    records: &mut Records,
+    piece: &[u8],
+    text: &mut Vec<u8>,
+) -> Result<(), RecordFault> {
     let mut used = 0;
     while used < piece.len() {
         let fed = match records.feed(&piece[used..]) {

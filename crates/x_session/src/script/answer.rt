@@ -10,19 +10,12 @@ ghost use Rattle.x_session.specs.Generated.{text_of};
 ghost use Rattle.x_session.specs.Answers.{counted_by, body_keyword, keyword_of, given_name, own_name, shown_name, definition_line, token_line, fault_line, tokens_answer, definitions_answer, fault_place, faults_answer, text_answer};
 
 use crate::{Fault, Session};
-use itoa::{Buffer, Integer};
+use itoa::Integer;
 use x_gen::Which;
 use x_item::{Body, Declaration, Definition};
 use x_lex::Token;
 use x_text::{Pen, Sink};
-
-/// Adds a number in decimal.
-fn add_number<I: Integer, S: Sink>(number: I, pen: &mut Pen, sink: &mut S)
-    ensures { Adds pen.old (S.state sink.old) pen.new (S.state sink.new) (I.text number) }
-{
-    let mut buffer = Buffer::new();
-    pen.add(buffer.format(number).as_bytes(), sink);
-}
+use x_value::add_number;
 
 /// Adds a line with a name and a count.
 #[tactic(auto, using(x_text::proofs::Adding::four))]

@@ -48,9 +48,11 @@ pub(super) fn read_body<'a>(
 }
 
 impl Body<'_> {
-    /// Adds the lines of arguments or results, and answers whether a fault is among them. The bytes are those that were read.
+    /// Adds the lines of arguments or results, and answers whether a fault is among them. The bytes are
+    /// those that were read.
     pub(super) fn add_lines<S: Sink>(&self, bytes: &[u8], pen: &mut Pen, sink: &mut S) -> bool
-        ensures added { Adds pen.old (S.state sink.old) pen.new (S.state sink.new) (told_of self.now bytes.now).text }
+        ensures added { Adds pen.old (S.state sink.old) pen.new (S.state sink.new)
+            (told_of self.now bytes.now).text }
         ensures refused { result ≡ (told_of self.now bytes.now).refused }
     {
         match self {

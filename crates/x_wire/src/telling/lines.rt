@@ -2,22 +2,16 @@
 ghost use Rattle.std.specs.Prelude.{◌≡◌, ◌++◌, codes, decimal};
 ghost use Rattle.x_text.specs.Writing.{Adds};
 ghost use Rattle.x_wire.specs.Messages.{accept_of, auth_of, reject_of};
-ghost use Rattle.x_wire.specs.MessageTexts.{accept_details, accept_name, auth_line, bad_header_line, bounds_line, call_line, call_number, raw_line, reject_details, reject_name, reply_line};
+ghost use Rattle.x_wire.specs.MessageTexts.{accept_details, accept_name, bounds_line, call_number};
+ghost use Rattle.x_wire.specs.MessageTexts.{auth_line, bad_header_line, call_line, raw_line, reply_line};
+ghost use Rattle.x_wire.specs.MessageTexts.{reject_details, reject_name};
 ghost use Rattle.x_wire.specs.StreamTexts.{record_line};
 
 use super::teller::Heard;
 use crate::{AcceptStat, Auth, Call, RecordFault, RejectStat};
-use itoa::{Buffer, Integer};
+use itoa::Integer;
 use x_text::{Pen, Sink};
-use x_value::{ReadFault, add_hex};
-
-/// Adds a number in decimal.
-fn add_number<I: Integer, S: Sink>(number: I, pen: &mut Pen, sink: &mut S)
-    ensures { Adds pen.old (S.state sink.old) pen.new (S.state sink.new) (I.text number) }
-{
-    let mut buffer = Buffer::new();
-    pen.add(buffer.format(number).as_bytes(), sink);
-}
+use x_value::{ReadFault, add_hex, add_number};
 
 /// Adds two numbers, each behind its words.
 #[tactic(auto, using(x_text::proofs::Adding::four))]
@@ -41,7 +35,8 @@ fn add_numbers<I: Integer, S: Sink>(
 /// Adds the name of a procedure at the end of its line.
 #[tactic(auto, using(x_text::proofs::Adding::three))]
 fn add_name<S: Sink>(name: &[u8], pen: &mut Pen, sink: &mut S)
-    ensures { Adds pen.old (S.state sink.old) pen.new (S.state sink.new) (codes " " ++ name.now ++ codes "\n") }
+    ensures { Adds pen.old (S.state sink.old) pen.new (S.state sink.new)
+        (codes " " ++ name.now ++ codes "\n") }
 {
     pen.add(b" ", sink);
     pen.add(name, sink);
@@ -51,7 +46,8 @@ fn add_name<S: Sink>(name: &[u8], pen: &mut Pen, sink: &mut S)
 /// Adds the line of an authentication field.
 #[tactic(auto, using(x_text::proofs::Adding::six))]
 fn add_auth<S: Sink>(word: &str, auth: &Auth, pen: &mut Pen, sink: &mut S)
-    ensures { Adds pen.old (S.state sink.old) pen.new (S.state sink.new) (auth_line word.now (auth_of auth.now)) }
+    ensures { Adds pen.old (S.state sink.old) pen.new (S.state sink.new)
+        (auth_line word.now (auth_of auth.now)) }
 {
     pen.add(word.as_bytes(), sink);
     pen.add(b" ", sink);
@@ -120,13 +116,7 @@ fn add_words<S: Sink>(first: &str, second: &str, pen: &mut Pen, sink: &mut S)
 
 /// Adds what became of a call, and the number of the call.
 #[tactic(auto, using(x_text::proofs::Adding::four))]
-fn add_state<S: Sink>(
-    word: &str,
-    state: &str,
-    heard: Option<Heard>,
-    pen: &mut Pen,
-    sink: &mut S,
-)
+fn add_state<S: Sink>(word: &str, state: &str, heard: Option<Heard>, pen: &mut Pen, sink: &mut S)
     ensures { Adds pen.old (S.state sink.old) pen.new (S.state sink.new)
         (codes " " ++ (word.now ++ state.now) ++ codes " call=" ++ call_number heard) }
 {
@@ -167,7 +157,8 @@ fn add_bounds<S: Sink>(low: u32, high: u32, pen: &mut Pen, sink: &mut S)
 
 /// Adds the line that a state of a call calls for, if it does.
 fn add_accept_details<S: Sink>(stat: &AcceptStat, pen: &mut Pen, sink: &mut S)
-    ensures { Adds pen.old (S.state sink.old) pen.new (S.state sink.new) (accept_details (accept_of stat.now)) }
+    ensures { Adds pen.old (S.state sink.old) pen.new (S.state sink.new)
+        (accept_details (accept_of stat.now)) }
 {
     if let AcceptStat::ProgMismatch { low, high } = stat {
         add_bounds(*low, *high, pen, sink);
@@ -219,7 +210,8 @@ fn add_auth_stat<S: Sink>(stat: u32, pen: &mut Pen, sink: &mut S)
 
 /// Adds the line that the reason of a denial calls for.
 fn add_reject_details<S: Sink>(stat: &RejectStat, pen: &mut Pen, sink: &mut S)
-    ensures { Adds pen.old (S.state sink.old) pen.new (S.state sink.new) (reject_details (reject_of stat.now)) }
+    ensures { Adds pen.old (S.state sink.old) pen.new (S.state sink.new)
+        (reject_details (reject_of stat.now)) }
 {
     match stat {
         RejectStat::RpcMismatch { low, high } => add_bounds(*low, *high, pen, sink),
@@ -242,16 +234,7 @@ pub(super) fn add_denied<S: Sink>(
         (reply_line number xid (codes "denied " ++ reject_name (reject_of stat.now)) heard name.now
         ++ reject_details (reject_of stat.now)) }
 {
-    add_reply_line(
-        number,
-        xid,
-        "denied ",
-        stat.text(),
-        heard,
-        name,
-        pen,
-        sink,
-    );
+    add_reply_line(number, xid, "denied ", stat.text(), heard, name, pen, sink);
     add_reject_details(stat, pen, sink);
 }
 

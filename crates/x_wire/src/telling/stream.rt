@@ -1,22 +1,29 @@
 //! What is printed of a recorded stream.
-ghost use Rattle.std.specs.Prelude.{MatchOption};
+ghost use Rattle.std.specs.Prelude.{◌≡◌, ◌<◌, ℕ, List, length, IfOk, OnErr, MatchOption};
+ghost use Rattle.std.specs.Io.KnownBytes.{Keeps};
 ghost use Rattle.x_session.specs.Script.{NamesCause};
+ghost use Rattle.x_text.specs.Streams.{FailsForGood};
+ghost use Rattle.x_wire.specs.Dumpers.{IsAt, TellsTurn};
+ghost use Rattle.x_wire.specs.Framers.{IsOpen};
+ghost use Rattle.x_wire.specs.MessageTexts.{Told};
 ghost use Rattle.x_wire.specs.StreamTexts.{DumpsStream};
 
 use super::dumper::Dumper;
 use std::alloc::Global;
 use x_sema::Schema;
 use x_session::{EngineFault, Outcome};
-use x_text::{NoMemory, Pen, Sink, Tap};
+use x_text::{Broken, NoMemory, Pen, Sink, Tap};
 
 /// How many bytes are read at a time.
 const BLOCK: usize = 65_536;
 
-/// Why no more is told.
-#[derive(Drop)]
-enum Halt {
-    /// The stream could not be read on.
-    Unread,
+/// What becomes of a stream with a block.
+#[derive(Clone, Copy)]
+enum Turn {
+    /// It goes on.
+    GoesOn,
+    /// It ended so.
+    Ended(Outcome),
     /// Memory ran out.
     NoMemory,
 }
@@ -44,22 +51,22 @@ pub fn dump_stream<R: Tap, S: Sink>(
     };
     let mut dumper = Dumper::new(alloc);
     let mut pen = Pen::new();
-    'blocks: for _ in 0..u64::MAX {
-        let turn = tell_block(alloc, schema, &mut dumper, &mut block, tap, &mut pen, sink);
-        if let Err(Halt::Unread) = turn {
+    for _ in 0..u64::MAX {
+        let Ok(turn) = tell_block(alloc, schema, &mut dumper, &mut block, tap, &mut pen, sink)
+        else {
             return Err(EngineFault::Read {
                 written: pen.written(),
             });
-        }
+        };
         pen.flush(sink);
         let written = pen.written();
         if pen.has_stopped() {
             return Err(EngineFault::Write { written });
         }
         match turn {
-            Ok(None) => {}
-            Ok(Some(outcome)) => return Ok(outcome),
-            Err(_) => return Err(EngineFault::NoMemory { written }),
+            Turn::GoesOn => {}
+            Turn::Ended(outcome) => return Ok(outcome),
+            Turn::NoMemory => return Err(EngineFault::NoMemory { written }),
         }
     }
     // No tap comes to so many blocks.
@@ -68,7 +75,7 @@ pub fn dump_stream<R: Tap, S: Sink>(
     })
 }
 
-/// Reads a block and tells the messages that become whole by it; where the stream ends, how, and then it answers the outcome.
+/// Reads a block and tells the messages that become whole by it; where the stream ends, how.
 fn tell_block<R: Tap, S: Sink>(
     alloc: Global,
     schema: &Schema,
@@ -77,15 +84,23 @@ fn tell_block<R: Tap, S: Sink>(
     tap: &mut R,
     pen: &mut Pen,
     sink: &mut S,
-) -> Result<Option<Outcome>, Halt> {
-    let Ok(count) = tap.take(block) else {
-        return Err(Halt::Unread);
-    };
+) -> Result<Turn, Broken>
+    requires is_open { IsOpen dumper.old.framer.phase }
+    requires some { 0 < length block.old }
+    ensures is_open { IsOpen dumper.new.framer.phase }
+    ensures told { IfOk result (λ turn. (read : List ℕ) (t : Told) → IsAt schema.now read t dumper.old →
+        TellsTurn schema.now read t (R.state tap.old).bytes (R.state tap.new).bytes turn dumper.new
+        pen.old (S.state sink.old) pen.new (S.state sink.new)) }
+    ensures fails { FailsForGood (R.state tap.old) (R.state tap.new) result }
+    ensures kept { OnErr result (Keeps (R.state tap.old).bytes (R.state tap.new).bytes) }
+    ensures same { OnErr result ((pen.new ≡ pen.old) × (sink.new ≡ sink.old)) }
+{
+    let count = tap.take(block)?;
     let Ok(goes_on) = dumper.take(alloc, schema, &block[..count], pen, sink) else {
-        return Err(Halt::NoMemory);
+        return Ok(Turn::NoMemory);
     };
     if goes_on && count > 0 {
-        return Ok(None);
+        return Ok(Turn::GoesOn);
     }
-    Ok(Some(dumper.tell_end(pen, sink)))
+    Ok(Turn::Ended(dumper.tell_end(pen, sink)))
 }

@@ -2,7 +2,8 @@
 ghost use Rattle.std.specs.Prelude.{◌≡◌, ◌+◌, [], IfOk, OnErr};
 ghost use Rattle.x_wire.specs.Calls.{numbers_called, numbers_heard};
 ghost use Rattle.x_wire.specs.Messages.{body_of, body_of_reply, header_of, header_of_kind, header_of_reply};
-ghost use Rattle.x_wire.specs.Tellers.{IsFound, Knows, TellsHeader, TellsMessage, TellsReply, arg_found, name_found, res_found};
+ghost use Rattle.x_wire.specs.Tellers.{IsFound, Knows, TellsHeader, TellsMessage, TellsReply};
+ghost use Rattle.x_wire.specs.Tellers.{arg_found, name_found, res_found};
 ghost use Rattle.x_wire.specs.declared.messages.parts.Kind.TheVariants as kinds;
 
 use super::body::read_body;
@@ -116,24 +117,45 @@ impl Teller {
         pen: &mut Pen,
         sink: &mut S,
     ) -> Result<bool, NoMemory>
-        ensures told { IfOk result (λ refused. TellsMessage schema.now (self.old.count + 1) self.old.calls.entries bytes.now
-            refused self.new.calls.entries pen.old (S.state sink.old) pen.new (S.state sink.new)) }
+        ensures told { IfOk result (λ refused. TellsMessage schema.now (self.old.count + 1)
+            self.old.calls.entries bytes.now refused self.new.calls.entries
+            pen.old (S.state sink.old) pen.new (S.state sink.new)) }
         ensures count { IfOk result (λ _. self.new.count ≡ self.old.count + 1) }
         ensures same { OnErr result ((pen.new ≡ pen.old) × (sink.new ≡ sink.old)) }
     {
         // No stream comes to so many messages.
         let number = self.count.checked_add(1).ok_or(NoMemory)?;
-        let refused = match message(bytes) {
-            Ok(message) => self.tell_message(alloc, schema, number, &message, pen, sink)?,
-            Err(fault) => {
-                add_bad_header(number, &fault, bytes, pen, sink);
-                true
-            }
-        };
+        let refused = self.tell_bytes(alloc, schema, number, bytes, pen, sink)?;
         self.count = number;
         Ok(refused)
     }
 
+    /// Tells the message of this number.
+    fn tell_bytes<S: Sink>(
+        &mut self,
+        alloc: Global,
+        schema: &Schema,
+        number: u64,
+        bytes: &[u8],
+        pen: &mut Pen,
+        sink: &mut S,
+    ) -> Result<bool, NoMemory>
+        ensures told { IfOk result (λ refused. TellsMessage schema.now number
+            self.old.calls.entries bytes.now refused self.new.calls.entries
+            pen.old (S.state sink.old) pen.new (S.state sink.new)) }
+        ensures same { OnErr result ((pen.new ≡ pen.old) × (sink.new ≡ sink.old)) }
+        ensures count { self.new.count ≡ self.old.count }
+    {
+        match message(bytes) {
+            Ok(message) => self.tell_message(alloc, schema, number, &message, pen, sink),
+            Err(fault) => {
+                add_bad_header(number, &fault, bytes, pen, sink);
+                Ok(true)
+            }
+        }
+    }
+
+    /// Tells a message whose header is read.
     fn tell_message<S: Sink>(
         &mut self,
         alloc: Global,
@@ -205,18 +227,19 @@ fn tell_reply<S: Sink>(
     ensures same { OnErr result ((pen.new ≡ pen.old) × (sink.new ≡ sink.old)) }
 {
     let procedure = find_heard(schema, heard);
+    let name = name_of(&procedure);
     match reply {
         Reply::Denied(stat) => {
-            add_denied(number, xid, stat, heard, name_of(&procedure), pen, sink);
+            add_denied(number, xid, stat, heard, name, pen, sink);
             Ok(false)
         }
         Reply::Accepted { verf, stat } => {
             let AcceptStat::Success { body } = stat else {
-                add_accepted(number, xid, verf, stat, heard, name_of(&procedure), pen, sink);
+                add_accepted(number, xid, verf, stat, heard, name, pen, sink);
                 return Ok(false);
             };
             let results = read_body(alloc, schema, res_of(&procedure), body)?;
-            add_accepted(number, xid, verf, stat, heard, name_of(&procedure), pen, sink);
+            add_accepted(number, xid, verf, stat, heard, name, pen, sink);
             Ok(results.add_lines(body, pen, sink))
         }
     }
