@@ -1,9 +1,7 @@
 //! `rpcdump`: shows recorded calls, one message or one value.
 #![tactic(auto)]
 
-use rpcx::{
-    Status, dump_args, dump_mode, dump_run, read_text, read_words, tell_of_file,
-};
+use rpcx::{Status, dump_args, dump_mode, dump_run, read_text, read_words, tell_of_file};
 use std::fs;
 use std::process::ExitCode;
 use x_text::{In, Out};
@@ -33,7 +31,15 @@ fn run(rt: &HostRuntime) -> Result<Status, Status> {
     let mut input = In::new(file);
     let mut out = Out::new(rt.stdout());
     let text = schema.as_deref();
-    Ok(dump_run(rt.alloc(), &args, mode, text, &mut input, &mut out, &mut err))
+    Ok(dump_run(
+        rt.alloc(),
+        &args,
+        mode,
+        text,
+        &mut input,
+        &mut out,
+        &mut err,
+    ))
 }
 
 fn main(rt: HostRuntime) -> ExitCode {

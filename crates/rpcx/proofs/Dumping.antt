@@ -128,6 +128,7 @@ shown_kept mode type s file file' before mid after outcome h kept = go file.byte
     one modes.Stream bytes h = (h.0, h.1, stays before.bytes mid.bytes after.bytes h.0.text h.2 kept, h.3)
     one modes.Message bytes h = (h.0, (h.1.0, h.1.1, stays before.bytes mid.bytes after.bytes h.1.0.text h.1.2 kept, h.1.3))
     one modes.Value bytes h = (h.0, (h.1.0, h.1.1, (h.1.2.0, h.1.2.1, stays before.bytes mid.bytes after.bytes h.1.2.0 h.1.2.2 kept)))
+
     go : (bytes : Option (List ℕ)) → MatchOption bytes (Unit {0}) (λ bs. Shows mode type s bs file'.bytes before mid (Ok outcome))
         → MatchOption bytes (Unit {0}) (λ bs. Shows mode type s bs file'.bytes before after (Ok outcome))
     go None h = tt

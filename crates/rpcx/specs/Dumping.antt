@@ -52,7 +52,7 @@ HasFaults text P = (length text ≤ MAX_TEXT) × Compiles text (λ items. (0 < l
 abbrev pub HasTypes : List ℕ → Schema → Type 0
 HasTypes text s = (length text ≤ MAX_TEXT) × Compiles text (λ items. (faults_of text items ≡ []) × IsSchemaOf (definitions_of items) s)
 
--- What opening the types of a text comes to: there are such, or its faults were told, or it was told why it is not opened.
+-- What opening the types of a text comes to: there are such; or its faults were told, or why it is not opened.
 abbrev pub Opens : (file text : List ℕ) → (before after : Stream) → Result Schema Status → Type 0
 Opens file text before after (Ok s) = HasTypes text s
 Opens file text before after (Err Faulty) = HasFaults text (λ all. IsTold before after (told_faults file all))
@@ -86,7 +86,8 @@ pub record IsRead (bytes : List ℕ) (left : Option (List ℕ)) : Type 0 where
 abbrev pub WritesNamed : Schema → (type bytes : List ℕ) → (before after : Stream) → Result Outcome EngineFault → Type 0
 WritesNamed s type bytes before after result = (id : TypeId) × (id_named s type ≡ Some id) × WritesValue s id bytes before after result
 
--- What is written of these bytes, of which the file has `left` then: as a stream; whole, as one message or as one value of the named type.
+-- What is written of these bytes, of which the file has `left` then: as a stream; or whole, as one message or as one
+-- value of the named type.
 abbrev pub Shows : Mode → (type : List ℕ) → Schema → (bytes : List ℕ) → (left : Option (List ℕ)) → (before after : Stream)
     → Result Outcome EngineFault → Type 0
 Shows modes.Stream type s bytes left before after result = DumpsStream s bytes left before after result
@@ -164,15 +165,16 @@ Ends mode type s c (Err halt) = Halts mode type s c halt
 abbrev pub HasShown : Mode → (type text : List ℕ) → Course → Outcome → Type 0
 HasShown mode type text c outcome = (s : Schema) × HasTypes text s × Ends mode type s c (Ok outcome)
 
--- Why a run is not carried out, as it is told: the schema's text is not opened, or memory ran out over it; or the file is not shown to its end.
+-- Why a run is not carried out, as it is told: the schema's text is not opened, or memory ran out over its types; or
+-- the file is not shown to its end.
 pub data NotDumped (args : DumpArgs) (mode : Mode) (text : List ℕ) (c : Course) (before after : Stream) : Type 0 where
   unopened : NotOpened (codes "rpcdump") (schema_name args) text before after → IsIdle c → NotDumped args mode text c before after
   untyped : IsFaultless text → IsTold before after (codes "rpcdump: out of memory\n") → IsIdle c → NotDumped args mode text c before after
   halted : (s : Schema) → HasTypes text s → (halt : Halt) → Halts mode (type_asked args) s c halt
       → IsTold before after (halt_told (type_asked args) args.file.now halt) → NotDumped args mode text c before after
 
--- A run that ends with this status: the file was shown to its end without a fault; or the schema's text has faults, which were told, or what
--- was shown has one; or the run was not carried out.
+-- A run that ends with this status: the file was shown to its end without a fault; or the schema's text has faults,
+-- which were told, or what was shown has one; or the run was not carried out.
 abbrev pub HasDumped : DumpArgs → Mode → (text : List ℕ) → Course → (before after : Stream) → Status → Type 0
 HasDumped args mode text c before after Done = HasShown mode (type_asked args) text c Clean × (after ≡ before)
 HasDumped args mode text c before after Faulty =

@@ -1,4 +1,4 @@
-use rpcx::{EditArgs, Status, edit_run, gen_write};
+use rpcx::{DumpArgs, EditArgs, Mode, Status, dump_run, edit_run, gen_write};
 use std::test::Fail;
 use x_session::{Session, Which};
 use x_text::{MemSink, MemTap};
@@ -32,4 +32,81 @@ fn an_editor_tells_of_a_failed_tap_and_a_full_sink(rt: HostRuntime) {
     assert_eq!(rt; status, Status::Failed);
     let wanted = "rpcedit: -: cannot be read\nrpcedit: output cannot be written\n";
     assert_eq!(rt; err.bytes(), wanted.as_bytes());
+}
+
+const STREAM: DumpArgs<'static> = DumpArgs {
+    schema: None,
+    bare: false,
+    type_name: None,
+    file: "s",
+};
+
+#[test]
+fn a_dumper_tells_of_a_failed_tap_and_a_full_sink(rt: HostRuntime) {
+    let mut told = [0u8; 64];
+    let mut err = MemSink::new(&mut told, 64, 64);
+    let mut full = MemSink::new(&mut [], 256, 256);
+    let mut broken = MemTap::new(b"", 64, 0);
+    let status = dump_run(
+        rt.alloc(),
+        &STREAM,
+        Mode::Stream,
+        None,
+        &mut broken,
+        &mut full,
+        &mut err,
+    );
+    assert_eq!(rt; status, Status::Failed);
+    // A record of no bytes.
+    let mut input = MemTap::new(b"\x80\0\0\0", 64, usize::MAX);
+    let status = dump_run(
+        rt.alloc(),
+        &STREAM,
+        Mode::Stream,
+        None,
+        &mut input,
+        &mut full,
+        &mut err,
+    );
+    assert_eq!(rt; status, Status::Failed);
+    let wanted = "rpcdump: s: cannot be read\nrpcdump: output cannot be written\n";
+    assert_eq!(rt; err.bytes(), wanted.as_bytes());
+}
+
+#[test]
+fn a_dumper_tells_of_a_failed_tap_before_a_value(rt: HostRuntime) {
+    let mut told = [0u8; 64];
+    let mut err = MemSink::new(&mut told, 64, 64);
+    let mut written = [0u8; 64];
+    let mut out = MemSink::new(&mut written, 64, 64);
+    let args = DumpArgs {
+        type_name: Some("w"),
+        ..STREAM
+    };
+    let schema = Some(b"typedef unsigned int w;".as_slice());
+    let mut broken = MemTap::new(b"\xff\xff\xff\xff", 2, 2);
+    let status = dump_run(
+        rt.alloc(),
+        &args,
+        Mode::Value,
+        schema,
+        &mut broken,
+        &mut out,
+        &mut err,
+    );
+    assert_eq!(rt; status, Status::Failed);
+    assert_eq!(rt; err.bytes(), b"rpcdump: s: cannot be read\n".as_slice());
+    assert_eq!(rt; out.bytes(), b"".as_slice());
+    let mut input = MemTap::new(b"\xff\xff\xff\xff", 2, usize::MAX);
+    let status = dump_run(
+        rt.alloc(),
+        &args,
+        Mode::Value,
+        schema,
+        &mut input,
+        &mut out,
+        &mut err,
+    );
+    assert_eq!(rt; status, Status::Done);
+    assert_eq!(rt; out.bytes(), b"0 w = 4294967295\n".as_slice());
 }

@@ -17,7 +17,7 @@ use x_wire::{EngineFault, NFS2_X, Outcome, Schema, dump_message, dump_stream, du
 const BLOCK: usize = 65_536;
 
 /// Why the bytes of a file are not shown to their end.
-#[derive(Clone, Copy, Debug, PartialEq, Eq)]
+#[derive(Clone, Copy)]
 enum Halt {
     /// The schema has no type of the name.
     NoType,
@@ -33,9 +33,9 @@ enum Halt {
     Unwritten,
 }
 
-/// Shows the bytes of a file by the types of the schema, the text of NFS version 2 where none is given, and answers the status: `Done` where all
-/// was shown, `Faulty` where the schema has faults, which it tells, or what was shown has a fault, and `Failed` where the run could not be
-/// carried out, which it tells.
+/// Shows the bytes of a file by the types of the schema's text, that of NFS version 2 where none is given, and
+/// answers the status: `Done` where all was shown and has no fault, `Faulty` where a fault was shown, or where the
+/// text has faults, which it tells, and `Failed` where the run could not be carried out, which it tells.
 pub fn dump_run<I: Tap, O: Sink, E: Sink>(
     alloc: Global,
     args: &DumpArgs,
@@ -82,7 +82,7 @@ fn open_schema<E: Sink>(
     open_types(alloc, file, text.unwrap_or(NFS2_X), err)
 }
 
-/// The types of the text of a file, or where it has none the status: of its faults, as [`open_text`] tells them, or of want of memory.
+/// The types of the text of a file, or where it has none the status, as [`open_text`] tells why.
 fn open_types<E: Sink>(
     alloc: Global,
     file: &str,
@@ -209,12 +209,8 @@ fn read_all<I: Tap>(alloc: Global, input: &mut I) -> Result<Vec<u8>, Halt>
     }
 }
 
-/// Reads them by way of a block.
-fn read_by_blocks<I: Tap>(
-    alloc: Global,
-    block: &mut [u8],
-    input: &mut I,
-) -> Result<Vec<u8>, Halt>
+/// Does so by way of a block.
+fn read_by_blocks<I: Tap>(alloc: Global, block: &mut [u8], input: &mut I) -> Result<Vec<u8>, Halt>
     requires { 0 < length block.old }
     ensures read { IfOk result (λ bytes. ReadsAll bytes.items (I.state input.old) (I.state input.new)) }
     ensures stops { IfErr result (StopsAt (I.state input.old) (I.state input.new)) }
@@ -229,12 +225,8 @@ fn read_by_blocks<I: Tap>(
     Err(Halt::TooLarge)
 }
 
-/// Reads bytes of a tap by way of a buffer and puts them behind those that are there, and answers whether there were any left.
-fn read_more<I: Tap>(
-    buffer: &mut [u8],
-    bytes: &mut Vec<u8>,
-    input: &mut I,
-) -> Result<bool, Halt>
+/// Reads bytes of a tap by way of a buffer, puts them behind those that are there, and answers whether any were left.
+fn read_more<I: Tap>(buffer: &mut [u8], bytes: &mut Vec<u8>, input: &mut I) -> Result<bool, Halt>
     requires { 0 < length buffer.old }
     ensures { ReadsOn bytes.old.items bytes.new.items (I.state input.old) (I.state input.new) result }
 {

@@ -14,8 +14,8 @@ use std::alloc::Global;
 use x_session::{Fault, Session, add_place};
 use x_text::{Pen, Sink};
 
-/// Opens the text of a file for a run of the program, or tells what is wrong with it and answers the status: `Faulty` where the text has
-/// faults, which are written one a line, and `Failed` where it is too large or memory runs out.
+/// Opens the text of a file for a run of the program, or tells what is wrong with it and answers the status: `Faulty`
+/// where the text has faults, which are written one a line, and `Failed` where it is too large or memory runs out.
 pub fn open_text<E: Sink>(
     alloc: Global,
     program: &str,
