@@ -28,13 +28,13 @@ told (Err fault) before after text h = on after.failed h.failed
     on false fails = absurd (cc)
 
 -- what was written stays
+pub stays : (a b c : Option (List ℕ)) (bs : List ℕ) → Appends a b bs → Keeps b c → Appends a c bs
+stays None b c bs p q = tt
+stays (Some x) None c bs p q = absurd p
+stays (Some x) (Some y) None bs p q = absurd q
+stays (Some x) (Some y) (Some z) bs p q = q ∙ p
+
 pub grown_kept : {T : Type 0} (result : Result T WriteFault) (before mid after : Stream) (text : List ℕ) → IsWritten result before mid text → Keeps mid.bytes after.bytes → Grows before after text
 grown_kept result before mid after text written kept =
     let so = grows result before mid text written in
     (so.0, so.1, stays before.bytes mid.bytes after.bytes (take so.0 text) so.2 kept)
-  where
-    stays : (a b c : Option (List ℕ)) (bs : List ℕ) → Appends a b bs → Keeps b c → Appends a c bs
-    stays None b c bs p q = tt
-    stays (Some x) None c bs p q = absurd p
-    stays (Some x) (Some y) None bs p q = absurd q
-    stays (Some x) (Some y) (Some z) bs p q = q ∙ p

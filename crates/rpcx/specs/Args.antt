@@ -12,6 +12,9 @@ use Rattle.clap.specs.declared.parser.matches.ValueSource.{ValueSource}
 use Rattle.clap.specs.declared.parser.matches.ValueSource.TheVariants.{CommandLine}
 use Rattle.x_gen.specs.declared.which.Which.{Which}
 use Rattle.x_gen.specs.declared.which.Which.TheVariants.{Header, Routines, Stubs, Table}
+use Rattle.rpcx.specs.declared.program.dumping_args.DumpArgs.{DumpArgs}
+use Rattle.rpcx.specs.declared.program.dumping_args.Mode.{Mode}
+use Rattle.rpcx.specs.declared.program.dumping_args.Mode.TheVariants.{Stream, Message, Value}
 use Rattle.rpcx.specs.declared.program.editing_args.EditArgs.{EditArgs}
 use Rattle.rpcx.specs.declared.program.generating_args.GenArgs.{GenArgs}
 
@@ -22,6 +25,10 @@ is_own id = not (bytes_eq id []) && (not (bytes_eq id (codes "help")) && not (by
 -- a letter without a value
 abbrev pub flag_rule : Text → Option ℕ → Rule
 flag_rule id letter = record (new_rule id) { short = letter; action = Some SetTrue }
+
+-- a letter with a value
+abbrev pub valued_rule : Text → Option ℕ → Rule
+valued_rule id letter = record (new_rule id) { short = letter; action = Some Set }
 
 -- `-c`
 abbrev pub routines_rule : Rule
@@ -39,9 +46,9 @@ stubs_rule = flag_rule (codes "stubs") (slice_get (codes "l") 0)
 abbrev pub table_rule : Rule
 table_rule = flag_rule (codes "table") (slice_get (codes "t") 0)
 
--- `-o OUT`, a letter with a value
+-- `-o OUT`
 abbrev pub output_rule : Rule
-output_rule = record (new_rule (codes "output")) { short = slice_get (codes "o") 0; action = Some Set }
+output_rule = valued_rule (codes "output") (slice_get (codes "o") 0)
 
 -- FILE, which has to be there
 abbrev pub file_rule : Rule
@@ -58,6 +65,22 @@ with_letters app = with_rule (with_rule (with_rule (with_rule app routines_rule)
 -- `rpcgen [-c] [-h] [-l] [-t] [-o OUT] FILE`
 unfoldable pub gen_app : App
 gen_app = with_rule (with_rule (with_letters (plain_app (codes "rpcgen"))) output_rule) file_rule
+
+-- `-x SCHEMA`
+abbrev pub schema_rule : Rule
+schema_rule = valued_rule (codes "schema") (slice_get (codes "x") 0)
+
+-- `-b`
+abbrev pub bare_rule : Rule
+bare_rule = flag_rule (codes "bare") (slice_get (codes "b") 0)
+
+-- `-t TYPE`
+abbrev pub type_rule : Rule
+type_rule = valued_rule (codes "type") (slice_get (codes "t") 0)
+
+-- `rpcdump [-x SCHEMA] [-b] [-t TYPE] FILE`
+unfoldable pub dump_app : App
+dump_app = with_rule (with_rule (with_rule (with_rule (plain_app (codes "rpcdump")) schema_rule) bare_rule) type_rule) file_rule
 
 -- `rpcedit FILE`
 unfoldable pub edit_app : App
@@ -92,6 +115,24 @@ pub record IsGenArgs (rows : List Row) (args : GenArgs) : Type 0 where
 -- the value of `rpcedit`, as clap read it
 pub record IsEditArgs (rows : List Row) (args : EditArgs) : Type 0 where
   pub file : Some args.file.now ≡ first_of (codes "file") rows
+
+-- the letters and values of `rpcdump`, as clap read them
+pub record IsDumpArgs (rows : List Row) (args : DumpArgs) : Type 0 where
+  pub schema : option_map (λ s. s.now) args.schema ≡ first_of (codes "schema") rows
+  pub bare : args.bare ≡ is_in_words (codes "bare") rows
+  pub type_name : option_map (λ s. s.now) args.type_name ≡ first_of (codes "type") rows
+  pub file : Some args.file.now ≡ first_of (codes "file") rows
+
+-- what the bytes are where there is `-b`, and where there is `-t TYPE`
+abbrev pub mode_by : (bare typed : Bool) → Option Mode
+mode_by false false = Some Stream
+mode_by true false = Some Message
+mode_by false true = Some Value
+mode_by true true = None
+
+-- what the letters say that the bytes are
+abbrev pub mode_of : DumpArgs → Option Mode
+mode_of args = mode_by args.bare (is_some args.type_name)
 
 abbrev pub if_asked : Bool → Which → List Which
 if_asked true which = which ∷ []

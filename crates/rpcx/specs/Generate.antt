@@ -1,4 +1,4 @@
--- What runs of `rpcgen` and `rpcedit` do, and what they tell.
+-- What runs of the programs do, and what they tell.
 use Rattle.std.specs.Prelude.{◌≡◌, ℕ, Bool, true, MatchBool, ◌-◌, ◌<◌, ◌≤◌, ◌==◌, List, ◌++◌, length, take, drop, codes, if◌then◌else◌}
 use Rattle.std.specs.List.{after_last, flat_map}
 use Rattle.std.specs.Io.KnownBytes.{Appends}
@@ -46,25 +46,27 @@ abbrev pub unopened_told : List ℕ → List ℕ → TextFault → List ℕ
 unopened_told program file faults.TooLarge = program ++ codes ": " ++ file ++ codes ": 2 TooLarge\n"
 unopened_told program file fault = told_of program (codes "out of memory")
 
--- Why `rpcgen` opens no session of a file's text that it can read, as it tells it: the text is too large, or memory ran out. A text
+-- Why a program opens no session of a file's text that it can read, as it tells it: the text is too large, or memory ran out. A text
 -- with faults has them told.
-pub data NotOpened (file text : List ℕ) (before after : Stream) : Type 0 where
-  TooLarge : MAX_TEXT < length text → IsTold before after (codes "rpcgen: " ++ file ++ codes ": 2 TooLarge\n") → NotOpened file text before after
-  NoRoom : length text ≤ MAX_TEXT → IsTold before after (codes "rpcgen: out of memory\n") → NotOpened file text before after
+pub data NotOpened (program file text : List ℕ) (before after : Stream) : Type 0 where
+  TooLarge : MAX_TEXT < length text → IsTold before after (program ++ codes ": " ++ file ++ codes ": 2 TooLarge\n") → NotOpened program file text before after
+  NoRoom : length text ≤ MAX_TEXT → IsTold before after (told_of program (codes "out of memory")) → NotOpened program file text before after
 
--- what `rpcedit` tells where a script stops
-abbrev pub stop_told : EngineFault → List ℕ
-stop_told (Read written) = codes "rpcedit: -: cannot be read\n"
-stop_told (Write written) = codes "rpcedit: output cannot be written\n"
-stop_told (NoMemory written) = codes "rpcedit: out of memory\n"
+-- what a program tells where a run over a file stops
+abbrev pub stop_told : List ℕ → List ℕ → EngineFault → List ℕ
+stop_told program file (Read written) = program ++ codes ": " ++ file ++ codes ": cannot be read\n"
+stop_told program file (Write written) = told_of program (codes "output cannot be written")
+stop_told program file (NoMemory written) = told_of program (codes "out of memory")
 
--- why a script stops, as it is told: the reader of the script has failed, or the writer of the answers, or memory ran out
-pub data Stops (before after : Stream) (reader_failed writer_failed : Bool) : Type 0 where
-  Unread : reader_failed ≡ true → IsTold before after (codes "rpcedit: -: cannot be read\n") → Stops before after reader_failed writer_failed
-  Unwritten : writer_failed ≡ true → IsTold before after (codes "rpcedit: output cannot be written\n") → Stops before after reader_failed writer_failed
-  OutOfMemory : IsTold before after (codes "rpcedit: out of memory\n") → Stops before after reader_failed writer_failed
+-- why a run stops, as it is told: the reader of the file has failed, or the writer of the answers, or memory ran out
+pub data Stops (program file : List ℕ) (before after : Stream) (reader_failed writer_failed : Bool) : Type 0 where
+  Unread : reader_failed ≡ true → IsTold before after (program ++ codes ": " ++ file ++ codes ": cannot be read\n")
+      → Stops program file before after reader_failed writer_failed
+  Unwritten : writer_failed ≡ true → IsTold before after (told_of program (codes "output cannot be written"))
+      → Stops program file before after reader_failed writer_failed
+  OutOfMemory : IsTold before after (told_of program (codes "out of memory")) → Stops program file before after reader_failed writer_failed
 
 -- why `rpcedit` does not carry a script out on a file's text that it can read, as it tells it: the text is too large, or the script stops
 pub data NotRun (file text : List ℕ) (before after : Stream) (reader_failed writer_failed : Bool) : Type 0 where
   TextTooLarge : MAX_TEXT < length text → IsTold before after (codes "rpcedit: " ++ file ++ codes ": 2 TooLarge\n") → NotRun file text before after reader_failed writer_failed
-  Stopped : length text ≤ MAX_TEXT → Stops before after reader_failed writer_failed → NotRun file text before after reader_failed writer_failed
+  Stopped : length text ≤ MAX_TEXT → Stops (codes "rpcedit") (codes "-") before after reader_failed writer_failed → NotRun file text before after reader_failed writer_failed

@@ -1,4 +1,5 @@
 pub mod Args
+pub mod Dumping
 pub mod Editing
 pub mod Generate
 pub mod Status

@@ -4,6 +4,6 @@
 mod program;
 
 pub use program::{
-    EditArgs, GenArgs, Status, complain, edit_args, edit_run, gen_args, gen_mode, gen_open,
-    gen_write, read_text, read_words, tell_of_file,
+    DumpArgs, EditArgs, GenArgs, Mode, Status, complain, dump_args, dump_mode, dump_run, edit_args,
+    edit_run, gen_args, gen_mode, gen_open, gen_write, read_text, read_words, tell_of_file,
 };

@@ -3,14 +3,19 @@
 mod arguments;
 mod base;
 mod complaint;
+mod dumping;
+mod dumping_args;
 mod editing;
 mod editing_args;
 mod generating;
 mod generating_args;
+mod opening;
 mod reading;
 mod status;
 
 pub use complaint::{complain, tell_of_file};
+pub use dumping::dump_run;
+pub use dumping_args::{DumpArgs, Mode, dump_args, dump_mode};
 pub use editing::edit_run;
 pub use editing_args::{EditArgs, edit_args};
 pub use generating::{gen_open, gen_write};

@@ -1,8 +1,9 @@
 //! What the programs tell on standard error.
 
 ghost use Rattle.std.specs.Prelude.{◌≡◌, ◌++◌, codes};
-ghost use Rattle.rpcx.specs.Generate.{unopened_told, IsTold};
+ghost use Rattle.rpcx.specs.Generate.{stop_told, unopened_told, IsTold};
 
+use x_session::EngineFault;
 use x_text::{Pen, Sink, TextFault};
 
 /// Writes text that says why a run does not go on. Where that fails there is nobody to tell.
@@ -36,5 +37,16 @@ pub(crate) fn tell_unopened<E: Sink>(program: &str, file: &str, fault: TextFault
         TextFault::NoMemory => tell_of_file(program, "out of memory", "\n", err),
         // No text is refused for a range.
         TextFault::BadRange => tell_of_file(program, "out of memory", "\n", err),
+    }
+}
+
+/// Writes why a run stopped that reads a file, behind the name of the program.
+pub(crate) fn tell_stop<E: Sink>(program: &str, file: &str, fault: EngineFault, err: &mut E)
+    ensures { IsTold (E.state err.old) (E.state err.new) (stop_told program.now file.now fault) }
+{
+    match fault {
+        EngineFault::Read { .. } => tell_of_file(program, file, ": cannot be read\n", err),
+        EngineFault::Write { .. } => tell_of_file(program, "output cannot be written", "\n", err),
+        EngineFault::NoMemory { .. } => tell_of_file(program, "out of memory", "\n", err),
     }
 }

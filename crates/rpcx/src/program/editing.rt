@@ -1,18 +1,18 @@
 //! What `rpcedit` does over a text that was read, a tap and sinks.
 
-ghost use Rattle.std.specs.Prelude.{◌≡◌, ◌≢◌, ◌⊎◌, ◌<◌, MatchOption, length};
+ghost use Rattle.std.specs.Prelude.{◌≡◌, ◌≢◌, ◌⊎◌, ◌<◌, MatchOption, codes, length};
 ghost use Rattle.x_text.specs.declared.source.TheConstants.{MAX_TEXT};
-ghost use Rattle.rpcx.specs.Generate.{base_of, stop_told, IsTold, NotRun, Stops};
+ghost use Rattle.rpcx.specs.Generate.{base_of, NotRun, Stops};
 ghost use Rattle.x_session.specs.Script.{WorksOn};
 ghost use Rattle.rpcx.specs.Editing.{Answers, EndsEarly, IsUntouched};
 
 use crate::program::base::base_of_file;
-use crate::program::complaint::{complain, tell_unopened};
+use crate::program::complaint::{tell_stop, tell_unopened};
 use crate::program::editing_args::EditArgs;
 use crate::program::status::Status;
 use std::alloc::Global;
 use std::mem;
-use x_session::{EngineFault, Outcome, Session, run_script};
+use x_session::{Outcome, Session, run_script};
 use x_text::{Sink, Tap};
 
 /// Opens the text of a file, carries out the script of the input, and answers the status: `Done` where each line was
@@ -61,7 +61,7 @@ fn answer_input<I: Tap, O: Sink, E: Sink>(
     err: &mut E,
 ) -> Status
     ensures failed { result ≡ Status.Failed
-        → Stops (E.state err.old) (E.state err.new) (I.state input.new).failed (O.state out.new).failed }
+        → Stops (codes "rpcedit") (codes "-") (E.state err.old) (E.state err.new) (I.state input.new).failed (O.state out.new).failed }
     ensures quiet { result ≢ Status.Failed → err.new ≡ err.old }
     ensures working { result ≢ Status.Failed → WorksOn (O.state out.old).failed (O.state out.new).failed }
     ensures answers { MatchOption (I.state input.old).bytes (Unit {0})
@@ -75,19 +75,8 @@ fn answer_input<I: Tap, O: Sink, E: Sink>(
         Ok(Outcome::Clean) => Status::Done,
         Ok(Outcome::Refused) => Status::Faulty,
         Err(fault) => {
-            tell_fault(fault, err);
+            tell_stop("rpcedit", "-", fault, err);
             Status::Failed
         }
-    }
-}
-
-/// Writes why a script stopped.
-fn tell_fault<E: Sink>(fault: EngineFault, err: &mut E)
-    ensures { IsTold (E.state err.old) (E.state err.new) (stop_told fault) }
-{
-    match fault {
-        EngineFault::Read { .. } => complain("rpcedit: -: cannot be read\n", err),
-        EngineFault::Write { .. } => complain("rpcedit: output cannot be written\n", err),
-        EngineFault::NoMemory { .. } => complain("rpcedit: out of memory\n", err),
     }
 }

@@ -2,19 +2,18 @@
 
 ghost use Rattle.std.specs.Prelude.{◌≡◌, ◌≢◌, ◌⊎◌, true, false, not, ◌<◌, codes, [], IsTrue, IfOk, OnOk, IfErr, IsErrOf, length, if◌then◌else◌};
 ghost use Rattle.std.specs.Io.KnownBytes.{Appends};
-ghost use Rattle.x_text.specs.Writing.{Adds};
 ghost use Rattle.x_text.specs.declared.source.TheConstants.{MAX_TEXT};
-ghost use Rattle.rpcx.specs.Generate.{base_of, told_fault, told_faults, Grows, IsTold, NotOpened};
+ghost use Rattle.rpcx.specs.Generate.{base_of, told_faults, Grows, IsTold, NotOpened};
 ghost use Rattle.x_session.specs.Session.{Compiles};
 ghost use Rattle.x_session.specs.Compile.{faults_of};
 ghost use Rattle.x_session.specs.Generated.{text_of};
 
-use crate::program::base::base_of_file;
-use crate::program::complaint::{complain, tell_unopened};
+use crate::program::complaint::complain;
+use crate::program::opening::open_text;
 use crate::program::status::Status;
 use std::alloc::Global;
-use x_session::{Fault, Session, Which, add_place};
-use x_text::{Pen, Sink};
+use x_session::{Session, Which};
+use x_text::Sink;
 
 /// Opens the text of a file for a run, or tells what is wrong with it and answers the status: `Faulty` where the text has faults,
 /// which are written one a line, and `Failed` where it is too large or memory runs out.
@@ -32,46 +31,11 @@ pub fn gen_open<E: Sink>(
         × IsTold (E.state err.old) (E.state err.new) (told_faults file.now (faults_of bytes.now items))) }
     ensures too_large { MAX_TEXT < length bytes.now → IsErrOf result Status.Failed }
     ensures failed { IsErrOf result Status.Failed
-        → NotOpened file.now bytes.now (E.state err.old) (E.state err.new) }
+        → NotOpened (codes "rpcgen") file.now bytes.now (E.state err.old) (E.state err.new) }
     ensures others { IfErr result (λ status. (status ≡ Status.Faulty) ⊎ (status ≡ Status.Failed)) }
     ensures quiet { OnOk result (err.new ≡ err.old) }
 {
-    match Session::open(alloc, base_of_file(file), bytes) {
-        Ok(session) => {
-            if session.fault_count() > 0 {
-                tell_faults(file, session.faults(), err);
-                return Err(Status::Faulty);
-            }
-            Ok(session)
-        }
-        Err(fault) => {
-            tell_unopened("rpcgen", file, fault, err);
-            Err(Status::Failed)
-        }
-    }
-}
-
-/// Writes the faults of a file's text, one a line.
-fn tell_faults<E: Sink>(file: &str, faults: &[Fault], err: &mut E)
-    ensures { IsTold (E.state err.old) (E.state err.new) (told_faults file.now faults.now) }
-{
-    let mut pen = Pen::new();
-    for fault in faults {
-        add_fault(file, fault, &mut pen, err);
-    }
-    let _ = pen.finish(err);
-}
-
-/// Adds the line that tells a fault of a file's text.
-fn add_fault<E: Sink>(file: &str, fault: &Fault, pen: &mut Pen, err: &mut E)
-    ensures { Adds pen.old (E.state err.old) pen.new (E.state err.new) (told_fault file.now fault.now) }
-{
-    pen.add(file.as_bytes(), err);
-    pen.add(b":", err);
-    add_place(fault, pen, err);
-    pen.add(b": ", err);
-    pen.add(fault.code.text().as_bytes(), err);
-    pen.add(b"\n", err);
+    open_text(alloc, "rpcgen", file, bytes, err)
 }
 
 /// Writes a generated text and flushes the output, and answers whether it took all.

@@ -1,14 +1,13 @@
 //! The command line of `rpcgen`, and the text that it asks for.
 
 ghost use Rattle.std.specs.Prelude.{◌≡◌, ◌≢◌, None, IfOk, codes, map};
-ghost use Rattle.clap.specs.Words.{FailsBy, app_of, fault_of, found_of, matches_of, rows_of};
+ghost use Rattle.clap.specs.Words.{FailsBy, app_of, fault_of, matches_of};
 ghost use Rattle.rpcx.specs.Generate.{IsTold};
-ghost use Rattle.rpcx.specs.Args.{AlwaysHas, IsGenArgs, asked_by, gen_app, is_in_words, only_of};
+ghost use Rattle.rpcx.specs.Args.{AlwaysHas, IsGenArgs, asked_by, gen_app, only_of};
 
-use crate::program::arguments::{file, flag};
+use crate::program::arguments::{file, flag, is_given, valued};
 use crate::program::complaint::complain;
-use clap::parser::ValueSource;
-use clap::{Arg, ArgAction, ArgMatches, Command, Error};
+use clap::{Command, Error};
 use std::alloc::{AllocError, Global};
 use std::convert::AsStr;
 use x_session::Which;
@@ -50,26 +49,18 @@ pub fn gen_args<'a, S: AsStr>(alloc: Global, words: &'a [S]) -> Result<GenArgs<'
     })
 }
 
-// Whether the words themselves have the flag.
-fn is_given(matches: &ArgMatches<'_>, id: &str) -> bool
-    ensures { result ≡ is_in_words id.now (rows_of (found_of matches.now)) }
-{
-    matches.value_source(id) == Some(ValueSource::CommandLine)
-}
-
 // The letters and values of `rpcgen`. Its `-h` is a mode, so clap's own help flag is off.
 fn gen_command<'a>(alloc: Global) -> Result<Command<'a>, AllocError>
     ensures app { IfOk result (λ c. app_of c ≡ gen_app) }
     ensures file { IfOk result (AlwaysHas (codes "file")) }
 {
-    let output = Arg::new(alloc, "output").short('o').action(ArgAction::Set);
     Command::new(alloc, "rpcgen")
         .disable_help_flag(true)
         .arg(flag(alloc, "routines", 'c'))?
         .arg(flag(alloc, "header", 'h'))?
         .arg(flag(alloc, "stubs", 'l'))?
         .arg(flag(alloc, "table", 't'))?
-        .arg(output)?
+        .arg(valued(alloc, "output", 'o'))?
         .arg(file(alloc))
 }
 

@@ -1,37 +1,34 @@
-use Rattle.std.proofs.Common.{◌≡◌, ◌∙◌, [], ◌∷◌, rules, refl, ap, ap₂, arith, codes}
+use Rattle.std.proofs.Common.{◌∙◌, [], ◌∷◌, rules, refl, ap, ap₂, arith, codes}
 use Rattle.std.proofs.lemmas.Result.{IfOk-weaker}
 use Rattle.std.proofs.lemmas.List.Elements.{All-cons, All-nil}
-use Rattle.clap.specs.Words.{Rule, Text, rule_of, with_rule}
+use Rattle.clap.specs.Words.{Rule, Text, with_rule}
 use Rattle.clap.specs.Built.{FitsChain}
-use Rattle.rpcx.specs.Args.{gen_app, output_rule}
-use Rattle.rpcx.proofs.Commands.{always_has, distinct_ids, fits_chain, plain_is}
+use Rattle.rpcx.specs.Args.{gen_app}
+use Rattle.rpcx.proofs.Commands.{always_has, distinct_ids, plain_is}
 use Rattle.rpcx.proofs.program.generating_args.gen_command.Goals as goal
 
 pub returns-clause-app : goal.returns-clause-app
 unfolding gen_app
 returns-clause-app c =
-    let output_is : rule_of c.action-output.result ≡ output_rule = search rules in
-    let plain = plain_is c.new-2.result c.disable_help_flag.result (codes "rpcgen") c.new-2.ensures.app c.disable_help_flag.ensures in
+    let plain = plain_is c.new.result c.disable_help_flag.result (codes "rpcgen") c.new.ensures.app c.disable_help_flag.ensures in
     let one = c.in_ok-arg.ensures.shape (search rules) ∙ ap₂ with_rule plain c.flag.ensures.rule in
     let two = c.in_ok-arg-2.ensures.shape (search rules) ∙ ap₂ with_rule one c.flag-2.ensures.rule in
     let three = c.in_ok-arg-3.ensures.shape (search rules) ∙ ap₂ with_rule two c.flag-3.ensures.rule in
     let four = c.in_ok-arg-4.ensures.shape (search rules) ∙ ap₂ with_rule three c.flag-4.ensures.rule in
-    let five = c.in_ok-arg-5.ensures.shape (search rules) ∙ ap₂ with_rule four output_is in
+    let five = c.in_ok-arg-5.ensures.shape (search rules) ∙ ap₂ with_rule four c.valued.ensures.rule in
     IfOk-weaker c.arg-6.result _ _ (λ r h. h.shape (search rules) ∙ ap₂ with_rule five c.file.ensures.rule) c.arg-6.ensures
 
 pub returns-clause-file : goal.returns-clause-file
 returns-clause-file c =
-    let output = fits_chain c.action-output.result (codes "output") (search rules) (search rules) (search rules) refl in
-    let output_id : c.action-output.result.id.now ≡ codes "output" = search rules in
     let id : Rule → Text = λ r. r.id in
     let one = c.file.result ∷ [] in
-    let two = c.action-output.result ∷ one in
+    let two = c.valued.result ∷ one in
     let three = c.flag-4.result ∷ two in
     let four = c.flag-3.result ∷ three in
     let five = c.flag-2.result ∷ four in
     let six = c.flag.result ∷ five in
     let fit_one = All-cons FitsChain c.file.result [] c.file.ensures.fits (All-nil FitsChain) in
-    let fit_two = All-cons FitsChain c.action-output.result one output fit_one in
+    let fit_two = All-cons FitsChain c.valued.result one c.valued.ensures.fits fit_one in
     let fit_three = All-cons FitsChain c.flag-4.result two c.flag-4.ensures.fits fit_two in
     let fit_four = All-cons FitsChain c.flag-3.result three c.flag-3.ensures.fits fit_three in
     let fit_five = All-cons FitsChain c.flag-2.result four c.flag-2.ensures.fits fit_four in
@@ -39,10 +36,10 @@ returns-clause-file c =
     let names = codes "routines" ∷ codes "header" ∷ codes "stubs" ∷ codes "table" ∷ codes "output" ∷ codes "file" ∷ [] in
     let ids = distinct_ids six names
     (λ i. ap id c.flag.ensures.rule i ∷ ap id c.flag-2.ensures.rule i ∷ ap id c.flag-3.ensures.rule i ∷ ap id c.flag-4.ensures.rule i
-    ∷ output_id i ∷ ap id c.file.ensures.rule i ∷ []) refl in
+    ∷ ap id c.valued.ensures.rule i ∷ ap id c.file.ensures.rule i ∷ []) refl in
     IfOk-weaker c.arg-6.result _ _
-    (λ r h. always_has c.new-2.result c.disable_help_flag.result r six 5 c.file.result (codes "file")
-    c.disable_help_flag.ensures c.new-2.ensures.empty c.new-2.ensures.local c.new-2.ensures.negates (
+    (λ r h. always_has c.new.result c.disable_help_flag.result r six 5 c.file.result (codes "file")
+    c.disable_help_flag.ensures c.new.ensures.empty c.new.ensures.local c.new.ensures.negates (
       _,
       c.in_ok-arg.ensures,
       (

@@ -5,7 +5,7 @@ use Rattle.clap.specs.declared.parser.matches.ValueSource.{ValueSource}
 use Rattle.clap.specs.declared.parser.matches.ValueSource.TheVariants.{CommandLine, DefaultValue}
 use Rattle.rpcx.specs.Args.{is_command_line}
 use Rattle.rpcx.proofs.Commands.{source_is}
-use Rattle.rpcx.proofs.program.generating_args.is_given.Goals as goal
+use Rattle.rpcx.proofs.program.arguments.is_given.Goals as goal
 
 -- the comparison, by any equality that tells the two sources apart
 compares : (equals : ValueSource → ValueSource → Bool) → equals CommandLine CommandLine ≡ true → equals DefaultValue CommandLine ≡ false

@@ -2,7 +2,7 @@ use Rattle.std.proofs.Common.{◌++◌, codes, subst, ◌∙◌}
 use Rattle.x_text.specs.Writing.{Adds}
 use Rattle.x_session.specs.Answers.{fault_place}
 use Rattle.x_text.proofs.Adding.{six}
-use Rattle.rpcx.proofs.program.generating.add_fault.Goals as goal
+use Rattle.rpcx.proofs.program.opening.add_fault.Goals as goal
 
 pub returns : goal.returns
 returns g c =

@@ -5,7 +5,7 @@ use Rattle.x_session.specs.declared.compile.fault.Fault.{Fault}
 use Rattle.rpcx.specs.Generate.{told_faults, IsTold}
 use Rattle.x_session.proofs.Compiled.{one_compilation}
 use Rattle.rpcx.proofs.Stopped.{not_opened}
-use Rattle.rpcx.proofs.program.generating.gen_open.Goals as goal
+use Rattle.rpcx.proofs.program.opening.open_text.Goals as goal
 
 no_fault : (fs : List Fault) (n : ℕ) → n ≡ length fs → n ≤ 0 → fs ≡ []
 no_fault [] n is none = refl
@@ -34,5 +34,5 @@ returns-then-fault_count-gt0-clause-faulty g c e =
 
 pub returns-in-Err-clause-failed : goal.returns-in-Err-clause-failed
 returns-in-Err-clause-failed g c e =
-    not_opened c.args.file.now c.args.bytes.now (g.E.Sink.state c.args.err.now) (g.E.Sink.state c.tell_unopened.new.err)
+    not_opened c.args.program.now c.args.file.now c.args.bytes.now (g.E.Sink.state c.args.err.now) (g.E.Sink.state c.tell_unopened.new.err)
     c.in-Err.fault c.in-Err.ensures.too_large c.in-Err.ensures.in_range c.tell_unopened.ensures

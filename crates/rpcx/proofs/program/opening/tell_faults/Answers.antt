@@ -8,7 +8,7 @@ use Rattle.x_item.specs.declared.parsing.fault_code.FaultCode.TheVariants as cod
 use Rattle.rpcx.proofs.Grown.{told}
 use Rattle.x_sema.proofs.ListLemmas.{drop_one, drop_none}
 use Rattle.x_text.proofs.Listing.{HasListed, lists_none, lists_more, lists_all}
-use Rattle.rpcx.proofs.program.generating.tell_faults.Goals as goal
+use Rattle.rpcx.proofs.program.opening.tell_faults.Goals as goal
 
 pub loop-fault-init : goal.loop-fault-init
 loop-fault-init g c = lists_none (told_fault c.args.file.now) c.args.faults.now c.new-pen.result (g.E.Sink.state c.args.err.now)

@@ -1,0 +1,134 @@
+-- What a run of `rpcdump` does, put together.
+use Rattle.std.proofs.Common.{◌≡◌, ◌∙◌, ℕ, ◌+◌, ◌≤◌, ◌<◌, Bool, true, false, List, [], ◌++◌, length, Option, Some, None, Result, Ok, Err, Bor, ◌⊎◌, inl, inr, codes, refl, sym, subst, ap, append_assoc, append-nil, length-append, arith}
+use Rattle.std.specs.Prelude.{MatchOption, option_map, unwrap_or, IsErrAnd, IsErrOf}
+use Rattle.std.specs.Io.KnownBytes.{Consumes, IsAtEnd, Keeps}
+use Rattle.std.proofs.Math.Nat.{lt_of_not-le}
+use Rattle.x_text.specs.Streams.{Stream}
+use Rattle.x_text.specs.declared.source.TheConstants.{MAX_TEXT}
+use Rattle.x_sema.specs.Schema.{Schema}
+use Rattle.x_session.specs.Session.{Compiles}
+use Rattle.x_session.specs.Compile.{faults_of}
+use Rattle.x_session.specs.Typed.{GivesSchema}
+use Rattle.x_session.specs.declared.script.Outcome.{Outcome}
+use Rattle.x_session.specs.declared.session.Session.{Session}
+use Rattle.rpcx.proofs.Grown.{stays}
+use Rattle.rpcx.specs.Dumping.{course, HasTypes, IsFaultless, IsRead, Opens, ReadsAll, ReadsOn, Shows, ShowsFile, StopsAt}
+use Rattle.rpcx.specs.Generate.{IsTold, NotOpened, told_faults}
+use Rattle.rpcx.specs.declared.program.dumping.Halt.{Halt}
+use Rattle.rpcx.specs.declared.program.dumping.Halt.TheVariants.{NoType, Unread, TooLarge, NoRoom, Ended, Unwritten}
+use Rattle.rpcx.specs.declared.program.dumping_args.Mode.{Mode}
+use Rattle.rpcx.specs.declared.program.dumping_args.Mode.TheVariants as modes
+use Rattle.rpcx.specs.declared.program.status.Status.{Status}
+use Rattle.rpcx.specs.declared.program.status.Status.TheVariants.{Done, Faulty, Failed}
+
+-- what an option of a text or another text says
+pub now_or : (o : Option (Bor (List ℕ))) (other : Bor (List ℕ)) (chosen : Bor (List ℕ)) → chosen ≡ unwrap_or o other
+    → chosen.now ≡ unwrap_or (option_map (λ s. s.now) o) other.now
+now_or None other chosen is = ap (λ s. s.now) is
+now_or (Some s) other chosen is = ap (λ s. s.now) is
+
+-- ---- reading
+
+-- one front behind another
+pub consumes_more : (a b c : Option (List ℕ)) (first second : List ℕ) → Consumes a b first → Consumes b c second → Consumes a c (first ++ second)
+consumes_more None b c first second p q = tt
+consumes_more (Some x) None c first second p q = absurd p
+consumes_more (Some x) (Some y) None first second p q = absurd q
+consumes_more (Some x) (Some y) (Some z) first second p q = p ∙ ap (λ t. first ++ t) q ∙ sym (append_assoc first second z)
+
+-- a front of nothing
+pub consumes_none : (a : Option (List ℕ)) → Consumes a a []
+consumes_none None = tt
+consumes_none (Some x) = refl
+
+-- ---- the types of the schema
+
+fits : (n : ℕ) → (MAX_TEXT < n → ⊥) → n ≤ MAX_TEXT
+fits n none = let h = lt_of_not-le {n = MAX_TEXT + 1} {m = n} (λ le. none (omega (arith, le))) in omega (arith, h)
+
+-- an error that is passed on
+pub passed_on : {T E : Type 0} (P : Result T E → Type 0) (r : Result T E) (e : E) → IsErrAnd r (λ x. x ≡ e) → P (Err e) → P r
+passed_on P (Ok x) e again h = absurd again
+passed_on P (Err x) e again h = subst (λ y. P (Err y)) (sym again) h
+
+abbrev FailsWith : Status → Status → Type 0
+FailsWith status other = let r : Result Session Status = Err status in IsErrOf r other
+
+-- a text that is not opened, by its status
+pub not_opened : (file text : List ℕ) (before after : Stream) (status : Status)
+    → (FailsWith status Faulty → Compiles text (λ items. (0 < length (faults_of text items)) × IsTold before after (told_faults file (faults_of text items))))
+    → (MAX_TEXT < length text → FailsWith status Failed) → (FailsWith status Failed → NotOpened (codes "rpcdump") file text before after)
+    → (status ≡ Faulty) ⊎ (status ≡ Failed) → Opens file text before after (Err status)
+not_opened file text before after Done faulty large failed others = elim others [ inl other ↦ absurd (cc) | inr other ↦ absurd (cc) ]
+not_opened file text before after Faulty faulty large failed others = (fits (length text) (λ more. let off = large more in cc), faulty refl)
+not_opened file text before after Failed faulty large failed others = inl (failed refl)
+
+-- the types of a text that was opened
+pub has_types : (text : List ℕ) (s : Schema) → (MAX_TEXT < length text → ⊥) → Compiles text (λ items. GivesSchema text items (Ok s)) → HasTypes text s
+has_types text s large gives = (fits (length text) large, gives)
+
+-- a text without a fault whose types could not be made
+pub faultless : (text : List ℕ) → (MAX_TEXT < length text → ⊥) → Compiles text (λ items. faults_of text items ≡ []) → IsFaultless text
+faultless text large clean = record { fits = fits (length text) large; clean = clean }
+
+-- ---- reading
+
+-- why a file is not read on, behind what was read
+pub stops_behind : (start mid now : Stream) (read : List ℕ) (halt : Halt) → Consumes start.bytes mid.bytes read → StopsAt mid now halt → StopsAt start now halt
+stops_behind start mid now read Unread front h = ((read ++ h.0.0, consumes_more start.bytes mid.bytes now.bytes read h.0.0 front h.0.1, tt), h.1)
+stops_behind start mid now read TooLarge front h =
+    (read ++ h.0, consumes_more start.bytes mid.bytes now.bytes read h.0 front h.1, longer read h.0 h.2)
+  where
+    longer : (a b : List ℕ) → MAX_TEXT < length b → MAX_TEXT < length (a ++ b)
+    longer a b more = let sum = length-append a b in omega (arith, sum, more)
+stops_behind start mid now read NoRoom front h = (read ++ h.0, consumes_more start.bytes mid.bytes now.bytes read h.0 front h.1, tt)
+stops_behind start mid now read NoType front h = h
+stops_behind start mid now read (Ended fault) front h = h
+stops_behind start mid now read Unwritten front h = h
+
+-- a file of which none is left
+pub reads_all : (start mid now : Stream) (old new : List ℕ) (more : Bool) → ReadsOn old new mid now (Ok more) → more ≡ false → Consumes start.bytes mid.bytes old
+    → mid.failed ≡ start.failed → length old ≤ MAX_TEXT → ReadsAll new start now
+reads_all start mid now old new true h other front working fits = absurd (cc)
+reads_all start mid now old new false h other front working fits =
+    let whole : old ++ [] ≡ new = append-nil old ∙ sym h.0 in
+    record {
+      read = subst (λ t. Consumes start.bytes now.bytes t) whole (consumes_more start.bytes mid.bytes now.bytes old [] front h.1);
+      all = h.2;
+      fits = subst (λ t. length t ≤ MAX_TEXT) (sym h.0) fits;
+      working = h.3 ∙ working;
+    }
+
+-- one of which more came
+pub reads_more : (start mid now : Stream) (old new : List ℕ) (more : Bool) → ReadsOn old new mid now (Ok more) → more ≡ true → Consumes start.bytes mid.bytes old
+    → mid.failed ≡ start.failed → Consumes start.bytes now.bytes new × (now.failed ≡ start.failed)
+reads_more start mid now old new true h other front working =
+    (subst (λ t. Consumes start.bytes now.bytes t) (sym h.1) (consumes_more start.bytes mid.bytes now.bytes old h.0 front h.3), h.4 ∙ working)
+reads_more start mid now old new false h other front working = absurd (cc)
+
+-- all bytes of a file were read, and of them this holds
+whole : (file file' : Option (List ℕ)) (bytes : List ℕ) (P : List ℕ → Type 0) → Consumes file file' bytes → IsAtEnd file' → length bytes ≤ MAX_TEXT
+    → P bytes → MatchOption file (Unit {0}) (λ all. IsRead all file' × P all)
+whole None file' bytes P front end fits h = tt
+whole (Some all) None bytes P front end fits h = absurd front
+whole (Some all) (Some later) bytes P front end fits h =
+    let same : bytes ≡ all = sym (front ∙ ap (λ t. bytes ++ t) end ∙ append-nil bytes) in
+    (record { fits = subst (λ t. length t ≤ MAX_TEXT) same fits; none_left = ap Some end }, subst P same h)
+
+pub read_whole : (file file' : Stream) (bytes : List ℕ) (P : List ℕ → Type 0) → ReadsAll bytes file file' → P bytes
+    → MatchOption file.bytes (Unit {0}) (λ all. IsRead all file'.bytes × P all)
+read_whole file file' bytes P h p = whole file.bytes file'.bytes bytes P h.read h.all h.fits p
+
+-- what was shown stays
+pub shown_kept : (mode : Mode) (type : List ℕ) (s : Schema) (file file' before mid after : Stream) (outcome : Outcome)
+    → ShowsFile mode type s (course file file' before mid) (Ok outcome) → Keeps mid.bytes after.bytes → ShowsFile mode type s (course file file' before after) (Ok outcome)
+shown_kept mode type s file file' before mid after outcome h kept = go file.bytes h
+  where
+    one : (m : Mode) (bytes : List ℕ) → Shows m type s bytes file'.bytes before mid (Ok outcome) → Shows m type s bytes file'.bytes before after (Ok outcome)
+    one modes.Stream bytes h = (h.0, h.1, stays before.bytes mid.bytes after.bytes h.0.text h.2 kept, h.3)
+    one modes.Message bytes h = (h.0, (h.1.0, h.1.1, stays before.bytes mid.bytes after.bytes h.1.0.text h.1.2 kept, h.1.3))
+    one modes.Value bytes h = (h.0, (h.1.0, h.1.1, (h.1.2.0, h.1.2.1, stays before.bytes mid.bytes after.bytes h.1.2.0 h.1.2.2 kept)))
+    go : (bytes : Option (List ℕ)) → MatchOption bytes (Unit {0}) (λ bs. Shows mode type s bs file'.bytes before mid (Ok outcome))
+        → MatchOption bytes (Unit {0}) (λ bs. Shows mode type s bs file'.bytes before after (Ok outcome))
+    go None h = tt
+    go (Some bytes) h = one mode bytes h

@@ -1,0 +1,181 @@
+-- What a run of `rpcdump` does with the bytes of its file.
+use Rattle.std.specs.Prelude.{◌≡◌, ◌≢◌, ◌⊎◌, ◌<◌, ◌≤◌, ℕ, Bool, true, false, List, [], ◌++◌, length, Option, Some, None, MatchOption, Result, Ok, Err, codes, option_map, unwrap_or}
+use Rattle.std.specs.Io.KnownBytes.{Consumes, IsAtEnd}
+use Rattle.x_text.specs.Streams.{Stream}
+use Rattle.x_text.specs.declared.source.TheConstants.{MAX_TEXT}
+use Rattle.x_sema.specs.Schema.{Schema, id_named}
+use Rattle.x_sema.specs.Schemas.{IsSchemaOf}
+use Rattle.x_sema.specs.declared.schema.TypeId.{TypeId}
+use Rattle.x_session.specs.Session.{Compiles}
+use Rattle.x_session.specs.Compile.{definitions_of, faults_of}
+use Rattle.x_session.specs.Script.{NamesCause}
+use Rattle.x_session.specs.ValueTexts.{WritesValue}
+use Rattle.x_session.specs.declared.compile.fault.Fault.{Fault}
+use Rattle.x_session.specs.declared.script.Outcome.{Outcome}
+use Rattle.x_session.specs.declared.script.Outcome.TheVariants.{Clean, Refused}
+use Rattle.x_session.specs.declared.script.EngineFault.{EngineFault}
+use Rattle.x_wire.specs.StreamTexts.{DumpsMessage, DumpsStream}
+use Rattle.x_wire.specs.declared.nfs2.TheConstants.{NFS2_X}
+use Rattle.rpcx.specs.Generate.{IsTold, NotOpened, stop_told, told_faults}
+use Rattle.rpcx.specs.declared.program.dumping.Halt.{Halt}
+use Rattle.rpcx.specs.declared.program.dumping.Halt.TheVariants.{NoType, Unread, TooLarge, NoRoom, Ended, Unwritten}
+use Rattle.rpcx.specs.declared.program.dumping_args.DumpArgs.{DumpArgs}
+use Rattle.rpcx.specs.declared.program.dumping_args.Mode.{Mode}
+use Rattle.rpcx.specs.declared.program.dumping_args.Mode.TheVariants as modes
+use Rattle.rpcx.specs.declared.program.status.Status.{Status}
+use Rattle.rpcx.specs.declared.program.status.Status.TheVariants.{Done, Faulty, Failed}
+
+-- ---- the schema
+
+-- the text of the schema: that of NFS version 2 where none is given
+abbrev pub schema_text : Option (List ℕ) → List ℕ
+schema_text given = unwrap_or given NFS2_X.now
+
+-- the name by which its faults are told
+abbrev pub schema_name : DumpArgs → List ℕ
+schema_name args = unwrap_or (option_map (λ s. s.now) args.schema) (codes "nfs2.x")
+
+-- the name of the type that is asked for
+abbrev pub type_asked : DumpArgs → List ℕ
+type_asked args = unwrap_or (option_map (λ s. s.now) args.type_name) []
+
+-- the text is one that can be compiled, and has no fault
+pub record IsFaultless (text : List ℕ) : Type 0 where
+  pub fits : length text ≤ MAX_TEXT
+  pub clean : Compiles text (λ items. faults_of text items ≡ [])
+
+-- the text is one that can be compiled, and has faults of which this holds
+abbrev pub HasFaults : List ℕ → (List Fault → Type 0) → Type 0
+HasFaults text P = (length text ≤ MAX_TEXT) × Compiles text (λ items. (0 < length (faults_of text items)) × P (faults_of text items))
+
+-- the text has no fault, and these are its types
+abbrev pub HasTypes : List ℕ → Schema → Type 0
+HasTypes text s = (length text ≤ MAX_TEXT) × Compiles text (λ items. (faults_of text items ≡ []) × IsSchemaOf (definitions_of items) s)
+
+-- What opening the types of a text comes to: there are such, or its faults were told, or it was told why it is not opened.
+abbrev pub Opens : (file text : List ℕ) → (before after : Stream) → Result Schema Status → Type 0
+Opens file text before after (Ok s) = HasTypes text s
+Opens file text before after (Err Faulty) = HasFaults text (λ all. IsTold before after (told_faults file all))
+Opens file text before after (Err Failed) = NotOpened (codes "rpcdump") file text before after
+    ⊎ IsFaultless text × IsTold before after (codes "rpcdump: out of memory\n")
+Opens file text before after (Err Done) = ⊥
+
+-- ---- what is shown
+
+-- the file and the output of a run, before and after it
+pub record Course : Type 0 where
+  pub file : Stream
+  pub file' : Stream
+  pub out : Stream
+  pub out' : Stream
+
+abbrev pub course : (file file' out out' : Stream) → Course
+course file file' out out' = record { file = file; file' = file'; out = out; out' = out' }
+
+-- nothing was read, and nothing was written
+pub record IsIdle (c : Course) : Type 0 where
+  pub unread : c.file' ≡ c.file
+  pub unwritten : c.out' ≡ c.out
+
+-- all bytes were read, which are not too many
+pub record IsRead (bytes : List ℕ) (left : Option (List ℕ)) : Type 0 where
+  pub fits : length bytes ≤ MAX_TEXT
+  pub none_left : left ≡ Some []
+
+-- the text of a value of the named type was written
+abbrev pub WritesNamed : Schema → (type bytes : List ℕ) → (before after : Stream) → Result Outcome EngineFault → Type 0
+WritesNamed s type bytes before after result = (id : TypeId) × (id_named s type ≡ Some id) × WritesValue s id bytes before after result
+
+-- What is written of these bytes, of which the file has `left` then: as a stream; whole, as one message or as one value of the named type.
+abbrev pub Shows : Mode → (type : List ℕ) → Schema → (bytes : List ℕ) → (left : Option (List ℕ)) → (before after : Stream)
+    → Result Outcome EngineFault → Type 0
+Shows modes.Stream type s bytes left before after result = DumpsStream s bytes left before after result
+Shows modes.Message type s bytes left before after result = IsRead bytes left × DumpsMessage s bytes before after result
+Shows modes.Value type s bytes left before after result = IsRead bytes left × WritesNamed s type bytes before after result
+
+-- the same of a file, where it tells its bytes
+abbrev pub ShowsFile : Mode → (type : List ℕ) → Schema → Course → Result Outcome EngineFault → Type 0
+ShowsFile mode type s c result =
+    MatchOption c.file.bytes (Unit {0}) (λ bytes. Shows mode type s bytes c.file'.bytes c.out c.out' result)
+
+-- ---- what halts it
+
+-- some front of the bytes was read
+abbrev pub HasRead : (file file' : Option (List ℕ)) → (List ℕ → Type 0) → Type 0
+HasRead file file' P = (read : List ℕ) × Consumes file file' read × P read
+
+-- why a file is not read as a whole
+abbrev pub StopsAt : (file file' : Stream) → Halt → Type 0
+StopsAt file file' Unread = HasRead file.bytes file'.bytes (λ read. Unit {0}) × (file'.failed ≡ true)
+StopsAt file file' TooLarge = HasRead file.bytes file'.bytes (λ read. MAX_TEXT < length read)
+StopsAt file file' NoRoom = HasRead file.bytes file'.bytes (λ read. Unit {0})
+StopsAt file file' _ = ⊥
+
+-- a file was read to its end, which has these bytes and not too many
+pub record ReadsAll (bytes : List ℕ) (file file' : Stream) : Type 0 where
+  pub read : Consumes file.bytes file'.bytes bytes
+  pub all : IsAtEnd file'.bytes
+  pub fits : length bytes ≤ MAX_TEXT
+  pub working : file'.failed ≡ file.failed
+
+-- a file is read on: some bytes came behind those that were there, or none is left
+abbrev pub ReadsOn : (old new : List ℕ) → (file file' : Stream) → Result Bool Halt → Type 0
+ReadsOn old new file file' (Ok true) = (more : List ℕ) × (new ≡ old ++ more) × (0 < length more) × Consumes file.bytes file'.bytes more
+    × (file'.failed ≡ file.failed)
+ReadsOn old new file file' (Ok false) = (new ≡ old) × Consumes file.bytes file'.bytes [] × IsAtEnd file'.bytes × (file'.failed ≡ file.failed)
+ReadsOn old new file file' (Err halt) = StopsAt file file' halt
+
+-- the reading of a file as a whole stopped, and nothing of it was shown
+pub record StopsReading (mode : Mode) (c : Course) (halt : Halt) : Type 0 where
+  pub whole : mode ≢ modes.Stream
+  pub stops : StopsAt c.file c.file' halt
+  pub unwritten : c.out' ≡ c.out
+
+-- Why a file is not shown to its end, and what was read and written then.
+abbrev pub Halts : Mode → (type : List ℕ) → Schema → Course → Halt → Type 0
+Halts mode type s c NoType = (mode ≡ modes.Value) × (id_named s type ≡ None) × IsIdle c
+Halts mode type s c (Ended fault) =
+    ShowsFile mode type s c (Err fault) × NamesCause (Err fault) c.file.failed c.file'.failed c.out.failed c.out'.failed
+Halts mode type s c Unwritten = ((outcome : Outcome) × ShowsFile mode type s c (Ok outcome)) × (c.out'.failed ≡ true)
+Halts mode type s c halt = StopsReading mode c halt
+
+-- and what is told of it
+abbrev pub halt_told : (type file : List ℕ) → Halt → List ℕ
+halt_told type file NoType = codes "rpcdump: no type " ++ type ++ codes "\n"
+halt_told type file Unread = codes "rpcdump: " ++ file ++ codes ": cannot be read\n"
+halt_told type file TooLarge = codes "rpcdump: " ++ file ++ codes ": 2 TooLarge\n"
+halt_told type file NoRoom = codes "rpcdump: out of memory\n"
+halt_told type file (Ended fault) = stop_told (codes "rpcdump") file fault
+halt_told type file Unwritten = codes "rpcdump: output cannot be written\n"
+
+-- what was written of a file, before the output was asked to pass it on
+abbrev pub Goes : Mode → (type : List ℕ) → Schema → Course → Result Outcome Halt → Type 0
+Goes mode type s c (Ok outcome) = ShowsFile mode type s c (Ok outcome) × (c.file'.failed ≡ c.file.failed)
+Goes mode type s c (Err halt) = Halts mode type s c halt
+
+-- A file is shown to its end, and the output works, or it is not.
+abbrev pub Ends : Mode → (type : List ℕ) → Schema → Course → Result Outcome Halt → Type 0
+Ends mode type s c (Ok outcome) = ShowsFile mode type s c (Ok outcome) × (c.file'.failed ≡ c.file.failed) × (c.out'.failed ≡ false)
+Ends mode type s c (Err halt) = Halts mode type s c halt
+
+-- ---- a run
+
+-- by the types of this text the file was shown to its end, with this outcome
+abbrev pub HasShown : Mode → (type text : List ℕ) → Course → Outcome → Type 0
+HasShown mode type text c outcome = (s : Schema) × HasTypes text s × Ends mode type s c (Ok outcome)
+
+-- Why a run is not carried out, as it is told: the schema's text is not opened, or memory ran out over it; or the file is not shown to its end.
+pub data NotDumped (args : DumpArgs) (mode : Mode) (text : List ℕ) (c : Course) (before after : Stream) : Type 0 where
+  unopened : NotOpened (codes "rpcdump") (schema_name args) text before after → IsIdle c → NotDumped args mode text c before after
+  untyped : IsFaultless text → IsTold before after (codes "rpcdump: out of memory\n") → IsIdle c → NotDumped args mode text c before after
+  halted : (s : Schema) → HasTypes text s → (halt : Halt) → Halts mode (type_asked args) s c halt
+      → IsTold before after (halt_told (type_asked args) args.file.now halt) → NotDumped args mode text c before after
+
+-- A run that ends with this status: the file was shown to its end without a fault; or the schema's text has faults, which were told, or what
+-- was shown has one; or the run was not carried out.
+abbrev pub HasDumped : DumpArgs → Mode → (text : List ℕ) → Course → (before after : Stream) → Status → Type 0
+HasDumped args mode text c before after Done = HasShown mode (type_asked args) text c Clean × (after ≡ before)
+HasDumped args mode text c before after Faulty =
+    HasFaults text (λ all. IsTold before after (told_faults (schema_name args) all)) × IsIdle c
+    ⊎ HasShown mode (type_asked args) text c Refused × (after ≡ before)
+HasDumped args mode text c before after Failed = NotDumped args mode text c before after
