@@ -7,11 +7,7 @@ use x_wire::{MAX_RECORD, RecordCode, RecordFault, Records};
 const STREAM: &[u8] = b"\0\0\0\x03abc\0\0\0\0\x80\0\0\x02de\x80\0\0\0\x80\0";
 
 /// Feeds a piece, and adds each record that it makes whole, and `;`, to the text.
-pub(crate) fn feed_all(
-    records: &mut Records,
-    piece: &[u8],
-    text: &mut Vec<u8>,
-) -> Result<(), RecordFault> {
+fn feed_all(records: &mut Records, piece: &[u8], text: &mut Vec<u8>) -> Result<(), RecordFault> {
     let mut used = 0;
     while used < piece.len() {
         let fed = match records.feed(&piece[used..]) {
@@ -37,12 +33,17 @@ fn add_record(text: &mut Vec<u8>, whole: &[u8]) -> Result<(), AllocError> {
     Ok(())
 }
 
-/// Feeds the stream in two pieces, cut behind so many bytes.
-fn feed_cut(alloc: Global, cut: usize, text: &mut Vec<u8>) -> Result<(), RecordFault> {
-    let cut = cut.min(STREAM.len());
+/// Feeds a stream in two pieces, cut behind so many bytes.
+pub(crate) fn feed_cut(
+    alloc: Global,
+    stream: &[u8],
+    cut: usize,
+    text: &mut Vec<u8>,
+) -> Result<(), RecordFault> {
+    let (first, rest) = stream.split_at(cut.min(stream.len()));
     let mut records = Records::new(alloc);
-    feed_all(&mut records, &STREAM[..cut], text)?;
-    feed_all(&mut records, &STREAM[cut..], text)?;
+    feed_all(&mut records, first, text)?;
+    feed_all(&mut records, rest, text)?;
     records.finish()
 }
 
@@ -54,7 +55,7 @@ fn refusal(at: u64, code: RecordCode) -> Result<(), RecordFault> {
 fn a_stream_has_its_records_in_every_cut(rt: HostRuntime) {
     for cut in 0..25 {
         let mut text = Vec::new(rt.alloc());
-        let end = feed_cut(rt.alloc(), cut, &mut text);
+        let end = feed_cut(rt.alloc(), STREAM, cut, &mut text);
         assert_eq!(rt; end, refusal(23, RecordCode::Truncated), "cut at {cut}");
         assert_eq!(rt; text.as_slice(), b"abcde;;".as_slice(), "cut at {cut}");
     }

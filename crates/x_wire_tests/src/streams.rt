@@ -1,8 +1,9 @@
-use crate::records::feed_all;
+use crate::records::feed_cut;
+use std::alloc::Global;
 use std::test::Fail;
 use x_session::Session;
 use x_text::{MemSink, MemTap};
-use x_wire::{EngineFault, NFS2_X, Outcome, Records, dump_message, dump_stream};
+use x_wire::{EngineFault, NFS2_X, Outcome, dump_stream};
 
 /// A call of procedure 0 of NFS version 2 in two fragments, and its reply.
 const STREAM: &[u8] =
@@ -71,128 +72,100 @@ fn the_schema_of_nfs_has_its_procedures(rt: HostRuntime) -> Result<(), Fail> {
     Ok(())
 }
 
+/// Dumps a stream by the types of a text.
+fn dump(
+    alloc: Global,
+    text: &[u8],
+    tap: &mut MemTap,
+    sink: &mut MemSink,
+) -> Result<Outcome, EngineFault> {
+    let Ok(session) = Session::open(alloc, b"t", text) else {
+        return Err(EngineFault::NoMemory { written: 0 });
+    };
+    match session.schema() {
+        Ok(schema) => dump_stream(alloc, &schema, tap, sink),
+        Err(_) => Err(EngineFault::NoMemory { written: 0 }),
+    }
+}
+
 /// Whole, byte by byte, and in pieces of every size between.
 #[test]
-fn a_stream_is_told_in_pieces_of_every_size(rt: HostRuntime) -> Result<(), Fail> {
-    let session = Session::open(rt.alloc(), b"nfs2", NFS2_X)?;
-    let schema = session.schema()?;
+fn a_stream_is_told_in_pieces_of_every_size(rt: HostRuntime) {
     for size in 1..=READDIR.len() {
-        let mut tap = MemTap::new(READDIR, size, usize::MAX);
         let mut told = [0u8; 1024];
         let mut sink = MemSink::new(&mut told, 1024, 1024);
-        let result = dump_stream(rt.alloc(), &schema, &mut tap, &mut sink);
-        assert_eq!(rt; result, Ok(Outcome::Clean), "by {size} bytes");
-        assert_eq!(rt; sink.bytes(), READDIR_TEXT, "by {size} bytes");
+        let mut tap = MemTap::new(READDIR, size, usize::MAX);
+        let result = dump(rt.alloc(), NFS2_X, &mut tap, &mut sink);
+        assert!(rt; result == Ok(Outcome::Clean) && sink.bytes() == READDIR_TEXT);
     }
-    Ok(())
 }
 
 /// In every cut into two.
 #[test]
 fn a_reply_in_fragments_is_one_record_in_every_cut(rt: HostRuntime) {
     let mut whole = Vec::new(rt.alloc());
-    assert_eq!(rt;
-        feed_all(&mut Records::new(rt.alloc()), READDIR, &mut whole),
-        Ok(())
-    );
+    assert!(rt; feed_cut(rt.alloc(), READDIR, 0, &mut whole).is_ok());
     for cut in 0..=READDIR.len() {
-        let mut records = Records::new(rt.alloc());
         let mut text = Vec::new(rt.alloc());
-        assert_eq!(rt;
-            feed_all(&mut records, &READDIR[..cut], &mut text),
-            Ok(()),
-            "cut at {cut}"
-        );
-        assert_eq!(rt;
-            feed_all(&mut records, &READDIR[cut..], &mut text),
-            Ok(()),
-            "cut at {cut}"
-        );
-        assert_eq!(rt; records.finish(), Ok(()), "cut at {cut}");
-        assert_eq!(rt; text.as_slice(), whole.as_slice(), "cut at {cut}");
+        let end = feed_cut(rt.alloc(), READDIR, cut, &mut text);
+        assert!(rt; end.is_ok() && text.as_slice() == whole.as_slice());
     }
+}
+
+/// How many bytes are told of the records that are whole in the first bytes of the stream.
+fn told_of(count: usize) -> usize {
+    if count < CALL_END {
+        return 0;
+    }
+    if count < STREAM.len() {
+        return CALL_TEXT.len();
+    }
+    CALL_TEXT.len() + REPLY_TEXT.len()
 }
 
 /// The stream as it comes from a tap that fails after so many bytes.
 #[test]
-fn a_read_that_fails_comes_behind_all_whole_records(rt: HostRuntime) -> Result<(), Fail> {
-    let session = Session::open(rt.alloc(), b"nfs2", NFS2_X)?;
-    let schema = session.schema()?;
+fn a_read_that_fails_comes_behind_all_whole_records(rt: HostRuntime) {
     for count in 0..=STREAM.len() {
-        let mut tap = MemTap::new(STREAM, 7, count);
         let mut told = [0u8; 256];
         let mut sink = MemSink::new(&mut told, 256, 256);
-        let result = dump_stream(rt.alloc(), &schema, &mut tap, &mut sink);
-        let wanted = if count < CALL_END {
-            0
-        } else if count < STREAM.len() {
-            CALL_TEXT.len()
-        } else {
-            CALL_TEXT.len() + REPLY_TEXT.len()
-        };
-        let fault = EngineFault::Read {
-            written: wanted as u64,
-        };
-        assert_eq!(rt; result, Err(fault), "after {count} bytes");
-        assert_eq!(rt; sink.bytes().len(), wanted, "after {count} bytes");
+        let mut tap = MemTap::new(STREAM, 7, count);
+        let result = dump(rt.alloc(), NFS2_X, &mut tap, &mut sink);
+        let written = told_of(count) as u64;
+        assert!(rt; result == Err(EngineFault::Read { written }));
+        assert!(rt; sink.bytes().len() == told_of(count));
     }
-    Ok(())
 }
 
 /// Into a sink that fails after so many bytes.
 #[test]
-fn a_write_that_fails_comes_behind_the_first_bytes(rt: HostRuntime) -> Result<(), Fail> {
-    let session = Session::open(rt.alloc(), b"nfs2", NFS2_X)?;
-    let schema = session.schema()?;
-    for count in [0, 1, 66, 128, 150] {
-        let mut tap = MemTap::new(STREAM, 7, usize::MAX);
+fn a_write_that_fails_comes_behind_the_first_bytes(rt: HostRuntime) {
+    for count in 0..CALL_TEXT.len() + REPLY_TEXT.len() {
         let mut told = [0u8; 256];
         let mut sink = MemSink::new(&mut told, 5, count);
-        let result = dump_stream(rt.alloc(), &schema, &mut tap, &mut sink);
-        let fault = EngineFault::Write {
-            written: count as u64,
-        };
-        assert_eq!(rt; result, Err(fault), "after {count} bytes");
-        assert_eq!(rt; sink.bytes().len(), count, "after {count} bytes");
+        let mut tap = MemTap::new(STREAM, 7, usize::MAX);
+        let result = dump(rt.alloc(), NFS2_X, &mut tap, &mut sink);
+        let written = count as u64;
+        assert!(rt; result == Err(EngineFault::Write { written }));
+        assert!(rt; sink.bytes().len() == count);
     }
-    Ok(())
 }
 
 /// Run by itself with each allocation refused in turn: what was told before is told whole.
 #[test]
 fn sweep_dumping_a_stream(rt: HostRuntime) -> Result<(), Fail> {
-    let session = Session::open(rt.alloc(), b"t", b"const A = 1;")?;
-    let schema = session.schema()?;
-    let mut tap = MemTap::new(STREAM, 7, usize::MAX);
-    let mut told = [0u8; 512];
-    let mut sink = MemSink::new(&mut told, 512, 512);
-    match dump_stream(rt.alloc(), &schema, &mut tap, &mut sink) {
-        Ok(outcome) => {
-            assert!(rt; outcome == Outcome::Clean);
-            println!(rt; "nothing was refused")?;
-        }
+    let mut told = [0u8; 1024];
+    let mut sink = MemSink::new(&mut told, 1024, 1024);
+    let mut tap = MemTap::new(READDIR, 7, usize::MAX);
+    match dump(rt.alloc(), b"const A = 1;", &mut tap, &mut sink) {
         Err(EngineFault::NoMemory { written }) => {
-            assert_eq!(rt; sink.bytes().len() as u64, written);
-            assert!(rt; sink.bytes().last().map_or(true, |byte| *byte == b'\n'));
+            assert!(rt; sink.bytes().len() as u64 == written);
+            assert!(rt; written == 0 || sink.bytes().last() == Some(&b'\n'));
         }
-        Err(_) => assert!(rt; false),
-    }
-    Ok(())
-}
-
-/// The same of one message.
-#[test]
-fn sweep_dumping_a_message(rt: HostRuntime) -> Result<(), Fail> {
-    let session = Session::open(rt.alloc(), b"t", b"const A = 1;")?;
-    let schema = session.schema()?;
-    let mut told = [0u8; 512];
-    let mut sink = MemSink::new(&mut told, 512, 512);
-    match dump_message(rt.alloc(), &schema, &STREAM[CALL_END + 4..], &mut sink) {
-        Ok(outcome) => {
-            assert!(rt; outcome == Outcome::Clean);
+        result => {
+            assert!(rt; result == Ok(Outcome::Clean));
             println!(rt; "nothing was refused")?;
         }
-        Err(fault) => assert_eq!(rt; fault, EngineFault::NoMemory { written: 0 }),
     }
     Ok(())
 }
