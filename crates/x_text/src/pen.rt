@@ -51,26 +51,34 @@ impl Pen {
     }
 
     /// Writes these bytes, some of them perhaps later.
+    #[inline(always)]
     pub fn add<S: Sink>(&mut self, bytes: &[u8], sink: &mut S)
         ensures { Adds self.old (S.state sink.old) self.new (S.state sink.new) bytes.now }
     {
-        if self.holds(bytes) {
-            return;
+        if !self.holds(bytes) {
+            self.pass_on_and_add(bytes, sink);
         }
-        self.pass_on(sink);
-        if self.holds(bytes) {
-            return;
-        }
-        self.write_through(bytes, sink);
     }
 
     /// Holds the bytes back if there is room for them, or if nothing more goes to the sink, and answers whether it does.
+    #[inline(always)]
     fn holds(&mut self, bytes: &[u8]) -> bool
         ensures holds { IsTrue result → (now : Stream) → Adds self.old now self.new now bytes.now }
         ensures same { result ≡ false → self.new ≡ self.old }
         ensures goes_on { result ≡ false → self.new.stopped ≡ false }
     {
         self.stopped || self.pending.try_extend_from_slice(bytes).is_ok()
+    }
+
+    /// Writes what is held back, and then these bytes, some of them perhaps later.
+    #[inline(never)]
+    fn pass_on_and_add<S: Sink>(&mut self, bytes: &[u8], sink: &mut S)
+        ensures { Adds self.old (S.state sink.old) self.new (S.state sink.new) bytes.now }
+    {
+        self.pass_on(sink);
+        if !self.holds(bytes) {
+            self.write_through(bytes, sink);
+        }
     }
 
     /// Writes what is held back.

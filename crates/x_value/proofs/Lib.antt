@@ -6,6 +6,7 @@ pub mod Fronts
 pub mod LineLemmas
 pub mod Opening
 pub mod Pieces
+pub mod Quoting
 pub mod Sound
 pub mod StepLemmas
 pub mod TurnLemmas

@@ -22,10 +22,10 @@ use Rattle.x_value.specs.declared.entry.Called.{Called}
 use Rattle.x_value.specs.Entries.{nodes_of, node_of, label_of, IsCalled, AreNamed}
 use Rattle.x_value.specs.Dumps.{root_job, root_label}
 use Rattle.x_value.specs.Jobs.{AreReady, Moves, Refused}
-use Rattle.x_value.specs.Work.{fields, value_job, jobs_of_task, jobs_of_option, pending, tasks_of_option, shown_entries, IsTyped, IsTypedOption, AreTasks, IsSpot, IsRear, IsLighter, weight, weight_of_option, weights, work, base, Begun, Stacked, Turn, Reading}
+use Rattle.x_value.specs.Work.{fields, value_job, jobs_of_task, jobs_of_option, pending, tasks_of_option, tasks_of_value, shown_entries, IsTyped, IsTypedOption, AreTasks, IsSpot, IsRear, IsLighter, weight, weight_of_option, weights, work, base, Begun, Stacked, Opened, Turn, Reading}
 use Rattle.x_value.proofs.Sound.{ready_at}
 use Rattle.x_value.proofs.Faults.{moves_same, moves_then, refused_behind, refused_within}
-use Rattle.x_value.proofs.Weights.{weights_append, work_same, work_read, work_not_more, fields_step, elements_step, fields_weight, elements_weight}
+use Rattle.x_value.proofs.Weights.{weights_append, work_same, work_at_most, work_read, work_not_more, fields_step, elements_step, fields_weight, elements_weight}
 
 -- ---- stacks
 
@@ -36,6 +36,10 @@ pending_push s (x ∷ ts) t = ap (λ v. v ++ jobs_of_task s x) (pending_push s t
 pub tasks_push : (s : Schema) (ts : List Task) (t : Task) → AreTasks s ts → IsTyped s t → AreTasks s (ts ++ (t ∷ []))
 tasks_push s [] t h k = (k, tt)
 tasks_push s (x ∷ ts) t h k = (h.0, tasks_push s ts t h.1 k)
+
+tasks_parts : (s : Schema) (old : List Task) (task : Task) → AreTasks s (old ++ (task ∷ [])) → AreTasks s old × IsTyped s task
+tasks_parts s [] task h = (tt, h.0)
+tasks_parts s (t ∷ old) task h = let p = tasks_parts s old task h.1 in ((h.0, p.0), p.1)
 
 pub shown_two : (a b c : List Entry) (x y : Entry) → b ≡ a ++ (x ∷ []) → c ≡ b ++ (y ∷ []) → c ≡ a ++ shown_entries x (Some y)
 shown_two a b c x y e f = f ∙ ap (λ t. t ++ (y ∷ [])) e ∙ append_assoc a (x ∷ []) (y ∷ [])
@@ -151,14 +155,27 @@ one_element s form next after end level links old mid new lt up typed tasks em e
     (em ∙ ap (λ t. old ++ (Elements form t end level links ∷ [])) up) en (ap (λ t. element_jobs s form level links next t) (left_some next end lt))
     (elements_step s form next end level links (record { called = called.Index next; level = level; links = links }) lt) tasks (typed.0, typed.1) (typed.0, (tt, typed.1))
 
-pub turn_stacked : (s : Schema) (message : List ℕ) (task : Task) (old new : List Task) (entries : List Entry) (bytes : List ℕ) → Stacked s task old new → Turn s message task old entries bytes new entries bytes
-turn_stacked s message task old new entries bytes h = record {
+pub stacked_same : (s : Schema) (task : Task) (old new : List Task) → Stacked s task old new → Stacked s task old (new ++ [])
+stacked_same s task old new h = subst (λ t. Stacked s task old t) (sym (append-nil new)) h
+
+pub opened_stacked : (s : Schema) (task : Task) (old new : List Task) (value : Option (ℕ × Spot)) → Stacked s task old (new ++ tasks_of_value value) → Opened s task old new value
+opened_stacked s task old new value h = record { jobs = h.jobs; tasks = h.tasks; less = (let l = h.less in omega arith) }
+
+pub opened_one : (s : Schema) (form : ℕ) (spot : Spot) (old : List Task) → AreTasks s old → IsTyped s (One form spot) → Opened s (One form spot) old old (Some (form, spot))
+opened_one s form spot old tasks typed = record {
+  jobs = sym (pending_push s old (One form spot));
+  tasks = tasks_push s old (One form spot) tasks typed;
+  less = omega arith;
+}
+
+pub turn_closed : (s : Schema) (message : List ℕ) (task : Task) (old new : List Task) (entries : List Entry) (bytes : List ℕ) → Opened s task old new None → Turn s message task old entries bytes new entries bytes
+turn_closed s message task old new entries bytes o = record {
   added = [];
   appended = sym (append-nil entries);
   named = tt;
-  moves = moves_same s (jobs_of_task s task ++ pending s old) (pending s new) bytes h.jobs;
-  tasks = h.tasks;
-  less = work_same s bytes (old ++ (task ∷ [])) new h.less;
+  moves = moves_same s (jobs_of_task s task ++ pending s old) (pending s new) bytes (o.jobs ∙ ap (λ t. pending s t) (append-nil new));
+  tasks = subst (AreTasks s) (append-nil new) o.tasks;
+  less = work_same s bytes (old ++ (task ∷ [])) new (let e = ap (λ t. weights s t) (append-nil new) in let l = o.less in omega arith);
 }
 
 -- ---- a value that was begun
@@ -194,6 +211,31 @@ turn_begun s message form spot bytes rest first second next old new entries more
   less = less_begun s form spot bytes rest next old new (weights_next s old new next en) b.light;
 }
 
+-- what is to be read of a task's first value, and behind it
+jobs_opened : (s : Schema) (task : Task) (old new : List Task) (form : ℕ) (spot : Spot) → Opened s task old new (Some (form, spot)) → value_job s form spot ∷ pending s new ≡ jobs_of_task s task ++ pending s old
+jobs_opened s task old new form spot o = sym (o.jobs ∙ pending_push s new (One form spot))
+
+pub opened_parts : (s : Schema) (task : Task) (old new : List Task) (form : ℕ) (spot : Spot) → Opened s task old new (Some (form, spot)) → AreTasks s new × IsTyped s (One form spot)
+opened_parts s task old new form spot o = tasks_parts s new (One form spot) o.tasks
+
+pub turn_opened : (s : Schema) (message : List ℕ) (task : Task) (old new last : List Task) (form : ℕ) (spot : Spot) (entries more : List Entry) (bytes rest : List ℕ) → Opened s task old new (Some (form, spot)) →
+    Turn s message (One form spot) new entries bytes last more rest → Turn s message task old entries bytes last more rest
+turn_opened s message task old new last form spot entries more bytes rest o t = record {
+  added = t.added;
+  appended = t.appended;
+  named = t.named;
+  moves = subst (λ js. Moves s js bytes (nodes_of s message t.added) (pending s last) rest) (jobs_opened s task old new form spot o) t.moves;
+  tasks = t.tasks;
+  less = (
+      let most = work_at_most s bytes (old ++ (task ∷ [])) (new ++ (One form spot ∷ [])) (let l = o.less in omega arith) in
+      let l = t.less in
+      omega arith);
+}
+
+pub refused_opened : (s : Schema) (task : Task) (old new : List Task) (form : ℕ) (spot : Spot) (bytes : List ℕ) (at : ℕ) (code : ReadCode) → Opened s task old new (Some (form, spot)) →
+    Refused s (value_job s form spot ∷ pending s new) bytes at code → Refused s (jobs_of_task s task ++ pending s old) bytes at code
+refused_opened s task old new form spot bytes at code o r = subst (λ js. Refused s js bytes at code) (jobs_opened s task old new form spot o) r
+
 -- ---- the loop
 
 nodes_append : (s : Schema) (m : List ℕ) (a b : List Entry) → nodes_of s m (a ++ b) ≡ nodes_of s m a ++ nodes_of s m b
@@ -225,10 +267,6 @@ next_reading s job message stack old new task entries more rest rest' r e t =
 
 pub next_less : (s : Schema) (message : List ℕ) (stack old new : List Task) (task : Task) (entries more : List Entry) (rest rest' : List ℕ) → stack ≡ old ++ (task ∷ []) → Turn s message task old entries rest new more rest' → work s rest' new < work s rest stack
 next_less s message stack old new task entries more rest rest' e t = subst (λ v. work s rest' new < work s rest v) (sym e) t.less
-
-tasks_parts : (s : Schema) (old : List Task) (task : Task) → AreTasks s (old ++ (task ∷ [])) → AreTasks s old × IsTyped s task
-tasks_parts s [] task h = (tt, h.0)
-tasks_parts s (t ∷ old) task h = let p = tasks_parts s old task h.1 in ((h.0, p.0), p.1)
 
 pub last_task : (s : Schema) (items old : List Task) (task : Task) → items ≡ old ++ (task ∷ []) → AreTasks s items → IsTyped s task
 last_task s items old task e h = (tasks_parts s old task (subst (AreTasks s) e h)).1

@@ -104,6 +104,10 @@ pub work_same : (s : Schema) (bytes : List ℕ) (a b : List Task) → weights s 
 unfolding work
 work_same s bytes a b lt = omega arith
 
+pub work_at_most : (s : Schema) (bytes : List ℕ) (a b : List Task) → weights s b ≤ weights s a → work s bytes b ≤ work s bytes a
+unfolding work
+work_at_most s bytes a b le = omega arith
+
 pub work_read : (s : Schema) (bytes rest : List ℕ) (a b : List Task) → length rest < length bytes → weights s b < weights s a + most_weight s → work s rest b < work s bytes a
 unfolding work
 work_read s bytes rest a b lt h =

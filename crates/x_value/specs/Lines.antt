@@ -1,5 +1,5 @@
 -- The lines that nodes are written as.
-use Rattle.std.specs.Prelude.{ℕ, ◌/◌, ◌%◌, ◌+◌, Bool, ◌&&◌, ◌||◌, ◌==◌, nat_le, nat_lt, if◌then◌else◌, List, [], ◌∷◌, ◌++◌, codes}
+use Rattle.std.specs.Prelude.{ℕ, ◌/◌, ◌%◌, ◌+◌, Bool, ◌&&◌, ◌||◌, ◌==◌, not, nat_le, nat_lt, if◌then◌else◌, List, [], ◌∷◌, ◌++◌, codes}
 use Rattle.std.specs.List.{flat_map}
 use Rattle.std.specs.Fmt.{decimal, signed_decimal}
 use Rattle.x_value.specs.Shown.{Label, Name, Index, Star, Arguments, Results, Leaf, Signed, Unsigned, Truth, Enumerator, Hex, Text, Array, Null, Link, Struct, Union, Void, Node}
@@ -23,6 +23,10 @@ quoted_byte b =
     if b == 34 || b == 92 then 92 ∷ b ∷ []
     else if nat_le 32 b && nat_le b 126 then b ∷ []
     else codes "\\x" ++ hex_byte b
+
+-- a byte that stands between quotes as itself
+abbrev pub is_plain : ℕ → Bool
+is_plain b = (nat_le 32 b && nat_le b 126) && not (b == 34 || b == 92)
 
 abbrev pub quoted_text : List ℕ → List ℕ
 quoted_text bs = codes "\"" ++ flat_map quoted_byte bs ++ codes "\""

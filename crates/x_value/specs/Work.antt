@@ -150,11 +150,21 @@ abbrev pub tasks_of_option : Option Task → List Task
 tasks_of_option (Some task) = task ∷ []
 tasks_of_option None = []
 
+abbrev pub tasks_of_value : Option (ℕ × Spot) → List Task
+tasks_of_value (Some value) = One value.0 value.1 ∷ []
+tasks_of_value None = []
+
 -- a task that reads no bytes was taken from the old stack and carried out
 pub record Stacked (s : Schema) (task : Task) (old new : List Task) : Type 0 where
   pub jobs : jobs_of_task s task ++ pending s old ≡ pending s new
   pub tasks : AreTasks s new
   pub less : weights s new < weights s (old ++ (task ∷ []))
+
+-- a task was taken from the old stack, and its first value, if it has one, is to be read next
+pub record Opened (s : Schema) (task : Task) (old new : List Task) (value : Option (ℕ × Spot)) : Type 0 where
+  pub jobs : jobs_of_task s task ++ pending s old ≡ pending s (new ++ tasks_of_value value)
+  pub tasks : AreTasks s (new ++ tasks_of_value value)
+  pub less : weights s (new ++ tasks_of_value value) < weights s (old ++ (task ∷ [])) + length (tasks_of_value value)
 
 -- what was read before the rest, and what is still to be read
 pub record Reading (s : Schema) (job : Job) (message : List ℕ) (stack : List Task)

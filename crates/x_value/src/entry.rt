@@ -78,6 +78,7 @@ fn body<'a>(message: &'a [u8], len: u32, at: usize) -> &'a [u8]
     rest.get(..len as usize).unwrap_or(rest)
 }
 
+#[inline(always)]
 fn label(schema: &Schema, called: Called) -> Label<'_>
     requires { IsCalled (length schema.now.names) called }
     ensures { shown_label result ≡ label_of schema.now called }
@@ -91,6 +92,7 @@ fn label(schema: &Schema, called: Called) -> Label<'_>
     }
 }
 
+#[inline(always)]
 fn leaf<'a>(schema: &'a Schema, message: &'a [u8], kept: Kept) -> Leaf<'a>
     requires { IsKept (length schema.now.names) kept }
     ensures { shown_leaf result ≡ leaf_of schema.now message.now kept }
@@ -111,6 +113,7 @@ fn leaf<'a>(schema: &'a Schema, message: &'a [u8], kept: Kept) -> Leaf<'a>
     }
 }
 
+#[inline(always)]
 fn node<'a>(schema: &'a Schema, message: &'a [u8], entry: Entry) -> Node<'a>
     requires called { IsCalled (length schema.now.names) entry.called }
     requires kept { IsKept (length schema.now.names) entry.kept }

@@ -68,6 +68,7 @@ fn fault_of_discriminant(
 
 /// Why a word may not be the first of a value of the form, if it may not.
 #[tactic(auto, using(crate::proofs::Unions::union_known))]
+#[inline(always)]
 fn fault_of_word(schema: &Schema, form: FormIndex, links: u32, word: u32) -> Option<ReadCode>
     requires { form < length schema.now.forms }
     ensures { result ≡ head_fault schema.now (layout_at schema.now form) links word }
@@ -127,6 +128,7 @@ fn fault_of_count(word: u32, most: u32, links: u32) -> Option<ReadCode>
 }
 
 /// The first word of a value of the form, and the bytes behind it.
+#[inline(always)]
 pub(crate) fn head<'a>(
     schema: &Schema,
     form: FormIndex,

@@ -28,6 +28,7 @@ fn words_of(bytes: &[u8]) -> u64
 }
 
 /// What a body of the form is shown as, where it stands at a place of the message.
+#[inline(always)]
 pub(crate) fn kept_body(form: &Form, body: &[u8], len: u32, at: usize) -> Kept
     requires { number_size form.now ≤ length body.now }
     ensures shown { (s : Schema) (m : List ℕ) → body_at m at len ≡ body.now → leaf_of s m result ≡ body_leaf form.now body.now }

@@ -1,15 +1,14 @@
 //! The lines that the nodes of a value and a fault are written as.
 
-ghost use Rattle.std.specs.Prelude.{◌≡◌, ◌<◌, ◌≤◌, ◌++◌, Some, codes, decimal, length, slice_get};
-ghost use Rattle.std.specs.List.{flat_map};
+ghost use Rattle.std.specs.Prelude.{◌≡◌, ◌<◌, ◌≤◌, ◌*◌, ◌++◌, Some, codes, decimal, length, slice_get, take};
+ghost use Rattle.std.specs.List.{flat_map, list_all};
 ghost use Rattle.x_text.specs.Writing.{Adds};
 ghost use Rattle.x_value.specs.FaultTexts.{read_text, fault_line};
-ghost use Rattle.x_value.specs.Lines.{hex_digit, hex_byte, hex_text, quoted_byte, quoted_text, label_text, leaf_text, truth_text, node_line, node_lines};
+ghost use Rattle.x_value.specs.Lines.{hex_digit, hex_byte, hex_text, quoted_byte, quoted_text, is_plain, label_text, leaf_text, truth_text, node_line, node_lines};
 ghost use Rattle.x_value.specs.Shown.{Node as Shown};
 ghost use Rattle.x_value.specs.NodeList.{shown_label, shown_leaf, shown_node};
 
 use crate::{Dump, Label, Leaf, Node, ReadCode, ReadFault};
-use arrayvec::ArrayVec;
 use itoa::{Buffer, Integer};
 use x_text::{Pen, Sink};
 
@@ -20,6 +19,7 @@ const CHUNK: usize = 64;
 const DIGITS: usize = 2 * CHUNK;
 
 /// Adds a number in decimal.
+#[inline(always)]
 pub fn add_number<I: Integer, S: Sink>(number: I, pen: &mut Pen, sink: &mut S)
     ensures { Adds pen.old (S.state sink.old) pen.new (S.state sink.new) (I.text number) }
 {
@@ -46,15 +46,17 @@ fn add_hex_byte<S: Sink>(byte: u8, pen: &mut Pen, sink: &mut S)
     pen.add(&[hex_digit(byte / 16), hex_digit(byte % 16)], sink);
 }
 
-/// The two hexadecimal digits of each byte.
-fn hex_digits(bytes: &[u8]) -> ArrayVec<u8, DIGITS>
+/// The two hexadecimal digits of each byte, and other bytes behind them.
+#[inline(always)]
+fn hex_digits(bytes: &[u8]) -> [u8; DIGITS]
     requires { length bytes.now ≤ CHUNK }
-    ensures { result.items ≡ flat_map hex_byte bytes.now }
+    ensures { take (2 * length bytes.now) result ≡ flat_map hex_byte bytes.now }
 {
-    let mut digits = ArrayVec::new();
-    for byte in bytes {
-        digits.push(hex_digit(*byte / 16));
-        digits.push(hex_digit(*byte % 16));
+    let mut digits = [0; DIGITS];
+    for index in 0..bytes.len() {
+        let byte = bytes[index];
+        digits[2 * index] = hex_digit(byte / 16);
+        digits[2 * index + 1] = hex_digit(byte % 16);
     }
     digits
 }
@@ -65,7 +67,7 @@ fn add_hex_bytes<S: Sink>(bytes: &[u8], pen: &mut Pen, sink: &mut S)
 {
     for chunk in bytes.chunks(CHUNK) {
         let digits = hex_digits(chunk);
-        pen.add(&digits, sink);
+        pen.add(&digits[..2 * chunk.len()], sink);
     }
 }
 
@@ -83,8 +85,21 @@ fn add_quoted_byte<S: Sink>(byte: u8, pen: &mut Pen, sink: &mut S)
     }
 }
 
-/// Adds bytes as they stand between quotes.
-fn add_quoted_bytes<S: Sink>(bytes: &[u8], pen: &mut Pen, sink: &mut S)
+/// Whether a byte stands between quotes as itself.
+fn is_plain(byte: u8) -> bool
+    ensures { result ≡ is_plain byte }
+{
+    32 <= byte && byte <= 126 && byte != b'"' && byte != b'\\'
+}
+
+fn are_plain(bytes: &[u8]) -> bool
+    ensures { result ≡ list_all is_plain bytes.now }
+{
+    bytes.iter().all(|byte| is_plain(*byte))
+}
+
+/// Adds bytes as they stand between quotes, one at a time.
+fn add_each_quoted<S: Sink>(bytes: &[u8], pen: &mut Pen, sink: &mut S)
     ensures { Adds pen.old (S.state sink.old) pen.new (S.state sink.new) (flat_map quoted_byte bytes.now) }
 {
     for byte in bytes {
@@ -92,8 +107,20 @@ fn add_quoted_bytes<S: Sink>(bytes: &[u8], pen: &mut Pen, sink: &mut S)
     }
 }
 
+/// Adds bytes as they stand between quotes.
+fn add_quoted_bytes<S: Sink>(bytes: &[u8], pen: &mut Pen, sink: &mut S)
+    ensures { Adds pen.old (S.state sink.old) pen.new (S.state sink.new) (flat_map quoted_byte bytes.now) }
+{
+    if are_plain(bytes) {
+        pen.add(bytes, sink);
+    } else {
+        add_each_quoted(bytes, pen, sink);
+    }
+}
+
 /// Adds what a node is called.
 #[tactic(auto, using(x_text::proofs::Adding::three))]
+#[inline(always)]
 fn add_label<S: Sink>(label: &Label, pen: &mut Pen, sink: &mut S)
     ensures { Adds pen.old (S.state sink.old) pen.new (S.state sink.new) (label_text (shown_label label.now)) }
 {
@@ -112,6 +139,7 @@ fn add_label<S: Sink>(label: &Label, pen: &mut Pen, sink: &mut S)
 
 /// Adds an enumerator, `NAME (NUMBER)`.
 #[tactic(auto, using(x_text::proofs::Adding::four))]
+#[inline(always)]
 fn add_enumerator<I: Integer, S: Sink>(name: &[u8], number: I, pen: &mut Pen, sink: &mut S)
     ensures { Adds pen.old (S.state sink.old) pen.new (S.state sink.new)
         (name.now ++ codes " (" ++ I.text number ++ codes ")") }
@@ -158,6 +186,7 @@ fn truth_word(truth: bool) -> &'static str
 }
 
 /// Adds what stands at a node.
+#[inline(always)]
 fn add_leaf<S: Sink>(leaf: &Leaf, pen: &mut Pen, sink: &mut S)
     ensures { Adds pen.old (S.state sink.old) pen.new (S.state sink.new) (leaf_text (shown_leaf leaf.now)) }
 {
@@ -179,6 +208,7 @@ fn add_leaf<S: Sink>(leaf: &Leaf, pen: &mut Pen, sink: &mut S)
 
 /// Adds the line of a node, `LEVEL LABEL = TEXT`.
 #[tactic(auto, using(x_text::proofs::Adding::six))]
+#[inline(always)]
 fn add_node<S: Sink>(node: &Node, pen: &mut Pen, sink: &mut S)
     ensures { Adds pen.old (S.state sink.old) pen.new (S.state sink.new) (node_line (shown_node node.now)) }
 {

@@ -12,6 +12,12 @@ use crate::turns::{carry_out, put};
 use std::alloc::Global;
 use x_sema::{Root, Schema, TypeId};
 
+/// For how many tasks there is room at first.
+const FIRST_TASKS: usize = 16;
+
+/// For how many nodes there is room at first: most messages have no more.
+const FIRST_ENTRIES: usize = 64;
+
 /// What the root of a value is called.
 fn called(root: Root) -> Called
     ensures label { (s : Schema) → label_of s result ≡ root_label s root }
@@ -43,8 +49,8 @@ pub fn dump<'a>(
         level: 0,
         links: 0,
     };
-    let mut stack = Vec::new(alloc);
-    let mut entries = Vec::new(alloc);
+    let mut stack = Vec::with_capacity(alloc, FIRST_TASKS)?;
+    let mut entries = Vec::with_capacity(alloc, FIRST_ENTRIES)?;
     put(&mut stack, Task::One(form, spot))?;
     let mut rest = bytes;
     while let Some(task) = stack.pop() {

@@ -25,6 +25,7 @@ pub(crate) struct Step<'a> {
     pub(crate) rest: &'a [u8],
 }
 
+#[inline(always)]
 fn node(spot: Spot, kept: Kept) -> Entry
     ensures { result ≡ record { level = spot.level; called = spot.called; kept = kept } }
 {
@@ -53,6 +54,7 @@ fn size_of_fixed(form: &Form) -> Option<u32>
 }
 
 /// Reads a body of so many bytes, and the zeros behind it.
+#[inline(always)]
 fn whole<'a>(
     form: &Form,
     message: &'a [u8],
@@ -89,6 +91,7 @@ pub(crate) fn counted_from(fault: ReadFault, read: usize) -> ReadFault
 }
 
 /// The nodes that the first word of a value shows.
+#[inline(always)]
 fn shown_head(
     schema: &Schema,
     form: FormIndex,
@@ -146,6 +149,7 @@ fn arm_task(arm: Arm, level: u32, links: u32) -> Option<Task>
 }
 
 /// What stands behind the first word of a value.
+#[inline(always)]
 fn behind_head(schema: &Schema, form: FormIndex, spot: Spot, level: u32, word: u32) -> Option<Task>
     requires known { form < length schema.now.forms }
     requires spot { IsSpot schema.now spot }
@@ -184,6 +188,7 @@ fn behind_head(schema: &Schema, form: FormIndex, spot: Spot, level: u32, word: u
 }
 
 /// Reads the first word of a value.
+#[inline(always)]
 fn headed<'a>(
     schema: &Schema,
     message: &'a [u8],
@@ -212,6 +217,7 @@ fn headed<'a>(
 }
 
 /// Reads a length and a body.
+#[inline(always)]
 fn sized<'a>(
     schema: &Schema,
     message: &'a [u8],
@@ -240,6 +246,7 @@ fn sized<'a>(
 }
 
 /// Reads a body without a length.
+#[inline(always)]
 fn fixed<'a>(
     schema: &Schema,
     message: &'a [u8],
@@ -274,6 +281,7 @@ fn elements(of: FormIndex, count: u32, level: u32, links: u32) -> Task
 }
 
 /// Reads a value, or its first word, and tells what is to be read behind it.
+#[inline(always)]
 pub(crate) fn value<'a>(
     schema: &Schema,
     message: &'a [u8],

@@ -3,7 +3,7 @@ ghost use Rattle.std.specs.Prelude.{◌≡◌, ◌<◌, ◌≤◌, ◌+◌, ◌+
 ghost use Rattle.x_sema.specs.Schema.{Schema, form_at};
 ghost use Rattle.x_sema.specs.Sound.{IsSound};
 ghost use Rattle.x_value.specs.Jobs.{Refused};
-ghost use Rattle.x_value.specs.Work.{fields, value_job, jobs_of_task, pending, tasks_of_option, shown_entries, IsTyped, AreTasks, IsSpot, IsRear, Stacked, Turn};
+ghost use Rattle.x_value.specs.Work.{fields, value_job, jobs_of_task, pending, tasks_of_option, tasks_of_value, shown_entries, IsTyped, AreTasks, IsSpot, IsRear, Stacked, Opened, Turn};
 
 use crate::entry::{Called, Entry};
 use crate::fault::{ReadCode, ReadFault};
@@ -11,6 +11,7 @@ use crate::steps::value;
 use crate::task::{Spot, Task};
 use x_sema::{Field, Form, FormIndex, Schema};
 
+#[inline(always)]
 pub(crate) fn put(stack: &mut Vec<Task>, task: Task) -> Result<(), ReadFault>
     ensures ok { OnOk result (stack.new.items ≡ stack.old.items ++ task ∷ []) }
     ensures err { IfErr result (λ e. (e.code ≡ ReadCode.NoMemory) × (e.at ≡ 0)) }
@@ -19,6 +20,7 @@ pub(crate) fn put(stack: &mut Vec<Task>, task: Task) -> Result<(), ReadFault>
     Ok(())
 }
 
+#[inline(always)]
 fn put_next(stack: &mut Vec<Task>, next: Option<Task>) -> Result<(), ReadFault>
     ensures ok { OnOk result (stack.new.items ≡ stack.old.items ++ tasks_of_option next) }
     ensures err { IfErr result (λ e. (e.code ≡ ReadCode.NoMemory) × (e.at ≡ 0)) }
@@ -29,6 +31,7 @@ fn put_next(stack: &mut Vec<Task>, next: Option<Task>) -> Result<(), ReadFault>
     }
 }
 
+#[inline(always)]
 fn show(entries: &mut Vec<Entry>, entry: Entry) -> Result<(), ReadFault>
     ensures ok { OnOk result (entries.new.items ≡ entries.old.items ++ entry ∷ []) }
     ensures err { IfErr result (λ e. (e.code ≡ ReadCode.NoMemory) × (e.at ≡ 0)) }
@@ -38,6 +41,7 @@ fn show(entries: &mut Vec<Entry>, entry: Entry) -> Result<(), ReadFault>
 }
 
 #[tactic(auto, using(crate::proofs::TurnLemmas::shown_two))]
+#[inline(always)]
 fn show_all(entries: &mut Vec<Entry>, first: Entry, second: Option<Entry>) -> Result<(), ReadFault>
     ensures ok { OnOk result (entries.new.items ≡ entries.old.items ++ shown_entries first second) }
     ensures err { IfErr result (λ e. (e.code ≡ ReadCode.NoMemory) × (e.at ≡ 0)) }
@@ -50,6 +54,7 @@ fn show_all(entries: &mut Vec<Entry>, first: Entry, second: Option<Entry>) -> Re
 }
 
 /// Begins a value.
+#[inline(always)]
 fn begin<'a>(
     schema: &Schema,
     message: &'a [u8],
@@ -89,6 +94,8 @@ fn field_at(form: &Form, place: usize) -> Option<(Field, usize)>
     }
 }
 
+/// The field at a place and where it stands, if there is one; the fields behind it go on the stack.
+#[inline(always)]
 fn next_field(
     schema: &Schema,
     stack: &mut Vec<Task>,
@@ -96,15 +103,15 @@ fn next_field(
     place: usize,
     level: u32,
     links: u32,
-) -> Result<(), ReadFault>
+) -> Result<Option<(FormIndex, Spot)>, ReadFault>
     requires sound { IsSound schema.now }
     requires task { IsTyped schema.now (Task.Fields form place level links) }
     requires tasks { AreTasks schema.now stack.old.items }
-    ensures ok { OnOk result (Stacked schema.now (Task.Fields form place level links) stack.old.items stack.new.items) }
+    ensures ok { IfOk result (λ value. Stacked schema.now (Task.Fields form place level links) stack.old.items (stack.new.items ++ tasks_of_value value)) }
     ensures err { IfErr result (λ e. (e.code ≡ ReadCode.NoMemory) × (e.at ≡ 0)) }
 {
     let Some((field, next)) = field_at(schema.form_at(form), place) else {
-        return Ok(());
+        return Ok(None);
     };
     put(stack, Task::Fields(form, next, level, links))?;
     let spot = Spot {
@@ -112,10 +119,11 @@ fn next_field(
         level,
         links,
     };
-    put(stack, Task::One(field.form, spot))?;
-    Ok(())
+    Ok(Some((field.form, spot)))
 }
 
+/// The element at a place and where it stands, if there is one; the elements behind it go on the stack.
+#[inline(always)]
 fn next_element(
     schema: &Schema,
     stack: &mut Vec<Task>,
@@ -124,14 +132,14 @@ fn next_element(
     end: u32,
     level: u32,
     links: u32,
-) -> Result<(), ReadFault>
+) -> Result<Option<(FormIndex, Spot)>, ReadFault>
     requires task { IsTyped schema.now (Task.Elements form next end level links) }
     requires tasks { AreTasks schema.now stack.old.items }
-    ensures ok { OnOk result (Stacked schema.now (Task.Elements form next end level links) stack.old.items stack.new.items) }
+    ensures ok { IfOk result (λ value. Stacked schema.now (Task.Elements form next end level links) stack.old.items (stack.new.items ++ tasks_of_value value)) }
     ensures err { IfErr result (λ e. (e.code ≡ ReadCode.NoMemory) × (e.at ≡ 0)) }
 {
     if next >= end {
-        return Ok(());
+        return Ok(None);
     }
     put(stack, Task::Elements(form, next + 1, end, level, links))?;
     let spot = Spot {
@@ -139,11 +147,35 @@ fn next_element(
         level,
         links,
     };
-    put(stack, Task::One(form, spot))?;
-    Ok(())
+    Ok(Some((form, spot)))
+}
+
+/// The first value of a task and where it stands, if there is one; what is left of the task goes on the stack.
+#[inline(always)]
+fn next_value(
+    schema: &Schema,
+    stack: &mut Vec<Task>,
+    task: Task,
+) -> Result<Option<(FormIndex, Spot)>, ReadFault>
+    requires sound { IsSound schema.now }
+    requires task { IsTyped schema.now task }
+    requires tasks { AreTasks schema.now stack.old.items }
+    ensures ok { IfOk result (λ value. Opened schema.now task stack.old.items stack.new.items value) }
+    ensures err { IfErr result (λ e. (e.code ≡ ReadCode.NoMemory) × (e.at ≡ 0)) }
+{
+    match task {
+        Task::One(form, spot) => Ok(Some((form, spot))),
+        Task::Fields(form, place, level, links) => {
+            next_field(schema, stack, form, place, level, links)
+        }
+        Task::Elements(form, next, end, level, links) => {
+            next_element(schema, stack, form, next, end, level, links)
+        }
+    }
 }
 
 /// Carries a task out, and gives the bytes behind those that it read.
+#[inline(always)]
 pub(crate) fn carry_out<'a>(
     schema: &Schema,
     message: &'a [u8],
@@ -159,15 +191,8 @@ pub(crate) fn carry_out<'a>(
     ensures ok { IfOk result (λ rest. Turn schema.now message.now task stack.old.items entries.old.items bytes.now stack.new.items entries.new.items rest.now) }
     ensures err { IfErr result (λ e. Refused schema.now (jobs_of_task schema.now task ++ pending schema.now stack.old.items) bytes.now e.at e.code) }
 {
-    match task {
-        Task::One(form, spot) => begin(schema, message, stack, entries, form, spot, bytes),
-        Task::Fields(form, place, level, links) => {
-            next_field(schema, stack, form, place, level, links)?;
-            Ok(bytes)
-        }
-        Task::Elements(form, next, end, level, links) => {
-            next_element(schema, stack, form, next, end, level, links)?;
-            Ok(bytes)
-        }
-    }
+    let Some((form, spot)) = next_value(schema, stack, task)? else {
+        return Ok(bytes);
+    };
+    begin(schema, message, stack, entries, form, spot, bytes)
 }

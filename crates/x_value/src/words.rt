@@ -7,6 +7,7 @@ ghost use Rattle.x_value.specs.Jobs.{BodyFault, BodyTaken};
 use crate::fault::{ReadCode, ReadFault};
 
 /// The word at the front, and the bytes behind it.
+#[inline(always)]
 pub(crate) fn word_at(bytes: &[u8]) -> Option<(u32, &[u8])>
     ensures some { IfSome result (λ r. (bytes.now ≡ word r.0 ++ r.1.now) × (r.0 < 2 ^ 32)) }
     ensures none { IfNone result (length bytes.now < 4) }
@@ -26,6 +27,7 @@ fn is_zeros(bytes: &[u8]) -> bool
 }
 
 /// So many bytes, and what stands behind the zeros that fill their last unit up.
+#[inline(always)]
 pub(crate) fn body(len: u32, bytes: &[u8]) -> Result<(&[u8], &[u8]), ReadFault>
     ensures ok { IfOk result (λ r. BodyTaken len bytes.now r.0.now r.1.now) }
     ensures err { IfErr result (λ e. BodyFault len bytes.now e.at e.code) }

@@ -26,7 +26,7 @@ loop-chunk-preserved g c =
         append_assoc so.0 chunk _ ∙ ap (λ (t : List ℕ). so.0 ++ t) (sym steps.1.0) ∙ so.1,
         subst (λ t. Adds c.args.pen.now start c.add.new.self end t) (sym (flat_map-append hex_byte so.0 chunk))
             (adds_trans c.args.pen.now c.loop-chunk.pen c.add.new.self start mid end (flat_map hex_byte so.0) (flat_map hex_byte chunk) so.2
-            (subst (λ t. Adds c.loop-chunk.pen mid c.add.new.self end t) (c.deref.ensures.0 ∙ c.hex_digits-digits.ensures) c.add.ensures)),
+            (subst (λ t. Adds c.loop-chunk.pen mid c.add.new.self end t) c.hex_digits-digits.ensures c.add.ensures)),
       ),
     )
 

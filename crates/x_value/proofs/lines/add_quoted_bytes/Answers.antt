@@ -1,21 +1,9 @@
-use Rattle.std.proofs.Common.{ℕ, drop, get_or, ◌+◌, subst, arith}
-use Rattle.x_sema.proofs.ListLemmas.{drop_one, drop_none}
-use Rattle.x_text.proofs.Listing.{HasListed, lists_more, lists_all}
-use Rattle.x_value.specs.Lines.{quoted_byte}
+use Rattle.std.proofs.Common.{sym, subst, ◌∙◌}
+use Rattle.x_text.specs.Writing.{Adds}
+use Rattle.x_value.proofs.Quoting.{plain_text}
 use Rattle.x_value.proofs.lines.add_quoted_bytes.Goals as goal
 
-pub loop-byte-preserved : goal.loop-byte-preserved
-loop-byte-preserved g c =
-    let all = c.args.bytes.now in
-    let i = c.loop-byte.byte-index in
-    let start = g.S.Sink.state c.args.sink.now in
-    let mid = g.S.Sink.state c.loop-byte.sink in
-    lists_more quoted_byte all (drop (i + 1) all) (get_or all i 0) c.args.pen.now c.loop-byte.pen c.add_quoted_byte.new.pen start mid (g.S.Sink.state c.add_quoted_byte.new.sink)
-    (subst (λ bs. HasListed ℕ quoted_byte all bs c.args.pen.now start c.loop-byte.pen mid) (drop_one all i 0 c.loop-byte-test.true) c.loop-byte.invariant)
-    c.add_quoted_byte.ensures
-
-pub returns : goal.returns
-returns g c =
-    let all = c.args.bytes.now in
-    lists_all quoted_byte all (drop c.loop-byte.byte-index all) c.args.pen.now c.loop-byte.pen (g.S.Sink.state c.args.sink.now) (g.S.Sink.state c.loop-byte.sink)
-    (drop_none all c.loop-byte.byte-index (let over = c.loop-byte-test.false in omega (arith, over))) c.loop-byte.invariant
+pub returns-then-are_plain : goal.returns-then-are_plain
+returns-then-are_plain g c =
+    subst (λ t. Adds c.args.pen.now (g.S.Sink.state c.args.sink.now) c.add.new.self (g.S.Sink.state c.add.new.sink) t)
+    (sym (plain_text c.args.bytes.now (sym c.are_plain.ensures ∙ c.if-are_plain.true))) c.add.ensures

@@ -11,8 +11,8 @@ use Rattle.x_value.proofs.reading.dump.Goals as goal
 pub loop-task-init : goal.loop-task-init
 loop-task-init c = record {
   reading =
-      let e : c.put.new.stack.items ≡ One c.form-form.result (record { called = c.called.result; level = 0; links = 0 }) ∷ [] = c.in_ok-put.ensures.ok ∙ ap (λ t. t ++ (One c.form-form.result (record { called = c.called.result; level = 0; links = 0 }) ∷ [])) c.new-stack.ensures.items in
-      first_reading c.args.schema.now (root_job c.args.schema.now c.args.id) c.args.bytes.now c.put.new.stack.items c.new-entries.result.items c.form-form.result (record { called = c.called.result; level = 0; links = 0 }) e c.new-entries.ensures.items
+      let e : c.put.new.stack.items ≡ One c.form-form.result (record { called = c.called.result; level = 0; links = 0 }) ∷ [] = c.in_ok-put.ensures.ok ∙ ap (λ t. t ++ (One c.form-form.result (record { called = c.called.result; level = 0; links = 0 }) ∷ [])) c.in_ok-stack.ensures.items in
+      first_reading c.args.schema.now (root_job c.args.schema.now c.args.id) c.args.bytes.now c.put.new.stack.items c.in_ok-entries.entries.items c.form-form.result (record { called = c.called.result; level = 0; links = 0 }) e c.in_ok-entries.ensures.items
       (root_is c.args.schema.now c.args.id c.form-form.result c.called.result c.root.result c.form-form.ensures c.root.ensures (c.called.ensures.label c.args.schema.now))
       (root_form c.args.schema.now c.args.id c.form-form.result c.requires c.form-form.ensures)
       (root_spot c.args.schema.now c.args.id c.called.result c.root.result c.requires c.root.ensures (c.called.ensures.known c.args.schema.now));
