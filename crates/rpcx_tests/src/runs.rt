@@ -110,3 +110,37 @@ fn a_dumper_tells_of_a_failed_tap_before_a_value(rt: HostRuntime) {
     assert_eq!(rt; status, Status::Done);
     assert_eq!(rt; out.bytes(), b"0 w = 4294967295\n".as_slice());
 }
+
+#[test]
+fn a_dumper_tells_of_a_bad_stream_before_a_failed_tap(rt: HostRuntime) {
+    let mut told = [0u8; 64];
+    let mut err = MemSink::new(&mut told, 64, 64);
+    let mut written = [0u8; 64];
+    let mut out = MemSink::new(&mut written, 64, 64);
+    let mut cut = MemTap::new(b"\x80\0", 2, usize::MAX);
+    let status = dump_run(
+        rt.alloc(),
+        &STREAM,
+        Mode::Stream,
+        None,
+        &mut cut,
+        &mut out,
+        &mut err,
+    );
+    assert_eq!(rt; status, Status::Faulty);
+    // It fails behind the header.
+    let mut broken = MemTap::new(b"\x80\x10\0\x01\0", 4, 4);
+    let status = dump_run(
+        rt.alloc(),
+        &STREAM,
+        Mode::Stream,
+        None,
+        &mut broken,
+        &mut out,
+        &mut err,
+    );
+    assert_eq!(rt; status, Status::Faulty);
+    let wanted = "fault 61 Truncated at 2\nfault 60 RecordTooLong at 0\n";
+    assert_eq!(rt; out.bytes(), wanted.as_bytes());
+    assert_eq!(rt; err.bytes(), b"".as_slice());
+}

@@ -1,5 +1,5 @@
 -- How a stream goes on, block by block.
-use Rattle.std.proofs.Common.{◌≡◌, ℕ, ◌≤◌, Bool, true, false, ◌||◌, List, [], ◌++◌, refl, sym, ap, subst, ◌∙◌, inl, inr, append_assoc, append-nil, arith}
+use Rattle.std.proofs.Common.{◌≡◌, ℕ, zero, suc, ◌<◌, ◌≤◌, Bool, true, false, ◌||◌, List, [], ◌∷◌, ◌++◌, length, take, refl, sym, ap, subst, ◌∙◌, inl, inr, append_assoc, append-nil, arith}
 use Rattle.std.specs.Prelude.{Option, Some, None, Ok, Err, ◌⊎◌, IsErr, IsTrue}
 use Rattle.std.specs.Io.KnownBytes.{Consumes, IsAtEnd, Keeps}
 use Rattle.std.proofs.KnownBytes.{Appends-nil, Consumes-nil, Consumes-trans, Consumes-kept}
@@ -11,7 +11,7 @@ use Rattle.x_sema.specs.Schema.{Schema}
 use Rattle.x_session.specs.Script.{is_refused, WorksOn}
 use Rattle.x_session.specs.declared.script.Outcome.{Outcome}
 use Rattle.x_session.specs.declared.script.EngineFault.TheVariants as faults
-use Rattle.x_wire.specs.Dumpers.{IsAt, Tells, TellsFront, IsOver, IsTurn, TellsTurn}
+use Rattle.x_wire.specs.Dumpers.{IsAt, Tells, TellsFront, IsOver, IsUnder, IsTurn, TellsTurn}
 use Rattle.x_wire.specs.Framers.{left_by}
 use Rattle.x_wire.specs.MessageTexts.{Told, plain, then_told}
 use Rattle.x_wire.specs.RecordFaults.{end_fault, fault_at}
@@ -26,14 +26,19 @@ use Rattle.x_wire.proofs.Feeding.{records_append}
 
 -- ---- one block
 
+pub some_taken : (n : ℕ) (xs : List ℕ) → 0 < n → 0 < length xs → 0 < length (take n xs)
+some_taken zero xs h k = absurd (omega (arith, h))
+some_taken (suc n) [] h k = absurd (omega (arith, k))
+some_taken (suc n) (x ∷ xs) h k = omega arith
+
 -- the stream goes on
 pub turn_on : (s : Schema) (read piece : List ℕ) (t : Told) (before left : Option (List ℕ)) (new : Dumper) (p q : Inked) (now now' : Stream)
-    → Consumes before left piece → Tells s read t piece new p now q now' → TellsTurn s read t before left GoesOn new p now q now'
-turn_on s read piece t before left new p q now now' come h = record {
+    → Consumes before left piece → Tells s read t piece new p now q now' → IsUnder new → TellsTurn s read t before left GoesOn new p now q now'
+turn_on s read piece t before left new p q now now' come h under = record {
   taken = piece;
   come = come;
   more = h.more;
-  is_turn = h.is_at;
+  is_turn = (h.is_at, under);
   added = h.added;
 }
 
@@ -104,6 +109,7 @@ pub record IsRunning (s : Schema) (start : Stream) (before later : Option (List 
   pub read : List ℕ
   pub text : Told
   pub is_at : IsAt s read text d
+  pub under : IsUnder d
   pub come : Consumes before later read
   pub writes : Writes start text.text pen now
   pub goes : pen.stopped ≡ false
@@ -116,6 +122,7 @@ run_start s start before d pen at is = record {
   read = [];
   text = plain [];
   is_at = at;
+  under = sym (ap (λ (l : Left). fault_at l.phase) at.left_is);
   come = Consumes-nil before;
   writes = subst (λ (p : Inked). Writes start [] p start) (sym is) (writes_none start);
   goes = ap (λ (p : Inked). p.stopped) is;
@@ -152,7 +159,8 @@ pub run_on : (s : Schema) (start : Stream) (before later : Option (List ℕ)) (t
 run_on s start before later turn d pen now h is goes empty works = record {
   read = h.read;
   text = h.text;
-  is_at = subst (λ u. IsTurn s h.read later u h.text d) is h.is_turn;
+  is_at = (subst (λ u. IsTurn s h.read later u h.text d) is h.is_turn).0;
+  under = (subst (λ u. IsTurn s h.read later u h.text d) is h.is_turn).1;
   come = h.come;
   writes = h.writes;
   goes = goes;
@@ -180,7 +188,7 @@ read_front s read t d h = subst (λ b. IsFrontText s b t) (append-nil read) (fro
 -- a turn's text is that of a front or of the whole stream
 turn_text : (s : Schema) (stream read : List ℕ) (later : Option (List ℕ)) (turn : Turn) (t : Told) (d : Dumper) → Consumes (Some stream) later read
     → IsTurn s read later turn t d → IsFrontText s stream t ⊎ IsStreamText s stream t
-turn_text s stream read later GoesOn t d come h = inl (front_of s stream read later t come (read_front s read t d h))
+turn_text s stream read later GoesOn t d come h = inl (front_of s stream read later t come (read_front s read t d h.0))
 turn_text s stream read later (Ended outcome) t d come h = inr (h.0 stream come)
 turn_text s stream read later NoMemory t d come h = inl (front_of s stream read later t come h)
 
@@ -197,11 +205,15 @@ has_text t start now pen written writes goes empty is = record {
 }
 
 -- memory ran out at once
-pub none_dumped : (s : Schema) (stream : List ℕ) (later : Option (List ℕ)) (start : Stream) → DumpsStream s stream later start start (Err (faults.NoMemory 0))
-none_dumped s stream later start = (
-  plain [],
-  record { told = []; rest = records stream; parts = refl; are = ([], (refl, refl)) },
-  record { taken = Appends-nil start.bytes; written_is = refl },
+pub none_dumped : (s : Schema) (stream : List ℕ) (later : Option (List ℕ)) (start : Stream) → later ≡ Some stream → DumpsStream s stream later start start (Err (faults.NoMemory 0))
+none_dumped s stream later start from = (
+  [],
+  known later later stream [] from (Consumes-nil later),
+  (
+    plain [],
+    record { told = []; rest = records []; parts = refl; are = ([], (refl, refl)) },
+    record { taken = Appends-nil start.bytes; written_is = refl },
+  ),
 )
 
 -- the tap failed
@@ -212,18 +224,21 @@ unread_dumped s start before left later d p q now now' written stream h kept pen
     subst (λ (n : Stream). DumpsStream s stream later start n (Err (faults.Read written))) (sym sink_same) (
       h.read,
       known before later stream h.read from (Consumes-kept before left later h.read h.come kept),
-      h.text,
-      (h.is_at.has_told.calls, h.is_at.has_told.are),
-      has_text h.text start now p written h.writes h.goes h.empty (is ∙ ap (λ (p : Inked). p.written) pen_same),
+      ap (λ (l : Left). fault_at l.phase) h.is_at.left_is ∙ h.under,
+      (
+        h.text,
+        (h.is_at.has_told.calls, h.is_at.has_told.are),
+        has_text h.text start now p written h.writes h.goes h.empty (is ∙ ap (λ (p : Inked). p.written) pen_same),
+      ),
     )
 
 -- no more blocks are read
 pub stopped_dumped : (s : Schema) (start : Stream) (before later : Option (List ℕ)) (d : Dumper) (pen : Inked) (now : Stream) (written : ℕ) (stream : List ℕ)
     → IsRunning s start before later d pen now → written ≡ pen.written → before ≡ Some stream → DumpsStream s stream later start now (Err (faults.NoMemory written))
 stopped_dumped s start before later d pen now written stream h is from = (
-  h.text,
-  front_of s stream h.read later h.text (known before later stream h.read from h.come) (read_front s h.read h.text d h.is_at),
-  has_text h.text start now pen written h.writes h.goes h.empty is,
+  h.read,
+  known before later stream h.read from h.come,
+  (h.text, read_front s h.read h.text d h.is_at, has_text h.text start now pen written h.writes h.goes h.empty is),
 )
 
 -- the sink failed
@@ -255,9 +270,9 @@ pub want_dumped : (s : Schema) (start : Stream) (before later : Option (List ℕ
     → DumpsStream s stream later start now (Err (faults.NoMemory written))
 want_dumped s start before later turn d pen now written stream h is goes empty written_is from =
     let front : IsFrontText s h.read h.text = subst (λ u. IsTurn s h.read later u h.text d) is h.is_turn in (
-      h.text,
-      front_of s stream h.read later h.text (known before later stream h.read from h.come) front,
-      has_text h.text start now pen written h.writes goes empty written_is,
+      h.read,
+      known before later stream h.read from h.come,
+      (h.text, front, has_text h.text start now pen written h.writes goes empty written_is),
     )
 
 not_failed : {X : Type 0} (b : Bool) (x : X) → (IsTrue b → IsErr {T = X} {E = Broken} (Ok x)) → b ≡ false

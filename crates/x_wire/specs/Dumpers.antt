@@ -65,15 +65,19 @@ front_taken piece (Some used) = take used piece
 abbrev pub IsOver : Dumper → Type 0
 IsOver dumper = (at : ℕ) × (fault_at (left_by dumper.framer).phase ≡ Some at)
 
--- nothing counts any more where no number is answered
+-- no header takes its record over the limit
+abbrev pub IsUnder : Dumper → Type 0
+IsUnder dumper = fault_at (left_by dumper.framer).phase ≡ None
+
+-- nothing counts any more exactly where no number is answered
 abbrev pub IsOverAt : Option ℕ → Dumper → Type 0
 IsOverAt None dumper = IsOver dumper
-IsOverAt (Some used) dumper = Unit {0}
+IsOverAt (Some used) dumper = IsUnder dumper
 
 -- Where a turn leaves a stream of which these bytes were read and the tap has `left`: the texts of what was read; or how the stream ends;
 -- or memory ran out, behind the texts of some records.
 abbrev pub IsTurn : Schema → (read : List ℕ) → (left : Option (List ℕ)) → Turn → Told → Dumper → Type 0
-IsTurn s read left GoesOn t new = IsAt s read t new
+IsTurn s read left GoesOn t new = IsAt s read t new × IsUnder new
 IsTurn s read left (Ended outcome) t new =
     ((stream : List ℕ) → Consumes (Some stream) left read → IsStreamText s stream t) × (is_refused outcome ≡ t.refused)
 IsTurn s read left NoMemory t new = IsFrontText s read t

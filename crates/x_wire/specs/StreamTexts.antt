@@ -11,7 +11,7 @@ use Rattle.x_session.specs.declared.script.EngineFault.{EngineFault}
 use Rattle.x_session.specs.declared.script.EngineFault.TheVariants.{Read, Write, NoMemory}
 use Rattle.x_wire.specs.Calls.{Calls}
 use Rattle.x_wire.specs.MessageTexts.{Told, plain, refused, then_told, IsMessageText}
-use Rattle.x_wire.specs.RecordFaults.{end_fault, record_text}
+use Rattle.x_wire.specs.RecordFaults.{end_fault, fault_at, record_text}
 use Rattle.x_wire.specs.Records.{left, records}
 use Rattle.x_wire.specs.declared.records.RecordFault.{RecordFault}
 
@@ -52,15 +52,17 @@ pub record HasText (t : Told) (before after : Stream) (written : ℕ) : Type 0 w
   pub taken : Appends before.bytes after.bytes t.text
   pub written_is : written ≡ counted (length t.text)
 
--- What is written of a stream, of which the tap has `left` then. A fault of the tap comes behind the texts of all records that are whole in
--- what was read, want of memory behind those of some records, from the first on, and a fault of the sink within a text.
+-- What is written of a stream, of which the tap has `later` then. A fault of the tap comes behind the texts of all records that are whole in
+-- what was read, in which no header takes its record over the limit; want of memory behind those of some records of what was read, from the
+-- first on; and a fault of the sink within a text or at its end.
 abbrev pub DumpsStream : Schema → (stream : List ℕ) (later : Option (List ℕ)) (before after : Stream) → Result Outcome EngineFault → Type 0
 DumpsStream s stream later before after (Ok outcome) =
     (t : Told) × IsStreamText s stream t × Appends before.bytes after.bytes t.text × (is_refused outcome ≡ t.refused)
 DumpsStream s stream later before after (Err (Read written)) =
-    (read : List ℕ) × Consumes (Some stream) later read × (t : Told) × IsTextOf s (records read) t × HasText t before after written
+    (read : List ℕ) × Consumes (Some stream) later read × (fault_at (left read).phase ≡ None)
+    × ((t : Told) × IsTextOf s (records read) t × HasText t before after written)
 DumpsStream s stream later before after (Err (NoMemory written)) =
-    (t : Told) × IsFrontText s stream t × HasText t before after written
+    (read : List ℕ) × Consumes (Some stream) later read × ((t : Told) × IsFrontText s read t × HasText t before after written)
 DumpsStream s stream later before after (Err (Write written)) =
     (t : Told) × (IsFrontText s stream t ⊎ IsStreamText s stream t) × StopsWithin before after t.text written
 

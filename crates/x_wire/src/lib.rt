@@ -13,7 +13,7 @@ pub use messages::{
 };
 pub use nfs2::NFS2_X;
 pub use records::{Fed, MAX_RECORD, RecordCode, RecordFault, Records, records_law};
-pub use telling::{dump_message, dump_stream};
+pub use telling::{dump_message, dump_stream, one_text};
 pub use x_sema::{Procedure, Schema, TypeId};
 pub use x_session::{EngineFault, Outcome, dump_value};
 pub use x_value::{

@@ -2,10 +2,12 @@
 
 mod body;
 mod dumper;
+mod laws;
 mod lines;
 mod single;
 mod stream;
 mod teller;
 
+pub use laws::one_text;
 pub use single::dump_message;
 pub use stream::dump_stream;

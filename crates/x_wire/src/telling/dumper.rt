@@ -1,9 +1,9 @@
 //! What is printed of a stream that comes in blocks.
-ghost use Rattle.std.specs.Prelude.{◌≡◌, ◌||◌, ◌∷◌, [], ℕ, List, false, IfOk, OnErr};
+ghost use Rattle.std.specs.Prelude.{◌≡◌, ◌<◌, ◌||◌, ◌∷◌, [], ℕ, List, false, length, true, IfOk, OnErr};
 ghost use Rattle.x_sema.specs.Schema.{Schema};
 ghost use Rattle.x_session.specs.Script.{is_refused};
 ghost use Rattle.x_text.specs.Writing.{Adds};
-ghost use Rattle.x_wire.specs.Dumpers.{HasTold, IsAt, IsOver, IsOverAt, IsUsed, Tells, TellsFront, TellsMore, front_taken};
+ghost use Rattle.x_wire.specs.Dumpers.{HasTold, IsAt, IsOver, IsOverAt, IsUnder, IsUsed, Tells, TellsFront, TellsMore, front_taken};
 ghost use Rattle.x_wire.specs.Framers.{IsOpen, left_by};
 ghost use Rattle.x_wire.specs.MessageTexts.{Told, plain};
 ghost use Rattle.x_wire.specs.RecordFaults.{end_fault};
@@ -55,6 +55,7 @@ impl Dumper {
         ensures told { IfOk result (λ _. (read : List ℕ) (t : Told) → IsAt schema.now read t self.old →
             Tells schema.now read t block.now self.new pen.old (S.state sink.old) pen.new (S.state sink.new)) }
         ensures over { IfOk result (λ goes. goes ≡ false → IsOver self.new) }
+        ensures under { IfOk result (λ goes. goes ≡ true → 0 < length block.now → IsUnder self.new) }
         ensures front { OnErr result ((read : List ℕ) (t : Told) → IsAt schema.now read t self.old →
             TellsFront schema.now read t block.now pen.old (S.state sink.old) pen.new (S.state sink.new)) }
     {

@@ -5,7 +5,7 @@ use Rattle.x_wire.proofs.telling.stream.dump_stream.Goals as goal
 
 pub returns-in_default-clause-dumps : goal.returns-in_default-clause-dumps
 returns-in_default-clause-dumps g c =
-    match_some (g.R.Tap.state c.args.tap.now).bytes _ (λ stream from. none_dumped c.args.schema.now stream (g.R.Tap.state c.args.tap.now).bytes (g.S.Sink.state c.args.sink.now))
+    match_some (g.R.Tap.state c.args.tap.now).bytes _ (λ stream from. none_dumped c.args.schema.now stream (g.R.Tap.state c.args.tap.now).bytes (g.S.Sink.state c.args.sink.now) from)
 
 pub loop-init : goal.loop-init
 loop-init g c = record {

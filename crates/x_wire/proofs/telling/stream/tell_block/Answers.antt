@@ -1,5 +1,5 @@
 use Rattle.std.proofs.Common.{◌<◌, take, length, subst, sym}
-use Rattle.x_wire.proofs.Turning.{turn_on, turn_want, turn_end, whole_of}
+use Rattle.x_wire.proofs.Turning.{some_taken, turn_on, turn_want, turn_end, whole_of}
 use Rattle.x_wire.proofs.telling.stream.tell_block.Goals as goal
 
 pub returns-in_default-clause-told : goal.returns-in_default-clause-told
@@ -13,6 +13,8 @@ returns-then-count-gt0-clause-told g c read t h =
     turn_on c.args.schema.now read (take c.in_ok-count.count c.take.new.buffer) t (g.R.Tap.state c.args.tap.now).bytes (g.R.Tap.state c.take.new.self).bytes c.take-2.new.self
     c.args.pen.now c.take-2.new.pen (g.S.Sink.state c.args.sink.now) (g.S.Sink.state c.take-2.new.sink)
     c.in_ok-count.ensures.taken.taken.0 (c.in-Ok.ensures.told read t h)
+    (let room : 0 < length c.take.new.buffer = subst (λ n. 0 < n) (sym c.take.auto.buffer) c.requires.some in
+    c.in-Ok.ensures.under c.if-goes_on.true (some_taken c.in_ok-count.count c.take.new.buffer c.if-count-gt0.true room))
 
 pub returns-clause-told : goal.returns-clause-told
 returns-clause-told g c read t h =

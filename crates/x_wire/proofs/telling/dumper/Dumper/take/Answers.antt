@@ -1,10 +1,12 @@
-use Rattle.std.proofs.Common.{ap}
+use Rattle.std.proofs.Common.{Option, ℕ, ap, subst, arith}
+use Rattle.x_wire.specs.Dumpers.{IsOverAt}
 use Rattle.x_wire.proofs.Dumping.{taken_none, taken_more, taken_rest, taken_front, on_err}
 use Rattle.x_wire.proofs.telling.dumper.Dumper.take.Goals as goal
 
 pub loop-rest-init : goal.loop-rest-init
 loop-rest-init g c = record {
   is_open = c.requires.is_open;
+  under = λ less. absurd (omega (arith, less));
   taken = taken_none c.args.schema.now c.args.self.now c.args.block.now c.args.pen.now (g.S.Sink.state c.args.sink.now);
 }
 
@@ -23,6 +25,7 @@ returns-in_default-clause-told g c read t h =
 pub loop-rest-preserved : goal.loop-rest-preserved
 loop-rest-preserved g c = record {
   is_open = c.in_ok-used.ensures.is_open;
+  under = λ less. subst (λ (v : Option ℕ). IsOverAt v c.take_record.new.self) c.in-Some.is c.in_ok-used.ensures.over;
   taken = taken_more c.args.schema.now c.args.self.now c.loop-rest.self c.take_record.new.self c.args.block.now c.loop-rest.rest.now c.in_ok-used.field-0 c.in-Some.used
       c.args.pen.now c.loop-rest.pen c.take_record.new.pen (g.S.Sink.state c.args.sink.now) (g.S.Sink.state c.loop-rest.sink) (g.S.Sink.state c.take_record.new.sink)
       c.loop-rest.invariant.taken c.in-Some.is c.in_ok-used.ensures.told;
