@@ -46,6 +46,19 @@ def timed(words, output, limit):
         return (seconds, int(report.read().split()[-1]), status) if ended else (seconds, 0, None)
 
 
+def least(words, output, limit, in_all, check):
+    """The least seconds of runs of a command that take so many in all, and its peak memory in KiB. Each program has as long as the others to
+    meet a moment without disturbance. The seconds of a run that was stopped after the limit, and no memory. `check` is given each run's status."""
+    best, memory, spent = math.inf, 0, 0
+    while spent < in_all:
+        seconds, peak, status = timed(words, output, limit)
+        if status is None:
+            return seconds, None
+        check(status)
+        best, memory, spent = min(seconds, best), max(memory, peak), spent + seconds
+    return best, memory
+
+
 def open_once(program, path):
     """One run: its seconds, and its peak memory in KiB."""
     with tempfile.NamedTemporaryFile("r", encoding="ascii") as report:
