@@ -7,7 +7,7 @@ use Rattle.std.proofs.lemmas.List.Concat.{flat_map_single}
 use Rattle.x_text.specs.Streams.{Stream}
 use Rattle.x_text.specs.Writing.{Inked, Adds}
 use Rattle.x_text.proofs.Pens.{adds_none, adds_trans}
-use Rattle.x_sema.proofs.ListLemmas.{drop_one, drop_none, get_at, some_at}
+use Rattle.x_text.proofs.ListLemmas.{drop_one, drop_none, get_at, some_at}
 
 flat_map_more : {X : Type 0} (f : X → List ℕ) (xs : List X) (x : X) → flat_map f (xs ++ x ∷ []) ≡ flat_map f xs ++ f x
 flat_map_more f [] x = append-nil (f x)

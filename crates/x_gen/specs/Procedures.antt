@@ -2,7 +2,7 @@
 use Rattle.std.specs.Prelude.{ℕ, ◌+◌, Bool, true, false, List, [], ◌∷◌, ◌++◌, map, codes, Option, Some, None, if◌then◌else◌}
 use Rattle.std.specs.Fmt.{signed_decimal}
 use Rattle.x_item.specs.Tree.{Version, Procedure, Argument}
-use Rattle.x_sema.specs.Numbers.{in_range, value}
+use Rattle.x_schema.specs.Numbers.{in_range, value}
 use Rattle.x_gen.specs.CTypes.{CType, own, passed_type}
 use Rattle.x_gen.specs.Texts.{is_upper}
 
