@@ -5,7 +5,8 @@ use Rattle.std.specs.Fmt.{decimal}
 use Rattle.x_item.specs.Tree.{Value, Body, Enum, Struct, Union, Declaration, Void, Argument, Procedure, Version}
 use Rattle.x_item.specs.Tree.{Declarations, none, more, Arms, no_arm, arm, Default, no_default, default}
 use Rattle.x_gen.specs.CTypes.{CType, spelled, passed_type}
-use Rattle.x_gen.specs.Declarations.{Place, InStruct, InUnion, Alone, name_of, call}
+use Rattle.x_item.specs.Declarations.{name_of}
+use Rattle.x_gen.specs.Declarations.{Place, InStruct, InUnion, Alone, call}
 use Rattle.x_gen.specs.InlineTypes.{NamedBody}
 use Rattle.x_gen.specs.Procedures.{are_several, group_name}
 

@@ -12,7 +12,7 @@ ghost use Rattle.x_gen.specs.Views.{view_c, view_place, view_named};
 
 use crate::add::add;
 use crate::c_types::{CType, argument_type, passed_type, spelled};
-use crate::declaration::{Place, add_call, is_void, name_of};
+use crate::declaration::{Place, add_call};
 use crate::procedures::{Call, ProcedurePiece};
 use crate::types::NamedBody;
 use itoa::Buffer;
@@ -56,7 +56,7 @@ fn add_checked_call(
     ensures { OnOk result (text.new.items ≡ text.old.items
         ++ checked_call indent.now around.now (view_place place.entry) (view_declaration declaration.now)) }
 {
-    if is_void(declaration) {
+    if declaration.is_void() {
         return Ok(());
     }
     add(text, &[indent, b"if (!"])?;
@@ -181,7 +181,7 @@ fn add_union(
     add_checked_call(alloc, text, b"    ", name, Place::InStruct, discriminant)?;
     add(
         text,
-        &[b"    switch (objp->", name_of(discriminant), b") {\n"],
+        &[b"    switch (objp->", discriminant.name(), b") {\n"],
     )?;
     add_arms(alloc, text, name, &body.arms)?;
     add_default(alloc, text, name, &body.default)?;
@@ -218,10 +218,10 @@ pub fn add_typedef(
     ensures { OnOk result (text.new.items ≡ text.old.items
         ++ typedef_routine (view_declaration declaration.now)) }
 {
-    if is_void(declaration) {
+    if declaration.is_void() {
         return Ok(());
     }
-    let name = name_of(declaration);
+    let name = declaration.name();
     add_front(text, name)?;
     add_checked_call(alloc, text, b"    ", name, Place::Alone, declaration)?;
     add_end(text)

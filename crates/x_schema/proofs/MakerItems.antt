@@ -8,7 +8,8 @@ use Rattle.x_schema.specs.Schema.{Schema, IsKeptWithin, form_at, name_at, same_n
 use Rattle.x_schema.specs.ProcedureMaking.{AreKeptWithin, PutsProcedures}
 use Rattle.x_schema.specs.ProceduresOf.{AreProceduresBehind, Numbered, Table, procedures_of}
 use Rattle.x_schema.specs.Schemas.{IsSchemaOf}
-use Rattle.x_schema.specs.SchemaOf.{Known, Types, AreTypesOf, IsBody, IsDeclared, as_typedef, is_void, name_of, place_named, typedefs, typedefs_inside, typedefs_of, with_first, with_types, numbers_of}
+use Rattle.x_schema.specs.SchemaOf.{Known, Types, AreTypesOf, IsBody, IsDeclared, as_typedef, place_named, typedefs, typedefs_inside, typedefs_of, with_first, with_types, numbers_of}
+use Rattle.x_item.specs.Declarations.{is_void, name_of}
 use Rattle.x_schema.specs.SchemaTables.{numbers_held}
 use Rattle.x_schema.specs.SchemaMaking.{Completes, Behind, IsGood, IsStart, PutsAll, PutsPlace, AddsFound, FindsItem, FindsItems, TakesFound, AreLinksWithin, AreWithin, IsWithin, names_made, place_linked, view_known, with_found}
 use Rattle.x_schema.specs.Sound.{IsSound, IsSoundForm}

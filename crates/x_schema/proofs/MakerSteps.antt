@@ -4,7 +4,8 @@ use Rattle.std.proofs.lemmas.List.{length-map, get_or_at, get_or_append_left}
 use Rattle.std.proofs.lemmas.Bool.Decides.{nat_tests}
 use Rattle.x_item.specs.Tree as tree
 use Rattle.x_schema.specs.Schema.{Schema, form_at, name_at, target_at}
-use Rattle.x_schema.specs.SchemaOf.{Known, Types, AreNamed, IsDeclared, name_of}
+use Rattle.x_schema.specs.SchemaOf.{Known, Types, AreNamed, IsDeclared}
+use Rattle.x_item.specs.Declarations.{name_of}
 use Rattle.x_schema.specs.SchemaMaking.{IsFront, Completes, Behind, IsGood, Puts, AddsName, AddsForm, AddsLink, AddsFound, AreLinksWithin, AreWithin, IsWithin, names_made, place_linked}
 use Rattle.x_schema.specs.Sound.{IsSoundForm}
 use Rattle.x_schema.specs.declared.form.Form.{Form}

@@ -7,6 +7,7 @@ use Rattle.std.specs.Str.{bytes_eq}
 use Rattle.std.specs.Global.{Global}
 use Rattle.std.specs.declared.vec.Vec.{Vec}
 use Rattle.x_item.specs.Tree as tree
+use Rattle.x_item.specs.Declarations.{name_of}
 use Rattle.x_item.specs.Gloss.{lifted_name, use_by}
 use Rattle.x_item.specs.declared.names.mention.Use.{Use}
 use Rattle.x_item.specs.declared.names.mention.Use.TheVariants as uses
@@ -191,16 +192,6 @@ Types = List (List ℕ × NamedType)
 -- the place that a name leads to, among these types; that of `void` where it is none of them
 abbrev pub place_named : Types → List ℕ → ℕ
 place_named types name = option_map_or (λ t. t.form) (lookup (bytes_eq name) types) 0
-
-abbrev pub name_of : tree.Declaration → List ℕ
-name_of tree.Void = []
-name_of (tree.Of type name shape) = name
-name_of (tree.Opaque name length) = name
-name_of (tree.String name most) = name
-
-abbrev pub is_void : tree.Declaration → Bool
-is_void tree.Void = true
-is_void d = false
 
 -- what an item is read by: the numbers of constants, and the types of the items before it
 pub record Known : Type 0 where

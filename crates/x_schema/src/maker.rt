@@ -9,10 +9,11 @@ ghost use Rattle.x_item.specs.declared.names.mention.Use.TheVariants as uses;
 ghost use Rattle.x_schema.specs.Schema.{form_at, named_types, name_at};
 ghost use Rattle.x_schema.specs.Schemas.{IsSchemaOf};
 ghost use Rattle.x_schema.specs.SchemaOf.{IsArmOf, IsBody, IsDeclared, IsDefault, IsEnum, IsType, AreArms, AreFields};
-ghost use Rattle.x_schema.specs.SchemaOf.{AreTypesOf, basic_form, case_word, enum_form, union_form, name_of, opaque_form};
+ghost use Rattle.x_schema.specs.SchemaOf.{AreTypesOf, basic_form, case_word, enum_form, union_form, opaque_form};
 ghost use Rattle.x_schema.specs.SchemaOf.{place_in, place_named, with_cases, with_first, with_word, word_by, words_from, as_typedef};
 ghost use Rattle.x_schema.specs.SchemaOf.{typedefs, typedefs_inside, typedefs_of, typedefs_of_type, typedefs_of_fields};
-ghost use Rattle.x_schema.specs.SchemaOf.{typedefs_of_arms, typedefs_of_default, is_void, signed_word};
+ghost use Rattle.x_schema.specs.SchemaOf.{typedefs_of_arms, typedefs_of_default, signed_word};
+ghost use Rattle.x_item.specs.Declarations.{is_void, name_of};
 ghost use Rattle.x_schema.specs.SchemaOf as schema;
 ghost use Rattle.x_schema.specs.SchemaTables.{numbers_held};
 ghost use Rattle.x_schema.specs.SchemaMaking.{AddsName, AddsForm, AddsLink, AddsFound, PutsAll, PutsPlace, PutsLink};
@@ -32,7 +33,7 @@ use indexmap::IndexMap;
 use std::alloc::Global;
 use x_item::{
     Arm as ArmTree, Basic, Body, DataType, Declaration, Definition, Enumerator, Length, Shape,
-    UnionBody, Value,
+    UnionBody, Value, lifted_name,
 };
 use x_text::NoMemory;
 
@@ -138,25 +139,6 @@ fn union_form(discriminant: Field, cases: IndexMap<u32, Arm>, default: Option<Ar
     Form::Union(discriminant, Arms { cases, default })
 }
 
-/// The declared name; `void` has none.
-fn name_of(declaration: &Declaration) -> &[u8]
-    ensures { result.now ≡ name_of (view_declaration declaration.now) }
-{
-    match declaration {
-        Declaration::Void => b"",
-        Declaration::Of { name, .. } => name,
-        Declaration::Opaque { name, .. } => name,
-        Declaration::String { name, .. } => name,
-    }
-}
-
-/// Whether nothing is declared.
-fn is_void(declaration: &Declaration) -> bool
-    ensures { result ≡ is_void (view_declaration declaration.now) }
-{
-    matches!(declaration, Declaration::Void)
-}
-
 /// The word of an enumerator's number, if it is known and an enum may have it.
 fn word_of(number: Option<i128>) -> Option<u32>
     ensures { result ≡ option_and_then signed_word number }
@@ -165,16 +147,6 @@ fn word_of(number: Option<i128>) -> Option<u32>
         Some(number) => signed_word(number),
         None => None,
     }
-}
-
-/// The name of an inline type.
-fn lifted_name(alloc: Global, around: &[u8], name: &[u8]) -> Result<Vec<u8>, NoMemory>
-    ensures { IfOk result (λ lifted. lifted.items ≡ lifted_name around.now name.now) }
-{
-    let mut lifted = Vec::from_slice(alloc, around)?;
-    lifted.push(b'_')?;
-    lifted.extend_from_slice(name)?;
-    Ok(lifted)
 }
 
 /// Whether a discriminant of the form may have the number that the word stands for.
@@ -529,7 +501,7 @@ impl<'d> Maker<'d> {
             × IsSoundField n i field)) }
     {
         let form = self.declaration(alloc, known, around, declaration)?;
-        let name = self.name(alloc, name_of(declaration))?;
+        let name = self.name(alloc, declaration.name())?;
         Ok(Field { name, form })
     }
 
@@ -564,7 +536,7 @@ impl<'d> Maker<'d> {
             PutsAll (view_known known.now) self.old self.new (typedefs_of around.now d) (λ n i s.
             IsArmOf s d arm × IsDeclared s (view_known known.now) d (place_in arm) × IsSoundArm n i arm)) }
     {
-        if is_void(declaration) {
+        if declaration.is_void() {
             return Ok(Arm::Void);
         }
         Ok(Arm::Of(self.field(alloc, known, around, declaration)?))
@@ -702,10 +674,10 @@ impl<'d> Maker<'d> {
         ensures { OnOk result (PutsAll (view_known known.now) self.old self.new
             (typedefs (Some (tree.Typedef (view_declaration declaration.now)))) (λ n i s. Unit {0})) }
     {
-        if is_void(declaration) {
+        if declaration.is_void() {
             return Ok(());
         }
-        let name = name_of(declaration);
+        let name = declaration.name();
         let place = self.declaration(alloc, known, name, declaration)?;
         self.found(alloc, name, place)
     }

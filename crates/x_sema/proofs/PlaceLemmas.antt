@@ -1,11 +1,10 @@
 -- The first places of names.
 use Rattle.std.proofs.Common.{◌≡◌, ℕ, suc, ◌+◌, ◌<◌, Bool, true, false, cond, List, [], ◌∷◌, ◌++◌, length, length-append, arith, map, take, drop, Option, None, Some, refl, sym, ap, ◌∙◌}
 use Rattle.std.specs.Prelude.{nat_lt, slice_get, option_map, option_and_then, ℤ}
-use Rattle.std.specs.Option.{option_map_or}
+use Rattle.std.specs.Option.{option_map_or, option_or}
 use Rattle.std.specs.Str.{bytes_eq}
 use Rattle.x_sema.specs.Bodies.{EnumeratorAt}
 use Rattle.x_sema.specs.Constants.{Known, number_of, known_with, knowns, is_declared_before, number_named, number_before}
-use Rattle.std.specs.Option.{option_or}
 use Rattle.x_sema.specs.Tables.{HasNumbers, place_by, first_place, noted, view_enumerator_at}
 use Rattle.x_text.proofs.ListLemmas.{some_at, take_next, map_append, get_at}
 use Rattle.x_sema.specs.Views.{View}

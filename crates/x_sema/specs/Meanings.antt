@@ -1,12 +1,11 @@
 -- What the program makes of the names that an item declares.
 use Rattle.std.specs.Prelude.{◌≡◌, ℕ, suc, nat_eq, List, [], ◌∷◌, map, Option, Some, None, if◌then◌else◌}
 use Rattle.std.specs.Map.{lookup}
-use Rattle.std.specs.Option.{IfSome}
+use Rattle.std.specs.Option.{IfSome, option_or}
 use Rattle.x_item.specs.Tree as tree
 use Rattle.x_sema.specs.Bodies.{BodyAt}
 use Rattle.x_sema.specs.BodyWalks.{view_body_at}
 use Rattle.x_sema.specs.Constants.{Known}
-use Rattle.std.specs.Option.{option_or}
 use Rattle.x_sema.specs.Results.{type_of}
 use Rattle.x_sema.specs.Tables.{capped}
 use Rattle.x_sema.specs.Types.{body_class, declaration_class, body_height, held_height}

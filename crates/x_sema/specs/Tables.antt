@@ -4,7 +4,7 @@ use Rattle.indexmap.specs.IndexMap.{IndexMap}
 use Rattle.std.specs.Borrow.{Bor}
 use Rattle.std.specs.Cow.{cow_slice_items}
 use Rattle.std.specs.Map.{lookup}
-use Rattle.std.specs.Option.{option_map_or}
+use Rattle.std.specs.Option.{option_map_or, option_or}
 use Rattle.std.specs.Str.{bytes_eq}
 use Rattle.x_item.specs.Tree as tree
 use Rattle.x_item.specs.View.{view_value}
@@ -16,7 +16,6 @@ use Rattle.x_item.specs.declared.names.mention.Use.TheVariants as uses
 use Rattle.x_sema.specs.Views as views
 use Rattle.x_sema.specs.Bodies as bodies
 use Rattle.x_sema.specs.Constants.{Known}
-use Rattle.std.specs.Option.{option_or}
 use Rattle.x_sema.specs.Types as types
 use Rattle.x_sema.specs.RustViews.{view_class, view_view}
 use Rattle.x_sema.specs.declared.rules.classes.Sight.{Sight}

@@ -1,7 +1,7 @@
 -- What a script does with a text.
 use Rattle.std.specs.Prelude.{◌≡◌, ◌≤◌, ℕ, Bool, true, false, ◌||◌, List, [], ◌∷◌, ◌++◌, length, Option, Some, None, Result, Ok, Err}
 use Rattle.x_text.specs.Streams.{Stream}
-use Rattle.x_text.specs.Writing.{Inked, Adds}
+use Rattle.x_text.specs.Writing.{Inked, Adds, HasFront, counted}
 use Rattle.x_session.specs.Session.{Document, LeavesText, Compiles}
 use Rattle.x_session.specs.Answers.{Answer}
 use Rattle.x_session.specs.LineAnswers.{IsLineAnswer}
@@ -12,7 +12,6 @@ use Rattle.x_text.specs.declared.outcome.Outcome.TheVariants.{Clean, Refused}
 use Rattle.x_text.specs.declared.outcome.EngineFault.{EngineFault}
 use Rattle.x_text.specs.declared.outcome.EngineFault.TheVariants.{Read, Write, NoMemory}
 use Rattle.x_session.specs.Lines.{Reading, IsUnread, StopsBehind, script_lines, whole_lines}
-use Rattle.x_text.specs.Writing.{HasFront, counted}
 use Rattle.std.specs.Io.KnownBytes.{Appends, Consumes}
 
 -- one answer behind another

@@ -12,8 +12,7 @@ ghost use Rattle.x_sema.specs.Constants.{Known, knowns, limit_of, is_declared_be
 ghost use Rattle.x_sema.specs.RustViews.{view_view};
 ghost use Rattle.std.specs.Option.{option_map_or};
 ghost use Rattle.x_sema.specs.Constants.{number_before, number_by, number_seen, number_of};
-ghost use Rattle.x_schema.specs.Numbers.{next_number};
-ghost use Rattle.x_schema.specs.Numbers.{is_enum_number, is_word_number};
+ghost use Rattle.x_schema.specs.Numbers.{next_number, is_enum_number, is_word_number};
 ghost use Rattle.x_sema.specs.Tables.{ArePlaces, HasNumbers, place_by, place_listed, seen_by, view_enumerator_at};
 
 use super::places::{MOST_FEW, NameTable, Named, place_among, place_tabled, table_of};

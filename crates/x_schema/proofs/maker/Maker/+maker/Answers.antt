@@ -130,7 +130,7 @@ field-returns t c =
     let known = view_known c.args.known.now in
     let around = c.args.around.now in
     let d = view_declaration c.args.declaration.now in
-    field_put known c.args.self.now c.declaration.new.self c.name.new.self (typedefs_of around d) d c.name_of.result.now c.in_ok-name.name c.in_ok-form.form c.name_of.ensures c.in_ok-form.ensures c.in_ok-name.ensures
+    field_put known c.args.self.now c.declaration.new.self c.name-2.new.self (typedefs_of around d) d c.name.result.now c.in_ok-name.name c.in_ok-form.form c.name.ensures c.in_ok-form.ensures c.in_ok-name.ensures
 
 pub fields-loop-declaration-init : goal.fields-loop-declaration-init
 fields-loop-declaration-init t c g =
