@@ -1,4 +1,3 @@
-pub mod Adding
 pub mod HeaderLemmas
 pub mod LengthLemmas
 pub mod Listing

@@ -1,41 +1,15 @@
--- A list that is written element by element.
-use Rattle.std.proofs.Common.{◌≡◌, ℕ, suc, ◌+◌, ◌<◌, ◌≤◌, drop, get_or, length, map, arith, List, [], ◌∷◌, ◌++◌, refl, sym, ap, subst, ◌∙◌, append_assoc, append-nil}
+-- A list that is written element by element, by the index of what is added next.
+use Rattle.std.proofs.Common.{◌≡◌, ℕ, suc, ◌+◌, ◌<◌, ◌≤◌, drop, get_or, length, map, arith, List, [], ◌∷◌, subst, ap, ◌∙◌}
 use Rattle.std.specs.Prelude.{slice_get}
 use Rattle.std.specs.List.{flat_map}
 use Rattle.std.specs.Option.{option_map_or}
 use Rattle.std.proofs.lemmas.List.Concat.{flat_map_single}
 use Rattle.x_text.specs.Streams.{Stream}
 use Rattle.x_text.specs.Writing.{Inked, Adds}
-use Rattle.x_text.proofs.Pens.{adds_none, adds_trans}
+use Rattle.x_text.proofs.Listing.{HasListed, lists_more, lists_all}
 use Rattle.x_sema.proofs.ListLemmas.{drop_one, drop_none, get_at, some_at}
 
-flat_map_more : {X : Type 0} (f : X → List ℕ) (xs : List X) (x : X) → flat_map f (xs ++ x ∷ []) ≡ flat_map f xs ++ f x
-flat_map_more f [] x = append-nil (f x)
-flat_map_more f (y ∷ ys) x = ap (λ l. f y ++ l) (flat_map_more f ys x) ∙ sym (append_assoc (f y) (flat_map f ys) (f x))
-
--- the lines of all but those that are left were added
-pub record HasListed (X : Type 0) (line : X → List ℕ) (all left : List X) (p : Inked) (before : Stream) (q : Inked) (now : Stream) : Type 0 where
-  pub seen : List X
-  pub split : seen ++ left ≡ all
-  pub added : Adds p before q now (flat_map line seen)
-
-pub lists_none : {X : Type 0} (line : X → List ℕ) (all : List X) (p : Inked) (now : Stream) → HasListed X line all all p now p now
-lists_none line all p now = record { seen = []; split = refl; added = adds_none p now }
-
-pub lists_more : {X : Type 0} (line : X → List ℕ) (all left : List X) (x : X) (p q r : Inked) (a b c : Stream)
-    → HasListed X line all (x ∷ left) p a q b → Adds q b r c (line x) → HasListed X line all left p a r c
-lists_more line all left x p q r a b c so more = record {
-  seen = so.seen ++ x ∷ [];
-  split = append_assoc so.seen (x ∷ []) left ∙ so.split;
-  added = subst (λ t. Adds p a r c t) (sym (flat_map_more line so.seen x)) (adds_trans p q r a b c (flat_map line so.seen) (line x) so.added more);
-}
-
-pub lists_all : {X : Type 0} (line : X → List ℕ) (all left : List X) (p q : Inked) (a b : Stream)
-    → left ≡ [] → HasListed X line all left p a q b → Adds p a q b (flat_map line all)
-lists_all line all left p q a b none so =
-    subst (λ xs. Adds p a q b (flat_map line xs)) (sym (append-nil so.seen) ∙ ap (λ l. so.seen ++ l) (sym none) ∙ so.split) so.added
-
--- the same by the index of what is added next
+-- one element more, and all of them
 pub lists_at : {X : Type 0} (line : X → List ℕ) (all : List X) (i : ℕ) (p q r : Inked) (a b c : Stream)
     → i < length all → HasListed X line all (drop i all) p a q b → Adds q b r c (option_map_or line (slice_get all i) [])
     → HasListed X line all (drop (i + 1) all) p a r c
