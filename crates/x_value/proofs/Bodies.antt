@@ -3,8 +3,8 @@ use Rattle.std.proofs.Common.{◌≡◌, ℕ, ◌+◌, ◌-◌, ◌*◌, ◌/◌
 use Rattle.std.specs.Prelude.{if◌then◌else◌, Option, Some, None}
 use Rattle.std.proofs.lemmas.List.{append-nil, length-append, take-append-drop, length-take, length-drop}
 use Rattle.std.proofs.Math.Seq.{drop-append_seam}
-use Rattle.x_sema.specs.Schema.{Schema}
-use Rattle.x_sema.specs.Sound.{IsSound}
+use Rattle.x_schema.specs.Schema.{Schema}
+use Rattle.x_schema.specs.Sound.{IsSound}
 use Rattle.x_value.specs.declared.fault.ReadCode.{ReadCode}
 use Rattle.x_value.specs.declared.fault.ReadCode.TheVariants as codes
 use Rattle.x_value.specs.Shown.{Leaf, Node}

@@ -3,13 +3,13 @@ use Rattle.std.proofs.Common.{◌≡◌, ℕ, ◌+◌, ◌-◌, ◌*◌, ◌<◌
 use Rattle.std.specs.Prelude.{Bool, true, false, if◌then◌else◌, nat_lt, nat_eq, is_some, Option, Some, None, drop}
 use Rattle.std.specs.Int.{from_be_bytes, w32}
 use Rattle.std.proofs.lemmas.List.{append-nil, length-append}
-use Rattle.x_sema.specs.declared.schema.form.Arm.{Arm}
-use Rattle.x_sema.specs.declared.schema.form.Form.{Form}
-use Rattle.x_sema.specs.declared.schema.form.Form.TheVariants as forms
-use Rattle.x_sema.specs.declared.schema.TypeId.{TypeId}
-use Rattle.x_sema.specs.Choices.{arm_for, name_for}
-use Rattle.x_sema.specs.Schema.{Schema, form_at}
-use Rattle.x_sema.specs.Sound.{is_legal}
+use Rattle.x_schema.specs.declared.form.Arm.{Arm}
+use Rattle.x_schema.specs.declared.form.Form.{Form}
+use Rattle.x_schema.specs.declared.form.Form.TheVariants as forms
+use Rattle.x_schema.specs.declared.schema.TypeId.{TypeId}
+use Rattle.x_schema.specs.Choices.{arm_for, name_for}
+use Rattle.x_schema.specs.Schema.{Schema, form_at}
+use Rattle.x_schema.specs.Sound.{is_legal}
 use Rattle.x_value.specs.declared.fault.ReadCode.{ReadCode}
 use Rattle.x_value.specs.declared.fault.ReadCode.TheVariants as codes
 use Rattle.x_value.specs.Shown.{Node}

@@ -3,14 +3,14 @@ use Rattle.std.proofs.Common.{◌≡◌, ℕ, zero, suc, ◌+◌, ◌-◌, ◌^�
 use Rattle.std.specs.Prelude.{Option, Some, None, Vec}
 use Rattle.std.proofs.lemmas.List.{length-append}
 use Rattle.std.proofs.Math.Seq.{drop-append_seam}
-use Rattle.x_sema.specs.declared.schema.form.Arm.{Arm}
-use Rattle.x_sema.specs.declared.schema.form.Arm.TheVariants as arms
-use Rattle.x_sema.specs.declared.schema.form.Field.{Field}
-use Rattle.x_sema.specs.declared.schema.form.Form.{Form}
-use Rattle.x_sema.specs.declared.schema.form.Form.TheVariants as forms
-use Rattle.x_sema.specs.Choices.{Choice, arm_for}
-use Rattle.x_sema.specs.Schema.{Schema, form_at, target_at}
-use Rattle.x_sema.specs.Sound.{IsSound, IsSoundForm, IsSoundUnion, IsSoundArm}
+use Rattle.x_schema.specs.declared.form.Arm.{Arm}
+use Rattle.x_schema.specs.declared.form.Arm.TheVariants as arms
+use Rattle.x_schema.specs.declared.form.Field.{Field}
+use Rattle.x_schema.specs.declared.form.Form.{Form}
+use Rattle.x_schema.specs.declared.form.Form.TheVariants as forms
+use Rattle.x_schema.specs.Choices.{Choice, arm_for}
+use Rattle.x_schema.specs.Schema.{Schema, form_at, target_at}
+use Rattle.x_schema.specs.Sound.{IsSound, IsSoundForm, IsSoundUnion, IsSoundArm}
 use Rattle.x_value.specs.declared.entry.Entry.{Entry}
 use Rattle.x_value.specs.declared.entry.Kept.{Kept}
 use Rattle.x_value.specs.declared.entry.Kept.TheVariants as kepts

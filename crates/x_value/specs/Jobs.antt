@@ -1,7 +1,7 @@
 -- What is still to be read, and what the reader's steps answer.
 use Rattle.std.specs.Prelude.{◌≡◌, ℕ, ◌+◌, ◌*◌, ◌<◌, ◌≤◌, List, [], ◌∷◌, ◌++◌, ◌-◌, ◌%◌, ◌^◌, length, false, Some, None}
-use Rattle.x_sema.specs.Schema.{Schema}
-use Rattle.x_sema.specs.Sound.{AreSoundEnumerators, AreSoundFields, IsSoundUnion}
+use Rattle.x_schema.specs.Schema.{Schema}
+use Rattle.x_schema.specs.Sound.{AreSoundEnumerators, AreSoundFields, IsSoundUnion}
 use Rattle.x_value.specs.declared.fault.ReadCode.{ReadCode}
 use Rattle.x_value.specs.declared.fault.ReadCode.TheVariants as codes
 use Rattle.x_value.specs.Shown.{Node}

@@ -3,7 +3,7 @@ use Rattle.std.specs.Prelude.{◌≡◌, ℕ, zero, suc, ◌^◌, ◌<◌, List,
 use Rattle.std.specs.List.{list_all}
 use Rattle.std.specs.Prelude.{Bool}
 use Rattle.std.specs.Int.{from_be_bytes, w32}
-use Rattle.x_sema.specs.Schema.{Schema}
+use Rattle.x_schema.specs.Schema.{Schema}
 use Rattle.x_value.specs.declared.fault.ReadCode.{ReadCode}
 use Rattle.x_value.specs.declared.fault.ReadCode.TheVariants as codes
 use Rattle.x_value.specs.Shown.{Node}

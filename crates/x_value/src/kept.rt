@@ -1,15 +1,15 @@
 //! What stands at the nodes of a value (RFC 4506, section 4).
 ghost use Rattle.std.specs.Prelude.{◌≡◌, ◌<◌, ◌≤◌, ℕ, List, length, IsTrue, is_some};
 ghost use Rattle.std.specs.Int.{from_be_bytes, w32, w64};
-ghost use Rattle.x_sema.specs.Choices.{name_for};
-ghost use Rattle.x_sema.specs.Schema.{Schema};
-ghost use Rattle.x_sema.specs.Sound.{AreSoundEnumerators, is_legal};
+ghost use Rattle.x_schema.specs.Choices.{name_for};
+ghost use Rattle.x_schema.specs.Schema.{Schema};
+ghost use Rattle.x_schema.specs.Sound.{AreSoundEnumerators, is_legal};
 ghost use Rattle.x_value.specs.Layouts.{body_leaf, number_size, enumerator, discriminant_leaf};
 ghost use Rattle.x_value.specs.Entries.{leaf_of, body_at, IsKept};
 ghost use Rattle.x_value.specs.Work.{IsNamedForm};
 
 use crate::entry::Kept;
-use x_sema::{Enumerators, Form};
+use x_schema::{Enumerators, Form};
 
 fn word_of(bytes: &[u8]) -> u32
     requires { 4 ≤ length bytes.now }
