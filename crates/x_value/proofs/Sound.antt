@@ -12,7 +12,8 @@ use Rattle.x_schema.specs.Schema.{Schema, form_at}
 use Rattle.x_schema.specs.Sound.{is_legal, AreSoundFields, IsSoundArm, IsSoundForm, IsSound}
 use Rattle.x_value.specs.declared.fault.ReadCode.{ReadCode}
 use Rattle.x_value.specs.declared.fault.ReadCode.TheVariants as codes
-use Rattle.x_value.specs.Values.{Value, Values, body, group, headed, end, more, copies}
+use Rattle.x_value.specs.Values.{Value, Values, body, group, headed, end, more}
+use Rattle.x_units.specs.Units.{copies}
 use Rattle.x_value.specs.Layouts.{Layout, Fixed, Fields, Elements, Flag, Named, Sized, Counted, Optional, Chosen, Place, Job, layout_of, layout_at, field_job, field_jobs, element_jobs, arm_jobs, job, arm_fault, illegal_code}
 use Rattle.x_value.specs.Shown.{Index}
 use Rattle.x_value.specs.Readings.{Fits, Suits}

@@ -20,7 +20,7 @@ use Rattle.x_value.specs.declared.task.Spot.{Spot}
 use Rattle.x_value.specs.declared.task.Task.{Task}
 use Rattle.x_value.specs.declared.task.Task.TheVariants.{Fields, Elements}
 use Rattle.x_value.specs.Shown.{Leaf, Node, Hex, Text}
-use Rattle.x_value.specs.Values.{word, padding, copies}
+use Rattle.x_units.specs.Units.{word, padding, copies}
 use Rattle.x_value.specs.Layouts.{field_jobs, element_jobs, Layout, Fixed, Sized, Place, Job, placed, layout_of, layout_at, behind, members, head_nodes, group_nodes, body_nodes, body_leaf, fixed_size, at_place, signed_word, unsigned_word, signed_words, unsigned_words, nothing}
 use Rattle.x_value.specs.Readings.{IsByteList, IsHeaded, IsGroup}
 use Rattle.x_value.specs.Entries.{node_of, nodes_of, leaf_of, body_at, IsCalled, IsKept, AreNamed}

@@ -8,8 +8,8 @@ ghost use Rattle.x_value.specs.Shown.{Leaf};
 ghost use Rattle.x_value.specs.Jobs.{HeadFault, HeadTaken};
 
 use crate::fault::{ReadCode, ReadFault};
-use crate::words::word_at;
 use x_schema::{Arms, Field, Form, FormIndex, Schema};
+use x_units::split_word;
 
 /// The most links that may be open at once.
 pub const MOST_LINKS: u32 = 65_536;
@@ -139,7 +139,7 @@ pub(crate) fn head<'a>(
     ensures ok { IfOk result (λ r. HeadTaken schema.now (layout_at schema.now form) links bytes.now r.0 r.1.now) }
     ensures err { IfErr result (λ e. HeadFault schema.now (layout_at schema.now form) links bytes.now e.at e.code) }
 {
-    let Some((word, rest)) = word_at(bytes) else {
+    let Some((word, rest)) = split_word(bytes) else {
         return Err(ReadFault {
             at: bytes.len(),
             code: ReadCode::Short,

@@ -9,22 +9,23 @@ ghost use Rattle.x_value.specs.Entries.{leaf_of, body_at, IsKept};
 ghost use Rattle.x_value.specs.Work.{IsNamedForm};
 
 use crate::entry::Kept;
+use byteorder::{BigEndian, ByteOrder};
 use x_schema::{Enumerators, Form};
 
+#[tactic(auto, using(x_units::proofs::UnitLemmas::big_number_4))]
 fn word_of(bytes: &[u8]) -> u32
     requires { 4 ≤ length bytes.now }
     ensures { result ≡ from_be_bytes w32 bytes.now }
 {
-    u32::from_be_bytes([bytes[0], bytes[1], bytes[2], bytes[3]])
+    BigEndian::read_u32(bytes)
 }
 
+#[tactic(auto, using(x_units::proofs::UnitLemmas::big_number_8))]
 fn words_of(bytes: &[u8]) -> u64
     requires { 8 ≤ length bytes.now }
     ensures { result ≡ from_be_bytes w64 bytes.now }
 {
-    u64::from_be_bytes([
-        bytes[0], bytes[1], bytes[2], bytes[3], bytes[4], bytes[5], bytes[6], bytes[7],
-    ])
+    BigEndian::read_u64(bytes)
 }
 
 /// What a body of the form is shown as, where it stands at a place of the message.
