@@ -1,7 +1,7 @@
-use Rattle.std.proofs.Common.{◌∙◌, [], ◌∷◌, ◌++◌, rules, refl, ap, ap₂, codes}
+use Rattle.std.proofs.Common.{◌∙◌, rules, refl, ap, ap₂, codes}
 use Rattle.std.proofs.lemmas.Result.{IfOk-weaker}
 use Rattle.clap.specs.Words.{Rule, Text, with_rule}
-use Rattle.rpcx.specs.Args.{edit_app, request_ids}
+use Rattle.rpcx.specs.Args.{edit_app}
 use Rattle.rpcx.proofs.Commands.{chain_on, last_has}
 use Rattle.rpcx.proofs.program.editing_args.edit_command.Goals as goal
 

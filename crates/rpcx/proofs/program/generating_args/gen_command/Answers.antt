@@ -1,7 +1,7 @@
-use Rattle.std.proofs.Common.{◌∙◌, [], ◌∷◌, ◌++◌, rules, refl, ap, ap₂, codes}
+use Rattle.std.proofs.Common.{◌∙◌, rules, refl, ap, ap₂, codes}
 use Rattle.std.proofs.lemmas.Result.{IfOk-weaker}
 use Rattle.clap.specs.Words.{Rule, Text, with_rule}
-use Rattle.rpcx.specs.Args.{gen_app, request_ids}
+use Rattle.rpcx.specs.Args.{gen_app}
 use Rattle.rpcx.proofs.Commands.{chain_on, last_has}
 use Rattle.rpcx.proofs.program.generating_args.gen_command.Goals as goal
 
@@ -18,11 +18,11 @@ returns-clause-app c =
 pub returns-clause-file : goal.returns-clause-file
 returns-clause-file c =
     let id : Rule → Text = λ r. r.id in
-    let one = chain_on request_ids _ _ c.flag.result (codes "routines") c.in_ok-plain_command.ensures.chain c.in_ok-arg.ensures c.flag.ensures.fits (ap id c.flag.ensures.rule) in
-    let two = chain_on (request_ids ++ codes "routines" ∷ []) _ _ c.flag-2.result (codes "header") one c.in_ok-arg-2.ensures c.flag-2.ensures.fits (ap id c.flag-2.ensures.rule) in
-    let three = chain_on ((request_ids ++ codes "routines" ∷ []) ++ codes "header" ∷ []) _ _ c.flag-3.result (codes "stubs") two c.in_ok-arg-3.ensures c.flag-3.ensures.fits (ap id c.flag-3.ensures.rule) in
-    let four = chain_on (((request_ids ++ codes "routines" ∷ []) ++ codes "header" ∷ []) ++ codes "stubs" ∷ []) _ _ c.flag-4.result (codes "table") three c.in_ok-arg-4.ensures c.flag-4.ensures.fits (ap id c.flag-4.ensures.rule) in
-    let five = chain_on ((((request_ids ++ codes "routines" ∷ []) ++ codes "header" ∷ []) ++ codes "stubs" ∷ []) ++ codes "table" ∷ []) _ _ c.valued.result (codes "output") four c.in_ok-arg-5.ensures c.valued.ensures.fits (ap id c.valued.ensures.rule) in
+    let one = chain_on _ _ _ c.flag.result (codes "routines") c.in_ok-plain_command.ensures.chain c.in_ok-arg.ensures c.flag.ensures.fits (ap id c.flag.ensures.rule) in
+    let two = chain_on _ _ _ c.flag-2.result (codes "header") one c.in_ok-arg-2.ensures c.flag-2.ensures.fits (ap id c.flag-2.ensures.rule) in
+    let three = chain_on _ _ _ c.flag-3.result (codes "stubs") two c.in_ok-arg-3.ensures c.flag-3.ensures.fits (ap id c.flag-3.ensures.rule) in
+    let four = chain_on _ _ _ c.flag-4.result (codes "table") three c.in_ok-arg-4.ensures c.flag-4.ensures.fits (ap id c.flag-4.ensures.rule) in
+    let five = chain_on _ _ _ c.valued.result (codes "output") four c.in_ok-arg-5.ensures c.valued.ensures.fits (ap id c.valued.ensures.rule) in
     IfOk-weaker c.arg-6.result _ _
     (λ r h. last_has _ _ r c.file.result (codes "file") five h c.file.ensures.fits c.file.ensures.value (ap id c.file.ensures.rule) refl)
     c.arg-6.ensures
