@@ -5,11 +5,11 @@ use Rattle.std.specs.Io.KnownBytes.{Consumes, IsAtEnd, Keeps}
 use Rattle.std.proofs.Math.Nat.{lt_of_not-le}
 use Rattle.x_text.specs.Streams.{Stream}
 use Rattle.x_text.specs.declared.source.TheConstants.{MAX_TEXT}
-use Rattle.x_sema.specs.Schema.{Schema}
+use Rattle.x_schema.specs.Schema.{Schema}
 use Rattle.x_session.specs.Session.{Compiles}
 use Rattle.x_session.specs.Compile.{faults_of}
 use Rattle.x_session.specs.Typed.{GivesSchema}
-use Rattle.x_session.specs.declared.script.Outcome.{Outcome}
+use Rattle.x_text.specs.declared.outcome.Outcome.{Outcome}
 use Rattle.x_session.specs.declared.session.Session.{Session}
 use Rattle.rpcx.proofs.Grown.{stays}
 use Rattle.rpcx.specs.Dumping.{course, HasTypes, IsFaultless, IsRead, Opens, ReadsAll, ReadsOn, Shows, ShowsFile, StopsAt}

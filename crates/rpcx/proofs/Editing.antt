@@ -4,9 +4,10 @@ use Rattle.std.specs.Prelude.{MatchOption}
 use Rattle.x_text.specs.Streams.{Stream}
 use Rattle.x_session.specs.Session.{Document}
 use Rattle.x_session.specs.Lines.{script_lines}
-use Rattle.x_session.specs.Script.{HasRun, Runs, is_refused}
-use Rattle.x_session.specs.declared.script.Outcome.{Outcome}
-use Rattle.x_session.specs.declared.script.EngineFault.{EngineFault}
+use Rattle.x_session.specs.Script.{HasRun, Runs}
+use Rattle.x_text.specs.Engines.{is_refused}
+use Rattle.x_text.specs.declared.outcome.Outcome.{Outcome}
+use Rattle.x_text.specs.declared.outcome.EngineFault.{EngineFault}
 use Rattle.rpcx.specs.Editing.{Answers, EndsEarly, IsUntouched, status_of}
 use Rattle.rpcx.specs.declared.program.status.Status.{Status}
 

@@ -8,9 +8,9 @@ use Rattle.x_text.specs.declared.fault.TextFault.TheVariants as faults
 use Rattle.x_text.specs.declared.source.TheConstants.{MAX_TEXT}
 use Rattle.rpcx.specs.Generate.{IsTold, unopened_told, NotOpened, TooLarge, NoRoom, NotRun, TextTooLarge, Stopped, stop_told, Stops, Unread, Unwritten, OutOfMemory}
 use Rattle.x_session.specs.declared.session.Session.{Session}
-use Rattle.x_session.specs.Script.{NamesCause}
-use Rattle.x_session.specs.declared.script.EngineFault.{EngineFault}
-use Rattle.x_session.specs.declared.script.EngineFault.TheVariants.{Read, Write, NoMemory}
+use Rattle.x_text.specs.Engines.{NamesCause}
+use Rattle.x_text.specs.declared.outcome.EngineFault.{EngineFault}
+use Rattle.x_text.specs.declared.outcome.EngineFault.TheVariants.{Read, Write, NoMemory}
 
 -- the fault that a run answers names what has failed
 pub stops_by : (program file : List ℕ) (fault : EngineFault) (before after : Stream) (tap tap' sink sink' : Bool) → NamesCause (Err fault) tap tap' sink sink'

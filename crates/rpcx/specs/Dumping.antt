@@ -3,17 +3,17 @@ use Rattle.std.specs.Prelude.{◌≡◌, ◌≢◌, ◌⊎◌, ◌<◌, ◌≤�
 use Rattle.std.specs.Io.KnownBytes.{Consumes, IsAtEnd}
 use Rattle.x_text.specs.Streams.{Stream}
 use Rattle.x_text.specs.declared.source.TheConstants.{MAX_TEXT}
-use Rattle.x_sema.specs.Schema.{Schema, id_named}
-use Rattle.x_sema.specs.Schemas.{IsSchemaOf}
-use Rattle.x_sema.specs.declared.schema.TypeId.{TypeId}
+use Rattle.x_schema.specs.Schema.{Schema, id_named}
+use Rattle.x_schema.specs.Schemas.{IsSchemaOf}
+use Rattle.x_schema.specs.declared.schema.TypeId.{TypeId}
 use Rattle.x_session.specs.Session.{Compiles}
 use Rattle.x_session.specs.Compile.{definitions_of, faults_of}
-use Rattle.x_session.specs.Script.{NamesCause}
-use Rattle.x_session.specs.ValueTexts.{WritesValue}
+use Rattle.x_text.specs.Engines.{NamesCause}
+use Rattle.x_value.specs.ValueTexts.{WritesValue}
 use Rattle.x_session.specs.declared.compile.fault.Fault.{Fault}
-use Rattle.x_session.specs.declared.script.Outcome.{Outcome}
-use Rattle.x_session.specs.declared.script.Outcome.TheVariants.{Clean, Refused}
-use Rattle.x_session.specs.declared.script.EngineFault.{EngineFault}
+use Rattle.x_text.specs.declared.outcome.Outcome.{Outcome}
+use Rattle.x_text.specs.declared.outcome.Outcome.TheVariants.{Clean, Refused}
+use Rattle.x_text.specs.declared.outcome.EngineFault.{EngineFault}
 use Rattle.x_wire.specs.StreamTexts.{DumpsMessage, DumpsStream}
 use Rattle.x_wire.specs.declared.nfs2.TheConstants.{NFS2_X}
 use Rattle.rpcx.specs.Generate.{IsTold, NotOpened, stop_told, told_faults}

@@ -4,7 +4,7 @@ use Rattle.x_text.specs.Streams.{Stream}
 use Rattle.x_session.specs.Session.{Document, IsOpenOf}
 use Rattle.x_session.specs.Lines.{script_lines}
 use Rattle.x_session.specs.Script.{HasRun, Runs}
-use Rattle.x_session.specs.declared.script.EngineFault.{EngineFault}
+use Rattle.x_text.specs.declared.outcome.EngineFault.{EngineFault}
 use Rattle.rpcx.specs.declared.program.status.Status.{Status}
 use Rattle.rpcx.specs.declared.program.status.Status.TheVariants.{Done, Faulty}
 

@@ -2,13 +2,13 @@
 //! nothing.
 #![tactic(auto)]
 
-ghost use Rattle.x_sema.specs.Schema.{IsTypeId};
+ghost use Rattle.x_schema.specs.Schema.{IsTypeId};
 
 use std::io::Read;
 use std::process::ExitCode;
 use std::time::Instant;
 use std::{env, fs, io};
-use x_sema::{Schema, TypeId};
+use x_schema::{Schema, TypeId};
 use x_session::Session;
 use x_value::dump;
 

@@ -1,7 +1,5 @@
-pub mod Adding
 pub mod HeaderLemmas
 pub mod LengthLemmas
-pub mod Listing
 pub mod PartLemmas
 pub mod PartingLemmas
 pub mod PieceListLemmas

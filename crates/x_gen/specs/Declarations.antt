@@ -1,20 +1,10 @@
 -- How C declares what a declaration declares, and how its XDR routine calls those of its parts: this project's profile of what rpcgen(1)
 -- writes. `around` is the name of the type that a declaration stands in, and for a `typedef` the name that it declares itself.
-use Rattle.std.specs.Prelude.{ℕ, Bool, true, false, List, [], ◌++◌, codes}
+use Rattle.std.specs.Prelude.{ℕ, List, [], ◌++◌, codes}
 use Rattle.x_item.specs.Tree.{Declaration, Void, Of, Opaque, String, Length, Fixed, Variable, Shape, Plain, Optional, Array}
+use Rattle.x_item.specs.Declarations.{name_of}
 use Rattle.x_item.specs.Gloss.{lifted_name}
 use Rattle.x_gen.specs.CTypes.{CType, c_type, spelled, most}
-
--- the name that is declared: `void` declares none
-abbrev pub name_of : Declaration → List ℕ
-name_of Void = []
-name_of (Of type x shape) = x
-name_of (Opaque x length) = x
-name_of (String x most) = x
-
-abbrev pub is_void : Declaration → Bool
-is_void Void = true
-is_void d = false
 
 -- elements of a type: so many, or at most so many
 abbrev pub declared_array : List ℕ → List ℕ → Length → List ℕ

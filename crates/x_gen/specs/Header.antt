@@ -1,13 +1,13 @@
 -- The pieces of the header: this project's profile of what rpcgen(1) writes. A union is a struct in C.
-use Rattle.std.specs.Prelude.{ℕ, suc, Bool, true, false, List, [], ◌∷◌, ◌++◌, codes, Option, Some, None, if◌then◌else◌}
+use Rattle.std.specs.Prelude.{ℕ, Bool, true, false, List, [], ◌∷◌, ◌++◌, codes, Option, Some, None, if◌then◌else◌}
 use Rattle.std.specs.List.{flat_map}
-use Rattle.std.specs.Fmt.{decimal}
-use Rattle.x_item.specs.Tree.{Value, Enumerator, Body, Enum, Struct, Union, Declaration, Void, Argument, Procedure, Version}
+use Rattle.x_item.specs.Tree.{Value, Enumerator, Body, Enum, Struct, Union, Declaration, Void, Procedure, Version}
 use Rattle.x_item.specs.Tree.{Declarations, none, more, Arms, no_arm, arm, Default, no_default, default}
-use Rattle.x_gen.specs.CTypes.{CType, spelled, passed_type}
-use Rattle.x_gen.specs.Declarations.{name_of, is_void, c_declaration}
+use Rattle.x_gen.specs.CTypes.{CType, spelled}
+use Rattle.x_item.specs.Declarations.{name_of, is_void}
+use Rattle.x_gen.specs.Declarations.{c_declaration}
 use Rattle.x_gen.specs.InlineTypes.{NamedBody}
-use Rattle.x_gen.specs.Procedures.{function_name, are_several, group_name, argument_in, result_type}
+use Rattle.x_gen.specs.Procedures.{are_several, argument_in, argument_pieces, by_names, result_type}
 
 -- the line that names a type before it is declared: an enum needs none
 abbrev pub forward_of_body : List ℕ → Body → List ℕ
@@ -84,20 +84,15 @@ abbrev pub typedef_header : Declaration → List ℕ
 typedef_header Void = []
 typedef_header d = codes "typedef " ++ c_declaration (name_of d) d ++ codes ";\n" ++ routine_line (name_of d) ++ codes "\n"
 
--- the field of an argument
-abbrev pub argument_line : ℕ → CType → List ℕ
-argument_line number c = codes "    " ++ c.name ++ codes " arg" ++ decimal number ++ codes ";\n"
-
--- those of arguments of which the first has this number
-abbrev pub argument_lines : ℕ → List Argument → List ℕ
-argument_lines number [] = []
-argument_lines number (a ∷ rest) = argument_line number (passed_type (Some a)) ++ argument_lines (suc number) rest
+-- the field of an argument of this number
+abbrev pub argument_line : List ℕ → CType → List ℕ
+argument_line number c = codes "    " ++ c.name ++ codes " arg" ++ number ++ codes ";\n"
 
 -- the struct of several arguments
 abbrev pub group_struct : List ℕ → Procedure → List ℕ
 group_struct group p =
     (codes "struct " ++ group ++ codes " {\n")
-    ++ argument_line 1 (passed_type p.first) ++ argument_lines 2 p.others
+    ++ argument_pieces argument_line p
     ++ (codes "};\ntypedef struct " ++ group ++ codes " " ++ group ++ codes ";\n")
     ++ routine_line group
 
@@ -110,12 +105,12 @@ function_lines function group p =
     codes "extern " ++ (result_type p).name ++ codes " *" ++ function ++ codes "(" ++ (argument_in group p).name ++ codes " *, CLIENT *);\n"
     ++ codes "extern " ++ (result_type p).name ++ codes " *" ++ function ++ codes "_svc(" ++ (argument_in group p).name ++ codes " *, struct svc_req *);\n"
 
-abbrev pub procedure_lines : Version → Procedure → List ℕ
-procedure_lines v p =
-    group_lines (group_name v p) p ++ constant_line p.name p.number ++ function_lines (function_name v p) (group_name v p) p
+-- those of a procedure whose function and struct of arguments have these names
+abbrev pub procedure_lines : List ℕ → List ℕ → Procedure → List ℕ
+procedure_lines function group p = group_lines group p ++ constant_line p.name p.number ++ function_lines function group p
 
 abbrev pub version_lines : Version → List ℕ
-version_lines v = constant_line v.name v.number ++ flat_map (procedure_lines v) v.procedures
+version_lines v = constant_line v.name v.number ++ flat_map (by_names procedure_lines v) v.procedures
 
 -- the piece of a program
 abbrev pub program_header : List ℕ → List Version → List ℕ → List ℕ

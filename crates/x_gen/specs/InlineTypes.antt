@@ -5,7 +5,7 @@ use Rattle.x_item.specs.Tree.{DataType, Simple, Name, Tagged, Inline, Body, Enum
 use Rattle.x_item.specs.Tree.{Declarations, none, more, Arms, no_arm, arm, Default, no_default, default}
 use Rattle.x_item.specs.Tree.{Definition, Const, Typedef, NewType, Program}
 use Rattle.x_item.specs.Gloss.{lifted_name}
-use Rattle.x_gen.specs.Declarations.{name_of}
+use Rattle.x_item.specs.Declarations.{name_of}
 
 pub record NamedBody : Type 0 where
   pub name : List ℕ

@@ -1,8 +1,9 @@
 -- The procedures of a program as C has them.
-use Rattle.std.specs.Prelude.{ℕ, ◌+◌, Bool, true, false, List, [], ◌∷◌, ◌++◌, map, codes, Option, Some, None, if◌then◌else◌}
-use Rattle.std.specs.Fmt.{signed_decimal}
+use Rattle.std.specs.Prelude.{ℕ, suc, ◌+◌, Bool, true, false, List, [], ◌∷◌, ◌++◌, map, codes, Option, Some, None, if◌then◌else◌}
+use Rattle.std.specs.List.{flat_map}
+use Rattle.std.specs.Fmt.{decimal, signed_decimal}
 use Rattle.x_item.specs.Tree.{Version, Procedure, Argument}
-use Rattle.x_sema.specs.Numbers.{in_range, value}
+use Rattle.x_schema.specs.Numbers.{in_range, value}
 use Rattle.x_gen.specs.CTypes.{CType, own, passed_type}
 use Rattle.x_gen.specs.Texts.{is_upper}
 
@@ -34,9 +35,6 @@ group_name v p = function_name v p ++ codes "_argument"
 abbrev pub argument_in : List ℕ → Procedure → CType
 argument_in group p = if are_several p.others then own group else passed_type p.first
 
-abbrev pub argument_type : Version → Procedure → CType
-argument_type v p = argument_in (group_name v p) p
-
 abbrev pub result_type : Procedure → CType
 result_type p = passed_type p.result
 
@@ -47,3 +45,20 @@ sized c = codes "sizeof (" ++ c.name ++ codes ")"
 abbrev pub size_of : Option Argument → List ℕ
 size_of None = codes "0"
 size_of (Some a) = sized (passed_type (Some a))
+
+-- what is generated of a procedure by the names of its function and of the struct of several arguments
+abbrev pub by_names : (List ℕ → List ℕ → Procedure → List ℕ) → Version → Procedure → List ℕ
+by_names piece v p = piece (function_name v p) (group_name v p) p
+
+-- what is generated of the procedures of each version
+abbrev pub version_pieces : (List ℕ → List ℕ → Procedure → List ℕ) → List Version → List ℕ
+version_pieces piece versions = flat_map (λ v. flat_map (by_names piece v) v.procedures) versions
+
+-- what is generated of arguments by their numbers, of which the first is this
+abbrev pub numbered : (List ℕ → CType → List ℕ) → ℕ → List Argument → List ℕ
+numbered piece number [] = []
+numbered piece number (a ∷ rest) = piece (decimal number) (passed_type (Some a)) ++ numbered piece (suc number) rest
+
+-- of the arguments of a procedure that has several
+abbrev pub argument_pieces : (List ℕ → CType → List ℕ) → Procedure → List ℕ
+argument_pieces piece p = piece (decimal 1) (passed_type p.first) ++ numbered piece 2 p.others

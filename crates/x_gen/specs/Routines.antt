@@ -1,13 +1,13 @@
 -- The pieces of the XDR routines: this project's profile of what rpcgen(1) writes.
-use Rattle.std.specs.Prelude.{ℕ, suc, List, [], ◌∷◌, ◌++◌, codes, Some, if◌then◌else◌}
+use Rattle.std.specs.Prelude.{ℕ, List, [], ◌∷◌, ◌++◌, codes, if◌then◌else◌}
 use Rattle.std.specs.List.{flat_map}
-use Rattle.std.specs.Fmt.{decimal}
-use Rattle.x_item.specs.Tree.{Value, Body, Enum, Struct, Union, Declaration, Void, Argument, Procedure, Version}
+use Rattle.x_item.specs.Tree.{Value, Body, Enum, Struct, Union, Declaration, Void, Procedure, Version}
 use Rattle.x_item.specs.Tree.{Declarations, none, more, Arms, no_arm, arm, Default, no_default, default}
-use Rattle.x_gen.specs.CTypes.{CType, spelled, passed_type}
-use Rattle.x_gen.specs.Declarations.{Place, InStruct, InUnion, Alone, name_of, call}
+use Rattle.x_gen.specs.CTypes.{CType, spelled}
+use Rattle.x_item.specs.Declarations.{name_of}
+use Rattle.x_gen.specs.Declarations.{Place, InStruct, InUnion, Alone, call}
 use Rattle.x_gen.specs.InlineTypes.{NamedBody}
-use Rattle.x_gen.specs.Procedures.{are_several, group_name}
+use Rattle.x_gen.specs.Procedures.{are_several, argument_pieces, version_pieces}
 
 -- what a routine begins with
 abbrev pub routine_front : List ℕ → List ℕ
@@ -59,24 +59,19 @@ abbrev pub typedef_routine : Declaration → List ℕ
 typedef_routine Void = []
 typedef_routine d = routine_front (name_of d) ++ checked_call (codes "    ") (name_of d) Alone d ++ routine_end
 
--- the call for an argument
-abbrev pub argument_call : ℕ → CType → List ℕ
+-- the call for an argument of this number
+abbrev pub argument_call : List ℕ → CType → List ℕ
 argument_call number c =
-    codes "    if (!xdr_" ++ c.routine ++ codes "(xdrs, &objp->arg" ++ decimal number ++ codes "))\n        return (FALSE);\n"
-
--- those for arguments of which the first has this number
-abbrev pub argument_calls : ℕ → List Argument → List ℕ
-argument_calls number [] = []
-argument_calls number (a ∷ rest) = argument_call number (passed_type (Some a)) ++ argument_calls (suc number) rest
+    codes "    if (!xdr_" ++ c.routine ++ codes "(xdrs, &objp->arg" ++ number ++ codes "))\n        return (FALSE);\n"
 
 -- the routine of the struct of several arguments
 abbrev pub struct_routine : List ℕ → Procedure → List ℕ
-struct_routine group p =
-    routine_front group ++ argument_call 1 (passed_type p.first) ++ argument_calls 2 p.others ++ routine_end
+struct_routine group p = routine_front group ++ argument_pieces argument_call p ++ routine_end
 
-abbrev pub group_routine : Version → Procedure → List ℕ
-group_routine v p = if are_several p.others then struct_routine (group_name v p) p else []
+-- that of a procedure whose struct of arguments has this name
+abbrev pub group_routine : List ℕ → List ℕ → Procedure → List ℕ
+group_routine function group p = if are_several p.others then struct_routine group p else []
 
 -- the routines of a program
 abbrev pub program_routines : List Version → List ℕ
-program_routines versions = flat_map (λ v. flat_map (group_routine v) v.procedures) versions
+program_routines versions = version_pieces group_routine versions

@@ -1,9 +1,8 @@
 -- The pieces of the client's stubs: this project's profile of what rpcgen(1) writes.
 use Rattle.std.specs.Prelude.{ℕ, List, ◌++◌, codes, Option, Some, None}
-use Rattle.std.specs.List.{flat_map}
 use Rattle.x_item.specs.Tree.{Argument, Procedure, Version}
 use Rattle.x_gen.specs.CTypes.{CType, passed_type}
-use Rattle.x_gen.specs.Procedures.{function_name, argument_type, result_type}
+use Rattle.x_gen.specs.Procedures.{argument_in, result_type, version_pieces}
 
 -- the type of what the stub keeps of the result: `void` is kept as a byte
 abbrev pub kept_type : Option Argument → List ℕ
@@ -38,10 +37,11 @@ stub_call name argument result =
 abbrev pub stub_end : Option Argument → List ℕ
 stub_end result = codes "    return (" ++ kept_place result ++ codes ");\n}\n\n"
 
-abbrev pub stub : Version → Procedure → List ℕ
-stub v p =
-    stub_head (function_name v p) (argument_type v p) (result_type p) ++ stub_kept p.result
-    ++ stub_call p.name (argument_type v p) (result_type p) ++ stub_end p.result
+-- the stub of a procedure whose function and struct of arguments have these names
+abbrev pub stub : List ℕ → List ℕ → Procedure → List ℕ
+stub function group p =
+    stub_head function (argument_in group p) (result_type p) ++ stub_kept p.result
+    ++ stub_call p.name (argument_in group p) (result_type p) ++ stub_end p.result
 
 abbrev pub program_stubs : List Version → List ℕ
-program_stubs versions = flat_map (λ v. flat_map (stub v) v.procedures) versions
+program_stubs versions = version_pieces stub versions

@@ -3,7 +3,7 @@ use Rattle.std.specs.Prelude.{ℕ, List, ◌++◌, codes, if◌then◌else◌}
 use Rattle.std.specs.List.{flat_map}
 use Rattle.x_item.specs.Tree.{Procedure, Version}
 use Rattle.x_gen.specs.CTypes.{CType, own}
-use Rattle.x_gen.specs.Procedures.{lower, in_decimal, function_name, group_name, are_several, argument_type, result_type, size_of, sized}
+use Rattle.x_gen.specs.Procedures.{lower, in_decimal, are_several, argument_in, by_names, result_type, size_of, sized}
 
 -- how large the argument is: several are in the struct of this name
 abbrev pub argument_size : List ℕ → Procedure → List ℕ
@@ -17,9 +17,9 @@ row_of number function argument size result result_size =
     ++ (codes ", (xdrproc_t)xdr_" ++ result.routine ++ codes ", ") ++ result_size
     ++ codes " },\n"
 
-abbrev pub row : Version → Procedure → List ℕ
-row v p =
-    row_of p.number (function_name v p) (argument_type v p) (argument_size (group_name v p) p) (result_type p) (size_of p.result)
+-- that of a procedure whose function and struct of arguments have these names
+abbrev pub row : List ℕ → List ℕ → Procedure → List ℕ
+row function group p = row_of p.number function (argument_in group p) (argument_size group p) (result_type p) (size_of p.result)
 
 -- the name of the program in lower case, and the number of the version in decimal
 abbrev pub table_name : List ℕ → Version → List ℕ
@@ -33,7 +33,7 @@ count_line table =
 abbrev pub version_table : List ℕ → Version → List ℕ
 version_table program v =
     (codes "struct rpcgen_table " ++ table_name program v ++ codes "_table[] = {\n")
-    ++ flat_map (row v) v.procedures
+    ++ flat_map (by_names row v) v.procedures
     ++ codes "};\n" ++ count_line (table_name program v)
 
 abbrev pub program_table : List ℕ → List Version → List ℕ

@@ -18,15 +18,6 @@ pub fn add(text: &mut Vec<u8>, parts: &[&[u8]]) -> Result<(), NoMemory>
     Ok(())
 }
 
-/// The parts, one behind another, in memory of their own.
-pub fn joined(alloc: Global, parts: &[&[u8]]) -> Result<Vec<u8>, NoMemory>
-    ensures { IfOk result (λ text. text.items ≡ together (map (λ p. p.now) parts.now)) }
-{
-    let mut text = Vec::with_capacity(alloc, length_of(parts))?;
-    add(&mut text, parts)?;
-    Ok(text)
-}
-
 /// What is made of parts: at most 48 bytes take no memory of their own.
 pub type Made = SmallVec<u8, 48>;
 
@@ -39,13 +30,4 @@ pub fn made(alloc: Global, parts: &[&[u8]]) -> Result<Made, NoMemory>
         text.extend_from_slice(part)?;
     }
     Ok(text)
-}
-
-/// How many bytes the parts have, or the greatest number.
-fn length_of(parts: &[&[u8]]) -> usize {
-    let mut length = 0usize;
-    for part in parts {
-        length = length.saturating_add(part.len());
-    }
-    length
 }

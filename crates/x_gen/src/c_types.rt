@@ -6,9 +6,8 @@ ghost use Rattle.x_item.specs.View.{view_type, view_argument, view_passed, view_
 ghost use Rattle.x_gen.specs.CTypes.{own, basic_type, c_type, passed_type, spelled, most};
 ghost use Rattle.x_gen.specs.Views.{view_c};
 
-use crate::add::joined;
 use std::alloc::Global;
-use x_item::{Argument, Basic, DataType, Value};
+use x_item::{Argument, Basic, DataType, Value, lifted_name};
 use x_text::NoMemory;
 
 /// A type as C has it.
@@ -75,7 +74,7 @@ pub fn lifted(
         ≡ c_type (lifted_name around.now name.now) (view_type typed.now)) }
 {
     match typed {
-        DataType::Inline(_) => joined(alloc, &[around, b"_", name]),
+        DataType::Inline(_) => lifted_name(alloc, around, name),
         _ => Ok(Vec::new(alloc)),
     }
 }

@@ -3,7 +3,7 @@
 ghost use Rattle.std.specs.Prelude.{◌≡◌, ◌++◌, OnOk, IfOk};
 ghost use Rattle.x_item.specs.Tree.{Array, String};
 ghost use Rattle.x_item.specs.View.{view_shape, view_length, view_most, view_declaration};
-ghost use Rattle.x_gen.specs.Declarations.{name_of, is_void, declared_array, declared_as, c_declaration, lies_at};
+ghost use Rattle.x_gen.specs.Declarations.{declared_array, declared_as, c_declaration, lies_at};
 ghost use Rattle.x_gen.specs.Declarations.{opaque_declaration, array_call, call_as, opaque_call, call_at, call};
 ghost use Rattle.x_gen.specs.Views.{view_c, view_place};
 
@@ -22,28 +22,6 @@ pub enum Place<'d> {
     InUnion(&'d [u8]),
     /// By itself.
     Alone,
-}
-
-/// The name that is declared: `void` declares none.
-pub fn name_of(declaration: &Declaration) -> &[u8]
-    ensures { result.now ≡ name_of (view_declaration declaration.now) }
-{
-    match declaration {
-        Declaration::Void => b"",
-        Declaration::Of { name, .. } => name,
-        Declaration::Opaque { name, .. } => name,
-        Declaration::String { name, .. } => name,
-    }
-}
-
-/// Whether nothing is declared.
-pub fn is_void(declaration: &Declaration) -> bool
-    ensures { result ≡ is_void (view_declaration declaration.now) }
-{
-    match declaration {
-        Declaration::Void => true,
-        _ => false,
-    }
 }
 
 /// Adds elements of a type as C declares them.
@@ -277,6 +255,6 @@ pub fn add_call(
     ensures { OnOk result (text.new.items ≡ text.old.items
         ++ call around.now (view_place place.entry) (view_declaration declaration.now)) }
 {
-    let e = lies_at(alloc, place, name_of(declaration))?;
+    let e = lies_at(alloc, place, declaration.name())?;
     add_call_at(alloc, text, around, &e, declaration)
 }

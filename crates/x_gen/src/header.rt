@@ -11,7 +11,7 @@ ghost use Rattle.x_gen.specs.Views.{view_named, view_types};
 
 use crate::add::add;
 use crate::c_types::spelled;
-use crate::declaration::{add_declaration, is_void, name_of};
+use crate::declaration::add_declaration;
 use crate::types::NamedBody;
 use std::alloc::Global;
 use x_item::{Arm, Body, Declaration, Enumerator, UnionBody};
@@ -96,7 +96,7 @@ fn add_member(
     ensures { OnOk result (text.new.items ≡ text.old.items
         ++ member_line indent.now around.now (view_declaration declaration.now)) }
 {
-    if is_void(declaration) {
+    if declaration.is_void() {
         return Ok(());
     }
     text.extend_from_slice(indent)?;
@@ -126,12 +126,12 @@ fn are_void(arms: &[Arm], default: &Option<Declaration>) -> bool
     ensures { result ≡ are_void (view_arms arms.now) (view_default default.now) }
 {
     for arm in arms {
-        if !is_void(&arm.declaration) {
+        if !arm.declaration.is_void() {
             return false;
         }
     }
     match default {
-        Some(declaration) => is_void(declaration),
+        Some(declaration) => declaration.is_void(),
         None => true,
     }
 }
@@ -247,10 +247,10 @@ pub fn add_typedef(
 ) -> Result<(), NoMemory>
     ensures { OnOk result (text.new.items ≡ text.old.items ++ typedef_header (view_declaration declaration.now)) }
 {
-    if is_void(declaration) {
+    if declaration.is_void() {
         return Ok(());
     }
-    let name = name_of(declaration);
+    let name = declaration.name();
     text.extend_from_slice(b"typedef ")?;
     add_declaration(alloc, text, name, declaration)?;
     text.extend_from_slice(b";\n")?;

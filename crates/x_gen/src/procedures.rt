@@ -1,19 +1,21 @@
 //! The procedures of a program as C has them.
 
 ghost use Rattle.std.specs.Prelude.{◌≡◌, ◌++◌, List, ℕ, map, OnOk, IfOk};
+ghost use Rattle.std.specs.Fmt.{decimal};
 ghost use Rattle.std.specs.List.{flat_map};
-ghost use Rattle.x_item.specs.Tree.{Version as ItsVersion, Procedure as ItsProcedure};
+ghost use Rattle.x_item.specs.Tree.{Procedure as ItsProcedure};
 ghost use Rattle.x_item.specs.View.{view_argument, view_passed, view_procedure, view_version};
 ghost use Rattle.x_gen.specs.Procedures.{lower_byte, lower, in_decimal, function_name, group_name, argument_in, are_several};
-ghost use Rattle.x_gen.specs.Procedures.{size_of, sized};
+ghost use Rattle.x_gen.specs.Procedures.{by_names, version_pieces, numbered, argument_pieces};
+ghost use Rattle.x_gen.specs.CTypes.{CType as ItsType};
 ghost use Rattle.x_gen.specs.Views.{view_c};
 
 use crate::add::{Made, made};
-use crate::c_types::{CType, own, passed_type};
+use crate::c_types::{CType, argument_type, own, passed_type};
 use itoa::Buffer;
 use std::alloc::Global;
 use x_item::{Argument, Procedure, Version};
-use x_sema::number_value;
+use x_schema::number_value;
 use x_text::NoMemory;
 
 /// A letter in lower case.
@@ -95,18 +97,12 @@ pub fn argument_in<'d>(group: &'d [u8], procedure: &'d Procedure) -> CType<'d>
 
 /// What is generated of a procedure.
 pub trait ProcedurePiece {
-    ghost piece: { Self → ItsVersion → ItsProcedure → List ℕ };
+    ghost piece: { Self → List ℕ → List ℕ → ItsProcedure → List ℕ };
 
-    /// Adds it.
-    fn add(
-        &self,
-        alloc: Global,
-        text: &mut Vec<u8>,
-        version: &Version,
-        procedure: &Procedure,
-    ) -> Result<(), NoMemory>
+    /// Adds it, by the names that C has for the procedure.
+    fn add(&self, text: &mut Vec<u8>, call: &Call, procedure: &Procedure) -> Result<(), NoMemory>
         ensures { OnOk result (text.new.items ≡ text.old.items
-            ++ piece self.now (view_version version.now) (view_procedure procedure.now)) };
+            ++ piece self.now call.now.function.items call.now.group.items (view_procedure procedure.now)) };
 }
 
 /// Adds what is generated of each procedure of a version.
@@ -117,10 +113,11 @@ pub fn add_procedures<P: ProcedurePiece>(
     version: &Version,
 ) -> Result<(), NoMemory>
     ensures { OnOk result (text.new.items ≡ text.old.items
-        ++ flat_map (P.piece piece.now (view_version version.now)) (view_version version.now).procedures) }
+        ++ flat_map (by_names (P.piece piece.now) (view_version version.now)) (view_version version.now).procedures) }
 {
     for procedure in &version.procedures {
-        piece.add(alloc, text, version, procedure)?;
+        let call = Call::of(alloc, version, procedure)?;
+        piece.add(text, &call, procedure)?;
     }
     Ok(())
 }
@@ -133,10 +130,61 @@ pub fn add_versions<P: ProcedurePiece>(
     versions: &[Version],
 ) -> Result<(), NoMemory>
     ensures { OnOk result (text.new.items ≡ text.old.items
-        ++ flat_map (λ v. flat_map (P.piece piece.now v) v.procedures) (map view_version versions.now)) }
+        ++ version_pieces (P.piece piece.now) (map view_version versions.now)) }
 {
     for version in versions {
         add_procedures(alloc, text, piece, version)?;
     }
     Ok(())
+}
+
+/// What is generated of one of several arguments.
+pub trait ArgumentPiece {
+    ghost piece: { Self → List ℕ → ItsType → List ℕ };
+
+    /// Adds it, by the number of the argument in decimal.
+    fn add(&self, text: &mut Vec<u8>, number: &[u8], c: CType) -> Result<(), NoMemory>
+        ensures { OnOk result (text.new.items ≡ text.old.items ++ piece self.now number.now (view_c c.entry)) };
+}
+
+/// Adds what is generated of the argument of this number.
+fn add_numbered<P: ArgumentPiece>(
+    text: &mut Vec<u8>,
+    piece: &P,
+    number: u128,
+    c: CType,
+) -> Result<(), NoMemory>
+    ensures { OnOk result (text.new.items ≡ text.old.items
+        ++ P.piece piece.now (decimal number) (view_c c.entry)) }
+{
+    let mut buffer = Buffer::new();
+    piece.add(text, buffer.format(number).as_bytes(), c)
+}
+
+/// Adds what is generated of the arguments behind the first.
+fn add_others<P: ArgumentPiece>(
+    text: &mut Vec<u8>,
+    piece: &P,
+    others: &[Argument],
+) -> Result<(), NoMemory>
+    ensures { OnOk result (text.new.items ≡ text.old.items
+        ++ numbered (P.piece piece.now) 2 (map view_argument others.now)) }
+{
+    for (index, argument) in others.iter().enumerate() {
+        add_numbered(text, piece, index as u128 + 2, argument_type(argument))?;
+    }
+    Ok(())
+}
+
+/// Adds what is generated of each argument of a procedure that has several.
+pub fn add_arguments<P: ArgumentPiece>(
+    text: &mut Vec<u8>,
+    piece: &P,
+    procedure: &Procedure,
+) -> Result<(), NoMemory>
+    ensures { OnOk result (text.new.items ≡ text.old.items
+        ++ argument_pieces (P.piece piece.now) (view_procedure procedure.now)) }
+{
+    add_numbered(text, piece, 1, passed_type(&procedure.first))?;
+    add_others(text, piece, &procedure.others)
 }

@@ -1,39 +1,30 @@
 //! The piece of the header that is of a program.
 
-ghost use Rattle.std.specs.Prelude.{◌≡◌, ◌++◌, ℕ, map, OnOk};
-ghost use Rattle.std.specs.List.{flat_map};
-ghost use Rattle.x_item.specs.View.{view_argument, view_procedure, view_version};
-ghost use Rattle.x_gen.specs.Header.{argument_line, argument_lines, group_struct, group_lines, function_lines, procedure_lines};
-ghost use Rattle.x_gen.specs.Header.{version_lines, program_header};
-ghost use Rattle.x_gen.specs.Views.{view_c};
+ghost use Rattle.std.specs.Prelude.{◌≡◌, ◌++◌, map, OnOk};
+ghost use Rattle.x_item.specs.View.{view_procedure, view_version};
+ghost use Rattle.x_gen.specs.Header.{group_struct, group_lines, function_lines, version_lines, program_header};
 
 use crate::add::add;
-use crate::c_types::{CType, argument_type, passed_type};
+use crate::c_types::{CType, passed_type};
 use crate::header::{add_constant, add_routine_line};
-use crate::procedures::{Call, ProcedurePiece, add_procedures, argument_in};
-use itoa::Buffer;
+use crate::procedures::{
+    ArgumentPiece, Call, ProcedurePiece, add_arguments, add_procedures, argument_in,
+};
 use std::alloc::Global;
-use x_item::{Argument, Procedure, Version};
+use x_item::{Procedure, Version};
 use x_text::NoMemory;
 
-/// Adds the field of one of several arguments.
-fn add_argument(text: &mut Vec<u8>, number: u128, c: CType) -> Result<(), NoMemory>
-    ensures { OnOk result (text.new.items ≡ text.old.items ++ argument_line number (view_c c.entry)) }
-{
-    let mut buffer = Buffer::new();
-    let number = buffer.format(number).as_bytes();
-    add(text, &[b"    ", c.name, b" arg", number, b";\n"])
-}
+/// The field of one of several arguments.
+struct Field;
 
-/// Adds the fields of the arguments behind the first.
-fn add_other_arguments(text: &mut Vec<u8>, others: &[Argument]) -> Result<(), NoMemory>
-    ensures { OnOk result (text.new.items ≡ text.old.items
-        ++ argument_lines 2 (map view_argument others.now)) }
-{
-    for (index, argument) in others.iter().enumerate() {
-        add_argument(text, index as u128 + 2, argument_type(argument))?;
+impl ArgumentPiece for Field {
+    ghost use Rattle.x_gen.specs.Header.{argument_line};
+
+    ghost piece = { λ _. argument_line };
+
+    fn add(&self, text: &mut Vec<u8>, number: &[u8], c: CType) -> Result<(), NoMemory> {
+        add(text, &[b"    ", c.name, b" arg", number, b";\n"])
     }
-    Ok(())
 }
 
 /// Adds the struct of several arguments.
@@ -42,8 +33,7 @@ fn add_group(text: &mut Vec<u8>, group: &[u8], procedure: &Procedure) -> Result<
         ++ group_struct group.now (view_procedure procedure.now)) }
 {
     add(text, &[b"struct ", group, b" {\n"])?;
-    add_argument(text, 1, passed_type(&procedure.first))?;
-    add_other_arguments(text, &procedure.others)?;
+    add_arguments(text, &Field, procedure)?;
     add(text, &[b"};\ntypedef struct ", group, b" ", group, b";\n"])?;
     add_routine_line(text, group)
 }
@@ -97,17 +87,10 @@ impl ProcedurePiece for ProcedureLines {
 
     ghost piece = { λ _. procedure_lines };
 
-    fn add(
-        &self,
-        alloc: Global,
-        text: &mut Vec<u8>,
-        version: &Version,
-        procedure: &Procedure,
-    ) -> Result<(), NoMemory> {
-        let call = Call::of(alloc, version, procedure)?;
+    fn add(&self, text: &mut Vec<u8>, call: &Call, procedure: &Procedure) -> Result<(), NoMemory> {
         add_group_lines(text, &call.group, procedure)?;
         add_constant(text, &procedure.name, &procedure.number)?;
-        add_functions(text, &call, procedure)
+        add_functions(text, call, procedure)
     }
 }
 

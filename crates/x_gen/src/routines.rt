@@ -3,21 +3,19 @@
 ghost use Rattle.std.specs.Prelude.{◌≡◌, ◌++◌, map, codes, OnOk};
 ghost use Rattle.std.specs.List.{flat_map};
 ghost use Rattle.x_item.specs.Tree.{Struct};
-ghost use Rattle.x_item.specs.View.{view_value, view_argument, view_procedure, view_body, view_union, view_declaration, view_declarations};
+ghost use Rattle.x_item.specs.View.{view_value, view_procedure, view_body, view_union, view_declaration, view_declarations};
 ghost use Rattle.x_item.specs.View.{view_arms, view_default};
 ghost use Rattle.x_gen.specs.Routines.{routine_front, routine_end, checked_call, field_calls, case_lines, arm_calls, arms_calls};
-ghost use Rattle.x_gen.specs.Routines.{default_calls, body_calls, type_routine, typedef_routine, argument_call, argument_calls};
-ghost use Rattle.x_gen.specs.Routines.{struct_routine};
-ghost use Rattle.x_gen.specs.Views.{view_c, view_place, view_named};
+ghost use Rattle.x_gen.specs.Routines.{default_calls, body_calls, type_routine, typedef_routine, struct_routine};
+ghost use Rattle.x_gen.specs.Views.{view_place, view_named};
 
 use crate::add::add;
-use crate::c_types::{CType, argument_type, passed_type, spelled};
-use crate::declaration::{Place, add_call, is_void, name_of};
-use crate::procedures::{Call, ProcedurePiece};
+use crate::c_types::{CType, spelled};
+use crate::declaration::{Place, add_call};
+use crate::procedures::{ArgumentPiece, Call, ProcedurePiece, add_arguments};
 use crate::types::NamedBody;
-use itoa::Buffer;
 use std::alloc::Global;
-use x_item::{Argument, Arm, Body, Declaration, Procedure, UnionBody, Value, Version};
+use x_item::{Arm, Body, Declaration, Procedure, UnionBody, Value};
 use x_text::NoMemory;
 
 /// Adds what a routine begins with.
@@ -56,7 +54,7 @@ fn add_checked_call(
     ensures { OnOk result (text.new.items ≡ text.old.items
         ++ checked_call indent.now around.now (view_place place.entry) (view_declaration declaration.now)) }
 {
-    if is_void(declaration) {
+    if declaration.is_void() {
         return Ok(());
     }
     add(text, &[indent, b"if (!"])?;
@@ -181,7 +179,7 @@ fn add_union(
     add_checked_call(alloc, text, b"    ", name, Place::InStruct, discriminant)?;
     add(
         text,
-        &[b"    switch (objp->", name_of(discriminant), b") {\n"],
+        &[b"    switch (objp->", discriminant.name(), b") {\n"],
     )?;
     add_arms(alloc, text, name, &body.arms)?;
     add_default(alloc, text, name, &body.default)?;
@@ -218,42 +216,35 @@ pub fn add_typedef(
     ensures { OnOk result (text.new.items ≡ text.old.items
         ++ typedef_routine (view_declaration declaration.now)) }
 {
-    if is_void(declaration) {
+    if declaration.is_void() {
         return Ok(());
     }
-    let name = name_of(declaration);
+    let name = declaration.name();
     add_front(text, name)?;
     add_checked_call(alloc, text, b"    ", name, Place::Alone, declaration)?;
     add_end(text)
 }
 
-/// Adds the call for one of several arguments.
-fn add_argument(text: &mut Vec<u8>, number: u128, c: CType) -> Result<(), NoMemory>
-    ensures { OnOk result (text.new.items ≡ text.old.items ++ argument_call number (view_c c.entry)) }
-{
-    let mut buffer = Buffer::new();
-    let number = buffer.format(number).as_bytes();
-    add(
-        text,
-        &[
-            b"    if (!xdr_",
-            c.routine,
-            b"(xdrs, &objp->arg",
-            number,
-            b"))\n        return (FALSE);\n",
-        ],
-    )
-}
+/// The call for one of several arguments.
+struct ArgumentCall;
 
-/// Adds the calls for the arguments behind the first.
-fn add_other_arguments(text: &mut Vec<u8>, others: &[Argument]) -> Result<(), NoMemory>
-    ensures { OnOk result (text.new.items ≡ text.old.items
-        ++ argument_calls 2 (map view_argument others.now)) }
-{
-    for (index, argument) in others.iter().enumerate() {
-        add_argument(text, index as u128 + 2, argument_type(argument))?;
+impl ArgumentPiece for ArgumentCall {
+    ghost use Rattle.x_gen.specs.Routines.{argument_call};
+
+    ghost piece = { λ _. argument_call };
+
+    fn add(&self, text: &mut Vec<u8>, number: &[u8], c: CType) -> Result<(), NoMemory> {
+        add(
+            text,
+            &[
+                b"    if (!xdr_",
+                c.routine,
+                b"(xdrs, &objp->arg",
+                number,
+                b"))\n        return (FALSE);\n",
+            ],
+        )
     }
-    Ok(())
 }
 
 /// Adds the routine of the struct of several arguments.
@@ -262,8 +253,7 @@ fn add_group(text: &mut Vec<u8>, group: &[u8], procedure: &Procedure) -> Result<
         ++ struct_routine group.now (view_procedure procedure.now)) }
 {
     add_front(text, group)?;
-    add_argument(text, 1, passed_type(&procedure.first))?;
-    add_other_arguments(text, &procedure.others)?;
+    add_arguments(text, &ArgumentCall, procedure)?;
     add_end(text)
 }
 
@@ -275,17 +265,10 @@ impl ProcedurePiece for GroupRoutine {
 
     ghost piece = { λ _. group_routine };
 
-    fn add(
-        &self,
-        alloc: Global,
-        text: &mut Vec<u8>,
-        version: &Version,
-        procedure: &Procedure,
-    ) -> Result<(), NoMemory> {
+    fn add(&self, text: &mut Vec<u8>, call: &Call, procedure: &Procedure) -> Result<(), NoMemory> {
         if procedure.others.is_empty() {
             return Ok(());
         }
-        let call = Call::of(alloc, version, procedure)?;
         add_group(text, &call.group, procedure)
     }
 }

@@ -8,8 +8,7 @@ ghost use Rattle.x_gen.specs.Views.{view_c};
 use crate::add::add;
 use crate::c_types::{CType, argument_type, passed_type};
 use crate::procedures::{Call, ProcedurePiece, argument_in};
-use std::alloc::Global;
-use x_item::{Argument, Procedure, Version};
+use x_item::{Argument, Procedure};
 use x_text::NoMemory;
 
 /// The type of what a stub keeps of the result: `void` is kept as a byte.
@@ -106,14 +105,7 @@ impl ProcedurePiece for Stub {
 
     ghost piece = { λ _. stub };
 
-    fn add(
-        &self,
-        alloc: Global,
-        text: &mut Vec<u8>,
-        version: &Version,
-        procedure: &Procedure,
-    ) -> Result<(), NoMemory> {
-        let call = Call::of(alloc, version, procedure)?;
+    fn add(&self, text: &mut Vec<u8>, call: &Call, procedure: &Procedure) -> Result<(), NoMemory> {
         let argument = argument_in(&call.group, procedure);
         let passed = passed_type(&procedure.result);
         add_head(text, &call.function, argument, passed)?;

@@ -59,14 +59,7 @@ impl ProcedurePiece for Row {
 
     ghost piece = { λ _. row };
 
-    fn add(
-        &self,
-        alloc: Global,
-        text: &mut Vec<u8>,
-        version: &Version,
-        procedure: &Procedure,
-    ) -> Result<(), NoMemory> {
-        let call = Call::of(alloc, version, procedure)?;
+    fn add(&self, text: &mut Vec<u8>, call: &Call, procedure: &Procedure) -> Result<(), NoMemory> {
         let argument = argument_in(&call.group, procedure).routine;
         let passed = passed_type(&procedure.result).routine;
         text.extend_from_slice(b"    { ")?;

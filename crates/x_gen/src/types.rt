@@ -7,11 +7,9 @@ ghost use Rattle.x_gen.specs.InlineTypes.{types_of_type, types_inside, types_of_
 ghost use Rattle.x_gen.specs.InlineTypes.{types_of_default, types_of};
 ghost use Rattle.x_gen.specs.Views.{view_types};
 
-use crate::add::joined;
-use crate::declaration::name_of;
 use std::alloc::Global;
 use std::borrow::CowSlice;
-use x_item::{Arm, Body, DataType, Declaration, Definition, UnionBody};
+use x_item::{Arm, Body, DataType, Declaration, Definition, UnionBody, lifted_name};
 use x_text::NoMemory;
 
 /// A type that has a body: its own name, or the lifted name of an inline type.
@@ -31,7 +29,7 @@ pub fn types_of<'d>(
     let mut types = Vec::new(alloc);
     match definition {
         Definition::Typedef(declaration) => {
-            add_declared(alloc, &mut types, name_of(declaration), declaration)?;
+            add_declared(alloc, &mut types, declaration.name(), declaration)?;
         }
         Definition::NewType { name, body } => {
             add_inside(alloc, &mut types, name, body)?;
@@ -82,7 +80,7 @@ fn add_declared<'d>(
     match declaration {
         Declaration::Of { data, name, .. } => match data {
             DataType::Inline(body) => {
-                let lifted = joined(alloc, &[around, b"_", name])?;
+                let lifted = lifted_name(alloc, around, name)?;
                 add_inside(alloc, types, &lifted, body)?;
                 types.push(NamedBody {
                     name: CowSlice::Owned(lifted),

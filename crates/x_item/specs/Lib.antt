@@ -1,5 +1,6 @@
 pub mod Collected
 pub mod Cutting
+pub mod Declarations
 pub mod FaultTexts
 pub mod Gloss
 pub mod ItemList

@@ -13,7 +13,7 @@ pub use cutting::next_item::next_item;
 pub use cutting::recut::recut;
 pub use cutting::{Entry, ItemPatch, Items};
 pub use laws::{gloss_law, one_cut, one_parse, one_recut, spell_law};
-pub use names::declares::{declares, declares_into};
+pub use names::declares::{declares, declares_into, lifted_name};
 pub use names::mentions::{mentions, mentions_into};
 pub use names::{DeclaredName, Mention, NameKind, Use};
 pub use parsing::parse_item::{Parsed, parse_item};

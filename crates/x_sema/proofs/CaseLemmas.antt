@@ -15,7 +15,7 @@ use Rattle.x_sema.specs.BodyWalks.{view_body_at, IsBehind, AreFilled}
 use Rattle.x_sema.specs.Cases.{is_outside, case_fault, has_fault, case_faults, class_faults, bad_cases_by, bad_cases_of}
 use Rattle.x_sema.specs.Constants.{Known, knowns, limit_of, number_by}
 use Rattle.x_sema.specs.Found.{fault_at}
-use Rattle.x_sema.specs.Numbers.{is_enum_number, is_word_number}
+use Rattle.x_schema.specs.Numbers.{is_enum_number, is_word_number}
 use Rattle.x_sema.specs.Rules.{Breaks, IsOutside, IsBadCase, HasNoFault}
 use Rattle.x_sema.specs.Types.{declaration_class}
 use Rattle.x_sema.specs.Views.{View, Class, NoClass, Signed, Unsigned, Boolean, Enumeration}

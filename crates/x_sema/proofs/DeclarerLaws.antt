@@ -9,7 +9,8 @@ use Rattle.std.proofs.lemmas.Slice.Eq.{bytes_eq-Decides}
 use Rattle.std.proofs.lemmas.Option.{same_Some}
 use Rattle.x_item.specs.Tree.{Definition}
 use Rattle.x_item.specs.Names.{Declared, declared}
-use Rattle.x_sema.specs.Declarers.{is_beforehand, IsDeclarer, IsEarlier, IsFirstDeclarer, FirstIs, or_else, declarer_at, place_of_name, declarer_in, first_from, first_declarer}
+use Rattle.x_sema.specs.Declarers.{is_beforehand, IsDeclarer, IsEarlier, IsFirstDeclarer, FirstIs, declarer_at, place_of_name, declarer_in, first_from, first_declarer}
+use Rattle.std.specs.Option.{option_or}
 use Rattle.x_sema.specs.DeclarerTable.{entry_in, first_in, names_in}
 use Rattle.x_sema.specs.declared.names.Declarer.{Declarer}
 
@@ -112,12 +113,12 @@ found_item n (x ∷ ds) name at h = by (found_item (suc n) ds name at) (declarer
   where
     by : (first_from (suc n) ds name ≡ Some at → IsOfItem (suc n) ds name at) → (o : Option Declarer) → declarer_in n name x ≡ o → IsOfItem n (x ∷ ds) name at
     by more (Some y) e =
-        let is : y ≡ at = same_Some y at (sym (ap (λ o. or_else o (first_from (suc n) ds name)) e) ∙ h) in
+        let is : y ≡ at = same_Some y at (sym (ap (λ o. option_or o (first_from (suc n) ds name)) e) ∙ h) in
         let here = found_in n name x at (e ∙ ap Some is) in
         let item = here.item_is in
         record { index = 0; definition = here.definition; item_is = omega (arith, item); there = ap Some here.is; declares = here.declares }
     by more None e =
-        let rest = more (sym (ap (λ o. or_else o (first_from (suc n) ds name)) e) ∙ h) in
+        let rest = more (sym (ap (λ o. option_or o (first_from (suc n) ds name)) e) ∙ h) in
         let item = rest.item_is in
         record { index = suc rest.index; definition = rest.definition; item_is = omega (arith, item); there = rest.there; declares = rest.declares }
 
@@ -137,7 +138,7 @@ reached n (y ∷ ds) zero name d place x h k same =
     let item = here.item_is in
     record {
       at = here.at;
-      found = ap (λ o. or_else o (first_from (suc n) ds name)) (ap (declarer_in n name) is ∙ here.found);
+      found = ap (λ o. option_or o (first_from (suc n) ds name)) (ap (declarer_in n name) is ∙ here.found);
       near = inr (omega (arith, item), omega (arith, near));
     }
 reached n (y ∷ ds) (suc index) name d place x h k same = by (reached (suc n) ds index name d place x h k same) (declarer_in n name y) refl
@@ -150,8 +151,8 @@ reached n (y ∷ ds) (suc index) name d place x h k same = by (reached (suc n) d
     by rest (Some z) e =
         let here = found_in n name y z e in
         let item = here.item_is in
-        record { at = z; found = ap (λ o. or_else o (first_from (suc n) ds name)) e; near = inl (omega (arith, item)) }
-    by rest None e = record { at = rest.at; found = ap (λ o. or_else o (first_from (suc n) ds name)) e ∙ rest.found; near = later rest.at rest.near }
+        record { at = z; found = ap (λ o. option_or o (first_from (suc n) ds name)) e; near = inl (omega (arith, item)) }
+    by rest None e = record { at = rest.at; found = ap (λ o. option_or o (first_from (suc n) ds name)) e ∙ rest.found; near = later rest.at rest.near }
 
 -- ---- the definition and the search
 

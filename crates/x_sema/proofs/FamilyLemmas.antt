@@ -10,7 +10,7 @@ use Rattle.x_item.specs.Mentions.{Mention}
 use Rattle.x_sema.specs.Views.{View}
 use Rattle.x_sema.specs.Bodies.{EnumeratorAt}
 use Rattle.x_sema.specs.Constants.{Known}
-use Rattle.x_sema.specs.Numbers.{is_enum_number}
+use Rattle.x_schema.specs.Numbers.{is_enum_number}
 use Rattle.x_sema.specs.Mentioned.{mention_fault, suits}
 use Rattle.x_sema.specs.Tables.{is_too_high}
 use Rattle.x_sema.specs.Found.{fault_at, mention_faults, past_last, past_last_faults, too_high, too_high_faults}

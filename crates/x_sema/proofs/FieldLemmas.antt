@@ -15,7 +15,7 @@ use Rattle.x_sema.specs.declared.fault.WordFault.{WordFault}
 use Rattle.x_sema.proofs.AmongLemmas.{among_none, among_front, among_rear, among_parts}
 use Rattle.x_sema.proofs.DuplicateLemmas.{place_from, found_behind, behind_found}
 use Rattle.x_sema.proofs.FamilyLemmas.{fault_is, is_fault}
-use Rattle.x_sema.proofs.ListLemmas.{map_append}
+use Rattle.x_text.proofs.ListLemmas.{map_append}
 
 abbrev name_of : NameAt → List ℕ
 name_of x = x.name

@@ -4,7 +4,6 @@ pub mod CaseLemmas
 pub mod CheckLemmas
 pub mod ClassLemmas
 pub mod DeclarerLaws
-pub mod Digits
 pub mod DuplicateLemmas
 pub mod EnumeratorLemmas
 pub mod FamilyLemmas
@@ -13,12 +12,6 @@ pub mod FieldLemmas
 pub mod HasResults
 pub mod HeightLemmas
 pub mod InOrder
-pub mod KeyedTables
-pub mod ListLemmas
-pub mod MakerArms
-pub mod MakerForms
-pub mod MakerItems
-pub mod MakerSteps
 pub mod MeaningLemmas
 pub mod MemberWalkLemmas
 pub mod MentionLemmas
@@ -32,10 +25,8 @@ pub mod OutlineLemmas
 pub mod OwnNames
 pub mod PastLastLemmas
 pub mod PlaceLemmas
-pub mod ProcedureLemmas
 pub mod RepeatLemmas
 pub mod ResultLaws
 pub mod RuleTextLemmas
-pub mod SchemaLemmas
 pub mod SortedFaults
 pub mod WordRuleLemmas

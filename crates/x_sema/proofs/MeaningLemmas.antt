@@ -12,37 +12,38 @@ use Rattle.x_item.specs.declared.names.declared_name.NameKind.{NameKind}
 use Rattle.x_item.specs.declared.names.declared_name.NameKind.TheVariants as kinds
 use Rattle.x_sema.specs.Bodies.{BodyAt, bodies, enumerators}
 use Rattle.x_sema.specs.Constants.{Known, knowns}
-use Rattle.x_sema.specs.Declarers.{or_else}
+use Rattle.std.specs.Option.{option_or}
 use Rattle.x_sema.specs.Meanings.{first_named, body_named, counted_type, counted_definition}
 use Rattle.x_sema.specs.Results.{type_of, type_named, type_defined, meaning_as}
 use Rattle.x_sema.specs.Tables.{capped, is_too_high}
 use Rattle.x_sema.specs.Types.{body_class, declaration_class, body_height, held_height, defined_heights, heights}
 use Rattle.x_sema.specs.Views.{View}
-use Rattle.x_sema.proofs.NameLemmas.{or_else_after, or_none}
+use Rattle.x_sema.proofs.NameLemmas.{option_or_after}
+use Rattle.x_schema.proofs.Lookups.{or_none}
 
 -- ---- bodies by the words that name their types
 
 -- one body more is in the table
 pub body_more : (before after : ℕ → Option ℕ) (n m : ℕ) (bs : List BodyAt) (b : BodyAt) (rest : List BodyAt) (all : ℕ → Option ℕ)
     → m ≡ suc n → bs ≡ b ∷ rest
-    → ((word : ℕ) → after word ≡ or_else (before word) (cond (nat_eq word b.named) (Some n) None))
-    → ((word : ℕ) → or_else (before word) (first_named n bs word) ≡ all word)
-    → (word : ℕ) → or_else (after word) (first_named m rest word) ≡ all word
+    → ((word : ℕ) → after word ≡ option_or (before word) (cond (nat_eq word b.named) (Some n) None))
+    → ((word : ℕ) → option_or (before word) (first_named n bs word) ≡ all word)
+    → (word : ℕ) → option_or (after word) (first_named m rest word) ≡ all word
 body_more before after n m bs b rest all next is more h word =
-    ap (λ a. or_else a (first_named m rest word)) (more word)
-    ∙ or_else_after (before word) (cond (nat_eq word b.named) (Some n) None) (first_named m rest word)
-    ∙ ap (or_else (before word)) (step (nat_eq word b.named) ∙ ap (λ k. cond (nat_eq word b.named) (Some n) (first_named k rest word)) next)
-    ∙ sym (ap (λ l. or_else (before word) (first_named n l word)) is)
+    ap (λ a. option_or a (first_named m rest word)) (more word)
+    ∙ option_or_after (before word) (cond (nat_eq word b.named) (Some n) None) (first_named m rest word)
+    ∙ ap (option_or (before word)) (step (nat_eq word b.named) ∙ ap (λ k. cond (nat_eq word b.named) (Some n) (first_named k rest word)) next)
+    ∙ sym (ap (λ l. option_or (before word) (first_named n l word)) is)
     ∙ h word
   where
-    step : (b : Bool) → or_else (cond b (Some n) None) (first_named m rest word) ≡ cond b (Some n) (first_named m rest word)
+    step : (b : Bool) → option_or (cond b (Some n) None) (first_named m rest word) ≡ cond b (Some n) (first_named m rest word)
     step true = refl
     step false = refl
 
 -- no body is left
 pub all_bodies : (before : ℕ → Option ℕ) (n : ℕ) (bs : List BodyAt) (all : ℕ → Option ℕ) → bs ≡ []
-    → ((word : ℕ) → or_else (before word) (first_named n bs word) ≡ all word) → (word : ℕ) → before word ≡ all word
-all_bodies before n bs all none h word = or_none (before word) ∙ sym (ap (λ l. or_else (before word) (first_named n l word)) none) ∙ h word
+    → ((word : ℕ) → option_or (before word) (first_named n bs word) ≡ all word) → (word : ℕ) → before word ≡ all word
+all_bodies before n bs all none h word = or_none (before word) ∙ sym (ap (λ l. option_or (before word) (first_named n l word)) none) ∙ h word
 
 shift : (n : ℕ) (bs : List BodyAt) (word : ℕ) → first_named (suc n) bs word ≡ option_map suc (first_named n bs word)
 shift n [] word = refl

@@ -9,7 +9,7 @@ use Rattle.x_sema.specs.MemberWalks.{Skips, Place, Adds, AddsName, AddsNumber, A
 use Rattle.x_sema.specs.Tables.{view_name_at, view_number_at, view_members}
 use Rattle.x_sema.specs.declared.outline.bodies.BodyWalk.{BodyWalk}
 use Rattle.x_sema.specs.declared.outline.parts.Members as rust
-use Rattle.x_sema.proofs.ListLemmas.{map_append}
+use Rattle.x_text.proofs.ListLemmas.{map_append}
 
 -- the members of two parts
 abbrev joined : Members → Members → Members

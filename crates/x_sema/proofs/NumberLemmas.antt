@@ -6,8 +6,7 @@ use Rattle.std.proofs.Math.Bool.{or_comm}
 use Rattle.std.proofs.lemmas.Cmp.{int_eq_equiv}
 use Rattle.std.proofs.lemmas.List.Folds.{list_any_more}
 use Rattle.std.proofs.Common.{◌≡◌, ℕ, ◌+◌, ◌<◌, Bool, true, false, cond, Option, Some, None, List, [], ◌∷◌, ◌++◌, length, take, get_or, refl, sym, ap, ◌∙◌, append_assoc, append-nil}
-use Rattle.x_sema.specs.Numbers.{in_range, value}
-use Rattle.x_sema.specs.Constants.{number_spelled}
+use Rattle.x_schema.specs.Numbers.{in_range, value, number_spelled}
 use Rattle.x_sema.specs.Found.{fault_at, repeated_code, numbers_behind}
 use Rattle.x_sema.specs.declared.fault.RuleCode.{RuleCode}
 use Rattle.x_sema.specs.declared.fault.WordFault.{WordFault}

@@ -9,7 +9,7 @@ use Rattle.x_sema.specs.Found.{fault_at, past_last, past_last_faults}
 use Rattle.x_sema.specs.Tables.{view_enumerator_at, view_given}
 use Rattle.x_sema.specs.declared.outline.parts.EnumeratorAt.{EnumeratorAt as Kept}
 use Rattle.x_sema.specs.declared.fault.WordFault.{WordFault}
-use Rattle.x_sema.proofs.ListLemmas.{drop_one, drop_none}
+use Rattle.x_text.proofs.ListLemmas.{drop_one, drop_none}
 
 no_number : (given : Option Value) → past_last given None ≡ None
 no_number None = refl

@@ -1,45 +1,44 @@
 -- The first places of names.
 use Rattle.std.proofs.Common.{◌≡◌, ℕ, suc, ◌+◌, ◌<◌, Bool, true, false, cond, List, [], ◌∷◌, ◌++◌, length, length-append, arith, map, take, drop, Option, None, Some, refl, sym, ap, ◌∙◌}
 use Rattle.std.specs.Prelude.{nat_lt, slice_get, option_map, option_and_then, ℤ}
-use Rattle.std.specs.Option.{option_map_or}
+use Rattle.std.specs.Option.{option_map_or, option_or}
 use Rattle.std.specs.Str.{bytes_eq}
 use Rattle.x_sema.specs.Bodies.{EnumeratorAt}
 use Rattle.x_sema.specs.Constants.{Known, number_of, known_with, knowns, is_declared_before, number_named, number_before}
-use Rattle.x_sema.specs.Declarers.{or_else}
 use Rattle.x_sema.specs.Tables.{HasNumbers, place_by, first_place, noted, view_enumerator_at}
-use Rattle.x_sema.proofs.ListLemmas.{some_at, take_next, map_append, get_at}
+use Rattle.x_text.proofs.ListLemmas.{some_at, take_next, map_append, get_at}
 use Rattle.x_sema.specs.Views.{View}
 use Rattle.x_sema.specs.declared.rules.constants.Constants.{Constants}
 
-or_else_after : {X : Type 0} (a b c : Option X) → or_else (or_else a b) c ≡ or_else a (or_else b c)
-or_else_after None b c = refl
-or_else_after (Some x) b c = refl
+option_or_after : {X : Type 0} (a b c : Option X) → option_or (option_or a b) c ≡ option_or a (option_or b c)
+option_or_after None b c = refl
+option_or_after (Some x) b c = refl
 
 -- one name more is in the table
 pub place_more : (before after : List ℕ → Option ℕ) (n m : ℕ) (names : List (List ℕ)) (x : List ℕ) (rest : List (List ℕ)) (all : List ℕ → Option ℕ)
     → m ≡ suc n → names ≡ x ∷ rest
     → ((name : List ℕ) → after name ≡ noted (before name) name x n)
-    → ((name : List ℕ) → or_else (before name) (first_place n names name) ≡ all name)
-    → (name : List ℕ) → or_else (after name) (first_place m rest name) ≡ all name
+    → ((name : List ℕ) → option_or (before name) (first_place n names name) ≡ all name)
+    → (name : List ℕ) → option_or (after name) (first_place m rest name) ≡ all name
 place_more before after n m names x rest all next is more h name =
-    ap (λ a. or_else a (first_place m rest name)) (more name)
-    ∙ or_else_after (before name) (cond (bytes_eq name x) (Some n) None) (first_place m rest name)
-    ∙ ap (or_else (before name)) (step (bytes_eq name x) ∙ ap (λ k. cond (bytes_eq name x) (Some n) (first_place k rest name)) next)
-    ∙ sym (ap (λ l. or_else (before name) (first_place n l name)) is)
+    ap (λ a. option_or a (first_place m rest name)) (more name)
+    ∙ option_or_after (before name) (cond (bytes_eq name x) (Some n) None) (first_place m rest name)
+    ∙ ap (option_or (before name)) (step (bytes_eq name x) ∙ ap (λ k. cond (bytes_eq name x) (Some n) (first_place k rest name)) next)
+    ∙ sym (ap (λ l. option_or (before name) (first_place n l name)) is)
     ∙ h name
   where
-    step : (b : Bool) → or_else (cond b (Some n) None) (first_place m rest name) ≡ cond b (Some n) (first_place m rest name)
+    step : (b : Bool) → option_or (cond b (Some n) None) (first_place m rest name) ≡ cond b (Some n) (first_place m rest name)
     step true = refl
     step false = refl
 
-or_none : {X : Type 0} (a : Option X) → a ≡ or_else a None
+or_none : {X : Type 0} (a : Option X) → a ≡ option_or a None
 or_none None = refl
 or_none (Some x) = refl
 
 -- no name is left
 pub all_placed : (before : List ℕ → Option ℕ) (n : ℕ) (names : List (List ℕ)) (all : List ℕ → Option ℕ) → names ≡ []
-    → ((name : List ℕ) → or_else (before name) (first_place n names name) ≡ all name) → (name : List ℕ) → before name ≡ all name
-all_placed before n names all none h name = or_none (before name) ∙ sym (ap (λ l. or_else (before name) (first_place n l name)) none) ∙ h name
+    → ((name : List ℕ) → option_or (before name) (first_place n names name) ≡ all name) → (name : List ℕ) → before name ≡ all name
+all_placed before n names all none h name = or_none (before name) ∙ sym (ap (λ l. option_or (before name) (first_place n l name)) none) ∙ h name
 
 -- ---- enumerators by their names
 
@@ -54,7 +53,7 @@ shift n (x ∷ xs) name = by (bytes_eq name x) (shift (suc n) xs name)
     by false h = h
 
 -- the first place among two lists of names, one after the other
-pub first_of_two : (xs ys : List (List ℕ)) (name : List ℕ) → or_else (first_place 0 xs name) (option_map (λ k. length xs + k) (first_place 0 ys name)) ≡ first_place 0 (xs ++ ys) name
+pub first_of_two : (xs ys : List (List ℕ)) (name : List ℕ) → option_or (first_place 0 xs name) (option_map (λ k. length xs + k) (first_place 0 ys name)) ≡ first_place 0 (xs ++ ys) name
 first_of_two [] ys name = same (first_place 0 ys name)
   where
     same : (o : Option ℕ) → option_map (λ k. 0 + k) o ≡ o
@@ -63,19 +62,19 @@ first_of_two [] ys name = same (first_place 0 ys name)
 first_of_two (x ∷ xs) ys name =
     by (bytes_eq name x) (first_place 0 xs name) (first_place 0 ys name) (shift 0 xs name) (shift 0 (xs ++ ys) name ∙ ap (option_map suc) (sym (first_of_two xs ys name)))
   where
-    by : (b : Bool) (p o : Option ℕ) → first_place 1 xs name ≡ option_map suc p → first_place 1 (xs ++ ys) name ≡ option_map suc (or_else p (option_map (λ k. length xs + k) o))
-        → or_else (cond b (Some 0) (first_place 1 xs name)) (option_map (λ k. suc (length xs) + k) o) ≡ cond b (Some 0) (first_place 1 (xs ++ ys) name)
+    by : (b : Bool) (p o : Option ℕ) → first_place 1 xs name ≡ option_map suc p → first_place 1 (xs ++ ys) name ≡ option_map suc (option_or p (option_map (λ k. length xs + k) o))
+        → option_or (cond b (Some 0) (first_place 1 xs name)) (option_map (λ k. suc (length xs) + k) o) ≡ cond b (Some 0) (first_place 1 (xs ++ ys) name)
     by true p o s h = refl
-    by false None None s h = ap (λ a. or_else a None) s ∙ sym h
-    by false None (Some k) s h = ap (λ a. or_else a (Some (suc (length xs) + k))) s ∙ ap Some (omega arith) ∙ sym h
-    by false (Some j) o s h = ap (λ a. or_else a (option_map (λ k. suc (length xs) + k) o)) s ∙ sym h
+    by false None None s h = ap (λ a. option_or a None) s ∙ sym h
+    by false None (Some k) s h = ap (λ a. option_or a (Some (suc (length xs) + k))) s ∙ ap Some (omega arith) ∙ sym h
+    by false (Some j) o s h = ap (λ a. option_or a (option_map (λ k. suc (length xs) + k) o)) s ∙ sym h
 
 -- the same, as it is found
 pub found_of_two : (xs ys : List (List ℕ)) (name : List ℕ) (count : ℕ) (p o : Option ℕ) → length xs ≡ count → p ≡ first_place 0 xs name → o ≡ first_place 0 ys name
-    → or_else p (option_map (λ k. count + k) o) ≡ first_place 0 (xs ++ ys) name
+    → option_or p (option_map (λ k. count + k) o) ≡ first_place 0 (xs ++ ys) name
 found_of_two xs ys name count p o n h k =
-    ap (λ a. or_else a (option_map (λ k. count + k) o)) h ∙ ap (λ a. or_else (first_place 0 xs name) (option_map (λ k. count + k) a)) k
-    ∙ sym (ap (λ n. or_else (first_place 0 xs name) (option_map (λ k. n + k) (first_place 0 ys name))) n) ∙ first_of_two xs ys name
+    ap (λ a. option_or a (option_map (λ k. count + k) o)) h ∙ ap (λ a. option_or (first_place 0 xs name) (option_map (λ k. count + k) a)) k
+    ∙ sym (ap (λ n. option_or (first_place 0 xs name) (option_map (λ k. n + k) (first_place 0 ys name))) n) ∙ first_of_two xs ys name
 
 abbrev enumerator_name : EnumeratorAt → List ℕ
 enumerator_name e = e.name

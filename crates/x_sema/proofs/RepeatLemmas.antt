@@ -7,7 +7,8 @@ use Rattle.std.proofs.lemmas.Option.{same_Some}
 use Rattle.std.specs.List.{IsAmong, flat_map, list_any}
 use Rattle.std.specs.Ordering.{int_eq}
 use Rattle.x_sema.specs.Bodies.{BodyAt, Members, cases_of}
-use Rattle.x_sema.specs.Constants.{Known, limit_of, number_by, number_spelled}
+use Rattle.x_sema.specs.Constants.{Known, limit_of, number_by}
+use Rattle.x_schema.specs.Numbers.{number_spelled}
 use Rattle.x_sema.specs.Views.{View}
 use Rattle.x_sema.specs.Found.{fault_at, numbered, repeated_code, numbers_behind, repeated_numbers, spelled_numbers, repeated_cases}
 use Rattle.x_sema.specs.Rules.{HasNumber, IsRepeatedCase, IsRepeatedNumber}

@@ -9,8 +9,9 @@ use Rattle.x_item.specs.Gloss as gloss
 use Rattle.x_item.specs.Gloss.{Role}
 use Rattle.x_sema.specs.Views.{View, Class, NoClass, Signed, Unsigned, Boolean, Enumeration}
 use Rattle.x_sema.specs.Bodies.{enumerators}
-use Rattle.x_sema.specs.Numbers.{magnitude, is_negative, in_range, value, is_word_number, is_enum_number, is_zero}
-use Rattle.x_sema.specs.Constants.{knowns, limit_of, number_by, number_spelled}
+use Rattle.x_schema.specs.Numbers.{magnitude, is_negative, in_range, value, is_word_number, is_enum_number, is_zero}
+use Rattle.x_sema.specs.Constants.{knowns, limit_of, number_by}
+use Rattle.x_schema.specs.Numbers.{number_spelled}
 use Rattle.x_sema.specs.Types.{declaration_class}
 use Rattle.x_sema.specs.Notes.{Note, ValueNote, NumberNote, MisplacedNote, DiscriminantNote, InlineNote, void_note, note_of, noted}
 use Rattle.x_sema.specs.Found.{fault_at, number_fault, value_fault, spelled_fault, has_no_class, discriminant_fault, note_fault, note_faults}

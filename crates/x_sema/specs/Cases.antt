@@ -8,7 +8,7 @@ use Rattle.x_sema.specs.Views.{View, Class, NoClass, Signed, Unsigned, Boolean, 
 use Rattle.x_sema.specs.Bodies.{ValueAt}
 use Rattle.x_sema.specs.Constants.{Known, limit_of, number_by}
 use Rattle.x_sema.specs.Found.{fault_at}
-use Rattle.x_sema.specs.Numbers.{is_enum_number, is_word_number}
+use Rattle.x_schema.specs.Numbers.{is_enum_number, is_word_number}
 use Rattle.x_sema.specs.Tables.{view_value_at}
 use Rattle.x_sema.specs.Types.{declaration_class}
 use Rattle.x_sema.specs.declared.fault.RuleCode.{RuleCode}

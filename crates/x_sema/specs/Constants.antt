@@ -4,14 +4,10 @@ use Rattle.std.specs.Prelude.{ℕ, ◌-◌, Bool, false, nat_lt, List, [], ◌�
 use Rattle.std.specs.Str.{bytes_eq}
 use Rattle.x_item.specs.Tree as tree
 use Rattle.x_item.specs.declared.names.declared_name.NameKind.TheVariants as kinds
-use Rattle.x_sema.specs.Numbers.{in_range, value, is_enum_number}
+use Rattle.x_schema.specs.Numbers.{next_number, number_spelled}
 use Rattle.x_sema.specs.Views as views
 use Rattle.x_sema.specs.Views.{View}
 use Rattle.x_sema.specs.Bodies.{EnumeratorAt}
-
--- the number that a spelling stands for, if a constant may have it
-abbrev pub number_spelled : List ℕ → Option ℤ
-number_spelled text = if in_range text then Some (value text) else None
 
 -- an enumerator with its number; it has none where its value has a fault, or where the number before it has one
 pub record Known : Type 0 where
@@ -50,11 +46,6 @@ number_seen view own = None
 abbrev pub number_by : (List ℕ → View) → List Known → ℕ → tree.Value → Option ℤ
 number_by see known limit (tree.Number text) = number_spelled text
 number_by see known limit (tree.Named name) = number_seen (see name) (number_before known limit name)
-
--- One more than the number before. There is none behind a value with a fault, and a number that no enum may have makes one: at the
--- value that is given, or at the name of an enumerator without a value.
-abbrev pub next_number : Option ℤ → Option ℤ
-next_number before = option_and_then (λ z. if is_enum_number z then Some (z +ℤ pos 1) else None) before
 
 -- the number of an enumerator: that of its value; without one 0 for the first, and for another one more than the one before
 abbrev pub number_given : (List ℕ → View) → List Known → Option ℤ → ℕ → Bool → Option tree.Value → Option ℤ

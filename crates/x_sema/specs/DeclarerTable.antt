@@ -24,7 +24,3 @@ names_in entries = filter (λ e. not (names.is_beforehand e.0)) (map (λ e. (cow
 -- what a table of names has for the name
 abbrev pub first_in : List (List ℕ × Declarer) → List ℕ → Option Declarer
 first_in table name = lookup (bytes_eq name) table
-
--- the tree of a definition that is lent, if there is one
-abbrev pub tree_at : Option (Bor Definition) → Option tree.Definition
-tree_at definition = option_map (λ d. view_definition d.now) definition

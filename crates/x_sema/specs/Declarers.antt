@@ -1,5 +1,6 @@
 -- Who declares each name first (RFC 4506, section 6.4).
 use Rattle.std.specs.Prelude.{◌≡◌, ◌<◌, ◌⊎◌, ℕ, suc, ◌^◌, length, Bool, false, ◌||◌, List, [], ◌∷◌, Option, Some, None, codes, slice_get, if◌then◌else◌}
+use Rattle.std.specs.Option.{option_or}
 use Rattle.std.specs.Str.{bytes_eq}
 use Rattle.x_item.specs.Tree.{Definition}
 use Rattle.x_item.specs.Spell.{spell}
@@ -54,15 +55,10 @@ abbrev pub declarer_in : ℕ → List ℕ → Option Definition → Option Decla
 declarer_in item name None = None
 declarer_in item name (Some d) = place_of_name item 0 name (declared d)
 
--- the first answer, or else the second
-abbrev pub or_else : {X : Type 0} → Option X → Option X → Option X
-or_else (Some x) other = Some x
-or_else None other = other
-
 -- the first declarer of the name in items of which the first has this number
 abbrev pub first_from : ℕ → List (Option Definition) → List ℕ → Option Declarer
 first_from item [] name = None
-first_from item (d ∷ ds) name = or_else (declarer_in item name d) (first_from (suc item) ds name)
+first_from item (d ∷ ds) name = option_or (declarer_in item name d) (first_from (suc item) ds name)
 
 -- the first declarer of the name as a function: the one answer that `FirstIs` admits
 abbrev pub first_declarer : List (Option Definition) → List ℕ → Option Declarer

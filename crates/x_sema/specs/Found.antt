@@ -9,11 +9,11 @@ use Rattle.x_sema.specs.Views as views
 use Rattle.x_sema.specs.Views.{View, Class, NoClass, names_of}
 use Rattle.x_sema.specs.Bodies.{EnumeratorAt, NameAt, ValueAt, NumberAt, Members, bodies, enumerators, cases_of, fields_of, members}
 use Rattle.x_sema.specs.Tables.{first_place, is_too_high}
-use Rattle.x_sema.specs.Constants.{Known, knowns, limit_of, number_by, number_spelled}
+use Rattle.x_sema.specs.Constants.{Known, knowns, limit_of, number_by}
+use Rattle.x_schema.specs.Numbers.{number_spelled, is_enum_number, is_word_number, is_zero}
 use Rattle.x_sema.specs.Mentioned.{mention_fault, suits}
 use Rattle.x_sema.specs.Types.{declaration_class, heights}
 use Rattle.x_sema.specs.Notes.{Note, NoteAt, ValueNote, NumberNote, MisplacedNote, DiscriminantNote, InlineNote, noted}
-use Rattle.x_sema.specs.Numbers.{is_enum_number, is_word_number, is_zero}
 use Rattle.x_sema.specs.declared.outline.note.ValueRole.{ValueRole}
 use Rattle.x_sema.specs.declared.outline.note.ValueRole.TheVariants as roles
 use Rattle.x_sema.specs.declared.fault.RuleCode.{RuleCode}

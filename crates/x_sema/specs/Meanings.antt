@@ -1,12 +1,11 @@
 -- What the program makes of the names that an item declares.
 use Rattle.std.specs.Prelude.{◌≡◌, ℕ, suc, nat_eq, List, [], ◌∷◌, map, Option, Some, None, if◌then◌else◌}
 use Rattle.std.specs.Map.{lookup}
-use Rattle.std.specs.Option.{IfSome}
+use Rattle.std.specs.Option.{IfSome, option_or}
 use Rattle.x_item.specs.Tree as tree
 use Rattle.x_sema.specs.Bodies.{BodyAt}
 use Rattle.x_sema.specs.BodyWalks.{view_body_at}
 use Rattle.x_sema.specs.Constants.{Known}
-use Rattle.x_sema.specs.Declarers.{or_else}
 use Rattle.x_sema.specs.Results.{type_of}
 use Rattle.x_sema.specs.Tables.{capped}
 use Rattle.x_sema.specs.Types.{body_class, declaration_class, body_height, held_height}
@@ -26,7 +25,7 @@ place_at entries word = lookup (nat_eq word) entries
 
 -- what a table has for a word once another is taken in with its place, if that was not there
 abbrev pub placed : Option ℕ → ℕ → ℕ → ℕ → Option ℕ
-placed found other word place = or_else found (if nat_eq other word then Some place else None)
+placed found other word place = option_or found (if nat_eq other word then Some place else None)
 
 -- the table has the first body for each word
 pub record HasPlacesOf (entries : List (ℕ × ℕ)) (bs : List BodyAt) : Type 0 where

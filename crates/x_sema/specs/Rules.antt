@@ -11,11 +11,11 @@ use Rattle.x_item.specs.Gloss.{Gloss, Role}
 use Rattle.x_item.specs.Names.{Declared, declared}
 use Rattle.x_item.specs.Mentions.{Mention, mentioned}
 use Rattle.x_item.specs.Spell.{spell_declaration}
-use Rattle.x_sema.specs.Numbers.{in_range, value, is_word_number, is_enum_number}
+use Rattle.x_schema.specs.Numbers.{in_range, value, is_word_number, is_enum_number, number_spelled}
 use Rattle.x_sema.specs.Views as views
 use Rattle.x_sema.specs.Views.{View, Class, NoClass, Signed, Unsigned, Boolean, Enumeration}
 use Rattle.x_sema.specs.Bodies.{BodyAt, EnumeratorAt, NameAt, ValueAt, NumberAt, Members, bodies, enumerators, cases_of, members, name_groups}
-use Rattle.x_sema.specs.Constants.{Known, knowns, number_at, number_spelled}
+use Rattle.x_sema.specs.Constants.{Known, knowns, number_at}
 use Rattle.x_sema.specs.Mentioned.{mention_fault, suits}
 use Rattle.x_sema.specs.Types.{declaration_class, heights}
 use Rattle.x_sema.specs.contracts.fault.RuleCode.{the_type}

@@ -4,7 +4,7 @@ use Rattle.indexmap.specs.IndexMap.{IndexMap}
 use Rattle.std.specs.Borrow.{Bor}
 use Rattle.std.specs.Cow.{cow_slice_items}
 use Rattle.std.specs.Map.{lookup}
-use Rattle.std.specs.Option.{option_map_or}
+use Rattle.std.specs.Option.{option_map_or, option_or}
 use Rattle.std.specs.Str.{bytes_eq}
 use Rattle.x_item.specs.Tree as tree
 use Rattle.x_item.specs.View.{view_value}
@@ -16,7 +16,6 @@ use Rattle.x_item.specs.declared.names.mention.Use.TheVariants as uses
 use Rattle.x_sema.specs.Views as views
 use Rattle.x_sema.specs.Bodies as bodies
 use Rattle.x_sema.specs.Constants.{Known}
-use Rattle.x_sema.specs.Declarers.{or_else}
 use Rattle.x_sema.specs.Types as types
 use Rattle.x_sema.specs.RustViews.{view_class, view_view}
 use Rattle.x_sema.specs.declared.rules.classes.Sight.{Sight}
@@ -50,7 +49,7 @@ place_in (held.Many table) name = tabled table.entries name
 
 -- what a table has for a name once another is taken in with its place, if that was not there
 abbrev pub noted : Option ℕ → List ℕ → List ℕ → ℕ → Option ℕ
-noted found other name place = or_else found (if bytes_eq other name then Some place else None)
+noted found other name place = option_or found (if bytes_eq other name then Some place else None)
 
 -- the table has the first place of each name
 pub record HasTabled (entries : List (Bor (List ℕ) × ℕ)) (names : List (List ℕ)) : Type 0 where

@@ -11,7 +11,7 @@ use Rattle.x_item.specs.declared.names.mention.Use.{Use}
 use Rattle.x_item.specs.declared.names.mention.Use.TheVariants as uses
 use Rattle.x_sema.specs.Views as views
 use Rattle.x_sema.specs.Views.{View, Class, NoClass, Signed, Unsigned, Boolean, Enumeration}
-use Rattle.x_sema.specs.Numbers.{is_enum_number}
+use Rattle.x_schema.specs.Numbers.{is_enum_number}
 use Rattle.x_sema.specs.Bodies.{bodies}
 use Rattle.x_sema.specs.Constants.{Known, number_named}
 use Rattle.x_sema.specs.Mentioned.{suits}

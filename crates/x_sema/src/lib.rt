@@ -7,11 +7,9 @@ mod checked;
 mod fault;
 mod laws;
 mod names;
-mod number;
 mod numbers;
 mod outline;
 mod rules;
-mod schema;
 mod views;
 
 pub use check::{check_item, check_outline};
@@ -21,11 +19,10 @@ pub use laws::{
     has_results, one_first_declarer, one_list_of_faults, one_list_of_results, one_outcome,
 };
 pub use names::{Declarer, Names};
-pub use number::number_value;
 pub use numbers::Numbers;
 pub use outline::Outline;
-pub use schema::{
-    Arm, Arms, Enumerators, Field, Form, FormIndex, LinkIndex, NameIndex, Procedure,
-    ProcedureNumbers, Root, Schema, TypeId,
-};
 pub use views::{Class, MOST_HEIGHT, Meaning, View};
+pub use x_schema::{
+    Arm, Arms, Enumerators, Field, Form, FormIndex, LinkIndex, NameIndex, Procedure,
+    ProcedureNumbers, Root, Schema, TypeId, number_value,
+};

@@ -4,9 +4,11 @@ ghost use Rattle.std.specs.Cow.{cow_slice_items};
 ghost use Rattle.std.specs.Str.{bytes_eq};
 ghost use Rattle.x_item.specs.View.{view_definition};
 ghost use Rattle.x_item.specs.Names.{declared};
-ghost use Rattle.x_sema.specs.Declarers.{AreShort, IsShort, is_beforehand, FirstIs, first_from, or_else};
+ghost use Rattle.x_sema.specs.Declarers.{AreShort, IsShort, is_beforehand, FirstIs, first_from};
+ghost use Rattle.std.specs.Option.{option_or};
 ghost use Rattle.x_sema.specs.Declarers.{place_of_name};
-ghost use Rattle.x_sema.specs.DeclarerTable.{entry_in, first_in, tree_at};
+ghost use Rattle.x_sema.specs.DeclarerTable.{entry_in, first_in};
+ghost use Rattle.x_schema.specs.Definitions.{tree_at};
 
 use indexmap::IndexMap;
 use std::alloc::Global;
@@ -139,7 +141,7 @@ fn add<'d>(
 ) -> Result<(), NoMemory>
     ensures { OnOk result (IsShort (view_definition definition.now)
         → (name : List ℕ) → entry_in table.new.entries name
-        ≡ or_else (place_of_name item 0 name (declared (view_definition definition.now))) (entry_in table.old.entries name)) }
+        ≡ option_or (place_of_name item 0 name (declared (view_definition definition.now))) (entry_in table.old.entries name)) }
 {
     declares_into(alloc, left, definition)?;
     while let Some(declared) = left.pop() {
@@ -162,7 +164,7 @@ fn note<'d>(
     declarer: Declarer,
 ) -> Result<(), NoMemory>
     ensures { OnOk result ((other : List ℕ) → entry_in table.new.entries other
-        ≡ or_else (if bytes_eq other (cow_slice_items name.entry) then Some declarer else None)
+        ≡ option_or (if bytes_eq other (cow_slice_items name.entry) then Some declarer else None)
         (entry_in table.old.entries other)) }
 {
     table.insert(name, declarer)?;

@@ -18,7 +18,7 @@ use Rattle.x_sema.specs.declared.names.Declarer.{Declarer}
 use Rattle.x_sema.specs.Results.{Outcome, IsOutcome, IsResult, AreResultsFrom, result_at, view_of, view_by, beforehand_meaning}
 use Rattle.x_sema.proofs.DeclarerLaws.{as_found}
 use Rattle.x_sema.proofs.HasResults.{stays_result, agree_front}
-use Rattle.x_sema.proofs.ListLemmas.{drop_one, get_at, take_next}
+use Rattle.x_text.proofs.ListLemmas.{drop_one, get_at, take_next}
 use Rattle.x_sema.proofs.OutlineLemmas.{map_map}
 use Rattle.x_sema.proofs.ResultLaws.{AgreeBefore}
 use Rattle.x_session.specs.ItemView.{kept_definition}

@@ -13,7 +13,7 @@ use Rattle.x_item.specs.Items.{AreItems, joined, IsCut}
 use Rattle.x_item.proofs.ParseLaws.{one_parse}
 use Rattle.x_item.proofs.CuttingLemmas.{same_cut}
 use Rattle.x_sema.specs.Results.{Outcome, AreResultsFrom, AreResults, result_at}
-use Rattle.x_sema.proofs.ListLemmas.{get_at, drop_next}
+use Rattle.x_text.proofs.ListLemmas.{get_at, drop_next}
 use Rattle.x_sema.proofs.ResultLaws.{one_results}
 use Rattle.x_session.specs.ItemView.{AreEach, AreParsed, view_item, view_parse, kept_definition}
 use Rattle.x_session.proofs.ItemLemmas.{take_part, drop_part}

@@ -11,7 +11,7 @@ use Rattle.x_session.specs.Definitions.{numbered}
 use Rattle.x_session.specs.Answers.{definition_line}
 use Rattle.x_session.specs.Session.{Compiles}
 use Rattle.x_session.proofs.Compiled.{one_compilation}
-use Rattle.x_sema.proofs.ListLemmas.{drop_none}
+use Rattle.x_text.proofs.ListLemmas.{drop_none}
 use Rattle.x_text.proofs.Listing.{HasListed, lists_none, lists_more, lists_all}
 
 -- the definitions of the first items are listed

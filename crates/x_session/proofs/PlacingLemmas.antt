@@ -3,7 +3,7 @@ use Rattle.std.proofs.Common.{◌≡◌, ℕ, suc, ◌+◌, ◌-◌, ◌<◌, �
 use Rattle.std.specs.Prelude.{◌&&◌}
 use Rattle.x_lex.specs.Places.{Lexeme}
 use Rattle.x_item.specs.Words.{is_significant}
-use Rattle.x_sema.proofs.ListLemmas.{drop_none}
+use Rattle.x_text.proofs.ListLemmas.{drop_none}
 use Rattle.x_session.specs.Compile.{token_of_word}
 use Rattle.x_session.specs.Seats.{IsSeat}
 use Rattle.x_session.specs.declared.compile.placing.Seat.{Seat}

@@ -12,7 +12,8 @@ use Rattle.x_session.specs.Lines.{Reading, IsUnread, script_lines}
 use Rattle.x_lex.specs.declared.kind.Kind.{Kind}
 use Rattle.x_session.specs.Compile.{Item, IsCompilation}
 use Rattle.x_session.specs.declared.script.lines.State.TheVariants.{Between}
-use Rattle.x_session.specs.Script.{then_answer, LineAnswers, AreAnswered, IsGiven, HasGiven, IsAsBefore, HasRun, HasStopped, HasFailed, IsFrontOf, WorksOn, AddsIfFound}
+use Rattle.x_session.specs.Script.{then_answer, LineAnswers, AreAnswered, IsGiven, HasGiven, IsAsBefore, HasRun, HasStopped, HasFailed, IsFrontOf, AddsIfFound}
+use Rattle.x_text.specs.Engines.{WorksOn}
 use Rattle.x_session.proofs.Scripts.{answered_more}
 
 -- between two lines: the lines that were given are answered, and their answers are written
@@ -149,10 +150,6 @@ pub so_still : (script : List ℕ) (old : Document) (start : Stream) (session ne
 so_still script old start session new reader left refused p q now now' h same =
     subst (λ s. HasRun h.given old s start now' refused) (sym same.session_same)
     (subst (λ (n : Stream). HasRun h.given old session start n refused) (sym same.sink_same) (so_far script old start session reader left refused p now h))
-
-pub match_some : {X : Type 0} (o : Option X) (P : X → Type 0) → ((x : X) → o ≡ Some x → P x) → MatchOption o (Unit {0}) P
-match_some None P h = tt
-match_some (Some x) P h = h x refl
 
 -- a fault that is not the sink's
 pub at_fault : (script : List ℕ) (old : Document) (start : Stream) (session new : Document) (reader : Reading) (left : Option (List ℕ)) (refused : Bool) (p q : Inked) (now now' : Stream)

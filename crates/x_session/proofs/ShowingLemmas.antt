@@ -1,11 +1,11 @@
 -- What is told of a message.
-use Rattle.std.proofs.Common.{◌≡◌, ◌<◌, ℕ, List, [], Bool, true, false, Some, None, Result, Ok, Err, length, refl, subst}
+use Rattle.std.proofs.Common.{◌≡◌, ◌<◌, ℕ, List, [], Bool, true, false, Some, None, Result, Ok, Err, length, refl}
 use Rattle.std.specs.Prelude.{codes, IfOk}
 use Rattle.x_text.specs.declared.no_memory.NoMemory.{NoMemory}
 use Rattle.x_text.specs.Streams.{Stream}
 use Rattle.x_text.specs.Writing.{Inked, Adds}
-use Rattle.x_sema.specs.Schema.{Schema, id_named}
-use Rattle.x_sema.specs.declared.schema.TypeId.{TypeId}
+use Rattle.x_schema.specs.Schema.{Schema, id_named}
+use Rattle.x_schema.specs.declared.schema.TypeId.{TypeId}
 use Rattle.x_value.specs.Dumps.{IsFault, IsShown}
 use Rattle.x_value.specs.FaultTexts.{fault_line}
 use Rattle.x_value.specs.Shown.{Node}
@@ -19,13 +19,6 @@ use Rattle.x_session.specs.Showing.{IsMessageAnswer, IsTypedAnswer, IsDumpAnswer
 use Rattle.x_session.specs.Typed.{GivesSchema}
 use Rattle.x_session.specs.declared.session.schema_fault.SchemaFault.{SchemaFault}
 use Rattle.x_session.specs.declared.session.schema_fault.SchemaFault.TheVariants.{Faulty}
-
-abbrev IsFalse : Bool → Type 0
-IsFalse true = ⊥
-IsFalse false = Unit {0}
-
-pub false_true : false ≡ true → ⊥
-false_true is = subst IsFalse is tt
 
 module _ (p q : Inked) (now now' : Stream) where
   pub tells_shown : (s : Schema) (id : TypeId) (message : List ℕ) (nodes : List Node) → IsShown s id message nodes

@@ -15,4 +15,3 @@ pub mod Session
 pub mod SessionState
 pub mod Showing
 pub mod Typed
-pub mod ValueTexts

@@ -1,18 +1,17 @@
 -- What a script does with a text.
 use Rattle.std.specs.Prelude.{◌≡◌, ◌≤◌, ℕ, Bool, true, false, ◌||◌, List, [], ◌∷◌, ◌++◌, length, Option, Some, None, Result, Ok, Err}
 use Rattle.x_text.specs.Streams.{Stream}
-use Rattle.x_text.specs.Writing.{Inked, Adds}
+use Rattle.x_text.specs.Writing.{Inked, Adds, HasFront, counted}
 use Rattle.x_session.specs.Session.{Document, LeavesText, Compiles}
 use Rattle.x_session.specs.Answers.{Answer}
 use Rattle.x_session.specs.LineAnswers.{IsLineAnswer}
 use Rattle.x_session.specs.declared.script.lines.LineFault.{LineFault}
 use Rattle.x_session.specs.declared.script.lines.State.TheVariants.{Ended}
-use Rattle.x_session.specs.declared.script.Outcome.{Outcome}
-use Rattle.x_session.specs.declared.script.Outcome.TheVariants.{Clean, Refused}
-use Rattle.x_session.specs.declared.script.EngineFault.{EngineFault}
-use Rattle.x_session.specs.declared.script.EngineFault.TheVariants.{Read, Write, NoMemory}
+use Rattle.x_text.specs.declared.outcome.Outcome.{Outcome}
+use Rattle.x_text.specs.declared.outcome.Outcome.TheVariants.{Clean, Refused}
+use Rattle.x_text.specs.declared.outcome.EngineFault.{EngineFault}
+use Rattle.x_text.specs.declared.outcome.EngineFault.TheVariants.{Read, Write, NoMemory}
 use Rattle.x_session.specs.Lines.{Reading, IsUnread, StopsBehind, script_lines, whole_lines}
-use Rattle.x_text.specs.Writing.{HasFront, counted}
 use Rattle.std.specs.Io.KnownBytes.{Appends, Consumes}
 
 -- one answer behind another
@@ -104,10 +103,6 @@ pub record HasFailed (lines : List (List ℕ)) (old new : Document) (before afte
   pub answered : AreAnswered old.base old.text earlier all
   pub within : LineAnswers old.base all.text last (λ a. FailsWithin all a old new before after written)
 
-abbrev pub is_refused : Outcome → Bool
-is_refused Clean = false
-is_refused Refused = true
-
 -- What a run of a script does, of which the tap has `left` then. A fault of the reader comes behind the answers of all lines that a line feed ends
 -- in what was read, want of memory behind those of some lines, from the first on, and a fault of the sink within an answer.
 abbrev pub Runs : (script : List ℕ) (left : Option (List ℕ)) (old new : Document) (before after : Stream) → Result Outcome EngineFault → Type 0
@@ -115,17 +110,6 @@ Runs script left old new before after (Ok outcome) = HasRun (script_lines script
 Runs script left old new before after (Err (Read written)) = (read : List ℕ) × Consumes (Some script) left read × HasStopped (whole_lines read) old new before after written
 Runs script left old new before after (Err (NoMemory written)) = IsFrontOf script (λ lines. HasStopped lines old new before after written)
 Runs script left old new before after (Err (Write written)) = IsFrontOf script (λ lines. HasFailed lines old new before after written) × (after.failed ≡ true)
-
--- a sink that worked still works
-abbrev pub WorksOn : Bool → Bool → Type 0
-WorksOn before after = before ≡ false → after ≡ false
-
--- A run names its fault by what failed, and names one where something did: by whether the tap and the sink have failed, before and after.
-abbrev pub NamesCause : Result Outcome EngineFault → (tap tap' sink sink' : Bool) → Type 0
-NamesCause (Ok outcome) tap tap' sink sink' = (tap' ≡ tap) × WorksOn sink sink'
-NamesCause (Err (Read written)) tap tap' sink sink' = (tap' ≡ true) × WorksOn sink sink'
-NamesCause (Err (NoMemory written)) tap tap' sink sink' = (tap' ≡ tap) × WorksOn sink sink'
-NamesCause (Err (Write written)) tap tap' sink sink' = (tap' ≡ tap) × (sink' ≡ true)
 
 -- a step that finds no line leaves the sink alone, and one that finds a line adds to it
 abbrev pub AddsIfFound : {S : Type 0} → Result (Option Bool) LineFault → (sink sink' : S) → Type 0 → Type 0

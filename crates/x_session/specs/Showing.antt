@@ -1,8 +1,8 @@
 -- What a line that asks to show a value is answered, over a text and its items.
 use Rattle.std.specs.Prelude.{◌≡◌, ◌<◌, ℕ, List, [], ◌++◌, Some, None, length, codes}
-use Rattle.x_sema.specs.Schema.{Schema, id_named}
-use Rattle.x_sema.specs.Schemas.{IsSchemaOf}
-use Rattle.x_sema.specs.declared.schema.TypeId.{TypeId}
+use Rattle.x_schema.specs.Schema.{Schema, id_named}
+use Rattle.x_schema.specs.Schemas.{IsSchemaOf}
+use Rattle.x_schema.specs.declared.schema.TypeId.{TypeId}
 use Rattle.x_value.specs.Dumps.{IsFault, IsShown}
 use Rattle.x_value.specs.FaultTexts.{fault_line}
 use Rattle.x_value.specs.Lines.{node_lines}

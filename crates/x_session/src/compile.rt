@@ -1,7 +1,7 @@
 //! Compiling a text from scratch.
 
 ghost use Rattle.std.specs.Prelude.{IfOk, map};
-ghost use Rattle.x_sema.specs.Schemas.{IsSchemaOf};
+ghost use Rattle.x_schema.specs.Schemas.{IsSchemaOf};
 ghost use Rattle.x_session.specs.ItemView.{kept_definition};
 ghost use Rattle.x_session.specs.SessionState.{IsCompiled};
 

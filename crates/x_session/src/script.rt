@@ -6,7 +6,8 @@ ghost use Rattle.x_text.specs.Writing.{Adds};
 ghost use Rattle.x_session.specs.Session.{Compiles};
 ghost use Rattle.x_session.specs.Answers.{answer, edit_answer};
 ghost use Rattle.x_session.specs.declared.script.lines.TheConstants.{LONGEST};
-ghost use Rattle.x_session.specs.Script.{AddsIfFound, IsGiven, LineAnswers, HasGiven, GoesOn, NamesCause, Runs, is_refused};
+ghost use Rattle.x_session.specs.Script.{AddsIfFound, IsGiven, LineAnswers, HasGiven, GoesOn, Runs};
+ghost use Rattle.x_text.specs.Engines.{NamesCause, is_refused};
 ghost use Rattle.x_session.specs.Lines.{FailsBy};
 
 mod answer;
@@ -22,40 +23,7 @@ pub use command::{Command, Insert, dump_words, parse_command};
 pub use lines::{Found, LONGEST, LineFault, LineReader};
 use showing::answer_dump;
 use std::alloc::Global;
-use thiserror::Error;
-use x_text::{Edit, NoMemory, Pen, Sink, Tap, TextFault};
-
-/// How a script ended.
-#[derive(Clone, Copy, Debug, PartialEq, Eq)]
-pub enum Outcome {
-    /// Each line was carried out.
-    Clean,
-    /// A line was refused.
-    Refused,
-}
-
-impl Outcome {
-    /// The outcome with one line more.
-    fn with(self, refused: bool) -> Outcome
-        ensures { is_refused result ≡ (is_refused self || refused) }
-    {
-        if refused { Outcome::Refused } else { self }
-    }
-}
-
-/// Why a script stopped, and how many bytes of its answers were written.
-#[derive(Clone, Copy, Debug, PartialEq, Eq, Error)]
-pub enum EngineFault {
-    /// The script could not be read on.
-    #[error("a read failed, with {written} bytes written")]
-    Read { written: u64 },
-    /// An answer could not be written.
-    #[error("a write failed after {written} bytes")]
-    Write { written: u64 },
-    /// Memory ran out.
-    #[error("out of memory, with {written} bytes written")]
-    NoMemory { written: u64 },
-}
+use x_text::{Edit, EngineFault, NoMemory, Outcome, Pen, Sink, Tap, TextFault};
 
 /// Carries out the script that a tap gives, line by line, and writes the answer to each line before it carries out the next.
 ///

@@ -1,7 +1,9 @@
 pub mod Adding
+pub mod Cases
 pub mod Columns
 pub mod Edits
 pub mod LengthLemmas
+pub mod ListLemmas
 pub mod Listing
 pub mod PassLemmas
 pub mod PatchLemmas

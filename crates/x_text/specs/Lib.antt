@@ -1,5 +1,6 @@
 pub mod Counts
 pub mod Edits
+pub mod Engines
 pub mod Lengths
 pub mod Memory
 pub mod Seqs

@@ -3,14 +3,15 @@ use Rattle.std.proofs.Common.{◌≡◌, ℕ, ◌+◌, ◌-◌, ◌*◌, ◌/◌
 use Rattle.std.specs.Prelude.{if◌then◌else◌, Option, Some, None}
 use Rattle.std.proofs.lemmas.List.{append-nil, length-append, take-append-drop, length-take, length-drop}
 use Rattle.std.proofs.Math.Seq.{drop-append_seam}
-use Rattle.x_sema.specs.Schema.{Schema}
-use Rattle.x_sema.specs.Sound.{IsSound}
+use Rattle.x_schema.specs.Schema.{Schema}
+use Rattle.x_schema.specs.Sound.{IsSound}
 use Rattle.x_value.specs.declared.fault.ReadCode.{ReadCode}
 use Rattle.x_value.specs.declared.fault.ReadCode.TheVariants as codes
 use Rattle.x_value.specs.Shown.{Leaf, Node}
-use Rattle.x_value.specs.Values.{Value, Values, body, group, headed, end, more, padding, copies, enc, encs}
+use Rattle.x_value.specs.Values.{Value, Values, body, group, headed, end, more, enc, encs}
+use Rattle.x_units.specs.Units.{padding, copies, are_zeros}
 use Rattle.x_value.specs.Layouts.{Fixed, Place, Job, placed, body_nodes}
-use Rattle.x_value.specs.Readings.{IsByteList, Fits, Suits, Role, Free, Padded, are_zeros, body_roles, roles, roles_each, nodes, nodes_each}
+use Rattle.x_value.specs.Readings.{IsByteList, Fits, Suits, Role, Free, Padded, body_roles, roles, roles_each, nodes, nodes_each}
 use Rattle.x_value.specs.Language.{Begins, NotIn, Stuck, Short}
 use Rattle.x_value.specs.Jobs.{Spells, AreReady, Faulty, Moves, BodyTaken, BodyFault, cut_body, bad_pad, Refused, ends, stops}
 use Rattle.x_value.proofs.Fronts.{cut_same}

@@ -6,8 +6,8 @@ use Rattle.std.specs.Prelude.{nat_eq}
 use Rattle.std.proofs.lemmas.Bool.{cases_lt}
 use Rattle.std.proofs.lemmas.Bool.Decides.{nat_tests}
 use Rattle.std.proofs.lemmas.List.{take-append-drop, length-append, length-take, get_or-take, get_or_past}
-use Rattle.x_value.specs.Values.{word, copies, padding}
-use Rattle.x_value.specs.Readings.{are_zeros, IsByteList, Free, Padded, body_roles}
+use Rattle.x_units.specs.Units.{word, copies, padding, are_zeros}
+use Rattle.x_value.specs.Readings.{IsByteList, Free, Padded, body_roles}
 use Rattle.x_value.proofs.Fronts.{cut_same}
 
 -- ---- words
@@ -33,29 +33,12 @@ pub IsByteList_of : (bs : List ℕ) → ((i : ℕ) → get_or bs i 0 < 256) → 
 IsByteList_of [] h = tt
 IsByteList_of (b ∷ bs) h = (h 0, IsByteList_of bs (λ i. h (suc i)))
 
-take_fits : (n : ℕ) (bs : List ℕ) → ((i : ℕ) → get_or bs i 0 < 256) → (i : ℕ) → get_or (take n bs) i 0 < 256
-take_fits n bs h i =
-    elim (cases_lt i n) [
-      | inl lt ↦ rw (get_or-take n bs i 0 lt) (h i)
-      | inr le ↦ rw (get_or_past (take n bs) i 0 (omega (arith, length-take n bs))) (lit< tt)
-    ]
-
 both_true : (a b : Bool) → (a && b) ≡ true → (a ≡ true) × (b ≡ true)
 both_true true b h = (refl, h)
 both_true false b h = absurd cc
 
 true_eq : (a b : ℕ) → nat_eq a b ≡ true → a ≡ b
 true_eq a b h = grind (arith, nat_tests)
-
-pub word_read : (w : ℕ) (front rest bytes : List ℕ) → front ≡ take 4 bytes → rest ≡ drop 4 bytes → 4 ≤ length bytes → ((i : ℕ) → get_or bytes i 0 < 256) → w ≡ from_be_bytes w32 front → bytes ≡ word w ++ rest
-unfolding word
-word_read w front rest bytes f r len fits is =
-    sym (take-append-drop 4 bytes) ∙ ap (λ t. t ++ drop 4 bytes) (sym (be_bytes_4 (take 4 bytes) w (length-take 4 bytes ∙ omega arith) (take_fits 4 bytes fits) (is ∙ ap (λ t. from_be_bytes w32 t) f))) ∙ ap (λ t. to_be_bytes w32 w ++ t) (sym r)
-
--- a slice cut in three
-pub cut_in_three : (n k : ℕ) (bytes a b c d : List ℕ) → a ≡ take n bytes → b ≡ drop n bytes → c ≡ take k b → d ≡ drop k b → bytes ≡ a ++ (c ++ d)
-cut_in_three n k bytes a b c d ea eb ec ed =
-    sym (take-append-drop n bytes) ∙ ap (λ t. t ++ drop n bytes) (sym ea) ∙ ap (λ t. a ++ t) (sym eb) ∙ ap (λ t. a ++ t) (sym (take-append-drop k b)) ∙ ap (λ t. a ++ (t ++ drop k b)) (sym ec) ∙ ap (λ t. a ++ (c ++ t)) (sym ed)
 
 pub zeros_copies : (n : ℕ) (p : List ℕ) → length p ≡ n → are_zeros p ≡ true → p ≡ copies n 0
 zeros_copies zero [] e h = refl

@@ -1,7 +1,7 @@
 -- Entries by their places in a list.
 use Rattle.std.proofs.Common.{◌≡◌, ℕ, zero, suc, ◌<◌, ◌≤◌, List, [], ◌∷◌, length, option_map, slice_get, get_or, refl, sym, ap, subst, ◌∙◌, arith}
 use Rattle.std.specs.Prelude.{Some, None}
-use Rattle.x_sema.specs.Schema.{Schema}
+use Rattle.x_schema.specs.Schema.{Schema}
 use Rattle.x_value.specs.declared.entry.Entry.{Entry}
 use Rattle.x_value.specs.declared.nodes.Node.{Node as RustNode}
 use Rattle.x_value.specs.Entries.{node_of, nodes_of, IsCalled, IsKept, AreNamed}

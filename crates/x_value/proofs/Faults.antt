@@ -3,19 +3,20 @@ use Rattle.std.proofs.Common.{◌≡◌, ℕ, ◌+◌, ◌-◌, ◌*◌, ◌<◌
 use Rattle.std.specs.Prelude.{Bool, true, false, if◌then◌else◌, nat_lt, nat_eq, is_some, Option, Some, None, drop}
 use Rattle.std.specs.Int.{from_be_bytes, w32}
 use Rattle.std.proofs.lemmas.List.{append-nil, length-append}
-use Rattle.x_sema.specs.declared.schema.form.Arm.{Arm}
-use Rattle.x_sema.specs.declared.schema.form.Form.{Form}
-use Rattle.x_sema.specs.declared.schema.form.Form.TheVariants as forms
-use Rattle.x_sema.specs.declared.schema.TypeId.{TypeId}
-use Rattle.x_sema.specs.Choices.{arm_for, name_for}
-use Rattle.x_sema.specs.Schema.{Schema, form_at}
-use Rattle.x_sema.specs.Sound.{is_legal}
+use Rattle.x_schema.specs.declared.form.Arm.{Arm}
+use Rattle.x_schema.specs.declared.form.Form.{Form}
+use Rattle.x_schema.specs.declared.form.Form.TheVariants as forms
+use Rattle.x_schema.specs.declared.schema.TypeId.{TypeId}
+use Rattle.x_schema.specs.Choices.{arm_for, name_for}
+use Rattle.x_schema.specs.Schema.{Schema, form_at}
+use Rattle.x_schema.specs.Sound.{is_legal}
 use Rattle.x_value.specs.declared.fault.ReadCode.{ReadCode}
 use Rattle.x_value.specs.declared.fault.ReadCode.TheVariants as codes
 use Rattle.x_value.specs.Shown.{Node}
-use Rattle.x_value.specs.Values.{Value, Values, body, group, headed, end, more, word, enc, encs}
+use Rattle.x_value.specs.Values.{Value, Values, body, group, headed, end, more, enc, encs}
+use Rattle.x_units.specs.Units.{word, are_zeros}
 use Rattle.x_value.specs.Layouts.{Layout, Fixed, Fields, Elements, Flag, Named, Sized, Counted, Optional, Chosen, Place, Job, most_links, members, behind, arm_fault, head_fault, open_fault, illegal_code}
-use Rattle.x_value.specs.Readings.{Fits, Suits, Role, Free, Padded, Head, fault_of, are_zeros, roles, roles_each, nodes, nodes_each}
+use Rattle.x_value.specs.Readings.{Fits, Suits, Role, Free, Padded, Head, fault_of, roles, roles_each, nodes, nodes_each}
 use Rattle.x_value.specs.Language.{Leads, Begins, NotIn, IsOfUnits, Stuck, Short}
 use Rattle.x_value.specs.Jobs.{Spells, Faulty, Refused, no_memory, ends, trails, stops, Moves}
 use Rattle.x_value.specs.Dumps.{root_job, IsEncoding, IsShown, BeginsEncoding, NoFrontIsEncoding, IsFault, no_memory_left, trailing, bad_unit, cut_short}

@@ -2,11 +2,12 @@
 use Rattle.std.proofs.Common.{lit<, ◌≡◌, ℕ, ◌+◌, ◌^◌, ◌<◌, List, [], ◌∷◌, ◌++◌, length, refl, sym, ◌∙◌, ap, subst, append_assoc, arith}
 use Rattle.std.specs.Prelude.{Option, Some, None}
 use Rattle.std.proofs.lemmas.List.{length-append}
-use Rattle.x_sema.specs.Schema.{Schema}
-use Rattle.x_sema.specs.Sound.{IsSound}
+use Rattle.x_schema.specs.Schema.{Schema}
+use Rattle.x_schema.specs.Sound.{IsSound}
 use Rattle.x_value.specs.declared.fault.ReadCode.{ReadCode}
 use Rattle.x_value.specs.Shown.{Node}
-use Rattle.x_value.specs.Values.{Value, Values, body, group, headed, end, more, word, enc, encs}
+use Rattle.x_value.specs.Values.{Value, Values, body, group, headed, end, more, enc, encs}
+use Rattle.x_units.specs.Units.{word}
 use Rattle.x_value.specs.Layouts.{Layout, Place, Job, placed, members, behind, head_fault, group_nodes, head_nodes}
 use Rattle.x_value.specs.Readings.{IsGroup, IsHeaded, Fits, Suits, Role, Head, roles, roles_each, nodes, nodes_each}
 use Rattle.x_value.specs.Language.{NotIn, Stuck, Short}

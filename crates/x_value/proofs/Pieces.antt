@@ -1,8 +1,8 @@
 -- What stands behind the front of what is to be read.
 use Rattle.std.proofs.Common.{◌≡◌, ℕ, ◌*◌, List, [], ◌∷◌, ◌++◌, length, refl, sym, ◌∙◌, ap, append_assoc}
 use Rattle.std.proofs.lemmas.List.{append_cancel_left}
-use Rattle.x_sema.specs.Schema.{Schema}
-use Rattle.x_sema.specs.Sound.{IsSound}
+use Rattle.x_schema.specs.Schema.{Schema}
+use Rattle.x_schema.specs.Sound.{IsSound}
 use Rattle.x_value.specs.Shown.{Node}
 use Rattle.x_value.specs.Values.{Value, Values, end, more, enc, encs}
 use Rattle.x_value.specs.Layouts.{Layout, Place, Job, placed}

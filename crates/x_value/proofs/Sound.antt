@@ -2,17 +2,18 @@
 use Rattle.std.proofs.Common.{lit<, ◌≡◌, ℕ, zero, suc, ◌<◌, ◌≤◌, List, [], ◌∷◌, length, refl, arith, Bool, true, false}
 use Rattle.std.specs.Prelude.{Option, Some, None, nat_lt, is_some, if◌then◌else◌}
 use Rattle.std.proofs.lemmas.Bool.Decides.{nat_tests}
-use Rattle.x_sema.specs.declared.schema.form.Arm.{Arm}
-use Rattle.x_sema.specs.declared.schema.form.Arm.TheVariants as arms
-use Rattle.x_sema.specs.declared.schema.form.Field.{Field}
-use Rattle.x_sema.specs.declared.schema.form.Form.{Form}
-use Rattle.x_sema.specs.declared.schema.form.Form.TheVariants as forms
-use Rattle.x_sema.specs.Choices.{arm_for}
-use Rattle.x_sema.specs.Schema.{Schema, form_at}
-use Rattle.x_sema.specs.Sound.{is_legal, AreSoundFields, IsSoundArm, IsSoundForm, IsSound}
+use Rattle.x_schema.specs.declared.form.Arm.{Arm}
+use Rattle.x_schema.specs.declared.form.Arm.TheVariants as arms
+use Rattle.x_schema.specs.declared.form.Field.{Field}
+use Rattle.x_schema.specs.declared.form.Form.{Form}
+use Rattle.x_schema.specs.declared.form.Form.TheVariants as forms
+use Rattle.x_schema.specs.Choices.{arm_for}
+use Rattle.x_schema.specs.Schema.{Schema, form_at}
+use Rattle.x_schema.specs.Sound.{is_legal, AreSoundFields, IsSoundArm, IsSoundForm, IsSound}
 use Rattle.x_value.specs.declared.fault.ReadCode.{ReadCode}
 use Rattle.x_value.specs.declared.fault.ReadCode.TheVariants as codes
-use Rattle.x_value.specs.Values.{Value, Values, body, group, headed, end, more, copies}
+use Rattle.x_value.specs.Values.{Value, Values, body, group, headed, end, more}
+use Rattle.x_units.specs.Units.{copies}
 use Rattle.x_value.specs.Layouts.{Layout, Fixed, Fields, Elements, Flag, Named, Sized, Counted, Optional, Chosen, Place, Job, layout_of, layout_at, field_job, field_jobs, element_jobs, arm_jobs, job, arm_fault, illegal_code}
 use Rattle.x_value.specs.Shown.{Index}
 use Rattle.x_value.specs.Readings.{Fits, Suits}

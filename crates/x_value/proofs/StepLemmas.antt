@@ -3,14 +3,14 @@ use Rattle.std.proofs.Common.{◌≡◌, ℕ, zero, suc, ◌+◌, ◌-◌, ◌^�
 use Rattle.std.specs.Prelude.{Option, Some, None, Vec}
 use Rattle.std.proofs.lemmas.List.{length-append}
 use Rattle.std.proofs.Math.Seq.{drop-append_seam}
-use Rattle.x_sema.specs.declared.schema.form.Arm.{Arm}
-use Rattle.x_sema.specs.declared.schema.form.Arm.TheVariants as arms
-use Rattle.x_sema.specs.declared.schema.form.Field.{Field}
-use Rattle.x_sema.specs.declared.schema.form.Form.{Form}
-use Rattle.x_sema.specs.declared.schema.form.Form.TheVariants as forms
-use Rattle.x_sema.specs.Choices.{Choice, arm_for}
-use Rattle.x_sema.specs.Schema.{Schema, form_at, target_at}
-use Rattle.x_sema.specs.Sound.{IsSound, IsSoundForm, IsSoundUnion, IsSoundArm}
+use Rattle.x_schema.specs.declared.form.Arm.{Arm}
+use Rattle.x_schema.specs.declared.form.Arm.TheVariants as arms
+use Rattle.x_schema.specs.declared.form.Field.{Field}
+use Rattle.x_schema.specs.declared.form.Form.{Form}
+use Rattle.x_schema.specs.declared.form.Form.TheVariants as forms
+use Rattle.x_schema.specs.Choices.{Choice, arm_for}
+use Rattle.x_schema.specs.Schema.{Schema, form_at, target_at}
+use Rattle.x_schema.specs.Sound.{IsSound, IsSoundForm, IsSoundUnion, IsSoundArm}
 use Rattle.x_value.specs.declared.entry.Entry.{Entry}
 use Rattle.x_value.specs.declared.entry.Kept.{Kept}
 use Rattle.x_value.specs.declared.entry.Kept.TheVariants as kepts
@@ -20,7 +20,7 @@ use Rattle.x_value.specs.declared.task.Spot.{Spot}
 use Rattle.x_value.specs.declared.task.Task.{Task}
 use Rattle.x_value.specs.declared.task.Task.TheVariants.{Fields, Elements}
 use Rattle.x_value.specs.Shown.{Leaf, Node, Hex, Text}
-use Rattle.x_value.specs.Values.{word, padding, copies}
+use Rattle.x_units.specs.Units.{word, padding, copies}
 use Rattle.x_value.specs.Layouts.{field_jobs, element_jobs, Layout, Fixed, Sized, Place, Job, placed, layout_of, layout_at, behind, members, head_nodes, group_nodes, body_nodes, body_leaf, fixed_size, at_place, signed_word, unsigned_word, signed_words, unsigned_words, nothing}
 use Rattle.x_value.specs.Readings.{IsByteList, IsHeaded, IsGroup}
 use Rattle.x_value.specs.Entries.{node_of, nodes_of, leaf_of, body_at, IsCalled, IsKept, AreNamed}

@@ -3,13 +3,13 @@ use Rattle.std.proofs.Common.{take, ◌-◌, ◌≡◌, ℕ, zero, suc, ◌+◌,
 use Rattle.std.specs.Prelude.{Bool, true, false, ◌==◌, Option, Some, None}
 use Rattle.std.proofs.lemmas.List.{append-nil, length-append}
 use Rattle.std.proofs.lemmas.Bool.Decides.{nat_tests}
-use Rattle.x_sema.specs.declared.schema.form.Field.{Field}
-use Rattle.x_sema.specs.declared.schema.form.Form.{Form}
-use Rattle.x_sema.specs.declared.schema.form.Form.TheVariants as forms
-use Rattle.x_sema.specs.declared.schema.TypeId.{TypeId}
-use Rattle.x_sema.specs.declared.schema.Root.{Root}
-use Rattle.x_sema.specs.Schema.{Schema, form_at, IsTypeId, IsRoot}
-use Rattle.x_sema.specs.Sound.{IsSound, IsSoundForm, AreSoundFields}
+use Rattle.x_schema.specs.declared.form.Field.{Field}
+use Rattle.x_schema.specs.declared.form.Form.{Form}
+use Rattle.x_schema.specs.declared.form.Form.TheVariants as forms
+use Rattle.x_schema.specs.declared.schema.TypeId.{TypeId}
+use Rattle.x_schema.specs.declared.schema.Root.{Root}
+use Rattle.x_schema.specs.Schema.{Schema, form_at, IsTypeId, IsRoot}
+use Rattle.x_schema.specs.Sound.{IsSound, IsSoundForm, AreSoundFields}
 use Rattle.x_value.specs.declared.entry.Entry.{Entry}
 use Rattle.x_value.specs.declared.entry.Called.TheVariants as called
 use Rattle.x_value.specs.declared.fault.ReadCode.{ReadCode}

@@ -1,11 +1,11 @@
 -- What a sound schema says of the forms in it.
 use Rattle.std.proofs.Common.{◌≡◌, ℕ, ◌<◌, length, sym, ap, subst, ◌∙◌, arith}
-use Rattle.x_sema.specs.declared.schema.form.Field.{Field}
-use Rattle.x_sema.specs.declared.schema.form.Form.{Form}
-use Rattle.x_sema.specs.declared.schema.form.Form.TheVariants.{Union}
-use Rattle.x_sema.specs.Choices.{Choice}
-use Rattle.x_sema.specs.Schema.{Schema, form_at}
-use Rattle.x_sema.specs.Sound.{IsSound, IsSoundForm, IsSoundUnion}
+use Rattle.x_schema.specs.declared.form.Field.{Field}
+use Rattle.x_schema.specs.declared.form.Form.{Form}
+use Rattle.x_schema.specs.declared.form.Form.TheVariants.{Union}
+use Rattle.x_schema.specs.Choices.{Choice}
+use Rattle.x_schema.specs.Schema.{Schema, form_at}
+use Rattle.x_schema.specs.Sound.{IsSound, IsSoundForm, IsSoundUnion}
 use Rattle.std.specs.Prelude.{Option}
 use Rattle.x_value.specs.declared.fault.ReadCode.{ReadCode}
 use Rattle.x_value.specs.Layouts.{layout_at, layout_of, head_fault}

@@ -1,7 +1,8 @@
 -- No two values of a type have one encoding, and none begins another.
 use Rattle.std.proofs.Common.{◌≡◌, ℕ, List, [], ◌∷◌, ◌++◌, length, refl, sym, ◌∙◌, ap, subst, append_assoc}
-use Rattle.x_sema.specs.Schema.{Schema}
-use Rattle.x_value.specs.Values.{Value, Values, body, group, headed, end, more, word, enc, encs}
+use Rattle.x_schema.specs.Schema.{Schema}
+use Rattle.x_value.specs.Values.{Value, Values, body, group, headed, end, more, enc, encs}
+use Rattle.x_units.specs.Units.{word}
 use Rattle.x_value.specs.Layouts.{Layout, Fixed, Fields, Elements, Place, Job, members, behind}
 use Rattle.x_value.specs.Readings.{IsBody, IsGroup, IsHeaded, Fits, Suits}
 use Rattle.x_value.proofs.Bytes.{word_cancel, body_cancel}

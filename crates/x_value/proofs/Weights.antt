@@ -2,10 +2,10 @@
 use Rattle.std.proofs.Common.{◌≡◌, ℕ, zero, suc, ◌+◌, ◌-◌, ◌*◌, ◌^◌, ◌<◌, ◌≤◌, List, [], ◌∷◌, ◌++◌, length, drop, refl, ap, arith}
 use Rattle.std.proofs.Math.Nat.{mul-le-mul_left, mul-le-mul_right, pow-succ', one-le-pow, pow-le-pow_right}
 use Rattle.std.proofs.Common.{get_or}
-use Rattle.x_sema.specs.declared.schema.form.Field.{Field}
-use Rattle.x_sema.specs.declared.schema.form.Form.{Form}
-use Rattle.x_sema.specs.declared.schema.form.Form.TheVariants as forms
-use Rattle.x_sema.specs.Schema.{Schema, form_at}
+use Rattle.x_schema.specs.declared.form.Field.{Field}
+use Rattle.x_schema.specs.declared.form.Form.{Form}
+use Rattle.x_schema.specs.declared.form.Form.TheVariants as forms
+use Rattle.x_schema.specs.Schema.{Schema, form_at}
 use Rattle.x_value.specs.declared.task.Spot.{Spot}
 use Rattle.x_value.specs.declared.task.Task.{Task}
 use Rattle.x_value.specs.declared.task.Task.TheVariants.{One, Fields, Elements}

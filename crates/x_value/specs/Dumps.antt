@@ -1,9 +1,9 @@
 -- What the reader promises: the nodes of an encoding, and the fault of bytes that are none.
 use Rattle.std.specs.Prelude.{◌≡◌, ℕ, ◌*◌, ◌<◌, List, ◌∷◌, ◌++◌, length, Some}
-use Rattle.x_sema.specs.declared.schema.Root.{Root}
-use Rattle.x_sema.specs.declared.schema.Root.TheVariants as roots
-use Rattle.x_sema.specs.declared.schema.TypeId.{TypeId}
-use Rattle.x_sema.specs.Schema.{Schema, name_at}
+use Rattle.x_schema.specs.declared.schema.Root.{Root}
+use Rattle.x_schema.specs.declared.schema.Root.TheVariants as roots
+use Rattle.x_schema.specs.declared.schema.TypeId.{TypeId}
+use Rattle.x_schema.specs.Schema.{Schema, name_at}
 use Rattle.x_value.specs.declared.fault.ReadCode.{ReadCode}
 use Rattle.x_value.specs.declared.fault.ReadCode.TheVariants as codes
 use Rattle.x_value.specs.Shown.{Label, Name, Arguments, Results, Node}

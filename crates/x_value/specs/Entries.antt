@@ -1,6 +1,6 @@
 -- Nodes as they are kept: names by their places in the schema, bodies by their places in the message.
 use Rattle.std.specs.Prelude.{ℕ, ◌<◌, List, [], ◌∷◌, map, take, drop}
-use Rattle.x_sema.specs.Schema.{Schema, name_at}
+use Rattle.x_schema.specs.Schema.{Schema, name_at}
 use Rattle.x_value.specs.declared.entry.Called.{Called}
 use Rattle.x_value.specs.declared.entry.Called.TheVariants as called
 use Rattle.x_value.specs.declared.entry.Kept.{Kept}

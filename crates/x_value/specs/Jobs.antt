@@ -1,13 +1,14 @@
 -- What is still to be read, and what the reader's steps answer.
 use Rattle.std.specs.Prelude.{◌≡◌, ℕ, ◌+◌, ◌*◌, ◌<◌, ◌≤◌, List, [], ◌∷◌, ◌++◌, ◌-◌, ◌%◌, ◌^◌, length, false, Some, None}
-use Rattle.x_sema.specs.Schema.{Schema}
-use Rattle.x_sema.specs.Sound.{AreSoundEnumerators, AreSoundFields, IsSoundUnion}
+use Rattle.x_schema.specs.Schema.{Schema}
+use Rattle.x_schema.specs.Sound.{AreSoundEnumerators, AreSoundFields, IsSoundUnion}
 use Rattle.x_value.specs.declared.fault.ReadCode.{ReadCode}
 use Rattle.x_value.specs.declared.fault.ReadCode.TheVariants as codes
 use Rattle.x_value.specs.Shown.{Node}
-use Rattle.x_value.specs.Values.{Values, word, padding, copies, encs}
+use Rattle.x_value.specs.Values.{Values, encs}
+use Rattle.x_units.specs.Units.{word, padding, copies, are_zeros}
 use Rattle.x_value.specs.Layouts.{Layout, Fields, Elements, Named, Counted, Optional, Chosen, Job, head_fault}
-use Rattle.x_value.specs.Readings.{Suits, Role, fault_of, are_zeros, roles_each, nodes_each}
+use Rattle.x_value.specs.Readings.{Suits, Role, fault_of, roles_each, nodes_each}
 use Rattle.x_value.specs.Language.{Leads, Stuck, Short, Trailing}
 
 -- the bytes of values of these types, one behind another, with what each unit is, and what is shown

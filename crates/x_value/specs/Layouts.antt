@@ -2,14 +2,14 @@
 -- not stand there, and what is shown of them.
 use Rattle.std.specs.Prelude.{ℕ, zero, suc, is_some, nat_eq, nat_lt, if◌then◌else◌, List, [], ◌∷◌, Option, Some, None}
 use Rattle.std.specs.Int.{cast_signed, from_be_bytes, w32, w64}
-use Rattle.x_sema.specs.declared.schema.form.Arm.{Arm}
-use Rattle.x_sema.specs.declared.schema.form.Arm.TheVariants as arms
-use Rattle.x_sema.specs.declared.schema.form.Field.{Field}
-use Rattle.x_sema.specs.declared.schema.form.Form.{Form}
-use Rattle.x_sema.specs.declared.schema.form.Form.TheVariants as forms
-use Rattle.x_sema.specs.Choices.{Choice, arm_for, name_for}
-use Rattle.x_sema.specs.Schema.{Schema, form_at, name_at, target_at}
-use Rattle.x_sema.specs.Sound.{is_legal}
+use Rattle.x_schema.specs.declared.form.Arm.{Arm}
+use Rattle.x_schema.specs.declared.form.Arm.TheVariants as arms
+use Rattle.x_schema.specs.declared.form.Field.{Field}
+use Rattle.x_schema.specs.declared.form.Form.{Form}
+use Rattle.x_schema.specs.declared.form.Form.TheVariants as forms
+use Rattle.x_schema.specs.Choices.{Choice, arm_for, name_for}
+use Rattle.x_schema.specs.Schema.{Schema, form_at, name_at, target_at}
+use Rattle.x_schema.specs.Sound.{is_legal}
 use Rattle.x_value.specs.declared.fault.ReadCode.{ReadCode}
 use Rattle.x_value.specs.declared.fault.ReadCode.TheVariants as codes
 use Rattle.x_value.specs.Shown.{Label, Name, Index, Star, Leaf, Signed, Unsigned, Truth, Enumerator, Hex, Text, Array, Null, Link, Struct, Union, Void, Node, node}

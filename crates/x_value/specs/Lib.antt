@@ -8,5 +8,6 @@ pub mod Lines
 pub mod NodeList
 pub mod Readings
 pub mod Shown
+pub mod ValueTexts
 pub mod Values
 pub mod Work

@@ -1,9 +1,8 @@
 -- Which values are of a type, what each unit of their bytes is, and what is shown of them.
-use Rattle.std.specs.Prelude.{◌≡◌, ℕ, zero, suc, ◌^◌, ◌<◌, List, [], ◌∷◌, ◌++◌, length, drop, nat_eq, if◌then◌else◌, Option, Some, None}
-use Rattle.std.specs.List.{list_all}
-use Rattle.std.specs.Prelude.{Bool}
+use Rattle.std.specs.Prelude.{◌≡◌, ℕ, zero, suc, ◌^◌, ◌<◌, List, [], ◌∷◌, ◌++◌, length, drop, if◌then◌else◌, Option, Some, None}
 use Rattle.std.specs.Int.{from_be_bytes, w32}
-use Rattle.x_sema.specs.Schema.{Schema}
+use Rattle.x_schema.specs.Schema.{Schema}
+use Rattle.x_units.specs.Units.{are_zeros}
 use Rattle.x_value.specs.declared.fault.ReadCode.{ReadCode}
 use Rattle.x_value.specs.declared.fault.ReadCode.TheVariants as codes
 use Rattle.x_value.specs.Shown.{Node}
@@ -55,9 +54,6 @@ pub data Role : Type 0 where
   Padded : ℕ → Role
   -- the first word of a value with so many links open around it
   Head : Layout → ℕ → Role
-
-abbrev pub are_zeros : List ℕ → Bool
-are_zeros bs = list_all (λ b. nat_eq b 0) bs
 
 -- why the unit may not stand there, if it may not
 abbrev pub fault_of : Schema → Role → List ℕ → Option ReadCode

@@ -1,6 +1,6 @@
 -- Values and their bytes (RFC 4506, sections 3 and 4). Of what type a value is, is not said here.
-use Rattle.std.specs.Prelude.{ℕ, zero, suc, ◌-◌, ◌%◌, List, [], ◌∷◌, ◌++◌, length}
-use Rattle.std.specs.Int.{to_be_bytes, w32}
+use Rattle.std.specs.Prelude.{ℕ, List, [], ◌++◌, length}
+use Rattle.x_units.specs.Units.{copies, padding, word}
 
 mutual
   pub data Value : Type 0 where
@@ -15,18 +15,6 @@ mutual
   pub data Values : Type 0 where
     end : Values
     more : Value → Values → Values
-
--- a number of four bytes, the high byte first
-unfoldable pub word : ℕ → List ℕ
-word n = to_be_bytes w32 n
-
--- how many zero bytes stand behind n bytes
-unfoldable pub padding : ℕ → ℕ
-padding n = (4 - n % 4) % 4
-
-abbrev pub copies : {A : Type 0} → ℕ → A → List A
-copies zero x = []
-copies (suc n) x = x ∷ copies n x
 
 abbrev mutual
   pub enc : Value → List ℕ

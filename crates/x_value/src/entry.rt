@@ -6,7 +6,7 @@ ghost use Rattle.x_value.specs.NodeList.{shown_label, shown_leaf, shown_node};
 
 use crate::nodes::{Label, Leaf, Node};
 use std::marker::Model;
-use x_sema::{NameIndex, Schema};
+use x_schema::{NameIndex, Schema};
 
 /// What a node is called, a name by its place in the schema.
 #[derive(Clone, Copy, Debug)]

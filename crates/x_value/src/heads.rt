@@ -1,15 +1,15 @@
 //! The words that values begin with (RFC 4506, section 4).
 ghost use Rattle.std.specs.Prelude.{◌≡◌, ◌<◌, ◌^◌, ◌++◌, ℕ, List, length, IfOk, IfErr, IsTrue, is_some, None};
-ghost use Rattle.x_sema.specs.Choices.{name_for, arm_for};
-ghost use Rattle.x_sema.specs.Schema.{Schema, form_at};
-ghost use Rattle.x_sema.specs.Sound.{is_legal};
+ghost use Rattle.x_schema.specs.Choices.{name_for, arm_for};
+ghost use Rattle.x_schema.specs.Schema.{Schema, form_at};
+ghost use Rattle.x_schema.specs.Sound.{is_legal};
 ghost use Rattle.x_value.specs.Layouts.{layout_at, layout_of, head_fault, open_fault, illegal_code, arm_fault, most_links, Chosen, Counted, Sized};
 ghost use Rattle.x_value.specs.Shown.{Leaf};
 ghost use Rattle.x_value.specs.Jobs.{HeadFault, HeadTaken};
 
 use crate::fault::{ReadCode, ReadFault};
-use crate::words::word_at;
-use x_sema::{Arms, Field, Form, FormIndex, Schema};
+use x_schema::{Arms, Field, Form, FormIndex, Schema};
+use x_units::split_word;
 
 /// The most links that may be open at once.
 pub const MOST_LINKS: u32 = 65_536;
@@ -139,7 +139,7 @@ pub(crate) fn head<'a>(
     ensures ok { IfOk result (λ r. HeadTaken schema.now (layout_at schema.now form) links bytes.now r.0 r.1.now) }
     ensures err { IfErr result (λ e. HeadFault schema.now (layout_at schema.now form) links bytes.now e.at e.code) }
 {
-    let Some((word, rest)) = word_at(bytes) else {
+    let Some((word, rest)) = split_word(bytes) else {
         return Err(ReadFault {
             at: bytes.len(),
             code: ReadCode::Short,

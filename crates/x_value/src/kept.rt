@@ -1,30 +1,31 @@
 //! What stands at the nodes of a value (RFC 4506, section 4).
 ghost use Rattle.std.specs.Prelude.{◌≡◌, ◌<◌, ◌≤◌, ℕ, List, length, IsTrue, is_some};
 ghost use Rattle.std.specs.Int.{from_be_bytes, w32, w64};
-ghost use Rattle.x_sema.specs.Choices.{name_for};
-ghost use Rattle.x_sema.specs.Schema.{Schema};
-ghost use Rattle.x_sema.specs.Sound.{AreSoundEnumerators, is_legal};
+ghost use Rattle.x_schema.specs.Choices.{name_for};
+ghost use Rattle.x_schema.specs.Schema.{Schema};
+ghost use Rattle.x_schema.specs.Sound.{AreSoundEnumerators, is_legal};
 ghost use Rattle.x_value.specs.Layouts.{body_leaf, number_size, enumerator, discriminant_leaf};
 ghost use Rattle.x_value.specs.Entries.{leaf_of, body_at, IsKept};
 ghost use Rattle.x_value.specs.Work.{IsNamedForm};
 
 use crate::entry::Kept;
-use x_sema::{Enumerators, Form};
+use byteorder::{BigEndian, ByteOrder};
+use x_schema::{Enumerators, Form};
 
+#[tactic(auto, using(x_units::proofs::UnitLemmas::big_number_4))]
 fn word_of(bytes: &[u8]) -> u32
     requires { 4 ≤ length bytes.now }
     ensures { result ≡ from_be_bytes w32 bytes.now }
 {
-    u32::from_be_bytes([bytes[0], bytes[1], bytes[2], bytes[3]])
+    BigEndian::read_u32(bytes)
 }
 
+#[tactic(auto, using(x_units::proofs::UnitLemmas::big_number_8))]
 fn words_of(bytes: &[u8]) -> u64
     requires { 8 ≤ length bytes.now }
     ensures { result ≡ from_be_bytes w64 bytes.now }
 {
-    u64::from_be_bytes([
-        bytes[0], bytes[1], bytes[2], bytes[3], bytes[4], bytes[5], bytes[6], bytes[7],
-    ])
+    BigEndian::read_u64(bytes)
 }
 
 /// What a body of the form is shown as, where it stands at a place of the message.

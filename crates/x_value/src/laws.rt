@@ -1,7 +1,7 @@
 //! Laws of encodings.
 ghost use Rattle.std.specs.Prelude.{◌≡◌, ◌<◌, ◌++◌, ℕ, List, length};
-ghost use Rattle.x_sema.specs.Schema.{Schema};
-ghost use Rattle.x_sema.specs.Sound.{IsSound};
+ghost use Rattle.x_schema.specs.Schema.{Schema};
+ghost use Rattle.x_schema.specs.Sound.{IsSound};
 ghost use Rattle.x_value.specs.Values.{Value, enc};
 ghost use Rattle.x_value.specs.Layouts.{Layout, Place, layout_at};
 ghost use Rattle.x_value.specs.Readings.{Fits};

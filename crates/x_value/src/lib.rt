@@ -13,6 +13,7 @@ mod reading;
 mod steps;
 mod task;
 mod turns;
+mod values;
 mod words;
 
 pub use entry::{Dump, Nodes};
@@ -22,3 +23,4 @@ pub use laws::enc_law;
 pub use lines::{add_hex, add_number};
 pub use nodes::{Label, Leaf, Node};
 pub use reading::dump;
+pub use values::dump_value;

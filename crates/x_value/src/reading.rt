@@ -1,6 +1,6 @@
 //! Reads a value.
 ghost use Rattle.std.specs.Prelude.{◌≡◌, ◌⊎◌, ◌∷◌, [], length, IfErr, IfOk};
-ghost use Rattle.x_sema.specs.Schema.{Schema, IsTypeId, IsRoot};
+ghost use Rattle.x_schema.specs.Schema.{Schema, IsTypeId, IsRoot};
 ghost use Rattle.x_value.specs.Dumps.{root_label, IsEncoding, IsFault, IsShown};
 ghost use Rattle.x_value.specs.Entries.{label_of, IsCalled};
 
@@ -10,7 +10,7 @@ use crate::steps::counted_from;
 use crate::task::{Spot, Task};
 use crate::turns::{carry_out, put};
 use std::alloc::Global;
-use x_sema::{Root, Schema, TypeId};
+use x_schema::{Root, Schema, TypeId};
 
 /// For how many tasks there is room at first.
 const FIRST_TASKS: usize = 16;

@@ -1,7 +1,7 @@
 //! How the reader begins a value.
 ghost use Rattle.std.specs.Prelude.{◌≡◌, ◌<◌, ◌≤◌, ◌^◌, ◌+◌, ◌∷◌, [], suc, ℕ, List, length, IfOk, IfErr, MatchOption, None, Some};
-ghost use Rattle.x_sema.specs.Schema.{Schema, form_at};
-ghost use Rattle.x_sema.specs.Sound.{IsSound};
+ghost use Rattle.x_schema.specs.Schema.{Schema, form_at};
+ghost use Rattle.x_schema.specs.Sound.{IsSound};
 ghost use Rattle.x_value.specs.Shown.{Leaf};
 ghost use Rattle.x_value.specs.Layouts.{Job, Fixed, placed, layout_at, arm_jobs, behind, most_links, head_fault, head_nodes, body_leaf, fixed_size, number_size};
 ghost use Rattle.x_value.specs.Jobs.{AreReady, BodyFault, Moves, Refused};
@@ -14,7 +14,7 @@ use crate::heads::head;
 use crate::kept::{kept_body, kept_discriminant, kept_enumerator};
 use crate::task::{Spot, Task};
 use crate::words::body;
-use x_sema::{Arm, Form, FormIndex, Schema};
+use x_schema::{Arm, Form, FormIndex, Schema};
 
 /// A value that was begun: the nodes that it shows so far, what is to be read behind them, and the bytes behind those that were read.
 #[derive(Clone, Copy, Drop)]

@@ -1,6 +1,6 @@
 //! What is still to be read.
 use crate::entry::Called;
-use x_sema::FormIndex;
+use x_schema::FormIndex;
 
 /// Where a value stands: what its first node is called, in how many nodes it stands, and how many links are open around it.
 #[derive(Clone, Copy, Drop)]

@@ -1,7 +1,7 @@
 //! One turn of the reader: a task is taken from the stack and carried out.
 ghost use Rattle.std.specs.Prelude.{◌≡◌, ◌<◌, ◌≤◌, ◌+◌, ◌++◌, ◌∷◌, [], ℕ, List, length, drop, IfOk, IfErr, OnOk, MatchOption};
-ghost use Rattle.x_sema.specs.Schema.{Schema, form_at};
-ghost use Rattle.x_sema.specs.Sound.{IsSound};
+ghost use Rattle.x_schema.specs.Schema.{Schema, form_at};
+ghost use Rattle.x_schema.specs.Sound.{IsSound};
 ghost use Rattle.x_value.specs.Jobs.{Refused};
 ghost use Rattle.x_value.specs.Work.{fields, value_job, jobs_of_task, pending, tasks_of_option, tasks_of_value, shown_entries, IsTyped, AreTasks, IsSpot, IsRear, Stacked, Opened, Turn};
 
@@ -9,7 +9,7 @@ use crate::entry::{Called, Entry};
 use crate::fault::{ReadCode, ReadFault};
 use crate::steps::value;
 use crate::task::{Spot, Task};
-use x_sema::{Field, Form, FormIndex, Schema};
+use x_schema::{Field, Form, FormIndex, Schema};
 
 #[inline(always)]
 pub(crate) fn put(stack: &mut Vec<Task>, task: Task) -> Result<(), ReadFault>

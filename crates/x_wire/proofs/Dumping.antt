@@ -5,7 +5,7 @@ use Rattle.std.proofs.lemmas.List.{length-append, take_rest, take-append-drop}
 use Rattle.x_text.specs.Streams.{Stream}
 use Rattle.x_text.specs.Writing.{Inked, Adds, Writes}
 use Rattle.x_text.proofs.Pens.{adds_none, adds_trans, writes_none}
-use Rattle.x_sema.specs.Schema.{Schema}
+use Rattle.x_schema.specs.Schema.{Schema}
 use Rattle.x_wire.specs.Calls.{Calls}
 use Rattle.x_wire.specs.Dumpers.{HasTold, TellsMore, IsAt, Tells, TellsFront, front_taken}
 use Rattle.x_wire.specs.Framers.{left_by, whole_in, FedBytes, RefusedBytes}

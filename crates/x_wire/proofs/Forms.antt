@@ -2,7 +2,7 @@
 use Rattle.std.proofs.Common.{◌≡◌, ℕ, zero, suc, ◌+◌, ◌*◌, ◌<◌, List, [], ◌∷◌, ◌++◌, length, refl, sym, ◌∙◌, ap, subst, append_assoc, arith, lit<}
 use Rattle.std.proofs.lemmas.List.{append-nil, length-append}
 use Rattle.x_value.specs.declared.fault.ReadCode.{ReadCode}
-use Rattle.x_value.specs.Values.{copies, padding}
+use Rattle.x_units.specs.Units.{copies, padding}
 use Rattle.x_value.proofs.Bytes.{word_length, word_cancel, body_cancel, body_length, copies_length, IsByteList-zeros}
 use Rattle.x_wire.specs.Headers.{Header, HeaderField, Number, State, Length, Body, field_bytes, fields_bytes}
 use Rattle.x_wire.specs.HeaderFaults.{UnitKind, body_units, field_units, fields_units}

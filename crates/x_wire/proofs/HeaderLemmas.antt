@@ -6,7 +6,8 @@ use Rattle.std.proofs.lemmas.List.{append-nil, length-append}
 use Rattle.std.proofs.lemmas.Bool.{cases_lt}
 use Rattle.x_value.specs.declared.fault.ReadCode.{ReadCode}
 use Rattle.x_value.specs.declared.fault.ReadCode.TheVariants as codes
-use Rattle.x_value.specs.Readings.{IsByteList, are_zeros}
+use Rattle.x_value.specs.Readings.{IsByteList}
+use Rattle.x_units.specs.Units.{are_zeros}
 use Rattle.x_value.proofs.Fronts.{cut_longer, append_is_nil}
 use Rattle.x_wire.specs.declared.messages.parts.TheConstants.{MOST_AUTH_BYTES}
 use Rattle.x_wire.specs.declared.messages.parts.AcceptStat.{AcceptStat}

@@ -6,8 +6,8 @@ use Rattle.std.proofs.lemmas.List.{length-append, take-append-drop, length-take,
 use Rattle.std.proofs.Math.Seq.{drop-append_seam}
 use Rattle.x_value.specs.declared.fault.ReadCode.{ReadCode}
 use Rattle.x_value.specs.declared.fault.ReadCode.TheVariants as codes
-use Rattle.x_value.specs.Readings.{IsByteList, are_zeros}
-use Rattle.x_value.specs.Values.{word, copies, padding}
+use Rattle.x_value.specs.Readings.{IsByteList}
+use Rattle.x_units.specs.Units.{are_zeros, word, copies, padding}
 use Rattle.x_value.proofs.Bytes.{word_length, word_from, copies_length, padding_least, zeros_true, zeros_copies, IsByteList-append, IsByteList-zeros, IsByteList-left, pad_left}
 use Rattle.x_value.proofs.Fronts.{cut_same}
 use Rattle.x_wire.specs.declared.messages.parts.TheConstants.{MOST_AUTH_BYTES}

@@ -5,10 +5,10 @@ use Rattle.std.specs.Map.{lookup}
 use Rattle.x_text.specs.Streams.{Stream}
 use Rattle.x_text.specs.Writing.{Inked, Adds}
 use Rattle.x_text.proofs.Pens.{adds_trans}
-use Rattle.x_sema.specs.Schema.{Schema, IsTypeId}
-use Rattle.x_sema.specs.declared.schema.TypeId.{TypeId}
-use Rattle.x_sema.specs.declared.schema.procedure.Procedure.{Procedure}
-use Rattle.x_sema.specs.declared.schema.procedure.ProcedureNumbers.{ProcedureNumbers}
+use Rattle.x_schema.specs.Schema.{Schema, IsTypeId}
+use Rattle.x_schema.specs.declared.schema.TypeId.{TypeId}
+use Rattle.x_schema.specs.declared.procedure.Procedure.{Procedure}
+use Rattle.x_schema.specs.declared.procedure.ProcedureNumbers.{ProcedureNumbers}
 use Rattle.x_value.specs.declared.fault.ReadCode.{ReadCode}
 use Rattle.x_text.specs.declared.no_memory.NoMemory.{NoMemory}
 use Rattle.x_wire.specs.Messages.{accept_of, body_of_reply, header_of_reply, results_of}

@@ -7,10 +7,10 @@ use Rattle.x_text.specs.Streams.{Stream, FailsForGood}
 use Rattle.x_text.specs.declared.sink.Broken.{Broken}
 use Rattle.x_text.specs.Writing.{Inked, Writes, Adds}
 use Rattle.x_text.proofs.Pens.{adds_trans, all_written, counted_all, front_written, writes_none}
-use Rattle.x_sema.specs.Schema.{Schema}
-use Rattle.x_session.specs.Script.{is_refused, WorksOn}
-use Rattle.x_session.specs.declared.script.Outcome.{Outcome}
-use Rattle.x_session.specs.declared.script.EngineFault.TheVariants as faults
+use Rattle.x_schema.specs.Schema.{Schema}
+use Rattle.x_text.specs.Engines.{is_refused, WorksOn}
+use Rattle.x_text.specs.declared.outcome.Outcome.{Outcome}
+use Rattle.x_text.specs.declared.outcome.EngineFault.TheVariants as faults
 use Rattle.x_wire.specs.Dumpers.{IsAt, Tells, TellsFront, IsOver, IsUnder, IsTurn, TellsTurn}
 use Rattle.x_wire.specs.Framers.{left_by}
 use Rattle.x_wire.specs.MessageTexts.{Told, plain, then_told}

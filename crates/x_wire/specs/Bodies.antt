@@ -1,7 +1,7 @@
 -- What is read of arguments and results.
 use Rattle.std.specs.Prelude.{◌≡◌, ℕ, List, ◌++◌, Option, Some, None}
-use Rattle.x_sema.specs.Schema.{Schema}
-use Rattle.x_sema.specs.declared.schema.TypeId.{TypeId}
+use Rattle.x_schema.specs.Schema.{Schema}
+use Rattle.x_schema.specs.declared.schema.TypeId.{TypeId}
 use Rattle.x_value.specs.Dumps.{IsFault, IsShown}
 use Rattle.x_value.specs.FaultTexts.{fault_line}
 use Rattle.x_value.specs.Lines.{node_lines}

@@ -1,10 +1,10 @@
 -- Calls as their replies need them.
 use Rattle.std.specs.Prelude.{ℕ, ◌==◌, nat_eq, List, ◌∷◌, Option, Some, None, option_map, option_and_then, if◌then◌else◌, codes}
 use Rattle.std.specs.Map.{lookup}
-use Rattle.x_sema.specs.Schema.{Schema, arguments_id, name_at, procedure_at, results_id}
-use Rattle.x_sema.specs.declared.schema.TypeId.{TypeId}
-use Rattle.x_sema.specs.declared.schema.procedure.KeptProcedure.{KeptProcedure}
-use Rattle.x_sema.specs.declared.schema.procedure.ProcedureNumbers.{ProcedureNumbers}
+use Rattle.x_schema.specs.Schema.{Schema, arguments_id, name_at, procedure_at, results_id}
+use Rattle.x_schema.specs.declared.schema.TypeId.{TypeId}
+use Rattle.x_schema.specs.declared.procedure.KeptProcedure.{KeptProcedure}
+use Rattle.x_schema.specs.declared.procedure.ProcedureNumbers.{ProcedureNumbers}
 use Rattle.x_wire.specs.Headers.{Header, Call, Accepted, Denied}
 use Rattle.x_wire.specs.declared.telling.teller.Heard.{Heard}
 

@@ -3,8 +3,8 @@ use Rattle.std.specs.Prelude.{◌≡◌, ℕ, ◌<◌, ◌≤◌, Bool, List, []
 use Rattle.std.specs.Io.KnownBytes.{Consumes}
 use Rattle.x_text.specs.Streams.{Stream}
 use Rattle.x_text.specs.Writing.{Inked, Adds}
-use Rattle.x_sema.specs.Schema.{Schema}
-use Rattle.x_session.specs.Script.{is_refused}
+use Rattle.x_schema.specs.Schema.{Schema}
+use Rattle.x_text.specs.Engines.{is_refused}
 use Rattle.x_wire.specs.Calls.{Calls}
 use Rattle.x_wire.specs.Framers.{left_by}
 use Rattle.x_wire.specs.MessageTexts.{Told, then_told}

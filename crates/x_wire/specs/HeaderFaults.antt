@@ -3,7 +3,7 @@ use Rattle.std.specs.Prelude.{◌≡◌, ℕ, zero, suc, ◌*◌, ◌<◌, List,
 use Rattle.std.specs.Int.{from_be_bytes, w32}
 use Rattle.x_value.specs.declared.fault.ReadCode.{ReadCode}
 use Rattle.x_value.specs.declared.fault.ReadCode.TheVariants as codes
-use Rattle.x_value.specs.Readings.{are_zeros}
+use Rattle.x_units.specs.Units.{are_zeros}
 use Rattle.x_wire.specs.declared.messages.parts.TheConstants.{MOST_AUTH_BYTES}
 use Rattle.x_wire.specs.Headers.{Header, HeaderField, Number, State, Length, Body, header_fields, header_bytes, IsHeader, IsBare}
 

@@ -1,7 +1,7 @@
 -- Headers of messages and their bytes (RFC 5531, sections 8 and 9).
 use Rattle.std.specs.Prelude.{◌≡◌, ℕ, ◌^◌, ◌<◌, ◌≤◌, List, [], ◌∷◌, ◌++◌, length}
 use Rattle.x_value.specs.Readings.{IsByteList}
-use Rattle.x_value.specs.Values.{word, copies, padding}
+use Rattle.x_units.specs.Units.{word, copies, padding}
 use Rattle.x_wire.specs.declared.messages.parts.TheConstants.{MOST_AUTH_BYTES}
 
 -- ---- headers

@@ -1,8 +1,8 @@
 -- What is printed of a message.
 use Rattle.std.specs.Prelude.{◌≡◌, ℕ, Bool, true, false, ◌||◌, List, [], ◌++◌, Option, Some, None, codes}
 use Rattle.std.specs.Fmt.{decimal}
-use Rattle.x_sema.specs.Schema.{Schema}
-use Rattle.x_sema.specs.declared.schema.TypeId.{TypeId}
+use Rattle.x_schema.specs.Schema.{Schema}
+use Rattle.x_schema.specs.declared.schema.TypeId.{TypeId}
 use Rattle.x_value.specs.Dumps.{IsFault, IsShown}
 use Rattle.x_value.specs.FaultTexts.{fault_line}
 use Rattle.x_value.specs.Lines.{hex_text, node_lines}

@@ -4,11 +4,11 @@ use Rattle.std.specs.Fmt.{decimal}
 use Rattle.std.specs.Io.KnownBytes.{Appends, Consumes}
 use Rattle.x_text.specs.Streams.{Stream}
 use Rattle.x_text.specs.Writing.{StopsWithin, counted}
-use Rattle.x_sema.specs.Schema.{Schema}
-use Rattle.x_session.specs.Script.{is_refused}
-use Rattle.x_session.specs.declared.script.Outcome.{Outcome}
-use Rattle.x_session.specs.declared.script.EngineFault.{EngineFault}
-use Rattle.x_session.specs.declared.script.EngineFault.TheVariants.{Read, Write, NoMemory}
+use Rattle.x_schema.specs.Schema.{Schema}
+use Rattle.x_text.specs.Engines.{is_refused}
+use Rattle.x_text.specs.declared.outcome.Outcome.{Outcome}
+use Rattle.x_text.specs.declared.outcome.EngineFault.{EngineFault}
+use Rattle.x_text.specs.declared.outcome.EngineFault.TheVariants.{Read, Write, NoMemory}
 use Rattle.x_wire.specs.Calls.{Calls}
 use Rattle.x_wire.specs.MessageTexts.{Told, plain, refused, then_told, IsMessageText}
 use Rattle.x_wire.specs.RecordFaults.{end_fault, fault_at, record_text}

@@ -3,11 +3,11 @@ use Rattle.std.specs.Prelude.{◌≡◌, ℕ, nat_eq, Bool, List, Option, Some, 
 use Rattle.std.specs.Map.{lookup}
 use Rattle.x_text.specs.Streams.{Stream}
 use Rattle.x_text.specs.Writing.{Inked, Adds}
-use Rattle.x_sema.specs.Schema.{Schema, IsTypeId, arguments_id, name_at, results_id}
-use Rattle.x_sema.specs.declared.schema.procedure.KeptProcedure.{KeptProcedure}
-use Rattle.x_sema.specs.declared.schema.procedure.Procedure.{Procedure}
-use Rattle.x_sema.specs.declared.schema.procedure.ProcedureNumbers.{ProcedureNumbers}
-use Rattle.x_sema.specs.declared.schema.TypeId.{TypeId}
+use Rattle.x_schema.specs.Schema.{Schema, IsTypeId, arguments_id, name_at, results_id}
+use Rattle.x_schema.specs.declared.procedure.KeptProcedure.{KeptProcedure}
+use Rattle.x_schema.specs.declared.procedure.Procedure.{Procedure}
+use Rattle.x_schema.specs.declared.procedure.ProcedureNumbers.{ProcedureNumbers}
+use Rattle.x_schema.specs.declared.schema.TypeId.{TypeId}
 use Rattle.x_wire.specs.Calls.{Calls, call_of, calls_behind, procedure_called}
 use Rattle.x_wire.specs.Headers.{Header}
 use Rattle.x_wire.specs.MessageTexts.{Told, plain, then_told, head_text, IsBehindHead, IsMessageText}

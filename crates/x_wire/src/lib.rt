@@ -14,8 +14,9 @@ pub use messages::{
 pub use nfs2::NFS2_X;
 pub use records::{Fed, MAX_RECORD, RecordCode, RecordFault, Records, records_law};
 pub use telling::{dump_message, dump_stream, one_text};
-pub use x_sema::{Procedure, Schema, TypeId};
-pub use x_session::{EngineFault, Outcome, dump_value};
+pub use x_schema::{Procedure, Schema, TypeId};
+pub use x_text::{EngineFault, Outcome};
 pub use x_value::{
-    Dump, Label, Leaf, MOST_LINKS, Node, Nodes, ReadCode, ReadFault, add_hex, dump, enc_law,
+    Dump, Label, Leaf, MOST_LINKS, Node, Nodes, ReadCode, ReadFault, add_hex, dump, dump_value,
+    enc_law,
 };

@@ -3,7 +3,7 @@
 ghost use Rattle.std.specs.Prelude.{◌≡◌, ◌≢◌, ◌⊎◌, ◌<◌, MatchOption, codes, length};
 ghost use Rattle.x_text.specs.declared.source.TheConstants.{MAX_TEXT};
 ghost use Rattle.rpcx.specs.Generate.{base_of, NotRun, Stops};
-ghost use Rattle.x_session.specs.Script.{WorksOn};
+ghost use Rattle.x_text.specs.Engines.{WorksOn};
 ghost use Rattle.rpcx.specs.Editing.{Answers, EndsEarly, IsUntouched};
 
 use crate::program::base::base_of_file;

@@ -12,21 +12,26 @@ ghost use Rattle.x_item.specs.Spell.{spell, spell_length, spell_named, spell_enu
 ghost use Rattle.x_item.specs.Names.{Declared, declared};
 ghost use Rattle.x_item.specs.Named.{view_name, Names, NamesIn, NamesAll, star};
 
-use super::mentions::words_of;
 use super::{DeclaredName, NameKind};
 use crate::trees::{
-    Arm, Basic, Body, DataType, Declaration, Definition, Enumerator, Length, Shape, UnionBody,
+    Arm, Body, DataType, Declaration, Definition, Enumerator, Length, Shape, UnionBody,
 };
 use std::alloc::Global;
 use std::borrow::CowSlice;
 use std::mem;
 use x_text::NoMemory;
 
-/// The name of an inline type.
-fn lifted_name(alloc: Global, around: &[u8], name: &[u8]) -> Result<Vec<u8>, NoMemory>
+/// The name of an inline type: that of the type around it, `_`, and that of the declaration where it stands.
+///
+/// # Errors
+///
+/// [`NoMemory`] where the name has no room.
+pub fn lifted_name(alloc: Global, around: &[u8], name: &[u8]) -> Result<Vec<u8>, NoMemory>
     ensures { IfOk result (λ lifted. lifted.items ≡ lifted_name around.now name.now) }
 {
-    let mut lifted = Vec::from_slice(alloc, around)?;
+    let length = around.len().saturating_add(1).saturating_add(name.len());
+    let mut lifted = Vec::with_capacity(alloc, length)?;
+    lifted.extend_from_slice(around)?;
     lifted.push(b'_')?;
     lifted.extend_from_slice(name)?;
     Ok(lifted)
@@ -180,7 +185,7 @@ impl<'d> NameWalk<'d> {
             Declaration::Void => self.skip(1),
             Declaration::Of { data, name, shape } => match data {
                 DataType::Inline(body) => return self.inline(alloc, around, body, name, shape),
-                DataType::Basic(basic) => self.plain(words_of(*basic), shape),
+                DataType::Basic(basic) => self.plain(basic.word_count(), shape),
                 DataType::Named(_) => self.plain(1, shape),
                 DataType::Tagged { .. } => self.plain(2, shape),
             },
@@ -306,7 +311,7 @@ impl<'d> NameWalk<'d> {
             }
             Declaration::Of { data, name, shape } => match data {
                 DataType::Inline(body) => self.inline_typedef(alloc, body, name, shape),
-                DataType::Basic(basic) => self.plain_typedef(words_of(*basic), name, shape),
+                DataType::Basic(basic) => self.plain_typedef(basic.word_count(), name, shape),
                 DataType::Named(_) => self.plain_typedef(1, name, shape),
                 DataType::Tagged { .. } => self.plain_typedef(2, name, shape),
             },

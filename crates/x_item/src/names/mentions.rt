@@ -11,28 +11,18 @@ ghost use Rattle.x_item.specs.Gloss.{length_by, named_by, enumerator_by, other_e
 ghost use Rattle.x_item.specs.Gloss.{cases_by, type_by, body_by, declaration_by, declarations_by, arms_by};
 ghost use Rattle.x_item.specs.Gloss.{default_by, argument_by, passed_by, others_by, procedure_by};
 ghost use Rattle.x_item.specs.Gloss.{procedures_by, versions_by};
-ghost use Rattle.x_item.specs.Spell.{spell, spell_basic};
+ghost use Rattle.x_item.specs.Spell.{spell};
 ghost use Rattle.x_item.specs.Mentions.{Mention as OfTree, mentioned_at, mentioned};
 ghost use Rattle.x_item.specs.Collected.{IsSilent, view_mention, Finds, FindsIn, FindsAll};
 
 use super::{Mention, Use};
 use crate::trees::{
-    Argument, Arm, Basic, Body, DataType, Declaration, Definition, Enumerator, Length, Procedure,
-    Shape, Tag, UnionBody, Value, Version,
+    Argument, Arm, Body, DataType, Declaration, Definition, Enumerator, Length, Procedure, Shape,
+    Tag, UnionBody, Value, Version,
 };
 use std::alloc::Global;
 use std::mem;
 use x_text::NoMemory;
-
-/// How many words spell the type.
-pub fn words_of(basic: Basic) -> usize
-    ensures { result ≡ length (spell_basic basic) }
-{
-    match basic {
-        Basic::UnsignedInt | Basic::UnsignedLong | Basic::UnsignedHyper => 2,
-        _ => 1,
-    }
-}
 
 /// A walk over a definition, which has come to a word.
 #[derive(Drop)]
@@ -183,7 +173,7 @@ impl<'d> Walk<'d> {
     {
         match tree {
             DataType::Basic(basic) => {
-                self.skip(words_of(*basic));
+                self.skip(basic.word_count());
                 Ok(())
             }
             DataType::Named(name) => self.add(name, usage, None),

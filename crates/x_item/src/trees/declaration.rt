@@ -1,5 +1,7 @@
 //! Declarations, with the types and bodies that stand in them.
-ghost use Rattle.std.specs.Prelude.{◌≡◌, IfOk};
+ghost use Rattle.std.specs.Prelude.{◌≡◌, length, IfOk};
+ghost use Rattle.x_item.specs.Declarations.{name_of, is_void};
+ghost use Rattle.x_item.specs.Spell.{spell_basic};
 ghost use Rattle.x_item.specs.Tree.{Inline, Struct, Union};
 ghost use Rattle.x_item.specs.View.{view_type, view_body, view_declaration, view_declarations, view_arms};
 ghost use Rattle.x_item.specs.View.{view_default};
@@ -73,6 +75,18 @@ pub const BASIC_MARKS: [&[Mark]; 11] = [
     &[Mark::Bool],
 ];
 
+impl Basic {
+    /// How many words spell the type.
+    pub fn word_count(self) -> usize
+        ensures { result ≡ length (spell_basic self) }
+    {
+        match self {
+            Basic::UnsignedInt | Basic::UnsignedLong | Basic::UnsignedHyper => 2,
+            _ => 1,
+        }
+    }
+}
+
 /// The keyword in front of a body, or of the name of a type that has one.
 #[derive(Clone, Copy, Debug, PartialEq, Eq)]
 pub enum Tag {
@@ -141,6 +155,27 @@ pub enum Declaration {
         name: Spelling,
         most: Option<Value>,
     },
+}
+
+impl Declaration {
+    /// The name that is declared; `void` declares none.
+    pub fn name(&self) -> &[u8]
+        ensures { result.now ≡ name_of (view_declaration self.now) }
+    {
+        match self {
+            Declaration::Void => b"",
+            Declaration::Of { name, .. } => name,
+            Declaration::Opaque { name, .. } => name,
+            Declaration::String { name, .. } => name,
+        }
+    }
+
+    /// Whether nothing is declared.
+    pub fn is_void(&self) -> bool
+        ensures { result ≡ is_void (view_declaration self.now) }
+    {
+        matches!(self, Declaration::Void)
+    }
 }
 
 /// The body of a union.

@@ -15,7 +15,6 @@ ghost use Rattle.x_sema.specs.BodyWalks.{GoesName, GoesDeclaration, GoesFields, 
 ghost use Rattle.x_sema.specs.BodyWalks.{GoesInside, FindsAll, AreFilled};
 ghost use Rattle.x_sema.specs.Declarers.{IsShort};
 
-use super::notes::words_of;
 use super::parts::{BodyAt, NameAt, ValueAt};
 use std::alloc::Global;
 use std::mem;
@@ -305,7 +304,7 @@ impl<'d> BodyWalk<'d> {
     {
         match tree {
             DataType::Basic(basic) => {
-                self.skip(words_of(*basic));
+                self.skip(basic.word_count());
                 self.skip(before_name);
                 Ok(())
             }

@@ -13,7 +13,7 @@ ghost use Rattle.x_item.specs.Gloss.{enumerator_by, other_enumerators_by, enumer
 ghost use Rattle.x_item.specs.Gloss.{body_by, declaration_by, declarations_by, arms_by, default_by};
 ghost use Rattle.x_item.specs.Gloss.{argument_by, passed_by, others_by, procedure_by, procedures_by};
 ghost use Rattle.x_item.specs.Gloss.{versions_by};
-ghost use Rattle.x_item.specs.Spell.{spell, spell_basic};
+ghost use Rattle.x_item.specs.Spell.{spell};
 ghost use Rattle.x_item.specs.Collected.{IsSilent};
 ghost use Rattle.x_item.specs.declared.names.mention.Use.{Use};
 ghost use Rattle.x_item.specs.declared.names.mention.Use.TheVariants as uses;
@@ -24,8 +24,8 @@ use super::note::{Note, NoteAt, ValueRole};
 use std::alloc::Global;
 use std::mem;
 use x_item::{
-    Argument, Arm, Basic, Body, DataType, Declaration, Definition, Enumerator, Length, Procedure,
-    Shape, UnionBody, Value, Version,
+    Argument, Arm, Body, DataType, Declaration, Definition, Enumerator, Length, Procedure, Shape,
+    UnionBody, Value, Version,
 };
 use x_text::NoMemory;
 
@@ -36,16 +36,6 @@ enum Place {
     Field,
     Discriminant,
     Arm,
-}
-
-/// How many words spell the type.
-pub fn words_of(basic: Basic) -> usize
-    ensures { result ≡ length (spell_basic basic) }
-{
-    match basic {
-        Basic::UnsignedInt | Basic::UnsignedLong | Basic::UnsignedHyper => 2,
-        _ => 1,
-    }
 }
 
 /// A walk over a definition, which has come to a word.
@@ -197,7 +187,7 @@ impl<'d> NoteWalk<'d> {
     {
         match tree {
             DataType::Basic(basic) => {
-                self.skip(words_of(*basic));
+                self.skip(basic.word_count());
                 Ok(())
             }
             DataType::Named(_) => {

@@ -11,7 +11,6 @@ ghost use Rattle.x_sema.specs.MemberWalks.{place, start};
 ghost use Rattle.x_sema.specs.Tables.{view_members};
 
 use super::bodies::BodyWalk;
-use super::notes::words_of;
 use super::parts::{Members, NameAt, NumberAt};
 use std::alloc::Global;
 use x_item::{Argument, DataType, Definition, Procedure, Version};
@@ -49,7 +48,7 @@ fn pass_type<'d>(alloc: Global, walk: &mut BodyWalk<'d>, tree: &'d DataType) -> 
 {
     match tree {
         DataType::Basic(basic) => {
-            walk.skip(words_of(*basic));
+            walk.skip(basic.word_count());
             Ok(())
         }
         DataType::Named(_) => {

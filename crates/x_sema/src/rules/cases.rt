@@ -11,7 +11,7 @@ ghost use Rattle.x_sema.specs.Rules.{Ascends};
 ghost use Rattle.x_sema.specs.Tables.{HasNumbers, seen_by, view_value_at};
 
 use super::classes::declaration_class;
-use super::constants::{Constants, is_enum_number, is_word_number};
+use super::constants::Constants;
 use super::found::add_fault;
 use super::repeats::{Numbered, add_number, add_repeated_numbers};
 use super::sights::Sights;
@@ -20,6 +20,7 @@ use crate::fault::{RuleCode, WordFault};
 use crate::outline::parts::{BodyAt, ValueAt};
 use std::alloc::Global;
 use x_item::{Body, UnionBody};
+use x_schema::{is_enum_number, is_word_number};
 use x_text::NoMemory;
 
 /// The cases that have a number.

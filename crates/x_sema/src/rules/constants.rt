@@ -11,33 +11,19 @@ ghost use Rattle.x_sema.specs.BodyWalks.{view_body_at, IsFilled, AreFilled};
 ghost use Rattle.x_sema.specs.Constants.{Known, knowns, limit_of, is_declared_before, number_named};
 ghost use Rattle.x_sema.specs.RustViews.{view_view};
 ghost use Rattle.std.specs.Option.{option_map_or};
-ghost use Rattle.x_sema.specs.Constants.{number_before, number_by, number_seen, next_number, number_of};
-ghost use Rattle.x_sema.specs.Numbers.{is_enum_number, is_word_number};
+ghost use Rattle.x_sema.specs.Constants.{number_before, number_by, number_seen, number_of};
+ghost use Rattle.x_schema.specs.Numbers.{next_number, is_enum_number, is_word_number};
 ghost use Rattle.x_sema.specs.Tables.{ArePlaces, HasNumbers, place_by, place_listed, seen_by, view_enumerator_at};
 
 use super::places::{MOST_FEW, NameTable, Named, place_among, place_tabled, table_of};
 use super::sights::Sights;
-use crate::number::number_value;
 use crate::outline::bodies::words_of_enumerator;
 use crate::outline::parts::{BodyAt, EnumeratorAt};
 use crate::views::{Meaning, View};
 use std::alloc::Global;
 use x_item::{Body, Enumerator, NameKind, Value};
+use x_schema::{next_number, number_value};
 use x_text::NoMemory;
-
-/// Whether an enumerator may have the number: from -2^31 to 2^31-1.
-pub fn is_enum_number(number: i128) -> bool
-    ensures { result ≡ is_enum_number number }
-{
-    -(1 << 31) <= number && number < 1 << 31
-}
-
-/// Whether the number is a size, or that of a program, a version or a procedure: from 0 to 2^32-1.
-pub fn is_word_number(number: i128) -> bool
-    ensures { result ≡ is_word_number number }
-{
-    0 <= number && number < 1 << 32
-}
 
 /// The word before which names stand that a value at the word may use: two words in front of it stands its own name, where it is the
 /// value of an enumerator.
@@ -134,22 +120,6 @@ fn table_of_many<'d>(
         names.push(enumerator.name)?;
     }
     Ok(Some(table_of(alloc, &names)?))
-}
-
-/// The number of an enumerator without a value, by that of the one before.
-pub fn next_number(before: Option<i128>) -> Option<i128>
-    ensures { result ≡ next_number before }
-{
-    match before {
-        Some(number) => {
-            if is_enum_number(number) {
-                Some(number + 1)
-            } else {
-                None
-            }
-        }
-        None => None,
-    }
 }
 
 /// The number of a name used as a value, whose own number is given.

@@ -14,10 +14,10 @@ use super::duplicates::is_behind;
 use super::found::add_fault;
 use super::places::{MOST_FEW, Places};
 use crate::fault::{RuleCode, WordFault};
-use crate::number::number_value;
 use crate::outline::parts::{BodyAt, Members, NameAt, NumberAt};
 use indexmap::IndexSet;
 use std::alloc::Global;
+use x_schema::number_value;
 use x_text::NoMemory;
 
 /// A number at a word.

@@ -3,8 +3,8 @@
 ghost use Rattle.std.specs.Prelude.{◌≡◌, ◌++◌, List, map, OnOk};
 ghost use Rattle.x_item.specs.View.{view_value, view_declaration};
 ghost use Rattle.x_sema.specs.Bodies as bodies;
-ghost use Rattle.x_sema.specs.Constants.{Known, number_spelled};
-ghost use Rattle.x_sema.specs.Numbers.{is_zero};
+ghost use Rattle.x_sema.specs.Constants.{Known};
+ghost use Rattle.x_schema.specs.Numbers.{number_spelled, is_zero};
 ghost use Rattle.x_sema.specs.Notes.{view_note, view_note_at};
 ghost use Rattle.x_sema.specs.Types.{declaration_class};
 ghost use Rattle.x_sema.specs.Found.{number_fault, value_fault, spelled_fault, discriminant_fault};
@@ -13,14 +13,14 @@ ghost use Rattle.x_sema.specs.Found.{note_faults, past_last, past_last_faults};
 ghost use Rattle.x_sema.specs.Tables.{HasNumbers, seen_by, view_given};
 
 use super::classes::has_no_class;
-use super::constants::{Constants, is_enum_number, is_word_number};
+use super::constants::Constants;
 use super::found::add_fault;
 use super::sights::Sights;
 use crate::fault::{RuleCode, WordFault};
-use crate::number::number_value;
 use crate::outline::note::{Note, NoteAt, ValueRole};
 use crate::outline::parts::EnumeratorAt;
 use x_item::{Declaration, Value};
+use x_schema::{is_enum_number, is_word_number, number_value};
 use x_text::NoMemory;
 
 /// Whether the number is 0.

@@ -4,7 +4,8 @@ ghost use Rattle.std.specs.Prelude.{◌≡◌, ℕ, List, [], ◌∷◌, Option,
 ghost use Rattle.x_item.specs.Tree as tree;
 ghost use Rattle.x_item.specs.View.{view_definition};
 ghost use Rattle.x_sema.specs.Declarers.{AreShort, IsShort, FirstIs};
-ghost use Rattle.x_sema.specs.DeclarerTable.{first_in, tree_at};
+ghost use Rattle.x_sema.specs.DeclarerTable.{first_in};
+ghost use Rattle.x_schema.specs.Definitions.{tree_at};
 ghost use Rattle.x_sema.specs.KeptViews.{lent_outcome};
 ghost use Rattle.x_sema.specs.Outlined.{IsOutline, outlined};
 ghost use Rattle.x_sema.specs.Results.{AreResults, IsResult, result_at};

@@ -4,7 +4,7 @@ ghost use Rattle.std.specs.Prelude.{◌≡◌, ◌≤◌, [], false, length, IfO
 ghost use Rattle.x_text.specs.Counts.{raised};
 ghost use Rattle.x_text.specs.declared.source.TheConstants.{MAX_TEXT};
 ghost use Rattle.x_lex.specs.Places.{lexeme};
-ghost use Rattle.x_sema.specs.DeclarerTable.{tree_at};
+ghost use Rattle.x_schema.specs.Definitions.{tree_at};
 ghost use Rattle.x_session.specs.ItemView.{IsItem, has_lines, view_parse, kept_definition};
 ghost use Rattle.x_session.specs.Compile.{spells_none};
 

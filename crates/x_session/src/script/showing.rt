@@ -2,7 +2,7 @@
 
 ghost use Rattle.std.specs.Prelude.{◌≡◌, ◌<◌, true, length, IfOk, OnErr};
 ghost use Rattle.x_text.specs.Writing.{Adds};
-ghost use Rattle.x_sema.specs.Schema.{IsTypeId};
+ghost use Rattle.x_schema.specs.Schema.{IsTypeId};
 ghost use Rattle.x_session.specs.Answers.{Answer};
 ghost use Rattle.x_session.specs.Commands.{bytes_of, is_hex};
 ghost use Rattle.x_session.specs.Script.{IsTold, TellsOver};

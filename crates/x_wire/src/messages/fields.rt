@@ -1,12 +1,11 @@
 //! The fields of headers (RFC 5531, section 8.2; RFC 4506, sections 4.2, 4.3 and 4.10).
-ghost use Rattle.std.specs.Prelude.{◌≡◌, ◌<◌, ◌^◌, ◌++◌, ℕ, List, length, IfSome, IfNone, IfOk, IfErr};
-ghost use Rattle.x_value.specs.Readings.{are_zeros};
-ghost use Rattle.x_value.specs.Values.{word};
+ghost use Rattle.std.specs.Prelude.{ℕ, List, IfOk, IfErr};
 ghost use Rattle.x_wire.specs.Headers.{Auth as AuthField};
 ghost use Rattle.x_wire.specs.HeaderForms.{HeaderForm, number_form, state_form, length_form, body_form, auth_form, Reads, FormFault};
 ghost use Rattle.x_wire.specs.Messages.{auth_of};
 
 use super::parts::{Auth, MOST_AUTH_BYTES};
+use x_units::{UNIT, is_zeros, split_body, split_word};
 use x_value::ReadCode;
 
 /// Why bytes are refused, and how many of them are left from the place on.
@@ -22,19 +21,6 @@ const CUT: Refusal = Refusal {
     code: ReadCode::Short,
 };
 
-/// The word at the front, and the bytes behind it.
-fn word_at(bytes: &[u8]) -> Option<(u32, &[u8])>
-    ensures some { IfSome result (λ r. (bytes.now ≡ word r.0 ++ r.1.now) × (r.0 < 2 ^ 32)) }
-    ensures none { IfNone result (length bytes.now < 4) }
-{
-    if bytes.len() < 4 {
-        return None;
-    }
-    let (front, rest) = bytes.split_at(4);
-    let word = u32::from_be_bytes([front[0], front[1], front[2], front[3]]);
-    Some((word, rest))
-}
-
 /// Any number.
 pub(super) fn number(bytes: &[u8]) -> Result<(u32, &[u8]), Refusal>
     ensures ok { IfOk result (λ r. (on : ℕ → HeaderForm)
@@ -42,7 +28,7 @@ pub(super) fn number(bytes: &[u8]) -> Result<(u32, &[u8]), Refusal>
     ensures err { IfErr result (λ e. (on : ℕ → HeaderForm)
         → FormFault (number_form on) bytes.now e.left e.code) }
 {
-    match word_at(bytes) {
+    match split_word(bytes) {
         Some((number, rest)) => Ok((number, rest)),
         None => Err(CUT),
     }
@@ -55,7 +41,7 @@ pub(super) fn state(last: u32, bytes: &[u8]) -> Result<(u32, &[u8]), Refusal>
     ensures err { IfErr result (λ e. (on : ℕ → HeaderForm)
         → FormFault (state_form last on) bytes.now e.left e.code) }
 {
-    let Some((state, rest)) = word_at(bytes) else {
+    let Some((state, rest)) = split_word(bytes) else {
         return Err(CUT);
     };
     if state > last {
@@ -74,7 +60,7 @@ fn body_length(bytes: &[u8]) -> Result<(u32, &[u8]), Refusal>
     ensures err { IfErr result (λ e. (on : ℕ → HeaderForm)
         → FormFault (length_form on) bytes.now e.left e.code) }
 {
-    let Some((length, rest)) = word_at(bytes) else {
+    let Some((length, rest)) = split_word(bytes) else {
         return Err(CUT);
     };
     if length > MOST_AUTH_BYTES {
@@ -86,12 +72,6 @@ fn body_length(bytes: &[u8]) -> Result<(u32, &[u8]), Refusal>
     Ok((length, rest))
 }
 
-fn is_zeros(bytes: &[u8]) -> bool
-    ensures { result ≡ are_zeros bytes.now }
-{
-    bytes.iter().all(|byte| *byte == 0)
-}
-
 /// So many bytes, and what stands behind the zeros that fill their last unit up.
 fn body(length: u32, bytes: &[u8]) -> Result<(&[u8], &[u8]), Refusal>
     ensures ok { IfOk result (λ r. (on : List ℕ → HeaderForm)
@@ -99,16 +79,12 @@ fn body(length: u32, bytes: &[u8]) -> Result<(&[u8], &[u8]), Refusal>
     ensures err { IfErr result (λ e. (on : List ℕ → HeaderForm)
         → FormFault (body_form length on) bytes.now e.left e.code) }
 {
-    let size = length as usize;
-    let filled = (4 - size % 4) % 4;
-    if bytes.len() < size + filled {
+    let Some((body, filling, rest)) = split_body(length, bytes) else {
         return Err(CUT);
-    }
-    let (body, rest) = bytes.split_at(size);
-    let (zeros, rest) = rest.split_at(filled);
-    if !is_zeros(zeros) {
+    };
+    if !is_zeros(filling) {
         return Err(Refusal {
-            left: rest.len() + 4,
+            left: rest.len() + UNIT,
             code: ReadCode::BadPad,
         });
     }

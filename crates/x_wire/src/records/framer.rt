@@ -4,6 +4,7 @@ ghost use Rattle.x_wire.specs.Records.{nothing_left, in_fragment, behind_header}
 ghost use Rattle.x_wire.specs.RecordFaults.{end_fault, fault_at};
 
 use crate::records::{MAX_RECORD, RecordCode, RecordFault};
+use byteorder::{BigEndian, ByteOrder};
 use std::alloc::{AllocError, Global};
 
 /// The bytes of a header.
@@ -134,7 +135,7 @@ impl Framer {
         bytes[count] = byte;
         self.taken = self.taken.saturating_add(1);
         if count + 1 == HEADER_LEN {
-            return self.pass_header(u32::from_be_bytes(bytes));
+            return self.pass_header(BigEndian::read_u32(&bytes));
         }
         self.phase = Phase::InHeader {
             bytes,

@@ -1,14 +1,14 @@
 //! The arguments and the results in messages.
 ghost use Rattle.std.specs.Prelude.{◌≡◌, ◌++◌, MatchOption, IfOk};
 ghost use Rattle.x_text.specs.Writing.{Adds};
-ghost use Rattle.x_sema.specs.Schema.{IsTypeId};
+ghost use Rattle.x_schema.specs.Schema.{IsTypeId};
 ghost use Rattle.x_value.specs.FaultTexts.{fault_line};
 ghost use Rattle.x_wire.specs.Bodies.{IsReadAs, told_of};
 ghost use Rattle.x_wire.specs.MessageTexts.{raw_line};
 
 use super::lines::add_raw;
 use std::alloc::Global;
-use x_sema::{Schema, TypeId};
+use x_schema::{Schema, TypeId};
 use x_text::{NoMemory, Pen, Sink};
 use x_value::{Dump, ReadCode, ReadFault, dump};
 

@@ -1,7 +1,7 @@
 //! What is printed of a stream that comes in blocks.
 ghost use Rattle.std.specs.Prelude.{◌≡◌, ◌<◌, ◌||◌, ◌∷◌, [], ℕ, List, false, length, true, IfOk, OnErr};
-ghost use Rattle.x_sema.specs.Schema.{Schema};
-ghost use Rattle.x_session.specs.Script.{is_refused};
+ghost use Rattle.x_schema.specs.Schema.{Schema};
+ghost use Rattle.x_text.specs.Engines.{is_refused};
 ghost use Rattle.x_text.specs.Writing.{Adds};
 ghost use Rattle.x_wire.specs.Dumpers.{HasTold, IsAt, IsOver, IsOverAt, IsUnder, IsUsed, Tells, TellsFront, TellsMore, front_taken};
 ghost use Rattle.x_wire.specs.Framers.{IsOpen, left_by};
@@ -14,9 +14,8 @@ use super::teller::Teller;
 use crate::RecordCode;
 use crate::records::Framer;
 use std::alloc::Global;
-use x_sema::Schema;
-use x_session::Outcome;
-use x_text::{NoMemory, Pen, Sink};
+use x_schema::Schema;
+use x_text::{NoMemory, Outcome, Pen, Sink};
 
 /// Tells the messages of a stream that comes in blocks.
 #[derive(Drop)]
@@ -136,18 +135,7 @@ impl Dumper {
                 add_record_fault(fault, pen, sink);
                 Outcome::Refused
             }
-            None => outcome_of(self.refused),
+            None => Outcome::of(self.refused),
         }
-    }
-}
-
-/// How all went, by whether a fault was told.
-pub(super) fn outcome_of(refused: bool) -> Outcome
-    ensures { is_refused result ≡ refused }
-{
-    if refused {
-        Outcome::Refused
-    } else {
-        Outcome::Clean
     }
 }

@@ -1,6 +1,6 @@
 //! Laws of what is told.
 ghost use Rattle.std.specs.Prelude.{◌≡◌, ℕ, List};
-ghost use Rattle.x_sema.specs.Schema.{Schema};
+ghost use Rattle.x_schema.specs.Schema.{Schema};
 ghost use Rattle.x_wire.specs.MessageTexts.{Told};
 ghost use Rattle.x_wire.specs.StreamTexts.{IsStreamText, IsTextOf};
 

@@ -1,12 +1,10 @@
 //! What is printed of one message.
 ghost use Rattle.x_wire.specs.StreamTexts.{DumpsMessage};
 
-use super::dumper::outcome_of;
 use super::teller::Teller;
 use std::alloc::Global;
-use x_sema::Schema;
-use x_session::{EngineFault, Outcome};
-use x_text::{Pen, Sink, WriteFault};
+use x_schema::Schema;
+use x_text::{EngineFault, Outcome, Pen, Sink, WriteFault};
 
 /// Writes the text of the message that the bytes are, as message 1 of a stream (RFC 5531, sections 8 and 9).
 ///
@@ -26,7 +24,7 @@ pub fn dump_message<S: Sink>(
         return Err(EngineFault::NoMemory { written: 0 });
     };
     match pen.finish(sink) {
-        Ok(()) => Ok(outcome_of(refused)),
+        Ok(()) => Ok(Outcome::of(refused)),
         Err(WriteFault { written }) => Err(EngineFault::Write { written }),
     }
 }

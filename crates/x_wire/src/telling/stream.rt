@@ -1,7 +1,7 @@
 //! What is printed of a recorded stream.
 ghost use Rattle.std.specs.Prelude.{◌≡◌, ◌<◌, ℕ, List, length, IfOk, OnErr, MatchOption};
 ghost use Rattle.std.specs.Io.KnownBytes.{Keeps};
-ghost use Rattle.x_session.specs.Script.{NamesCause};
+ghost use Rattle.x_text.specs.Engines.{NamesCause};
 ghost use Rattle.x_text.specs.Streams.{FailsForGood};
 ghost use Rattle.x_wire.specs.Dumpers.{IsAt, TellsTurn};
 ghost use Rattle.x_wire.specs.Framers.{IsOpen};
@@ -10,9 +10,8 @@ ghost use Rattle.x_wire.specs.StreamTexts.{DumpsStream};
 
 use super::dumper::Dumper;
 use std::alloc::Global;
-use x_sema::Schema;
-use x_session::{EngineFault, Outcome};
-use x_text::{Broken, NoMemory, Pen, Sink, Tap};
+use x_schema::Schema;
+use x_text::{Broken, EngineFault, NoMemory, Outcome, Pen, Sink, Tap};
 
 /// How many bytes are read at a time.
 const BLOCK: usize = 65_536;

@@ -11,7 +11,7 @@ use super::lines::{add_accepted, add_bad_header, add_call, add_denied};
 use crate::{AcceptStat, Call, Kind, Message, RejectStat, Reply, message};
 use indexmap::IndexMap;
 use std::alloc::Global;
-use x_sema::{Procedure, ProcedureNumbers, Schema, TypeId};
+use x_schema::{Procedure, ProcedureNumbers, Schema, TypeId};
 use x_text::{NoMemory, Pen, Sink};
 
 /// The version of the protocol whose messages are read (RFC 5531, section 9).

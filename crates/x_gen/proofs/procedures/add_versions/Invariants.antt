@@ -1,10 +1,10 @@
 use Rattle.std.proofs.Common.{◌≡◌, ◌++◌, drop, map}
-use Rattle.std.specs.List.{flat_map}
 use Rattle.x_item.specs.View.{view_version}
+use Rattle.x_gen.specs.Procedures.{version_pieces}
 use Rattle.x_gen.proofs.procedures.add_versions.Given as goal
 
 -- those so far and those that are left
 abbrev pub invariant-loop-version : goal.invariant-loop-version
 invariant-loop-version g l =
-    l.text.items ++ flat_map (λ v. flat_map (g.P.ProcedurePiece.piece l.piece v) v.procedures) (map view_version (drop l.version-index l.versions))
-    ≡ l.fn.text.items ++ flat_map (λ v. flat_map (g.P.ProcedurePiece.piece l.piece v) v.procedures) (map view_version l.versions)
+    l.text.items ++ version_pieces (g.P.ProcedurePiece.piece l.piece) (map view_version (drop l.version-index l.versions))
+    ≡ l.fn.text.items ++ version_pieces (g.P.ProcedurePiece.piece l.piece) (map view_version l.versions)

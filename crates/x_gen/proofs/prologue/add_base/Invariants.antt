@@ -1,6 +1,6 @@
 use Rattle.std.proofs.Common.{ℕ, drop, [], ◌∷◌}
 use Rattle.x_gen.specs.Texts.{base_byte}
-use Rattle.x_gen.proofs.Listing.{HasListed}
+use Rattle.x_text.proofs.Listing.{HasListed}
 use Rattle.x_gen.proofs.prologue.add_base.Given as goal
 
 abbrev pub invariant-loop-byte : goal.invariant-loop-byte

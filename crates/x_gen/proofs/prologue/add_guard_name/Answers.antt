@@ -1,7 +1,7 @@
 use Rattle.std.proofs.Common.{◌∷◌, [], subst}
 use Rattle.x_text.specs.Writing.{Adds}
 use Rattle.x_gen.specs.Texts.{guard_byte}
-use Rattle.x_gen.proofs.Listing.{maps_at, maps_past}
+use Rattle.x_text.proofs.Listing.{maps_at, maps_past}
 use Rattle.x_gen.proofs.prologue.add_guard_name.Goals as goal
 
 pub loop-byte-preserved : goal.loop-byte-preserved

@@ -7,7 +7,7 @@ use Rattle.x_gen.proofs.routines.add_union.Goals as goal
 
 pub returns : goal.returns
 returns c =
-    let switch = rw c.name_of.ensures at c.in_ok-add.ensures in
+    let switch = rw c.name.ensures at c.in_ok-add.ensures in
     let arms = rw c.deref.ensures.value at c.in_ok-add_arms.ensures in
     on_ok_weaker c.add_end.result
     (λ last. then _ _ _ _ _

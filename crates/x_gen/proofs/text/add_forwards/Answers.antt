@@ -3,7 +3,7 @@ use Rattle.std.specs.Option.{option_map_or}
 use Rattle.x_text.specs.Writing.{Adds}
 use Rattle.x_gen.specs.Pieces.{pieces_at}
 use Rattle.x_gen.specs.Texts.{forward_of}
-use Rattle.x_gen.proofs.Listing.{lists_at}
+use Rattle.x_text.proofs.Listing.{lists_at}
 use Rattle.x_gen.proofs.PieceListLemmas.{forward_at, some_added, none_added}
 use Rattle.x_gen.proofs.text.add_forwards.Goals.{in-Some, in_default}
 use Rattle.x_gen.proofs.text.add_forwards.Goals as goal

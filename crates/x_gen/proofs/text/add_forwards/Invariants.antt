@@ -1,7 +1,7 @@
 use Rattle.std.proofs.Common.{drop}
 use Rattle.x_gen.specs.Pieces.{Part}
 use Rattle.x_gen.specs.Texts.{forward_of}
-use Rattle.x_gen.proofs.Listing.{HasListed}
+use Rattle.x_text.proofs.Listing.{HasListed}
 use Rattle.x_gen.proofs.text.add_forwards.Given as goal
 
 abbrev pub invariant-loop-index : goal.invariant-loop-index

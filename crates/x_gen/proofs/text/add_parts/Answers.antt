@@ -4,7 +4,7 @@ use Rattle.x_text.specs.Writing.{Adds}
 use Rattle.x_text.proofs.Pens.{adds_trans}
 use Rattle.x_gen.specs.Pieces.{piece, lines_at, pieces_at}
 use Rattle.x_gen.specs.Texts.{part_text}
-use Rattle.x_gen.proofs.Listing.{lists_at}
+use Rattle.x_text.proofs.Listing.{lists_at}
 use Rattle.x_gen.proofs.PieceListLemmas.{part_at, some_added, none_added}
 use Rattle.x_gen.proofs.text.add_parts.Goals.{in-Some, in_default}
 use Rattle.x_gen.proofs.text.add_parts.Goals as goal

@@ -2,7 +2,7 @@ use Rattle.std.proofs.Common.{rules, subst}
 use Rattle.std.specs.List.{flat_map}
 use Rattle.x_text.specs.Writing.{Adds}
 use Rattle.x_gen.specs.Texts.{prologue, forwards, part_text, epilogue}
-use Rattle.x_gen.proofs.Adding.{four}
+use Rattle.x_text.proofs.Adding.{four}
 use Rattle.x_gen.proofs.text.add_text.Goals.{then-eq, else-eq}
 use Rattle.x_gen.proofs.text.add_text.Goals as goal
 

@@ -1,6 +1,7 @@
 use Rattle.std.proofs.Common.{◌≡◌, ◌<◌, suc, ◌+◌, ◌-◌, ◌∷◌, Some, length, map, drop, ap, ◌∙◌, arith}
-use Rattle.x_sema.specs.DeclarerTable.{entry_in, tree_at}
-use Rattle.x_sema.proofs.ListLemmas.{drop_one, get_mapped}
+use Rattle.x_sema.specs.DeclarerTable.{entry_in}
+use Rattle.x_schema.specs.Definitions.{tree_at}
+use Rattle.x_text.proofs.ListLemmas.{drop_one, get_mapped}
 use Rattle.x_sema.proofs.NameLemmas.{item_before}
 use Rattle.x_sema.proofs.names.table_of.Goals as goal
 

@@ -1,6 +1,7 @@
 use Rattle.std.proofs.Common.{◌≡◌, ℕ, List, map, drop}
 use Rattle.x_sema.specs.Declarers.{AreShort, first_from}
-use Rattle.x_sema.specs.DeclarerTable.{entry_in, tree_at}
+use Rattle.x_sema.specs.DeclarerTable.{entry_in}
+use Rattle.x_schema.specs.Definitions.{tree_at}
 use Rattle.x_sema.proofs.names.table_of.Given as goal
 
 -- the table has what the items from this one on declare

@@ -1,7 +1,9 @@
 use Rattle.std.proofs.Common.{Bool, ◌||◌, ◌++◌, Option, Ok, Err, refl, sym, subst, ◌∙◌}
 use Rattle.x_session.specs.Lines.{script_lines}
-use Rattle.x_session.specs.Script.{is_refused, GoesOn, HasRun, HasStopped, HasFailed, IsFrontOf}
-use Rattle.x_session.proofs.Running.{IsBetween, works_at_start, works_on, added_some, at_start, behind, between, at_stop, at_fault, so_still, match_some}
+use Rattle.x_text.specs.Engines.{is_refused}
+use Rattle.x_session.specs.Script.{GoesOn, HasRun, HasStopped, HasFailed, IsFrontOf}
+use Rattle.x_session.proofs.Running.{IsBetween, works_at_start, works_on, added_some, at_start, behind, between, at_stop, at_fault, so_still}
+use Rattle.x_text.proofs.Cases.{match_some}
 use Rattle.x_session.proofs.script.run_script.Goals as goal
 
 pub loop-init : goal.loop-init

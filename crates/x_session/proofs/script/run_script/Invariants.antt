@@ -1,5 +1,5 @@
 use Rattle.std.proofs.Common.{◌≡◌, List, ℕ, Some}
-use Rattle.x_session.specs.Script.{is_refused}
+use Rattle.x_text.specs.Engines.{is_refused}
 use Rattle.x_session.proofs.Running.{IsBetween, IsWorking}
 use Rattle.x_session.proofs.script.run_script.Given as goal
 

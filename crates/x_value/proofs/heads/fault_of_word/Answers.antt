@@ -1,5 +1,5 @@
-use Rattle.x_sema.specs.declared.schema.form.Form.TheVariants.{Array, Opaque, String, Union}
-use Rattle.x_sema.specs.Schema.{target_at}
+use Rattle.x_schema.specs.declared.form.Form.TheVariants.{Array, Opaque, String, Union}
+use Rattle.x_schema.specs.Schema.{target_at}
 use Rattle.x_value.specs.Shown.{Hex, Text}
 use Rattle.x_value.proofs.Unions.{fault_at}
 use Rattle.x_value.proofs.heads.fault_of_word.Goals as goal

@@ -1,6 +1,6 @@
 use Rattle.std.proofs.Common.{sym, ◌∷◌, [], length, subst, arith}
 use Rattle.std.proofs.lemmas.Result.{err_from_is_err_and}
-use Rattle.x_sema.specs.Schema.{form_at}
+use Rattle.x_schema.specs.Schema.{form_at}
 use Rattle.x_value.specs.Entries.{nodes_of}
 use Rattle.x_value.specs.Jobs.{Moves}
 use Rattle.x_value.specs.Layouts.{layout_at, placed}

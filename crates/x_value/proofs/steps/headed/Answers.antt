@@ -1,5 +1,5 @@
 use Rattle.std.proofs.lemmas.Result.{err_from_is_err_and}
-use Rattle.x_sema.specs.Schema.{form_at}
+use Rattle.x_schema.specs.Schema.{form_at}
 use Rattle.x_value.proofs.StepLemmas.{headed_layout, value_refused, head_begun}
 use Rattle.x_value.proofs.steps.headed.Goals as goal
 

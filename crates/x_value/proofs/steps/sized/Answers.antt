@@ -1,9 +1,9 @@
 use Rattle.std.proofs.Common.{◌∷◌, [], length, arith}
 use Rattle.std.proofs.lemmas.Result.{err_from_is_err_and}
-use Rattle.x_sema.specs.Schema.{form_at}
+use Rattle.x_schema.specs.Schema.{form_at}
 use Rattle.x_value.specs.Entries.{nodes_of}
 use Rattle.x_value.specs.Layouts.{layout_at}
-use Rattle.x_value.specs.Values.{word}
+use Rattle.x_units.specs.Units.{word}
 use Rattle.x_value.specs.Work.{place_of}
 use Rattle.x_value.proofs.Bytes.{IsByteList_of}
 use Rattle.x_value.proofs.StepLemmas.{headed_sized, sized_layout, sized_moves, sized_refused, value_refused, body_begun, leaf_same, rear_behind, read_less}

@@ -1,6 +1,6 @@
 use Rattle.std.proofs.Common.{Ok, ap, sym, subst, ◌∙◌}
-use Rattle.x_sema.specs.Schema.{id_named}
-use Rattle.x_session.specs.ValueTexts.{WritesValue}
+use Rattle.x_schema.specs.Schema.{id_named}
+use Rattle.x_value.specs.ValueTexts.{WritesValue}
 use Rattle.rpcx.specs.Dumping.{WritesNamed}
 use Rattle.rpcx.proofs.Dumping.{read_whole}
 use Rattle.rpcx.proofs.program.dumping.show_value.Goals as goal

@@ -1,5 +1,5 @@
 use Rattle.std.proofs.Common.{ap, sym}
-use Rattle.x_session.specs.Script.{is_refused}
+use Rattle.x_text.specs.Engines.{is_refused}
 use Rattle.rpcx.specs.Editing.{status_of}
 use Rattle.rpcx.specs.declared.program.status.Status.TheVariants.{Done, Faulty}
 use Rattle.rpcx.proofs.Editing.{answers_all, ends_early}

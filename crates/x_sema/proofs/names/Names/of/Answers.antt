@@ -1,5 +1,5 @@
 use Rattle.std.proofs.Common.{map}
-use Rattle.x_sema.specs.DeclarerTable.{tree_at}
+use Rattle.x_schema.specs.Definitions.{tree_at}
 use Rattle.x_sema.proofs.DeclarerLaws.{first_by_search}
 use Rattle.x_sema.proofs.names.Names.of.Goals as goal
 

@@ -9,7 +9,7 @@ use Rattle.x_sema.proofs.outline.programs.pass_type.Goals as goal
 
 pub returns-in-Basic : goal.returns-in-Basic
 returns-in-Basic c =
-    let words : Passes c.args.walk.now c.skip.new.self (length (spell_basic c.in-Basic.basic)) = rw c.words_of.ensures at c.skip.ensures in
+    let words : Passes c.args.walk.now c.skip.new.self (length (spell_basic c.in-Basic.basic)) = rw c.word_count.ensures at c.skip.ensures in
     subst (λ x. Skips c.args.walk.now c.skip.new.self (length (spell_type (view_type x)))) (sym c.in-Basic.is) (words [] []).bodies
 
 pub returns-in-Named : goal.returns-in-Named

@@ -5,7 +5,7 @@ use Rattle.x_sema.specs.Constants.{limit_of, number_by}
 use Rattle.x_sema.specs.Found.{fault_at}
 use Rattle.x_sema.specs.KeptViews.{kept_class}
 use Rattle.x_sema.specs.Tables.{seen_by, view_value_at}
-use Rattle.x_sema.proofs.ListLemmas.{drop_none, listed_more, listed_all}
+use Rattle.x_text.proofs.ListLemmas.{drop_none, listed_more, listed_all}
 use Rattle.x_sema.proofs.rules.cases.add_case_faults.Goals as goal
 
 pub loop-case-preserved : goal.loop-case-preserved

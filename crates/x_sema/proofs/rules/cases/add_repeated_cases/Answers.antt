@@ -3,7 +3,7 @@ use Rattle.std.proofs.lemmas.List.{drop_more}
 use Rattle.x_sema.specs.Found.{repeated_cases, repeated_numbers}
 use Rattle.x_sema.specs.Tables.{seen_by, view_value_at}
 use Rattle.x_sema.specs.declared.fault.RuleCode.TheVariants as codes
-use Rattle.x_sema.proofs.ListLemmas.{drop_none, listed_more, listed_all}
+use Rattle.x_text.proofs.ListLemmas.{drop_none, listed_more, listed_all}
 use Rattle.x_sema.proofs.rules.cases.add_repeated_cases.Goals as goal
 
 pub loop-body-preserved : goal.loop-body-preserved

@@ -3,7 +3,7 @@ use Rattle.std.proofs.lemmas.List.{drop_more}
 use Rattle.x_sema.specs.Constants.{limit_of, number_by}
 use Rattle.x_sema.specs.Found.{numbered}
 use Rattle.x_sema.specs.Tables.{seen_by, view_value_at}
-use Rattle.x_sema.proofs.ListLemmas.{drop_none, listed_more, listed_all}
+use Rattle.x_text.proofs.ListLemmas.{drop_none, listed_more, listed_all}
 use Rattle.x_sema.proofs.rules.cases.case_numbers.Goals as goal
 
 pub loop-case-preserved : goal.loop-case-preserved

@@ -7,7 +7,7 @@ use Rattle.x_item.specs.View.{view_enumerator}
 use Rattle.x_sema.specs.Constants.{number_named}
 use Rattle.x_sema.specs.Types.{enum_number}
 use Rattle.x_sema.proofs.ClassLemmas.{with_all_start, with_all, with_all_more, with_all_none, with_all_end}
-use Rattle.x_sema.proofs.ListLemmas.{drop_none}
+use Rattle.x_text.proofs.ListLemmas.{drop_none}
 use Rattle.x_sema.proofs.rules.classes.enum_numbers.Goals as goal
 
 pub loop-enumerator-init : goal.loop-enumerator-init

@@ -5,7 +5,7 @@ use Rattle.x_item.specs.Collected.{Walked}
 use Rattle.x_item.proofs.CollectLemmas.{finds_none}
 use Rattle.x_sema.specs.Bodies.{EnumeratorAt}
 use Rattle.x_sema.specs.Tables.{view_enumerator_at, view_given}
-use Rattle.x_sema.proofs.ListLemmas.{map_append}
+use Rattle.x_text.proofs.ListLemmas.{map_append}
 use Rattle.x_sema.proofs.EnumeratorLemmas.{GoesNames, goes_names, given_is}
 use Rattle.x_sema.proofs.rules.constants.add_names.Goals as goal
 

@@ -4,7 +4,7 @@ use Rattle.std.specs.Cow.{cow_slice_items}
 use Rattle.x_item.specs.Named.{view_name}
 use Rattle.x_sema.specs.Found.{fault_at, duplicate_code, is_taken_at, duplicates_from}
 use Rattle.x_sema.specs.Tables.{place_seen, seen_by}
-use Rattle.x_sema.proofs.ListLemmas.{drop_one, drop_none}
+use Rattle.x_text.proofs.ListLemmas.{drop_one, drop_none}
 use Rattle.x_sema.proofs.rules.duplicates.add_duplicates.Goals as goal
 
 pub loop-place-preserved : goal.loop-place-preserved

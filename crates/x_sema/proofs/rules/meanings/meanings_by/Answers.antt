@@ -5,7 +5,7 @@ use Rattle.x_item.specs.View.{view_definition}
 use Rattle.x_sema.specs.KeptViews.{kept_meaning}
 use Rattle.x_sema.specs.Results.{meaning_of}
 use Rattle.x_sema.specs.Tables.{seen_by}
-use Rattle.x_sema.proofs.ListLemmas.{drop_none, map_append}
+use Rattle.x_text.proofs.ListLemmas.{drop_none, map_append}
 use Rattle.x_sema.proofs.MeaningLemmas.{mapped_more, mapped_all}
 use Rattle.x_sema.proofs.rules.meanings.meanings_by.Goals as goal
 

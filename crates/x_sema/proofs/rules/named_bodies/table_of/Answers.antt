@@ -2,7 +2,7 @@ use Rattle.std.proofs.Common.{◌≡◌, ◌+◌, suc, ◌∷◌, map, drop, ap,
 use Rattle.std.proofs.lemmas.List.{drop_more}
 use Rattle.x_sema.specs.BodyWalks.{view_body_at}
 use Rattle.x_sema.specs.Meanings.{place_at, first_named}
-use Rattle.x_sema.proofs.ListLemmas.{drop_none}
+use Rattle.x_text.proofs.ListLemmas.{drop_none}
 use Rattle.x_sema.proofs.MeaningLemmas.{body_more, all_bodies}
 use Rattle.x_sema.proofs.rules.named_bodies.table_of.Goals as goal
 

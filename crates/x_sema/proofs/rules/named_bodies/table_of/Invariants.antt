@@ -1,11 +1,11 @@
 use Rattle.std.proofs.Common.{◌≡◌, ℕ, map, drop}
 use Rattle.x_sema.specs.BodyWalks.{view_body_at}
-use Rattle.x_sema.specs.Declarers.{or_else}
+use Rattle.std.specs.Option.{option_or}
 use Rattle.x_sema.specs.Meanings.{place_at, first_named}
 use Rattle.x_sema.proofs.rules.named_bodies.table_of.Given as goal
 
 -- with the bodies that are left, the table has what it is to have
 abbrev pub invariant-loop-place : goal.invariant-loop-place
 invariant-loop-place l = (word : ℕ)
-    → or_else (place_at l.table.entries word) (first_named l.place (map view_body_at (drop l.place l.bodies)) word)
+    → option_or (place_at l.table.entries word) (first_named l.place (map view_body_at (drop l.place l.bodies)) word)
     ≡ first_named 0 (map view_body_at l.bodies) word

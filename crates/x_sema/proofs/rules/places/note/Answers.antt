@@ -2,7 +2,7 @@ use Rattle.std.proofs.Common.{ap, sym, ◌∙◌}
 use Rattle.std.specs.Map.{lookup}
 use Rattle.std.specs.Str.{bytes_eq}
 use Rattle.indexmap.proofs.CallerLemmas.{insert_entry-new}
-use Rattle.x_sema.proofs.NameLemmas.{lookup_more, none_is}
+use Rattle.x_schema.proofs.Lookups.{lookup_more, none_is}
 use Rattle.x_sema.proofs.rules.places.note.Goals as goal
 
 pub returns-in_ok-insert : goal.returns-in_ok-insert

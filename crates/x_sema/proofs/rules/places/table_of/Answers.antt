@@ -1,7 +1,7 @@
 use Rattle.std.proofs.Common.{◌≡◌, ℕ, List, [], ◌+◌, suc, map, drop, get_or, ap, arith}
 use Rattle.std.specs.Borrow.{Bor}
 use Rattle.x_sema.specs.Tables.{tabled, first_place}
-use Rattle.x_sema.proofs.ListLemmas.{drop_one, drop_none}
+use Rattle.x_text.proofs.ListLemmas.{drop_one, drop_none}
 use Rattle.x_sema.proofs.PlaceLemmas.{place_more, all_placed}
 use Rattle.x_sema.proofs.rules.places.table_of.Goals as goal
 

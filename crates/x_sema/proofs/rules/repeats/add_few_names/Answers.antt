@@ -3,7 +3,7 @@ use Rattle.x_sema.specs.Found.{fault_at, is_behind, repeat_code, repeats_from}
 use Rattle.x_sema.specs.Tables.{first_place, view_name_at}
 use Rattle.x_sema.specs.declared.outline.parts.NameAt.{NameAt}
 use Rattle.x_sema.proofs.FieldLemmas.{behind_first}
-use Rattle.x_sema.proofs.ListLemmas.{drop_one, drop_none}
+use Rattle.x_text.proofs.ListLemmas.{drop_one, drop_none}
 use Rattle.x_sema.proofs.rules.repeats.add_few_names.Goals as goal
 
 pub loop-place-preserved : goal.loop-place-preserved

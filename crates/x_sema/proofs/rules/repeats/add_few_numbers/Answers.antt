@@ -4,7 +4,7 @@ use Rattle.std.specs.Ordering.{int_eq}
 use Rattle.std.proofs.Common.{◌+◌, ◌++◌, take, drop, get_or, ap, ◌∙◌}
 use Rattle.x_sema.specs.Found.{fault_at, repeated_code}
 use Rattle.x_sema.specs.declared.rules.repeats.Numbered.{Numbered}
-use Rattle.x_sema.proofs.ListLemmas.{drop_one}
+use Rattle.x_text.proofs.ListLemmas.{drop_one}
 use Rattle.x_sema.proofs.NumberLemmas.{counted_next, number_more}
 use Rattle.x_sema.proofs.rules.repeats.add_few_numbers.Goals as goal
 

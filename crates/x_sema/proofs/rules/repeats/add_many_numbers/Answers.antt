@@ -4,7 +4,7 @@ use Rattle.std.proofs.Common.{◌+◌, drop, get_or, ap}
 use Rattle.std.specs.Ordering.{int_eq}
 use Rattle.indexmap.specs.IndexSet.{contains}
 use Rattle.x_sema.specs.declared.rules.repeats.Numbered.{Numbered}
-use Rattle.x_sema.proofs.ListLemmas.{drop_one, drop_none}
+use Rattle.x_text.proofs.ListLemmas.{drop_one, drop_none}
 use Rattle.x_sema.proofs.NumberLemmas.{counted_start, counted_next, counted_all}
 use Rattle.x_sema.proofs.rules.repeats.add_many_numbers.Goals as goal
 

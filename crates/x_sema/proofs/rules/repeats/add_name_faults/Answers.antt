@@ -2,7 +2,7 @@ use Rattle.std.proofs.Common.{◌≡◌, ◌+◌, suc, [], ◌++◌, map, drop, 
 use Rattle.x_sema.specs.Found.{fault_at, is_behind, repeat_code, repeats_from}
 use Rattle.x_sema.specs.Tables.{place_in, view_name_at}
 use Rattle.x_sema.specs.declared.outline.parts.NameAt.{NameAt}
-use Rattle.x_sema.proofs.ListLemmas.{drop_one, drop_none}
+use Rattle.x_text.proofs.ListLemmas.{drop_one, drop_none}
 use Rattle.x_sema.proofs.rules.repeats.add_name_faults.Goals as goal
 
 pub loop-place-preserved : goal.loop-place-preserved

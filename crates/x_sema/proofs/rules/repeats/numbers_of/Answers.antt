@@ -1,9 +1,9 @@
 use Rattle.std.proofs.Common.{◌+◌, [], ◌++◌, map, drop, get_or, ap, ◌∙◌}
-use Rattle.x_sema.specs.Constants.{number_spelled}
+use Rattle.x_schema.specs.Numbers.{number_spelled}
 use Rattle.x_sema.specs.Found.{numbered}
 use Rattle.x_sema.specs.Tables.{view_number_at}
 use Rattle.x_sema.specs.declared.outline.parts.NumberAt.{NumberAt}
-use Rattle.x_sema.proofs.ListLemmas.{drop_one, drop_none, listed_more, listed_all}
+use Rattle.x_text.proofs.ListLemmas.{drop_one, drop_none, listed_more, listed_all}
 use Rattle.x_sema.proofs.NumberLemmas.{spelled}
 use Rattle.x_sema.proofs.rules.repeats.numbers_of.Goals as goal
 

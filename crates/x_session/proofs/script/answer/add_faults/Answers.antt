@@ -8,7 +8,7 @@ use Rattle.x_session.specs.declared.compile.fault.Fault.{Fault}
 use Rattle.x_session.specs.declared.compile.fault.FaultCode.TheVariants.{Syntax}
 use Rattle.x_item.specs.declared.parsing.fault_code.FaultCode.TheVariants as codes
 use Rattle.x_session.proofs.Compiled.{one_compilation}
-use Rattle.x_sema.proofs.ListLemmas.{drop_one, drop_none}
+use Rattle.x_text.proofs.ListLemmas.{drop_one, drop_none}
 use Rattle.x_text.proofs.Listing.{HasListed, lists_more, lists_all}
 use Rattle.x_session.proofs.script.answer.add_faults.Goals as goal
 

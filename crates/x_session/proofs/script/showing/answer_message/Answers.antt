@@ -2,7 +2,7 @@ use Rattle.std.proofs.Common.{◌≡◌, Bool, true, false, ap, ◌∙◌}
 use denote.Enum.Bare.{sameb}
 use Rattle.x_value.specs.contracts.fault.ReadCode.{the_type}
 use Rattle.x_value.specs.declared.fault.ReadCode.TheVariants.{NoMemory}
-use Rattle.x_session.proofs.ShowingLemmas.{false_true}
+use Rattle.x_text.proofs.Cases.{false_true}
 use Rattle.x_session.proofs.ShowingLemmas.{tells_shown, tells_stuck}
 use Rattle.x_session.proofs.script.showing.answer_message.Goals as goal
 

@@ -2,7 +2,7 @@ use Rattle.std.proofs.Common.{◌+◌, [], drop, get_or, ap, subst, ◌∙◌}
 use Rattle.x_text.specs.declared.edit.Edit.{Edit}
 use Rattle.x_text.specs.Edits.{change_of}
 use Rattle.x_session.proofs.EditLists.{HasTaken, taken_more, stops_at, refuses_by}
-use Rattle.x_sema.proofs.ListLemmas.{drop_one}
+use Rattle.x_text.proofs.ListLemmas.{drop_one}
 use Rattle.x_session.proofs.session.Session.apply_all.Goals as goal
 
 -- what stands where there is no edit

@@ -5,7 +5,7 @@ use Rattle.x_sema.specs.Results.{result_at}
 use Rattle.x_session.specs.ItemView.{kept_definition}
 use Rattle.x_session.specs.Session.{Compiles}
 use Rattle.x_session.specs.SessionState.{items_of}
-use Rattle.x_sema.specs.DeclarerTable.{tree_at}
+use Rattle.x_schema.specs.Definitions.{tree_at}
 use Rattle.x_session.specs.Compile.{definition_at}
 use Rattle.x_session.proofs.Compiled.{definition_found}
 use Rattle.x_session.proofs.session.Session.definition.Goals as goal

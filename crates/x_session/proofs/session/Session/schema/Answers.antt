@@ -1,7 +1,7 @@
 use Rattle.std.proofs.Common.{◌≡◌, ◌<◌, [], length, map, ap, sym, subst, ◌∙◌}
 use Rattle.x_lex.specs.Places.{lexemes}
 use Rattle.x_sema.specs.Results.{result_at}
-use Rattle.x_sema.specs.Schemas.{IsSchemaOf}
+use Rattle.x_schema.specs.Schemas.{IsSchemaOf}
 use Rattle.x_session.specs.Compile.{definitions_of, faults_of}
 use Rattle.x_session.specs.ItemView.{kept_definition}
 use Rattle.x_session.specs.Session.{Compiles}

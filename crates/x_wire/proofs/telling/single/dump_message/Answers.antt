@@ -7,7 +7,7 @@ returns-in-Ok-finish g c =
     let start = g.S.Sink.state c.args.sink.now in
     let alone = told_alone c.args.schema.now c.args.bytes.now c.new-teller.result c.tell.new.self.calls.entries c.in-Ok.refused start c.new-pen.result c.tell.new.pen
     (g.S.Sink.state c.tell.new.sink) c.new-teller.ensures.knows c.new-teller.ensures.count c.new-pen.ensures c.in-Ok.ensures.told in
-    (alone.text, alone.are, c.in-Ok-finish.ensures start alone.text.text alone.writes, c.outcome_of.ensures ∙ alone.refused_is)
+    (alone.text, alone.are, c.in-Ok-finish.ensures start alone.text.text alone.writes, c.of.ensures ∙ alone.refused_is)
 
 pub returns : goal.returns
 returns g c =

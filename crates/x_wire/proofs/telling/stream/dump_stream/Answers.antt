@@ -1,5 +1,5 @@
 use Rattle.std.proofs.Common.{◌≡◌, arith, ap, refl, sym, ◌∙◌, vec_len}
-use Rattle.x_session.proofs.Running.{match_some}
+use Rattle.x_text.proofs.Cases.{match_some}
 use Rattle.x_wire.proofs.Turning.{run_start, run_on, turned, tap_still, none_dumped, unread_dumped, stopped_dumped, unwritten_dumped, sink_failed, all_dumped, want_dumped}
 use Rattle.x_wire.proofs.telling.stream.dump_stream.Goals as goal
 

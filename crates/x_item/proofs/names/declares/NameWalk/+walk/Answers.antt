@@ -106,7 +106,7 @@ declaration-returns-in-Basic t c position =
     let shape = view_shape c.in-Of.shape in
     covers_of (Inside position c.args.around.now) _ (Simple c.in-Basic.basic) name shape _ _ tt
     (ap view_declaration (c.in-Of.is ∙ ap (λ d. Declaration.Of d c.in-Of.name c.in-Of.shape) c.in-Basic.is))
-    (ap (λ n. n + length (spell_named name shape)) c.words_of.ensures) (λ k. refl) (c.plain.ensures name)
+    (ap (λ n. n + length (spell_named name shape)) c.word_count.ensures) (λ k. refl) (c.plain.ensures name)
 
 pub declaration-returns-in-Named : goal.declaration-returns-in-Named
 declaration-returns-in-Named t c position =

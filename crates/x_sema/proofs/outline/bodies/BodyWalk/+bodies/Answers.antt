@@ -58,7 +58,7 @@ body-returns t c =
 
 pub data_type-returns-in-Basic : goal.data_type-returns-in-Basic
 data_type-returns-in-Basic t c =
-    let words : Passes c.args.self.now c.skip.new.self (length (spell_basic c.in-Basic.basic)) = rw c.words_of.ensures at c.skip.ensures in
+    let words : Passes c.args.self.now c.skip.new.self (length (spell_basic c.in-Basic.basic)) = rw c.word_count.ensures at c.skip.ensures in
     subst (λ x. FindsType c.args.self.now c.skip-in-Basic.new.self c.args.before_name (view_type x)) (sym c.in-Basic.is)
     (λ fields cases. goes_past (words fields cases) (c.skip-in-Basic.ensures fields cases))
 

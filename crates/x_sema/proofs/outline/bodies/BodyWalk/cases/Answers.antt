@@ -4,7 +4,7 @@ use Rattle.x_item.specs.View.{view_value}
 use Rattle.x_sema.specs.Tables.{view_value_at}
 use Rattle.x_sema.specs.BodyWalks.{GoesCases, stand}
 use Rattle.x_sema.specs.declared.outline.bodies.Contents.{Contents}
-use Rattle.x_sema.proofs.ListLemmas.{map_append}
+use Rattle.x_text.proofs.ListLemmas.{map_append}
 use Rattle.x_sema.proofs.BodyWalkLemmas.{goes_none, goes_value, goes_cases}
 use Rattle.x_sema.proofs.outline.bodies.BodyWalk.cases.Goals as goal
 

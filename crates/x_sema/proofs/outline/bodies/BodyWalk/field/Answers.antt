@@ -2,7 +2,7 @@ use Rattle.std.proofs.Common.{map, refl, ap, ◌∙◌}
 use Rattle.x_sema.specs.Tables.{view_name_at}
 use Rattle.x_sema.specs.BodyWalks.{stand}
 use Rattle.x_sema.specs.declared.outline.bodies.Contents.{Contents}
-use Rattle.x_sema.proofs.ListLemmas.{map_append}
+use Rattle.x_text.proofs.ListLemmas.{map_append}
 use Rattle.x_sema.proofs.BodyWalkLemmas.{goes_name, goes_before}
 use Rattle.x_sema.proofs.outline.bodies.BodyWalk.field.Goals as goal
 

@@ -1,7 +1,7 @@
 use Rattle.std.proofs.Common.{map, refl, ap, ◌∙◌}
 use Rattle.x_sema.specs.Tables.{view_number_at}
 use Rattle.x_sema.specs.declared.outline.parts.Members.{Members}
-use Rattle.x_sema.proofs.ListLemmas.{map_append}
+use Rattle.x_text.proofs.ListLemmas.{map_append}
 use Rattle.x_sema.proofs.MemberWalkLemmas.{adds_number}
 use Rattle.x_sema.proofs.outline.parts.Members.number.Goals as goal
 

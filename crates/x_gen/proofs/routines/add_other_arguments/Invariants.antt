@@ -1,8 +1,0 @@
-use Rattle.std.proofs.Common.{◌≡◌, ◌++◌, drop, map, ◌+◌}
-use Rattle.x_item.specs.View.{view_argument}
-use Rattle.x_gen.specs.Routines.{argument_calls}
-use Rattle.x_gen.proofs.routines.add_other_arguments.Given as goal
-
--- those so far and those that are left
-abbrev pub invariant-loop-index : goal.invariant-loop-index
-invariant-loop-index l = l.text.items ++ argument_calls (l.index + 2) (map view_argument (drop l.index l.others)) ≡ l.fn.text.items ++ argument_calls 2 (map view_argument l.others)

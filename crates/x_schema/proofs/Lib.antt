@@ -1,0 +1,9 @@
+pub mod Digits
+pub mod KeyedTables
+pub mod Lookups
+pub mod MakerArms
+pub mod MakerForms
+pub mod MakerItems
+pub mod MakerSteps
+pub mod ProcedureLemmas
+pub mod SchemaLemmas

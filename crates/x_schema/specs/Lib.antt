@@ -1,0 +1,11 @@
+pub mod Choices
+pub mod Definitions
+pub mod Numbers
+pub mod ProcedureMaking
+pub mod ProceduresOf
+pub mod Schema
+pub mod SchemaMaking
+pub mod SchemaOf
+pub mod SchemaTables
+pub mod Schemas
+pub mod Sound

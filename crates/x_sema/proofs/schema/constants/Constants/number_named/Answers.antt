@@ -1,7 +1,0 @@
-use Rattle.std.proofs.Common.{sym, ◌∙◌}
-use Rattle.std.specs.Str.{bytes_eq}
-use Rattle.x_sema.proofs.KeyedTables.{lookup_mapped}
-use Rattle.x_sema.proofs.schema.constants.Constants.number_named.Goals as goal
-
-pub returns : goal.returns
-returns c = c.copied.ensures ∙ c.get.ensures.value ∙ sym (lookup_mapped (λ k. k.now) (bytes_eq c.args.name.now) c.args.self.now.table.entries)

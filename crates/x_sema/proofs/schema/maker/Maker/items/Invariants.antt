@@ -1,7 +1,0 @@
-use Rattle.std.proofs.Common.{take, map}
-use Rattle.x_sema.specs.DeclarerTable.{tree_at}
-use Rattle.x_sema.specs.SchemaMaking.{FindsItems}
-use Rattle.x_sema.proofs.schema.maker.Maker.items.Given as goal
-
-abbrev pub invariant-loop-definition : goal.invariant-loop-definition
-invariant-loop-definition l = FindsItems l.fn.self l.self l.fn.known l.known (map tree_at (take l.definition-index l.definitions))
