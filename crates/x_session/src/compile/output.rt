@@ -99,56 +99,13 @@ impl Gathering<'_> {
         ensures lines { self.new.lines ≡ self.old.lines }
     {
         if item.is_plain(rule_faults(checked)) {
-            self.add_plain(index, item, checked)
-        } else {
-            self.add_told(index, item, checked)
+            self.walk.pass(item.tokens as usize);
+            let pieces = pieces_of(&mut self.renderer, &item.parse, &[], checked)?;
+            return self
+                .output
+                .generated
+                .push(self.alloc, Vec::new(self.alloc), pieces);
         }
-    }
-
-    /// Adds what is generated of an item that has neither a fault nor a line.
-    fn add_plain(
-        &mut self,
-        index: u32,
-        item: &Item,
-        checked: Option<&Checked>,
-    ) -> Result<(), NoMemory>
-        requires faultless { spells_none (view_parse item.now.parse) ≡ false }
-        requires ruled { rule_faults (lent_outcome checked) ≡ [] }
-        requires small { length self.old.walk ≤ MAX_TEXT }
-        requires marked { item.now.has_lines ≡ has_lines (take item.now.tokens self.old.walk) }
-        requires no_lines { item.now.has_lines ≡ false }
-        requires checked { IsChecked (kept_definition item.now) (lent_outcome checked) }
-        ensures faults { OnOk result (self.new.output.faults.items ≡ self.old.output.faults.items
-            ++ item_faults self.old.lines index (item_with self.old.walk item.now (lent_outcome checked.entry))) }
-        ensures generated { OnOk result (self.new.output.generated ≡ self.old.output.generated
-            ++ part_of (item_with self.old.walk item.now (lent_outcome checked.entry)) ∷ []) }
-        ensures walk { OnOk result (self.new.walk ≡ drop item.now.tokens self.old.walk) }
-        ensures lines { self.new.lines ≡ self.old.lines }
-    {
-        self.walk.pass(item.tokens as usize);
-        let pieces = pieces_of(&mut self.renderer, &item.parse, &[], checked)?;
-        self.output
-            .generated
-            .push(self.alloc, Vec::new(self.alloc), pieces)
-    }
-
-    /// Adds the faults of an item and what is generated of it, by its tokens.
-    fn add_told(
-        &mut self,
-        index: u32,
-        item: &Item,
-        checked: Option<&Checked>,
-    ) -> Result<(), NoMemory>
-        requires small { length self.old.walk ≤ MAX_TEXT }
-        requires marked { item.now.has_lines ≡ has_lines (take item.now.tokens self.old.walk) }
-        requires checked { IsChecked (kept_definition item.now) (lent_outcome checked) }
-        ensures faults { OnOk result (self.new.output.faults.items ≡ self.old.output.faults.items
-            ++ item_faults self.old.lines index (item_with self.old.walk item.now (lent_outcome checked.entry))) }
-        ensures generated { OnOk result (self.new.output.generated ≡ self.old.output.generated
-            ++ part_of (item_with self.old.walk item.now (lent_outcome checked.entry)) ∷ []) }
-        ensures walk { OnOk result (self.new.walk ≡ drop item.now.tokens self.old.walk) }
-        ensures lines { self.new.lines ≡ self.old.lines }
-    {
         let mut part = Vec::new(self.alloc);
         take_tokens(&mut part, &mut self.walk, item.tokens as usize)?;
         let found = faults_at(self.alloc, &part, &item.parse, rule_faults(checked))?;
