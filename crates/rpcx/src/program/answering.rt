@@ -1,8 +1,8 @@
 //! What is answered to a command line that no run comes of.
 
-ghost use Rattle.std.specs.Prelude.{◌≡◌, ◌≢◌, List, ℕ};
+ghost use Rattle.std.specs.Prelude.{◌≡◌, List, ℕ};
 ghost use Rattle.clap.specs.Words.{kind_of};
-ghost use Rattle.x_text.specs.Writing.{Adds, Writes};
+ghost use Rattle.x_text.specs.Writing.{Writes};
 ghost use Rattle.x_text.specs.Streams.{Stream};
 ghost use Rattle.rpcx.specs.Generate.{IsTold};
 ghost use Rattle.rpcx.specs.Answering.{help_text, refused_told, version_text, AnswersWords, IsOneLine, IsRefused, IsShown};
