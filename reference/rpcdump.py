@@ -1,7 +1,6 @@
 #!/usr/bin/env python3
 """rpcdump [-x SCHEMA] [-b | -t TYPE] FILE: shows the calls and replies of a recorded stream, one bare message (-b) or
 one bare value of a type (-t). Without SCHEMA the procedures are those of NFS version 2 (nfs2.x)."""
-import getopt
 import os
 import sys
 
@@ -13,6 +12,25 @@ import rpclang
 import values
 
 CODE_NAMES = {**values.CODE_NAMES, 60: "RecordTooLong", 61: "Truncated"}
+USAGE = "rpcdump [-x SCHEMA] [-b | -t TYPE] FILE"
+HELP = f"""usage: {USAGE}
+
+Shows the calls and replies of FILE, a recorded stream of Sun RPC (RFC 5531), by
+a .x file. What is no encoding is refused, with the reason and the place.
+
+  -x SCHEMA  the .x file; without it the schema is that of NFS version 2
+  -b         FILE is one message, without a record around it
+  -t TYPE    FILE is one value of TYPE
+  --help     show this text
+  --version  show the version
+
+Example: rpcdump -x add.x add.stream
+
+Status: 0 done; 1 SCHEMA has faults, or a fault was shown; 2 the run could not
+be carried out.
+"""
+ASKED = {"help": HELP, "version": "rpcdump 0.1.0\n"}
+VALUE_NAMES = {"b": None, "t": "TYPE", "x": "SCHEMA"}
 BUILT_IN = os.path.join(os.path.dirname(os.path.realpath(__file__)), "nfs2.x")
 
 
@@ -182,22 +200,83 @@ def run(schema_path, bare, type_name, path):
     return 1 if dump.refused else 0
 
 
+class Asked(Exception):
+    """The help or the version is asked for: its text."""
+
+
+class Refused(Exception):
+    """The words are no command line: what is wrong."""
+
+
+class CommandLine:
+    """The letters and the file of a command line, read from the left to the right."""
+
+    def __init__(self, words):
+        self.given = {}
+        self.files = []
+        self.words = list(words)
+        while self.words:
+            word = self.words.pop(0)
+            if word == "--":
+                self.files += self.words
+                self.words = []
+            elif word.startswith("--"):
+                self.read_long(word)
+            elif word.startswith("-") and word != "-":
+                self.read_letters(word[1:])
+            else:
+                self.files.append(word)
+            if len(self.files) > 1:
+                raise Refused(f"unexpected argument '{self.files[1]}' found")
+        if not self.files:
+            raise Refused("FILE is missing")
+
+    @staticmethod
+    def read_long(word):
+        name, equals, value = word[2:].partition("=")
+        if name not in ASKED:
+            raise Refused(f"unexpected argument '--{name}' found")
+        if equals:
+            raise Refused(f"unexpected value '{value}' for '--{name}' found; no more were expected")
+        raise Asked(ASKED[name])
+
+    def read_letters(self, letters):
+        while letters:
+            letter, letters = letters[0], letters[1:]
+            if letter not in VALUE_NAMES:
+                raise Refused(f"unexpected argument '-{letter}' found")
+            shown = f"-{letter}"
+            value = True
+            if VALUE_NAMES[letter]:
+                shown += f" <{VALUE_NAMES[letter]}>"
+                value, letters = letters.removeprefix("="), ""
+                if not value:
+                    if not self.words or self.words[0].startswith("-") and self.words[0] != "-":
+                        raise Refused(f"a value is required for '{shown}' but none was supplied")
+                    value = self.words.pop(0)
+            if letter in self.given:
+                raise Refused(f"the argument '{shown}' cannot be used multiple times")
+            self.given[letter] = value
+
+
 def main(words):
     def stop(reason):
         os.write(2, b"rpcdump: %s\n" % reason)
         return 2
     try:
-        letters, files = getopt.gnu_getopt(words, "x:bt:")
-    except getopt.GetoptError as error:
-        return stop(str(error).encode())
-    given = dict(letters)
-    if len(files) != 1 or len(given) != len(letters):
-        return stop(b"one FILE is wanted, and each letter at most once")
-    if "-b" in given and "-t" in given:
-        return stop(b"-b and -t exclude each other")
-    names = [os.fsencode(given[letter]) if letter in given else None for letter in ("-x", "-t")]
-    try:
-        return run(names[0], "-b" in given, names[1], os.fsencode(files[0]))
+        line = CommandLine(words)
+        if "b" in line.given and "t" in line.given:
+            raise Stop(b"-b and -t exclude each other")
+        names = [os.fsencode(line.given[letter]) if letter in line.given else None for letter in "xt"]
+        return run(names[0], "b" in line.given, names[1], os.fsencode(line.files[0]))
+    except Asked as text:
+        try:
+            write_texts([text.args[0].encode()])
+        except Stop as reason:
+            return stop(*reason.args)
+        return 0
+    except Refused as reason:
+        return stop(f"{reason}\nusage: {USAGE}\ntry 'rpcdump --help'".encode())
     except Stop as reason:
         return stop(*reason.args)
 

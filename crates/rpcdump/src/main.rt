@@ -1,7 +1,10 @@
 //! `rpcdump`: shows recorded calls, one message or one value.
 #![tactic(auto)]
 
-use rpcx::{Status, dump_args, dump_mode, dump_run, read_text, read_words, tell_of_file};
+use rpcx::{
+    RPCDUMP, Status, answer_words, dump_args, dump_mode, dump_run, read_text, read_words,
+    tell_of_file,
+};
 use std::fs;
 use std::process::ExitCode;
 use x_text::{In, Out};
@@ -13,8 +16,8 @@ fn run(rt: &HostRuntime) -> Result<Status, Status> {
     let args = match dump_args(rt.alloc(), words.as_slice()) {
         Ok(args) => args,
         Err(error) => {
-            let _ = error.print(rt);
-            return Err(Status::Failed);
+            let mut out = Out::new(rt.stdout());
+            return Err(answer_words(rt.alloc(), &RPCDUMP, &error, &mut out, &mut err));
         }
     };
     let Some(mode) = dump_mode(&args, &mut err) else {

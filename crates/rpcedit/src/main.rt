@@ -1,7 +1,7 @@
 //! `rpcedit`: carries out a script of edits and questions on a `.x` file.
 #![tactic(auto)]
 
-use rpcx::{Status, edit_args, edit_run, read_text, read_words};
+use rpcx::{RPCEDIT, Status, answer_words, edit_args, edit_run, read_text, read_words};
 use std::process::ExitCode;
 use x_text::{In, Out};
 
@@ -12,8 +12,8 @@ fn run(rt: &HostRuntime) -> Result<Status, Status> {
     let args = match edit_args(rt.alloc(), words.as_slice()) {
         Ok(args) => args,
         Err(error) => {
-            let _ = error.print(rt);
-            return Err(Status::Failed);
+            let mut out = Out::new(rt.stdout());
+            return Err(answer_words(rt.alloc(), &RPCEDIT, &error, &mut out, &mut err));
         }
     };
     let bytes = read_text(rt, "rpcedit", args.file, &mut err)?;

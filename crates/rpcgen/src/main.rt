@@ -1,7 +1,10 @@
 //! `rpcgen`: writes a text that is generated of a `.x` file.
 #![tactic(auto)]
 
-use rpcx::{Status, gen_args, gen_mode, gen_open, gen_write, read_text, read_words, tell_of_file};
+use rpcx::{
+    RPCGEN, Status, answer_words, gen_args, gen_mode, gen_open, gen_write, read_text, read_words,
+    tell_of_file,
+};
 use std::process::ExitCode;
 use std::{fs, mem};
 use x_session::{Session, Which};
@@ -34,8 +37,8 @@ fn run(rt: &HostRuntime) -> Result<Status, Status> {
     let args = match gen_args(rt.alloc(), words.as_slice()) {
         Ok(args) => args,
         Err(error) => {
-            let _ = error.print(rt);
-            return Err(Status::Failed);
+            let mut out = Out::new(rt.stdout());
+            return Err(answer_words(rt.alloc(), &RPCGEN, &error, &mut out, &mut err));
         }
     };
     let Some(which) = gen_mode(&args, &mut err) else {

@@ -1,29 +1,36 @@
 -- What the proofs of commands that are built by a chain of `.arg(..)` calls share.
-use Rattle.std.proofs.Common.{◌≡◌, ◌∙◌, ◌<◌, ℕ, Bool, List, [], ◌∷◌, ◌&&◌, true, false, zero, suc, not, ap, sym, subst, refl, length, map, inl, inr, arith, codes, Option, Some, None, is_some}
+use Rattle.std.proofs.Common.{◌≡◌, ◌∙◌, ◌<◌, ℕ, Bool, List, [], ◌∷◌, ◌++◌, ◌&&◌, true, false, zero, suc, not, ap, sym, subst, refl, length, length-append, map, inl, inr, arith, codes, Option, Some, None, is_some, Result, Ok, Err}
 use Rattle.std.specs.List.{All, list_any, slice_index_or}
 use Rattle.std.specs.Str.{bytes_eq}
 use Rattle.std.proofs.lemmas.Slice.Eq.{bytes_eq-Decides}
+use Rattle.std.proofs.Math.Seq.{get_or-append_seam}
+use Rattle.std.proofs.lemmas.List.{map-append}
+use Rattle.std.proofs.lemmas.List.Elements.{All-nil, All-push}
 use Rattle.std.proofs.lemmas.List.Folds.{list_any_at}
 use Rattle.std.proofs.lemmas.Bool.{and_parts, both_ways, not-true}
 use Rattle.clap.proofs.CallerLemmas.{required_in_chain}
-use Rattle.clap.proofs.WalkLemmas.{find_row, list_any-map}
-use Rattle.std.specs.Prelude.{find, option_and_then, option_map}
+use Rattle.clap.proofs.WalkLemmas.{find_row, first_value-rows, list_any-map}
+use Rattle.std.specs.Prelude.{find, option_and_then, option_map, IsErrAnd}
 use Rattle.clap.specs.Facts.{Entry}
 use Rattle.clap.specs.Walk.{row_of}
+use Rattle.clap.specs.Kinds.{HasKind}
+use Rattle.clap.specs.declared.error.Error.{Error}
+use Rattle.clap.specs.declared.parser.matches.ArgMatches.{ArgMatches}
 use Rattle.clap.specs.declared.parser.matches.Found.{Found}
 use Rattle.clap.specs.declared.parser.matches.MatchedArg.{MatchedArg}
-use Rattle.clap.specs.Words.{Text, app_of, new_app, IsPlainArg, Row, first_value, found_of, args_of, groups_of, subcommands_of, AddsArg, AddsInTurn, matched_of, rows_of}
+use Rattle.clap.specs.Words.{App, Text, app_of, new_app, IsPlainArg, Row, first_of, first_value, found_of, args_of, groups_of, subcommands_of, AddsArg, AddsInTurn, matched_of, rows_of}
+use Rattle.clap.specs.Words.{FailsBy, HasMatchesOf, fault_of, is_simple, is_simple_and_free, matches_of}
 use Rattle.clap.specs.Simple.{app_of_fields, on_top}
 use Rattle.clap.specs.Built.{FitsChain, HasDistinctIds, TakesValue}
 use Rattle.clap.specs.declared.builder.arg.Arg.{Arg}
 use Rattle.clap.specs.declared.builder.command.Command.{Command}
 use Rattle.clap.specs.declared.builder.command.Command.TheViews.{out-Command}
-use Rattle.rpcx.specs.Args.{AlwaysHas, is_own, plain_app, source_of}
+use Rattle.rpcx.specs.Args.{AlwaysHas, IsChain, bare_app, is_own, source_of}
 
 -- a new command without clap's own help flag
-pub plain_is : (old new : Command) (name : Text) → app_of old ≡ new_app name
-    → out-Command new ≡ record (out-Command old) { disable_help_flag = true } → app_of new ≡ plain_app name
-plain_is old new name is fields = ap app_of_fields fields ∙ ap (on_top (λ s. record s { disable_help_flag = true })) is
+pub bare_is : (old new : Command) (name : Text) → app_of old ≡ new_app name
+    → out-Command new ≡ record (out-Command old) { disable_help_flag = true } → app_of new ≡ bare_app name
+bare_is old new name is fields = ap app_of_fields fields ∙ ap (on_top (λ s. record s { disable_help_flag = true })) is
 
 -- no two ids are one
 abbrev pub are_distinct : List Text → Bool
@@ -84,16 +91,73 @@ source_is f id = go (find (λ e. bytes_eq e.0.now id) f.entries.items) ∙ ap (o
     go None = refl
     go (Some e) = refl
 
--- in a chain from a new command without clap's own help flag, a required argument that takes a value always has one
-pub always_has : (new start cmd : Command) (xs : List Arg) (k : ℕ) (d : Arg) (id : Text)
-    → out-Command start ≡ record (out-Command new) { disable_help_flag = true }
+-- the chain of none, from a new command without clap's own help flag
+pub chain_of_none : (new start : Command) → out-Command start ≡ record (out-Command new) { disable_help_flag = true }
     → (args_of new ≡ []) × (groups_of new ≡ []) × (subcommands_of new ≡ [])
-    → (out-Command new).has_globals ≡ false → (out-Command new).subcommand_negates_reqs ≡ false
-    → AddsInTurn AddsArg start xs cmd → All FitsChain xs → HasDistinctIds xs
-    → k < length xs → TakesValue (slice_index_or xs k d) → (slice_index_or xs k d).id.now ≡ id → AlwaysHas id cmd
-always_has new start cmd xs k d id fields nothing globals negates chain fit distinct lt value is m parsed =
-    subst (λ name. is_some (first_value (found_of m) name) ≡ true) is
-    (required_in_chain start cmd xs k d m chain
-    (ap (λ f. f.args.items) fields ∙ nothing.0) (ap (λ f. f.groups.items) fields ∙ nothing.1)
-    (ap (λ f. f.has_globals) fields ∙ globals) (ap (λ f. f.subcommand_negates_reqs) fields ∙ negates)
-    fit distinct lt value parsed)
+    → (out-Command new).has_globals ≡ false → (out-Command new).subcommand_negates_reqs ≡ false → IsChain [] start
+chain_of_none new start fields nothing globals negates = record {
+  start = start;
+  args = [];
+  nothing = (ap (λ f. f.args.items) fields ∙ nothing.0, ap (λ f. f.groups.items) fields ∙ nothing.1);
+  local = ap (λ f. f.has_globals) fields ∙ globals;
+  negates = ap (λ f. f.subcommand_negates_reqs) fields ∙ negates;
+  steps = refl;
+  fit = All-nil FitsChain;
+  ids_are = refl;
+}
+
+added_last : (start mid cmd : Command) (xs : List Arg) (a : Arg) → AddsInTurn AddsArg start xs mid → AddsArg mid a cmd
+    → AddsInTurn AddsArg start (xs ++ a ∷ []) cmd
+added_last start mid cmd [] a steps added = (cmd, subst (λ c. AddsArg c a cmd) (sym steps) added, refl)
+added_last start mid cmd (x ∷ xs) a steps added = (steps.0, steps.1, added_last steps.0 mid cmd xs a steps.2 added)
+
+-- a chain with one argument more
+pub chain_on : (ids : List Text) (mid cmd : Command) (a : Arg) (id : Text) → IsChain ids mid → AddsArg mid a cmd → FitsChain a → a.id.now ≡ id
+    → IsChain (ids ++ id ∷ []) cmd
+chain_on ids mid cmd a id chain added fits is = record {
+  start = chain.start;
+  args = chain.args ++ a ∷ [];
+  nothing = chain.nothing;
+  local = chain.local;
+  negates = chain.negates;
+  steps = added_last chain.start mid cmd chain.args a chain.steps added;
+  fit = All-push FitsChain chain.args a chain.fit fits;
+  ids_are = map-append id_of chain.args (a ∷ []) ∙ (λ i. chain.ids_are i ++ is i ∷ []);
+}
+
+-- the last argument of a chain, where it is required and takes a value, always has one
+pub last_has : (ids : List Text) (mid cmd : Command) (a : Arg) (id : Text) → IsChain ids mid → AddsArg mid a cmd → FitsChain a → TakesValue a
+    → a.id.now ≡ id → are_distinct (ids ++ id ∷ []) ≡ true → AlwaysHas id cmd
+unfolding chain_on
+last_has ids mid cmd a id chain added fits value is distinct m parsed =
+    let whole = chain_on ids mid cmd a id chain added fits is in
+    let all = chain.args ++ a ∷ [] in
+    let last : slice_index_or all (length chain.args) a ≡ a = get_or-append_seam chain.args a [] a in
+    subst (λ name. is_some (first_value (found_of m) name) ≡ true) (ap id_of last ∙ is)
+    (required_in_chain chain.start cmd all (length chain.args) a m whole.steps chain.nothing.0 chain.nothing.1 chain.local chain.negates
+    whole.fit (distinct_ids all (ids ++ id ∷ []) whole.ids_are distinct) (omega (arith, length-append chain.args (a ∷ [])))
+    (subst TakesValue (sym last) value) parsed)
+
+-- ---- what a parse by such a command reads, and why it fails
+
+-- the matches are those of the words, where the command is known
+pub rows_are : (is known : App) (words : List Text) (m : ArgMatches) → is ≡ known → is_simple_and_free known ≡ true → HasMatchesOf is words m
+    → rows_of (found_of m) ≡ matches_of known words
+rows_are is known words m same free has =
+    (has (ap is_simple same ∙ (and_parts (is_simple known) _ free).0)).0 ∙ ap (λ a. matches_of a words) same
+
+-- a value by its id
+pub value_is : (f : Found) (id : Text) (rows : List Row) → rows_of f ≡ rows → first_value f id ≡ first_of id rows
+value_is f id rows is = first_value-rows f id ∙ ap (first_of id) is
+
+-- a parse that succeeds has no fault
+pub none_fails : (is known : App) (words : List Text) → is ≡ known → is_simple_and_free known ≡ true → (is_simple_and_free is ≡ true → fault_of is words ≡ [])
+    → fault_of known words ≡ []
+none_fails is known words same free none = subst (λ a. fault_of a words ≡ []) same (none (ap is_simple_and_free same ∙ free))
+
+-- the error of a parse that fails is passed on
+pub fails_again : {T : Type 0} (is known : App) (words : List Text) (r : Result T Error) (e : Error) → is ≡ known → is_simple_and_free known ≡ true
+    → (is_simple_and_free is ≡ true → HasKind (fault_of is words) e) → IsErrAnd r (λ x. x ≡ e) → FailsBy (fault_of known words) r
+fails_again is known words (Ok x) e same free why again = absurd again
+fails_again is known words (Err x) e same free why again =
+    subst (HasKind (fault_of known words)) (sym again) (subst (λ a. HasKind (fault_of a words) e) same (why (ap is_simple_and_free same ∙ free)))

@@ -1,12 +1,17 @@
 -- The command lines of the programs, in clap's words: what a program knows, and what it reads.
-use Rattle.std.specs.Prelude.{◌≡◌, ℕ, Bool, ◌&&◌, not, List, [], ◌∷◌, ◌++◌, Option, None, Some, true, false, codes, find, is_some}
+use Rattle.std.specs.Prelude.{◌≡◌, ℕ, Bool, ◌&&◌, not, List, [], ◌∷◌, ◌++◌, Option, None, Some, true, false, codes, find, is_some, map}
+use Rattle.std.specs.List.{All}
 use Rattle.std.specs.Prelude.{option_and_then, option_map, slice_get}
 use Rattle.std.specs.Str.{bytes_eq}
-use Rattle.clap.specs.Words.{App, IsParsedFrom, Row, Rule, Text, first_of, first_value}
-use Rattle.clap.specs.Words.{found_of, new_app, new_rule, with_rule}
+use Rattle.clap.specs.Words.{AddsArg, AddsInTurn, App, IsParsedFrom, Row, Rule, Text, args_of, first_of, first_value}
+use Rattle.clap.specs.Words.{found_of, groups_of, new_app, new_rule, with_rule}
+use Rattle.clap.specs.Built.{FitsChain}
 use Rattle.clap.specs.Simple.{on_top}
-use Rattle.clap.specs.declared.builder.action.ArgAction.TheVariants.{Set, SetTrue}
+use Rattle.clap.specs.declared.builder.action.ArgAction.{ArgAction}
+use Rattle.clap.specs.declared.builder.action.ArgAction.TheVariants.{Help, Set, SetTrue, Version}
+use Rattle.clap.specs.declared.builder.arg.Arg.{Arg}
 use Rattle.clap.specs.declared.builder.command.Command.{Command}
+use Rattle.clap.specs.declared.builder.command.Command.TheViews.{out-Command}
 use Rattle.clap.specs.declared.parser.matches.ArgMatches.{ArgMatches}
 use Rattle.clap.specs.declared.parser.matches.ValueSource.{ValueSource}
 use Rattle.clap.specs.declared.parser.matches.ValueSource.TheVariants.{CommandLine}
@@ -26,9 +31,25 @@ is_own id = not (bytes_eq id []) && (not (bytes_eq id (codes "help")) && not (by
 abbrev pub flag_rule : Text → Option ℕ → Rule
 flag_rule id letter = record (new_rule id) { short = letter; action = Some SetTrue }
 
--- a letter with a value
+-- a letter with a value, which has a name
 abbrev pub valued_rule : Text → Option ℕ → Rule
-valued_rule id letter = record (new_rule id) { short = letter; action = Some Set }
+valued_rule id letter = record (new_rule id) { short = letter; value_names = 1; action = Some Set }
+
+-- a word without a letter, which clap answers
+abbrev pub request_rule : (id word : Text) → ArgAction → Rule
+request_rule id word action = record (new_rule id) { long = Some word; action = Some action }
+
+-- `--help`
+abbrev pub help_rule : Rule
+help_rule = request_rule (codes "asks_help") (codes "help") Help
+
+-- `--version`
+abbrev pub version_rule : Rule
+version_rule = request_rule (codes "asks_version") (codes "version") Version
+
+-- the ids of the two, which differ from those of clap's own
+abbrev pub request_ids : List Text
+request_ids = codes "asks_help" ∷ codes "asks_version" ∷ []
 
 -- `-c`
 abbrev pub routines_rule : Rule
@@ -54,15 +75,19 @@ output_rule = valued_rule (codes "output") (slice_get (codes "o") 0)
 abbrev pub file_rule : Rule
 file_rule = record (new_rule (codes "file")) { action = Some Set; required = true }
 
--- a command that knows no letter yet, not even clap's own `-h`
+-- a command that knows nothing yet, not even clap's own `-h`
+abbrev pub bare_app : Text → App
+bare_app name = on_top (λ s. record s { disable_help_flag = true }) (new_app name)
+
+-- a command that knows `--help` and `--version`, and no letter yet
 abbrev pub plain_app : Text → App
-plain_app name = on_top (λ s. record s { disable_help_flag = true }) (new_app name)
+plain_app name = with_rule (with_rule (bare_app name) help_rule) version_rule
 
 -- the four letters of `rpcgen` behind what a command knows
 abbrev pub with_letters : App → App
 with_letters app = with_rule (with_rule (with_rule (with_rule app routines_rule) header_rule) stubs_rule) table_rule
 
--- `rpcgen [-c] [-h] [-l] [-t] [-o OUT] FILE`
+-- `rpcgen [--help] [--version] [-c] [-h] [-l] [-t] [-o OUT] FILE`
 unfoldable pub gen_app : App
 gen_app = with_rule (with_rule (with_letters (plain_app (codes "rpcgen"))) output_rule) file_rule
 
@@ -78,13 +103,24 @@ bare_rule = flag_rule (codes "bare") (slice_get (codes "b") 0)
 abbrev pub type_rule : Rule
 type_rule = valued_rule (codes "type") (slice_get (codes "t") 0)
 
--- `rpcdump [-x SCHEMA] [-b] [-t TYPE] FILE`
+-- `rpcdump [--help] [--version] [-x SCHEMA] [-b] [-t TYPE] FILE`
 unfoldable pub dump_app : App
 dump_app = with_rule (with_rule (with_rule (with_rule (plain_app (codes "rpcdump")) schema_rule) bare_rule) type_rule) file_rule
 
--- `rpcedit FILE`
+-- `rpcedit [--help] [--version] FILE`
 unfoldable pub edit_app : App
 edit_app = with_rule (plain_app (codes "rpcedit")) file_rule
+
+-- The command was made by a chain of `.arg(..)` calls, which began with one that knows nothing, of arguments of these ids.
+pub record IsChain (ids : List Text) (cmd : Command) : Type 0 where
+  pub start : Command
+  pub args : List Arg
+  pub nothing : (args_of start ≡ []) × (groups_of start ≡ [])
+  pub local : (out-Command start).has_globals ≡ false
+  pub negates : (out-Command start).subcommand_negates_reqs ≡ false
+  pub steps : AddsInTurn AddsArg start args cmd
+  pub fit : All FitsChain args
+  pub ids_are : map (λ a. a.id.now) args ≡ ids
 
 -- every parse by the command that succeeds gives the argument a value
 abbrev pub AlwaysHas : Text → Command → Type 0

@@ -1,10 +1,13 @@
 -- What runs of the programs do, and what they tell.
-use Rattle.std.specs.Prelude.{◌≡◌, ℕ, Bool, true, MatchBool, ◌-◌, ◌<◌, ◌≤◌, ◌==◌, List, ◌++◌, length, take, drop, codes, if◌then◌else◌}
+use Rattle.std.specs.Prelude.{◌≡◌, ◌⊎◌, ℕ, Bool, true, MatchBool, ◌-◌, ◌<◌, ◌≤◌, ◌==◌, List, [], ◌++◌, length, take, drop, codes, if◌then◌else◌}
+use Rattle.std.specs.Prelude.{Result, IfOk, OnOk, IfErr, IsErrOf}
 use Rattle.std.specs.List.{after_last, flat_map}
 use Rattle.std.specs.Io.KnownBytes.{Appends}
 use Rattle.std.specs.Str.{bytes_eq}
 use Rattle.x_text.specs.Streams.{Stream}
 use Rattle.x_session.specs.declared.compile.fault.Fault.{Fault}
+use Rattle.x_session.specs.Session.{Compiles, Document}
+use Rattle.x_session.specs.Compile.{faults_of}
 use Rattle.x_session.specs.Faults.{fault_text}
 use Rattle.x_text.specs.declared.outcome.EngineFault.{EngineFault}
 use Rattle.x_text.specs.declared.outcome.EngineFault.TheVariants.{Read, Write, NoMemory}
@@ -12,6 +15,8 @@ use Rattle.x_session.specs.Answers.{fault_place}
 use Rattle.x_text.specs.declared.fault.TextFault.{TextFault}
 use Rattle.x_text.specs.declared.fault.TextFault.TheVariants as faults
 use Rattle.x_text.specs.declared.source.TheConstants.{MAX_TEXT}
+use Rattle.rpcx.specs.declared.program.status.Status.{Status}
+use Rattle.rpcx.specs.declared.program.status.Status.TheVariants.{Faulty, Failed}
 
 -- a name without a final `.x`
 abbrev pub without_x : List ℕ → List ℕ
@@ -51,6 +56,18 @@ unopened_told program file fault = told_of program (codes "out of memory")
 pub data NotOpened (program file text : List ℕ) (before after : Stream) : Type 0 where
   TooLarge : MAX_TEXT < length text → IsTold before after (program ++ codes ": " ++ file ++ codes ": 2 TooLarge\n") → NotOpened program file text before after
   NoRoom : length text ≤ MAX_TEXT → IsTold before after (told_of program (codes "out of memory")) → NotOpened program file text before after
+
+-- What opening the text of a file for a run of a program comes to: a session of a text without faults, or the status of a run that does
+-- not go on, which was told why.
+pub record IsOpened (program file bytes : List ℕ) (before after : Stream) (result : Result Document Status) : Type 0 where
+  pub base : IfOk result (λ s. s.base ≡ base_of file)
+  pub text : IfOk result (λ s. s.text ≡ bytes)
+  pub clean : OnOk result (Compiles bytes (λ items. faults_of bytes items ≡ []))
+  pub faulty : IsErrOf result Faulty
+      → Compiles bytes (λ items. (0 < length (faults_of bytes items)) × IsTold before after (told_faults file (faults_of bytes items)))
+  pub too_large : MAX_TEXT < length bytes → IsErrOf result Failed
+  pub failed : IsErrOf result Failed → NotOpened program file bytes before after
+  pub others : IfErr result (λ status. (status ≡ Faulty) ⊎ (status ≡ Failed))
 
 -- what a program tells where a run over a file stops
 abbrev pub stop_told : List ℕ → List ℕ → EngineFault → List ℕ

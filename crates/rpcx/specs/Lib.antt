@@ -1,3 +1,4 @@
+pub mod Answering
 pub mod Args
 pub mod Dumping
 pub mod Editing

@@ -18,16 +18,11 @@ declared_as c x Plain = c ++ codes " " ++ x
 declared_as c x Optional = c ++ codes " *" ++ x
 declared_as c x (Array length) = declared_array c x length
 
-abbrev pub opaque_declaration : List ℕ → Length → List ℕ
-opaque_declaration x (Fixed v) = codes "char " ++ x ++ codes "[" ++ spelled v ++ codes "]"
-opaque_declaration x (Variable m) =
-    codes "struct { u_int " ++ x ++ codes "_len; char *" ++ x ++ codes "_val; } " ++ x
-
--- the declaration in C
+-- the declaration in C; opaque bytes are elements of type `char`
 abbrev pub c_declaration : List ℕ → Declaration → List ℕ
 c_declaration around Void = []
 c_declaration around (Of type x shape) = declared_as (c_type (lifted_name around x) type).name x shape
-c_declaration around (Opaque x length) = opaque_declaration x length
+c_declaration around (Opaque x length) = declared_array (codes "char") x length
 c_declaration around (String x m) = codes "char *" ++ x
 
 -- where a value lies that a routine reads or writes: in a field of a struct or in a union's discriminant, in an arm of the union of a

@@ -55,10 +55,10 @@ abbrev pub version_pieces : (List ℕ → List ℕ → Procedure → List ℕ) �
 version_pieces piece versions = flat_map (λ v. flat_map (by_names piece v) v.procedures) versions
 
 -- what is generated of arguments by their numbers, of which the first is this
-abbrev pub numbered : (List ℕ → CType → List ℕ) → ℕ → List Argument → List ℕ
-numbered piece number [] = []
-numbered piece number (a ∷ rest) = piece (decimal number) (passed_type (Some a)) ++ numbered piece (suc number) rest
+abbrev pub by_number : (List ℕ → CType → List ℕ) → ℕ → List Argument → List ℕ
+by_number piece number [] = []
+by_number piece number (a ∷ rest) = piece (decimal number) (passed_type (Some a)) ++ by_number piece (suc number) rest
 
 -- of the arguments of a procedure that has several
 abbrev pub argument_pieces : (List ℕ → CType → List ℕ) → Procedure → List ℕ
-argument_pieces piece p = piece (decimal 1) (passed_type p.first) ++ numbered piece 2 p.others
+argument_pieces piece p = piece (decimal 1) (passed_type p.first) ++ by_number piece 2 p.others

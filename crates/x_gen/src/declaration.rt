@@ -4,7 +4,7 @@ ghost use Rattle.std.specs.Prelude.{◌≡◌, ◌++◌, OnOk, IfOk};
 ghost use Rattle.x_item.specs.Tree.{Array, String};
 ghost use Rattle.x_item.specs.View.{view_shape, view_length, view_most, view_declaration};
 ghost use Rattle.x_gen.specs.Declarations.{declared_array, declared_as, c_declaration, lies_at};
-ghost use Rattle.x_gen.specs.Declarations.{opaque_declaration, array_call, call_as, opaque_call, call_at, call};
+ghost use Rattle.x_gen.specs.Declarations.{array_call, call_as, opaque_call, call_at, call};
 ghost use Rattle.x_gen.specs.Views.{view_c, view_place};
 
 use crate::add::{Made, add, made};
@@ -58,27 +58,6 @@ fn add_shaped(text: &mut Vec<u8>, c: &[u8], name: &[u8], shape: &Shape) -> Resul
     }
 }
 
-/// Adds opaque bytes as C declares them.
-fn add_opaque(text: &mut Vec<u8>, name: &[u8], length: &Length) -> Result<(), NoMemory>
-    ensures { OnOk result (text.new.items ≡ text.old.items
-        ++ opaque_declaration name.now (view_length length.now)) }
-{
-    match length {
-        Length::Fixed(size) => add(text, &[b"char ", name, b"[", spelled(size), b"]"]),
-        Length::Variable(_) => add(
-            text,
-            &[
-                b"struct { u_int ",
-                name,
-                b"_len; char *",
-                name,
-                b"_val; } ",
-                name,
-            ],
-        ),
-    }
-}
-
 /// Adds the declaration in C, inside the type that `around` names.
 pub fn add_declaration(
     alloc: Global,
@@ -95,7 +74,7 @@ pub fn add_declaration(
             let lifted = lifted(alloc, around, name, data)?;
             add_shaped(text, c_type(&lifted, data).name, name, shape)
         }
-        Declaration::Opaque { name, length } => add_opaque(text, name, length),
+        Declaration::Opaque { name, length } => add_array(text, b"char", name, length),
         Declaration::String { name, .. } => add(text, &[b"char *", name]),
     }
 }

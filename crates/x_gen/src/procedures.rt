@@ -6,7 +6,7 @@ ghost use Rattle.std.specs.List.{flat_map};
 ghost use Rattle.x_item.specs.Tree.{Procedure as ItsProcedure};
 ghost use Rattle.x_item.specs.View.{view_argument, view_passed, view_procedure, view_version};
 ghost use Rattle.x_gen.specs.Procedures.{lower_byte, lower, in_decimal, function_name, group_name, argument_in, are_several};
-ghost use Rattle.x_gen.specs.Procedures.{by_names, version_pieces, numbered, argument_pieces};
+ghost use Rattle.x_gen.specs.Procedures.{by_names, version_pieces, by_number, argument_pieces};
 ghost use Rattle.x_gen.specs.CTypes.{CType as ItsType};
 ghost use Rattle.x_gen.specs.Views.{view_c};
 
@@ -168,7 +168,7 @@ fn add_others<P: ArgumentPiece>(
     others: &[Argument],
 ) -> Result<(), NoMemory>
     ensures { OnOk result (text.new.items ≡ text.old.items
-        ++ numbered (P.piece piece.now) 2 (map view_argument others.now)) }
+        ++ by_number (P.piece piece.now) 2 (map view_argument others.now)) }
 {
     for (index, argument) in others.iter().enumerate() {
         add_numbered(text, piece, index as u128 + 2, argument_type(argument))?;

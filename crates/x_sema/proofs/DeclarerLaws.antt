@@ -250,6 +250,12 @@ first_names (e ∷ es) name = by (bytes_eq name (cow_slice_items e.0)) refl (is_
     by false other true before h = h
     by false other false before h = ap (λ b. cond b (Some e.1) (first_in rest name)) other ∙ h
 
+-- the same of what a table is seen as, where it is known whether the name is one of these
+pub first_seen : (names : List (List ℕ × Declarer)) (entries : List (CowSlice ℕ Global × Declarer)) (name : List ℕ) (before : Bool) → names_in entries ≡ names
+    → is_beforehand name ≡ before → cond before None (entry_in entries name) ≡ first_in names name
+first_seen names entries name before view is =
+    ap (λ b. cond b None (entry_in entries name)) (sym is) ∙ sym (first_names entries name) ∙ ap (λ t. first_in t name) view
+
 -- a table that has what the search finds has the answers
 pub first_by_search : (definitions : List (Option Definition)) (entries : List (CowSlice ℕ Global × Declarer)) → ((name : List ℕ) → entry_in entries name ≡ first_from 0 definitions name)
     → (name : List ℕ) → FirstIs definitions name (first_in (names_in entries) name)

@@ -5,7 +5,7 @@ ghost use Rattle.clap.specs.Words.{FailsBy, app_of, fault_of, matches_of};
 ghost use Rattle.rpcx.specs.Generate.{IsTold};
 ghost use Rattle.rpcx.specs.Args.{AlwaysHas, IsDumpArgs, dump_app, mode_of};
 
-use crate::program::arguments::{file, flag, is_given, valued};
+use crate::program::arguments::{file, flag, is_given, plain_command, valued};
 use crate::program::complaint::complain;
 use clap::{Command, Error};
 use std::alloc::{AllocError, Global};
@@ -28,7 +28,7 @@ pub struct DumpArgs<'a> {
 /// Reads a command line of `rpcdump`; the first of `words` is the program's name.
 ///
 /// # Errors
-/// The words are no command line of `rpcdump`, or memory ran out.
+/// The words ask for help or the version, or are no command line of `rpcdump`, or memory ran out.
 pub fn dump_args<'a, S: AsStr>(alloc: Global, words: &'a [S]) -> Result<DumpArgs<'a>, Error>
     ensures reads { IfOk result (IsDumpArgs (matches_of dump_app (map S.text words.entry.now))) }
     ensures refuses { FailsBy (fault_of dump_app (map S.text words.entry.now)) result }
@@ -47,11 +47,10 @@ fn dump_command<'a>(alloc: Global) -> Result<Command<'a>, AllocError>
     ensures app { IfOk result (λ c. app_of c ≡ dump_app) }
     ensures file { IfOk result (AlwaysHas (codes "file")) }
 {
-    Command::new(alloc, "rpcdump")
-        .disable_help_flag(true)
-        .arg(valued(alloc, "schema", 'x'))?
+    plain_command(alloc, "rpcdump")?
+        .arg(valued(alloc, "schema", 'x', "SCHEMA"))?
         .arg(flag(alloc, "bare", 'b'))?
-        .arg(valued(alloc, "type", 't'))?
+        .arg(valued(alloc, "type", 't', "TYPE"))?
         .arg(file(alloc))
 }
 

@@ -4,7 +4,7 @@ ghost use Rattle.std.specs.Prelude.{◌≡◌, IfOk, codes, map};
 ghost use Rattle.clap.specs.Words.{FailsBy, app_of, fault_of, matches_of};
 ghost use Rattle.rpcx.specs.Args.{AlwaysHas, IsEditArgs, edit_app};
 
-use crate::program::arguments::file;
+use crate::program::arguments::{file, plain_command};
 use clap::{Command, Error};
 use std::alloc::{AllocError, Global};
 use std::convert::AsStr;
@@ -19,7 +19,7 @@ pub struct EditArgs<'a> {
 /// Reads a command line of `rpcedit`; the first of `words` is the program's name.
 ///
 /// # Errors
-/// The words are no command line of `rpcedit`, or memory ran out.
+/// The words ask for help or the version, or are no command line of `rpcedit`, or memory ran out.
 pub fn edit_args<'a, S: AsStr>(alloc: Global, words: &'a [S]) -> Result<EditArgs<'a>, Error>
     ensures reads { IfOk result (IsEditArgs (matches_of edit_app (map S.text words.entry.now))) }
     ensures refuses { FailsBy (fault_of edit_app (map S.text words.entry.now)) result }
@@ -35,7 +35,5 @@ fn edit_command<'a>(alloc: Global) -> Result<Command<'a>, AllocError>
     ensures app { IfOk result (λ c. app_of c ≡ edit_app) }
     ensures file { IfOk result (AlwaysHas (codes "file")) }
 {
-    Command::new(alloc, "rpcedit")
-        .disable_help_flag(true)
-        .arg(file(alloc))
+    plain_command(alloc, "rpcedit")?.arg(file(alloc))
 }

@@ -1,11 +1,9 @@
 //! What `rpcgen` does, over a text that was read and sinks.
 
-ghost use Rattle.std.specs.Prelude.{◌≡◌, ◌≢◌, ◌⊎◌, true, false, not, ◌<◌, codes, [], IsTrue, IfOk, OnOk, IfErr, IsErrOf, length, if◌then◌else◌};
+ghost use Rattle.std.specs.Prelude.{◌≡◌, ◌≢◌, false, not, codes, IsTrue, OnOk, if◌then◌else◌};
 ghost use Rattle.std.specs.Io.KnownBytes.{Appends};
-ghost use Rattle.x_text.specs.declared.source.TheConstants.{MAX_TEXT};
-ghost use Rattle.rpcx.specs.Generate.{base_of, told_faults, Grows, IsTold, NotOpened};
+ghost use Rattle.rpcx.specs.Generate.{Grows, IsOpened, IsTold};
 ghost use Rattle.x_session.specs.Session.{Compiles};
-ghost use Rattle.x_session.specs.Compile.{faults_of};
 ghost use Rattle.x_session.specs.Generated.{text_of};
 
 use crate::program::complaint::complain;
@@ -15,24 +13,15 @@ use std::alloc::Global;
 use x_session::{Session, Which};
 use x_text::Sink;
 
-/// Opens the text of a file for a run, or tells what is wrong with it and answers the status: `Faulty` where the text has faults,
-/// which are written one a line, and `Failed` where it is too large or memory runs out.
+/// Opens the text of a file for a run of `rpcgen`, or tells what is wrong with it and answers the status: `Faulty` where the
+/// text has faults, which are written one a line, and `Failed` where it is too large or memory runs out.
 pub fn gen_open<E: Sink>(
     alloc: Global,
     file: &str,
     bytes: &[u8],
     err: &mut E,
 ) -> Result<Session, Status>
-    ensures base { IfOk result (λ s. s.base ≡ base_of file.now) }
-    ensures text { IfOk result (λ s. s.text ≡ bytes.now) }
-    ensures clean { OnOk result (Compiles bytes.now (λ items. faults_of bytes.now items ≡ [])) }
-    ensures faulty { IsErrOf result Status.Faulty
-        → Compiles bytes.now (λ items. (0 < length (faults_of bytes.now items))
-        × IsTold (E.state err.old) (E.state err.new) (told_faults file.now (faults_of bytes.now items))) }
-    ensures too_large { MAX_TEXT < length bytes.now → IsErrOf result Status.Failed }
-    ensures failed { IsErrOf result Status.Failed
-        → NotOpened (codes "rpcgen") file.now bytes.now (E.state err.old) (E.state err.new) }
-    ensures others { IfErr result (λ status. (status ≡ Status.Faulty) ⊎ (status ≡ Status.Failed)) }
+    ensures opened { IsOpened (codes "rpcgen") file.now bytes.now (E.state err.old) (E.state err.new) result }
     ensures quiet { OnOk result (err.new ≡ err.old) }
 {
     open_text(alloc, "rpcgen", file, bytes, err)

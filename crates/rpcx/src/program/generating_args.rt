@@ -5,7 +5,7 @@ ghost use Rattle.clap.specs.Words.{FailsBy, app_of, fault_of, matches_of};
 ghost use Rattle.rpcx.specs.Generate.{IsTold};
 ghost use Rattle.rpcx.specs.Args.{AlwaysHas, IsGenArgs, asked_by, gen_app, only_of};
 
-use crate::program::arguments::{file, flag, is_given, valued};
+use crate::program::arguments::{file, flag, is_given, plain_command, valued};
 use crate::program::complaint::complain;
 use clap::{Command, Error};
 use std::alloc::{AllocError, Global};
@@ -33,7 +33,7 @@ pub struct GenArgs<'a> {
 /// Reads a command line of `rpcgen`; the first of `words` is the program's name, as in `env::args`.
 ///
 /// # Errors
-/// The words are no command line of `rpcgen`, or memory ran out.
+/// The words ask for help or the version, or are no command line of `rpcgen`, or memory ran out.
 pub fn gen_args<'a, S: AsStr>(alloc: Global, words: &'a [S]) -> Result<GenArgs<'a>, Error>
     ensures reads { IfOk result (IsGenArgs (matches_of gen_app (map S.text words.entry.now))) }
     ensures refuses { FailsBy (fault_of gen_app (map S.text words.entry.now)) result }
@@ -49,18 +49,17 @@ pub fn gen_args<'a, S: AsStr>(alloc: Global, words: &'a [S]) -> Result<GenArgs<'
     })
 }
 
-// The letters and values of `rpcgen`. Its `-h` is a mode, so clap's own help flag is off.
+// The letters and values of `rpcgen`.
 fn gen_command<'a>(alloc: Global) -> Result<Command<'a>, AllocError>
     ensures app { IfOk result (λ c. app_of c ≡ gen_app) }
     ensures file { IfOk result (AlwaysHas (codes "file")) }
 {
-    Command::new(alloc, "rpcgen")
-        .disable_help_flag(true)
+    plain_command(alloc, "rpcgen")?
         .arg(flag(alloc, "routines", 'c'))?
         .arg(flag(alloc, "header", 'h'))?
         .arg(flag(alloc, "stubs", 'l'))?
         .arg(flag(alloc, "table", 't'))?
-        .arg(valued(alloc, "output", 'o'))?
+        .arg(valued(alloc, "output", 'o', "OUT"))?
         .arg(file(alloc))
 }
 

@@ -1,11 +1,8 @@
 //! The text of a file, opened for a run.
 
-ghost use Rattle.std.specs.Prelude.{◌≡◌, ◌⊎◌, ◌<◌, [], IfOk, OnOk, IfErr, IsErrOf, length};
+ghost use Rattle.std.specs.Prelude.{◌≡◌, OnOk};
 ghost use Rattle.x_text.specs.Writing.{Adds};
-ghost use Rattle.x_text.specs.declared.source.TheConstants.{MAX_TEXT};
-ghost use Rattle.rpcx.specs.Generate.{base_of, told_fault, told_faults, IsTold, NotOpened};
-ghost use Rattle.x_session.specs.Session.{Compiles};
-ghost use Rattle.x_session.specs.Compile.{faults_of};
+ghost use Rattle.rpcx.specs.Generate.{told_fault, told_faults, IsOpened, IsTold};
 
 use crate::program::base::base_of_file;
 use crate::program::complaint::tell_unopened;
@@ -23,16 +20,7 @@ pub fn open_text<E: Sink>(
     bytes: &[u8],
     err: &mut E,
 ) -> Result<Session, Status>
-    ensures base { IfOk result (λ s. s.base ≡ base_of file.now) }
-    ensures text { IfOk result (λ s. s.text ≡ bytes.now) }
-    ensures clean { OnOk result (Compiles bytes.now (λ items. faults_of bytes.now items ≡ [])) }
-    ensures faulty { IsErrOf result Status.Faulty
-        → Compiles bytes.now (λ items. (0 < length (faults_of bytes.now items))
-        × IsTold (E.state err.old) (E.state err.new) (told_faults file.now (faults_of bytes.now items))) }
-    ensures too_large { MAX_TEXT < length bytes.now → IsErrOf result Status.Failed }
-    ensures failed { IsErrOf result Status.Failed
-        → NotOpened program.now file.now bytes.now (E.state err.old) (E.state err.new) }
-    ensures others { IfErr result (λ status. (status ≡ Status.Faulty) ⊎ (status ≡ Status.Failed)) }
+    ensures opened { IsOpened program.now file.now bytes.now (E.state err.old) (E.state err.new) result }
     ensures quiet { OnOk result (err.new ≡ err.old) }
 {
     match Session::open(alloc, base_of_file(file), bytes) {

@@ -1,4 +1,4 @@
-use Rattle.std.proofs.Common.{◌≡◌, ℕ, ◌<◌, ◌≤◌, List, [], ◌∷◌, length, ap, subst, ◌∙◌, refl, arith}
+use Rattle.std.proofs.Common.{◌≡◌, ◌∙◌, ◌<◌, ◌≤◌, ℕ, List, [], ◌∷◌, length, ap, subst, refl, arith, inl, inr}
 use Rattle.x_session.specs.Session.{Compiles}
 use Rattle.x_session.specs.Compile.{faults_of}
 use Rattle.x_session.specs.declared.compile.fault.Fault.{Fault}
@@ -11,14 +11,23 @@ no_fault : (fs : List Fault) (n : ℕ) → n ≡ length fs → n ≤ 0 → fs �
 no_fault [] n is none = refl
 no_fault (f ∷ fs) n is none = absurd (omega (arith, is, none))
 
-pub returns-else-fault_count-gt0-clause-clean : goal.returns-else-fault_count-gt0-clause-clean
-returns-else-fault_count-gt0-clause-clean g c =
+pub returns-else-fault_count-gt0-clause-opened : goal.returns-else-fault_count-gt0-clause-opened
+returns-else-fault_count-gt0-clause-opened g c =
     let h = c.fault_count.ensures in
     let text = c.in-Ok.ensures.text in
-    subst (λ t. Compiles t (λ items. faults_of t items ≡ [])) text (h.0, h.1, h.2, no_fault (faults_of c.in-Ok.session.text h.1) c.fault_count.result h.3 c.if-fault_count-gt0.false)
+    let none = no_fault (faults_of c.in-Ok.session.text h.1) c.fault_count.result h.3 c.if-fault_count-gt0.false in
+    record {
+      base = c.in-Ok.ensures.base ∙ c.base_of_file.ensures;
+      text = text;
+      clean = subst (λ t. Compiles t (λ items. faults_of t items ≡ [])) text (h.0, h.1, h.2, none);
+      faulty = λ e. absurd e;
+      too_large = λ more. let off = c.in-Ok.ensures.too_large.1 more in absurd off;
+      failed = λ e. absurd e;
+      others = tt;
+    }
 
-pub returns-then-fault_count-gt0-clause-faulty : goal.returns-then-fault_count-gt0-clause-faulty
-returns-then-fault_count-gt0-clause-faulty g c e =
+pub returns-then-fault_count-gt0-clause-opened : goal.returns-then-fault_count-gt0-clause-opened
+returns-then-fault_count-gt0-clause-opened g c =
     let count = c.fault_count.ensures in
     let all = c.faults.ensures in
     let here = c.in-Ok.session.text in
@@ -29,10 +38,25 @@ returns-then-fault_count-gt0-clause-faulty g c e =
     let some : 0 < length (faults_of here all.1) = let more = c.if-fault_count-gt0.true in omega (arith, long, more) in
     let told : IsTold before after (told_faults c.args.file.now (faults_of here all.1)) =
     subst (λ fs. IsTold before after (told_faults c.args.file.now fs)) all.3 c.tell_faults.ensures in
-    subst (λ t. Compiles t (λ items. (0 < length (faults_of t items)) × IsTold before after (told_faults c.args.file.now (faults_of t items)))) (c.in-Ok.ensures.text)
-    (all.0, all.1, all.2, (some, told))
+    record {
+      base = tt;
+      text = tt;
+      clean = tt;
+      faulty = λ e. subst (λ t. Compiles t (λ items. (0 < length (faults_of t items)) × IsTold before after (told_faults c.args.file.now (faults_of t items))))
+          c.in-Ok.ensures.text (all.0, all.1, all.2, (some, told));
+      too_large = λ more. let off = c.in-Ok.ensures.too_large.1 more in absurd off;
+      failed = λ e. absurd (cc);
+      others = inl refl;
+    }
 
-pub returns-in-Err-clause-failed : goal.returns-in-Err-clause-failed
-returns-in-Err-clause-failed g c e =
-    not_opened c.args.program.now c.args.file.now c.args.bytes.now (g.E.Sink.state c.args.err.now) (g.E.Sink.state c.tell_unopened.new.err)
-    c.in-Err.fault c.in-Err.ensures.too_large c.in-Err.ensures.in_range c.tell_unopened.ensures
+pub returns-in-Err-clause-opened : goal.returns-in-Err-clause-opened
+returns-in-Err-clause-opened g c = record {
+  base = tt;
+  text = tt;
+  clean = tt;
+  faulty = λ e. absurd (cc);
+  too_large = λ more. refl;
+  failed = λ e. not_opened c.args.program.now c.args.file.now c.args.bytes.now (g.E.Sink.state c.args.err.now) (g.E.Sink.state c.tell_unopened.new.err)
+      c.in-Err.fault c.in-Err.ensures.too_large c.in-Err.ensures.in_range c.tell_unopened.ensures;
+  others = inr refl;
+}

@@ -1,16 +1,10 @@
-use Rattle.std.proofs.Common.{None, cond, ap, sym, ◌∙◌}
-use Rattle.x_sema.specs.DeclarerTable.{entry_in, first_in}
-use Rattle.x_sema.proofs.DeclarerLaws.{first_names}
+use Rattle.std.proofs.Common.{true, false, sym, ◌∙◌}
+use Rattle.x_sema.proofs.DeclarerLaws.{first_seen}
 use Rattle.x_sema.proofs.names.Names.first.Goals as goal
 
 pub returns-then-is_beforehand : goal.returns-then-is_beforehand
-returns-then-is_beforehand c =
-    let name = c.args.name.now in
-    let entries = c.self.inside.table.entries in
-    sym (ap (λ table. first_in table name) (sym c.self.view_is) ∙ first_names entries name ∙ ap (λ b. cond b None (entry_in entries name)) (sym c.is_beforehand.ensures ∙ c.if-is_beforehand.true))
+returns-then-is_beforehand c = first_seen _ c.self.inside.table.entries c.args.name.now true c.self.view_is (sym c.is_beforehand.ensures ∙ c.if-is_beforehand.true)
 
 pub returns-else-is_beforehand : goal.returns-else-is_beforehand
 returns-else-is_beforehand c =
-    let name = c.args.name.now in
-    let entries = c.self.inside.table.entries in
-    c.entry.ensures ∙ sym (ap (λ table. first_in table name) (sym c.self.view_is) ∙ first_names entries name ∙ ap (λ b. cond b None (entry_in entries name)) (sym c.is_beforehand.ensures ∙ c.if-is_beforehand.false))
+    c.entry.ensures ∙ first_seen _ c.self.inside.table.entries c.args.name.now false c.self.view_is (sym c.is_beforehand.ensures ∙ c.if-is_beforehand.false)
