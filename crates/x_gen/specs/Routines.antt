@@ -1,5 +1,5 @@
 -- The pieces of the XDR routines: this project's profile of what rpcgen(1) writes.
-use Rattle.std.specs.Prelude.{ℕ, List, [], ◌∷◌, ◌++◌, codes, if◌then◌else◌}
+use Rattle.std.specs.Prelude.{ℕ, List, [], ◌++◌, codes, if◌then◌else◌}
 use Rattle.std.specs.List.{flat_map}
 use Rattle.x_item.specs.Tree.{Value, Body, Enum, Struct, Union, Declaration, Void, Procedure, Version}
 use Rattle.x_item.specs.Tree.{Declarations, none, more, Arms, no_arm, arm, Default, no_default, default}

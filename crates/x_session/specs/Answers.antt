@@ -14,7 +14,8 @@ use Rattle.x_session.specs.declared.script.command.Command.TheVariants as comman
 use Rattle.x_session.specs.Commands.{command_of}
 use Rattle.x_session.specs.Compile.{Item, tokens_of, definitions_of, faults_of}
 use Rattle.x_session.specs.Definitions.{numbered}
-use Rattle.x_item.specs.Tree.{Body, Enum, Struct, Union, Declaration, Void, Of, Opaque, String, Definition, Const, Typedef, NewType, Program}
+use Rattle.x_item.specs.Declarations.{name_of, is_void}
+use Rattle.x_item.specs.Tree.{Body, Enum, Struct, Union, Declaration, Definition, Const, Typedef, NewType, Program}
 use Rattle.x_session.specs.Generated.{text_of}
 
 -- what a line is answered, whether that refuses it, and the text that it leaves
@@ -48,10 +49,7 @@ keyword_of (Program name versions number) = codes "program"
 
 -- the name that a declaration gives; `void` gives none
 abbrev pub given_name : Declaration → Option (List ℕ)
-given_name Void = None
-given_name (Of type name shape) = Some name
-given_name (Opaque name length) = Some name
-given_name (String name most) = Some name
+given_name declaration = if is_void declaration then None else Some (name_of declaration)
 
 -- the definition's own name
 abbrev pub own_name : Definition → Option (List ℕ)

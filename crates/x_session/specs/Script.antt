@@ -8,7 +8,7 @@ use Rattle.x_session.specs.LineAnswers.{IsLineAnswer}
 use Rattle.x_session.specs.declared.script.lines.LineFault.{LineFault}
 use Rattle.x_session.specs.declared.script.lines.State.TheVariants.{Ended}
 use Rattle.x_text.specs.declared.outcome.Outcome.{Outcome}
-use Rattle.x_text.specs.declared.outcome.Outcome.TheVariants.{Clean, Refused}
+use Rattle.x_text.specs.Engines.{is_refused}
 use Rattle.x_text.specs.declared.outcome.EngineFault.{EngineFault}
 use Rattle.x_text.specs.declared.outcome.EngineFault.TheVariants.{Read, Write, NoMemory}
 use Rattle.x_session.specs.Lines.{Reading, IsUnread, StopsBehind, script_lines, whole_lines}

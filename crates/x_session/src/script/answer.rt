@@ -91,11 +91,10 @@ fn own_name(definition: &Definition) -> Option<&[u8]>
 fn given_name(declaration: &Declaration) -> Option<&[u8]>
     ensures { option_map (λ n. n.now) result ≡ given_name (view_declaration declaration.now) }
 {
-    match declaration {
-        Declaration::Void => None,
-        Declaration::Of { name, .. } => Some(name),
-        Declaration::Opaque { name, .. } => Some(name),
-        Declaration::String { name, .. } => Some(name),
+    if declaration.is_void() {
+        None
+    } else {
+        Some(declaration.name())
     }
 }
 
