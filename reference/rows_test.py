@@ -187,9 +187,9 @@ def rules():
     same(faults(many), "")
 
 
-def marked_rules():
-    """The texts of rules.rows, in which each faulty word has its codes in front."""
-    with open(os.path.join(HERE, "rules.rows"), encoding="utf-8") as rows:
+def marked(file, most):
+    """The texts of a file, in which each faulty word has its codes in front, of those up to the most."""
+    with open(os.path.join(HERE, file), encoding="utf-8") as rows:
         for row in rows:
             if row.startswith("#"):
                 continue
@@ -200,7 +200,13 @@ def marked_rules():
                     wanted.append(f"1:{len(text) + 1} {code} {rpclang.CODE_NAMES[code]}")
                 else:
                     text += part
-            same(faults(text), "|".join(wanted))
+            told = faults(text).split("|")
+            same("|".join(fault for fault in told if fault and int(fault.split()[1]) <= most), "|".join(wanted))
+
+
+def marked_texts():
+    marked("syntax.rows", 19)
+    marked("rules.rows", 99)
 
 
 def generated():
@@ -375,5 +381,5 @@ def programs():
 
 
 if __name__ == "__main__":
-    for part in (tokens_and_edits, grammar, rules, marked_rules, generated, values, network_file_system, programs):
+    for part in (tokens_and_edits, grammar, rules, marked_texts, generated, values, network_file_system, programs):
         part()

@@ -48,10 +48,10 @@ tower() {
     for ((k = 2; k <= $1; k++)); do printf 'struct s%d { s%d a; };\\n' "$k" $((k - 1)); done
 }
 
-# marked <ROWS: each line as a text, with a code in front of each word at which rpcedit tells a fault; lines that begin with # as
-# they are.
+# marked [MOST] <ROWS: each line as a text, with a code, of those up to MOST, in front of each word at which rpcedit tells a fault;
+# lines that begin with # as they are.
 marked() {
-    local line text place code
+    local line text place code most=${1:-99}
     while IFS= read -r line; do
         if [[ $line == '#'* ]]; then
             printf '%s\n' "$line"
@@ -61,6 +61,7 @@ marked() {
         printf %s "$text" >t.x
         # From the last to the first, so that the columns before a mark stay.
         while read -r place code _; do
+            if [ "$code" -gt "$most" ]; then continue; fi
             place=$((${place#1:} - 1))
             text=${text:0:place}«$code»${text:place}
         done < <(rpcedit t.x <<<faults | tail -n +2 | tac)

@@ -7,13 +7,8 @@
 
 mod answer;
 mod case;
-mod edits;
-mod items;
-mod names;
-mod parsing;
+mod kept;
 mod refusal;
-mod sequences;
-mod tokens;
 
 use crate::answer::answer;
 use std::io::{self, BufRead, BufReader, BufWriter, ErrorKind, Write};
@@ -22,41 +17,26 @@ use std::process::ExitCode;
 /// The status of a run that could not be carried out.
 const FAILED: u8 = 2;
 
-/// What stands between a case and its answer.
-const ARROW: &[u8; 4] = b" => ";
-
-/// The case of a line: what stands before the last arrow.
-fn case_of(line: &[u8]) -> &[u8] {
-    let mut case = line;
-    for (at, window) in line.windows(ARROW.len()).enumerate() {
-        if window == ARROW.as_slice() {
-            case = line.get(..at).unwrap_or(line);
-        }
-    }
-    case
-}
-
 /// Prints a line of a table with the answer of its case.
-fn print_line(rt: &HostRuntime, line: &[u8], out: &mut impl Write) -> io::Result<()> {
-    if line.is_empty() || line.starts_with(b"#") {
-        out.write_all(line)?;
-        return out.write_all(b"\n");
+fn print_line(rt: &HostRuntime, line: &str, out: &mut impl Write) -> io::Result<()> {
+    if line.is_empty() || line.starts_with('#') {
+        return writeln!(out, "{line}");
     }
-    let case = case_of(line);
-    let Ok(answer) = answer(rt.alloc(), case) else {
-        return Err(io::Error::from(ErrorKind::OutOfMemory));
+    let case = match line.rsplit_once(" => ") {
+        Some((case, _)) => case,
+        None => line,
     };
-    out.write_all(case)?;
-    out.write_all(ARROW)?;
-    out.write_all(answer.as_bytes())?;
-    out.write_all(b"\n")
+    match answer(rt.alloc(), case) {
+        Ok(answer) => writeln!(out, "{case} => {answer}"),
+        Err(_) => Err(io::Error::from(ErrorKind::OutOfMemory)),
+    }
 }
 
 /// Prints the table that stands on standard input.
 fn print_table(rt: &HostRuntime) -> io::Result<()> {
     let mut out = BufWriter::new(rt.alloc(), rt.stdout())?;
     let table = BufReader::new(rt.alloc(), rt.stdin())?;
-    for line in table.split(rt.alloc(), b'\n') {
+    for line in table.lines(rt.alloc()) {
         print_line(rt, &line?, &mut out)?;
     }
     out.flush()

@@ -1,8 +1,8 @@
-use std::alloc::{AllocError, AllocFailed};
+use std::alloc::AllocError;
 use x_text::{NoMemory, TextFault};
 
 /// Why a case has no answer of its own.
-#[derive(Clone, Copy, Debug, PartialEq, Eq)]
+#[derive(Clone, Copy)]
 pub(crate) enum Refusal {
     /// It can't be read, or it asks for what no call can be asked for.
     BadCase,
@@ -14,12 +14,6 @@ pub(crate) enum Refusal {
 
 impl From<AllocError> for Refusal {
     fn from(_error: AllocError) -> Self {
-        Refusal::NoMemory
-    }
-}
-
-impl<T: Drop> From<AllocFailed<T>> for Refusal {
-    fn from(_error: AllocFailed<T>) -> Self {
         Refusal::NoMemory
     }
 }

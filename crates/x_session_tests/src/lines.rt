@@ -13,6 +13,16 @@ fn expect_line(rt: &impl Abort, reader: &mut LineReader, tap: &mut impl Tap, lin
     assert_eq!(rt; reader.line(), line);
 }
 
+/// Checks that the reader finds no line next, for this reason.
+fn expect_none(
+    rt: &impl Abort,
+    reader: &mut LineReader,
+    tap: &mut impl Tap,
+    wanted: Result<Found, LineFault>,
+) {
+    assert_eq!(rt; reader.next(tap), wanted);
+}
+
 #[test]
 fn lines_come_by_pieces_of_each_length(rt: HostRuntime) {
     for most in 1..10 {
@@ -20,7 +30,7 @@ fn lines_come_by_pieces_of_each_length(rt: HostRuntime) {
         let mut reader = LineReader::new(rt.alloc());
         expect_line(&rt, &mut reader, &mut tap, b"a");
         expect_line(&rt, &mut reader, &mut tap, b"bc d");
-        assert_eq!(rt; reader.next(&mut tap), Ok(Found::End), "{most}");
+        expect_none(&rt, &mut reader, &mut tap, Ok(Found::End));
     }
 }
 
@@ -29,8 +39,8 @@ fn a_tap_that_fails_in_mid_line_is_told(rt: HostRuntime) {
     let mut tap = MemTap::new(b"ab\ncd\n", 2, 5);
     let mut reader = LineReader::new(rt.alloc());
     expect_line(&rt, &mut reader, &mut tap, b"ab");
-    assert_eq!(rt; reader.next(&mut tap), Err(LineFault::Read));
-    assert_eq!(rt; reader.next(&mut tap), Err(LineFault::Read));
+    expect_none(&rt, &mut reader, &mut tap, Err(LineFault::Read));
+    expect_none(&rt, &mut reader, &mut tap, Err(LineFault::Read));
 }
 
 /// Counts the lines of a script: what the contract of [`LineReader::next`] says to a loop.

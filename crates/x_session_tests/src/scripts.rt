@@ -3,31 +3,44 @@ use std::io::{self, Write};
 use std::process::Abort;
 use std::test::Fail;
 use x_session::{EngineFault, Outcome, Session, run_script};
-use x_text::{Edit, MemSink, MemTap, Out, TextFault};
+use x_text::{Edit, MemSink, MemTap, Out, Sink, Tap, TextFault};
+
+/// Runs a script on a session of the text `int s`, which an edit makes `ints`.
+fn run_on_ints(
+    rt: &impl Abort,
+    alloc: Global,
+    tap: &mut impl Tap,
+    sink: &mut impl Sink,
+) -> Result<Option<EngineFault>, Fail> {
+    let mut session = Session::open(alloc, b"t", b"int s")?;
+    let fault = run_script(alloc, &mut session, tap, sink).err();
+    expect_text(rt, &session, b"ints");
+    Ok(fault)
+}
+
+fn expect_text(rt: &impl Abort, session: &Session, text: &[u8]) {
+    assert_eq!(rt; session.bytes(), text);
+}
 
 #[test]
 fn a_failed_tap_leaves_the_lines_before(rt: HostRuntime) -> Result<(), Fail> {
-    let mut session = Session::open(rt.alloc(), b"t", b"int s")?;
     let mut buffer = [0u8; 64];
     let mut sink = MemSink::new(&mut buffer, 64, 64);
     let mut tap = MemTap::new(b"edit 3 4\nfaults", 64, 12);
-    let outcome = run_script(rt.alloc(), &mut session, &mut tap, &mut sink);
-    assert_eq!(rt; outcome, Err(EngineFault::Read { written: 5 }));
+    let fault = run_on_ints(&rt, rt.alloc(), &mut tap, &mut sink)?;
+    assert_eq!(rt; fault, Some(EngineFault::Read { written: 5 }));
     assert_eq!(rt; sink.bytes(), b"ok 4\n".as_slice());
-    assert_eq!(rt; session.bytes(), b"ints".as_slice());
     Ok(())
 }
 
 #[test]
 fn a_full_sink_leaves_the_line_carried_out(rt: HostRuntime) -> Result<(), Fail> {
-    let mut session = Session::open(rt.alloc(), b"t", b"int s")?;
     let mut buffer = [0u8; 64];
     let mut sink = MemSink::new(&mut buffer, 1, 3);
     let mut tap = MemTap::new(b"edit 3 4\nedit 0 1\n", 64, usize::MAX);
-    let outcome = run_script(rt.alloc(), &mut session, &mut tap, &mut sink);
-    assert_eq!(rt; outcome, Err(EngineFault::Write { written: 3 }));
+    let fault = run_on_ints(&rt, rt.alloc(), &mut tap, &mut sink)?;
+    assert_eq!(rt; fault, Some(EngineFault::Write { written: 3 }));
     assert_eq!(rt; sink.bytes(), b"ok ".as_slice());
-    assert_eq!(rt; session.bytes(), b"ints".as_slice());
     Ok(())
 }
 
@@ -47,12 +60,10 @@ impl Write for Blocked {
 
 #[test]
 fn each_answer_is_passed_on(rt: HostRuntime) -> Result<(), Fail> {
-    let mut session = Session::open(rt.alloc(), b"t", b"int s")?;
     let mut tap = MemTap::new(b"edit 3 4\nedit 0 1\n", 64, usize::MAX);
     let mut out = Out::new(Blocked);
-    let fault = run_script(rt.alloc(), &mut session, &mut tap, &mut out).err();
+    let fault = run_on_ints(&rt, rt.alloc(), &mut tap, &mut out)?;
     assert_eq!(rt; fault, Some(EngineFault::Write { written: 5 }));
-    assert_eq!(rt; session.bytes(), b"ints".as_slice());
     Ok(())
 }
 
@@ -153,6 +164,50 @@ fn stand(written: usize) -> (usize, usize, &'static [u8]) {
     }
 }
 
+/// Checks that what is written is whole answers and the session is as their lines left it, and tells where that is.
+fn expect_stand(rt: &impl Abort, session: &Session, sink: &MemSink) -> (usize, usize) {
+    let (read, written, text) = stand(sink.bytes().len());
+    assert_eq!(rt; sink.bytes(), ANSWERS.get(..written).unwrap_or_default());
+    assert_eq!(rt; session.bytes(), text);
+    (read, written)
+}
+
+/// Answers the lines that are left with memory.
+fn go_on(
+    rt: &impl Abort,
+    alloc: Global,
+    session: &mut Session,
+    sink: &mut MemSink,
+    read: usize,
+) -> Result<(), Fail> {
+    let mut rest = MemTap::new(SCRIPT.get(read..).unwrap_or_default(), 64, usize::MAX);
+    run_script(alloc, session, &mut rest, sink)?;
+    assert_eq!(rt; sink.bytes(), ANSWERS);
+    assert_eq!(rt; session.bytes(), b"x".as_slice());
+    Ok(())
+}
+
+/// Runs the script, and goes on where memory ran out. It tells whether nothing was refused.
+fn run_with_little_memory(
+    rt: &impl Abort,
+    alloc: Global,
+    session: &mut Session,
+) -> Result<bool, Fail> {
+    let mut buffer = [0u8; 64];
+    let mut sink = MemSink::new(&mut buffer, 64, 64);
+    let mut tap = MemTap::new(SCRIPT, 64, usize::MAX);
+    let outcome = run_script(alloc, session, &mut tap, &mut sink);
+    let (read, written) = expect_stand(rt, session, &sink);
+    if outcome == Ok(Outcome::Clean) {
+        assert_eq!(rt; written, ANSWERS.len());
+        return Ok(true);
+    }
+    let written = written as u64;
+    assert_eq!(rt; outcome, Err(EngineFault::NoMemory { written }));
+    go_on(rt, alloc, session, &mut sink, read)?;
+    Ok(false)
+}
+
 /// The same of a script: what is written is whole answers, the session is as their lines left it, and with memory the
 /// other lines are answered.
 #[test]
@@ -160,23 +215,8 @@ fn sweep_script(rt: HostRuntime) -> Result<(), Fail> {
     let Ok(mut session) = Session::open(rt.alloc(), b"t", b"") else {
         return Ok(());
     };
-    let mut buffer = [0u8; 64];
-    let mut sink = MemSink::new(&mut buffer, 64, 64);
-    let mut tap = MemTap::new(SCRIPT, 64, usize::MAX);
-    let outcome = run_script(rt.alloc(), &mut session, &mut tap, &mut sink);
-    let (read, written, text) = stand(sink.bytes().len());
-    assert_eq!(rt; sink.bytes(), ANSWERS.get(..written).unwrap_or_default());
-    assert_eq!(rt; session.bytes(), text);
-    if outcome == Ok(Outcome::Clean) {
-        assert_eq!(rt; written, ANSWERS.len());
+    if run_with_little_memory(&rt, rt.alloc(), &mut session)? {
         println!(rt; "nothing was refused")?;
-        return Ok(());
     }
-    let written = written as u64;
-    assert_eq!(rt; outcome, Err(EngineFault::NoMemory { written }));
-    let mut rest = MemTap::new(SCRIPT.get(read..).unwrap_or_default(), 64, usize::MAX);
-    run_script(rt.alloc(), &mut session, &mut rest, &mut sink)?;
-    assert_eq!(rt; sink.bytes(), ANSWERS);
-    assert_eq!(rt; session.bytes(), b"x".as_slice());
     Ok(())
 }

@@ -19,7 +19,11 @@ impl Outcome {
     pub fn of(refused: bool) -> Outcome
         ensures { is_refused result ≡ refused }
     {
-        if refused { Outcome::Refused } else { Outcome::Clean }
+        if refused {
+            Outcome::Refused
+        } else {
+            Outcome::Clean
+        }
     }
 
     /// The outcome with one part more.

@@ -30,24 +30,38 @@ fn expect_entries<S: Seq<u32>>(rt: &impl Abort, seq: &S, expected: &[u32]) {
     }
 }
 
-/// Makes a list of ten entries and replaces two of them by one, and answers how many others that moved.
-fn replace_two<S: Seq<u32>>(rt: &impl Abort, alloc: Global, seq: &mut S) -> Result<u64, Fail> {
+/// Puts ten entries into an empty list.
+fn fill<S: Seq<u32>>(rt: &impl Abort, alloc: Global, seq: &mut S) -> Result<(), Fail>
+    ensures { OnOk result (length (S.list seq.new) ≡ 10) }
+{
     let ten = Vec::from_slice(alloc, &[0, 1, 2, 3, 4, 5, 6, 7, 8, 9])?;
     assert_eq!(rt; seq.len(), 0);
     change(seq, 0, 0, ten)?;
     assert_eq!(rt; seq.len(), 10);
+    Ok(())
+}
+
+/// Replaces two of ten entries by one, and then none behind it, and answers how many others each of that moved.
+fn replace_two<S: Seq<u32>>(rt: &impl Abort, alloc: Global, seq: &mut S) -> Result<(u64, u64), Fail>
+    requires { length (S.list seq.old) ≡ 10 }
+{
     let moved = change(seq, 3, 2, Vec::from_slice(alloc, &[30])?)?;
+    assert_eq!(rt; seq.len(), 9);
+    let again = change(seq, 4, 0, Vec::new(alloc))?;
     expect_entries(rt, seq, &[0, 1, 2, 30, 5, 6, 7, 8, 9]);
-    Ok(moved)
+    Ok((moved, again))
 }
 
 #[test]
 fn carries_changes_out(rt: HostRuntime) -> Result<(), Fail> {
     let mut plain = PlainSeq::new(rt.alloc());
-    assert_eq!(rt; replace_two(&rt, rt.alloc(), &mut plain)?, 5);
+    fill(&rt, rt.alloc(), &mut plain)?;
+    assert_eq!(rt; replace_two(&rt, rt.alloc(), &mut plain)?, (5, 5));
     let mut gap = GapSeq::new(rt.alloc());
     assert_eq!(rt; gap.seat(), 0);
-    assert_eq!(rt; replace_two(&rt, rt.alloc(), &mut gap)?, 5);
+    fill(&rt, rt.alloc(), &mut gap)?;
+    assert_eq!(rt; gap.seat(), 10);
+    assert_eq!(rt; replace_two(&rt, rt.alloc(), &mut gap)?, (5, 0));
     assert_eq!(rt; gap.seat(), 4);
     assert_eq!(rt; gap.iter().count(), 9);
     Ok(())
