@@ -1,12 +1,12 @@
 //! The faults of the items of a text, and what is generated of them.
 
-ghost use Rattle.std.specs.Prelude.{◌≡◌, ◌≤◌, ◌+◌, ◌++◌, [], ◌∷◌, false, map, take, drop, length, IfOk, OnOk};
+ghost use Rattle.std.specs.Prelude.{◌≡◌, ◌≤◌, ◌+◌, ◌++◌, [], ◌∷◌, map, take, drop, length, IfOk, OnOk};
 ghost use Rattle.x_text.specs.declared.source.TheConstants.{MAX_TEXT};
 ghost use Rattle.x_lex.specs.Tiling.{AreTokens};
 ghost use Rattle.x_lex.specs.Places.{lexeme, lexemes};
 ghost use Rattle.x_sema.specs.KeptViews.{lent_outcome};
 ghost use Rattle.x_session.specs.Checking.{AreChecked, IsChecked};
-ghost use Rattle.x_session.specs.Compile.{faults_at, faults_of, item_faults, placed, rule_faults, spells_none};
+ghost use Rattle.x_session.specs.Compile.{faults_at, faults_of, item_faults, placed, rule_faults};
 ghost use Rattle.x_session.specs.Generated.{part_of};
 ghost use Rattle.x_session.specs.ItemView.{AreMarked, has_lines, item_with, kept_definition, view_parse};
 ghost use Rattle.x_session.specs.SessionState.{items_of};

@@ -12,6 +12,6 @@ returns-then-is_plain-clause-generated c =
     let plain = c.is_plain.ensures c.if-is_plain.true in
     let made : c.in_ok-pieces.pieces ≡ option_map pieces_of (faultless [] (view_parse c.args.item.now.parse)) = c.in_ok-pieces.ensures in
     let part = plain_part c.args.item.now c.args.self.now.walk (lent_outcome c.args.checked)
-    (sym c.requires.marked ∙ plain.0) plain.1.0 (sym c.rule_faults.ensures ∙ plain.1.1) in
+    (sym c.requires.marked ∙ plain.0) plain.1 (sym c.rule_faults.ensures ∙ plain.2) in
     subst (λ p. OnOk c.push.result (c.push.new.self ≡ c.args.self.now.output.generated ++ p ∷ []))
     ((λ i. record { lines = c.new.ensures.items i; pieces = made i }) ∙ part) c.push.ensures
