@@ -20,9 +20,9 @@ returns-else-fault_count-gt0-clause-opened g c =
       base = c.in-Ok.ensures.base ∙ c.base_of_file.ensures;
       text = text;
       clean = subst (λ t. Compiles t (λ items. faults_of t items ≡ [])) text (h.0, h.1, h.2, none);
-      faulty = λ e. absurd e;
-      too_large = λ more. let off = c.in-Ok.ensures.too_large.1 more in absurd off;
-      failed = λ e. absurd e;
+      faulty = λ e. absurd (cc);
+      too_large = λ more. let off = c.in-Ok.ensures.too_large.1 more in absurd (cc);
+      failed = λ e. absurd (cc);
       others = tt;
     }
 
@@ -44,7 +44,7 @@ returns-then-fault_count-gt0-clause-opened g c =
       clean = tt;
       faulty = λ e. subst (λ t. Compiles t (λ items. (0 < length (faults_of t items)) × IsTold before after (told_faults c.args.file.now (faults_of t items))))
           c.in-Ok.ensures.text (all.0, all.1, all.2, (some, told));
-      too_large = λ more. let off = c.in-Ok.ensures.too_large.1 more in absurd off;
+      too_large = λ more. let off = c.in-Ok.ensures.too_large.1 more in absurd (cc);
       failed = λ e. absurd (cc);
       others = inl refl;
     }
