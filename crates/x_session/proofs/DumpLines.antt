@@ -1,5 +1,5 @@
 -- Lines that ask to show a value, and others.
-use Rattle.std.proofs.Common.{◌≡◌, ◌≤◌, ℕ, List, Bool, length, Option, Some, None, Result, Ok, Err, refl, sym}
+use Rattle.std.proofs.Common.{◌≡◌, ◌≤◌, ℕ, List, Bool, length, Some, None, Result, Ok, Err, refl}
 use Rattle.std.specs.Prelude.{IfOk}
 use Rattle.x_text.specs.declared.no_memory.NoMemory.{NoMemory}
 use Rattle.x_text.specs.Streams.{Stream}

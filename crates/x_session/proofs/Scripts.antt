@@ -1,10 +1,7 @@
 -- How a script goes on.
-use Rattle.std.proofs.Common.{◌≡◌, ℕ, Bool, true, false, ◌||◌, List, [], ◌∷◌, ◌++◌, Option, Some, None, Result, Ok, Err, length, ◌<◌, codes, cond, refl, sym, ap, subst, ◌∙◌, append_assoc, append-nil}
-use Rattle.std.proofs.lemmas.Bool.{lt-leb}
+use Rattle.std.proofs.Common.{◌≡◌, ℕ, Bool, true, false, ◌||◌, List, [], ◌∷◌, ◌++◌, Option, Some, None, Result, Ok, Err, refl, sym, ap, subst, ◌∙◌, append_assoc, append-nil}
 use Rattle.std.specs.Prelude.{MatchResult}
 use Rattle.std.specs.Io.KnownBytes.{Consumes, IsAtEnd}
-use Rattle.x_lex.specs.declared.kind.Kind.{Kind}
-use Rattle.x_session.specs.Compile.{Item, IsCompilation}
 use Rattle.x_session.specs.Answers.{Answer}
 use Rattle.x_session.specs.Script.{then_answer, LineAnswers, AreAnswered, HasGiven}
 use Rattle.x_session.specs.declared.script.lines.Found.{Found}

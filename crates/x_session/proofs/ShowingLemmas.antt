@@ -1,5 +1,5 @@
 -- What is told of a message.
-use Rattle.std.proofs.Common.{◌≡◌, ◌<◌, ℕ, List, [], Bool, true, false, Some, None, Result, Ok, Err, length, refl, subst}
+use Rattle.std.proofs.Common.{◌≡◌, ℕ, List, Bool, true, false, Some, None, Result, Ok, Err, refl, subst}
 use Rattle.std.specs.Prelude.{codes, IfOk}
 use Rattle.x_text.specs.declared.no_memory.NoMemory.{NoMemory}
 use Rattle.x_text.specs.Streams.{Stream}
@@ -12,7 +12,7 @@ use Rattle.x_value.specs.Shown.{Node}
 use Rattle.x_value.specs.declared.fault.ReadCode.{ReadCode}
 use Rattle.x_value.specs.declared.fault.ReadCode.TheVariants as codes_of
 use Rattle.x_session.specs.Answers.{Answer, answered, refused}
-use Rattle.x_session.specs.Compile.{Item, definitions_of, faults_of}
+use Rattle.x_session.specs.Compile.{Item}
 use Rattle.x_session.specs.Script.{IsTold, TellsOver}
 use Rattle.x_session.specs.Session.{Compiles}
 use Rattle.x_session.specs.Showing.{IsMessageAnswer, IsTypedAnswer, IsDumpAnswer, shown, stuck, no_type, typed, faulty, faultless, value_answer}

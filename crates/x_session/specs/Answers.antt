@@ -1,5 +1,5 @@
 -- What a script of edits and questions is answered, over a text and its items.
-use Rattle.std.specs.Prelude.{◌≡◌, ◌<◌, ◌≤◌, ℕ, Bool, true, false, ◌&&◌, nat_le, List, ◌++◌, Option, Some, None, length, codes, if◌then◌else◌}
+use Rattle.std.specs.Prelude.{ℕ, Bool, true, false, ◌&&◌, nat_le, List, ◌++◌, Option, Some, None, length, codes, if◌then◌else◌}
 use Rattle.std.specs.List.{flat_map}
 use Rattle.std.specs.Fmt.{decimal}
 use Rattle.x_text.specs.Edits.{Change, edited_by}
@@ -8,10 +8,8 @@ use Rattle.x_lex.specs.Places.{Lexeme}
 use Rattle.x_lex.specs.Names.{kind_name}
 use Rattle.x_session.specs.declared.compile.fault.Fault.{Fault}
 use Rattle.x_session.specs.Faults.{fault_text}
-use Rattle.x_session.specs.declared.script.lines.TheConstants.{LONGEST}
 use Rattle.x_session.specs.declared.script.command.Command.{Command}
 use Rattle.x_session.specs.declared.script.command.Command.TheVariants as commands
-use Rattle.x_session.specs.Commands.{command_of}
 use Rattle.x_session.specs.Compile.{Item, tokens_of, definitions_of, faults_of}
 use Rattle.x_session.specs.Definitions.{numbered}
 use Rattle.x_item.specs.Declarations.{name_of, is_void}

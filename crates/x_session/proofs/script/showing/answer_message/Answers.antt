@@ -1,4 +1,4 @@
-use Rattle.std.proofs.Common.{◌≡◌, Bool, true, false, ap, ◌∙◌}
+use Rattle.std.proofs.Common.{ap, ◌∙◌}
 use denote.Enum.Bare.{sameb}
 use Rattle.x_value.specs.contracts.fault.ReadCode.{the_type}
 use Rattle.x_value.specs.declared.fault.ReadCode.TheVariants.{NoMemory}

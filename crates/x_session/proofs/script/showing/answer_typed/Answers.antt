@@ -1,5 +1,5 @@
-use Rattle.std.proofs.Common.{ap, ◌∙◌, Some, None}
-use Rattle.std.specs.Prelude.{option_map, IfOk}
+use Rattle.std.proofs.Common.{◌∙◌}
+use Rattle.std.specs.Prelude.{IfOk}
 use Rattle.std.proofs.Common.{List, ℕ, subst, sym}
 use Rattle.x_session.specs.Commands.{bytes_of}
 use Rattle.x_session.specs.Script.{TellsOver}
