@@ -57,7 +57,8 @@ fn forth_and_back(alloc: Global, change: &Change) -> Result<(Carried, Carried), 
     kept.take_forth_and_back(alloc, change)
 }
 
-/// `relex TEXT START END INSERT`: how many tokens are fresh after the edit, and how many where it is taken back, by those lexed.
+/// `relex TEXT START END INSERT`: how many tokens are fresh after the edit, and how many where it is taken
+/// back, by those lexed.
 fn relexed(alloc: Global, change: &Change) -> Result<String, Refusal> {
     let (forth, back) = forth_and_back(alloc, change)?;
     let (fresh, again) = (forth.lexed, back.lexed);

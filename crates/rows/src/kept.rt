@@ -141,7 +141,8 @@ impl Model for Kept {
 
     ghost view = { λ kept. kept.text };
 
-    ghost invariant = { λ kept. AreTokens kept.text kept.tokens.list × IsCut (lexemes kept.text kept.tokens.list) (counts kept.items.list) };
+    ghost invariant = { λ kept. AreTokens kept.text kept.tokens.list
+        × IsCut (lexemes kept.text kept.tokens.list) (counts kept.items.list) };
 }
 
 impl Kept {

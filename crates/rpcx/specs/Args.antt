@@ -1,9 +1,11 @@
 -- The command lines of the programs, in clap's words: what a program knows, and what it reads.
-use Rattle.std.specs.Prelude.{◌≡◌, ℕ, Bool, ◌&&◌, not, List, [], ◌∷◌, ◌++◌, Option, None, Some, true, false, codes, find, is_some, map}
+use Rattle.std.specs.Prelude.{◌≡◌, ℕ, Bool, ◌&&◌, not, List, [], ◌∷◌, ◌++◌, Option, None, Some}
+use Rattle.std.specs.Prelude.{true, false, codes, find, is_some, map}
 use Rattle.std.specs.List.{All}
 use Rattle.std.specs.Prelude.{option_and_then, option_map, slice_get}
 use Rattle.std.specs.Str.{bytes_eq}
-use Rattle.clap.specs.Words.{AddsArg, AddsInTurn, App, IsParsedFrom, Row, Rule, Text, args_of, first_of, first_value}
+use Rattle.clap.specs.Words.{AddsArg, AddsInTurn, App, IsParsedFrom, Row, Rule, Text}
+use Rattle.clap.specs.Words.{args_of, fault_of, first_of, first_value}
 use Rattle.clap.specs.Words.{found_of, groups_of, new_app, new_rule, with_rule}
 use Rattle.clap.specs.Built.{FitsChain}
 use Rattle.clap.specs.Simple.{on_top}
@@ -12,6 +14,7 @@ use Rattle.clap.specs.declared.builder.action.ArgAction.TheVariants.{Help, Set, 
 use Rattle.clap.specs.declared.builder.arg.Arg.{Arg}
 use Rattle.clap.specs.declared.builder.command.Command.{Command}
 use Rattle.clap.specs.declared.builder.command.Command.TheViews.{out-Command}
+use Rattle.clap.specs.declared.error.kind.ErrorKind.TheVariants.{DisplayHelp, DisplayVersion}
 use Rattle.clap.specs.declared.parser.matches.ArgMatches.{ArgMatches}
 use Rattle.clap.specs.declared.parser.matches.ValueSource.{ValueSource}
 use Rattle.clap.specs.declared.parser.matches.ValueSource.TheVariants.{CommandLine}
@@ -111,7 +114,8 @@ dump_app = with_rule (with_rule (with_rule (with_rule (plain_app (codes "rpcdump
 unfoldable pub edit_app : App
 edit_app = with_rule (plain_app (codes "rpcedit")) file_rule
 
--- The command was made by a chain of `.arg(..)` calls, which began with one that knows nothing, of arguments of these ids.
+-- The command was made by a chain of `.arg(..)` calls, which began with one that knows nothing, of arguments
+-- of these ids.
 pub record IsChain (ids : List Text) (cmd : Command) : Type 0 where
   pub start : Command
   pub args : List Arg
@@ -183,3 +187,9 @@ asked_by args =
 abbrev pub only_of : List Which → Option Which
 only_of (which ∷ []) = Some which
 only_of all = None
+
+-- A first word that asks for the help or the version is answered so, whatever follows it.
+abbrev pub MindsFirst : App → Type 0
+MindsFirst app = (name : Text) (rest : List Text)
+    → (fault_of app (name ∷ codes "--help" ∷ rest) ≡ DisplayHelp ∷ [])
+        × (fault_of app (name ∷ codes "--version" ∷ rest) ≡ DisplayVersion ∷ [])

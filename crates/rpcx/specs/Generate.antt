@@ -1,5 +1,6 @@
 -- What runs of the programs do, and what they tell.
-use Rattle.std.specs.Prelude.{◌≡◌, ◌⊎◌, ℕ, Bool, true, MatchBool, ◌-◌, ◌<◌, ◌≤◌, ◌==◌, List, [], ◌++◌, length, take, drop, codes, if◌then◌else◌}
+use Rattle.std.specs.Prelude.{◌≡◌, ◌⊎◌, ℕ, Bool, true, MatchBool, ◌-◌, ◌<◌, ◌≤◌, ◌==◌, List, []}
+use Rattle.std.specs.Prelude.{◌++◌, length, take, drop, codes, if◌then◌else◌}
 use Rattle.std.specs.Prelude.{Result, IfOk, OnOk, IfErr, IsErrOf}
 use Rattle.std.specs.List.{after_last, flat_map}
 use Rattle.std.specs.Io.KnownBytes.{Appends}
@@ -57,14 +58,16 @@ pub data NotOpened (program file text : List ℕ) (before after : Stream) : Type
   TooLarge : MAX_TEXT < length text → IsTold before after (program ++ codes ": " ++ file ++ codes ": 2 TooLarge\n") → NotOpened program file text before after
   NoRoom : length text ≤ MAX_TEXT → IsTold before after (told_of program (codes "out of memory")) → NotOpened program file text before after
 
--- What opening the text of a file for a run of a program comes to: a session of a text without faults, or the status of a run that does
--- not go on, which was told why.
-pub record IsOpened (program file bytes : List ℕ) (before after : Stream) (result : Result Document Status) : Type 0 where
+-- What opening the text of a file for a run of a program comes to: a session of a text without faults, or the
+-- status of a run that does not go on, which was told why.
+pub record IsOpened (program file bytes : List ℕ) (before after : Stream) (result : Result Document Status)
+    : Type 0 where
   pub base : IfOk result (λ s. s.base ≡ base_of file)
   pub text : IfOk result (λ s. s.text ≡ bytes)
   pub clean : OnOk result (Compiles bytes (λ items. faults_of bytes items ≡ []))
   pub faulty : IsErrOf result Faulty
-      → Compiles bytes (λ items. (0 < length (faults_of bytes items)) × IsTold before after (told_faults file (faults_of bytes items)))
+      → Compiles bytes (λ items. (0 < length (faults_of bytes items))
+          × IsTold before after (told_faults file (faults_of bytes items)))
   pub too_large : MAX_TEXT < length bytes → IsErrOf result Failed
   pub failed : IsErrOf result Failed → NotOpened program file bytes before after
   pub others : IfErr result (λ status. (status ≡ Faulty) ⊎ (status ≡ Failed))

@@ -4,7 +4,7 @@
 mod laws;
 mod program;
 
-pub use laws::{help_first, version_first};
+pub use laws::request_first;
 pub use program::{
     DumpArgs, EditArgs, GenArgs, Manual, Mode, RPCDUMP, RPCEDIT, RPCGEN, Status, VERSION,
     answer_words, complain, dump_args, dump_mode, dump_run, edit_args, edit_run, gen_args,

@@ -1,5 +1,5 @@
 use clap::error::ErrorKind;
-use rpcx::{GenArgs, RPCGEN, Status, answer_words, gen_args, help_first, version_first};
+use rpcx::{GenArgs, RPCGEN, Status, answer_words, gen_args, request_first};
 use std::test::Fail;
 use x_text::MemSink;
 
@@ -69,7 +69,6 @@ fn sweep_asking(rt: HostRuntime) -> Result<(), Fail> {
 }
 
 #[test]
-fn laws() {
-    help_first();
-    version_first();
+fn law() {
+    request_first();
 }

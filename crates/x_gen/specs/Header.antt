@@ -1,7 +1,9 @@
 -- The pieces of the header: this project's profile of what rpcgen(1) writes. A union is a struct in C.
-use Rattle.std.specs.Prelude.{ℕ, Bool, true, false, List, [], ◌∷◌, ◌++◌, codes, Option, Some, None, if◌then◌else◌}
+use Rattle.std.specs.Prelude.{ℕ, Bool, true, false, List, [], ◌∷◌, ◌++◌, codes}
+use Rattle.std.specs.Prelude.{Option, Some, None, if◌then◌else◌}
 use Rattle.std.specs.List.{flat_map}
-use Rattle.x_item.specs.Tree.{Value, Enumerator, Body, Enum, Struct, Union, Declaration, Void, Procedure, Version}
+use Rattle.x_item.specs.Tree.{Value, Enumerator, Body, Enum, Struct, Union}
+use Rattle.x_item.specs.Tree.{Declaration, Void, Procedure, Version}
 use Rattle.x_item.specs.Tree.{Declarations, none, more, Arms, no_arm, arm, Default, no_default, default}
 use Rattle.x_gen.specs.CTypes.{CType, spelled}
 use Rattle.x_item.specs.Declarations.{name_of, is_void}
@@ -107,7 +109,8 @@ function_lines function group p =
 
 -- those of a procedure whose function and struct of arguments have these names
 abbrev pub procedure_lines : List ℕ → List ℕ → Procedure → List ℕ
-procedure_lines function group p = group_lines group p ++ constant_line p.name p.number ++ function_lines function group p
+procedure_lines function group p =
+    group_lines group p ++ constant_line p.name p.number ++ function_lines function group p
 
 abbrev pub version_lines : Version → List ℕ
 version_lines v = constant_line v.name v.number ++ flat_map (by_names procedure_lines v) v.procedures

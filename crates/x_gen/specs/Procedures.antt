@@ -1,5 +1,6 @@
 -- The procedures of a program as C has them.
-use Rattle.std.specs.Prelude.{ℕ, suc, ◌+◌, Bool, true, false, List, [], ◌∷◌, ◌++◌, map, codes, Option, Some, None, if◌then◌else◌}
+use Rattle.std.specs.Prelude.{ℕ, suc, ◌+◌, Bool, true, false, List, [], ◌∷◌, ◌++◌, map}
+use Rattle.std.specs.Prelude.{codes, Option, Some, None, if◌then◌else◌}
 use Rattle.std.specs.List.{flat_map}
 use Rattle.std.specs.Fmt.{decimal, signed_decimal}
 use Rattle.x_item.specs.Tree.{Version, Procedure, Argument}
@@ -57,7 +58,8 @@ version_pieces piece versions = flat_map (λ v. flat_map (by_names piece v) v.pr
 -- what is generated of arguments by their numbers, of which the first is this
 abbrev pub by_number : (List ℕ → CType → List ℕ) → ℕ → List Argument → List ℕ
 by_number piece number [] = []
-by_number piece number (a ∷ rest) = piece (decimal number) (passed_type (Some a)) ++ by_number piece (suc number) rest
+by_number piece number (a ∷ rest) =
+    piece (decimal number) (passed_type (Some a)) ++ by_number piece (suc number) rest
 
 -- of the arguments of a procedure that has several
 abbrev pub argument_pieces : (List ℕ → CType → List ℕ) → Procedure → List ℕ

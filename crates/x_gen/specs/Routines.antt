@@ -62,7 +62,8 @@ typedef_routine d = routine_front (name_of d) ++ checked_call (codes "    ") (na
 -- the call for an argument of this number
 abbrev pub argument_call : List ℕ → CType → List ℕ
 argument_call number c =
-    codes "    if (!xdr_" ++ c.routine ++ codes "(xdrs, &objp->arg" ++ number ++ codes "))\n        return (FALSE);\n"
+    codes "    if (!xdr_" ++ c.routine ++ codes "(xdrs, &objp->arg" ++ number
+    ++ codes "))\n        return (FALSE);\n"
 
 -- the routine of the struct of several arguments
 abbrev pub struct_routine : List ℕ → Procedure → List ℕ

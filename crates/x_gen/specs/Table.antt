@@ -3,7 +3,8 @@ use Rattle.std.specs.Prelude.{ℕ, List, ◌++◌, codes, if◌then◌else◌}
 use Rattle.std.specs.List.{flat_map}
 use Rattle.x_item.specs.Tree.{Procedure, Version}
 use Rattle.x_gen.specs.CTypes.{CType, own}
-use Rattle.x_gen.specs.Procedures.{lower, in_decimal, are_several, argument_in, by_names, result_type, size_of, sized}
+use Rattle.x_gen.specs.Procedures.{lower, in_decimal, are_several, argument_in, by_names}
+use Rattle.x_gen.specs.Procedures.{result_type, size_of, sized}
 
 -- how large the argument is: several are in the struct of this name
 abbrev pub argument_size : List ℕ → Procedure → List ℕ
@@ -19,7 +20,8 @@ row_of number function argument size result result_size =
 
 -- that of a procedure whose function and struct of arguments have these names
 abbrev pub row : List ℕ → List ℕ → Procedure → List ℕ
-row function group p = row_of p.number function (argument_in group p) (argument_size group p) (result_type p) (size_of p.result)
+row function group p =
+    row_of p.number function (argument_in group p) (argument_size group p) (result_type p) (size_of p.result)
 
 -- the name of the program in lower case, and the number of the version in decimal
 abbrev pub table_name : List ℕ → Version → List ℕ

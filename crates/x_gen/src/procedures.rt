@@ -113,7 +113,8 @@ pub fn add_procedures<P: ProcedurePiece>(
     version: &Version,
 ) -> Result<(), NoMemory>
     ensures { OnOk result (text.new.items ≡ text.old.items
-        ++ flat_map (by_names (P.piece piece.now) (view_version version.now)) (view_version version.now).procedures) }
+        ++ flat_map (by_names (P.piece piece.now) (view_version version.now))
+            (view_version version.now).procedures) }
 {
     for procedure in &version.procedures {
         let call = Call::of(alloc, version, procedure)?;
@@ -144,7 +145,8 @@ pub trait ArgumentPiece {
 
     /// Adds it, by the number of the argument in decimal.
     fn add(&self, text: &mut Vec<u8>, number: &[u8], c: CType) -> Result<(), NoMemory>
-        ensures { OnOk result (text.new.items ≡ text.old.items ++ piece self.now number.now (view_c c.entry)) };
+        ensures { OnOk result (text.new.items
+            ≡ text.old.items ++ piece self.now number.now (view_c c.entry)) };
 }
 
 /// Adds what is generated of the argument of this number.

@@ -2,7 +2,8 @@
 
 ghost use Rattle.std.specs.Prelude.{◌≡◌, ◌++◌, map, OnOk};
 ghost use Rattle.x_item.specs.View.{view_procedure, view_version};
-ghost use Rattle.x_gen.specs.Header.{group_struct, group_lines, function_lines, version_lines, program_header};
+ghost use Rattle.x_gen.specs.Header.{group_struct, group_lines, function_lines};
+ghost use Rattle.x_gen.specs.Header.{version_lines, program_header};
 
 use crate::add::add;
 use crate::c_types::{CType, passed_type};

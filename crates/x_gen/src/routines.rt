@@ -3,10 +3,12 @@
 ghost use Rattle.std.specs.Prelude.{◌≡◌, ◌++◌, map, codes, OnOk};
 ghost use Rattle.std.specs.List.{flat_map};
 ghost use Rattle.x_item.specs.Tree.{Struct};
-ghost use Rattle.x_item.specs.View.{view_value, view_procedure, view_body, view_union, view_declaration, view_declarations};
+ghost use Rattle.x_item.specs.View.{view_value, view_procedure, view_body, view_union};
+ghost use Rattle.x_item.specs.View.{view_declaration, view_declarations};
 ghost use Rattle.x_item.specs.View.{view_arms, view_default};
 ghost use Rattle.x_gen.specs.Routines.{routine_front, routine_end, checked_call, field_calls, case_lines, arm_calls, arms_calls};
-ghost use Rattle.x_gen.specs.Routines.{default_calls, body_calls, type_routine, typedef_routine, struct_routine};
+ghost use Rattle.x_gen.specs.Routines.{default_calls, body_calls, type_routine};
+ghost use Rattle.x_gen.specs.Routines.{typedef_routine, struct_routine};
 ghost use Rattle.x_gen.specs.Views.{view_place, view_named};
 
 use crate::add::add;

@@ -1,5 +1,6 @@
 -- The numbers of the language, as they are spelled (RFC 4506, section 6.2).
-use Rattle.std.specs.Prelude.{ℕ, ◌+◌, ◌-◌, ◌*◌, ◌^◌, Bool, ◌&&◌, ◌||◌, ◌==◌, nat_le, nat_lt, List, [], ◌∷◌, drop, slice_index, ℤ, pos, ◌+ℤ◌, negsuc, neg_ℤ, false, if◌then◌else◌}
+use Rattle.std.specs.Prelude.{ℕ, ◌+◌, ◌-◌, ◌*◌, ◌^◌, Bool, ◌&&◌, ◌||◌, ◌==◌, nat_le, nat_lt, List, [], ◌∷◌}
+use Rattle.std.specs.Prelude.{drop, slice_index, ℤ, pos, ◌+ℤ◌, negsuc, neg_ℤ, false, if◌then◌else◌}
 use Rattle.std.specs.Prelude.{Option, Some, None, option_and_then}
 
 -- the value of a digit: 0 to 9, a to f or A to F
@@ -55,7 +56,8 @@ is_zero (negsuc n) = false
 abbrev pub number_spelled : List ℕ → Option ℤ
 number_spelled text = if in_range text then Some (value text) else None
 
--- One more than the number before (RFC 4506, section 4.3). There is none behind a value with a fault, and a number that no enum may have
--- makes one: at the value that is given, or at the name of an enumerator without a value.
+-- One more than the number before (RFC 4506, section 4.3). There is none behind a value with a fault, and a
+-- number that no enum may have makes one: at the value that is given, or at the name of an enumerator without
+-- a value.
 abbrev pub next_number : Option ℤ → Option ℤ
 next_number before = option_and_then (λ z. if is_enum_number z then Some (z +ℤ pos 1) else None) before

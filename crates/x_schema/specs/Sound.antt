@@ -5,7 +5,8 @@ use Rattle.x_schema.specs.declared.form.Arm.{Arm}
 use Rattle.x_schema.specs.declared.form.Arm.TheVariants as arms
 use Rattle.x_schema.specs.declared.form.Field.{Field}
 use Rattle.x_schema.specs.declared.form.Form.{Form}
-use Rattle.x_schema.specs.declared.form.Form.TheVariants.{Int, UnsignedInt, Bool as Truth, Enum, FixedArray, Array, Optional, Struct, Union}
+use Rattle.x_schema.specs.declared.form.Form.TheVariants.{Int, UnsignedInt, Bool as Truth, Enum, FixedArray}
+use Rattle.x_schema.specs.declared.form.Form.TheVariants.{Array, Optional, Struct, Union}
 use Rattle.x_schema.specs.declared.schema.NamedType.{NamedType}
 use Rattle.x_schema.specs.Choices.{Choice, arm_for, name_for}
 use Rattle.x_schema.specs.declared.procedure.KeptProcedure.{KeptProcedure}

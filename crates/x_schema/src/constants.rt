@@ -7,7 +7,8 @@ ghost use Rattle.x_item.specs.View.{view_value, view_most, view_enumerator, view
 ghost use Rattle.x_item.specs.View.{view_declaration, view_declarations, view_arms, view_default, view_definition};
 ghost use Rattle.x_schema.specs.Definitions.{tree_at};
 ghost use Rattle.x_schema.specs.SchemaOf.{beforehand, number_in, number_given, numbers_of, size_in, limit_in};
-ghost use Rattle.x_schema.specs.SchemaOf.{with_number, with_enumerators, with_type, with_body, with_declaration};
+ghost use Rattle.x_schema.specs.SchemaOf.{with_number, with_enumerators, with_type};
+ghost use Rattle.x_schema.specs.SchemaOf.{with_body, with_declaration};
 ghost use Rattle.x_schema.specs.SchemaOf.{with_declarations, with_arms, with_default, with_definition};
 ghost use Rattle.x_schema.specs.SchemaOf.{signed_word, unsigned_word, with_first};
 ghost use Rattle.x_schema.specs.SchemaTables.{numbers_held};

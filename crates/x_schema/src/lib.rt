@@ -1,4 +1,5 @@
-//! The types of a text, as values are read by them ([`Schema`]), and the numbers that its spellings stand for.
+//! The types of a text, as values are read by them ([`Schema`]), and the numbers that its spellings stand
+//! for.
 #![tactic(auto)]
 
 mod constants;

@@ -3,8 +3,10 @@ ghost use Rattle.std.specs.Prelude.{◌≡◌, ◌∷◌, [], Some, map, IfOk, O
 ghost use Rattle.std.specs.List.{flat_map};
 ghost use Rattle.x_item.specs.View.{view_argument, view_definition, view_passed, view_procedure, view_type, view_version};
 ghost use Rattle.x_schema.specs.Definitions.{tree_at};
-ghost use Rattle.x_schema.specs.ProceduresOf.{AreArguments, IsArgument, IsArgumentField, IsPassed, IsPassedType};
-ghost use Rattle.x_schema.specs.ProceduresOf.{IsProcedure, number_of, numbers_by, numbers_from, procedures_by, procedures_in, with_procedure};
+ghost use Rattle.x_schema.specs.ProceduresOf.{AreArguments, IsArgument, IsArgumentField};
+ghost use Rattle.x_schema.specs.ProceduresOf.{IsPassed, IsPassedType};
+ghost use Rattle.x_schema.specs.ProceduresOf.{IsProcedure, number_of, numbers_by, numbers_from};
+ghost use Rattle.x_schema.specs.ProceduresOf.{procedures_by, procedures_in, with_procedure};
 ghost use Rattle.x_schema.specs.ProceduresOf.{argument_name, procedures_declared, procedures_of};
 ghost use Rattle.x_schema.specs.ProcedureMaking.{PutsAs, PutsField, PutsFields, PutsProcedures, PutsWithin};
 ghost use Rattle.x_schema.specs.Schema.{IsKeptWithin};

@@ -1,5 +1,6 @@
 -- What a script of edits and questions is answered, over a text and its items.
-use Rattle.std.specs.Prelude.{ℕ, Bool, true, false, ◌&&◌, nat_le, List, ◌++◌, Option, Some, None, length, codes, if◌then◌else◌}
+use Rattle.std.specs.Prelude.{ℕ, Bool, true, false, ◌&&◌, nat_le, List, ◌++◌, Option, Some}
+use Rattle.std.specs.Prelude.{None, length, codes, if◌then◌else◌}
 use Rattle.std.specs.List.{flat_map}
 use Rattle.std.specs.Fmt.{decimal}
 use Rattle.x_text.specs.Edits.{Change, edited_by}
@@ -13,7 +14,8 @@ use Rattle.x_session.specs.declared.script.command.Command.TheVariants as comman
 use Rattle.x_session.specs.Compile.{Item, tokens_of, definitions_of, faults_of}
 use Rattle.x_session.specs.Definitions.{numbered}
 use Rattle.x_item.specs.Declarations.{name_of, is_void}
-use Rattle.x_item.specs.Tree.{Body, Enum, Struct, Union, Declaration, Definition, Const, Typedef, NewType, Program}
+use Rattle.x_item.specs.Tree.{Body, Enum, Struct, Union, Declaration, Definition}
+use Rattle.x_item.specs.Tree.{Const, Typedef, NewType, Program}
 use Rattle.x_session.specs.Generated.{text_of}
 
 -- what a line is answered, whether that refuses it, and the text that it leaves

@@ -164,7 +164,8 @@ fn stand(written: usize) -> (usize, usize, &'static [u8]) {
     }
 }
 
-/// Checks that what is written is whole answers and the session is as their lines left it, and tells where that is.
+/// Checks that what is written is whole answers and the session is as their lines left it, and tells where
+/// that is.
 fn expect_stand(rt: &impl Abort, session: &Session, sink: &MemSink) -> (usize, usize) {
     let (read, written, text) = stand(sink.bytes().len());
     assert_eq!(rt; sink.bytes(), ANSWERS.get(..written).unwrap_or_default());

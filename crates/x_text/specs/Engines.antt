@@ -13,7 +13,8 @@ is_refused Refused = true
 abbrev pub WorksOn : Bool → Bool → Type 0
 WorksOn before after = before ≡ false → after ≡ false
 
--- A run names its fault by what failed, and names one where something did: by whether the tap and the sink have failed, before and after.
+-- A run names its fault by what failed, and names one where something did: by whether the tap and the sink
+-- have failed, before and after.
 abbrev pub NamesCause : Result Outcome EngineFault → (tap tap' sink sink' : Bool) → Type 0
 NamesCause (Ok outcome) tap tap' sink sink' = (tap' ≡ tap) × WorksOn sink sink'
 NamesCause (Err (Read written)) tap tap' sink sink' = (tap' ≡ true) × WorksOn sink sink'

@@ -41,7 +41,8 @@ fn fill<S: Seq<u32>>(rt: &impl Abort, alloc: Global, seq: &mut S) -> Result<(), 
     Ok(())
 }
 
-/// Replaces two of ten entries by one, and then none behind it, and answers how many others each of that moved.
+/// Replaces two of ten entries by one, and then none behind it, and answers how many others each of that
+/// moved.
 fn replace_two<S: Seq<u32>>(rt: &impl Abort, alloc: Global, seq: &mut S) -> Result<(u64, u64), Fail>
     requires { length (S.list seq.old) ≡ 10 }
 {

@@ -1,5 +1,5 @@
-//! Units of four bytes (RFC 4506, section 3): words, the high byte first, and bodies of bytes with the zeros that fill their last
-//! unit up.
+//! Units of four bytes (RFC 4506, section 3): words, the high byte first, and bodies of bytes with the zeros
+//! that fill their last unit up.
 #![tactic(auto)]
 
 ghost use Rattle.std.specs.Prelude.{◌≡◌, ◌<◌, ◌^◌, ◌+◌, ◌++◌, length, IfSome, IfNone};
@@ -10,7 +10,8 @@ use byteorder::{BigEndian, ByteOrder};
 /// The bytes of a unit.
 pub const UNIT: usize = 4;
 
-/// The word at the front, and the bytes behind it (RFC 4506, section 4.2). There is none where fewer than four bytes are left.
+/// The word at the front, and the bytes behind it (RFC 4506, section 4.2). There is none where fewer than
+/// four bytes are left.
 #[inline(always)]
 pub fn split_word(bytes: &[u8]) -> Option<(u32, &[u8])>
     ensures some { IfSome result (λ r. (bytes.now ≡ word r.0 ++ r.1.now) × (r.0 < 2 ^ 32)) }
@@ -23,8 +24,8 @@ pub fn split_word(bytes: &[u8]) -> Option<(u32, &[u8])>
     Some((BigEndian::read_u32(front), rest))
 }
 
-/// A body of so many bytes, the bytes that fill its last unit up, which are to be zeros, and what stands behind them (RFC 4506, section
-/// 4.10). There is none where the bytes end before.
+/// A body of so many bytes, the bytes that fill its last unit up, which are to be zeros, and what stands
+/// behind them (RFC 4506, section 4.10). There is none where the bytes end before.
 #[inline(always)]
 pub fn split_body(len: u32, bytes: &[u8]) -> Option<(&[u8], &[u8], &[u8])>
     ensures some { IfSome result (λ r. SplitsBody len bytes.now r.0.now r.1.now r.2.now) }

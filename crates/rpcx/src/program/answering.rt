@@ -5,7 +5,8 @@ ghost use Rattle.clap.specs.Words.{kind_of};
 ghost use Rattle.x_text.specs.Writing.{Writes};
 ghost use Rattle.x_text.specs.Streams.{Stream};
 ghost use Rattle.rpcx.specs.Generate.{IsTold};
-ghost use Rattle.rpcx.specs.Answering.{help_text, refused_told, version_text, AnswersWords, IsOneLine, IsRefused, IsShown};
+ghost use Rattle.rpcx.specs.Answering.{help_text, refused_told, version_text, AnswersWords};
+ghost use Rattle.rpcx.specs.Answering.{IsOneLine, IsRefused, IsShown};
 
 use crate::program::complaint::tell_of_file;
 use crate::program::manual::{Manual, VERSION};
@@ -16,8 +17,8 @@ use memchr::memchr;
 use std::alloc::Global;
 use x_text::{Pen, Sink};
 
-/// Answers words of which `clap` read no arguments: it shows the help or the version where they ask for it, or tells
-/// why they are refused, and answers the status.
+/// Answers words of which `clap` read no arguments: it shows the help or the version where they ask for it,
+/// or tells why they are refused, and answers the status.
 pub fn answer_words<O: Sink, E: Sink>(
     alloc: Global,
     manual: &Manual,
@@ -67,11 +68,12 @@ fn show_version<O: Sink, E: Sink>(manual: &Manual, out: &mut O, err: &mut E) -> 
     end_showing(pen, manual, out, err)
 }
 
-/// Writes what a pen held back, has the output pass it on, and answers the status: `Failed` where the output fails,
-/// which it tells.
+/// Writes what a pen held back, has the output pass it on, and answers the status: `Failed` where the output
+/// fails, which it tells.
 fn end_showing<O: Sink, E: Sink>(pen: Pen, manual: &Manual, out: &mut O, err: &mut E) -> Status
     ensures shown { (start : Stream) (text : List ℕ) → Writes start text pen (O.state out.old)
-        → IsShown manual.now.name.now text start (O.state out.new) (E.state err.old) (E.state err.new) result }
+        → IsShown manual.now.name.now text start (O.state out.new)
+            (E.state err.old) (E.state err.new) result }
     ensures quiet { result ≡ Status.Done → err.new ≡ err.old }
 {
     let mut pen = pen;

@@ -3,14 +3,15 @@
 ghost use Rattle.std.specs.Prelude.{◌≡◌, IfOk, Some, true};
 ghost use Rattle.clap.specs.Built.{FitsChain, TakesValue};
 ghost use Rattle.clap.specs.Words.{app_of, found_of, rows_of, rule_of};
-ghost use Rattle.rpcx.specs.Args.{file_rule, flag_rule, is_in_words, is_own, plain_app, request_ids, request_rule, valued_rule, IsChain};
+ghost use Rattle.rpcx.specs.Args.{file_rule, flag_rule, is_in_words, is_own, plain_app};
+ghost use Rattle.rpcx.specs.Args.{request_ids, request_rule, valued_rule, IsChain};
 
 use clap::parser::ValueSource;
 use clap::{Arg, ArgAction, ArgMatches, Command};
 use std::alloc::{AllocError, Global};
 
-/// A command that knows `--help` and `--version`, which clap answers, and no letter: clap's own help flag has `-h`,
-/// a mode of `rpcgen`.
+/// A command that knows `--help` and `--version`, which clap answers, and no letter: clap's own help flag has
+/// `-h`, a mode of `rpcgen`.
 pub fn plain_command<'a>(alloc: Global, name: &'a str) -> Result<Command<'a>, AllocError>
     ensures app { IfOk result (λ c. app_of c ≡ plain_app name.now) }
     ensures chain { IfOk result (IsChain request_ids) }

@@ -13,8 +13,9 @@ use std::alloc::Global;
 use x_session::{Session, Which};
 use x_text::Sink;
 
-/// Opens the text of a file for a run of `rpcgen`, or tells what is wrong with it and answers the status: `Faulty` where the
-/// text has faults, which are written one a line, and `Failed` where it is too large or memory runs out.
+/// Opens the text of a file for a run of `rpcgen`, or tells what is wrong with it and answers the status:
+/// `Faulty` where the text has faults, which are written one a line, and `Failed` where it is too large or
+/// memory runs out.
 pub fn gen_open<E: Sink>(
     alloc: Global,
     file: &str,
