@@ -32,8 +32,8 @@ impl<K> Model for Items<K> {
 }
 
 impl<K: Drop> Items<K> {
-    /// The items with these entries.
-    pub(crate) fn from_entries(alloc: Global, entries: Vec<Entry<K>>) -> Result<Items<K>, NoMemory>
+    /// The items with these entries, with the seat behind the last of them. [`NoMemory`] where memory ran out.
+    pub fn from_entries(alloc: Global, entries: Vec<Entry<K>>) -> Result<Items<K>, NoMemory>
         requires of_text { AreOfText (counts entries.items) }
         ensures list { IfOk result (λ items. items.list ≡ entries.items) }
         ensures seat { IfOk result (λ items. items.seat ≡ length entries.items) }
