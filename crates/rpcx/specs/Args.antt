@@ -192,4 +192,4 @@ only_of all = None
 abbrev pub MindsFirst : App → Type 0
 MindsFirst app = (name : Text) (rest : List Text)
     → (fault_of app (name ∷ codes "--help" ∷ rest) ≡ DisplayHelp ∷ [])
-        × (fault_of app (name ∷ codes "--version" ∷ rest) ≡ DisplayVersion ∷ [])
+    × (fault_of app (name ∷ codes "--version" ∷ rest) ≡ DisplayVersion ∷ [])

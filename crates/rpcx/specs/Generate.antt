@@ -67,7 +67,7 @@ pub record IsOpened (program file bytes : List ℕ) (before after : Stream) (res
   pub clean : OnOk result (Compiles bytes (λ items. faults_of bytes items ≡ []))
   pub faulty : IsErrOf result Faulty
       → Compiles bytes (λ items. (0 < length (faults_of bytes items))
-          × IsTold before after (told_faults file (faults_of bytes items)))
+      × IsTold before after (told_faults file (faults_of bytes items)))
   pub too_large : MAX_TEXT < length bytes → IsErrOf result Failed
   pub failed : IsErrOf result Failed → NotOpened program file bytes before after
   pub others : IfErr result (λ status. (status ≡ Faulty) ⊎ (status ≡ Failed))

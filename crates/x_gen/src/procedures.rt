@@ -114,7 +114,7 @@ pub fn add_procedures<P: ProcedurePiece>(
 ) -> Result<(), NoMemory>
     ensures { OnOk result (text.new.items ≡ text.old.items
         ++ flat_map (by_names (P.piece piece.now) (view_version version.now))
-            (view_version version.now).procedures) }
+        (view_version version.now).procedures) }
 {
     for procedure in &version.procedures {
         let call = Call::of(alloc, version, procedure)?;

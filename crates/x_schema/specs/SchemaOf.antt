@@ -1,6 +1,6 @@
 -- What the types of a text are: the form of each type that an item declares, as RFC 4506, section 4, gives it to the words of the item.
 -- They are told of any text. What is a fault counts as something: a name that is no type is `void`, a number that is not known is none.
-use Rattle.std.specs.Prelude.{◌≡◌, ℕ, ◌-◌, ◌^◌, ℤ, pos, negsuc, nat_lt, nat_eq, Bool, true, false, is_some, List, [], ◌∷◌, ◌++◌, map, Option, Some, None, option_and_then, codes, if◌then◌else◌}
+use Rattle.std.specs.Prelude.{◌≡◌, ℕ, ◌-◌, ◌^◌, ℤ, pos, negsuc, nat_lt, nat_eq, Bool, is_some, List, [], ◌∷◌, ◌++◌, map, Option, Some, None, option_and_then, codes, if◌then◌else◌}
 use Rattle.std.specs.Map.{lookup}
 use Rattle.std.specs.Option.{option_map_or}
 use Rattle.std.specs.Str.{bytes_eq}

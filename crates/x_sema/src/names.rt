@@ -142,7 +142,7 @@ fn add<'d>(
     ensures { OnOk result (IsShort (view_definition definition.now)
         → (name : List ℕ) → entry_in table.new.entries name
         ≡ option_or (place_of_name item 0 name (declared (view_definition definition.now)))
-            (entry_in table.old.entries name)) }
+        (entry_in table.old.entries name)) }
 {
     declares_into(alloc, left, definition)?;
     while let Some(declared) = left.pop() {

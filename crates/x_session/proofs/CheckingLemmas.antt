@@ -1,8 +1,7 @@
 -- Results of items, by what was found of the items before them.
-use Rattle.std.proofs.Common.{◌≡◌, ℕ, zero, suc, ◌+◌, ◌<◌, false, cond, List, [], ◌∷◌, ◌++◌, length, map, arith, take, drop, get_or, ◌≤◌, Option, None, Some, refl, sym, ap, subst, ◌∙◌, append-nil}
+use Rattle.std.proofs.Common.{◌≡◌, ℕ, suc, ◌+◌, ◌<◌, false, cond, List, [], ◌∷◌, ◌++◌, length, map, arith, take, drop, get_or, ◌≤◌, Option, None, Some, refl, sym, ap, subst, ◌∙◌, append-nil}
 use Rattle.std.specs.Cow.{cow_slice_items}
-use Rattle.std.specs.Prelude.{All}
-use Rattle.std.proofs.lemmas.List.{take_all, map-append, length_push}
+use Rattle.std.proofs.lemmas.List.{take_all, length_push}
 use Rattle.x_text.specs.Counts.{Counts}
 use Rattle.x_item.specs.Tree.{Definition}
 use Rattle.x_item.specs.Names.{Declared}
@@ -21,40 +20,12 @@ use Rattle.x_sema.proofs.HasResults.{stays_result, agree_front}
 use Rattle.x_text.proofs.ListLemmas.{drop_one, get_at, take_next}
 use Rattle.x_sema.proofs.OutlineLemmas.{map_map}
 use Rattle.x_sema.proofs.ResultLaws.{AgreeBefore}
-use Rattle.x_session.specs.ItemView.{kept_definition}
-use Rattle.x_session.specs.declared.compile.item.Item.{Item}
 use Rattle.x_text.proofs.Listing.{mapped_one}
-use Rattle.x_session.specs.Checking.{with_number, IsShortAt, counted, view_by_first}
-
--- ---- results by numbers
-
--- one outcome more changes nothing for the numbers of those that stand
-number_stays : (os : List Outcome) (o : Outcome) (n : ℕ) → n ≤ length os → with_number (os ++ o ∷ []) n ≡ with_number os n
-number_stays os o zero few = refl
-number_stays [] o (suc n) few = absurd (omega (arith, few))
-number_stays (x ∷ os) o (suc zero) few = refl
-number_stays (x ∷ os) o (suc (suc n)) few = number_stays os o (suc n) (omega (arith, few))
-
-numbers_stay : (os : List Outcome) (o : Outcome) (ns : List ℕ) → All (λ n. n ≤ length os) ns → map (with_number (os ++ o ∷ [])) ns ≡ map (with_number os) ns
-numbers_stay os o [] few = refl
-numbers_stay os o (n ∷ ns) few = λ i. number_stays os o n (few 0 n (omega arith)) i ∷ numbers_stay os o ns (λ k d lt. few (suc k) d (omega (arith, lt))) i
-
-last_number : (os : List Outcome) (o : Outcome) → with_number (os ++ o ∷ []) (suc (length os)) ≡ Some o
-last_number [] o = refl
-last_number (x ∷ os) o = last_number os o
-
--- an item joins, by the number of its outcome
-pub number_joins : (os : List Outcome) (ns ms : List ℕ) (n : ℕ) (rs : List (Option Outcome)) (r : Option Outcome)
-    → map (with_number os) ns ≡ rs → ms ≡ ns ++ n ∷ [] → with_number os n ≡ r → map (with_number os) ms ≡ rs ++ r ∷ []
-number_joins os ns ms n rs r now more is = ap (map (with_number os)) more ∙ map-append (with_number os) ns (n ∷ []) ∙ λ i. now i ++ is i ∷ []
-
--- an outcome and its item join
-pub outcome_joins : (os new : List Outcome) (o : Outcome) (ns ms : List ℕ) (n : ℕ) (rs : List (Option Outcome)) → All (λ n. n ≤ length os) ns
-    → map (with_number os) ns ≡ rs → new ≡ os ++ o ∷ [] → ms ≡ ns ++ n ∷ [] → n ≡ length new → map (with_number new) ms ≡ rs ++ Some o ∷ []
-outcome_joins os new o ns ms n rs few now grown more last =
-    let place : n ≡ suc (length os) = last ∙ ap length grown ∙ length_push os o ∙ omega arith in
-    ap (λ l. map (with_number l) ms) grown
-    ∙ number_joins (os ++ o ∷ []) ns ms n rs (Some o) (numbers_stay os o ns few ∙ now) more (ap (with_number (os ++ o ∷ [])) place ∙ last_number os o)
+use Rattle.std.specs.Global.{Box}
+use Rattle.std.specs.Prelude.{slice_get}
+use Rattle.x_session.specs.Checking.{AreRendered, IsShortAt, counted, sound_pieces, view_by_first}
+use Rattle.x_session.specs.KeptView.{found_pieces, found_result}
+use Rattle.x_session.specs.declared.compile.kept.Found.{Found}
 
 -- ---- one item more
 
@@ -117,37 +88,59 @@ some_result definitions find results item d kept views o same short first are is
 
 -- ---- all items
 
-pub short_here : (items : List Item) (index : ℕ) (item : Item) → index < length items → item ≡ get_or items index item → AreShort (map kept_definition items) → IsShortAt (kept_definition item)
-short_here items index item lt is short d same =
-    short index d (get_at (map kept_definition items) index (kept_definition item) (drop (suc index) (map kept_definition items)) (mapped_one kept_definition items index item lt is) ∙ ap Some same)
+-- the definition at an index
+here : {X : Type 0} (f : X → Option Definition) (xs : List X) (index : ℕ) (x : X) → index < length xs → x ≡ get_or xs index x → slice_get (map f xs) index ≡ Some (f x)
+here f xs index x lt is = get_at (map f xs) index (f x) (drop (suc index) (map f xs)) (mapped_one f xs index x lt is)
 
-pub many_more : (index : ℕ) (rs new : List (Option Outcome)) (r : Option Outcome) → new ≡ rs ++ r ∷ [] → index ≡ length rs → index + 1 ≡ length new
+pub short_here : {X : Type 0} (f : X → Option Definition) (xs : List X) (index : ℕ) (x : X) → index < length xs → x ≡ get_or xs index x → AreShort (map f xs) → IsShortAt (f x)
+short_here f xs index x lt is short d same = short index d (here f xs index x lt is ∙ ap Some same)
+
+pub many_more : {R : Type 0} (index : ℕ) (rs new : List R) (r : R) → new ≡ rs ++ r ∷ [] → index ≡ length rs → index + 1 ≡ length new
 many_more index rs new r pushed many =
     let more = ap length pushed ∙ length_push rs r in
     omega (arith, many, more)
 
-pub results_next : (items : List Item) (index : ℕ) (item : Item) (rs new : List (Option Outcome)) (r : Option Outcome)
-    → index < length items → item ≡ get_or items index item → new ≡ rs ++ r ∷ [] → index ≡ length rs
-    → AreResultsFrom (map kept_definition items) (result_at rs) 0 (take index (map kept_definition items)) rs
-    → IsResult (map kept_definition items) (result_at rs) (length rs) (kept_definition item) r
-    → AreResultsFrom (map kept_definition items) (result_at new) 0 (take (index + 1) (map kept_definition items)) new
-results_next items index item rs new r lt at pushed many are is =
-    let ds = map kept_definition items in
+pub results_next : {X : Type 0} (f : X → Option Definition) (xs : List X) (index : ℕ) (x : X) (rs new : List (Option Outcome)) (r : Option Outcome)
+    → index < length xs → x ≡ get_or xs index x → new ≡ rs ++ r ∷ [] → index ≡ length rs
+    → AreResultsFrom (map f xs) (result_at rs) 0 (take index (map f xs)) rs
+    → IsResult (map f xs) (result_at rs) (length rs) (f x) r
+    → AreResultsFrom (map f xs) (result_at new) 0 (take (index + 1) (map f xs)) new
+results_next f xs index x rs new r lt at pushed many are is =
+    let ds = map f xs in
     let next : suc index ≡ index + 1 = omega arith in
-    let front : take (index + 1) ds ≡ take index ds ++ kept_definition item ∷ [] =
-    sym (ap (λ n. take n ds) next) ∙ take_next ds index (kept_definition item) (drop (suc index) ds) (mapped_one kept_definition items index item lt at) in
+    let front : take (index + 1) ds ≡ take index ds ++ f x ∷ [] =
+    sym (ap (λ n. take n ds) next) ∙ take_next ds index (f x) (drop (suc index) ds) (mapped_one f xs index x lt at) in
     subst (λ os. AreResultsFrom ds (result_at os) 0 (take (index + 1) ds) os) (sym pushed)
     (subst (λ l. AreResultsFrom ds (result_at (rs ++ r ∷ [])) 0 l (rs ++ r ∷ [])) (sym front)
-    (results_more ds (take index ds) rs (length rs) (kept_definition item) r refl are is))
+    (results_more ds (take index ds) rs (length rs) (f x) r refl are is))
 
 counted_on : (counts : Counts) (d : Option Definition) (ds : List (Option Definition)) → counted counts (d ∷ ds) ≡ counted (counted counts (d ∷ [])) ds
 counted_on counts None ds = refl
 counted_on counts (Some d) ds = refl
 
 -- one item more is counted
-pub counted_more : (before after all : Counts) (items : List Item) (index : ℕ) (item : Item) → index < length items → item ≡ get_or items index item → after ≡ counted before (kept_definition item ∷ [])
-    → counted before (map kept_definition (drop index items)) ≡ all → counted after (map kept_definition (drop (index + 1) items)) ≡ all
-counted_more before after all items index item lt at step so =
-    let here = drop_one items index item lt ∙ ap (λ i. i ∷ drop (index + 1) items) (sym at) in
-    ap (λ c. counted c (map kept_definition (drop (index + 1) items))) step ∙ sym (counted_on before (kept_definition item) (map kept_definition (drop (index + 1) items)))
-    ∙ sym (ap (λ is. counted before (map kept_definition is)) here) ∙ so
+pub counted_more : {X : Type 0} (f : X → Option Definition) (before after all : Counts) (xs : List X) (index : ℕ) (x : X) → index < length xs → x ≡ get_or xs index x → after ≡ counted before (f x ∷ [])
+    → counted before (map f (drop index xs)) ≡ all → counted after (map f (drop (index + 1) xs)) ≡ all
+counted_more f before after all xs index x lt at step so =
+    let front = drop_one xs index x lt ∙ ap (λ i. i ∷ drop (index + 1) xs) (sym at) in
+    ap (λ c. counted c (map f (drop (index + 1) xs))) step ∙ sym (counted_on before (f x) (map f (drop (index + 1) xs)))
+    ∙ sym (ap (λ is. counted before (map f is)) front) ∙ so
+
+-- what is generated of one item more
+pub rendered_push : (ds : List (Option Definition)) (rs : List (Option (Box Found))) (d : Option Definition) (r : Option (Box Found))
+    → AreRendered ds rs → found_pieces r ≡ sound_pieces d (found_result r) → AreRendered (ds ++ d ∷ []) (rs ++ r ∷ [])
+rendered_push [] [] d r are is = (is, tt)
+rendered_push [] (x ∷ rs) d r are is = absurd are
+rendered_push (y ∷ ds) [] d r are is = absurd are
+rendered_push (y ∷ ds) (x ∷ rs) d r are is = (are.0, rendered_push ds rs d r are.1 is)
+
+pub rendered_next : {X : Type 0} (f : X → Option Definition) (xs : List X) (index : ℕ) (x : X) (rs new : List (Option (Box Found))) (r : Option (Box Found))
+    → index < length xs → x ≡ get_or xs index x → new ≡ rs ++ r ∷ [] → AreRendered (take index (map f xs)) rs → found_pieces r ≡ sound_pieces (f x) (found_result r)
+    → AreRendered (take (index + 1) (map f xs)) new
+rendered_next f xs index x rs new r lt at pushed are is =
+    let ds = map f xs in
+    let next : suc index ≡ index + 1 = omega arith in
+    let front : take (index + 1) ds ≡ take index ds ++ f x ∷ [] =
+    sym (ap (λ n. take n ds) next) ∙ take_next ds index (f x) (drop (suc index) ds) (mapped_one f xs index x lt at) in
+    subst (λ os. AreRendered (take (index + 1) ds) os) (sym pushed)
+    (subst (λ l. AreRendered l (rs ++ r ∷ [])) (sym front) (rendered_push (take index ds) rs (f x) r are is))

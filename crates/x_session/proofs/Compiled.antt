@@ -1,113 +1,81 @@
 -- What compiling gives, by what the program keeps of it.
-use Rattle.std.proofs.Common.{◌≡◌, ℕ, true, suc, ◌+◌, List, [], ◌∷◌, map, length, take, drop, Option, None, Some, arith, refl, sym, ap, subst, ◌∙◌}
-use Rattle.std.specs.Prelude.{slice_get, option_map, option_and_then}
-use Rattle.std.proofs.lemmas.List.{length-map}
-use Rattle.std.proofs.lemmas.Option.{slice_get-map}
+use Rattle.std.proofs.Common.{◌≡◌, ℕ, true, suc, ◌+◌, List, [], ◌∷◌, map, length, take, drop, refl, sym, ap, subst, ◌∙◌}
+use Rattle.std.specs.Prelude.{slice_get, option_and_then}
 use Rattle.x_lex.specs.declared.kind.Kind.{Kind}
 use Rattle.x_lex.specs.Places.{Lexeme, lexemes_from, lexemes}
 use Rattle.x_lex.specs.Tiling.{AreTokens}
 use Rattle.x_lex.proofs.TilingLemmas.{same_tiles}
-use Rattle.x_item.specs.Tree.{Definition}
-use Rattle.x_item.specs.Parse.{Parse, IsParse}
+use Rattle.x_item.specs.Parse.{IsParse}
 use Rattle.x_item.specs.Items.{AreItems, joined, IsCut}
 use Rattle.x_item.proofs.ParseLaws.{one_parse}
 use Rattle.x_item.proofs.CuttingLemmas.{same_cut}
-use Rattle.x_sema.specs.Results.{Outcome, AreResultsFrom, AreResults, result_at}
-use Rattle.x_text.proofs.ListLemmas.{get_at, drop_next}
+use Rattle.x_sema.specs.Results.{AreResults}
 use Rattle.x_sema.proofs.ResultLaws.{one_results}
-use Rattle.x_session.specs.ItemView.{AreEach, AreParsed, view_item, view_parse, kept_definition}
+use Rattle.x_item.specs.declared.cutting.entry.Entry.{Entry}
+use Rattle.x_session.specs.KeptView.{AreEach, AreParsed, entry_definitions, entry_results, found_result, items_with}
+use Rattle.x_session.specs.KeptView.{kept_definition, kept_found, kept_parse}
 use Rattle.x_session.proofs.ItemLemmas.{take_part, drop_part}
-use Rattle.x_session.specs.Compile.{Item, parts, parsed_definition, definitions_of, definition_at, tokens_of, IsCompilation, AreParses}
+use Rattle.x_session.specs.Compile.{Item, parsed_definition, definitions_of, definition_at, tokens_of, IsCompilation, AreParses}
 use Rattle.x_session.specs.SessionState.{items_of}
-use Rattle.x_session.specs.declared.compile.item.Item as rust
+use Rattle.x_session.specs.declared.compile.kept.Kept.{Kept}
 
 pub length-lexemes : (text : List ℕ) (at : ℕ) (ts : List (Kind × ℕ)) → length (lexemes_from text at ts) ≡ length ts
 length-lexemes text at [] = refl
 length-lexemes text at (t ∷ ts) = ap suc (length-lexemes text (at + t.1) ts)
 
-pub length-parts : (results : ℕ → Option Outcome) (n : ℕ) (tokens : List Lexeme) (ks : List (ℕ × Parse)) → length (parts results n tokens ks) ≡ length ks
-length-parts results n tokens [] = refl
-length-parts results n tokens (k ∷ ks) = ap suc (length-parts results (suc n) (drop k.0 tokens) ks)
+pub length-items : (tokens : List Lexeme) (entries : List (Entry Kept)) → length (items_with tokens entries) ≡ length entries
+length-items tokens [] = refl
+length-items tokens (e ∷ es) = ap suc (length-items (drop e.tokens tokens) es)
 
-pub definitions-parts : (results : ℕ → Option Outcome) (n : ℕ) (tokens : List Lexeme) (items : List rust.Item) → definitions_of (parts results n tokens (map view_item items)) ≡ map kept_definition items
-definitions-parts results n tokens [] = refl
-definitions-parts results n tokens (i ∷ is) = ap (λ ds. kept_definition i ∷ ds) (definitions-parts results (suc n) (drop i.tokens tokens) is)
+pub definitions-items : (tokens : List Lexeme) (entries : List (Entry Kept)) → definitions_of (items_with tokens entries) ≡ entry_definitions entries
+definitions-items tokens [] = refl
+definitions-items tokens (e ∷ es) = ap (λ ds. kept_definition e.kept ∷ ds) (definitions-items (drop e.tokens tokens) es)
 
--- the results are those that are read
-results-parts : (rs : List (Option Outcome)) (n : ℕ) (tokens : List Lexeme) (ks : List (ℕ × Parse)) (os : List (Option Outcome)) → drop n rs ≡ os → length ks ≡ length os
-    → map (λ i. i.result) (parts (result_at rs) n tokens ks) ≡ os
-results-parts rs n tokens [] [] is many = refl
-results-parts rs n tokens [] (o ∷ os) is many = absurd (cc)
-results-parts rs n tokens (k ∷ ks) [] is many = absurd (cc)
-results-parts rs n tokens (k ∷ ks) (o ∷ os) is many =
-    let fewer : length ks ≡ length os = cc in
-    let first : result_at rs n ≡ o = ap (option_and_then (λ x. x)) (get_at rs n o os is) in
-    let others = results-parts rs (suc n) (drop k.0 tokens) ks os (drop_next rs n o os is) fewer in
-    λ i. first i ∷ others i
+-- the results are those that are kept
+pub results-items : (tokens : List Lexeme) (entries : List (Entry Kept)) → map (λ i. i.result) (items_with tokens entries) ≡ entry_results entries
+results-items tokens [] = refl
+results-items tokens (e ∷ es) = ap (λ os. found_result (kept_found e.kept) ∷ os) (results-items (drop e.tokens tokens) es)
 
 pub tokens_are : (text : List ℕ) (tokens : List (Kind × ℕ)) (items : List Item) → IsCompilation text tokens items → tokens_of items ≡ lexemes text tokens
 tokens_are text tokens items h = h.are_items.all
 
 -- a definition by its index
-pub definition_found : (results : ℕ → Option Outcome) (tokens : List Lexeme) (items : List rust.Item) (index : ℕ)
-    → option_and_then kept_definition (slice_get items index) ≡ definition_at (parts results 0 tokens (map view_item items)) index
-definition_found results tokens items index =
-    by (slice_get items index) ∙ sym (ap (option_and_then (λ d. d)) (slice_get-map kept_definition items index))
-    ∙ sym (ap (λ ds. option_and_then (λ d. d) (slice_get ds index)) (definitions-parts results 0 tokens items))
-  where
-    by : (o : Option rust.Item) → option_and_then kept_definition o ≡ option_and_then (λ d. d) (option_map kept_definition o)
-    by None = refl
-    by (Some i) = refl
+pub definition_found : (tokens : List Lexeme) (entries : List (Entry Kept)) (index : ℕ)
+    → option_and_then (λ d. d) (slice_get (entry_definitions entries) index) ≡ definition_at (items_with tokens entries) index
+definition_found tokens entries index = ap (λ ds. option_and_then (λ d. d) (slice_get ds index)) (sym (definitions-items tokens entries))
 
 -- the items by their numbers of tokens are those that were cut
-parts_are : (results : ℕ → Option Outcome) (n : ℕ) (ps : List (List Lexeme)) (items : List rust.Item) (tokens : List Lexeme) → joined ps ≡ tokens → AreEach ps items
-    → map (λ i. i.tokens) (parts results n tokens (map view_item items)) ≡ ps
-parts_are results n [] [] tokens e each = refl
-parts_are results n [] (i ∷ is) tokens e each = absurd each
-parts_are results n (p ∷ ps) [] tokens e each = absurd each
-parts_are results n (p ∷ ps) (i ∷ is) tokens e each =
+parts_are : (ps : List (List Lexeme)) (entries : List (Entry Kept)) (tokens : List Lexeme) → joined ps ≡ tokens → AreEach ps entries
+    → map (λ i. i.tokens) (items_with tokens entries) ≡ ps
+parts_are [] [] tokens e each = refl
+parts_are [] (i ∷ is) tokens e each = absurd each
+parts_are (p ∷ ps) [] tokens e each = absurd each
+parts_are (p ∷ ps) (i ∷ is) tokens e each =
     let first : take i.tokens tokens ≡ p = ap (take i.tokens) (sym e) ∙ take_part p (joined ps) i.tokens each.0.count in
     let rest : drop i.tokens tokens ≡ joined ps = ap (drop i.tokens) (sym e) ∙ drop_part p (joined ps) i.tokens each.0.count in
-    let others = parts_are results (suc n) ps is (drop i.tokens tokens) (sym rest) each.1 in
+    let others = parts_are ps is (drop i.tokens tokens) (sym rest) each.1 in
     λ k. first k ∷ others k
 
-parses_are : (results : ℕ → Option Outcome) (n : ℕ) (ps : List (List Lexeme)) (items : List rust.Item) (tokens : List Lexeme) → joined ps ≡ tokens → AreEach ps items
-    → AreParses (parts results n tokens (map view_item items))
-parses_are results n [] [] tokens e each = tt
-parses_are results n [] (i ∷ is) tokens e each = absurd each
-parses_are results n (p ∷ ps) [] tokens e each = absurd each
-parses_are results n (p ∷ ps) (i ∷ is) tokens e each =
+parses_are : (ps : List (List Lexeme)) (entries : List (Entry Kept)) (tokens : List Lexeme) → joined ps ≡ tokens → AreEach ps entries
+    → AreParses (items_with tokens entries)
+parses_are [] [] tokens e each = tt
+parses_are [] (i ∷ is) tokens e each = absurd each
+parses_are (p ∷ ps) [] tokens e each = absurd each
+parses_are (p ∷ ps) (i ∷ is) tokens e each =
     let first : take i.tokens tokens ≡ p = ap (take i.tokens) (sym e) ∙ take_part p (joined ps) i.tokens each.0.count in
     let rest : drop i.tokens tokens ≡ joined ps = ap (drop i.tokens) (sym e) ∙ drop_part p (joined ps) i.tokens each.0.count in
-    (subst (λ part. IsParse part (view_parse i.parse)) (sym first) each.0.parsed, parses_are results (suc n) ps is (drop i.tokens tokens) (sym rest) each.1)
+    (subst (λ part. IsParse part (kept_parse i.kept)) (sym first) each.0.parsed, parses_are ps is (drop i.tokens tokens) (sym rest) each.1)
 
--- as many results as definitions
-many_results : (definitions : List (Option Definition)) (results : ℕ → Option Outcome) (n : ℕ) (ds : List (Option Definition)) (os : List (Option Outcome))
-    → AreResultsFrom definitions results n ds os → length ds ≡ length os
-many_results definitions results n [] [] are = refl
-many_results definitions results n [] (o ∷ os) are = absurd are
-many_results definitions results n (d ∷ ds) [] are = absurd are
-many_results definitions results n (d ∷ ds) (o ∷ os) are = ap suc (many_results definitions results (suc n) ds os are.1)
-
-results_are : (tokens : List Lexeme) (items : List rust.Item) (rs : List (Option Outcome)) → AreResults (map kept_definition items) rs
-    → AreResults (definitions_of (parts (result_at rs) 0 tokens (map view_item items))) (map (λ i. i.result) (parts (result_at rs) 0 tokens (map view_item items)))
-results_are tokens items rs are =
-    let definitions = definitions-parts (result_at rs) 0 tokens items in
-    let many = many_results (map kept_definition items) (result_at rs) 0 (map kept_definition items) rs are in
-    let viewed = length-map items view_item in
-    let kept = length-map items kept_definition in
-    let results = results-parts rs 0 tokens (map view_item items) rs refl (omega (arith, many, viewed, kept)) in
-    subst (λ os. AreResults (definitions_of (parts (result_at rs) 0 tokens (map view_item items))) os) (sym results) (subst (λ ds. AreResults ds rs) (sym definitions) are)
-
-pub compiles : (text : List ℕ) (tokens : List (Kind × ℕ)) (items : List rust.Item) (rs : List (Option Outcome)) → AreTokens text tokens → AreParsed (lexemes text tokens) items
-    → AreResults (map kept_definition items) rs → IsCompilation text tokens (items_of text tokens items rs)
-compiles text tokens items rs are cut results =
+pub compiles : (text : List ℕ) (tokens : List (Kind × ℕ)) (entries : List (Entry Kept)) → AreTokens text tokens → AreParsed (lexemes text tokens) entries
+    → AreResults (entry_definitions entries) (entry_results entries) → IsCompilation text tokens (items_of text tokens entries)
+compiles text tokens entries are cut results =
     let all = lexemes text tokens in
     record {
       are_tokens = are;
-      are_items = subst (λ ps. AreItems all ps) (sym (parts_are (result_at rs) 0 cut.parts items all cut.are.all cut.each)) cut.are;
-      are_parses = parses_are (result_at rs) 0 cut.parts items all cut.are.all cut.each;
-      are_results = results_are all items rs results;
+      are_items = subst (λ ps. AreItems all ps) (sym (parts_are cut.parts entries all cut.are.all cut.each)) cut.are;
+      are_parses = parses_are cut.parts entries all cut.are.all cut.each;
+      are_results = subst (λ os. AreResults (definitions_of (items_with all entries)) os) (sym (results-items all entries))
+          (subst (λ ds. AreResults ds (entry_results entries)) (sym (definitions-items all entries)) results);
     }
 
 -- lists of as many elements each, joined to one list, are the same

@@ -1,5 +1,5 @@
 -- Items that are parsed one after another.
-use Rattle.std.proofs.Common.{◌≡◌, ℕ, zero, suc, ◌+◌, ◌<◌, ◌≤◌, inl, inr, Bool, true, false, List, [], ◌∷◌, ◌++◌, length, map, take, drop, filter, Some, lit<, ◌^◌, refl, ap, sym, ◌∙◌, subst, append_assoc, arith}
+use Rattle.std.proofs.Common.{◌≡◌, ℕ, zero, suc, ◌+◌, ◌<◌, ◌≤◌, inl, inr, Bool, true, false, List, [], ◌∷◌, ◌++◌, length, take, drop, filter, Some, lit<, ◌^◌, refl, ap, sym, ◌∙◌, subst, append_assoc, arith}
 use Rattle.std.specs.Prelude.{slice_get}
 use Rattle.std.proofs.lemmas.List.{length_push, length-append, length-map}
 use Rattle.std.proofs.lemmas.List.Sums.{length-filter, count_by-le-length}
@@ -17,10 +17,12 @@ use Rattle.x_item.specs.declared.parsing.fault_code.FaultCode.{FaultCode}
 use Rattle.x_item.proofs.ItemListLemmas.{joined_push, whole_push}
 use Rattle.x_sema.specs.Declarers.{AreShort}
 use Rattle.x_session.specs.Compile.{parsed_definition}
-use Rattle.x_session.specs.ItemView.{IsItem, view_parse, kept_definition, has_lines, AreEach, AreMarked, AreParsed}
-use Rattle.x_session.specs.declared.compile.item.Item.{Item}
+use Rattle.x_item.specs.ItemList.{AreOfText, counts, total}
+use Rattle.x_item.specs.declared.cutting.entry.Entry.{Entry}
+use Rattle.x_session.specs.KeptView.{IsItem, kept_parse, kept_definition, entry_definitions, AreEach, AreParsed}
+use Rattle.x_session.specs.declared.compile.kept.Kept.{Kept}
 
-each_push : (parts : List (List Lexeme)) (items : List Item) (part : List Lexeme) (item : Item) → AreEach parts items → IsItem part item → AreEach (parts ++ part ∷ []) (items ++ item ∷ [])
+each_push : (parts : List (List Lexeme)) (items : List (Entry Kept)) (part : List Lexeme) (item : Entry Kept) → AreEach parts items → IsItem part item → AreEach (parts ++ part ∷ []) (items ++ item ∷ [])
 each_push [] [] part item each this = (this, tt)
 each_push [] (x ∷ items) part item each this = absurd each
 each_push (p ∷ parts) [] part item each this = absurd each
@@ -33,14 +35,14 @@ pub drop_part : (part rest : List Lexeme) (n : ℕ) → n ≡ length part → dr
 drop_part part rest n e = ap (λ k. drop k (part ++ rest)) e ∙ drop-append_seam part rest
 
 -- whole items of the first tokens are parsed, and those of `left` are not yet
-pub record AreParsedSoFar (all left : List Lexeme) (items : List Item) : Type 0 where
+pub record AreParsedSoFar (all left : List Lexeme) (items : List (Entry Kept)) : Type 0 where
   pub done : List (List Lexeme)
   pub split : joined done ++ left ≡ all
   pub whole : AreWhole done
   pub each : AreEach done items
 
 -- the same where items are left, and all are parsed where none is
-abbrev pub Parsing : Bool → List Lexeme → List Lexeme → List Item → Type 0
+abbrev pub Parsing : Bool → List Lexeme → List Lexeme → List (Entry Kept) → Type 0
 Parsing true all left items = AreParsedSoFar all left items
 Parsing false all left items = AreParsed all items
 
@@ -52,7 +54,7 @@ split_more done part left left' all is split =
     ap (λ l. l ++ left') (joined_push done part) ∙ append_assoc (joined done) part left' ∙ ap (λ l. joined done ++ l) (sym is) ∙ split
 
 -- one item more
-pub parsing_more : (whole : Bool) (all left part left' : List Lexeme) (items : List Item) (item : Item) → Parsing true all left items → IsNext whole left part left' → IsItem part item
+pub parsing_more : (whole : Bool) (all left part left' : List Lexeme) (items : List (Entry Kept)) (item : Entry Kept) → Parsing true all left items → IsNext whole left part left' → IsItem part item
     → Parsing whole all left' (items ++ item ∷ [])
 parsing_more true all left part left' items item h next this = record {
   done = h.done ++ part ∷ [];
@@ -95,7 +97,7 @@ fewer_steps true left part left' next =
     omega (arith, l, p)
 fewer_steps false left part left' next = omega arith
 
-same_many : (parts : List (List Lexeme)) (items : List Item) → AreEach parts items → length items ≡ length parts
+same_many : (parts : List (List Lexeme)) (items : List (Entry Kept)) → AreEach parts items → length items ≡ length parts
 same_many [] [] each = refl
 same_many [] (x ∷ items) each = absurd each
 same_many (p ∷ parts) [] each = absurd each
@@ -110,34 +112,40 @@ many_tokens (part ∷ whole) each =
     let h = many_tokens whole each.1 in
     omega (arith, p, l, h)
 
-marked_parts : (parts : List (List Lexeme)) (items : List Item) → AreEach parts items → AreMarked (joined parts) items
-marked_parts [] [] each = tt
-marked_parts [] (x ∷ items) each = absurd each
-marked_parts (p ∷ parts) [] each = tt
-marked_parts (p ∷ parts) (x ∷ items) each = (
-  each.0.lines ∙ ap has_lines (sym (take_part p (joined parts) x.tokens each.0.count)),
-  subst (λ w. AreMarked w items) (sym (drop_part p (joined parts) x.tokens each.0.count)) (marked_parts parts items each.1),
-)
-
--- the items say which of them have lines
-pub marked_items : (all : List Lexeme) (items : List Item) → AreParsed all items → AreMarked all items
-marked_items all items h = subst (λ w. AreMarked w items) h.are.all (marked_parts h.parts items h.each)
-
 -- there is an item
-pub some_items : (all : List Lexeme) (items : List Item) → AreParsed all items → 0 < length items
+pub some_items : (all : List Lexeme) (items : List (Entry Kept)) → AreParsed all items → 0 < length items
 some_items all items h =
     let same = same_many h.parts items h.each in
     let parts = ap length h.are.parts ∙ length_push h.are.whole h.are.last in
     omega (arith, same, parts)
 
 -- there is at most one item more than there are tokens
-pub few_items : (all : List Lexeme) (items : List Item) → AreParsed all items → length items ≤ length all + 1
+pub few_items : (all : List Lexeme) (items : List (Entry Kept)) → AreParsed all items → length items ≤ length all + 1
 few_items all items h =
     let same = same_many h.parts items h.each in
     let parts = ap length h.are.parts ∙ length_push h.are.whole h.are.last in
     let tokens = ap length (sym h.are.all) ∙ ap (λ ps. length (joined ps)) h.are.parts ∙ ap length (joined_push h.are.whole h.are.last) ∙ length-append (joined h.are.whole) h.are.last in
     let many = many_tokens h.are.whole h.are.each in
     omega (arith, same, parts, tokens, many)
+
+total_tokens : (parts : List (List Lexeme)) (items : List (Entry Kept)) → AreEach parts items → total (counts items) ≡ length (joined parts)
+total_tokens [] [] each = refl
+total_tokens [] (x ∷ items) each = absurd each
+total_tokens (p ∷ parts) [] each = absurd each
+total_tokens (p ∷ parts) (x ∷ items) each =
+    let first = each.0.count in
+    let others = total_tokens parts items each.1 in
+    let l = length-append p (joined parts) in
+    omega (arith, first, others, l)
+
+-- the items are no more than a text can have
+pub items_of_text : (all : List Lexeme) (items : List (Entry Kept)) → AreParsed all items → length all ≤ MAX_TEXT → AreOfText (counts items)
+items_of_text all items h short =
+    let same = length-map items (λ e. e.tokens) in
+    let some = some_items all items h in
+    let few = few_items all items h in
+    let tokens = total_tokens h.parts items h.each ∙ ap length h.are.all in
+    record { some = omega (arith, same, some); few = omega (arith, same, few, short); short = omega (arith, tokens, short) }
 
 -- a fault stands at a token of the item
 pub fault_within : (tokens : List Lexeme) (token : ℕ) (code : FaultCode) → IsParse tokens (Fault token code) → token ≤ length tokens
@@ -156,7 +164,7 @@ counted_on old new next (suc n) h is =
     let more : raised (raised old.parsed (suc n)) 1 ≡ raised old.parsed (suc (suc n)) = omega arith in
     is ∙ ap (λ (c : Counts). let d : Counts = record c { parsed = raised c.parsed 1 } in d) h ∙ ap (λ k. let d : Counts = record old { parsed = k } in d) more
 
-pub counted_push : (old new next : Counts) (items : List Item) (item : Item) → HasCounted old new (length items) → next ≡ record new { parsed = raised new.parsed 1 } → HasCounted old next (length (items ++ item ∷ []))
+pub counted_push : (old new next : Counts) (items : List (Entry Kept)) (item : Entry Kept) → HasCounted old new (length items) → next ≡ record new { parsed = raised new.parsed 1 } → HasCounted old next (length (items ++ item ∷ []))
 counted_push old new next items item h is = subst (HasCounted old next) (sym (length_push items item)) (let n : length items + 1 ≡ suc (length items) = omega arith in subst (HasCounted old next) (sym n) (counted_on old new next (length items) h is))
 
 pub counted_all : (old new : Counts) (n : ℕ) → 0 < n → HasCounted old new n → new ≡ record old { parsed = raised old.parsed n }
@@ -181,12 +189,12 @@ short_parse part (Def e) d parsed is =
     omega (arith, words, few)
 short_parse part (Fault token code) d parsed is = absurd (cc)
 
-short_each : (parts : List (List Lexeme)) (items : List Item) (index : ℕ) (d : Definition) → AreEach parts items → slice_get (map kept_definition items) index ≡ Some (Some d) → length (spell d) ≤ length (joined parts)
+short_each : (parts : List (List Lexeme)) (items : List (Entry Kept)) (index : ℕ) (d : Definition) → AreEach parts items → slice_get (entry_definitions items) index ≡ Some (Some d) → length (spell d) ≤ length (joined parts)
 short_each [] [] index d each is = absurd (cc)
 short_each [] (x ∷ items) index d each is = absurd each
 short_each (p ∷ parts) [] index d each is = absurd each
 short_each (p ∷ parts) (x ∷ items) zero d each is =
-    let here = short_parse p (view_parse x.parse) d each.0.parsed (same_Some (kept_definition x) (Some d) is) in
+    let here = short_parse p (kept_parse x.kept) d each.0.parsed (same_Some (kept_definition x.kept) (Some d) is) in
     let l = length-append p (joined parts) in
     omega (arith, here, l)
 short_each (p ∷ parts) (x ∷ items) (suc index) d each is =
@@ -198,7 +206,7 @@ most_words : MAX_TEXT < 2 ^ 64
 most_words = lit< tt
 
 -- no definition has as many words as a text may have bytes, and one more
-pub short_items : (all : List Lexeme) (items : List Item) → AreParsed all items → length all ≤ MAX_TEXT → AreShort (map kept_definition items)
+pub short_items : (all : List Lexeme) (items : List (Entry Kept)) → AreParsed all items → length all ≤ MAX_TEXT → AreShort (entry_definitions items)
 short_items all items h few index d is =
     let words = short_each h.parts items index d h.each is in
     let tokens = ap length h.are.all in

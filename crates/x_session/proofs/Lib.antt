@@ -4,12 +4,12 @@ pub mod Compiled
 pub mod DefinitionLemmas
 pub mod DumpLines
 pub mod EditLists
-pub mod GeneratedLemmas
+pub mod FaultLemmas
 pub mod ItemLemmas
+pub mod KeepingLemmas
+pub mod KeptLemmas
 pub mod LineLemmas
 pub mod Parting
-pub mod PlacingLemmas
-pub mod PlainLemmas
 pub mod QueueLemmas
 pub mod ReadingLemmas
 pub mod Running

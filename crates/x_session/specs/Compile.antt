@@ -1,5 +1,5 @@
 -- What compiling a text from scratch gives: its items, each with its tokens, what they parse to, and what checking it gives.
-use Rattle.std.specs.Prelude.{ℕ, suc, ◌-◌, ◌==◌, ◌&&◌, Bool, true, false, List, [], ◌∷◌, ◌++◌, map, take, drop, Option, Some, None, option_and_then, slice_get, if◌then◌else◌}
+use Rattle.std.specs.Prelude.{ℕ, suc, ◌-◌, ◌==◌, ◌&&◌, Bool, true, false, List, [], ◌∷◌, ◌++◌, map, Option, Some, None, option_and_then, slice_get, if◌then◌else◌}
 use Rattle.std.specs.Option.{option_map_or}
 use Rattle.x_text.specs.Text.{line_of, column_of}
 use Rattle.x_lex.specs.declared.kind.Kind.{Kind}
@@ -104,9 +104,3 @@ faults_from text index (i ∷ is) = item_faults text index i ++ faults_from text
 -- all faults of the text, by item, then by place, then by code
 abbrev pub faults_of : List ℕ → List Item → List rust.Fault.Fault
 faults_of text items = faults_from text 0 items
-
--- the items that have so many of the tokens each, in order, with these parses and results, of which the first has this number
-abbrev pub parts : (ℕ → Option Outcome) → ℕ → List Lexeme → List (ℕ × Parse) → List Item
-parts results index tokens [] = []
-parts results index tokens (k ∷ ks) =
-    record { tokens = take k.0 tokens; parse = k.1; result = results index } ∷ parts results (suc index) (drop k.0 tokens) ks

@@ -1,25 +1,22 @@
 -- What a session keeps beside its text.
-use Rattle.std.specs.Prelude.{◌≡◌, ◌≤◌, ◌+◌, ℕ, List, length, map, Option}
+use Rattle.std.specs.Prelude.{◌≡◌, ◌≤◌, ◌+◌, ℕ, List, length, map}
 use Rattle.x_text.specs.declared.source.TheConstants.{MAX_TEXT}
 use Rattle.x_lex.specs.declared.kind.Kind.{Kind}
 use Rattle.x_lex.specs.Places.{lexemes}
-use Rattle.x_sema.specs.Results.{Outcome, result_at}
-use Rattle.x_session.specs.ItemView.{view_item}
-use Rattle.x_session.specs.Compile as compile
-use Rattle.x_session.specs.Compile.{IsCompilation, parts, faults_of}
-use Rattle.x_gen.specs.Pieces.{Part}
+use Rattle.x_item.specs.declared.cutting.entry.Entry.{Entry}
+use Rattle.x_session.specs.Compile.{Item, IsCompilation, faults_of}
 use Rattle.x_session.specs.Generated.{part_of}
-use Rattle.x_session.specs.declared.compile.item.Item.{Item}
-use Rattle.x_session.specs.declared.compile.fault.Fault.{Fault}
+use Rattle.x_session.specs.KeptView.{items_with, kept_part}
+use Rattle.x_session.specs.declared.compile.kept.Kept.{Kept}
 
--- the items of a text by what the program keeps of them, with these results
-abbrev pub items_of : List ℕ → List (Kind × ℕ) → List Item → List (Option Outcome) → List compile.Item
-items_of text tokens items results = parts (result_at results) 0 (lexemes text tokens) (map view_item items)
+-- the items of a text by what the program keeps of them
+abbrev pub items_of : List ℕ → List (Kind × ℕ) → List (Entry Kept) → List Item
+items_of text tokens entries = items_with (lexemes text tokens) entries
 
--- All that is kept of a text is what compiling it from scratch gives. The results themselves are not kept.
-pub record IsCompiled (text : List ℕ) (tokens : List (Kind × ℕ)) (items : List Item) (faults : List Fault) (generated : List Part) : Type 0 where
-  pub results : List (Option Outcome)
-  pub compiles : IsCompilation text tokens (items_of text tokens items results)
-  pub faults_are : faults ≡ faults_of text (items_of text tokens items results)
-  pub generated_is : generated ≡ map part_of (items_of text tokens items results)
-  pub few : length generated ≤ MAX_TEXT + 1
+-- All that is kept of a text is what compiling it from scratch gives.
+pub record IsKept (text : List ℕ) (tokens : List (Kind × ℕ)) (entries : List (Entry Kept)) (faults : ℕ)
+    : Type 0 where
+  pub compiles : IsCompilation text tokens (items_of text tokens entries)
+  pub parts_are : map (λ e. kept_part e.kept) entries ≡ map part_of (items_of text tokens entries)
+  pub few : length (map (λ e. kept_part e.kept) entries) ≤ MAX_TEXT + 1
+  pub count_is : faults ≡ length (faults_of text (items_of text tokens entries))

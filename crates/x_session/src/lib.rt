@@ -12,7 +12,7 @@ pub use script::{
     Command, Found, Insert, LONGEST, LineFault, LineReader, add_place, dump_words, parse_command,
     run_script,
 };
-pub use session::{SchemaFault, Session, Work};
+pub use session::{Faults, SchemaFault, Session, Work};
 pub use x_gen::Which;
 pub use x_sema::{RuleCode, Schema, TypeId};
 pub use x_text::{EngineFault, Outcome};

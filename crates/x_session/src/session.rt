@@ -1,22 +1,25 @@
 //! A text that stays open, with all that compiling it gives.
 
-ghost use Rattle.std.specs.Prelude.{◌≡◌, ◌↔◌, ◌<◌, ◌≤◌, ℕ, List, Option, length, map, option_map, option_and_then, slice_get, IfOk, OnOk, OnErr, IfErr, IsErrOf, IsTrue, Some, None};
-ghost use Rattle.x_text.specs.Counts.{raised};
+ghost use Rattle.std.specs.Prelude.{◌≡◌, ◌↔◌, ◌<◌, length, option_map, slice_get, IfOk};
+ghost use Rattle.std.specs.Prelude.{OnOk, OnErr, IfErr, IsErrOf};
 ghost use Rattle.x_text.specs.Edits.{change_of, edited_by, Judges};
 ghost use Rattle.x_text.specs.declared.source.TheConstants.{MAX_TEXT};
 ghost use Rattle.x_lex.specs.Places.{lexeme};
 ghost use Rattle.x_schema.specs.Definitions.{tree_at};
 ghost use Rattle.x_session.specs.Session.{Document, Compiles, edited_by_all, TakesAll, StopsAt};
 ghost use Rattle.x_session.specs.Compile.{tokens_of, definitions_of, definition_at, faults_of};
-ghost use Rattle.x_session.specs.ItemView.{kept_definition};
 ghost use Rattle.x_session.specs.Definitions.{numbered};
 ghost use Rattle.x_session.specs.Typed.{GivesSchema};
 
+mod faults;
+mod item_faults;
+mod reader;
 mod schema_fault;
 mod texts;
 mod work;
 
-use crate::compile::{Compilation, Fault, Generated, Item, compile, schema_of};
+use crate::compile::{Compilation, Fault, ItemTable, compile};
+pub use faults::Faults;
 pub use schema_fault::SchemaFault;
 use std::alloc::Global;
 use std::marker::Model;
@@ -33,24 +36,24 @@ pub struct Session {
     base: Vec<u8>,
     source: Source,
     tokens: Tokens,
-    items: Vec<Item>,
-    faults: Vec<Fault>,
-    generated: Generated,
+    items: ItemTable,
+    fault_count: usize,
 }
 
 impl Model for Session {
     ghost use Rattle.x_session.specs.Session.{Document};
-    ghost use Rattle.x_session.specs.SessionState.{IsCompiled};
+    ghost use Rattle.x_session.specs.SessionState.{IsKept};
 
     ghost Value = { Document };
 
     ghost view = { λ s. record { base = s.base.items; text = s.source } };
 
-    ghost invariant = { λ s. IsCompiled s.source s.tokens.list s.items.items s.faults.items s.generated };
+    ghost invariant = { λ s. IsKept s.source s.tokens.list s.items.entries.list s.fault_count };
 }
 
 impl Session {
-    /// Opens a text: [`TextFault::TooLarge`] or [`TextFault::NoMemory`]. `base` is the name that the generated texts use.
+    /// Opens a text: [`TextFault::TooLarge`] or [`TextFault::NoMemory`]. `base` is the name that the generated
+    /// texts use.
     pub fn open(alloc: Global, base: &[u8], bytes: &[u8]) -> Result<Session, TextFault>
         ensures base { IfOk result (λ s. s.base ≡ base.now) }
         ensures text { IfOk result (λ s. s.text ≡ bytes.now) }
@@ -74,7 +77,7 @@ impl Session {
         let Compilation {
             tokens,
             items,
-            output,
+            faults,
         } = compile(alloc, &source, &mut meter)?;
         Ok(Session {
             alloc,
@@ -82,12 +85,12 @@ impl Session {
             source,
             tokens,
             items,
-            faults: output.faults,
-            generated: output.generated,
+            fault_count: faults,
         })
     }
 
-    /// Carries an edit out, with the faults of [`Source::replace`], and answers what work it took. After a fault all is as before.
+    /// Carries an edit out, with the faults of [`Source::replace`], and answers what work it took. After a fault
+    /// all is as before.
     pub fn apply(&mut self, edit: &Edit) -> Result<Work, TextFault>
         ensures text { OnOk result (self.new.text ≡ edited_by (change_of self.old.text edit.now)) }
         ensures base { self.new.base ≡ self.old.base }
@@ -99,7 +102,7 @@ impl Session {
         let Compilation {
             tokens,
             items,
-            output,
+            faults,
         } = match compile(self.alloc, &source, &mut meter) {
             Ok(compiled) => compiled,
             Err(NoMemory) => return Err(TextFault::NoMemory),
@@ -107,13 +110,12 @@ impl Session {
         self.source = source;
         self.tokens = tokens;
         self.items = items;
-        self.faults = output.faults;
-        self.generated = output.generated;
+        self.fault_count = faults;
         Ok(Work::of(&meter))
     }
 
-    /// Carries the edits out in order, and answers what work they took. At the first that is refused it stops and answers its index,
-    /// from 0, and the fault: the edits before it are done.
+    /// Carries the edits out in order, and answers what work they took. At the first that is refused it stops
+    /// and answers its index, from 0, and the fault: the edits before it are done.
     pub fn apply_all(&mut self, edits: &[Edit]) -> Result<Work, (usize, TextFault)>
         ensures text { OnOk result (self.new.text ≡ edited_by_all self.old.text edits.now) }
         ensures takes { OnOk result (TakesAll self.old.text edits.now) }
@@ -171,77 +173,49 @@ impl Session {
     pub fn definition(&self, index: usize) -> Option<&Definition>
         ensures { Compiles self.now.text (λ items. tree_at result ≡ definition_at items index) }
     {
-        definition_in(&self.items, index)
+        self.items.definition(index)
     }
 
     /// How many items have a definition.
     pub(crate) fn definition_count(&self) -> usize
         ensures { Compiles self.now.text (λ items. result ≡ length (numbered 0 (definitions_of items))) }
     {
-        count_definitions(&self.items)
+        self.items.definition_count()
     }
 
     /// How many faults the text has.
     pub fn fault_count(&self) -> usize
         ensures { Compiles self.now.text (λ items. result ≡ length (faults_of self.now.text items)) }
     {
-        self.faults.len()
+        self.fault_count
     }
 
     /// The fault at an index: faults stand in order of item, then of place, then of code.
+    ///
+    /// Goes over the items and the text up to it; to go over all faults, use [`Session::faults`].
     pub fn fault(&self, index: usize) -> Option<Fault>
         ensures { Compiles self.now.text (λ items. result ≡ slice_get (faults_of self.now.text items) index) }
     {
-        fault_in(&self.faults, index)
+        self.faults().nth(index)
     }
 
-    /// The faults of the text, in the order of [`Session::fault`].
-    pub fn faults(&self) -> &[Fault]
-        ensures { Compiles self.now.text (λ items. result.now ≡ faults_of self.now.text items) }
+    /// The faults of the text, one after another, in the order of [`Session::fault`].
+    pub fn faults(&self) -> Faults<'_>
+        ensures { Compiles self.now.text (λ items. result ≡ faults_of self.now.text items) }
     {
-        &self.faults
+        Faults::of(&self.source, &self.tokens, &self.items)
     }
 
     /// The types of the text, by which values are read: [`SchemaFault::Faulty`] where the text has a fault.
     pub fn schema(&self) -> Result<Schema, SchemaFault>
         ensures { Compiles self.now.text (λ items. GivesSchema self.now.text items result) }
     {
-        if !self.faults.is_empty() {
+        if self.fault_count > 0 {
             return Err(SchemaFault::Faulty);
         }
-        match schema_of(self.alloc, &self.items) {
+        match self.items.schema(self.alloc) {
             Ok(schema) => Ok(schema),
             Err(NoMemory) => Err(SchemaFault::NoMemory),
         }
     }
-}
-
-/// How many of the items have a definition.
-fn count_definitions(items: &[Item]) -> usize
-    ensures { result ≡ length (numbered 0 (map kept_definition items.now)) }
-{
-    let mut count = 0;
-    for item in items {
-        if item.definition().is_some() {
-            count += 1;
-        }
-    }
-    count
-}
-
-/// The definition of the item at an index, if it has one.
-fn definition_in(items: &[Item], index: usize) -> Option<&Definition>
-    ensures { tree_at result ≡ option_and_then kept_definition (slice_get items.now index) }
-{
-    match items.get(index) {
-        Some(item) => item.definition(),
-        None => None,
-    }
-}
-
-/// The fault at an index.
-fn fault_in(faults: &[Fault], index: usize) -> Option<Fault>
-    ensures { result ≡ slice_get faults.now index }
-{
-    faults.get(index).copied()
 }

@@ -85,7 +85,7 @@ fn expect_work(rt: &impl Abort, session: &mut Session) {
 
 /// Checks the faults and the tokens of the text after it.
 fn expect_longer(rt: &impl Abort, session: &Session) {
-    assert_eq!(rt; session.faults().len(), 0);
+    assert_eq!(rt; session.fault_count(), 0);
     let mut last = 0;
     for token in session.tokens() {
         last = token.end;

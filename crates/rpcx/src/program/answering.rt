@@ -73,7 +73,7 @@ fn show_version<O: Sink, E: Sink>(manual: &Manual, out: &mut O, err: &mut E) -> 
 fn end_showing<O: Sink, E: Sink>(pen: Pen, manual: &Manual, out: &mut O, err: &mut E) -> Status
     ensures shown { (start : Stream) (text : List ℕ) → Writes start text pen (O.state out.old)
         → IsShown manual.now.name.now text start (O.state out.new)
-            (E.state err.old) (E.state err.new) result }
+        (E.state err.old) (E.state err.new) result }
     ensures quiet { result ≡ Status.Done → err.new ≡ err.old }
 {
     let mut pen = pen;

@@ -8,11 +8,12 @@ use crate::program::base::base_of_file;
 use crate::program::complaint::tell_unopened;
 use crate::program::status::Status;
 use std::alloc::Global;
-use x_session::{Fault, Session, add_place};
+use x_session::{Fault, Faults, Session, add_place};
 use x_text::{Pen, Sink};
 
-/// Opens the text of a file for a run of the program, or tells what is wrong with it and answers the status: `Faulty`
-/// where the text has faults, which are written one a line, and `Failed` where it is too large or memory runs out.
+/// Opens the text of a file for a run of the program, or tells what is wrong with it and answers the status:
+/// `Faulty` where the text has faults, which are written one a line, and `Failed` where it is too large or
+/// memory runs out.
 pub fn open_text<E: Sink>(
     alloc: Global,
     program: &str,
@@ -39,12 +40,12 @@ pub fn open_text<E: Sink>(
 }
 
 /// Writes the faults of a file's text, one a line.
-fn tell_faults<E: Sink>(file: &str, faults: &[Fault], err: &mut E)
-    ensures { IsTold (E.state err.old) (E.state err.new) (told_faults file.now faults.now) }
+fn tell_faults<E: Sink>(file: &str, faults: Faults<'_>, err: &mut E)
+    ensures { IsTold (E.state err.old) (E.state err.new) (told_faults file.now faults.entry) }
 {
     let mut pen = Pen::new();
     for fault in faults {
-        add_fault(file, fault, &mut pen, err);
+        add_fault(file, &fault, &mut pen, err);
     }
     let _ = pen.finish(err);
 }

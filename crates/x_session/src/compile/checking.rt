@@ -1,6 +1,6 @@
 //! The checks of the items of a text.
 
-ghost use Rattle.std.specs.Prelude.{◌≡◌, ℕ, List, [], ◌∷◌, Option, map, length, IfOk};
+ghost use Rattle.std.specs.Prelude.{◌≡◌, ℕ, List, [], ◌∷◌, Option, Some, map, length, IfOk};
 ghost use Rattle.x_item.specs.Tree as tree;
 ghost use Rattle.x_item.specs.View.{view_definition};
 ghost use Rattle.x_sema.specs.Declarers.{AreShort, IsShort, FirstIs};
@@ -11,57 +11,40 @@ ghost use Rattle.x_sema.specs.Outlined.{IsOutline, outlined};
 ghost use Rattle.x_sema.specs.Results.{AreResults, IsResult, result_at};
 ghost use Rattle.x_sema.specs.RustViews.{view_view};
 ghost use Rattle.x_sema.specs.Views.{names_of};
-ghost use Rattle.x_session.specs.Checking.{IsShortAt, counted, view_by_first};
-ghost use Rattle.x_session.specs.Compile.{rule_faults};
-ghost use Rattle.x_session.specs.ItemView.{kept_definition};
+ghost use Rattle.x_session.specs.Checking.{AreRendered, IsShortAt, counted, sound_pieces, view_by_first};
+ghost use Rattle.x_session.specs.KeptView.{found_pieces, found_result};
 
-use crate::compile::item::Item;
-use crate::compile::results::Results;
+use crate::compile::kept::Found;
 use std::alloc::Global;
+use x_gen::{Pieces, Renderer};
 use x_item::Definition;
-use x_sema::{Checked, Declarer, Names, Outline, View, WordFault, check_outline};
+use x_sema::{Checked, Declarer, Names, Outline, View, check_outline};
 use x_text::{Meter, NoMemory};
 
-/// The definitions of the items.
-pub fn definitions_in(alloc: Global, items: &[Item]) -> Result<Vec<Option<&Definition>>, NoMemory>
-    ensures { IfOk result (λ definitions. map tree_at definitions.items ≡ map kept_definition items.now) }
-{
-    let mut definitions = Vec::with_capacity(alloc, items.len())?;
-    for item in items {
-        definitions.push(item.definition())?;
-    }
-    Ok(definitions)
-}
-
-/// The table of the names that the items declare.
-pub fn names_of(alloc: Global, items: &[Item]) -> Result<Names<'_>, NoMemory>
-    ensures { IfOk result (λ names. AreShort (map kept_definition items.now)
-        → (name : List ℕ) → FirstIs (map kept_definition items.now) name (first_in names name)) }
-{
-    Names::of(alloc, &definitions_in(alloc, items)?)
-}
-
-/// What checking the items finds, in their order. Each is checked by what was found of the items before it, and counted as checked
-/// where it has a definition.
+/// What checking the items finds, in their order, by the definition that each of them has or lacks. Each
+/// definition is checked by what was found of the items before it, and counted as checked.
 pub fn check_items(
     alloc: Global,
-    items: &[Item],
+    definitions: &[Option<&Definition>],
     names: &Names,
     meter: &mut Meter,
-) -> Result<Results, NoMemory>
-    requires short { AreShort (map kept_definition items.now) }
-    requires first { (name : List ℕ) → FirstIs (map kept_definition items.now) name (first_in names.now name) }
-    ensures results { IfOk result (λ results. AreResults (map kept_definition items.now) results) }
-    ensures counted { IfOk result (λ results. meter.new ≡ counted meter.old (map kept_definition items.now)) }
+) -> Result<Vec<Option<Box<Found>>>, NoMemory>
+    requires short { AreShort (map tree_at definitions.now) }
+    requires first { (name : List ℕ) → FirstIs (map tree_at definitions.now) name (first_in names.now name) }
+    ensures results { IfOk result
+        (λ results. AreResults (map tree_at definitions.now) (map found_result results.items)) }
+    ensures rendered { IfOk result (λ results. AreRendered (map tree_at definitions.now) results.items) }
+    ensures counted { IfOk result (λ results. meter.new ≡ counted meter.old (map tree_at definitions.now)) }
 {
-    let mut results = Results::with_capacity(alloc, items.len())?;
+    let mut results = Vec::with_capacity(alloc, definitions.len())?;
     let mut walk = Walk {
         last: None,
         declared: 0,
+        renderer: Renderer::new(alloc),
     };
-    for item in items {
-        let result = check(alloc, item, &mut walk, names, &results, meter)?;
-        results.push(result)?;
+    for definition in definitions {
+        let found = check(alloc, *definition, &mut walk, names, &results, meter)?;
+        results.push(found)?;
     }
     Ok(results)
 }
@@ -73,23 +56,28 @@ struct Walk<'i> {
     last: Option<Outline<'i>>,
     /// How many names the items so far declare.
     declared: usize,
+    renderer: Renderer,
 }
 
 /// What checking the next item finds, if it has a definition, by what was found of the items before it.
 fn check<'i>(
     alloc: Global,
-    item: &'i Item,
+    definition: Option<&'i Definition>,
     walk: &mut Walk<'i>,
     names: &Names,
-    results: &Results,
+    results: &[Option<Box<Found>>],
     meter: &mut Meter,
-) -> Result<Option<Checked>, NoMemory>
-    ensures result { IfOk result (λ checked. (definitions : List (Option tree.Definition)) → IsShortAt (kept_definition item.now)
+) -> Result<Option<Box<Found>>, NoMemory>
+    ensures result { IfOk result (λ found. (definitions : List (Option tree.Definition))
+        → IsShortAt (tree_at definition.entry)
         → ((name : List ℕ) → FirstIs definitions name (first_in names.now name))
-        → IsResult definitions (result_at results.now) (length results.now) (kept_definition item.now) checked) }
-    ensures counted { IfOk result (λ checked. meter.new ≡ counted meter.old (kept_definition item.now ∷ [])) }
+        → IsResult definitions (result_at (map found_result results.now)) (length results.now)
+        (tree_at definition.entry) (found_result found)) }
+    ensures rendered { IfOk result
+        (λ found. found_pieces found ≡ sound_pieces (tree_at definition.entry) (found_result found)) }
+    ensures counted { IfOk result (λ found. meter.new ≡ counted meter.old (tree_at definition.entry ∷ [])) }
 {
-    let Some(definition) = item.definition() else {
+    let Some(definition) = definition else {
         return Ok(None);
     };
     let outline = outline_of(alloc, walk.last.take(), definition)?;
@@ -104,7 +92,8 @@ fn check<'i>(
     let checked = check_outline(alloc, &outline, &views, meter)?;
     walk.declared = walk.declared.saturating_add(outline.declared().len());
     walk.last = Some(outline);
-    Ok(Some(checked))
+    let pieces = pieces_of(&mut walk.renderer, definition, &checked)?;
+    Ok(Some(Box::new(alloc, Found { checked, pieces })?))
 }
 
 /// The outline of a definition, in the memory of the last, if there is one.
@@ -122,18 +111,19 @@ fn outline_of<'d>(
     }
 }
 
-/// What an item sees of the names that its definition declares, and then of those that it uses, by what was found of the items before it,
-/// which declare so many names.
+/// What an item sees of the names that its definition declares, and then of those that it uses, by what was
+/// found of the items before it, which declare so many names.
 fn views_of<'v>(
     alloc: Global,
     item: usize,
     outline: &Outline,
     before: usize,
     names: &Names,
-    results: &'v Results,
+    results: &'v [Option<Box<Found>>],
 ) -> Result<Vec<View<'v>>, NoMemory>
     ensures { IfOk result (λ views. IsOutline outline.now → map view_view views.items
-        ≡ map (view_by_first (first_in names.now) (result_at results.now) item) (names_of (outlined outline.now))) }
+        ≡ map (view_by_first (first_in names.now) (result_at (map found_result results.now)) item)
+        (names_of (outlined outline.now))) }
 {
     let mut views = Vec::with_capacity(
         alloc,
@@ -154,22 +144,43 @@ fn views_of<'v>(
 }
 
 /// What an item sees of a name with this first declarer.
-fn view_of<'v>(item: usize, name: &[u8], first: Option<Declarer>, results: &'v Results) -> View<'v>
-    ensures { view_view result ≡ view_by_first (λ n. first) (result_at results.now) item name.now }
+fn view_of<'v>(
+    item: usize,
+    name: &[u8],
+    first: Option<Declarer>,
+    results: &'v [Option<Box<Found>>],
+) -> View<'v>
+    ensures { view_view result
+        ≡ view_by_first (λ n. first) (result_at (map found_result results.now)) item name.now }
 {
     let declaring = match first {
-        Some(declarer) => results.get(declarer.item),
+        Some(declarer) => checked_at(results, declarer.item),
         None => None,
     };
     View::of(item, name, first, declaring)
 }
 
-/// The faults of an item by the rules, at its words, by what checking it found.
-pub fn rule_faults(checked: Option<&Checked>) -> &[WordFault]
-    ensures { result.now ≡ rule_faults (lent_outcome checked.entry) }
+/// What was found of the item at an index.
+fn checked_at(results: &[Option<Box<Found>>], index: usize) -> Option<&Checked>
+    ensures { lent_outcome result ≡ result_at (map found_result results.now) index }
 {
-    match checked {
-        Some(checked) => checked.faults(),
-        None => &[],
+    match results.get(index)? {
+        Some(found) => Some(&found.checked),
+        None => None,
     }
+}
+
+/// What is generated of a definition, where checking it found no fault.
+fn pieces_of(
+    renderer: &mut Renderer,
+    definition: &Definition,
+    checked: &Checked,
+) -> Result<Option<Pieces>, NoMemory>
+    ensures { IfOk result
+        (λ pieces. pieces ≡ sound_pieces (Some (view_definition definition.now)) (Some checked.now)) }
+{
+    if !checked.faults().is_empty() {
+        return Ok(None);
+    }
+    Ok(Some(renderer.render(definition, checked)?))
 }

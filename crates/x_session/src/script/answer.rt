@@ -166,7 +166,7 @@ pub(crate) fn add_faults<S: Sink>(session: &Session, pen: &mut Pen, sink: &mut S
 {
     add_counted("faults", session.fault_count(), pen, sink);
     for fault in session.faults() {
-        add_fault(fault, pen, sink);
+        add_fault(&fault, pen, sink);
     }
 }
 

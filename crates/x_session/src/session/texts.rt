@@ -16,7 +16,7 @@ impl Session {
             (λ items. IsWritten result (S.state sink.old) (S.state sink.new)
             (text_of which self.now.base items)) }
     {
-        x_gen::write_text(which, &self.base, &self.generated, sink)
+        x_gen::write_text(which, &self.base, &self.items, sink)
     }
 
     /// Adds a generated text.
@@ -25,13 +25,13 @@ impl Session {
             (λ items. Adds pen.old (S.state sink.old) pen.new (S.state sink.new)
             (text_of which self.now.base items)) }
     {
-        x_gen::add_text(which, &self.base, &self.generated, pen, sink);
+        x_gen::add_text(which, &self.base, &self.items, pen, sink);
     }
 
     /// How many bytes a generated text has.
     pub(crate) fn text_length(&self, which: Which) -> u128
         ensures { Compiles self.now.text (λ items. result ≡ length (text_of which self.now.base items)) }
     {
-        x_gen::text_length(which, &self.base, &self.generated)
+        x_gen::text_length(which, &self.base, &self.items)
     }
 }

@@ -1,36 +1,52 @@
-use Rattle.std.proofs.Common.{◌≡◌, ◌≤◌, ◌+◌, map, length, ap, sym, subst, ◌∙◌}
+use Rattle.std.proofs.Common.{map, length, ap, sym, subst, ◌∙◌, arith}
 use Rattle.std.proofs.lemmas.List.{length-map}
-use Rattle.x_text.specs.declared.source.TheConstants.{MAX_TEXT}
 use Rattle.x_lex.specs.Places.{lexemes}
-use Rattle.x_sema.specs.Results.{AreResults, result_at}
-use Rattle.x_session.specs.Compile.{faults_of}
-use Rattle.x_session.specs.Generated.{part_of}
-use Rattle.x_session.specs.ItemView.{kept_definition, view_item}
-use Rattle.x_session.specs.SessionState.{items_of}
-use Rattle.x_session.proofs.Compiled.{compiles, length-parts}
-use Rattle.x_session.proofs.GeneratedLemmas.{are_checked}
+use Rattle.x_item.specs.ItemList.{AreOfText}
+use Rattle.x_sema.specs.Results.{AreResults}
+use Rattle.x_session.specs.Checking.{AreRendered}
+use Rattle.x_session.specs.Counting.{faults_kept}
+use Rattle.x_session.specs.KeptView.{entry_definitions, found_result, kept_part}
+use Rattle.x_session.specs.SessionState.{IsKept}
+use Rattle.x_session.proofs.Compiled.{compiles}
+use Rattle.x_session.proofs.KeptLemmas.{are_known, count_faults, counts_with, definitions_with, parsed_with, parts_with, results_with}
 use Rattle.x_session.proofs.compile.compile.Goals as goal
 
-pub output_of-requires-clause-checked : goal.output_of-requires-clause-checked
-output_of-requires-clause-checked c =
-    are_checked c.deref-3.result.now c.in_ok-results.results
-    (subst (λ is. AreResults (map kept_definition is) c.in_ok-results.results) (c.deref-2.ensures.value ∙ sym c.deref-3.ensures.value) c.in_ok-results.ensures.results)
+pub keep_results-requires : goal.keep_results-requires
+keep_results-requires c =
+    let es = c.in_ok-entries.entries.items in
+    let rs = c.in_ok-results.results.items in
+    are_known es rs (subst (λ l. AreResults (entry_definitions l) (map found_result rs)) c.deref.ensures.value c.in_ok-results.ensures.results)
+
+pub of-requires : goal.of-requires
+of-requires c =
+    let es = c.in_ok-entries.entries.items in
+    let rs = c.in_ok-results.results.items in
+    let fs = c.keep_results.new.entries.items in
+    subst AreOfText (sym (counts_with es rs fs c.keep_results.ensures)) c.in_ok-entries.ensures.of_text
 
 pub returns : goal.returns
 returns c =
     let text = c.args.source.now in
     let tokens = c.in_ok-tokens.tokens.list in
-    let items = c.in_ok-items.items.items in
-    let results = c.in_ok-results.results in
-    let checked = subst (λ is. AreResults (map kept_definition is) results) c.deref-2.ensures.value c.in_ok-results.ensures.results in
-    let generated : c.in_ok-output.output.generated ≡ map part_of (items_of text tokens items results) =
-    c.in_ok-output.ensures.generated ∙ (λ i. map part_of (items_of text tokens (c.deref-3.ensures.value i) results)) in
-    let parts = length-map (items_of text tokens items results) part_of in
-    let found = length-parts (result_at results) 0 (lexemes text tokens) (map view_item items) ∙ length-map items view_item in
-    record {
-      results = results;
-      compiles = compiles text tokens items results c.in_ok-tokens.ensures.tokens c.in_ok-items.ensures.parsed checked;
-      faults_are = c.in_ok-output.ensures.faults ∙ (λ i. faults_of text (items_of text tokens (c.deref-3.ensures.value i) results));
-      generated_is = generated;
-      few = subst (λ n. n ≤ MAX_TEXT + 1) (sym (ap length generated ∙ parts ∙ found)) c.in_ok-items.ensures.few;
-    }
+    let all = lexemes text tokens in
+    let es = c.in_ok-entries.entries.items in
+    let rs = c.in_ok-results.results.items in
+    let fs = c.keep_results.new.entries.items in
+    let with = c.keep_results.ensures in
+    let faults = c.in_ok-faults.faults in
+    let parsed = parsed_with all es rs fs with c.in_ok-entries.ensures.parsed in
+    let results = subst (λ l. AreResults (entry_definitions l) (map found_result rs)) c.deref.ensures.value c.in_ok-results.ensures.results in
+    let rendered = subst (λ l. AreRendered (entry_definitions l) rs) c.deref.ensures.value c.in_ok-results.ensures.rendered in
+    let checked = subst (λ os. AreResults (entry_definitions fs) os) (sym (results_with es rs fs with))
+    (subst (λ ds. AreResults ds (map found_result rs)) (sym (definitions_with es rs fs with)) results) in
+    let few = c.in_ok-entries.ensures.of_text.few in
+    let counted = length-map es (λ e. e.tokens) in
+    let same = sym (length-map fs (λ e. e.tokens)) ∙ ap length (counts_with es rs fs with) in
+    let parts = length-map fs (λ e. kept_part e.kept) in
+    let kept : IsKept text tokens fs faults = record {
+      compiles = compiles text tokens fs c.in_ok-tokens.ensures.tokens parsed checked;
+      parts_are = parts_with all es rs fs with parsed rendered;
+      few = omega (arith, few, counted, same, parts);
+      count_is = c.in_ok-faults.ensures ∙ ap faults_kept c.deref-2.ensures.value ∙ count_faults text 0 all fs;
+    } in
+    subst (λ l. IsKept text tokens l faults) (sym c.in_ok-items.ensures) kept

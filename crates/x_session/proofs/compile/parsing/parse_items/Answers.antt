@@ -3,8 +3,8 @@ use Rattle.std.proofs.lemmas.List.{length-map}
 use Rattle.x_text.specs.declared.source.TheConstants.{MAX_TEXT}
 use Rattle.x_lex.specs.Places.{lexeme, lexemes}
 use Rattle.x_item.specs.Items.{IsNext}
-use Rattle.x_session.specs.ItemView.{IsItem}
-use Rattle.x_session.proofs.ItemLemmas.{Parsing, HasCounted, steps_left, parsing_none, parsing_more, part_short, rest_short, fewer_steps, few_items, short_items, some_items, marked_items, counted_push, counted_all}
+use Rattle.x_session.specs.KeptView.{IsItem}
+use Rattle.x_session.proofs.ItemLemmas.{Parsing, HasCounted, steps_left, parsing_none, parsing_more, part_short, rest_short, fewer_steps, items_of_text, short_items, some_items, counted_push, counted_all}
 use Rattle.x_session.proofs.compile.parsing.parse_items.Goals as goal
 
 pub loop-whole-init : goal.loop-whole-init
@@ -12,14 +12,14 @@ loop-whole-init c =
     let all = lexemes c.args.source.now c.args.tokens.now.list in
     let short : length all ≤ MAX_TEXT = subst (λ l. length l ≤ MAX_TEXT) c.iter-walk.ensures.tokens c.iter-walk.ensures.small in
     record {
-      parsed = subst (λ is. Parsing true all c.iter-walk.result is) (sym c.new-items.ensures.items) (parsing_none all c.iter-walk.result c.iter-walk.ensures.tokens);
+      parsed = subst (λ is. Parsing true all c.iter-walk.result is) (sym c.new-entries.ensures.items) (parsing_none all c.iter-walk.result c.iter-walk.ensures.tokens);
       short = short;
       small = c.iter-walk.ensures.small;
-      counted = subst (λ is. HasCounted c.args.meter.now c.args.meter.now (length is)) (sym c.new-items.ensures.items) refl;
+      counted = subst (λ is. HasCounted c.args.meter.now c.args.meter.now (length is)) (sym c.new-entries.ensures.items) refl;
     }
 
-pub of-requires : goal.of-requires
-of-requires c =
+pub entry_of-requires : goal.entry_of-requires
+entry_of-requires c =
     let next : IsNext c.in_ok-whole.whole c.loop-whole.walk (map lexeme c.next_item.new.tokens.items) c.next_item.new.walk = c.in_ok-whole.ensures in
     let fewer = part_short c.in_ok-whole.whole c.loop-whole.walk (map lexeme c.next_item.new.tokens.items) c.next_item.new.walk next in
     let same = length-map c.next_item.new.tokens.items lexeme in
@@ -38,38 +38,32 @@ loop-whole-preserved c =
     let whole = c.in_ok-whole.whole in
     let part = map lexeme c.next_item.new.tokens.items in
     let left = c.next_item.new.walk in
-    let items = c.loop-whole.items.items in
-    let item = c.in_ok-of.field-0 in
+    let items = c.loop-whole.entries.items in
+    let item = c.in_ok-entry_of.field-0 in
     let next : IsNext whole c.loop-whole.walk part left = c.in_ok-whole.ensures in
     let before : Parsing true all c.loop-whole.walk items = subst (λ b. Parsing b all c.loop-whole.walk items) c.loop-whole-test.true c.loop-whole.invariant.parsed in
-    let this : IsItem part item = subst (λ ts. IsItem (map lexeme ts) item) c.deref.ensures.value c.in_ok-of.ensures.item in
+    let this : IsItem part item = subst (λ ts. IsItem (map lexeme ts) item) c.deref.ensures.value c.in_ok-entry_of.ensures.item in
     let fewer = rest_short whole c.loop-whole.walk part left next in
     let small = c.loop-whole.invariant.small in
     record {
       parsed = subst (λ is. Parsing whole all left is) (sym c.in_ok-push.ensures.items) (parsing_more whole all c.loop-whole.walk part left items item before next this);
       short = c.loop-whole.invariant.short;
       small = omega (arith, fewer, small);
-      counted = subst (λ is. HasCounted c.args.meter.now c.of.new.meter (length is)) (sym c.in_ok-push.ensures.items)
-          (counted_push c.args.meter.now c.loop-whole.meter c.of.new.meter items item c.loop-whole.invariant.counted c.in_ok-of.ensures.counted);
+      counted = subst (λ is. HasCounted c.args.meter.now c.entry_of.new.meter (length is)) (sym c.in_ok-push.ensures.items)
+          (counted_push c.args.meter.now c.loop-whole.meter c.entry_of.new.meter items item c.loop-whole.invariant.counted c.in_ok-entry_of.ensures.counted);
     }
 
 pub returns-clause-parsed : goal.returns-clause-parsed
 returns-clause-parsed c =
-    subst (λ b. Parsing b (lexemes c.args.source.now c.args.tokens.now.list) c.loop-whole.walk c.loop-whole.items.items) c.loop-whole-test.false c.loop-whole.invariant.parsed
+    subst (λ b. Parsing b (lexemes c.args.source.now c.args.tokens.now.list) c.loop-whole.walk c.loop-whole.entries.items) c.loop-whole-test.false c.loop-whole.invariant.parsed
 
-pub returns-clause-few : goal.returns-clause-few
-returns-clause-few c =
-    let few = few_items (lexemes c.args.source.now c.args.tokens.now.list) c.loop-whole.items.items (returns-clause-parsed c) in
-    let short = c.loop-whole.invariant.short in
-    omega (arith, few, short)
-
-pub returns-clause-marked : goal.returns-clause-marked
-returns-clause-marked c = marked_items (lexemes c.args.source.now c.args.tokens.now.list) c.loop-whole.items.items (returns-clause-parsed c)
+pub returns-clause-of_text : goal.returns-clause-of_text
+returns-clause-of_text c = items_of_text (lexemes c.args.source.now c.args.tokens.now.list) c.loop-whole.entries.items (returns-clause-parsed c) c.loop-whole.invariant.short
 
 pub returns-clause-counted : goal.returns-clause-counted
 returns-clause-counted c =
-    counted_all c.args.meter.now c.loop-whole.meter (length c.loop-whole.items.items)
-    (some_items (lexemes c.args.source.now c.args.tokens.now.list) c.loop-whole.items.items (returns-clause-parsed c)) c.loop-whole.invariant.counted
+    counted_all c.args.meter.now c.loop-whole.meter (length c.loop-whole.entries.items)
+    (some_items (lexemes c.args.source.now c.args.tokens.now.list) c.loop-whole.entries.items (returns-clause-parsed c)) c.loop-whole.invariant.counted
 
 pub returns-clause-short : goal.returns-clause-short
-returns-clause-short c = short_items (lexemes c.args.source.now c.args.tokens.now.list) c.loop-whole.items.items (returns-clause-parsed c) c.loop-whole.invariant.short
+returns-clause-short c = short_items (lexemes c.args.source.now c.args.tokens.now.list) c.loop-whole.entries.items (returns-clause-parsed c) c.loop-whole.invariant.short

@@ -6,10 +6,10 @@ use Rattle.x_session.proofs.compile.parsing.parse_items.Given as goal
 
 abbrev pub invariant-loop-whole : goal.invariant-loop-whole
 invariant-loop-whole l = record {
-  parsed : Parsing l.whole (lexemes l.fn.source l.fn.tokens.list) l.walk l.items.items;
+  parsed : Parsing l.whole (lexemes l.fn.source l.fn.tokens.list) l.walk l.entries.items;
   short : length (lexemes l.fn.source l.fn.tokens.list) ≤ MAX_TEXT;
   small : length l.walk ≤ MAX_TEXT;
-  counted : HasCounted l.fn.meter l.meter (length l.items.items);
+  counted : HasCounted l.fn.meter l.meter (length l.entries.items);
 }
 
 abbrev pub decreases-loop-whole : goal.decreases-loop-whole

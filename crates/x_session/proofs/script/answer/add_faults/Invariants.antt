@@ -1,9 +1,8 @@
-use Rattle.std.proofs.Common.{drop}
 use Rattle.x_session.specs.Answers.{fault_line}
 use Rattle.x_session.specs.declared.compile.fault.Fault.{Fault}
 use Rattle.x_text.proofs.Listing.{HasListed}
 use Rattle.x_session.proofs.script.answer.add_faults.Given as goal
 
 abbrev pub invariant-loop-fault : goal.invariant-loop-fault
-invariant-loop-fault g l = HasListed Fault fault_line l.fault-items (drop l.fault-index l.fault-items)
+invariant-loop-fault g l = HasListed Fault fault_line l.initial.fault-iterator l.fault-iterator
     l.initial.pen (g.S.Sink.state l.initial.sink) l.pen (g.S.Sink.state l.sink)

@@ -7,7 +7,7 @@ use Rattle.x_session.proofs.session.Session.text_length.Goals as goal
 
 pub returns : goal.returns
 returns c =
-    let items = items_of c.self.inside.source c.self.inside.tokens.list c.self.inside.items.items c.self.invariant.results in
-    let count = c.text_length.ensures ∙ (λ i. length (text c.args.which (c.deref.ensures.value i) (c.self.invariant.generated_is i))) in
+    let items = items_of c.self.inside.source c.self.inside.tokens.list c.self.inside.items.entries.list in
+    let count = c.text_length.ensures ∙ (λ i. length (text c.args.which (c.deref.ensures.value i) (c.self.invariant.parts_are i))) in
     subst (λ v. Compiles v.text (λ is. c.text_length.result ≡ length (text_of c.args.which v.base is))) c.self.view_is
     (c.self.inside.tokens.list, items, c.self.invariant.compiles, count)

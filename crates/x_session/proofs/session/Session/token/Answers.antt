@@ -9,7 +9,7 @@ use Rattle.x_session.proofs.session.Session.token.Goals as goal
 
 pub returns : goal.returns
 returns c =
-    let items = items_of c.self.inside.source c.self.inside.tokens.list c.self.inside.items.items c.self.invariant.results in
+    let items = items_of c.self.inside.source c.self.inside.tokens.list c.self.inside.items.entries.list in
     let all = tokens_are c.self.inside.source c.self.inside.tokens.list items c.self.invariant.compiles in
     let found = c.token.ensures ∙ ap (λ ls. slice_get ls c.args.index) (sym all) in
     subst (λ v. Compiles v.text (λ is. option_map lexeme c.token.result ≡ slice_get (tokens_of is) c.args.index)) c.self.view_is (c.self.inside.tokens.list, items, c.self.invariant.compiles, found)

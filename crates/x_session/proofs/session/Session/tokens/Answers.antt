@@ -7,7 +7,7 @@ use Rattle.x_session.proofs.session.Session.tokens.Goals as goal
 
 pub returns : goal.returns
 returns c =
-    let items = items_of c.self.inside.source c.self.inside.tokens.list c.self.inside.items.items c.self.invariant.results in
+    let items = items_of c.self.inside.source c.self.inside.tokens.list c.self.inside.items.entries.list in
     let all = tokens_are c.self.inside.source c.self.inside.tokens.list items c.self.invariant.compiles in
     let found = c.iter.ensures.tokens ∙ sym all in
     subst (λ v. Compiles v.text (λ is. c.iter.result ≡ tokens_of is)) c.self.view_is (c.self.inside.tokens.list, items, c.self.invariant.compiles, found)

@@ -1,0 +1,131 @@
+-- What was found of items is kept with them, from the last item on.
+use Rattle.std.proofs.Common.{◌≡◌, ℕ, zero, suc, ◌+◌, List, [], ◌∷◌, ◌++◌, length, take, drop, get_or, Option, None, refl, sym, ap, subst, ◌∙◌, append-nil, append_assoc, arith}
+use Rattle.std.specs.Global.{Box}
+use Rattle.std.specs.Prelude.{slice_set}
+use Rattle.std.proofs.lemmas.List.{length_push, length-take-le, take-append-drop}
+use Rattle.x_text.proofs.ListLemmas.{drop_none, some_at}
+use Rattle.x_item.specs.declared.cutting.entry.Entry.{Entry}
+use Rattle.x_session.specs.Checking.{AreKnown}
+use Rattle.x_session.specs.KeptView.{AreWith, IsWith, kept_definition}
+use Rattle.x_session.specs.declared.compile.kept.Found.{Found}
+use Rattle.x_session.specs.declared.compile.kept.Kept.{Kept}
+
+set_seam : {X : Type 0} (front : List X) (x y : X) (rest : List X) (m : ℕ) → m ≡ length front → slice_set (front ++ x ∷ rest) m y ≡ front ++ y ∷ rest
+set_seam [] x y rest m e = ap (λ n. slice_set (x ∷ rest) n y) e
+set_seam (z ∷ front) x y rest zero e = absurd (omega (arith, e))
+set_seam (z ∷ front) x y rest (suc m) e = ap (λ l. z ∷ l) (set_seam front x y rest m (omega (arith, e)))
+
+many_known : (es : List (Entry Kept)) (rs : List (Option (Box Found))) → AreKnown es rs → length es ≡ length rs
+many_known [] [] known = refl
+many_known [] (r ∷ rs) known = absurd known
+many_known (e ∷ es) [] known = absurd known
+many_known (e ∷ es) (r ∷ rs) known = ap suc (many_known es rs known.1)
+
+known_at : (front back : List (Entry Kept)) (e : Entry Kept) (rs left : List (Option (Box Found))) (r : Option (Box Found)) → length front ≡ length rs → AreKnown (front ++ e ∷ back) (rs ++ r ∷ left)
+    → kept_definition e.kept ≡ None → r ≡ None
+known_at [] back e [] left r many known = known.0
+known_at [] back e (s ∷ rs) left r many known = absurd (omega (arith, many))
+known_at (f ∷ front) back e [] left r many known = absurd (omega (arith, many))
+known_at (f ∷ front) back e (s ∷ rs) left r many known = known_at front back e rs left r (omega (arith, many)) known.1
+
+-- the last items have what was found of them, and `rs` is left for those before
+pub record AreKept (olds : List (Entry Kept)) (all : List (Option (Box Found))) (news : List (Entry Kept)) (rs : List (Option (Box Found))) : Type 0 where
+  pub front : List (Entry Kept)
+  pub back : List (Entry Kept)
+  pub done : List (Entry Kept)
+  pub left : List (Option (Box Found))
+  pub olds_are : olds ≡ front ++ back
+  pub news_are : news ≡ front ++ done
+  pub all_are : all ≡ rs ++ left
+  pub many : length front ≡ length rs
+  pub with : AreWith back left done
+
+pub kept_none : (olds : List (Entry Kept)) (all : List (Option (Box Found))) → AreKnown olds all → AreKept olds all olds all
+kept_none olds all known = record {
+  front = olds;
+  back = [];
+  done = [];
+  left = [];
+  olds_are = sym (append-nil olds);
+  news_are = sym (append-nil olds);
+  all_are = sym (append-nil all);
+  many = many_known olds all known;
+  with = tt;
+}
+
+-- the item that is next, and those before it
+pub record IsLast (olds : List (Entry Kept)) (all : List (Option (Box Found))) (news : List (Entry Kept)) (rs : List (Option (Box Found))) (r : Option (Box Found)) : Type 0 where
+  pub front : List (Entry Kept)
+  pub item : Entry Kept
+  pub back : List (Entry Kept)
+  pub done : List (Entry Kept)
+  pub left : List (Option (Box Found))
+  pub olds_are : olds ≡ front ++ item ∷ back
+  pub news_are : news ≡ front ++ item ∷ done
+  pub all_are : all ≡ rs ++ r ∷ left
+  pub many : length front ≡ length rs
+  pub with : AreWith back left done
+
+pub last_item : (olds : List (Entry Kept)) (all : List (Option (Box Found))) (news : List (Entry Kept)) (before rs : List (Option (Box Found))) (r : Option (Box Found))
+    → before ≡ rs ++ r ∷ [] → AreKept olds all news before → IsLast olds all news rs r
+last_item olds all news before rs r popped h =
+    let m = length rs in
+    let more : length h.front ≡ m + 1 = h.many ∙ ap length popped ∙ length_push rs r in
+    let at = some_at h.front m (omega (arith, more)) in
+    let none : drop (suc m) h.front ≡ [] = drop_none h.front (suc m) (omega (arith, more)) in
+    let split : take m h.front ++ at.0 ∷ [] ≡ h.front = sym (ap (λ l. take m h.front ++ l) (at.1 ∙ ap (λ l. at.0 ∷ l) none)) ∙ take-append-drop m h.front in
+    let long : length (take m h.front) ≡ m = length-take-le m h.front (omega (arith, more)) in
+    record {
+      front = take m h.front;
+      item = at.0;
+      back = h.back;
+      done = h.done;
+      left = h.left;
+      olds_are = h.olds_are ∙ ap (λ l. l ++ h.back) (sym split) ∙ append_assoc (take m h.front) (at.0 ∷ []) h.back;
+      news_are = h.news_are ∙ ap (λ l. l ++ h.done) (sym split) ∙ append_assoc (take m h.front) (at.0 ∷ []) h.done;
+      all_are = h.all_are ∙ ap (λ l. l ++ h.left) popped ∙ append_assoc rs (r ∷ []) h.left;
+      many = long;
+      with = h.with;
+    }
+
+pub last_known : (olds : List (Entry Kept)) (all : List (Option (Box Found))) (news : List (Entry Kept)) (rs : List (Option (Box Found))) (r : Option (Box Found))
+    → (h : IsLast olds all news rs r) → AreKnown olds all → kept_definition h.item.kept ≡ None → r ≡ None
+last_known olds all news rs r h known =
+    known_at h.front h.back h.item rs h.left r h.many (subst (λ l. AreKnown l (rs ++ r ∷ h.left)) h.olds_are (subst (λ l. AreKnown olds l) h.all_are known))
+
+get_seam : {X : Type 0} (front : List X) (x d : X) (rest : List X) (m : ℕ) → m ≡ length front → get_or (front ++ x ∷ rest) m d ≡ x
+get_seam [] x d rest m e = ap (λ n. get_or (x ∷ rest) n d) e
+get_seam (z ∷ front) x d rest zero e = absurd (omega (arith, e))
+get_seam (z ∷ front) x d rest (suc m) e = get_seam front x d rest m (omega (arith, e))
+
+-- it stands where what is left of the list ends
+pub last_is : (olds : List (Entry Kept)) (all : List (Option (Box Found))) (news : List (Entry Kept)) (rs : List (Option (Box Found))) (r : Option (Box Found)) (h : IsLast olds all news rs r) (m : ℕ) (e : Entry Kept)
+    → m ≡ length rs → e ≡ get_or news m e → e ≡ h.item
+last_is olds all news rs r h m e at is = is ∙ ap (λ l. get_or l m e) h.news_are ∙ get_seam h.front h.item e h.done m (at ∙ sym h.many)
+
+-- it has what was found of it
+pub kept_more : (olds : List (Entry Kept)) (all : List (Option (Box Found))) (news next : List (Entry Kept)) (rs : List (Option (Box Found))) (r : Option (Box Found)) (m : ℕ) (f : Entry Kept)
+    → (h : IsLast olds all news rs r) → m ≡ length rs → next ≡ slice_set news m f → IsWith h.item r f → AreKept olds all next rs
+kept_more olds all news next rs r m f h at set is = record {
+  front = h.front;
+  back = h.item ∷ h.back;
+  done = f ∷ h.done;
+  left = r ∷ h.left;
+  olds_are = h.olds_are;
+  news_are = set ∙ ap (λ l. slice_set l m f) h.news_are ∙ set_seam h.front h.item f h.done m (at ∙ sym h.many);
+  all_are = h.all_are;
+  many = h.many;
+  with = (is, h.with);
+}
+
+no_items : {X : Type 0} (xs : List X) → length xs ≡ 0 → xs ≡ []
+no_items [] none = refl
+no_items (x ∷ xs) none = absurd (omega (arith, none))
+
+pub kept_all : (olds : List (Entry Kept)) (all : List (Option (Box Found))) (news : List (Entry Kept)) (rs : List (Option (Box Found))) → rs ≡ [] → AreKept olds all news rs → AreWith olds all news
+kept_all olds all news rs none h =
+    let front = no_items h.front (h.many ∙ ap length none) in
+    let olds_are : h.back ≡ olds = sym (h.olds_are ∙ ap (λ l. l ++ h.back) front) in
+    let news_are : h.done ≡ news = sym (h.news_are ∙ ap (λ l. l ++ h.done) front) in
+    let all_are : h.left ≡ all = sym (h.all_are ∙ ap (λ l. l ++ h.left) none) in
+    subst (λ l. AreWith l all news) olds_are (subst (λ l. AreWith h.back l news) all_are (subst (λ l. AreWith h.back h.left l) news_are h.with))

@@ -1,0 +1,70 @@
+-- A walk over the faults of the items of a text.
+use Rattle.std.specs.Prelude.{◌≡◌, ℕ, ◌+◌, ◌≤◌, List, [], ◌∷◌, ◌++◌, map, All}
+use Rattle.x_text.specs.Text.{line_of, column_of}
+use Rattle.x_item.specs.declared.cutting.entry.Entry.{Entry}
+use Rattle.x_item.specs.Parse as parse
+use Rattle.x_item.specs.Parse.{Parse}
+use Rattle.x_sema.specs.Rules.{Ascends}
+use Rattle.x_sema.specs.declared.fault.WordFault.{WordFault}
+use Rattle.x_session.specs.Compile.{faults_from, rule_faults, start_of}
+use Rattle.x_session.specs.KeptView.{found_result, items_with, kept_found}
+use Rattle.x_session.specs.Reading.{Reading, behind, place_of, unread}
+use Rattle.x_session.specs.declared.compile.fault.Fault.{Fault}
+use Rattle.x_session.specs.declared.compile.fault.FaultCode.{FaultCode}
+use Rattle.x_session.specs.declared.compile.fault.FaultCode.TheVariants as codes
+use Rattle.x_session.specs.declared.compile.kept.Kept.{Kept}
+use Rattle.x_session.specs.declared.compile.kept.Told.{Told}
+use Rattle.x_session.specs.declared.compile.kept.Told.TheVariants.{Syntax, Rules}
+use Rattle.x_session.specs.declared.session.item_faults.ItemFaults.{ItemFaults}
+use Rattle.x_session.specs.declared.session.reader.Place.{Place}
+
+-- the faults of an item, by its parse and by the rules
+abbrev pub IsTold : Parse → List WordFault → Told → Type 0
+IsTold (parse.Fault token code) ruled (Syntax at why) = (at ≡ token) × (why ≡ code)
+IsTold (parse.Fault token code) ruled (Rules faults) = ⊥
+IsTold p ruled (Syntax at why) = ⊥
+IsTold p ruled (Rules faults) = faults.now ≡ ruled
+
+-- a fault at a place
+abbrev pub fault_at : List ℕ → ℕ → Place × FaultCode → Fault
+fault_at text item found = record {
+  item = item;
+  token = found.0.token;
+  line = line_of text found.0.start;
+  col = column_of text found.0.start;
+  code = found.1;
+}
+
+-- a fault by the rules, at its place
+abbrev pub rule_at : Reading → WordFault → Place × FaultCode
+rule_at r f = (place_of r f.word, codes.Rule f.code)
+
+-- the faults of an item that are left, at their places
+abbrev pub places_left : Reading → Told → List (Place × FaultCode)
+places_left r (Syntax at why) = (record { token = at; start = start_of (unread r) at }, codes.Syntax why) ∷ []
+places_left r (Rules faults) = map (rule_at r) faults.now
+
+-- the faults of an item that are left
+abbrev pub faults_here : List ℕ → ItemFaults → List Fault
+faults_here text i = map (fault_at text i.number) (places_left i.reader i.told)
+
+-- the words of faults come in order, and none before the last word that was read
+abbrev pub IsOnward : Reading → List WordFault → Type 0
+IsOnward r [] = Unit {0}
+IsOnward r (f ∷ fs) = (r.words ≤ f.word + 1) × Ascends (f ∷ fs)
+
+abbrev pub GoesOn : Reading → Told → Type 0
+GoesOn r (Syntax at why) = Unit {0}
+GoesOn r (Rules faults) = IsOnward r faults.now
+
+abbrev pub IsTelling : ItemFaults → Type 0
+IsTelling i = GoesOn i.reader i.told
+
+-- the faults of these items by the rules come in order
+abbrev pub AreOrdered : List (Entry Kept) → Type 0
+AreOrdered entries = All (λ e. Ascends (rule_faults (found_result (kept_found e.kept)))) entries
+
+-- the faults that are left: of an item, and of those behind it, of which the first has this number
+abbrev pub faults_left : List ℕ → ItemFaults → ℕ → List (Entry Kept) → List Fault
+faults_left text item next entries =
+    faults_here text item ++ faults_from text next (items_with (behind item.reader) entries)

@@ -1,0 +1,120 @@
+-- What a session keeps with the items of a text, and what it says of them.
+use Rattle.std.specs.Prelude.{◌≡◌, ℕ, List, [], ◌∷◌, length, map, take, drop, Option, None, Some}
+use Rattle.std.specs.Global.{Box}
+use Rattle.x_lex.specs.Places.{Lexeme}
+use Rattle.x_item.specs.Items.{AreItems}
+use Rattle.x_item.specs.Tree as tree
+use Rattle.x_item.specs.Parse.{IsParse}
+use Rattle.x_item.specs.Parse as parse
+use Rattle.x_item.specs.View.{view_definition}
+use Rattle.x_item.specs.declared.cutting.entry.Entry.{Entry}
+use Rattle.x_sema.specs.Results.{Outcome}
+use Rattle.x_gen.specs.Pieces as pieces
+use Rattle.x_session.specs.Compile as compile
+use Rattle.x_session.specs.Compile.{parsed_definition}
+use Rattle.x_session.specs.Generated.{lines_of}
+use Rattle.x_session.specs.declared.compile.kept.Body.{Body}
+use Rattle.x_session.specs.declared.compile.kept.Found.{Found}
+use Rattle.x_session.specs.declared.compile.kept.Kept.{Kept}
+use Rattle.x_session.specs.declared.compile.kept.Parse.{Parse}
+use Rattle.x_session.specs.declared.compile.kept.Parse.TheVariants as kept
+
+-- what an item parses to
+abbrev pub view_parse : Parse → parse.Parse
+view_parse kept.Nothing = parse.Nothing
+view_parse (kept.Def d) = parse.Def (view_definition d)
+view_parse (kept.Fault token code) = parse.Fault token code
+
+-- what was found of a definition, if there is one
+abbrev pub found_result : Option (Box Found) → Option Outcome
+found_result None = None
+found_result (Some found) = Some found.value.checked
+
+-- the pieces of a definition, if it has no fault
+abbrev pub found_pieces : Option (Box Found) → Option pieces.Pieces
+found_pieces None = None
+found_pieces (Some found) = found.value.pieces
+
+-- an item of which nothing is kept has neither words nor lines
+abbrev pub body_parse : Option (Box Body) → parse.Parse
+body_parse None = parse.Nothing
+body_parse (Some body) = view_parse body.value.parse
+
+abbrev pub body_lines : Option (Box Body) → List ℕ
+body_lines None = []
+body_lines (Some body) = body.value.lines.items
+
+abbrev pub body_found : Option (Box Body) → Option (Box Found)
+body_found None = None
+body_found (Some body) = body.value.found
+
+abbrev pub kept_parse : Kept → parse.Parse
+kept_parse k = body_parse k.body
+
+-- the lines that pass through
+abbrev pub kept_lines : Kept → List ℕ
+kept_lines k = body_lines k.body
+
+abbrev pub kept_found : Kept → Option (Box Found)
+kept_found k = body_found k.body
+
+-- the definition of an item
+abbrev pub kept_definition : Kept → Option tree.Definition
+kept_definition k = parsed_definition (kept_parse k)
+
+-- what is generated of an item
+abbrev pub kept_part : Kept → pieces.Part
+kept_part k = record { lines = kept_lines k; pieces = found_pieces (kept_found k) }
+
+-- the definitions of items
+abbrev pub entry_definitions : List (Entry Kept) → List (Option tree.Definition)
+entry_definitions entries = map (λ e. kept_definition e.kept) entries
+
+-- what was found of items
+abbrev pub entry_results : List (Entry Kept) → List (Option Outcome)
+entry_results entries = map (λ e. found_result (kept_found e.kept)) entries
+
+-- the item that has the first of these tokens
+abbrev pub item_with : List Lexeme → Entry Kept → compile.Item
+item_with tokens e = record {
+  tokens = take e.tokens tokens;
+  parse = kept_parse e.kept;
+  result = found_result (kept_found e.kept);
+}
+
+-- the items of these tokens
+abbrev pub items_with : List Lexeme → List (Entry Kept) → List compile.Item
+items_with tokens [] = []
+items_with tokens (e ∷ es) = item_with tokens e ∷ items_with (drop e.tokens tokens) es
+
+-- the number of an item's tokens, what they parse to, and the lines that pass through
+pub record IsItem (tokens : List Lexeme) (e : Entry Kept) : Type 0 where
+  pub count : e.tokens ≡ length tokens
+  pub parsed : IsParse tokens (kept_parse e.kept)
+  pub lines : kept_lines e.kept ≡ lines_of tokens
+
+-- so each of them is
+abbrev pub AreEach : List (List Lexeme) → List (Entry Kept) → Type 0
+AreEach [] [] = Unit {0}
+AreEach [] (e ∷ es) = ⊥
+AreEach (part ∷ parts) [] = ⊥
+AreEach (part ∷ parts) (e ∷ es) = IsItem part e × AreEach parts es
+
+-- the items of the tokens, each with what it parses to
+pub record AreParsed (tokens : List Lexeme) (entries : List (Entry Kept)) : Type 0 where
+  pub parts : List (List Lexeme)
+  pub are : AreItems tokens parts
+  pub each : AreEach parts entries
+
+-- the same item, of which this was found
+pub record IsWith (e : Entry Kept) (r : Option (Box Found)) (f : Entry Kept) : Type 0 where
+  pub tokens : f.tokens ≡ e.tokens
+  pub parse : kept_parse f.kept ≡ kept_parse e.kept
+  pub lines : kept_lines f.kept ≡ kept_lines e.kept
+  pub found : kept_found f.kept ≡ r
+
+-- so each of them is
+abbrev pub AreWith : List (Entry Kept) → List (Option (Box Found)) → List (Entry Kept) → Type 0
+AreWith [] [] [] = Unit {0}
+AreWith (e ∷ es) (r ∷ rs) (f ∷ fs) = IsWith e r f × AreWith es rs fs
+AreWith es rs fs = ⊥

@@ -1,0 +1,200 @@
+//! What is kept with an item.
+
+ghost use Rattle.std.specs.Prelude.{◌≡◌, ◌≤◌, List, length, map, IfOk, None, option_copied};
+ghost use Rattle.x_text.specs.Counts.{raised};
+ghost use Rattle.x_text.specs.declared.source.TheConstants.{MAX_TEXT};
+ghost use Rattle.x_lex.specs.Places.{Lexeme, lexeme};
+ghost use Rattle.x_schema.specs.Definitions.{tree_at};
+ghost use Rattle.x_session.specs.Compile.{faults_at, rule_faults};
+ghost use Rattle.x_session.specs.FaultWalk.{IsTold};
+ghost use Rattle.x_session.specs.KeptView.{IsItem, found_pieces, found_result};
+ghost use Rattle.x_session.specs.KeptView.{kept_definition, kept_found, kept_lines, kept_parse, view_parse};
+
+use crate::compile::lines::lines_of;
+use std::alloc::Global;
+use x_gen::Pieces;
+use x_item::{Definition, Entry, FaultCode, Parsed, parse_item};
+use x_lex::Token;
+use x_sema::{Checked, WordFault};
+use x_text::{Meter, NoMemory};
+
+/// What an item parses to.
+#[derive(Drop)]
+pub enum Parse {
+    /// It has no words.
+    Nothing,
+    /// The definition that its words spell.
+    Def(Definition),
+    /// Its words spell no definition.
+    Fault {
+        /// The index of the token in the item at which the fault stands.
+        token: u32,
+        /// What is wrong.
+        code: FaultCode,
+    },
+}
+
+/// What checking a definition found.
+#[derive(Drop)]
+pub struct Found {
+    pub checked: Checked,
+    /// What is generated of it, where it has no fault.
+    pub pieces: Option<Pieces>,
+}
+
+/// What is kept with an item that has words or lines that pass through.
+#[derive(Drop)]
+pub struct Body {
+    parse: Parse,
+    /// The lines that pass through: without their `%`, each with a line feed.
+    lines: Vec<u8>,
+    /// What was found of its definition.
+    found: Option<Box<Found>>,
+}
+
+/// What is kept with an item. Of one without words and lines it is nothing, so that it takes few bytes.
+#[derive(Drop)]
+pub struct Kept {
+    body: Option<Box<Body>>,
+}
+
+const _: () = prove!(size_of::<Entry<Kept>>() == 24);
+
+/// The faults of an item.
+#[derive(Clone, Copy)]
+pub enum Told<'k> {
+    /// Its words spell no definition.
+    Syntax {
+        /// The index of the token in the item at which the fault stands.
+        token: u32,
+        /// What is wrong.
+        code: FaultCode,
+    },
+    /// Its definition breaks these rules, at its words.
+    Rules(&'k [WordFault]),
+}
+
+/// The item that these tokens are, with what they parse to. Counts it as parsed.
+pub fn entry_of(alloc: Global, tokens: &[Token], meter: &mut Meter) -> Result<Entry<Kept>, NoMemory>
+    requires { length tokens.now ≤ MAX_TEXT }
+    ensures item { IfOk result (λ entry. IsItem (map lexeme tokens.now) entry) }
+    ensures counted { meter.new ≡ record meter.old { parsed = raised meter.old.parsed 1 } }
+{
+    let parse = match parse_item(alloc, tokens, meter)? {
+        Parsed::Nothing => Parse::Nothing,
+        Parsed::Def(definition) => Parse::Def(definition),
+        Parsed::Fault { token, code } => Parse::Fault {
+            token: token as u32,
+            code,
+        },
+    };
+    let kept = Kept::of(alloc, parse, lines_of(alloc, tokens)?)?;
+    Ok(Entry {
+        tokens: tokens.len() as u32,
+        kept,
+    })
+}
+
+impl Kept {
+    /// What is kept of an item that parses so, with these lines.
+    fn of(alloc: Global, parse: Parse, lines: Vec<u8>) -> Result<Kept, NoMemory>
+        ensures parse { IfOk result (λ kept. kept_parse kept ≡ view_parse parse) }
+        ensures lines { IfOk result (λ kept. kept_lines kept ≡ lines.items) }
+    {
+        if lines.is_empty() && matches!(parse, Parse::Nothing) {
+            return Ok(Kept { body: None });
+        }
+        let body = Body {
+            parse,
+            lines,
+            found: None,
+        };
+        Ok(Kept {
+            body: Some(Box::new(alloc, body)?),
+        })
+    }
+
+    /// The definition of the item, if it has one.
+    pub fn definition(&self) -> Option<&Definition>
+        ensures { tree_at result ≡ kept_definition self.now }
+    {
+        match &self.body.as_ref()?.parse {
+            Parse::Def(definition) => Some(definition),
+            _ => None,
+        }
+    }
+
+    /// The lines of the item that pass through: without their `%`, each with a line feed.
+    pub fn lines(&self) -> &[u8]
+        ensures { result.now ≡ kept_lines self.now }
+    {
+        match &self.body {
+            Some(body) => &body.lines,
+            None => &[],
+        }
+    }
+
+    /// What is generated of the item's definition, if it has one, and no fault.
+    pub fn pieces(&self) -> Option<&Pieces>
+        ensures { option_copied result ≡ found_pieces (kept_found self.now) }
+    {
+        self.body.as_ref()?.found.as_ref()?.pieces.as_ref()
+    }
+
+    /// The faults of the item by the rules.
+    fn rule_faults(&self) -> &[WordFault]
+        ensures { result.now ≡ rule_faults (found_result (kept_found self.now)) }
+    {
+        match &self.body {
+            Some(body) => faults_of(&body.found),
+            None => &[],
+        }
+    }
+
+    /// The faults of the item.
+    pub fn told(&self) -> Told<'_>
+        ensures { IsTold (kept_parse self.now) (rule_faults (found_result (kept_found self.now))) result }
+    {
+        match &self.body {
+            Some(body) => match body.parse {
+                Parse::Fault { token, code } => Told::Syntax { token, code },
+                _ => Told::Rules(faults_of(&body.found)),
+            },
+            None => Told::Rules(&[]),
+        }
+    }
+
+    /// How many faults the item has.
+    pub fn fault_count(&self) -> usize
+        ensures { (tokens : List Lexeme) → result
+            ≡ length (faults_at tokens (kept_parse self.now)
+            (rule_faults (found_result (kept_found self.now)))) }
+    {
+        match self.told() {
+            Told::Syntax { .. } => 1,
+            Told::Rules(faults) => faults.len(),
+        }
+    }
+
+    /// Keeps what was found of the item's definition.
+    pub fn keep(&mut self, found: Option<Box<Found>>)
+        requires { kept_definition self.old ≡ None → found ≡ None }
+        ensures parse { kept_parse self.new ≡ kept_parse self.old }
+        ensures lines { kept_lines self.new ≡ kept_lines self.old }
+        ensures found { kept_found self.new ≡ found }
+    {
+        if let Some(body) = &mut self.body {
+            body.found = found;
+        }
+    }
+}
+
+/// The faults by the rules that were found.
+fn faults_of(found: &Option<Box<Found>>) -> &[WordFault]
+    ensures { result.now ≡ rule_faults (found_result found.now) }
+{
+    match found {
+        Some(found) => found.checked.faults(),
+        None => &[],
+    }
+}
