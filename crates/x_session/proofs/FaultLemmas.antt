@@ -8,10 +8,10 @@ use Rattle.x_item.specs.Parse.{Parse, Nothing, Def, Fault}
 use Rattle.x_item.specs.declared.cutting.entry.Entry.{Entry}
 use Rattle.x_sema.specs.Rules.{Ascends, IsBefore}
 use Rattle.x_sema.specs.declared.fault.WordFault.{WordFault}
-use Rattle.x_session.specs.Compile.{at_token, faults_at, faults_from, item_faults, placed, rule_faults, start_of, token_of_word}
-use Rattle.x_session.specs.FaultWalk.{AreOrdered, IsOnward, IsTold, fault_at, faults_here, faults_left, places_left, rule_at}
-use Rattle.x_session.specs.KeptView.{found_result, item_with, items_with, kept_found}
-use Rattle.x_session.specs.Reading.{Reading, behind, place_of, unread, word_place}
+use Rattle.x_session.specs.Compile.{at_token, faults_at, faults_from, item_faults, placed, start_of, token_of_word}
+use Rattle.x_session.specs.FaultWalk.{AreOrdered, IsToldBy, fault_at, faults_here, faults_left, places_left, rule_at}
+use Rattle.x_session.specs.KeptView.{item_with, items_with}
+use Rattle.x_session.specs.ItemReading.{ItemReading, behind, place_of, unread, word_place}
 use Rattle.x_session.specs.declared.compile.fault.FaultCode.TheVariants as codes
 use Rattle.x_session.specs.declared.compile.kept.Kept.{Kept}
 use Rattle.x_session.specs.declared.compile.kept.Told.{Told}
@@ -35,14 +35,8 @@ meet_word : (x : Lexeme) (rest : List Lexeme) (v : ℕ) → is_significant x.kin
 meet_word x rest v e none = ap (token_of_word (x ∷ rest)) none ∙ ap (λ b. cond (b && 0 == 0) 0 (suc (token_of_word rest (cond b (0 - 1) 0)))) e
 
 -- a word that is not read
-not_read : (r : Reading) (word : ℕ) → r.words ≤ word → place_of r word ≡ word_place (unread r) r.read (word - r.words)
+not_read : (r : ItemReading) (word : ℕ) → r.words ≤ word → place_of r word ≡ word_place (unread r) r.read (word - r.words)
 not_read r word le = ap (λ b. cond b r.last (word_place (unread r) r.read (word - r.words))) (ne_eqb (word + 1) r.words (λ e. omega (arith, e, le)))
-
--- the word that is the last one that was read
-pub last_read : (r : Reading) (word : ℕ) → word < r.words → r.words ≤ word + 1 → r.last ≡ place_of r word
-last_read r word lt le =
-    let is : (word + 1 == r.words) ≡ true = grind (arith, nat_tests) in
-    sym (ap (λ b. cond b r.last (word_place (unread r) r.read (word - r.words))) is)
 
 -- the place of a word by the tokens behind the next one
 on_place : (t : Lexeme) (u : List Lexeme) (read v w : ℕ) → token_of_word (t ∷ u) v ≡ suc (token_of_word u w) → word_place u (read + 1) w ≡ word_place (t ∷ u) read v
@@ -52,7 +46,7 @@ on_place t u read v w on =
     λ i. record { token = token i; start = start i }
 
 -- the next token is no word
-pub step_other : (r s : Reading) (t : Lexeme) → unread r ≡ t ∷ unread s → is_significant t.kind ≡ false → s.read ≡ r.read + 1 → s.words ≡ r.words
+pub step_other : (r s : ItemReading) (t : Lexeme) → unread r ≡ t ∷ unread s → is_significant t.kind ≡ false → s.read ≡ r.read + 1 → s.words ≡ r.words
     → (word : ℕ) → r.words ≤ word → place_of s word ≡ place_of r word
 step_other r s t next none read words word le =
     not_read s word (omega (arith, le, words))
@@ -62,7 +56,7 @@ step_other r s t next none read words word le =
     ∙ sym (not_read r word le)
 
 -- the next token is a word
-pub step_word : (r s : Reading) (t : Lexeme) → unread r ≡ t ∷ unread s → is_significant t.kind ≡ true → s.read ≡ r.read + 1 → s.words ≡ r.words + 1 → s.last ≡ record { token = r.read; start = t.start }
+pub step_word : (r s : ItemReading) (t : Lexeme) → unread r ≡ t ∷ unread s → is_significant t.kind ≡ true → s.read ≡ r.read + 1 → s.words ≡ r.words + 1 → s.last ≡ record { token = r.read; start = t.start }
     → (word : ℕ) → r.words ≤ word → place_of s word ≡ place_of r word
 step_word r s t next some read words last word le = by (word + 1 == s.words) refl
   where
@@ -85,13 +79,6 @@ step_word r s t next some read words last word le = by (word + 1 == s.words) ref
         ∙ on_place t (unread s) r.read (word - r.words) ((word - r.words) - 1) (pass_word t (unread s) (word - r.words) some (omega (arith, more)))
         ∙ sym there
 
--- no token is left
-pub read_all : (r : Reading) (word : ℕ) → unread r ≡ [] → r.words ≤ word → record { token = r.read; start = 0 } ≡ place_of r word
-read_all r word none le =
-    let all : r.read + 0 ≡ r.read = omega arith in
-    let here : word_place [] r.read (word - r.words) ≡ record { token = r.read; start = 0 } = λ i. record { token = all i; start = 0 } in
-    sym (not_read r word le ∙ ap (λ l. word_place l r.read (word - r.words)) none ∙ here)
-
 -- where a token starts, by what stands behind those before it
 pub start_there : (walk : List Lexeme) (left token : ℕ) (t : Lexeme) (rest : List Lexeme) → token < left → drop token walk ≡ t ∷ rest → t.start ≡ start_of (take left walk) token
 start_there [] zero token t rest lt e = absurd (omega (arith, lt))
@@ -113,20 +100,20 @@ start_nowhere (x ∷ walk) (suc left) (suc token) (inr e) = start_nowhere walk l
 -- ---- the faults of an item
 
 -- before any token is read
-first_place : (r : Reading) → r.read ≡ 0 → r.words ≡ 0 → (word : ℕ) → place_of r word ≡ record { token = token_of_word (unread r) word; start = start_of (unread r) (token_of_word (unread r) word) }
+first_place : (r : ItemReading) → r.read ≡ 0 → r.words ≡ 0 → (word : ℕ) → place_of r word ≡ record { token = token_of_word (unread r) word; start = start_of (unread r) (token_of_word (unread r) word) }
 first_place r read words word =
     let same : word - r.words ≡ word = omega (arith, words) in
     let token : r.read + token_of_word (unread r) word ≡ token_of_word (unread r) word = omega (arith, read) in
     not_read r word (omega (arith, words)) ∙ ap (word_place (unread r) r.read) same ∙ (λ i. record { token = token i; start = start_of (unread r) (token_of_word (unread r) word) })
 
-begun_each : (text : List ℕ) (n : ℕ) (r : Reading) (fs : List WordFault) → r.read ≡ 0 → r.words ≡ 0 → map (fault_at text n) (map (rule_at r) fs) ≡ map (placed text n (unread r)) (map (at_token (unread r)) fs)
+begun_each : (text : List ℕ) (n : ℕ) (r : ItemReading) (fs : List WordFault) → r.read ≡ 0 → r.words ≡ 0 → map (fault_at text n) (map (rule_at r) fs) ≡ map (placed text n (unread r)) (map (at_token (unread r)) fs)
 begun_each text n r [] read words = refl
 begun_each text n r (f ∷ fs) read words =
     let here = first_place r read words f.word in
     let others = begun_each text n r fs read words in
     λ i. fault_at text n (here i, codes.Rule f.code) ∷ others i
 
-pub begun : (text : List ℕ) (n : ℕ) (r : Reading) (p : Parse) (fs : List WordFault) (t : Told) → r.read ≡ 0 → r.words ≡ 0 → IsTold p fs t
+pub begun : (text : List ℕ) (n : ℕ) (r : ItemReading) (p : Parse) (fs : List WordFault) (t : Told) → r.read ≡ 0 → r.words ≡ 0 → IsToldBy p fs t
     → map (fault_at text n) (places_left r t) ≡ map (placed text n (unread r)) (faults_at (unread r) p fs)
 begun text n r (Fault token code) fs (Syntax at why) read words is = λ i. placed text n (unread r) (record { token = is.0 i; code = codes.Syntax (is.1 i) }) ∷ []
 begun text n r (Fault token code) fs (Rules ruled) read words is = absurd is
@@ -140,7 +127,7 @@ later_word : (f g : WordFault) → IsBefore f g → f.word ≤ g.word
 later_word f g (inl lt) = omega (arith, lt)
 later_word f g (inr same) = let e = same.0 in omega (arith, e)
 
-pub later_places : (r s : Reading) (word : ℕ) (fs : List WordFault) → All (λ f. word ≤ f.word) fs → ((later : ℕ) → word ≤ later → place_of s later ≡ place_of r later)
+pub later_places : (r s : ItemReading) (word : ℕ) (fs : List WordFault) → All (λ f. word ≤ f.word) fs → ((later : ℕ) → word ≤ later → place_of s later ≡ place_of r later)
     → map (rule_at r) fs ≡ map (rule_at s) fs
 later_places r s word [] far stay = refl
 later_places r s word (f ∷ fs) far stay =
@@ -156,14 +143,6 @@ behind_first f fs up = from f.word f fs (omega arith) up
     from word f (g ∷ fs) le up zero d lt = let h = later_word f g up.0 in omega (arith, le, h)
     from word f (g ∷ fs) le up (suc k) d lt = from word g fs (let h = later_word f g up.0 in omega (arith, le, h)) up.1 k d (omega (arith, lt))
 
-pub onward_more : (s : Reading) (f : WordFault) (fs : List WordFault) → Ascends (f ∷ fs) → s.words ≤ f.word + 1 → IsOnward s fs
-onward_more s f [] up le = tt
-onward_more s f (g ∷ fs) up le = (let h = later_word f g up.0 in omega (arith, le, h), up.1)
-
-pub onward_first : (r : Reading) (fs : List WordFault) → r.words ≡ 0 → Ascends fs → IsOnward r fs
-onward_first r [] none up = tt
-onward_first r (f ∷ fs) none up = (omega (arith, none), up)
-
 -- ---- item by item
 
 -- no fault of the item is left, and the next item begins
@@ -178,6 +157,3 @@ next_item text old new n e entries es all none here there =
 
 pub ordered_rest : (e : Entry Kept) (entries es : List (Entry Kept)) → entries ≡ e ∷ es → AreOrdered entries → AreOrdered es
 ordered_rest e entries es all ordered k d lt = subst AreOrdered all ordered (suc k) d (omega (arith, lt))
-
-pub ordered_first : (e : Entry Kept) (entries es : List (Entry Kept)) → entries ≡ e ∷ es → AreOrdered entries → Ascends (rule_faults (found_result (kept_found e.kept)))
-ordered_first e entries es all ordered = subst AreOrdered all ordered zero e (omega arith)

@@ -8,7 +8,7 @@ use Rattle.x_sema.specs.Rules.{Ascends}
 use Rattle.x_sema.specs.declared.fault.WordFault.{WordFault}
 use Rattle.x_session.specs.Compile.{faults_from, rule_faults, start_of}
 use Rattle.x_session.specs.KeptView.{found_result, items_with, kept_found}
-use Rattle.x_session.specs.Reading.{Reading, behind, place_of, unread}
+use Rattle.x_session.specs.ItemReading.{ItemReading, behind, place_of, unread}
 use Rattle.x_session.specs.declared.compile.fault.Fault.{Fault}
 use Rattle.x_session.specs.declared.compile.fault.FaultCode.{FaultCode}
 use Rattle.x_session.specs.declared.compile.fault.FaultCode.TheVariants as codes
@@ -19,11 +19,11 @@ use Rattle.x_session.specs.declared.session.item_faults.ItemFaults.{ItemFaults}
 use Rattle.x_session.specs.declared.session.reader.Place.{Place}
 
 -- the faults of an item, by its parse and by the rules
-abbrev pub IsTold : Parse → List WordFault → Told → Type 0
-IsTold (parse.Fault token code) ruled (Syntax at why) = (at ≡ token) × (why ≡ code)
-IsTold (parse.Fault token code) ruled (Rules faults) = ⊥
-IsTold p ruled (Syntax at why) = ⊥
-IsTold p ruled (Rules faults) = faults.now ≡ ruled
+abbrev pub IsToldBy : Parse → List WordFault → Told → Type 0
+IsToldBy (parse.Fault token code) ruled (Syntax at why) = (at ≡ token) × (why ≡ code)
+IsToldBy (parse.Fault token code) ruled (Rules faults) = ⊥
+IsToldBy p ruled (Syntax at why) = ⊥
+IsToldBy p ruled (Rules faults) = faults.now ≡ ruled
 
 -- a fault at a place
 abbrev pub fault_at : List ℕ → ℕ → Place × FaultCode → Fault
@@ -36,11 +36,11 @@ fault_at text item found = record {
 }
 
 -- a fault by the rules, at its place
-abbrev pub rule_at : Reading → WordFault → Place × FaultCode
+abbrev pub rule_at : ItemReading → WordFault → Place × FaultCode
 rule_at r f = (place_of r f.word, codes.Rule f.code)
 
 -- the faults of an item that are left, at their places
-abbrev pub places_left : Reading → Told → List (Place × FaultCode)
+abbrev pub places_left : ItemReading → Told → List (Place × FaultCode)
 places_left r (Syntax at why) = (record { token = at; start = start_of (unread r) at }, codes.Syntax why) ∷ []
 places_left r (Rules faults) = map (rule_at r) faults.now
 
@@ -49,16 +49,16 @@ abbrev pub faults_here : List ℕ → ItemFaults → List Fault
 faults_here text i = map (fault_at text i.number) (places_left i.reader i.told)
 
 -- the words of faults come in order, and none before the last word that was read
-abbrev pub IsOnward : Reading → List WordFault → Type 0
+abbrev pub IsOnward : ItemReading → List WordFault → Type 0
 IsOnward r [] = Unit {0}
 IsOnward r (f ∷ fs) = (r.words ≤ f.word + 1) × Ascends (f ∷ fs)
 
-abbrev pub GoesOn : Reading → Told → Type 0
-GoesOn r (Syntax at why) = Unit {0}
-GoesOn r (Rules faults) = IsOnward r faults.now
+abbrev pub TellsOn : ItemReading → Told → Type 0
+TellsOn r (Syntax at why) = Unit {0}
+TellsOn r (Rules faults) = IsOnward r faults.now
 
 abbrev pub IsTelling : ItemFaults → Type 0
-IsTelling i = GoesOn i.reader i.told
+IsTelling i = TellsOn i.reader i.told
 
 -- the faults of these items by the rules come in order
 abbrev pub AreOrdered : List (Entry Kept) → Type 0

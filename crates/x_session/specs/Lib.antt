@@ -7,10 +7,10 @@ pub mod Definitions
 pub mod FaultWalk
 pub mod Faults
 pub mod Generated
+pub mod ItemReading
 pub mod KeptView
 pub mod LineAnswers
 pub mod Lines
-pub mod Reading
 pub mod Script
 pub mod Session
 pub mod SessionState

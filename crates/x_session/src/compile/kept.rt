@@ -6,7 +6,7 @@ ghost use Rattle.x_text.specs.declared.source.TheConstants.{MAX_TEXT};
 ghost use Rattle.x_lex.specs.Places.{Lexeme, lexeme};
 ghost use Rattle.x_schema.specs.Definitions.{tree_at};
 ghost use Rattle.x_session.specs.Compile.{faults_at, rule_faults};
-ghost use Rattle.x_session.specs.FaultWalk.{IsTold};
+ghost use Rattle.x_session.specs.FaultWalk.{IsToldBy};
 ghost use Rattle.x_session.specs.KeptView.{IsItem, found_pieces, found_result};
 ghost use Rattle.x_session.specs.KeptView.{kept_definition, kept_found, kept_lines, kept_parse, view_parse};
 
@@ -153,7 +153,7 @@ impl Kept {
 
     /// The faults of the item.
     pub fn told(&self) -> Told<'_>
-        ensures { IsTold (kept_parse self.now) (rule_faults (found_result (kept_found self.now))) result }
+        ensures { IsToldBy (kept_parse self.now) (rule_faults (found_result (kept_found self.now))) result }
     {
         match &self.body {
             Some(body) => match body.parse {

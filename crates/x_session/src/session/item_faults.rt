@@ -5,7 +5,7 @@ ghost use Rattle.x_sema.specs.Rules.{Ascends};
 ghost use Rattle.x_session.specs.Compile.{item_faults, rule_faults};
 ghost use Rattle.x_session.specs.FaultWalk.{IsTelling, faults_here, places_left};
 ghost use Rattle.x_session.specs.KeptView.{found_result, item_with, kept_found};
-ghost use Rattle.x_session.specs.Reading.{behind};
+ghost use Rattle.x_session.specs.ItemReading.{behind};
 
 use crate::compile::{FaultCode, Kept, Told};
 use crate::session::reader::{Place, Reader};

@@ -3,7 +3,7 @@
 ghost use Rattle.std.specs.Prelude.{◌≡◌, ◌+◌, ◌<◌, ◌≤◌, ℕ, [], false, length, IsTrue};
 ghost use Rattle.x_text.specs.declared.source.TheConstants.{MAX_TEXT};
 ghost use Rattle.x_session.specs.Compile.{start_of};
-ghost use Rattle.x_session.specs.Reading.{behind, place_of, unread};
+ghost use Rattle.x_session.specs.ItemReading.{behind, place_of, unread};
 
 use std::marker::Model;
 use x_item::is_significant;
@@ -34,9 +34,9 @@ pub struct Reader<'s> {
 impl<'s> Model for Reader<'s> {
     ghost use Rattle.std.specs.Prelude.{◌+◌, ◌≤◌, length};
     ghost use Rattle.x_text.specs.declared.source.TheConstants.{MAX_TEXT};
-    ghost use Rattle.x_session.specs.Reading.{Reading};
+    ghost use Rattle.x_session.specs.ItemReading.{ItemReading};
 
-    ghost Value = { Reading };
+    ghost Value = { ItemReading };
 
     ghost view = { λ r. record {
       walk = r.walk;

@@ -1,7 +1,7 @@
 use Rattle.std.proofs.Common.{◌≡◌, map, take, ◌∙◌}
 use Rattle.x_session.specs.Compile.{faults_at, placed, rule_faults}
 use Rattle.x_session.specs.KeptView.{found_result, kept_found, kept_parse}
-use Rattle.x_session.specs.Reading.{behind, unread}
+use Rattle.x_session.specs.ItemReading.{behind, unread}
 use Rattle.x_session.proofs.FaultLemmas.{begun}
 use Rattle.x_session.proofs.session.item_faults.ItemFaults.begin.Goals as goal
 

@@ -1,5 +1,5 @@
 use Rattle.std.proofs.Common.{◌≡◌, ◌∷◌, map, ap, sym, subst, ◌∙◌}
-use Rattle.x_session.specs.FaultWalk.{GoesOn, IsOnward, places_left, rule_at}
+use Rattle.x_session.specs.FaultWalk.{TellsOn, IsOnward, places_left, rule_at}
 use Rattle.x_session.specs.declared.compile.fault.FaultCode.TheVariants as codes
 use Rattle.x_session.proofs.FaultLemmas.{behind_first, later_places}
 use Rattle.x_session.proofs.session.item_faults.ItemFaults.tell.Goals as goal
@@ -10,6 +10,6 @@ returns-in_ok-fault-in-Rules-clause-told c =
     let fault = c.in_ok-fault-in-Rules.fault.now in
     let others = c.in_ok-fault-in-Rules.others.now in
     let all : c.in-Rules.faults.now ≡ fault ∷ others = c.in_ok-fault-in-Rules.ensures.cases.0 in
-    let onward : IsOnward reader (fault ∷ others) = subst (IsOnward reader) all (subst (GoesOn reader) c.in-Rules.is c.requires) in
+    let onward : IsOnward reader (fault ∷ others) = subst (IsOnward reader) all (subst (TellsOn reader) c.in-Rules.is c.requires) in
     let later = later_places reader c.seek.new.self fault.word others (behind_first fault others onward.1) c.seek.ensures.same in
     ap (places_left reader) c.in-Rules.is ∙ ap (map (rule_at reader)) all ∙ (λ i. (sym c.seek.ensures.place i, codes.Rule fault.code) ∷ later i)

@@ -1,5 +1,5 @@
 use Rattle.std.proofs.Common.{◌≡◌, ◌+◌, ◌≤◌, ℕ}
-use Rattle.x_session.specs.Reading.{behind, place_of}
+use Rattle.x_session.specs.ItemReading.{behind, place_of}
 use Rattle.x_session.proofs.session.reader.Reader.seek.Given as goal
 
 abbrev pub invariant-loop-self : goal.invariant-loop-self

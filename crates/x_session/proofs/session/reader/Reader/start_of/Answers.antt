@@ -2,7 +2,7 @@ use Rattle.std.proofs.Common.{◌≡◌, ◌+◌, ◌-◌, ◌<◌, suc, [], ◌
 use Rattle.std.proofs.lemmas.List.{drop-drop}
 use Rattle.x_lex.specs.Places.{lexeme}
 use Rattle.x_session.specs.Compile.{start_of}
-use Rattle.x_session.specs.Reading.{behind, unread}
+use Rattle.x_session.specs.ItemReading.{behind, unread}
 use Rattle.x_session.proofs.FaultLemmas.{start_there, start_nowhere}
 use Rattle.x_session.proofs.session.reader.Reader.start_of.Goals as goal
 

@@ -6,7 +6,7 @@ use Rattle.x_session.specs.declared.session.reader.Place.{Place}
 
 -- Tokens of an item are read: `walk` are those that are not read yet, `left` of the item and all behind it;
 -- `words` of the `read` ones are words, of which the last stands at `last`.
-pub record Reading : Type 0 where
+pub record ItemReading : Type 0 where
   pub walk : List Lexeme
   pub left : ℕ
   pub read : ℕ
@@ -21,13 +21,13 @@ word_place left read word = record {
 }
 
 -- the tokens of the item that are not read yet
-abbrev pub unread : Reading → List Lexeme
+abbrev pub unread : ItemReading → List Lexeme
 unread r = take r.left r.walk
 
 -- the place of a word that is the last one that was read, or was not read yet
-abbrev pub place_of : Reading → ℕ → Place
+abbrev pub place_of : ItemReading → ℕ → Place
 place_of r word = if word + 1 == r.words then r.last else word_place (unread r) r.read (word - r.words)
 
 -- the tokens behind the item
-abbrev pub behind : Reading → List Lexeme
+abbrev pub behind : ItemReading → List Lexeme
 behind r = drop r.left r.walk
