@@ -13,9 +13,9 @@ use Rattle.x_gen.specs.Pieces as pieces
 use Rattle.x_session.specs.Compile as compile
 use Rattle.x_session.specs.Compile.{parsed_definition}
 use Rattle.x_session.specs.Generated.{lines_of}
-use Rattle.x_session.specs.declared.compile.kept.Body.{Body}
 use Rattle.x_session.specs.declared.compile.kept.Found.{Found}
 use Rattle.x_session.specs.declared.compile.kept.Kept.{Kept}
+use Rattle.x_session.specs.declared.compile.kept.Kept.TheVariants as items
 use Rattle.x_session.specs.declared.compile.kept.Parse.{Parse}
 use Rattle.x_session.specs.declared.compile.kept.Parse.TheVariants as kept
 
@@ -35,28 +35,19 @@ abbrev pub found_pieces : Option (Box Found) → Option pieces.Pieces
 found_pieces None = None
 found_pieces (Some found) = found.value.pieces
 
--- an item of which nothing is kept has neither words nor lines
-abbrev pub body_parse : Option (Box Body) → parse.Parse
-body_parse None = parse.Nothing
-body_parse (Some body) = view_parse body.value.parse
-
-abbrev pub body_lines : Option (Box Body) → List ℕ
-body_lines None = []
-body_lines (Some body) = body.value.lines.items
-
-abbrev pub body_found : Option (Box Body) → Option (Box Found)
-body_found None = None
-body_found (Some body) = body.value.found
-
 abbrev pub kept_parse : Kept → parse.Parse
-kept_parse k = body_parse k.body
+kept_parse items.Nothing = parse.Nothing
+kept_parse (items.Fault token code) = parse.Fault token code
+kept_parse (items.Body body) = view_parse body.value.parse
 
 -- the lines that pass through
 abbrev pub kept_lines : Kept → List ℕ
-kept_lines k = body_lines k.body
+kept_lines (items.Body body) = body.value.lines.items
+kept_lines k = []
 
 abbrev pub kept_found : Kept → Option (Box Found)
-kept_found k = body_found k.body
+kept_found (items.Body body) = body.value.found
+kept_found k = None
 
 -- the definition of an item
 abbrev pub kept_definition : Kept → Option tree.Definition

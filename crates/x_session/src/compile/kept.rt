@@ -42,7 +42,7 @@ pub struct Found {
     pub pieces: Option<Pieces>,
 }
 
-/// What is kept with an item that has words or lines that pass through.
+/// What is kept with an item that has a definition or lines that pass through.
 #[derive(Drop)]
 pub struct Body {
     parse: Parse,
@@ -52,10 +52,21 @@ pub struct Body {
     found: Option<Box<Found>>,
 }
 
-/// What is kept with an item. Of one without words and lines it is nothing, so that it takes few bytes.
+/// What is kept with an item, in few bytes where it has neither a definition nor lines: a text may be 16
+/// million `;`.
 #[derive(Drop)]
-pub struct Kept {
-    body: Option<Box<Body>>,
+pub enum Kept {
+    /// It has neither words nor lines.
+    Nothing,
+    /// Its words spell no definition, and it has no lines.
+    Fault {
+        /// The index of the token in the item at which the fault stands.
+        token: u32,
+        /// What is wrong.
+        code: FaultCode,
+    },
+    /// It has a definition or lines.
+    Body(Box<Body>),
 }
 
 const _: () = prove!(size_of::<Entry<Kept>>() == 24);
@@ -101,25 +112,35 @@ impl Kept {
         ensures parse { IfOk result (λ kept. kept_parse kept ≡ view_parse parse) }
         ensures lines { IfOk result (λ kept. kept_lines kept ≡ lines.items) }
     {
-        if lines.is_empty() && matches!(parse, Parse::Nothing) {
-            return Ok(Kept { body: None });
+        if lines.is_empty() {
+            match &parse {
+                Parse::Nothing => return Ok(Kept::Nothing),
+                Parse::Fault { token, code } => {
+                    return Ok(Kept::Fault {
+                        token: *token,
+                        code: *code,
+                    });
+                }
+                Parse::Def(_) => {}
+            }
         }
         let body = Body {
             parse,
             lines,
             found: None,
         };
-        Ok(Kept {
-            body: Some(Box::new(alloc, body)?),
-        })
+        Ok(Kept::Body(Box::new(alloc, body)?))
     }
 
     /// The definition of the item, if it has one.
     pub fn definition(&self) -> Option<&Definition>
         ensures { tree_at result ≡ kept_definition self.now }
     {
-        match &self.body.as_ref()?.parse {
-            Parse::Def(definition) => Some(definition),
+        match self {
+            Kept::Body(body) => match &body.parse {
+                Parse::Def(definition) => Some(definition),
+                _ => None,
+            },
             _ => None,
         }
     }
@@ -128,9 +149,9 @@ impl Kept {
     pub fn lines(&self) -> &[u8]
         ensures { result.now ≡ kept_lines self.now }
     {
-        match &self.body {
-            Some(body) => &body.lines,
-            None => &[],
+        match self {
+            Kept::Body(body) => &body.lines,
+            _ => &[],
         }
     }
 
@@ -138,16 +159,9 @@ impl Kept {
     pub fn pieces(&self) -> Option<&Pieces>
         ensures { option_copied result ≡ found_pieces (kept_found self.now) }
     {
-        self.body.as_ref()?.found.as_ref()?.pieces.as_ref()
-    }
-
-    /// The faults of the item by the rules.
-    fn rule_faults(&self) -> &[WordFault]
-        ensures { result.now ≡ rule_faults (found_result (kept_found self.now)) }
-    {
-        match &self.body {
-            Some(body) => faults_of(&body.found),
-            None => &[],
+        match self {
+            Kept::Body(body) => body.found.as_ref()?.pieces.as_ref(),
+            _ => None,
         }
     }
 
@@ -155,12 +169,16 @@ impl Kept {
     pub fn told(&self) -> Told<'_>
         ensures { IsToldBy (kept_parse self.now) (rule_faults (found_result (kept_found self.now))) result }
     {
-        match &self.body {
-            Some(body) => match body.parse {
+        match self {
+            Kept::Nothing => Told::Rules(&[]),
+            Kept::Fault { token, code } => Told::Syntax {
+                token: *token,
+                code: *code,
+            },
+            Kept::Body(body) => match body.parse {
                 Parse::Fault { token, code } => Told::Syntax { token, code },
                 _ => Told::Rules(faults_of(&body.found)),
             },
-            None => Told::Rules(&[]),
         }
     }
 
@@ -183,7 +201,7 @@ impl Kept {
         ensures lines { kept_lines self.new ≡ kept_lines self.old }
         ensures found { kept_found self.new ≡ found }
     {
-        if let Some(body) = &mut self.body {
+        if let Kept::Body(body) = self {
             body.found = found;
         }
     }
