@@ -1,8 +1,9 @@
 //! Compiling a text from scratch.
 
-ghost use Rattle.std.specs.Prelude.{◌≡◌, IfOk, map};
+ghost use Rattle.std.specs.Prelude.{◌≡◌, ℕ, List, IfOk, map};
 ghost use Rattle.x_schema.specs.Definitions.{tree_at};
-ghost use Rattle.x_sema.specs.Declarers.{AreShort};
+ghost use Rattle.x_sema.specs.DeclarerTable.{first_in};
+ghost use Rattle.x_sema.specs.Declarers.{AreShort, FirstIs};
 ghost use Rattle.x_sema.specs.Results.{AreResults};
 ghost use Rattle.x_session.specs.Checking.{AreRendered};
 ghost use Rattle.x_session.specs.KeptView.{entry_definitions, found_result};
@@ -66,9 +67,16 @@ fn results_of(
         (λ results. AreResults (entry_definitions entries.now) (map found_result results.items)) }
     ensures rendered { IfOk result (λ results. AreRendered (entry_definitions entries.now) results.items) }
 {
-    let definitions = definitions_in(alloc, entries)?;
-    let names = Names::of(alloc, &definitions)?;
-    check_items(alloc, &definitions, &names, meter)
+    let names = names_of(alloc, entries)?;
+    check_items(alloc, entries, &names, meter)
+}
+
+/// The table of the names that the items declare.
+fn names_of(alloc: Global, entries: &[Entry<Kept>]) -> Result<Names<'_>, NoMemory>
+    ensures { IfOk result (λ names. AreShort (entry_definitions entries.now)
+        → (name : List ℕ) → FirstIs (entry_definitions entries.now) name (first_in names name)) }
+{
+    Names::of(alloc, &definitions_in(alloc, entries)?)
 }
 
 /// The definition of each item.

@@ -12,38 +12,39 @@ ghost use Rattle.x_sema.specs.Results.{AreResults, IsResult, result_at};
 ghost use Rattle.x_sema.specs.RustViews.{view_view};
 ghost use Rattle.x_sema.specs.Views.{names_of};
 ghost use Rattle.x_session.specs.Checking.{AreRendered, IsShortAt, counted, sound_pieces, view_by_first};
-ghost use Rattle.x_session.specs.KeptView.{found_pieces, found_result};
+ghost use Rattle.x_session.specs.KeptView.{entry_definitions, found_pieces, found_result};
 
-use crate::compile::kept::Found;
+use crate::compile::kept::{Found, Kept};
 use std::alloc::Global;
 use x_gen::{Pieces, Renderer};
-use x_item::Definition;
+use x_item::{Definition, Entry};
 use x_sema::{Checked, Declarer, Names, Outline, View, check_outline};
 use x_text::{Meter, NoMemory};
 
-/// What checking the items finds, in their order, by the definition that each of them has or lacks. Each
-/// definition is checked by what was found of the items before it, and counted as checked.
+/// What checking the items finds, in their order. Each is checked by what was found of the items before it,
+/// and counted as checked where it has a definition.
 pub fn check_items(
     alloc: Global,
-    definitions: &[Option<&Definition>],
+    entries: &[Entry<Kept>],
     names: &Names,
     meter: &mut Meter,
 ) -> Result<Vec<Option<Box<Found>>>, NoMemory>
-    requires short { AreShort (map tree_at definitions.now) }
-    requires first { (name : List ℕ) → FirstIs (map tree_at definitions.now) name (first_in names.now name) }
+    requires short { AreShort (entry_definitions entries.now) }
+    requires first { (name : List ℕ) → FirstIs (entry_definitions entries.now) name (first_in names.now name) }
     ensures results { IfOk result
-        (λ results. AreResults (map tree_at definitions.now) (map found_result results.items)) }
-    ensures rendered { IfOk result (λ results. AreRendered (map tree_at definitions.now) results.items) }
-    ensures counted { IfOk result (λ results. meter.new ≡ counted meter.old (map tree_at definitions.now)) }
+        (λ results. AreResults (entry_definitions entries.now) (map found_result results.items)) }
+    ensures rendered { IfOk result (λ results. AreRendered (entry_definitions entries.now) results.items) }
+    ensures counted { IfOk result (λ results. meter.new ≡ counted meter.old (entry_definitions entries.now)) }
 {
-    let mut results = Vec::with_capacity(alloc, definitions.len())?;
+    let mut results = Vec::with_capacity(alloc, entries.len())?;
     let mut walk = Walk {
         last: None,
         declared: 0,
         renderer: Renderer::new(alloc),
     };
-    for definition in definitions {
-        let found = check(alloc, *definition, &mut walk, names, &results, meter)?;
+    for entry in entries {
+        let definition = entry.kept.definition();
+        let found = check(alloc, definition, &mut walk, names, &results, meter)?;
         results.push(found)?;
     }
     Ok(results)

@@ -1,32 +1,42 @@
-use Rattle.std.proofs.Common.{◌∷◌, [], map, length, ap, sym, subst, ◌∙◌}
+use Rattle.std.proofs.Common.{◌≡◌, ◌∷◌, [], map, length, Option, ap, sym, subst, ◌∙◌}
 use Rattle.std.proofs.lemmas.List.{length-map, map-append}
-use Rattle.x_schema.specs.Definitions.{tree_at}
+use Rattle.x_item.specs.Tree.{Definition}
+use Rattle.x_item.specs.declared.cutting.entry.Entry.{Entry}
 use Rattle.x_sema.specs.Results.{IsResult, result_at}
-use Rattle.x_session.specs.Checking.{counted}
-use Rattle.x_session.specs.KeptView.{found_result}
+use Rattle.x_session.specs.Checking.{IsShortAt, counted, sound_pieces}
+use Rattle.x_session.specs.KeptView.{entry_definitions, found_pieces, found_result, kept_definition}
+use Rattle.x_session.specs.declared.compile.kept.Kept.{Kept}
 use Rattle.x_session.proofs.CheckingLemmas.{short_here, many_more, results_next, rendered_next, counted_more}
 use Rattle.x_session.proofs.compile.checking.check_items.Goals as goal
 
-pub loop-definition-preserved : goal.loop-definition-preserved
-loop-definition-preserved c =
-    let ds = c.args.definitions.now in
-    let index = c.loop-definition.definition-index in
-    let d = c.definition-item.result in
-    let rs = c.loop-definition.results.items in
+abbrev defined : Entry Kept → Option Definition
+defined e = kept_definition e.kept
+
+pub loop-entry-preserved : goal.loop-entry-preserved
+loop-entry-preserved c =
+    let es = c.args.entries.now in
+    let ds = entry_definitions es in
+    let index = c.loop-entry.entry-index in
+    let e = c.entry-item.result in
+    let rs = c.loop-entry.results.items in
     let new = c.push.new.self.items in
     let found = c.in_ok-found.found in
-    let lt = c.loop-definition-test.true in
-    let at = c.definition-item.is in
-    let short = short_here tree_at ds index d lt at c.requires.short in
+    let lt = c.loop-entry-test.true in
+    let at = c.entry-item.is in
+    let same = c.definition-definition.ensures in
+    let short = subst IsShortAt (sym same) (short_here defined es index e lt at c.requires.short) in
     let more = ap (map found_result) c.in_ok-push.ensures.items ∙ map-append found_result rs (found ∷ []) in
     let many = sym (length-map rs found_result) in
-    let is = c.in_ok-found.ensures.result (map tree_at ds) short c.requires.first in
-    let here : IsResult (map tree_at ds) (result_at (map found_result rs)) (length (map found_result rs)) (tree_at d) (found_result found) =
-    subst (λ n. IsResult (map tree_at ds) (result_at (map found_result rs)) n (tree_at d) (found_result found)) many
-    (subst (λ l. IsResult (map tree_at ds) (result_at (map found_result l)) (length l) (tree_at d) (found_result found)) c.deref.ensures.value is) in
+    let is = c.in_ok-found.ensures.result ds short c.requires.first in
+    let here : IsResult ds (result_at (map found_result rs)) (length (map found_result rs)) (defined e) (found_result found) =
+    subst (λ n. IsResult ds (result_at (map found_result rs)) n (defined e) (found_result found)) many
+    (subst (λ l. IsResult ds (result_at (map found_result l)) (length l) (defined e) (found_result found)) c.deref.ensures.value
+    (subst (λ d. IsResult ds (result_at (map found_result c.deref.result.now)) (length c.deref.result.now) d (found_result found)) same is)) in
+    let rendered : found_pieces found ≡ sound_pieces (defined e) (found_result found) = subst (λ d. found_pieces found ≡ sound_pieces d (found_result found)) same c.in_ok-found.ensures.rendered in
+    let counts = c.in_ok-found.ensures.counted ∙ ap (λ d. counted c.loop-entry.meter (d ∷ [])) same in
     record {
-      many = many_more index rs new found c.in_ok-push.ensures.items c.loop-definition.invariant.many;
-      are = results_next tree_at ds index d (map found_result rs) (map found_result new) (found_result found) lt at more (c.loop-definition.invariant.many ∙ many) c.loop-definition.invariant.are here;
-      rendered = rendered_next tree_at ds index d rs new found lt at c.in_ok-push.ensures.items c.loop-definition.invariant.rendered c.in_ok-found.ensures.rendered;
-      counted = counted_more tree_at c.loop-definition.meter c.check.new.meter (counted c.args.meter.now (map tree_at ds)) ds index d lt at c.in_ok-found.ensures.counted c.loop-definition.invariant.counted;
+      many = many_more index rs new found c.in_ok-push.ensures.items c.loop-entry.invariant.many;
+      are = results_next defined es index e (map found_result rs) (map found_result new) (found_result found) lt at more (c.loop-entry.invariant.many ∙ many) c.loop-entry.invariant.are here;
+      rendered = rendered_next defined es index e rs new found lt at c.in_ok-push.ensures.items c.loop-entry.invariant.rendered rendered;
+      counted = counted_more defined c.loop-entry.meter c.check.new.meter (counted c.args.meter.now ds) es index e lt at counts c.loop-entry.invariant.counted;
     }

@@ -1,0 +1,11 @@
+use Rattle.std.proofs.Common.{List, ℕ, map, ap, subst, ◌∙◌}
+use Rattle.std.specs.Prelude.{IfOk}
+use Rattle.x_schema.specs.Definitions.{tree_at}
+use Rattle.x_sema.specs.DeclarerTable.{first_in}
+use Rattle.x_sema.specs.Declarers.{AreShort, FirstIs}
+use Rattle.x_session.proofs.compile.names_of.Goals as goal
+
+pub returns : goal.returns
+returns c =
+    subst (λ ds. IfOk c.of.result (λ names. AreShort ds → (name : List ℕ) → FirstIs ds name (first_in names name)))
+    (ap (map tree_at) c.deref.ensures.value ∙ c.in_ok-definitions_in.ensures) c.of.ensures
