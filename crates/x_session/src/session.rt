@@ -52,8 +52,8 @@ impl Model for Session {
 }
 
 impl Session {
-    /// Opens a text: [`TextFault::TooLarge`] or [`TextFault::NoMemory`]. `base` is the name that the generated
-    /// texts use.
+    /// Opens a text: [`TextFault::TooLarge`] or [`TextFault::NoMemory`]. `base` is the name that the
+    /// generated texts use.
     pub fn open(alloc: Global, base: &[u8], bytes: &[u8]) -> Result<Session, TextFault>
         ensures base { IfOk result (λ s. s.base ≡ base.now) }
         ensures text { IfOk result (λ s. s.text ≡ bytes.now) }
@@ -89,8 +89,8 @@ impl Session {
         })
     }
 
-    /// Carries an edit out, with the faults of [`Source::replace`], and answers what work it took. After a fault
-    /// all is as before.
+    /// Carries an edit out, with the faults of [`Source::replace`], and answers what work it took. After a
+    /// fault all is as before.
     pub fn apply(&mut self, edit: &Edit) -> Result<Work, TextFault>
         ensures text { OnOk result (self.new.text ≡ edited_by (change_of self.old.text edit.now)) }
         ensures base { self.new.base ≡ self.old.base }

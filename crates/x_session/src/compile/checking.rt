@@ -30,7 +30,8 @@ pub fn check_items(
     meter: &mut Meter,
 ) -> Result<Vec<Option<Box<Found>>>, NoMemory>
     requires short { AreShort (entry_definitions entries.now) }
-    requires first { (name : List ℕ) → FirstIs (entry_definitions entries.now) name (first_in names.now name) }
+    requires first { (name : List ℕ)
+        → FirstIs (entry_definitions entries.now) name (first_in names.now name) }
     ensures results { IfOk result
         (λ results. AreResults (entry_definitions entries.now) (map found_result results.items)) }
     ensures rendered { IfOk result (λ results. AreRendered (entry_definitions entries.now) results.items) }
