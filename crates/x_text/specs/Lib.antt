@@ -1,3 +1,4 @@
+pub mod Buffers
 pub mod Counts
 pub mod Edits
 pub mod Engines

@@ -1,5 +1,6 @@
-ghost use Rattle.std.specs.Prelude.{◌≡◌, ◌+◌, ◌-◌, ◌≤◌, ◌++◌, IfOk, length, take, drop, vec_len, vec_capacity};
-ghost use Rattle.x_text.specs.Edits.{change_of, edited_by, LiesWithin};
+ghost use Rattle.std.specs.Prelude.{◌≡◌, ◌+◌, ◌-◌, ◌≤◌, ◌++◌, IfOk, OnOk, OnErr, length, take, drop};
+ghost use Rattle.std.specs.Prelude.{vec_len, vec_capacity};
+ghost use Rattle.x_text.specs.Edits.{change_of, edited_by, LiesWithin, Fits};
 
 use crate::NoMemory;
 use std::alloc::Global;
@@ -24,6 +25,30 @@ pub(crate) fn edited(alloc: Global, bytes: &[u8], edit: &Edit) -> Result<Vec<u8>
     left.extend_from_slice(edit.insert)?;
     left.extend_from_slice(&bytes[edit.end..])?;
     Ok(left)
+}
+
+/// Makes the bytes that the edit leaves in a buffer that has the first `kept` of these already, which stay.
+/// After [`NoMemory`] it has those alone.
+pub(crate) fn write_edited(
+    left: &mut Vec<u8>,
+    kept: usize,
+    bytes: &[u8],
+    edit: &Edit,
+) -> Result<(), NoMemory>
+    requires fits { Fits (change_of bytes.now edit.now) }
+    requires before { kept ≤ edit.now.start }
+    requires same { take kept left.old.items ≡ take kept bytes.now }
+    ensures ok { OnOk result (left.new.items ≡ edited_by (change_of bytes.now edit.now)) }
+    ensures err { OnErr result (left.new.items ≡ take kept bytes.now) }
+{
+    let front = &bytes[kept..edit.start];
+    let rear = &bytes[edit.end..];
+    left.truncate(kept);
+    left.reserve(front.len() + edit.insert.len() + rear.len())?;
+    left.extend_from_slice(front).unwrap();
+    left.extend_from_slice(edit.insert).unwrap();
+    left.extend_from_slice(rear).unwrap();
+    Ok(())
 }
 
 /// Carries the edit out where there is room for the text that it leaves, and takes no memory.

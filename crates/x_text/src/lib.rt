@@ -25,6 +25,7 @@ mod shift;
 mod sink;
 mod source;
 mod tap;
+mod text_buffers;
 
 pub use edit::Edit;
 pub use fault::TextFault;
@@ -48,3 +49,4 @@ pub use seq_patch::SeqPatch;
 pub use sink::{Broken, Sink};
 pub use source::{MAX_TEXT, Source};
 pub use tap::Tap;
+pub use text_buffers::TextBuffers;

@@ -1,8 +1,8 @@
-ghost use Rattle.std.specs.Prelude.{◌≡◌, ◌↔◌, ◌<◌, ◌≤◌, [], length, IfOk, OnOk, OnErr, IsErrOf};
-ghost use Rattle.x_text.specs.Edits.{change_of, edited_by, Judges};
+ghost use Rattle.std.specs.Prelude.{◌≡◌, ◌↔◌, ◌<◌, ◌≤◌, [], length, take, IfOk, OnOk, OnErr, IsErrOf};
+ghost use Rattle.x_text.specs.Edits.{change_of, edited_by, Fits, Judges};
 ghost use Rattle.x_text.specs.Text.{line_of, column_of};
 
-use crate::edit::{edit_in_room, edited};
+use crate::edit::{edit_in_room, edited, write_edited};
 use crate::{Edit, Lines, NoMemory, TextFault};
 use std::alloc::Global;
 use std::marker::Model;
@@ -88,8 +88,25 @@ impl Source {
         }
     }
 
+    /// Becomes the text that an edit leaves of another, whose first `kept` bytes it has already, which stay.
+    /// After [`NoMemory`] it has those alone.
+    pub(crate) fn write_edited(
+        &mut self,
+        kept: usize,
+        text: &Source,
+        edit: &Edit,
+    ) -> Result<(), NoMemory>
+        requires fits { Fits (change_of text.now edit.now) }
+        requires before { kept ≤ edit.now.start }
+        requires same { take kept self.old ≡ take kept text.now }
+        ensures ok { OnOk result (self.new ≡ edited_by (change_of text.now edit.now)) }
+        ensures err { OnErr result (self.new ≡ take kept text.now) }
+    {
+        write_edited(&mut self.bytes, kept, &text.bytes, edit)
+    }
+
     /// Whether the range of an edit lies within the text and the text that it leaves is not too large.
-    fn accepts(&self, edit: &Edit) -> Result<(), TextFault>
+    pub(crate) fn accepts(&self, edit: &Edit) -> Result<(), TextFault>
         ensures fault { Judges (change_of self.now edit.now) result }
         ensures no_memory { IsErrOf result TextFault.NoMemory → ⊥ }
     {
