@@ -28,6 +28,17 @@ pub patch_is : (change : Change) (ts : List (Kind × ℕ)) (x removed start : �
 patch_is change ts x removed start news patch is at h =
     subst (λ p. IsPatch change ts p) (sym (is ∙ λ i. record { at = x; removed = removed; start = at i; fresh = news })) h
 
+-- old tokens behind the patch, those from an index on, stand behind a place
+pub stands_behind : (ts : List (Kind × ℕ)) (x index start place : ℕ) (news : List (Kind × ℕ)) (patch : TokenPatch) →
+    patch ≡ record { at = x; removed = index - x; start = start; fresh = news } → x ≤ index → place ≤ end_of ts index → place ≤ end_of ts (patch.at + patch.removed)
+stands_behind ts x index start place news patch is le h =
+    let at : x + (index - x) ≡ index = omega (arith, le) in
+    subst (λ n. place ≤ end_of ts n) (sym (ap (λ p. p.at + p.removed) is ∙ at)) h
+
+-- all tokens of a text end where it does
+pub end_of_all : (text : List ℕ) (ts : List (Kind × ℕ)) → AreTokens text ts → end_of ts (length ts) ≡ length text
+end_of_all text ts h = end_all ts ∙ span_tiles true text ts h
+
 end_nil : (i : ℕ) → end_of [] i ≡ 0
 end_nil zero = refl
 end_nil (suc i) = refl

@@ -1,9 +1,9 @@
 //! What an edit does to the tokens of a text.
-ghost use Rattle.std.specs.Prelude.{◌≡◌, ◌-◌, ◌≤◌, [], length, IfOk, IsOk};
+ghost use Rattle.std.specs.Prelude.{◌≡◌, ◌+◌, ◌-◌, ◌≤◌, [], length, IfOk, IsOk};
 ghost use Rattle.x_text.specs.declared.source.TheConstants.{MAX_TEXT};
 ghost use Rattle.x_text.specs.Counts.{raised};
 ghost use Rattle.x_text.specs.Edits.{change_of, edited_by, LiesWithin};
-ghost use Rattle.x_lex.specs.Tiling.{AreTokens};
+ghost use Rattle.x_lex.specs.Tiling.{AreTokens, end_of};
 ghost use Rattle.x_lex.specs.Places.{is_line_start};
 ghost use Rattle.x_lex.specs.TokenList.{patched, IsOfText};
 ghost use Rattle.x_lex.specs.Relex.{IsPatch};
@@ -31,6 +31,7 @@ pub fn relex(
     requires edited { new.now ≡ edited_by (change_of old.now edit.now) }
     ensures patch { IfOk result (λ patch. IsPatch (change_of old.now edit.now) tokens.now.list patch) }
     ensures of_text { IfOk result (λ patch. IsOfText (patched tokens.now.list patch)) }
+    ensures behind { IfOk result (λ patch. edit.now.end ≤ end_of tokens.now.list (patch.at + patch.removed)) }
     ensures ticks { IfOk result (λ patch. meter.new.lexed ≡ raised meter.old.lexed (length patch.fresh)) }
     ensures no_fewer { meter.old.lexed ≤ meter.new.lexed }
     ensures no_memory { new.now ≡ [] → IsOk result }
@@ -53,6 +54,7 @@ fn relex_bytes(
     requires edited { new.now ≡ edited_by (change_of old.now edit.now) }
     requires small { length new.now ≤ MAX_TEXT }
     ensures patch { IfOk result (λ patch. IsPatch (change_of old.now edit.now) tokens.now.list patch) }
+    ensures behind { IfOk result (λ patch. edit.now.end ≤ end_of tokens.now.list (patch.at + patch.removed)) }
     ensures ticks { IfOk result (λ patch. meter.new.lexed ≡ raised meter.old.lexed (length patch.fresh)) }
     ensures no_fewer { meter.old.lexed ≤ meter.new.lexed }
     ensures no_memory { new.now ≡ [] → IsOk result }

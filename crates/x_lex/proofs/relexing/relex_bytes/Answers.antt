@@ -1,4 +1,4 @@
-use Rattle.std.proofs.Common.{◌≡◌, ℕ, ◌+◌, ◌-◌, ◌<◌, true, [], ◌∷◌, ◌++◌, length, arith, sym, ap, subst, ◌∙◌, ⊎_elim}
+use Rattle.std.proofs.Common.{◌≡◌, ℕ, ◌+◌, ◌-◌, ◌<◌, ◌≤◌, true, [], ◌∷◌, ◌++◌, length, arith, sym, ap, subst, ◌∙◌, ⊎_elim}
 use Rattle.std.proofs.lemmas.Bool.{cases_lt}
 use Rattle.std.proofs.lemmas.List.{length_push}
 use Rattle.x_text.specs.Edits.{change_of}
@@ -10,7 +10,7 @@ use Rattle.x_lex.proofs.EndLemmas.{end_mono}
 use Rattle.x_lex.proofs.LexedLemmas.{counted_none, counted_more}
 use Rattle.x_lex.proofs.RelexLemmas.{boundary_reached}
 use Rattle.x_lex.proofs.RelexRun.{IsEdit, Relexing}
-use Rattle.x_lex.proofs.RelexEnds.{relexing_start, relexing_pushed, patch_agreed, patch_ended, patch_is, same_from_beq, differ_from_beq}
+use Rattle.x_lex.proofs.RelexEnds.{relexing_start, relexing_pushed, patch_agreed, patch_ended, patch_is, stands_behind, end_of_all, same_from_beq, differ_from_beq}
 use Rattle.x_lex.proofs.relexing.relex_bytes.Goals as goal
 use Rattle.x_lex.proofs.relexing.relex_bytes.Goals.{After-is_line_start-line_start, After-advance-index, else-shift-at-via-then-shift-at+then-end-target+else-is_line_start-line_start, else-shift-at-via-then-shift-at+else-end-target, else-shift-at-via-else-shift-at}
 
@@ -70,6 +70,24 @@ returns-then-is_line_start-line_start-clause-patch c =
     (sym c.advance-index.ensures.place ∙ c.if-end-target.true ∙ target_is after)
     (ap (λ p. is_line_start c.args.old.now p) (sym (target_is after)) ∙ sym c.is_line_start.ensures ∙ same_from_beq c.is_line_start.result c.lexing.line_start c.if-is_line_start-line_start.true)
     (below after))
+
+pub returns-then-is_line_start-line_start-clause-behind : goal.returns-then-is_line_start-line_start-clause-behind
+returns-then-is_line_start-line_start-clause-behind c =
+    let kept = c.lexing.invariant.forward in
+    let forward = c.advance-index.ensures.forward in
+    let place = c.advance-index.ensures.place in
+    let target = c.if-end-target.true in
+    stands_behind c.args.tokens.now.list c.front_before-kept.result.0 c.advance-index.result.0 c.front_before-kept.result.1 c.args.edit.now.end c.lexing.fresh.items c.patch.result c.patch.ensures
+    (omega (arith, kept, forward)) (omega (arith, place, target))
+
+pub returns-then-at-new-clause-behind : goal.returns-then-at-new-clause-behind
+returns-then-at-new-clause-behind c =
+    let count = c.len.ensures.count in
+    let within = c.requires.within.within in
+    let all = end_of_all c.args.old.now c.args.tokens.now.list c.requires.tokens in
+    let front = c.front_before-kept.ensures.front.within in
+    stands_behind c.args.tokens.now.list c.front_before-kept.result.0 c.len.result c.front_before-kept.result.1 c.args.edit.now.end c.lexing.fresh.items c.patch-then-at-new.result c.patch-then-at-new.ensures
+    (omega (arith, front, count)) (subst (λ n. c.args.edit.now.end ≤ end_of c.args.tokens.now.list n) (sym count) (omega (arith, within, all)))
 
 pub returns-then-at-new-clause-patch : goal.returns-then-at-new-clause-patch
 returns-then-at-new-clause-patch c =
