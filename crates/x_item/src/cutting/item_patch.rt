@@ -85,6 +85,13 @@ impl<K> ItemPatch<K> {
         self.entries.replace(index, entry);
     }
 
+    /// The entries of the fresh items, and what they take the place of, as they are kept.
+    pub(crate) fn entries(&self) -> &SeqPatch<Entry<K>>
+        ensures { result.now ≡ self.now }
+    {
+        &self.entries
+    }
+
     /// The entries of the fresh items, and what they take the place of.
     pub(crate) fn into_entries(self) -> SeqPatch<Entry<K>>
         ensures { result ≡ self }

@@ -8,7 +8,7 @@ ghost use Rattle.x_item.specs.ItemList.{counts, kept, total, tokens_before, patc
 use super::{Entry, ItemPatch};
 use std::alloc::Global;
 use std::marker::Model;
-use x_text::{GapIter, MeasuredSeq, NoMemory};
+use x_text::{GapIter, MeasuredSeq, NoMemory, PatchedIter};
 
 /// The items of a text, in order, each with how many tokens it has and what is kept with it.
 ///
@@ -64,6 +64,14 @@ impl<K: Drop> Items<K> {
         ensures small { length result ≤ MAX_TEXT + 1 }
     {
         self.entries.iter()
+    }
+
+    /// Goes over the items that the patch will leave.
+    pub fn iter_patched<'a>(&'a self, patch: &'a ItemPatch<K>) -> PatchedIter<'a, Entry<K>>
+        requires { LiesAmong self.now.list patch.now }
+        ensures { result ≡ patched self.now.list patch.now }
+    {
+        self.entries.iter_patched(patch.entries(), 0)
     }
 
     /// The index of the first token of the item at `index`, or how many tokens there are.

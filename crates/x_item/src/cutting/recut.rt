@@ -5,7 +5,7 @@ ghost use Rattle.x_text.specs.declared.source.TheConstants.{MAX_TEXT};
 ghost use Rattle.x_text.specs.Edits.{Change};
 ghost use Rattle.x_lex.specs.Tiling.{AreTokens, end_of};
 ghost use Rattle.x_lex.specs.TokenList.{patched, LiesAmong, IsOfText};
-ghost use Rattle.x_item.specs.ItemList.{AreOfText, counts};
+ghost use Rattle.x_item.specs.ItemList.{AreOfText, counts, tokens_before};
 ghost use Rattle.x_item.specs.ItemList as lists;
 ghost use Rattle.x_item.specs.Cutting.{roles, counts_from};
 ghost use Rattle.x_item.specs.Recut.{IsRelexed, AreRelexed, IsItemPatch};
@@ -32,6 +32,10 @@ pub fn recut<K: Default + Drop>(
         (counts items.now.list) patch.now → IsItemPatch change tokens.now.list
         (patched tokens.now.list patch.now) items.now.list fresh) }
     ensures among { IfOk result (λ fresh. lists.LiesAmong items.now.list fresh) }
+    ensures front { IfOk result (λ fresh. fresh.start ≤ patch.now.at) }
+    ensures rear { IfOk result (λ fresh. fresh.at + fresh.removed < length items.now.list
+        → patch.now.at + patch.now.removed
+        ≤ tokens_before (counts items.now.list) (fresh.at + fresh.removed)) }
     ensures of_text { IfOk result (λ fresh. AreOfText (counts (lists.patched items.now.list fresh))) }
     ensures blank { IfOk result (λ fresh. All (λ item. K.is_default item.kept) fresh.fresh) }
 {

@@ -1,9 +1,9 @@
-use Rattle.std.proofs.Common.{◌≡◌, ◌+◌, ◌-◌, length, sym, ap, subst, ◌∙◌, arith}
+use Rattle.std.proofs.Common.{◌≡◌, ◌+◌, ◌-◌, ◌≤◌, length, sym, ap, subst, ◌∙◌, arith}
 use Rattle.std.specs.Prelude.{All, ◌↔◌}
 use Rattle.std.proofs.lemmas.List.Elements.{All-push}
 use Rattle.x_text.specs.Edits.{Change}
 use Rattle.x_item.specs.declared.cutting.entry.Entry.{Entry}
-use Rattle.x_item.specs.ItemList.{counts}
+use Rattle.x_item.specs.ItemList.{counts, tokens_before}
 use Rattle.x_item.specs.Recut.{IsRelexed}
 use Rattle.x_item.proofs.RecutRun.{Moved, moved_not, moved_on, not_both_zero}
 use Rattle.x_item.proofs.RecutEnds.{ready, relexed_as, token_count, few_tokens, fresh_within, gone_within, index_within, back_within, back_is, state_none, place_start, reached, counted_within, state_more, more_some, made_joined, made_ended}
@@ -93,6 +93,17 @@ returns-then-index-target g c =
     record {
       patch = λ change rel. (made change rel).patch_is;
       among = one.patch_is.among;
+      front = let start = ap (λ p. p.start) c.new.ensures in let before = c.whole_within-kept.ensures.before in let x = c.at.ensures in omega (arith, start, before, x);
+      rear = λ _.
+          let end = ap (λ p. p.at + p.removed) c.new.ensures in
+          let from = c.cutting.invariant.recutting.back_from in
+          let forth = c.advance.ensures.forward in
+          let back : c.new.result.at + c.new.result.removed ≡ c.advance.result.0 = omega (arith, end, from, forth) in
+          let tokens = c.advance.ensures.tokens in
+          let target = c.if-back_index-target.true in
+          let y = c.at-3.ensures in
+          let m = c.removed.ensures in
+          subst (λ i. c.args.patch.now.at + c.args.patch.now.removed ≤ tokens_before (counts c.args.items.now.list) i) (sym back) (omega (arith, tokens, target, y, m));
       of_text = one.fits;
       blank =
           let fresh = ap (λ p. p.fresh) c.new.ensures in
@@ -144,6 +155,12 @@ returns-then-not-whole g c =
     record {
       patch = λ change rel. (made change rel).patch_is;
       among = one.patch_is.among;
+      front = let start = ap (λ p. p.start) c.new-then-not-whole.ensures in let before = c.whole_within-kept.ensures.before in let x = c.at.ensures in omega (arith, start, before, x);
+      rear = λ more.
+          let end = ap (λ p. p.at + p.removed) c.new-then-not-whole.ensures in
+          let all = c.len-then-not-whole.ensures.count in
+          let within = c.whole_within-kept.ensures.within in
+          absurd (omega (arith, more, end, all, within));
       of_text = one.fits;
       blank =
           let fresh = ap (λ p. p.fresh) c.new-then-not-whole.ensures in
