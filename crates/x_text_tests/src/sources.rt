@@ -1,6 +1,6 @@
 use std::process::Abort;
 use std::test::Fail;
-use x_text::{Edit, Source, TextFault};
+use x_text::{Edit, Source, TextBuffers, TextFault};
 
 #[test]
 fn sweep_from_bytes(rt: HostRuntime) -> Result<(), Fail> {
@@ -37,6 +37,38 @@ fn sweep_replace(rt: HostRuntime) -> Result<(), Fail> {
     let answer = Source::from_bytes(rt.alloc(), b"abc").and_then(
         |mut source| edit_with_little_memory(&rt, &mut source),
     );
+    match answer {
+        Ok(()) => println!(rt; "nothing was refused")?,
+        Err(fault) => assert_eq!(rt; fault, TextFault::NoMemory),
+    }
+    Ok(())
+}
+
+/// Two edits in turn, the second of which comes first in the text.
+fn turn_with_little_memory(rt: &impl Abort, buffers: &mut TextBuffers) -> Result<(), TextFault> {
+    let bad = buffers.prepare(&edit(2, 1, b"x"));
+    assert_eq!(rt; bad, Err(TextFault::BadRange));
+    let first = buffers.prepare(&edit(2, 3, b"0123456789"));
+    assert_eq!(rt; buffers.text().bytes(), b"abcd".as_slice());
+    first?;
+    buffers.turn();
+    let answer = buffers.prepare(&edit(1, 1, b"-"));
+    // What a refusal leaves is enough to go on from.
+    if answer.is_err() {
+        buffers.prepare(&edit(1, 1, b"-"))?;
+    }
+    assert_eq!(rt; buffers.text().bytes(), b"ab0123456789d".as_slice());
+    assert_eq!(rt; buffers.ready().bytes(), b"a-b0123456789d".as_slice());
+    answer
+}
+
+#[test]
+fn sweep_prepare(rt: HostRuntime) -> Result<(), Fail> {
+    let alloc = rt.alloc();
+    let answer = Source::from_bytes(alloc, b"abcd").and_then(|source| {
+        let mut buffers = TextBuffers::of(alloc, source);
+        turn_with_little_memory(&rt, &mut buffers)
+    });
     match answer {
         Ok(()) => println!(rt; "nothing was refused")?,
         Err(fault) => assert_eq!(rt; fault, TextFault::NoMemory),
