@@ -572,10 +572,21 @@ def faultless_case(seed):
     return case_of(seed, faultless_text, faultless_edit)
 
 
+def line_of(edit):
+    """The line of a script that asks for an edit."""
+    start, end, insert = edit
+    return b"edit %d %d" % (start, end) + (b" " + insert.hex().encode() if insert else b"")
+
+
+def is_taken(text, edit):
+    """Whether the range of an edit lies within the text."""
+    return edit[0] <= edit[1] <= len(text)
+
+
 def edited(text, edit):
     """The text that an edit leaves, which is the same one where its range lies outside."""
     start, end, insert = edit
-    return text[:start] + insert + text[end:] if start <= end <= len(text) else text
+    return text[:start] + insert + text[end:] if is_taken(text, edit) else text
 
 
 def edit_behind(chance, text, last):
@@ -599,7 +610,7 @@ def long_case(seed):
     for _ in range(chance.randint(1, 12)):
         edit = edit_behind(chance, text, last)
         edits.append(edit)
-        if edit[0] <= edit[1] <= len(text):
+        if is_taken(text, edit):
             text, last = edited(text, edit), (text, edit)
     return first, edits
 
