@@ -1,5 +1,6 @@
-//! `edit_counts FILE`: carries out the lines `edit START END [HEX]` of standard input on the text of a file, and prints what work each
-//! took or how it was refused. It passes over all other lines. Without arguments it does nothing.
+//! `edit_counts FILE`: carries out the lines `edit START END [HEX]` of standard input on the text of a file,
+//! and prints what work each took or how it was refused. It passes over all other lines. Without arguments it
+//! does nothing.
 #![tactic(auto)]
 
 use std::io::{self, BufRead, BufReader, BufWriter, ErrorKind, Read, Write};
