@@ -18,9 +18,9 @@ SCRATCH = TOP / ".build" / "bench"
 MEMORY_METER = "/usr/bin/time"
 
 
-def checked(words):
-    """Runs a command with nothing on its input; a status other than 0 ends the benchmark."""
-    run = subprocess.run(words, stdin=subprocess.DEVNULL, capture_output=True, check=False)
+def checked(words, script=b""):
+    """Runs a command with this script as its input; a status other than 0 ends the benchmark."""
+    run = subprocess.run(words, input=script, capture_output=True, check=False)
     if run.returncode != 0:
         sys.exit(f"{sys.argv[0]}: {' '.join(words)}: status {run.returncode}: {run.stderr.decode(errors='replace')}")
     return run
@@ -59,24 +59,24 @@ def least(words, output, limit, in_all, check):
     return best, memory
 
 
-def open_once(program, path):
-    """One run: its seconds, and its peak memory in KiB."""
+def open_once(program, path, script=b""):
+    """One run with this script: its seconds, and its peak memory in KiB."""
     with tempfile.NamedTemporaryFile("r", encoding="ascii") as report:
         start = time.monotonic()
-        checked([MEMORY_METER, "-f", "%M", "-o", report.name, program, str(path)])
+        checked([MEMORY_METER, "-f", "%M", "-o", report.name, program, str(path)], script)
         return time.monotonic() - start, int(report.read().split()[-1])
 
 
-def open_often(program, path, rounds):
+def open_often(program, path, rounds, script=b""):
     """The least seconds and the greatest peak memory in KiB over the rounds."""
-    runs = [open_once(program, path) for _ in range(rounds)]
+    runs = [open_once(program, path, script) for _ in range(rounds)]
     return min(run[0] for run in runs), max(run[1] for run in runs)
 
 
-def instructions(program, path):
-    """How many instructions one run takes."""
+def instructions(program, path, script=b""):
+    """How many instructions one run with this script takes."""
     words = ["valgrind", "--tool=callgrind", f"--callgrind-out-file={SCRATCH}/callgrind.out", program, str(path)]
-    report = checked(words).stderr.decode(errors="replace")
+    report = checked(words, script).stderr.decode(errors="replace")
     return int(re.search(r"refs:\s+([\d,]+)", report).group(1).replace(",", ""))
 
 

@@ -572,6 +572,49 @@ def faultless_case(seed):
     return case_of(seed, faultless_text, faultless_edit)
 
 
+def line_of(edit):
+    """The line of a script that asks for an edit."""
+    start, end, insert = edit
+    return b"edit %d %d" % (start, end) + (b" " + insert.hex().encode() if insert else b"")
+
+
+def is_taken(text, edit):
+    """Whether the range of an edit lies within the text."""
+    return edit[0] <= edit[1] <= len(text)
+
+
+def edited(text, edit):
+    """The text that an edit leaves, which is the same one where its range lies outside."""
+    start, end, insert = edit
+    return text[:start] + insert + text[end:] if is_taken(text, edit) else text
+
+
+def edit_behind(chance, text, last):
+    """An edit after the last one, which is given with the text before it: one that takes it back, a byte typed behind
+    what it put in, or any other."""
+    way = chance.random()
+    if last and way < 0.3:
+        before, (start, end, insert) = last
+        behind = start + len(insert)
+        if way < 0.15:
+            return start, behind, before[start:end]
+        return behind, behind, bytes([chance.choice(b"a1 ;{}\n*/%")])
+    return (likely_edit if way < 0.6 else random_edit)(chance, text)
+
+
+def long_case(seed):
+    """A text of several, and a longer list of edits."""
+    chance = random.Random(f"long {seed}")
+    text = first = b"".join(random_text(chance) for _ in range(chance.choice([1, 1, 2, 3, 5])))
+    edits, last = [], None
+    for _ in range(chance.randint(1, 12)):
+        edit = edit_behind(chance, text, last)
+        edits.append(edit)
+        if is_taken(text, edit):
+            text, last = edited(text, edit), (text, edit)
+    return first, edits
+
+
 def random_line(chance):
     """A script line that is nearly one of those that are answered."""
     line = chance.choice([b"tokens", b"definitions", b"faults", b"edit 0 1", b"edit 0 0 2f2A", b"edit 123456789 0",

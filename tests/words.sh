@@ -140,3 +140,9 @@ given() {
     for one in "${@:2}"; do record "$one"; done >s
     rpcdump -x t.x s
 }
+
+# counts TEXT LINE..: of each edit that these lines ask for, how many tokens were lexed and how many items parsed.
+counts() {
+    printf %b "$1" >t.x
+    printf '%s\n' "${@:2}" | edit_counts t.x | sed 's/ checked .*//'
+}
