@@ -1,8 +1,9 @@
 -- Results of items, by what was found of the items before them.
-use Rattle.std.proofs.Common.{◌≡◌, ℕ, suc, ◌+◌, ◌<◌, false, cond, List, [], ◌∷◌, ◌++◌, length, map, arith, take, drop, get_or, ◌≤◌, Option, None, Some, refl, sym, ap, subst, ◌∙◌, append-nil}
+use Rattle.std.proofs.Common.{◌≡◌, ℕ, suc, ◌+◌, ◌<◌, Bool, true, false, cond, List, [], ◌∷◌, ◌++◌, length, map, arith, take, drop, get_or, ◌≤◌, Option, None, Some, refl, sym, ap, subst, ◌∙◌, append-nil}
 use Rattle.std.specs.Cow.{cow_slice_items}
-use Rattle.std.proofs.lemmas.List.{take_all, length_push}
-use Rattle.x_text.specs.Counts.{Counts}
+use Rattle.std.proofs.lemmas.List.{take_all, drop_all, length_push, length-map, length-take-le}
+use Rattle.x_text.specs.Counts.{Counts, raised}
+use Rattle.x_text.specs.declared.no_memory.NoMemory.{NoMemory}
 use Rattle.x_item.specs.Tree.{Definition}
 use Rattle.x_item.specs.Names.{Declared}
 use Rattle.x_item.specs.Named.{view_name}
@@ -14,7 +15,10 @@ use Rattle.x_item.specs.declared.names.declared_name.NameKind.TheVariants as kin
 use Rattle.x_sema.specs.Views.{View, Earlier, names_of}
 use Rattle.x_sema.specs.Declarers.{IsShort, AreShort, is_beforehand, FirstIs}
 use Rattle.x_sema.specs.declared.names.Declarer.{Declarer}
-use Rattle.x_sema.specs.Results.{Outcome, IsOutcome, IsResult, AreResultsFrom, result_at, view_of, view_by, beforehand_meaning}
+use Rattle.x_sema.specs.Results.{Outcome, IsOutcome, IsResult, AreResults, AreResultsFrom, result_at, view_of, view_by, beforehand_meaning}
+use Rattle.x_sema.specs.declared.fault.WordFault.{WordFault}
+use Rattle.x_gen.specs.Pieces.{Pieces}
+use Rattle.x_gen.specs.Rendering.{pieces_of}
 use Rattle.x_sema.proofs.DeclarerLaws.{as_found}
 use Rattle.x_sema.proofs.HasResults.{stays_result, agree_front}
 use Rattle.x_text.proofs.ListLemmas.{drop_one, get_at, take_next}
@@ -22,10 +26,13 @@ use Rattle.x_sema.proofs.OutlineLemmas.{map_map}
 use Rattle.x_sema.proofs.ResultLaws.{AgreeBefore}
 use Rattle.x_text.proofs.Listing.{mapped_one}
 use Rattle.std.specs.Global.{Box}
-use Rattle.std.specs.Prelude.{slice_get}
-use Rattle.x_session.specs.Checking.{AreRendered, IsShortAt, counted, sound_pieces, view_by_first}
-use Rattle.x_session.specs.KeptView.{found_pieces, found_result}
+use Rattle.std.specs.Prelude.{IfOk, Result, Ok, Err, is_some, option_map, slice_get}
+use Rattle.x_session.specs.Checking.{AreChecked, AreRendered, IsShortAt, counted, kept_definitions, sound, sound_pieces, view_by_first}
+use Rattle.x_session.specs.Counting.{faults_found, faults_with}
+use Rattle.x_session.specs.KeptView.{found_pieces, found_result, kept_definition, kept_found, pieces_behind, renewed_pieces}
+use Rattle.x_session.specs.declared.compile.checking.Checks.{Checks}
 use Rattle.x_session.specs.declared.compile.kept.Found.{Found}
+use Rattle.x_session.specs.declared.compile.kept.Kept.{Kept}
 
 -- ---- one item more
 
@@ -127,20 +134,94 @@ counted_more f before after all xs index x lt at step so =
     ∙ sym (ap (λ is. counted before (map f is)) front) ∙ so
 
 -- what is generated of one item more
-pub rendered_push : (ds : List (Option Definition)) (rs : List (Option (Box Found))) (d : Option Definition) (r : Option (Box Found))
-    → AreRendered ds rs → found_pieces r ≡ sound_pieces d (found_result r) → AreRendered (ds ++ d ∷ []) (rs ++ r ∷ [])
-rendered_push [] [] d r are is = (is, tt)
-rendered_push [] (x ∷ rs) d r are is = absurd are
-rendered_push (y ∷ ds) [] d r are is = absurd are
-rendered_push (y ∷ ds) (x ∷ rs) d r are is = (are.0, rendered_push ds rs d r are.1 is)
+rendered_push : (ks : List Kept) (rs : List (Option (Box Found))) (k : Kept) (r : Option (Box Found))
+    → AreRendered ks rs → renewed_pieces (found_pieces (kept_found k)) r ≡ sound_pieces (kept_definition k) (found_result r) → AreRendered (ks ++ k ∷ []) (rs ++ r ∷ [])
+rendered_push [] [] k r are is = (is, tt)
+rendered_push [] (x ∷ rs) k r are is = absurd are
+rendered_push (y ∷ ks) [] k r are is = absurd are
+rendered_push (y ∷ ks) (x ∷ rs) k r are is = (are.0, rendered_push ks rs k r are.1 is)
 
-pub rendered_next : {X : Type 0} (f : X → Option Definition) (xs : List X) (index : ℕ) (x : X) (rs new : List (Option (Box Found))) (r : Option (Box Found))
-    → index < length xs → x ≡ get_or xs index x → new ≡ rs ++ r ∷ [] → AreRendered (take index (map f xs)) rs → found_pieces r ≡ sound_pieces (f x) (found_result r)
+-- one element more of a list that is gone over
+front_next : {X Y : Type 0} (f : X → Y) (xs : List X) (index : ℕ) (x : X) → index < length xs → x ≡ get_or xs index x → take (index + 1) (map f xs) ≡ take index (map f xs) ++ f x ∷ []
+front_next f xs index x lt at =
+    let ys = map f xs in
+    let next : suc index ≡ index + 1 = omega arith in
+    sym (ap (λ n. take n ys) next) ∙ take_next ys index (f x) (drop (suc index) ys) (mapped_one f xs index x lt at)
+
+pub rendered_next : {X : Type 0} (f : X → Kept) (xs : List X) (index : ℕ) (x : X) (rs new : List (Option (Box Found))) (r : Option (Box Found))
+    → index < length xs → x ≡ get_or xs index x → new ≡ rs ++ r ∷ [] → AreRendered (take index (map f xs)) rs
+    → renewed_pieces (found_pieces (kept_found (f x))) r ≡ sound_pieces (kept_definition (f x)) (found_result r)
     → AreRendered (take (index + 1) (map f xs)) new
 rendered_next f xs index x rs new r lt at pushed are is =
-    let ds = map f xs in
-    let next : suc index ≡ index + 1 = omega arith in
-    let front : take (index + 1) ds ≡ take index ds ++ f x ∷ [] =
-    sym (ap (λ n. take n ds) next) ∙ take_next ds index (f x) (drop (suc index) ds) (mapped_one f xs index x lt at) in
-    subst (λ os. AreRendered (take (index + 1) ds) os) (sym pushed)
-    (subst (λ l. AreRendered l (rs ++ r ∷ [])) (sym front) (rendered_push (take index ds) rs (f x) r are is))
+    let ks = map f xs in
+    subst (λ os. AreRendered (take (index + 1) ks) os) (sym pushed)
+    (subst (λ l. AreRendered l (rs ++ r ∷ [])) (sym (front_next f xs index x lt at)) (rendered_push (take index ks) rs (f x) r are is))
+
+-- the faults of one item more
+faults_push : (ks : List Kept) (rs : List (Option (Box Found))) (k : Kept) (r : Option (Box Found)) → length ks ≡ length rs → faults_found (ks ++ k ∷ []) (rs ++ r ∷ []) ≡ faults_found ks rs + faults_with k r
+faults_push [] [] k r many = omega arith
+faults_push [] (x ∷ rs) k r many = absurd (omega (arith, many))
+faults_push (y ∷ ks) [] k r many = absurd (omega (arith, many))
+faults_push (y ∷ ks) (x ∷ rs) k r many = let more = faults_push ks rs k r (omega (arith, many)) in omega (arith, more)
+
+pub faults_next : {X : Type 0} (f : X → Kept) (xs : List X) (index faults : ℕ) (x : X) (rs new : List (Option (Box Found))) (r : Option (Box Found))
+    → index < length xs → x ≡ get_or xs index x → new ≡ rs ++ r ∷ [] → index ≡ length rs → faults ≡ faults_found (take index (map f xs)) rs
+    → faults + faults_with (f x) r ≡ faults_found (take (index + 1) (map f xs)) new
+faults_next f xs index faults x rs new r lt at pushed many is =
+    let ks = map f xs in
+    let l = length-map xs f in
+    let long : length (take index ks) ≡ index = length-take-le index ks (omega (arith, l, lt)) in
+    let more = faults_push (take index ks) rs (f x) r (long ∙ many) in
+    let same : faults_found (take (index + 1) ks) new ≡ faults_found (take index ks ++ f x ∷ []) (rs ++ r ∷ []) = λ i. faults_found (front_next f xs index x lt at i) (pushed i) in
+    omega (arith, more, same, is)
+
+-- all items are checked
+pub checked_all : {X : Type 0} (f : X → Kept) (xs : List X) (n : ℕ) (checks : Checks) → length xs ≤ n
+    → AreResultsFrom (map (λ x. kept_definition (f x)) xs) (result_at (map found_result checks.results.items)) 0 (take n (map (λ x. kept_definition (f x)) xs)) (map found_result checks.results.items)
+    → AreRendered (take n (map f xs)) checks.results.items → checks.faults ≡ faults_found (take n (map f xs)) checks.results.items → AreChecked (map f xs) checks
+checked_all f xs n checks end are rendered faults =
+    let rs = checks.results.items in
+    let ds = map (λ x. kept_definition (f x)) xs in
+    let l = length-map xs f in
+    let m = length-map xs (λ x. kept_definition (f x)) in
+    let all : take n (map f xs) ≡ map f xs = take_all n (map f xs) (omega (arith, l, end)) in
+    let whole : take n ds ≡ ds = take_all n ds (omega (arith, m, end)) in
+    let same : kept_definitions (map f xs) ≡ ds = sym (map_map kept_definition f xs) in
+    record {
+      results = subst (λ l. AreResults l (map found_result rs)) (sym same) (subst (λ l. AreResultsFrom ds (result_at (map found_result rs)) 0 l (map found_result rs)) whole are);
+      rendered = subst (λ l. AreRendered l rs) all rendered;
+      faults = faults ∙ ap (λ l. faults_found l rs) all;
+    }
+
+-- all of them are counted
+pub counted_all : {X : Type 0} (f : X → Kept) (xs : List X) (n : ℕ) (now all : Counts) → length xs ≤ n → counted now (map (λ x. kept_definition (f x)) (drop n xs)) ≡ all → now ≡ all
+counted_all f xs n now all end so = sym (ap (λ l. counted now (map (λ x. kept_definition (f x)) l)) (drop_all n xs end)) ∙ so
+
+-- ---- what is generated of a definition
+
+-- pieces of a definition that has some, or gets new ones where it has no fault
+pub pieces_stay : (d : Definition) (had new : Option Pieces) (fs : List WordFault) (has : Bool) → has ≡ is_some had → new ≡ cond has None (option_map pieces_of (sound (Some d) fs)) → ((p : Pieces) → had ≡ Some p → Some (pieces_of d) ≡ Some p)
+    → pieces_behind had new fs ≡ option_map pieces_of (sound (Some d) fs)
+pieces_stay d None new [] has is made right = ap (λ n. pieces_behind None n []) (made ∙ ap (λ b. cond b None (Some (pieces_of d))) is)
+pieces_stay d (Some p) new [] has is made right = ap (λ n. pieces_behind (Some p) n []) (made ∙ ap (λ b. cond b None (Some (pieces_of d))) is) ∙ sym (right p refl)
+pieces_stay d had new (f ∷ fs) has is made right = ap (λ n. pieces_behind had n (f ∷ fs)) (made ∙ none has)
+  where
+    none : (b : Bool) → cond b None (option_map pieces_of (sound (Some d) (f ∷ fs))) ≡ None
+    none true = refl
+    none false = refl
+
+-- ---- counts
+
+-- checks count nothing else
+counted_same : (counts : Counts) (ds : List (Option Definition)) → ((counted counts ds).lexed ≡ counts.lexed) × ((counted counts ds).parsed ≡ counts.parsed)
+counted_same counts [] = (refl, refl)
+counted_same counts (None ∷ ds) = counted_same counts ds
+counted_same counts (Some d ∷ ds) = let h = counted_same (record counts { checked = raised counts.checked 1 }) ds in (h.0, h.1)
+
+pub lexed_same : (r : Result Checks NoMemory) (old new : Counts) (ds : List (Option Definition)) → IfOk r (λ checks. new ≡ counted old ds) → IfOk r (λ checks. new.lexed ≡ old.lexed)
+lexed_same (Ok checks) old new ds h = let s = counted_same old ds in ap (λ (c : Counts). c.lexed) h ∙ s.0
+lexed_same (Err fault) old new ds h = tt
+
+pub parsed_same : (r : Result Checks NoMemory) (old new : Counts) (ds : List (Option Definition)) → IfOk r (λ checks. new ≡ counted old ds) → IfOk r (λ checks. new.parsed ≡ old.parsed)
+parsed_same (Ok checks) old new ds h = let s = counted_same old ds in ap (λ (c : Counts). c.parsed) h ∙ s.1
+parsed_same (Err fault) old new ds h = tt

@@ -16,7 +16,7 @@ use Rattle.x_session.specs.KeptView.{AreEach, AreParsed, entry_definitions, entr
 use Rattle.x_session.specs.KeptView.{kept_definition, kept_found, kept_parse}
 use Rattle.x_session.proofs.ItemLemmas.{take_part, drop_part}
 use Rattle.x_session.specs.Compile.{Item, parsed_definition, definitions_of, definition_at, tokens_of, IsCompilation, AreParses}
-use Rattle.x_session.specs.SessionState.{items_of}
+use Rattle.x_session.specs.SessionState.{IsKept, items_of}
 use Rattle.x_session.specs.declared.compile.kept.Kept.{Kept}
 
 pub length-lexemes : (text : List ℕ) (at : ℕ) (ts : List (Kind × ℕ)) → length (lexemes_from text at ts) ≡ length ts
@@ -66,7 +66,7 @@ parses_are (p ∷ ps) (i ∷ is) tokens e each =
     let rest : drop i.tokens tokens ≡ joined ps = ap (drop i.tokens) (sym e) ∙ drop_part p (joined ps) i.tokens each.0.count in
     (subst (λ part. IsParse part (kept_parse i.kept)) (sym first) each.0.parsed, parses_are ps is (drop i.tokens tokens) (sym rest) each.1)
 
-pub compiles : (text : List ℕ) (tokens : List (Kind × ℕ)) (entries : List (Entry Kept)) → AreTokens text tokens → AreParsed (lexemes text tokens) entries
+compiles : (text : List ℕ) (tokens : List (Kind × ℕ)) (entries : List (Entry Kept)) → AreTokens text tokens → AreParsed (lexemes text tokens) entries
     → AreResults (entry_definitions entries) (entry_results entries) → IsCompilation text tokens (items_of text tokens entries)
 compiles text tokens entries are cut results =
     let all = lexemes text tokens in
@@ -77,6 +77,10 @@ compiles text tokens entries are cut results =
       are_results = subst (λ os. AreResults (definitions_of (items_with all entries)) os) (sym (results-items all entries))
           (subst (λ ds. AreResults ds (entry_results entries)) (sym (definitions-items all entries)) results);
     }
+
+-- what is kept of a text is its compilation
+pub compilation : {text : List ℕ} {tokens : List (Kind × ℕ)} {entries : List (Entry Kept)} {faults : ℕ} → IsKept text tokens entries faults → IsCompilation text tokens (items_of text tokens entries)
+compilation {text} {tokens} {entries} h = compiles text tokens entries h.are_tokens h.parsed h.are_results
 
 -- lists of as many elements each, joined to one list, are the same
 same_parts : (xs ys : List (List Lexeme)) → map length xs ≡ map length ys → joined xs ≡ joined ys → xs ≡ ys

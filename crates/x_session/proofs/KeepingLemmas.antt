@@ -1,12 +1,15 @@
 -- What was found of items is kept with them, from the last item on.
-use Rattle.std.proofs.Common.{◌≡◌, ℕ, zero, suc, ◌+◌, List, [], ◌∷◌, ◌++◌, length, take, drop, get_or, Option, None, refl, sym, ap, subst, ◌∙◌, append-nil, append_assoc, arith}
+use Rattle.std.proofs.Common.{◌≡◌, ℕ, zero, suc, ◌+◌, ◌<◌, List, [], ◌∷◌, ◌++◌, length, take, drop, get_or, Option, None, refl, sym, ap, subst, ◌∙◌, append-nil, append_assoc, arith}
 use Rattle.std.specs.Global.{Box}
-use Rattle.std.specs.Prelude.{slice_set}
-use Rattle.std.proofs.lemmas.List.{length_push, length-take-le, take-append-drop}
+use Rattle.std.specs.Prelude.{Some, slice_get, slice_set}
+use Rattle.std.proofs.lemmas.Option.{same_Some}
+use Rattle.std.proofs.lemmas.List.{length_push, length-append, length-take-le, take-append-drop}
 use Rattle.x_text.proofs.ListLemmas.{drop_none, some_at}
+use Rattle.x_item.specs.ItemList.{counts}
+use Rattle.x_item.specs.ItemList as items
 use Rattle.x_item.specs.declared.cutting.entry.Entry.{Entry}
-use Rattle.x_session.specs.Checking.{AreKnown}
-use Rattle.x_session.specs.KeptView.{AreWith, IsWith, kept_definition}
+use Rattle.x_session.specs.Checking.{AreKnown, IsKnownAt}
+use Rattle.x_session.specs.KeptView.{AreWith, IsWith, IsWithAt, kept_definition}
 use Rattle.x_session.specs.declared.compile.kept.Found.{Found}
 use Rattle.x_session.specs.declared.compile.kept.Kept.{Kept}
 
@@ -15,14 +18,14 @@ set_seam [] x y rest m e = ap (λ n. slice_set (x ∷ rest) n y) e
 set_seam (z ∷ front) x y rest zero e = absurd (omega (arith, e))
 set_seam (z ∷ front) x y rest (suc m) e = ap (λ l. z ∷ l) (set_seam front x y rest m (omega (arith, e)))
 
-many_known : (es : List (Entry Kept)) (rs : List (Option (Box Found))) → AreKnown es rs → length es ≡ length rs
+many_known : (es : List (Entry Kept)) (rs : List (Option (Box Found))) → AreKnown (items.kept es) rs → length es ≡ length rs
 many_known [] [] known = refl
 many_known [] (r ∷ rs) known = absurd known
 many_known (e ∷ es) [] known = absurd known
 many_known (e ∷ es) (r ∷ rs) known = ap suc (many_known es rs known.1)
 
-known_at : (front back : List (Entry Kept)) (e : Entry Kept) (rs left : List (Option (Box Found))) (r : Option (Box Found)) → length front ≡ length rs → AreKnown (front ++ e ∷ back) (rs ++ r ∷ left)
-    → kept_definition e.kept ≡ None → r ≡ None
+known_at : (front back : List (Entry Kept)) (e : Entry Kept) (rs left : List (Option (Box Found))) (r : Option (Box Found)) → length front ≡ length rs
+    → AreKnown (items.kept (front ++ e ∷ back)) (rs ++ r ∷ left) → kept_definition e.kept ≡ None → r ≡ None
 known_at [] back e [] left r many known = known.0
 known_at [] back e (s ∷ rs) left r many known = absurd (omega (arith, many))
 known_at (f ∷ front) back e [] left r many known = absurd (omega (arith, many))
@@ -40,7 +43,7 @@ pub record AreKept (olds : List (Entry Kept)) (all : List (Option (Box Found))) 
   pub many : length front ≡ length rs
   pub with : AreWith back left done
 
-pub kept_none : (olds : List (Entry Kept)) (all : List (Option (Box Found))) → AreKnown olds all → AreKept olds all olds all
+pub kept_none : (olds : List (Entry Kept)) (all : List (Option (Box Found))) → AreKnown (items.kept olds) all → AreKept olds all olds all
 kept_none olds all known = record {
   front = olds;
   back = [];
@@ -89,9 +92,9 @@ last_item olds all news before rs r popped h =
     }
 
 pub last_known : (olds : List (Entry Kept)) (all : List (Option (Box Found))) (news : List (Entry Kept)) (rs : List (Option (Box Found))) (r : Option (Box Found))
-    → (h : IsLast olds all news rs r) → AreKnown olds all → kept_definition h.item.kept ≡ None → r ≡ None
+    → (h : IsLast olds all news rs r) → AreKnown (items.kept olds) all → kept_definition h.item.kept ≡ None → r ≡ None
 last_known olds all news rs r h known =
-    known_at h.front h.back h.item rs h.left r h.many (subst (λ l. AreKnown l (rs ++ r ∷ h.left)) h.olds_are (subst (λ l. AreKnown olds l) h.all_are known))
+    known_at h.front h.back h.item rs h.left r h.many (subst (λ l. AreKnown (items.kept l) (rs ++ r ∷ h.left)) h.olds_are (subst (λ l. AreKnown (items.kept olds) l) h.all_are known))
 
 get_seam : {X : Type 0} (front : List X) (x d : X) (rest : List X) (m : ℕ) → m ≡ length front → get_or (front ++ x ∷ rest) m d ≡ x
 get_seam [] x d rest m e = ap (λ n. get_or (x ∷ rest) n d) e
@@ -129,3 +132,98 @@ kept_all olds all news rs none h =
     let news_are : h.done ≡ news = sym (h.news_are ∙ ap (λ l. l ++ h.done) front) in
     let all_are : h.left ≡ all = sym (h.all_are ∙ ap (λ l. l ++ h.left) none) in
     subst (λ l. AreWith l all news) olds_are (subst (λ l. AreWith h.back l news) all_are (subst (λ l. AreWith h.back h.left l) news_are h.with))
+
+-- ---- an item of a list in place
+
+here_at : (front : List (Entry Kept)) (x : Entry Kept) (rest : List (Entry Kept)) (m : ℕ) → m ≡ length front → slice_get (front ++ x ∷ rest) m ≡ Some x
+here_at [] x rest m e = ap (λ n. slice_get (x ∷ rest) n) e
+here_at (z ∷ front) x rest zero e = absurd (omega (arith, e))
+here_at (z ∷ front) x rest (suc m) e = here_at front x rest m (omega (arith, e))
+
+pub last_within : (olds : List (Entry Kept)) (all : List (Option (Box Found))) (news : List (Entry Kept)) (rs : List (Option (Box Found))) (r : Option (Box Found)) (h : IsLast olds all news rs r) (m : ℕ) → m ≡ length rs → m < length news
+last_within olds all news rs r h m at =
+    let l = ap length h.news_are ∙ length-append h.front (h.item ∷ h.done) in
+    let many = h.many in
+    omega (arith, l, many, at)
+
+kept_get : (es : List (Entry Kept)) (i : ℕ) (e : Entry Kept) → slice_get es i ≡ Some e → slice_get (items.kept es) i ≡ Some e.kept
+kept_get [] i e is = absurd (cc)
+kept_get (x ∷ es) zero e is = let same : x ≡ e = same_Some x e is in ap (λ (y : Entry Kept). Some y.kept) same
+kept_get (x ∷ es) (suc i) e is = kept_get es i e is
+
+pub last_known_at : (olds : List (Entry Kept)) (all : List (Option (Box Found))) (news : List (Entry Kept)) (rs : List (Option (Box Found))) (r : Option (Box Found)) (h : IsLast olds all news rs r) (m : ℕ) → m ≡ length rs
+    → AreKnown (items.kept olds) all → IsKnownAt (items.kept news) m r
+last_known_at olds all news rs r h m at known k is none =
+    let here : slice_get news m ≡ Some h.item = ap (λ l. slice_get l m) h.news_are ∙ here_at h.front h.item h.done m (at ∙ sym h.many) in
+    let same : h.item.kept ≡ k = same_Some h.item.kept k (sym (kept_get news m h.item here) ∙ is) in
+    last_known olds all news rs r h known (ap kept_definition same ∙ none)
+
+pub kept_on : (olds : List (Entry Kept)) (all : List (Option (Box Found))) (news next : List (Entry Kept)) (rs : List (Option (Box Found))) (r : Option (Box Found)) (m : ℕ) → (h : IsLast olds all news rs r) → m ≡ length rs
+    → IsWithAt news m r next → AreKept olds all next rs
+kept_on olds all news next rs r m h at with =
+    let here : slice_get news m ≡ Some h.item = ap (λ l. slice_get l m) h.news_are ∙ here_at h.front h.item h.done m (at ∙ sym h.many) in
+    let same : with.old ≡ h.item = same_Some with.old h.item (sym with.was ∙ here) in
+    kept_more olds all news next rs r m with.item h at with.put (subst (λ e. IsWith e r with.item) same with.with)
+
+-- ---- one thing is kept in place of another, the tokens stay
+
+entry_in : (es fs : List (Entry Kept)) (i : ℕ) (k : Kept) (e : Entry Kept) → counts fs ≡ counts es → items.kept fs ≡ slice_set (items.kept es) i k → slice_get es i ≡ Some e
+    → fs ≡ slice_set es i (record { tokens = e.tokens; kept = k })
+entry_in [] fs i k e many set is = absurd (cc)
+entry_in (x ∷ es) [] i k e many set is = absurd (cc)
+entry_in (x ∷ es) (f ∷ fs) zero k e many set is =
+    let same : x ≡ e = same_Some x e is in
+    let tokens : f.tokens ≡ x.tokens = cc in
+    let others : counts fs ≡ counts es = cc in
+    let kept : f.kept ≡ k = cc in
+    let rest : items.kept fs ≡ items.kept es = cc in
+    let tail = same_entries fs es others rest in
+    λ j. record { tokens = (tokens ∙ ap (λ (y : Entry Kept). y.tokens) same) j; kept = kept j } ∷ tail j
+  where
+    same_entries : (xs ys : List (Entry Kept)) → counts xs ≡ counts ys → items.kept xs ≡ items.kept ys → xs ≡ ys
+    same_entries [] [] c k = refl
+    same_entries [] (y ∷ ys) c k = absurd (cc)
+    same_entries (x ∷ xs) [] c k = absurd (cc)
+    same_entries (x ∷ xs) (y ∷ ys) c k =
+        let tokens : x.tokens ≡ y.tokens = cc in
+        let others : counts xs ≡ counts ys = cc in
+        let kept : x.kept ≡ y.kept = cc in
+        let rest : items.kept xs ≡ items.kept ys = cc in
+        let tail = same_entries xs ys others rest in
+        λ j. record { tokens = tokens j; kept = kept j } ∷ tail j
+entry_in (x ∷ es) (f ∷ fs) (suc i) k e many set is =
+    let tokens : f.tokens ≡ x.tokens = cc in
+    let others : counts fs ≡ counts es = cc in
+    let kept : f.kept ≡ x.kept = cc in
+    let rest : items.kept fs ≡ slice_set (items.kept es) i k = cc in
+    let tail = entry_in es fs i k e others rest is in
+    λ j. record { tokens = tokens j; kept = kept j } ∷ tail j
+
+pub entry_set : (es fs : List (Entry Kept)) (i : ℕ) (k : Kept) (e : Entry Kept) → counts fs ≡ counts es → items.kept fs ≡ slice_set (items.kept es) i k → slice_get es i ≡ Some e
+    → fs ≡ slice_set es i (record { tokens = e.tokens; kept = k })
+entry_set es fs i k e many set is = entry_in es fs i k e many set is
+
+set_twice : {X : Type 0} (xs : List X) (i : ℕ) (x y : X) → slice_set (slice_set xs i x) i y ≡ slice_set xs i y
+set_twice [] i x y = refl
+set_twice (z ∷ xs) zero x y = refl
+set_twice (z ∷ xs) (suc i) x y = ap (λ l. z ∷ l) (set_twice xs i x y)
+
+entry_of : (es : List (Entry Kept)) (i : ℕ) (k : Kept) → slice_get (items.kept es) i ≡ Some k → (e : Entry Kept) × (slice_get es i ≡ Some e) × (e.kept ≡ k)
+entry_of [] i k is = absurd (cc)
+entry_of (x ∷ es) zero k is = (x, refl, same_Some x.kept k is)
+entry_of (x ∷ es) (suc i) k is = entry_of es i k is
+
+-- what was kept with an item is exchanged, and then again
+pub with_at : (es fs gs : List (Entry Kept)) (i : ℕ) (out none new : Kept) (r : Option (Box Found)) → slice_get (items.kept es) i ≡ Some out → counts fs ≡ counts es → items.kept fs ≡ slice_set (items.kept es) i none
+    → counts gs ≡ counts fs → items.kept gs ≡ slice_set (items.kept fs) i new → ((n : ℕ) → IsWith (record { tokens = n; kept = out }) r (record { tokens = n; kept = new })) → IsWithAt es i r gs
+with_at es fs gs i out none new r was c1 k1 c2 k2 with =
+    let at = entry_of es i out was in
+    let set : items.kept gs ≡ slice_set (items.kept es) i new = k2 ∙ ap (λ l. slice_set l i new) k1 ∙ set_twice (items.kept es) i none new in
+    let e : at.0 ≡ record { tokens = at.0.tokens; kept = out } = λ j. record { tokens = at.0.tokens; kept = at.2 j } in
+    record {
+      old = at.0;
+      was = at.1;
+      item = record { tokens = at.0.tokens; kept = new };
+      put = entry_set es gs i new at.0 (c2 ∙ c1) set at.1;
+      with = subst (λ x. IsWith x r (record { tokens = at.0.tokens; kept = new })) (sym e) (with at.0.tokens);
+    }

@@ -1,31 +1,37 @@
 -- What is kept of items once they are checked.
-use Rattle.std.proofs.Common.{◌≡◌, ℕ, zero, suc, List, [], ◌∷◌, length, map, take, drop, Option, None, Some, refl, sym, ap, subst, ◌∙◌, arith}
+use Rattle.std.proofs.Common.{◌≡◌, ℕ, zero, suc, ◌+◌, List, [], ◌∷◌, ◌++◌, length, map, take, drop, Option, None, Some, refl, sym, ap, subst, ◌∙◌, arith}
+use Rattle.std.specs.Borrow.{Bor}
 use Rattle.std.specs.Global.{Box}
 use Rattle.std.specs.Prelude.{option_map, All}
+use Rattle.std.proofs.lemmas.List.Elements.{All-append, All-nil, All-cons, All-head, All-tail}
 use Rattle.std.proofs.lemmas.List.{length-map, length-append}
 use Rattle.x_lex.specs.declared.kind.Kind.{Kind}
 use Rattle.x_lex.specs.Places.{Lexeme, lexemes}
-use Rattle.x_item.specs.ItemList.{counts}
-use Rattle.x_item.specs.Items.{joined}
+use Rattle.x_lex.specs.Tiling.{AreTokens}
+use Rattle.x_text.proofs.ListLemmas.{map_append}
+use Rattle.x_item.specs.ItemList.{AreOfText, ItemChange, counts}
+use Rattle.x_item.specs.ItemList as items
 use Rattle.x_item.specs.Tree.{Definition}
 use Rattle.x_item.specs.Parse.{Parse, Nothing, Def, Fault, IsParse}
 use Rattle.x_item.specs.declared.cutting.entry.Entry.{Entry}
 use Rattle.x_sema.specs.Results.{Outcome, AreResultsFrom, AreResults, IsResult, result_at}
 use Rattle.x_sema.specs.Rules.{Ascends}
 use Rattle.x_sema.specs.declared.fault.WordFault.{WordFault}
+use Rattle.x_gen.specs.Pieces.{Pieces}
 use Rattle.x_gen.specs.Rendering.{pieces_of}
-use Rattle.x_session.specs.Checking.{AreKnown, AreRendered, sound, sound_pieces}
+use Rattle.x_session.specs.Checking.{AreChecked, AreKnown, AreRendered, IsMade, IsSound, kept_definitions, sound, sound_pieces}
 use Rattle.x_session.specs.Compile.{IsCompilation, definitions_of, faults_at, faults_from, item_faults, parsed_definition, placed, rule_faults, token_faults}
-use Rattle.x_session.specs.Counting.{faults_kept}
+use Rattle.x_session.specs.Counting.{faults_found, faults_with}
 use Rattle.x_session.specs.FaultWalk.{AreOrdered}
 use Rattle.x_session.specs.Generated.{faultless, lines_of, part_of}
-use Rattle.x_session.specs.KeptView.{AreEach, AreParsed, AreWith, IsItem, entry_definitions, entry_results, found_pieces, found_result}
+use Rattle.x_session.specs.KeptView.{AreAlong, AreEach, AreParsed, AreWith, IsItem, entry_definitions, entry_results, found_pieces, found_result}
 use Rattle.x_session.specs.KeptView.{item_with, items_with, kept_definition, kept_found, kept_parse, kept_part}
-use Rattle.x_session.specs.SessionState.{items_of}
+use Rattle.x_session.specs.SessionState.{IsKept, items_of}
+use Rattle.x_session.specs.declared.compile.checking.Checks.{Checks}
 use Rattle.x_session.specs.declared.compile.kept.Found.{Found}
 use Rattle.x_session.specs.declared.compile.kept.Kept.{Kept}
 use Rattle.x_session.proofs.Compiled.{results-items}
-use Rattle.x_session.proofs.ItemLemmas.{take_part, drop_part}
+use Rattle.x_session.proofs.AlongLemmas.{along_each}
 
 -- ---- nothing was found of an item without a definition
 
@@ -38,16 +44,21 @@ known_one definitions results n None None is none = refl
 known_one definitions results n None (Some o) is none = absurd is
 known_one definitions results n (Some d) o is none = absurd (cc)
 
-known_from : (definitions : List (Option Definition)) (results : ℕ → Option Outcome) (n : ℕ) (entries : List (Entry Kept)) (rs : List (Option (Box Found)))
-    → AreResultsFrom definitions results n (entry_definitions entries) (map found_result rs) → AreKnown entries rs
+known_from : (definitions : List (Option Definition)) (results : ℕ → Option Outcome) (n : ℕ) (ks : List Kept) (rs : List (Option (Box Found)))
+    → AreResultsFrom definitions results n (kept_definitions ks) (map found_result rs) → AreKnown ks rs
 known_from definitions results n [] [] are = tt
 known_from definitions results n [] (r ∷ rs) are = absurd are
-known_from definitions results n (e ∷ es) [] are = absurd are
-known_from definitions results n (e ∷ es) (r ∷ rs) are =
-    (λ none. none_found r (known_one definitions results n (kept_definition e.kept) (found_result r) are.0 none), known_from definitions results (suc n) es rs are.1)
+known_from definitions results n (k ∷ ks) [] are = absurd are
+known_from definitions results n (k ∷ ks) (r ∷ rs) are =
+    (λ none. none_found r (known_one definitions results n (kept_definition k) (found_result r) are.0 none), known_from definitions results (suc n) ks rs are.1)
 
-pub are_known : (entries : List (Entry Kept)) (rs : List (Option (Box Found))) → AreResults (entry_definitions entries) (map found_result rs) → AreKnown entries rs
-are_known entries rs are = known_from (entry_definitions entries) (result_at (map found_result rs)) 0 entries rs are
+pub are_known : (ks : List Kept) (checks : Checks) → AreChecked ks checks → AreKnown ks checks.results.items
+are_known ks checks h = known_from (kept_definitions ks) (result_at (map found_result checks.results.items)) 0 ks checks.results.items h.results
+
+-- the definitions by what is kept
+pub definitions_kept : (es : List (Entry Kept)) → kept_definitions (items.kept es) ≡ entry_definitions es
+definitions_kept [] = refl
+definitions_kept (e ∷ es) = ap (λ ds. kept_definition e.kept ∷ ds) (definitions_kept es)
 
 -- ---- items with what was found of them
 
@@ -88,7 +99,7 @@ definitions_with (e ∷ es) (r ∷ rs) [] with = absurd with
 
 pub results_with : (es : List (Entry Kept)) (rs : List (Option (Box Found))) (fs : List (Entry Kept)) → AreWith es rs fs → entry_results fs ≡ map found_result rs
 results_with [] [] [] with = refl
-results_with (e ∷ es) (r ∷ rs) (f ∷ fs) with = let others = results_with es rs fs with.1 in λ i. found_result (with.0.found i) ∷ others i
+results_with (e ∷ es) (r ∷ rs) (f ∷ fs) with = let others = results_with es rs fs with.1 in λ i. with.0.result i ∷ others i
 results_with [] [] (f ∷ fs) with = absurd with
 results_with [] (r ∷ rs) fs with = absurd with
 results_with (e ∷ es) [] fs with = absurd with
@@ -113,30 +124,84 @@ faultless_is tokens Nothing fs = sound_none fs ∙ faultless_none tokens fs
 faultless_is tokens (Def d) fs = sound_some tokens d fs
 faultless_is tokens (Fault token code) fs = sound_none fs
 
-parts_from : (parts : List (List Lexeme)) (es : List (Entry Kept)) (rs : List (Option (Box Found))) (fs : List (Entry Kept)) (tokens : List Lexeme) → joined parts ≡ tokens → AreWith es rs fs → AreEach parts fs
-    → AreRendered (entry_definitions es) rs → map (λ e. kept_part e.kept) fs ≡ map part_of (items_with tokens fs)
-parts_from [] [] [] [] tokens all with each are = refl
-parts_from (p ∷ ps) [] [] [] tokens all with each are = absurd each
-parts_from [] (e ∷ es) (r ∷ rs) (f ∷ fs) tokens all with each are = absurd each
-parts_from (p ∷ ps) (e ∷ es) (r ∷ rs) (f ∷ fs) tokens all with each are =
-    let first = ap (take f.tokens) (sym all) ∙ take_part p (joined ps) f.tokens each.0.count in
-    let rest = ap (drop f.tokens) (sym all) ∙ drop_part p (joined ps) f.tokens each.0.count in
-    let lines = each.0.lines ∙ ap lines_of (sym first) in
-    let made : found_pieces (kept_found f.kept) ≡ sound_pieces (kept_definition e.kept) (found_result r) = ap found_pieces with.0.found ∙ are.0 in
-    let kept : sound_pieces (kept_definition e.kept) (found_result r) ≡ sound_pieces (kept_definition f.kept) (found_result (kept_found f.kept)) =
-    λ i. sound_pieces (parsed_definition (sym with.0.parse i)) (found_result (sym with.0.found i)) in
-    let same = ap (option_map pieces_of) (faultless_is (take f.tokens tokens) (kept_parse f.kept) (rule_faults (found_result (kept_found f.kept)))) in
-    let generated = made ∙ kept ∙ same in
-    let others = parts_from ps es rs fs (drop f.tokens tokens) (sym rest) with.1 each.1 are.1 in
-    λ i. record { lines = lines i; pieces = generated i } ∷ others i
-parts_from parts [] [] (f ∷ fs) tokens all with each are = absurd with
-parts_from parts [] (r ∷ rs) fs tokens all with each are = absurd with
-parts_from parts (e ∷ es) [] fs tokens all with each are = absurd with
-parts_from parts (e ∷ es) (r ∷ rs) [] tokens all with each are = absurd with
+sound_with : (es : List (Entry Kept)) (rs : List (Option (Box Found))) (fs : List (Entry Kept)) → AreWith es rs fs → AreRendered (items.kept es) rs → All (λ e. IsSound e.kept) fs
+sound_with [] [] [] with are = All-nil (λ e. IsSound e.kept)
+sound_with (e ∷ es) (r ∷ rs) (f ∷ fs) with are =
+    let same : sound_pieces (kept_definition e.kept) (found_result r) ≡ sound_pieces (kept_definition f.kept) (found_result (kept_found f.kept)) =
+    λ i. sound_pieces (parsed_definition (sym with.0.parse i)) (sym with.0.result i) in
+    All-cons (λ e. IsSound e.kept) f fs (with.0.pieces ∙ are.0 ∙ same) (sound_with es rs fs with.1 are.1)
+sound_with [] [] (f ∷ fs) with are = absurd with
+sound_with [] (r ∷ rs) fs with are = absurd with
+sound_with (e ∷ es) [] fs with are = absurd with
+sound_with (e ∷ es) (r ∷ rs) [] with are = absurd with
 
-pub parts_with : (all : List Lexeme) (es : List (Entry Kept)) (rs : List (Option (Box Found))) (fs : List (Entry Kept)) → AreWith es rs fs → AreParsed all fs → AreRendered (entry_definitions es) rs
-    → map (λ e. kept_part e.kept) fs ≡ map part_of (items_with all fs)
-parts_with all es rs fs with h are = parts_from h.parts es rs fs all h.are.all with h.each are
+parts_along : (es : List (Entry Kept)) (tokens : List Lexeme) → AreAlong tokens es → All (λ e. IsSound e.kept) es → map (λ e. kept_part e.kept) es ≡ map part_of (items_with tokens es)
+parts_along [] tokens along sound = refl
+parts_along (e ∷ es) tokens along sound =
+    let lines = along.0.lines in
+    let here : IsSound e.kept = All-head (λ e. IsSound e.kept) e es sound in
+    let pieces = here ∙ ap (option_map pieces_of) (faultless_is (take e.tokens tokens) (kept_parse e.kept) (rule_faults (found_result (kept_found e.kept)))) in
+    let others = parts_along es (drop e.tokens tokens) along.1 (All-tail (λ e. IsSound e.kept) e es sound) in
+    λ i. record { lines = lines i; pieces = pieces i } ∷ others i
+
+-- what is generated of the items of a text
+pub parts_kept : {text : List ℕ} {tokens : List (Kind × ℕ)} {entries : List (Entry Kept)} {faults : ℕ} → IsKept text tokens entries faults
+    → map (λ e. kept_part e.kept) entries ≡ map part_of (items_of text tokens entries)
+parts_kept {text} {tokens} {entries} h = parts_along entries (lexemes text tokens) (along_each h.parsed.parts entries (lexemes text tokens) h.parsed.are.all h.parsed.each) h.sound
+
+-- what was generated of an item is of its definition
+sound_definition : (d : Option Definition) (fs : List WordFault) (p : Pieces) → option_map pieces_of (sound d fs) ≡ Some p → option_map pieces_of d ≡ Some p
+sound_definition d [] p is = is
+sound_definition d (f ∷ fs) p is = absurd (cc)
+
+pub made_of : (k : Kept) → IsSound k → IsMade k
+made_of k sound p is = sound_definition (kept_definition k) (rule_faults (found_result (kept_found k))) p (sym sound ∙ is)
+
+pub made_none : (k : Kept) → kept_found k ≡ None → IsMade k
+made_none k none p is = absurd (no_piece (sym (ap found_pieces none) ∙ is))
+  where
+    no_piece : None ≡ Some p → ⊥
+    no_piece e = cc
+
+-- ---- all of them
+
+all_take : {X : Type 0} (P : X → Type 0) (xs : List X) (n : ℕ) → All P xs → All P (take n xs)
+all_take P xs zero all = All-nil P
+all_take P [] (suc n) all = All-nil P
+all_take P (x ∷ xs) (suc n) all = All-cons P x (take n xs) (All-head P x xs all) (all_take P xs n (All-tail P x xs all))
+
+all_drop : {X : Type 0} (P : X → Type 0) (xs : List X) (n : ℕ) → All P xs → All P (drop n xs)
+all_drop P xs zero all = all
+all_drop P [] (suc n) all = All-nil P
+all_drop P (x ∷ xs) (suc n) all = all_drop P xs n (All-tail P x xs all)
+
+kept_all : (P : Entry Kept → Type 0) (Q : Kept → Type 0) → ((e : Entry Kept) → P e → Q e.kept) → (es : List (Entry Kept)) → All P es → All Q (items.kept es)
+kept_all P Q step [] all = All-nil Q
+kept_all P Q step (e ∷ es) all = All-cons Q e.kept (items.kept es) (step e (All-head P e es all)) (kept_all P Q step es (All-tail P e es all))
+
+-- what is generated of items that are not checked yet: nothing
+pub made_unchecked : (es : List (Entry Kept)) → All (λ e. kept_found e.kept ≡ None) es → All IsMade (items.kept es)
+made_unchecked es all = kept_all (λ e. kept_found e.kept ≡ None) IsMade (λ e none. made_none e.kept none) es all
+
+-- what is generated of the items that an edit leaves
+pub made_patched : (es : List (Entry Kept)) (p : ItemChange Kept) → All (λ e. IsSound e.kept) es → All (λ e. kept_found e.kept ≡ None) p.fresh → All IsMade (items.kept (items.patched es p))
+made_patched es p sound none =
+    let P : Entry Kept → Type 0 = λ e. IsMade e.kept in
+    let front = all_take (λ e. IsSound e.kept) es p.at sound in
+    let rear = all_drop (λ e. IsSound e.kept) es (p.at + p.removed) sound in
+    let step : (e : Entry Kept) → IsSound e.kept → IsMade e.kept = λ e s. made_of e.kept s in
+    subst (λ l. All IsMade l) (sym (map_append (λ e. e.kept) (take p.at es) (p.fresh ++ drop (p.at + p.removed) es) ∙ ap (λ l. items.kept (take p.at es) ++ l) (map_append (λ e. e.kept) p.fresh (drop (p.at + p.removed) es))))
+    (All-append IsMade (items.kept (take p.at es)) (items.kept p.fresh ++ items.kept (drop (p.at + p.removed) es)) (kept_all (λ e. IsSound e.kept) IsMade step (take p.at es) front)
+    (All-append IsMade (items.kept p.fresh) (items.kept (drop (p.at + p.removed) es)) (made_unchecked p.fresh none) (kept_all (λ e. IsSound e.kept) IsMade step (drop (p.at + p.removed) es) rear)))
+
+-- the same of what is lent
+pub made_lent : (refs : List (Bor Kept)) (ks : List Kept) → map (λ k. k.now) refs ≡ ks → All IsMade ks → All (λ k. IsMade k.now) refs
+made_lent [] ks same all = All-nil (λ k. IsMade k.now)
+made_lent (r ∷ refs) [] same all = absurd (cc)
+made_lent (r ∷ refs) (k ∷ ks) same all =
+    let here : r.now ≡ k = cc in
+    let there : map (λ x. x.now) refs ≡ ks = cc in
+    All-cons (λ x. IsMade x.now) r refs (subst IsMade (sym here) (All-head IsMade k ks all)) (made_lent refs ks there (All-tail IsMade k ks all))
 
 -- ---- how many faults they have
 
@@ -145,15 +210,43 @@ many_faults tokens others Nothing fs = length-map fs _ ∙ sym (length-map fs _)
 many_faults tokens others (Def d) fs = length-map fs _ ∙ sym (length-map fs _)
 many_faults tokens others (Fault token code) fs = refl
 
-pub count_faults : (text : List ℕ) (n : ℕ) (tokens : List Lexeme) (entries : List (Entry Kept)) → faults_kept entries ≡ length (faults_from text n (items_with tokens entries))
-count_faults text n tokens [] = refl
-count_faults text n tokens (e ∷ es) =
-    let i = item_with tokens e in
-    let here = many_faults [] i.tokens (kept_parse e.kept) (rule_faults (found_result (kept_found e.kept))) in
+count_found : (text : List ℕ) (n : ℕ) (tokens : List Lexeme) (es : List (Entry Kept)) (rs : List (Option (Box Found))) (fs : List (Entry Kept)) → AreWith es rs fs
+    → faults_found (items.kept es) rs ≡ length (faults_from text n (items_with tokens fs))
+count_found text n tokens [] [] [] with = refl
+count_found text n tokens (e ∷ es) (r ∷ rs) (f ∷ fs) with =
+    let i = item_with tokens f in
+    let same : faults_with e.kept r ≡ length (faults_at [] (kept_parse f.kept) (rule_faults (found_result (kept_found f.kept)))) =
+    λ j. length (faults_at [] (sym with.0.parse j) (rule_faults (sym with.0.result j))) in
+    let here = many_faults [] i.tokens (kept_parse f.kept) (rule_faults (found_result (kept_found f.kept))) in
     let placed = length-map (token_faults i) (placed text n i.tokens) in
-    let others = count_faults text (suc n) (drop e.tokens tokens) es in
-    let all = length-append (item_faults text n i) (faults_from text (suc n) (items_with (drop e.tokens tokens) es)) in
-    omega (arith, here, placed, others, all)
+    let others = count_found text (suc n) (drop f.tokens tokens) es rs fs with.1 in
+    let all = length-append (item_faults text n i) (faults_from text (suc n) (items_with (drop f.tokens tokens) fs)) in
+    omega (arith, same, here, placed, others, all)
+count_found text n tokens [] [] (f ∷ fs) with = absurd with
+count_found text n tokens [] (r ∷ rs) fs with = absurd with
+count_found text n tokens (e ∷ es) [] fs with = absurd with
+count_found text n tokens (e ∷ es) (r ∷ rs) [] with = absurd with
+
+-- all that is kept of a text, once what was found of its items is kept with them
+pub kept_is : (text : List ℕ) (tokens : List (Kind × ℕ)) (es : List (Entry Kept)) (checks : Checks) (fs : List (Entry Kept)) → AreTokens text tokens → AreParsed (lexemes text tokens) es → AreOfText (counts es)
+    → AreChecked (items.kept es) checks → AreWith es checks.results.items fs → IsKept text tokens fs checks.faults
+kept_is text tokens es checks fs are parsed of_text checked with =
+    let rs = checks.results.items in
+    let all = lexemes text tokens in
+    let few = of_text.few in
+    let counted = length-map es (λ e. e.tokens) in
+    let same = sym (length-map fs (λ e. e.tokens)) ∙ ap length (counts_with es rs fs with) in
+    let parts = length-map fs (λ e. kept_part e.kept) in
+    let definitions = definitions_with es rs fs with ∙ sym (definitions_kept es) in
+    record {
+      are_tokens = are;
+      parsed = parsed_with all es rs fs with parsed;
+      are_results = subst (λ os. AreResults (entry_definitions fs) os) (sym (results_with es rs fs with))
+          (subst (λ ds. AreResults ds (map found_result rs)) (sym definitions) checked.results);
+      sound = sound_with es rs fs with checked.rendered;
+      few = omega (arith, few, counted, same, parts);
+      count_is = checked.faults ∙ count_found text 0 all es rs fs with;
+    }
 
 -- ---- the faults that were found come in order
 

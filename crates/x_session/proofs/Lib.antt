@@ -1,3 +1,4 @@
+pub mod AlongLemmas
 pub mod CheckingLemmas
 pub mod CommandLemmas
 pub mod Compiled
@@ -5,10 +6,13 @@ pub mod DefinitionLemmas
 pub mod DumpLines
 pub mod EditLists
 pub mod FaultLemmas
+pub mod FollowLemmas
+pub mod FreshLemmas
 pub mod ItemLemmas
 pub mod KeepingLemmas
 pub mod KeptLemmas
 pub mod LineLemmas
+pub mod LookLemmas
 pub mod Parting
 pub mod QueueLemmas
 pub mod ReadingLemmas
@@ -18,3 +22,4 @@ pub mod SearchLemmas
 pub mod ShowingLemmas
 pub mod TypedLemmas
 pub mod WalkLemmas
+pub mod WorkLemmas

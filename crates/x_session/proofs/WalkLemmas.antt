@@ -18,7 +18,7 @@ taken_more xs walk next all x count n m e lt is h =
 pub left_more : {X : Type 0} (walk next all : List X) (x : X) (count n m : ℕ) → walk ≡ x ∷ next → n < count → m ≡ n + 1 → drop (count - n) walk ≡ all → drop (count - m) next ≡ all
 left_more walk next all x count n m e lt is h = sym (ap (drop (count - n)) e ∙ step_drop x next (count - n) (count - m) (omega arith)) ∙ h
 
-take-short : {X : Type 0} (n : ℕ) (xs : List X) → length (take n xs) ≤ length xs
+pub take-short : {X : Type 0} (n : ℕ) (xs : List X) → length (take n xs) ≤ length xs
 take-short zero xs = omega arith
 take-short (suc n) [] = omega arith
 take-short (suc n) (x ∷ xs) = let h = take-short n xs in omega (arith, h)

@@ -1,19 +1,20 @@
 -- What the program keeps of what checking items found, and what it says of it.
-use Rattle.std.specs.Prelude.{◌≡◌, ℕ, false, List, [], ◌∷◌, Option, None, Some, option_map, if◌then◌else◌}
+use Rattle.std.specs.Prelude.{◌≡◌, ℕ, false, List, [], ◌∷◌, map, Option, None, Some, option_map, slice_get, if◌then◌else◌}
 use Rattle.std.specs.Global.{Box}
 use Rattle.x_text.specs.Counts.{Counts, raised}
 use Rattle.x_item.specs.Tree.{Definition}
 use Rattle.x_item.specs.declared.names.declared_name.NameKind.TheVariants as kinds
 use Rattle.x_sema.specs.Views.{View, Earlier}
 use Rattle.x_sema.specs.Declarers.{IsShort, is_beforehand}
-use Rattle.x_sema.specs.Results.{Outcome, beforehand_meaning, view_of}
+use Rattle.x_sema.specs.Results.{AreResults, Outcome, beforehand_meaning, view_of}
 use Rattle.x_sema.specs.declared.fault.WordFault.{WordFault}
 use Rattle.x_sema.specs.declared.names.Declarer.{Declarer}
 use Rattle.x_gen.specs.Pieces.{Pieces}
 use Rattle.x_gen.specs.Rendering.{pieces_of}
-use Rattle.x_item.specs.declared.cutting.entry.Entry.{Entry}
 use Rattle.x_session.specs.Compile.{rule_faults}
-use Rattle.x_session.specs.KeptView.{found_pieces, found_result, kept_definition}
+use Rattle.x_session.specs.Counting.{faults_found}
+use Rattle.x_session.specs.KeptView.{found_pieces, found_result, kept_definition, kept_found, renewed_pieces}
+use Rattle.x_session.specs.declared.compile.checking.Checks.{Checks}
 use Rattle.x_session.specs.declared.compile.kept.Found.{Found}
 use Rattle.x_session.specs.declared.compile.kept.Kept.{Kept}
 
@@ -42,14 +43,37 @@ sound d (f ∷ fs) = None
 abbrev pub sound_pieces : Option Definition → Option Outcome → Option Pieces
 sound_pieces d o = option_map pieces_of (sound d (rule_faults o))
 
--- so it was generated of each of these definitions
-abbrev pub AreRendered : List (Option Definition) → List (Option (Box Found)) → Type 0
+-- the definitions of items, by what is kept with each
+abbrev pub kept_definitions : List Kept → List (Option Definition)
+kept_definitions ks = map kept_definition ks
+
+-- of the definition the pieces that it has, if any, are generated
+abbrev pub IsMade : Kept → Type 0
+IsMade k = (p : Pieces) → found_pieces (kept_found k) ≡ Some p → option_map pieces_of (kept_definition k) ≡ Some p
+
+-- the item has pieces exactly where its definition has no fault, and they are generated of it
+abbrev pub IsSound : Kept → Type 0
+IsSound k = found_pieces (kept_found k) ≡ sound_pieces (kept_definition k) (found_result (kept_found k))
+
+-- so it will be with each of these items, once it has what was found of it
+abbrev pub AreRendered : List Kept → List (Option (Box Found)) → Type 0
 AreRendered [] [] = Unit {0}
-AreRendered (d ∷ ds) (r ∷ rs) = (found_pieces r ≡ sound_pieces d (found_result r)) × AreRendered ds rs
-AreRendered ds rs = ⊥
+AreRendered (k ∷ ks) (r ∷ rs) =
+    (renewed_pieces (found_pieces (kept_found k)) r ≡ sound_pieces (kept_definition k) (found_result r)) × AreRendered ks rs
+AreRendered ks rs = ⊥
 
 -- each item has what was found of it, and nothing was found of one without a definition
-abbrev pub AreKnown : List (Entry Kept) → List (Option (Box Found)) → Type 0
+abbrev pub AreKnown : List Kept → List (Option (Box Found)) → Type 0
 AreKnown [] [] = Unit {0}
-AreKnown (e ∷ es) (r ∷ rs) = (kept_definition e.kept ≡ None → r ≡ None) × AreKnown es rs
-AreKnown es rs = ⊥
+AreKnown (k ∷ ks) (r ∷ rs) = (kept_definition k ≡ None → r ≡ None) × AreKnown ks rs
+AreKnown ks rs = ⊥
+
+-- nothing was found of the item at an index where it has no definition
+abbrev pub IsKnownAt : List Kept → ℕ → Option (Box Found) → Type 0
+IsKnownAt ks index r = (k : Kept) → slice_get ks index ≡ Some k → kept_definition k ≡ None → r ≡ None
+
+-- this is what checking these items gives
+pub record AreChecked (ks : List Kept) (checks : Checks) : Type 0 where
+  pub results : AreResults (kept_definitions ks) (map found_result checks.results.items)
+  pub rendered : AreRendered ks checks.results.items
+  pub faults : checks.faults ≡ faults_found ks checks.results.items

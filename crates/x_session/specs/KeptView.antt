@@ -1,5 +1,5 @@
 -- What a session keeps with the items of a text, and what it says of them.
-use Rattle.std.specs.Prelude.{◌≡◌, ℕ, List, [], ◌∷◌, length, map, take, drop, Option, None, Some}
+use Rattle.std.specs.Prelude.{◌≡◌, ℕ, List, [], ◌∷◌, length, map, take, drop, Option, None, Some, slice_get, slice_set}
 use Rattle.std.specs.Global.{Box}
 use Rattle.x_lex.specs.Places.{Lexeme}
 use Rattle.x_item.specs.Items.{AreItems}
@@ -9,6 +9,7 @@ use Rattle.x_item.specs.Parse as parse
 use Rattle.x_item.specs.View.{view_definition}
 use Rattle.x_item.specs.declared.cutting.entry.Entry.{Entry}
 use Rattle.x_sema.specs.Results.{Outcome}
+use Rattle.x_sema.specs.declared.fault.WordFault.{WordFault}
 use Rattle.x_gen.specs.Pieces as pieces
 use Rattle.x_session.specs.Compile as compile
 use Rattle.x_session.specs.Compile.{parsed_definition}
@@ -97,15 +98,40 @@ pub record AreParsed (tokens : List Lexeme) (entries : List (Entry Kept)) : Type
   pub are : AreItems tokens parts
   pub each : AreEach parts entries
 
+-- items one behind another, which have the first of these tokens
+abbrev pub AreAlong : List Lexeme → List (Entry Kept) → Type 0
+AreAlong tokens [] = Unit {0}
+AreAlong tokens (e ∷ es) = IsItem (take e.tokens tokens) e × AreAlong (drop e.tokens tokens) es
+
+-- the pieces behind a check that made these, or none, and found these faults: those that were there stay where none are to be made
+abbrev pub pieces_behind : Option pieces.Pieces → Option pieces.Pieces → List WordFault → Option pieces.Pieces
+pieces_behind had (Some made) faults = Some made
+pieces_behind had None [] = had
+pieces_behind had None (f ∷ fs) = None
+
+-- the pieces of an item that had these, once this is kept with it
+abbrev pub renewed_pieces : Option pieces.Pieces → Option (Box Found) → Option pieces.Pieces
+renewed_pieces had None = None
+renewed_pieces had (Some found) = pieces_behind had found.value.pieces found.value.checked.faults
+
 -- the same item, of which this was found
 pub record IsWith (e : Entry Kept) (r : Option (Box Found)) (f : Entry Kept) : Type 0 where
   pub tokens : f.tokens ≡ e.tokens
   pub parse : kept_parse f.kept ≡ kept_parse e.kept
   pub lines : kept_lines f.kept ≡ kept_lines e.kept
-  pub found : kept_found f.kept ≡ r
+  pub result : found_result (kept_found f.kept) ≡ found_result r
+  pub pieces : found_pieces (kept_found f.kept) ≡ renewed_pieces (found_pieces (kept_found e.kept)) r
 
 -- so each of them is
 abbrev pub AreWith : List (Entry Kept) → List (Option (Box Found)) → List (Entry Kept) → Type 0
 AreWith [] [] [] = Unit {0}
 AreWith (e ∷ es) (r ∷ rs) (f ∷ fs) = IsWith e r f × AreWith es rs fs
 AreWith es rs fs = ⊥
+
+-- this was found of the item at an index, and the others are as they were
+pub record IsWithAt (es : List (Entry Kept)) (index : ℕ) (r : Option (Box Found)) (fs : List (Entry Kept)) : Type 0 where
+  pub old : Entry Kept
+  pub was : slice_get es index ≡ Some old
+  pub item : Entry Kept
+  pub put : fs ≡ slice_set es index item
+  pub with : IsWith old r item

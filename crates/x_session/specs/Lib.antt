@@ -6,6 +6,7 @@ pub mod Counting
 pub mod Definitions
 pub mod FaultWalk
 pub mod Faults
+pub mod Following
 pub mod Generated
 pub mod ItemReading
 pub mod KeptView
@@ -16,3 +17,4 @@ pub mod Session
 pub mod SessionState
 pub mod Showing
 pub mod Typed
+pub mod Work

@@ -1,4 +1,4 @@
--- What a session is a view of: the text, and the base of the names in what is generated of it.
+-- What a session is a view of: the text, the base of the names in what is generated of it, and the seats of its tokens and items.
 use Rattle.std.specs.Prelude.{◌≡◌, ℕ, List, [], ◌∷◌, ◌++◌, length}
 use Rattle.x_text.specs.Edits.{change_of, edited_by, Fits, Refuses}
 use Rattle.x_text.specs.declared.edit.Edit.{Edit}
@@ -6,9 +6,12 @@ use Rattle.x_text.specs.declared.fault.TextFault.{TextFault}
 use Rattle.x_lex.specs.declared.kind.Kind.{Kind}
 use Rattle.x_session.specs.Compile.{Item, IsCompilation}
 
+-- A seat is the index in a list behind the entries that were put in last.
 pub record Document : Type 0 where
   pub base : List ℕ
   pub text : List ℕ
+  pub token_seat : ℕ
+  pub item_seat : ℕ
 
 -- the session has this text now, and the base that it had
 pub record LeavesText (old new : Document) (text : List ℕ) : Type 0 where

@@ -1,12 +1,6 @@
 //! Compiling a text from scratch.
 
-ghost use Rattle.std.specs.Prelude.{◌≡◌, ℕ, List, IfOk, map};
-ghost use Rattle.x_schema.specs.Definitions.{tree_at};
-ghost use Rattle.x_sema.specs.DeclarerTable.{first_in};
-ghost use Rattle.x_sema.specs.Declarers.{AreShort, FirstIs};
-ghost use Rattle.x_sema.specs.Results.{AreResults};
-ghost use Rattle.x_session.specs.Checking.{AreRendered};
-ghost use Rattle.x_session.specs.KeptView.{entry_definitions, found_result};
+ghost use Rattle.std.specs.Prelude.{◌≡◌, IfOk, length, map};
 ghost use Rattle.x_session.specs.SessionState.{IsKept};
 
 mod checking;
@@ -17,17 +11,16 @@ mod kept;
 mod lines;
 mod parsing;
 
-use checking::check_items;
+pub use checking::{Checks, check_all};
 pub use fault::{Fault, FaultCode};
 pub(crate) use item_table::ItemTable;
-use keeping::{count_faults, keep_results};
-use kept::Found;
+pub use keeping::keep_in_place;
+use keeping::keep_results;
 pub(crate) use kept::{Kept, Told};
 use parsing::parse_items;
 use std::alloc::Global;
-use x_item::{Definition, Entry};
+use x_item::Entry;
 use x_lex::{Tokens, lex};
-use x_sema::Names;
 use x_text::{Meter, NoMemory, Source};
 
 /// What is kept of compiling a text.
@@ -39,15 +32,16 @@ pub struct Compilation {
     pub faults: usize,
 }
 
-/// Compiles a text from scratch.
+/// Compiles a text from scratch. Tokens and items have their seats behind the last of them.
 pub fn compile(alloc: Global, source: &Source, meter: &mut Meter) -> Result<Compilation, NoMemory>
-    ensures { IfOk result (λ c. IsKept source.now c.tokens.list c.items.entries.list c.faults) }
+    ensures kept { IfOk result (λ c. IsKept source.now c.tokens.list c.items.entries.list c.faults) }
+    ensures token_seat { IfOk result (λ c. c.tokens.seat ≡ length c.tokens.list) }
+    ensures item_seat { IfOk result (λ c. c.items.entries.seat ≡ length c.items.entries.list) }
 {
     let tokens = lex(alloc, source, meter)?;
     let mut entries = parse_items(alloc, &tokens, source, meter)?;
-    let results = results_of(alloc, &entries, meter)?;
+    let Checks { results, faults } = check_all(alloc, &kept_of(alloc, &entries)?, meter)?;
     keep_results(&mut entries, results);
-    let faults = count_faults(&entries)?;
     let items = ItemTable::of(alloc, entries)?;
     Ok(Compilation {
         tokens,
@@ -56,39 +50,13 @@ pub fn compile(alloc: Global, source: &Source, meter: &mut Meter) -> Result<Comp
     })
 }
 
-/// What checking the items finds.
-fn results_of(
-    alloc: Global,
-    entries: &[Entry<Kept>],
-    meter: &mut Meter,
-) -> Result<Vec<Option<Box<Found>>>, NoMemory>
-    requires { AreShort (entry_definitions entries.now) }
-    ensures results { IfOk result
-        (λ results. AreResults (entry_definitions entries.now) (map found_result results.items)) }
-    ensures rendered { IfOk result (λ results. AreRendered (entry_definitions entries.now) results.items) }
+/// What is kept with each item.
+fn kept_of(alloc: Global, entries: &[Entry<Kept>]) -> Result<Vec<&Kept>, NoMemory>
+    ensures { IfOk result (λ items. map (λ k. k.now) items.items ≡ map (λ e. e.kept) entries.now) }
 {
-    let names = names_of(alloc, entries)?;
-    check_items(alloc, entries, &names, meter)
-}
-
-/// The table of the names that the items declare.
-fn names_of(alloc: Global, entries: &[Entry<Kept>]) -> Result<Names<'_>, NoMemory>
-    ensures { IfOk result (λ names. AreShort (entry_definitions entries.now)
-        → (name : List ℕ) → FirstIs (entry_definitions entries.now) name (first_in names name)) }
-{
-    Names::of(alloc, &definitions_in(alloc, entries)?)
-}
-
-/// The definition of each item.
-fn definitions_in(
-    alloc: Global,
-    entries: &[Entry<Kept>],
-) -> Result<Vec<Option<&Definition>>, NoMemory>
-    ensures { IfOk result (λ definitions. map tree_at definitions.items ≡ entry_definitions entries.now) }
-{
-    let mut definitions = Vec::with_capacity(alloc, entries.len())?;
+    let mut items = Vec::with_capacity(alloc, entries.len())?;
     for entry in entries {
-        definitions.push(entry.kept.definition())?;
+        items.push(&entry.kept)?;
     }
-    Ok(definitions)
+    Ok(items)
 }

@@ -2,6 +2,7 @@
 #![tactic(auto)]
 
 mod compile;
+mod following;
 mod laws;
 mod script;
 mod session;
@@ -15,5 +16,6 @@ pub use script::{
 pub use session::{Faults, SchemaFault, Session, Work};
 pub use x_gen::Which;
 pub use x_sema::{RuleCode, Schema, TypeId};
+pub use x_text::TextFault as EditFault;
 pub use x_text::{EngineFault, Outcome};
 pub use x_value::dump_value;

@@ -10,6 +10,7 @@ ghost use Rattle.x_session.specs.Session.{Document, Compiles, edited_by_all, Tak
 ghost use Rattle.x_session.specs.Compile.{tokens_of, definitions_of, definition_at, faults_of};
 ghost use Rattle.x_session.specs.Definitions.{numbered};
 ghost use Rattle.x_session.specs.Typed.{GivesSchema};
+ghost use Rattle.x_session.specs.Work.{IsWork, IsWorkOfAll};
 
 mod faults;
 mod item_faults;
@@ -18,7 +19,9 @@ mod schema_fault;
 mod texts;
 mod work;
 
+use crate::EditFault;
 use crate::compile::{Compilation, Fault, ItemTable, compile};
+use crate::following::{carry_out, plan_edit};
 pub use faults::Faults;
 pub use schema_fault::SchemaFault;
 use std::alloc::Global;
@@ -27,14 +30,14 @@ pub use work::Work;
 use x_item::Definition;
 use x_lex::{Token, Tokens, Walk};
 use x_sema::Schema;
-use x_text::{Edit, Meter, NoMemory, Source, TextFault};
+use x_text::{Edit, Meter, NoMemory, Source, TextBuffers, TextFault};
 
 /// A text that stays open: its tokens, definitions and faults, and what is generated of it.
 #[derive(Drop)]
 pub struct Session {
     alloc: Global,
     base: Vec<u8>,
-    source: Source,
+    texts: TextBuffers,
     tokens: Tokens,
     items: ItemTable,
     fault_count: usize,
@@ -46,9 +49,14 @@ impl Model for Session {
 
     ghost Value = { Document };
 
-    ghost view = { λ s. record { base = s.base.items; text = s.source } };
+    ghost view = { λ s. record {
+      base = s.base.items;
+      text = s.texts.text;
+      token_seat = s.tokens.seat;
+      item_seat = s.items.entries.seat;
+    } };
 
-    ghost invariant = { λ s. IsKept s.source s.tokens.list s.items.entries.list s.fault_count };
+    ghost invariant = { λ s. IsKept s.texts.text s.tokens.list s.items.entries.list s.fault_count };
 }
 
 impl Session {
@@ -59,6 +67,9 @@ impl Session {
         ensures text { IfOk result (λ s. s.text ≡ bytes.now) }
         ensures too_large { IsErrOf result TextFault.TooLarge ↔ (MAX_TEXT < length bytes.now) }
         ensures in_range { IsErrOf result TextFault.BadRange → ⊥ }
+        ensures token_seat { IfOk result
+            (λ s. Compiles s.text (λ items. s.token_seat ≡ length (tokens_of items))) }
+        ensures item_seat { IfOk result (λ s. Compiles s.text (λ items. s.item_seat ≡ length items)) }
     {
         let source = Source::from_bytes(alloc, bytes)?;
         match Session::compiled(alloc, base, source) {
@@ -71,6 +82,9 @@ impl Session {
     fn compiled(alloc: Global, base: &[u8], source: Source) -> Result<Session, NoMemory>
         ensures base { IfOk result (λ s. s.base ≡ base.now) }
         ensures text { IfOk result (λ s. s.text ≡ source) }
+        ensures token_seat { IfOk result
+            (λ s. Compiles s.text (λ items. s.token_seat ≡ length (tokens_of items))) }
+        ensures item_seat { IfOk result (λ s. Compiles s.text (λ items. s.item_seat ≡ length items)) }
     {
         let mut meter = Meter::new();
         let base = Vec::from_slice(alloc, base)?;
@@ -82,7 +96,7 @@ impl Session {
         Ok(Session {
             alloc,
             base,
-            source,
+            texts: TextBuffers::of(alloc, source),
             tokens,
             items,
             fault_count: faults,
@@ -91,36 +105,41 @@ impl Session {
 
     /// Carries an edit out, with the faults of [`Source::replace`], and answers what work it took. After a
     /// fault all is as before.
-    pub fn apply(&mut self, edit: &Edit) -> Result<Work, TextFault>
+    pub fn apply(&mut self, edit: &Edit) -> Result<Work, EditFault>
         ensures text { OnOk result (self.new.text ≡ edited_by (change_of self.old.text edit.now)) }
         ensures base { self.new.base ≡ self.old.base }
         ensures fault { Judges (change_of self.old.text edit.now) result }
         ensures same { OnErr result (self.new ≡ self.old) }
+        ensures work { IfOk result (λ work. IsWork (change_of self.old.text edit.now) self.new work) }
     {
-        let source = self.source.edited(self.alloc, edit)?;
+        self.texts.prepare(edit)?;
         let mut meter = Meter::new();
-        let Compilation {
-            tokens,
-            items,
-            faults,
-        } = match compile(self.alloc, &source, &mut meter) {
-            Ok(compiled) => compiled,
-            Err(NoMemory) => return Err(TextFault::NoMemory),
+        let planned = plan_edit(
+            self.alloc,
+            self.texts.text(),
+            edit,
+            self.texts.ready(),
+            &mut self.tokens,
+            &mut self.items.entries,
+            &mut meter,
+        );
+        let plan = match planned {
+            Ok(plan) => plan,
+            Err(NoMemory) => return Err(EditFault::NoMemory),
         };
-        self.source = source;
-        self.tokens = tokens;
-        self.items = items;
-        self.fault_count = faults;
+        self.texts.turn();
+        self.fault_count = carry_out(plan, &mut self.tokens, &mut self.items.entries, &mut meter);
         Ok(Work::of(&meter))
     }
 
     /// Carries the edits out in order, and answers what work they took. At the first that is refused it stops
     /// and answers its index, from 0, and the fault: the edits before it are done.
-    pub fn apply_all(&mut self, edits: &[Edit]) -> Result<Work, (usize, TextFault)>
+    pub fn apply_all(&mut self, edits: &[Edit]) -> Result<Work, (usize, EditFault)>
         ensures text { OnOk result (self.new.text ≡ edited_by_all self.old.text edits.now) }
         ensures takes { OnOk result (TakesAll self.old.text edits.now) }
         ensures stops { IfErr result
             (λ fault. StopsAt self.old.text edits.now self.new.text fault.0 fault.1) }
+        ensures works { IfOk result (λ total. IsWorkOfAll self.old edits.now self.new total) }
         ensures base { self.new.base ≡ self.old.base }
     {
         let mut total = Work::default();
@@ -137,7 +156,7 @@ impl Session {
     pub fn bytes(&self) -> &[u8]
         ensures { result.now ≡ self.now.text }
     {
-        self.source.bytes()
+        self.texts.text().bytes()
     }
 
     /// How many tokens the text has.
@@ -152,14 +171,14 @@ impl Session {
         ensures { Compiles self.now.text
             (λ items. option_map lexeme result ≡ slice_get (tokens_of items) index) }
     {
-        self.tokens.token(index, &self.source)
+        self.tokens.token(index, self.texts.text())
     }
 
     /// The tokens of the text, one after another.
     pub fn tokens(&self) -> Walk<'_>
         ensures { Compiles self.now.text (λ items. result ≡ tokens_of items) }
     {
-        self.tokens.iter(&self.source)
+        self.tokens.iter(self.texts.text())
     }
 
     /// How many items the text has: one more than end with their own `;`.
@@ -203,7 +222,7 @@ impl Session {
     pub fn faults(&self) -> Faults<'_>
         ensures { Compiles self.now.text (λ items. result ≡ faults_of self.now.text items) }
     {
-        Faults::of(&self.source, &self.tokens, &self.items)
+        Faults::of(self.texts.text(), &self.tokens, &self.items)
     }
 
     /// The types of the text, by which values are read: [`SchemaFault::Faulty`] where the text has a fault.

@@ -1,6 +1,7 @@
 //! The checks of the items of a text.
 
-ghost use Rattle.std.specs.Prelude.{◌≡◌, ℕ, List, [], ◌∷◌, Option, Some, map, length, IfOk};
+ghost use Rattle.std.specs.Prelude.{◌≡◌, ◌+◌, ℕ, List, [], ◌∷◌, All, Option, None, Some, map, length, IfOk};
+ghost use Rattle.std.specs.Prelude.{if◌then◌else◌};
 ghost use Rattle.x_item.specs.Tree as tree;
 ghost use Rattle.x_item.specs.View.{view_definition};
 ghost use Rattle.x_sema.specs.Declarers.{AreShort, IsShort, FirstIs};
@@ -8,47 +9,102 @@ ghost use Rattle.x_sema.specs.DeclarerTable.{first_in};
 ghost use Rattle.x_schema.specs.Definitions.{tree_at};
 ghost use Rattle.x_sema.specs.KeptViews.{lent_outcome};
 ghost use Rattle.x_sema.specs.Outlined.{IsOutline, outlined};
-ghost use Rattle.x_sema.specs.Results.{AreResults, IsResult, result_at};
+ghost use Rattle.x_sema.specs.Results.{IsResult, result_at};
 ghost use Rattle.x_sema.specs.RustViews.{view_view};
 ghost use Rattle.x_sema.specs.Views.{names_of};
-ghost use Rattle.x_session.specs.Checking.{AreRendered, IsShortAt, counted, sound_pieces, view_by_first};
-ghost use Rattle.x_session.specs.KeptView.{entry_definitions, found_pieces, found_result};
+ghost use Rattle.x_session.specs.Checking.{AreChecked, IsMade, IsShortAt, counted, kept_definitions};
+ghost use Rattle.x_session.specs.Checking.{sound_pieces, view_by_first};
+ghost use Rattle.x_session.specs.KeptView.{found_pieces, found_result};
+ghost use Rattle.x_session.specs.KeptView.{kept_definition, kept_found, renewed_pieces};
 
 use crate::compile::kept::{Found, Kept};
 use std::alloc::Global;
 use x_gen::{Pieces, Renderer};
-use x_item::{Definition, Entry};
+use x_item::Definition;
 use x_sema::{Checked, Declarer, Names, Outline, View, check_outline};
 use x_text::{Meter, NoMemory};
 
-/// What checking the items finds, in their order. Each is checked by what was found of the items before it,
-/// and counted as checked where it has a definition.
-pub fn check_items(
+/// What checking the items of a text finds.
+#[derive(Drop)]
+pub struct Checks {
+    /// Of each item, in their order, what was found of its definition if it has one: with its pieces where it has
+    /// no fault and none were there before.
+    pub results: Vec<Option<Box<Found>>>,
+    /// How many faults the items have.
+    pub faults: usize,
+}
+
+/// Checks the items of a text, in their order. Counts each that has a definition as checked.
+pub fn check_all(alloc: Global, items: &[&Kept], meter: &mut Meter) -> Result<Checks, NoMemory>
+    requires short { AreShort (kept_definitions (map (λ k. k.now) items.now)) }
+    requires made { All (λ k. IsMade k.now) items.now }
+    ensures checked { IfOk result (λ checks. AreChecked (map (λ k. k.now) items.now) checks) }
+    ensures counted { IfOk result
+        (λ checks. meter.new ≡ counted meter.old (kept_definitions (map (λ k. k.now) items.now))) }
+{
+    let names = names_of(alloc, items)?;
+    check_items(alloc, items, &names, meter)
+}
+
+/// The table of the names that the items declare.
+fn names_of<'i>(alloc: Global, items: &[&'i Kept]) -> Result<Names<'i>, NoMemory>
+    ensures { IfOk result (λ names. AreShort (kept_definitions (map (λ k. k.now) items.now))
+        → (name : List ℕ)
+        → FirstIs (kept_definitions (map (λ k. k.now) items.now)) name (first_in names name)) }
+{
+    Names::of(alloc, &definitions_in(alloc, items)?)
+}
+
+/// The definition of each item.
+fn definitions_in<'i>(
     alloc: Global,
-    entries: &[Entry<Kept>],
+    items: &[&'i Kept],
+) -> Result<Vec<Option<&'i Definition>>, NoMemory>
+    ensures { IfOk result (λ definitions. map tree_at definitions.items
+        ≡ kept_definitions (map (λ k. k.now) items.now)) }
+{
+    let mut definitions = Vec::with_capacity(alloc, items.len())?;
+    for item in items {
+        definitions.push(item.definition())?;
+    }
+    Ok(definitions)
+}
+
+/// What checking the items finds, in their order. Each is checked by what was found of the items before it.
+fn check_items(
+    alloc: Global,
+    items: &[&Kept],
     names: &Names,
     meter: &mut Meter,
-) -> Result<Vec<Option<Box<Found>>>, NoMemory>
-    requires short { AreShort (entry_definitions entries.now) }
+) -> Result<Checks, NoMemory>
+    requires short { AreShort (kept_definitions (map (λ k. k.now) items.now)) }
     requires first { (name : List ℕ)
-        → FirstIs (entry_definitions entries.now) name (first_in names.now name) }
-    ensures results { IfOk result
-        (λ results. AreResults (entry_definitions entries.now) (map found_result results.items)) }
-    ensures rendered { IfOk result (λ results. AreRendered (entry_definitions entries.now) results.items) }
-    ensures counted { IfOk result (λ results. meter.new ≡ counted meter.old (entry_definitions entries.now)) }
+        → FirstIs (kept_definitions (map (λ k. k.now) items.now)) name (first_in names.now name) }
+    requires made { All (λ k. IsMade k.now) items.now }
+    ensures checked { IfOk result (λ checks. AreChecked (map (λ k. k.now) items.now) checks) }
+    ensures counted { IfOk result
+        (λ checks. meter.new ≡ counted meter.old (kept_definitions (map (λ k. k.now) items.now))) }
 {
-    let mut results = Vec::with_capacity(alloc, entries.len())?;
+    let mut results = Vec::with_capacity(alloc, items.len())?;
+    let mut faults: usize = 0;
     let mut walk = Walk {
         last: None,
         declared: 0,
         renderer: Renderer::new(alloc),
     };
-    for entry in entries {
-        let definition = entry.kept.definition();
-        let found = check(alloc, definition, &mut walk, names, &results, meter)?;
+    for item in items {
+        let found = check(alloc, item, &mut walk, names, &results, meter)?;
+        faults = sum_of(faults, item.fault_count(&found))?;
         results.push(found)?;
     }
-    Ok(results)
+    Ok(Checks { results, faults })
+}
+
+/// The sum of two counts: one that does not fit is told as want of memory, since no text comes to so many faults.
+fn sum_of(count: usize, more: usize) -> Result<usize, NoMemory>
+    ensures { IfOk result (λ sum. sum ≡ count + more) }
+{
+    count.checked_add(more).ok_or(NoMemory)
 }
 
 /// What goes on from item to item.
@@ -64,22 +120,24 @@ struct Walk<'i> {
 /// What checking the next item finds, if it has a definition, by what was found of the items before it.
 fn check<'i>(
     alloc: Global,
-    definition: Option<&'i Definition>,
+    item: &'i Kept,
     walk: &mut Walk<'i>,
     names: &Names,
     results: &[Option<Box<Found>>],
     meter: &mut Meter,
 ) -> Result<Option<Box<Found>>, NoMemory>
+    requires { IsMade item.now }
     ensures result { IfOk result (λ found. (definitions : List (Option tree.Definition))
-        → IsShortAt (tree_at definition.entry)
+        → IsShortAt (kept_definition item.now)
         → ((name : List ℕ) → FirstIs definitions name (first_in names.now name))
         → IsResult definitions (result_at (map found_result results.now)) (length results.now)
-        (tree_at definition.entry) (found_result found)) }
-    ensures rendered { IfOk result
-        (λ found. found_pieces found ≡ sound_pieces (tree_at definition.entry) (found_result found)) }
-    ensures counted { IfOk result (λ found. meter.new ≡ counted meter.old (tree_at definition.entry ∷ [])) }
+        (kept_definition item.now) (found_result found)) }
+    ensures rendered { IfOk result (λ found. renewed_pieces (found_pieces (kept_found item.now)) found
+        ≡ sound_pieces (kept_definition item.now) (found_result found)) }
+    ensures counted { IfOk result
+        (λ found. meter.new ≡ counted meter.old (kept_definition item.now ∷ [])) }
 {
-    let Some(definition) = definition else {
+    let Some(definition) = item.definition() else {
         return Ok(None);
     };
     let outline = outline_of(alloc, walk.last.take(), definition)?;
@@ -94,7 +152,8 @@ fn check<'i>(
     let checked = check_outline(alloc, &outline, &views, meter)?;
     walk.declared = walk.declared.saturating_add(outline.declared().len());
     walk.last = Some(outline);
-    let pieces = pieces_of(&mut walk.renderer, definition, &checked)?;
+    let has_pieces = item.pieces().is_some();
+    let pieces = new_pieces(&mut walk.renderer, definition, &checked, has_pieces)?;
     Ok(Some(Box::new(alloc, Found { checked, pieces })?))
 }
 
@@ -172,16 +231,17 @@ fn checked_at(results: &[Option<Box<Found>>], index: usize) -> Option<&Checked>
     }
 }
 
-/// What is generated of a definition, where checking it found no fault.
-fn pieces_of(
+/// What is generated of a definition, where checking it found no fault and it has no pieces yet.
+fn new_pieces(
     renderer: &mut Renderer,
     definition: &Definition,
     checked: &Checked,
+    has_pieces: bool,
 ) -> Result<Option<Pieces>, NoMemory>
-    ensures { IfOk result
-        (λ pieces. pieces ≡ sound_pieces (Some (view_definition definition.now)) (Some checked.now)) }
+    ensures { IfOk result (λ pieces. pieces ≡ (if has_pieces then None
+        else sound_pieces (Some (view_definition definition.now)) (Some checked.now))) }
 {
-    if !checked.faults().is_empty() {
+    if has_pieces || !checked.faults().is_empty() {
         return Ok(None);
     }
     Ok(Some(renderer.render(definition, checked)?))

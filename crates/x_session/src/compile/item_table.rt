@@ -18,14 +18,15 @@ use x_text::{GapIter, NoMemory};
 /// The items of a text, in order, each with what is kept with it.
 #[derive(Drop)]
 pub struct ItemTable {
-    entries: Items<Kept>,
+    pub entries: Items<Kept>,
 }
 
 impl ItemTable {
     /// These items.
     pub fn of(alloc: Global, entries: Vec<Entry<Kept>>) -> Result<ItemTable, NoMemory>
         requires { AreOfText (counts entries.items) }
-        ensures { IfOk result (λ table. table.entries.list ≡ entries.items) }
+        ensures list { IfOk result (λ table. table.entries.list ≡ entries.items) }
+        ensures seat { IfOk result (λ table. table.entries.seat ≡ length entries.items) }
     {
         let entries = Items::from_entries(alloc, entries)?;
         Ok(ItemTable { entries })

@@ -1,17 +1,16 @@
 //! What is kept of the items once they are checked.
 
-ghost use Rattle.std.specs.Prelude.{◌≡◌, IfOk};
-ghost use Rattle.x_session.specs.Checking.{AreKnown};
-ghost use Rattle.x_session.specs.Counting.{faults_kept};
-ghost use Rattle.x_session.specs.KeptView.{AreWith};
+ghost use Rattle.std.specs.Prelude.{◌<◌, length};
+ghost use Rattle.x_item.specs.ItemList.{kept};
+ghost use Rattle.x_session.specs.Checking.{AreKnown, IsKnownAt};
+ghost use Rattle.x_session.specs.KeptView.{AreWith, IsWithAt};
 
 use crate::compile::kept::{Found, Kept};
-use x_item::Entry;
-use x_text::NoMemory;
+use x_item::{Entry, Items};
 
 /// Keeps with each item what was found of it.
 pub fn keep_results(entries: &mut Vec<Entry<Kept>>, results: Vec<Option<Box<Found>>>)
-    requires { AreKnown entries.old.items results.items }
+    requires { AreKnown (kept entries.old.items) results.items }
     ensures { AreWith entries.old.items results.items entries.new.items }
 {
     let mut results = results;
@@ -20,13 +19,28 @@ pub fn keep_results(entries: &mut Vec<Entry<Kept>>, results: Vec<Option<Box<Foun
     }
 }
 
-/// How many faults the items have.
-pub fn count_faults(entries: &[Entry<Kept>]) -> Result<usize, NoMemory>
-    ensures { IfOk result (λ count. count ≡ faults_kept entries.now) }
+/// Keeps with each item what was found of it, from the last to the first, and answers how many entries moved. It takes
+/// no memory.
+pub fn keep_in_place(items: &mut Items<Kept>, results: Vec<Option<Box<Found>>>) -> u64
+    requires { AreKnown (kept items.old.list) results.items }
+    ensures { AreWith items.old.list results.items items.new.list }
 {
-    let mut count: usize = 0;
-    for entry in entries {
-        count = count.checked_add(entry.kept.fault_count()).ok_or(NoMemory)?;
+    let mut results = results;
+    let mut moved: u64 = 0;
+    while let Some(found) = results.pop() {
+        moved = moved.saturating_add(keep_at(items, results.len(), found));
     }
-    Ok(count)
+    moved
+}
+
+/// Keeps with an item what was found of it, and answers how many entries moved.
+fn keep_at(items: &mut Items<Kept>, index: usize, found: Option<Box<Found>>) -> u64
+    requires within { index < length items.old.list }
+    requires known { IsKnownAt (kept items.old.list) index found }
+    ensures { IsWithAt items.old.list index found items.new.list }
+{
+    let (mut kept, out) = items.exchange(index, Kept::Nothing);
+    kept.keep(found);
+    let (_, back) = items.exchange(index, kept);
+    out.saturating_add(back)
 }

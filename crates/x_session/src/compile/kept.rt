@@ -1,13 +1,16 @@
 //! What is kept with an item.
 
-ghost use Rattle.std.specs.Prelude.{◌≡◌, ◌≤◌, List, length, map, IfOk, None, option_copied};
+ghost use Rattle.std.specs.Prelude.{◌≡◌, ◌≤◌, length, map, IfOk, None, option_copied};
 ghost use Rattle.x_text.specs.Counts.{raised};
 ghost use Rattle.x_text.specs.declared.source.TheConstants.{MAX_TEXT};
-ghost use Rattle.x_lex.specs.Places.{Lexeme, lexeme};
+ghost use Rattle.x_lex.specs.Places.{lexeme};
+ghost use Rattle.x_item.specs.Parse.{IsParse};
 ghost use Rattle.x_schema.specs.Definitions.{tree_at};
-ghost use Rattle.x_session.specs.Compile.{faults_at, rule_faults};
+ghost use Rattle.x_session.specs.Compile.{rule_faults};
+ghost use Rattle.x_session.specs.Counting.{faults_with};
 ghost use Rattle.x_session.specs.FaultWalk.{IsToldBy};
-ghost use Rattle.x_session.specs.KeptView.{IsItem, found_pieces, found_result};
+ghost use Rattle.x_session.specs.Generated.{lines_of};
+ghost use Rattle.x_session.specs.KeptView.{IsItem, found_pieces, found_result, renewed_pieces};
 ghost use Rattle.x_session.specs.KeptView.{kept_definition, kept_found, kept_lines, kept_parse, view_parse};
 
 use crate::compile::lines::lines_of;
@@ -54,9 +57,10 @@ pub struct Body {
 
 /// What is kept with an item, in few bytes where it has neither a definition nor lines: a text may be 16
 /// million `;`.
-#[derive(Drop)]
+#[derive(Default, Drop)]
 pub enum Kept {
     /// It has neither words nor lines.
+    #[default]
     Nothing,
     /// Its words spell no definition, and it has no lines.
     Fault {
@@ -89,17 +93,10 @@ pub enum Told<'k> {
 pub fn entry_of(alloc: Global, tokens: &[Token], meter: &mut Meter) -> Result<Entry<Kept>, NoMemory>
     requires { length tokens.now ≤ MAX_TEXT }
     ensures item { IfOk result (λ entry. IsItem (map lexeme tokens.now) entry) }
+    ensures unchecked { IfOk result (λ entry. kept_found entry.kept ≡ None) }
     ensures counted { meter.new ≡ record meter.old { parsed = raised meter.old.parsed 1 } }
 {
-    let parse = match parse_item(alloc, tokens, meter)? {
-        Parsed::Nothing => Parse::Nothing,
-        Parsed::Def(definition) => Parse::Def(definition),
-        Parsed::Fault { token, code } => Parse::Fault {
-            token: token as u32,
-            code,
-        },
-    };
-    let kept = Kept::of(alloc, parse, lines_of(alloc, tokens)?)?;
+    let kept = Kept::parsed(alloc, tokens, meter)?;
     Ok(Entry {
         tokens: tokens.len() as u32,
         kept,
@@ -107,10 +104,30 @@ pub fn entry_of(alloc: Global, tokens: &[Token], meter: &mut Meter) -> Result<En
 }
 
 impl Kept {
+    /// What is kept of the item that these tokens are, before it is checked. Counts it as parsed.
+    pub fn parsed(alloc: Global, tokens: &[Token], meter: &mut Meter) -> Result<Kept, NoMemory>
+        requires { length tokens.now ≤ MAX_TEXT }
+        ensures parse { IfOk result (λ kept. IsParse (map lexeme tokens.now) (kept_parse kept)) }
+        ensures lines { IfOk result (λ kept. kept_lines kept ≡ lines_of (map lexeme tokens.now)) }
+        ensures unchecked { IfOk result (λ kept. kept_found kept ≡ None) }
+        ensures counted { meter.new ≡ record meter.old { parsed = raised meter.old.parsed 1 } }
+    {
+        let parse = match parse_item(alloc, tokens, meter)? {
+            Parsed::Nothing => Parse::Nothing,
+            Parsed::Def(definition) => Parse::Def(definition),
+            Parsed::Fault { token, code } => Parse::Fault {
+                token: token as u32,
+                code,
+            },
+        };
+        Kept::of(alloc, parse, lines_of(alloc, tokens)?)
+    }
+
     /// What is kept of an item that parses so, with these lines.
     fn of(alloc: Global, parse: Parse, lines: Vec<u8>) -> Result<Kept, NoMemory>
         ensures parse { IfOk result (λ kept. kept_parse kept ≡ view_parse parse) }
         ensures lines { IfOk result (λ kept. kept_lines kept ≡ lines.items) }
+        ensures unchecked { IfOk result (λ kept. kept_found kept ≡ None) }
     {
         if lines.is_empty() {
             match &parse {
@@ -182,29 +199,45 @@ impl Kept {
         }
     }
 
-    /// How many faults the item has.
-    pub fn fault_count(&self) -> usize
-        ensures { (tokens : List Lexeme) → result
-            ≡ length (faults_at tokens (kept_parse self.now)
-            (rule_faults (found_result (kept_found self.now)))) }
+    /// How many faults the item has, of whose definition this was found.
+    pub fn fault_count(&self, found: &Option<Box<Found>>) -> usize
+        ensures { result ≡ faults_with self.now found.now }
     {
         match self.told() {
             Told::Syntax { .. } => 1,
-            Told::Rules(faults) => faults.len(),
+            Told::Rules(_) => faults_of(found).len(),
         }
     }
 
-    /// Keeps what was found of the item's definition.
+    /// Keeps what was found of the item's definition. What was generated of it before stays where it has no fault
+    /// and nothing was generated anew.
     pub fn keep(&mut self, found: Option<Box<Found>>)
         requires { kept_definition self.old ≡ None → found ≡ None }
         ensures parse { kept_parse self.new ≡ kept_parse self.old }
         ensures lines { kept_lines self.new ≡ kept_lines self.old }
-        ensures found { kept_found self.new ≡ found }
+        ensures result { found_result (kept_found self.new) ≡ found_result found }
+        ensures pieces { found_pieces (kept_found self.new)
+            ≡ renewed_pieces (found_pieces (kept_found self.old)) found }
     {
         if let Kept::Body(body) = self {
-            body.found = found;
+            let old = body.found.take();
+            body.found = renewed(old, found);
         }
     }
+}
+
+/// What was found anew, with the pieces of what was found before where those stay.
+fn renewed(old: Option<Box<Found>>, new: Option<Box<Found>>) -> Option<Box<Found>>
+    ensures result { found_result result ≡ found_result new }
+    ensures pieces { found_pieces result ≡ renewed_pieces (found_pieces old) new }
+{
+    let mut new = new?;
+    if new.pieces.is_none() && new.checked.faults().is_empty() {
+        if let Some(mut old) = old {
+            new.pieces = old.pieces.take();
+        }
+    }
+    Some(new)
 }
 
 /// The faults by the rules that were found.

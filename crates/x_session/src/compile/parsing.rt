@@ -1,12 +1,12 @@
 //! The items of a text, each with what it parses to.
 
-ghost use Rattle.std.specs.Prelude.{◌≡◌, length, IfOk};
+ghost use Rattle.std.specs.Prelude.{◌≡◌, length, All, IfOk, None};
 ghost use Rattle.x_text.specs.Counts.{raised};
 ghost use Rattle.x_lex.specs.Tiling.{AreTokens};
 ghost use Rattle.x_lex.specs.Places.{lexemes};
 ghost use Rattle.x_item.specs.ItemList.{AreOfText, counts};
 ghost use Rattle.x_sema.specs.Declarers.{AreShort};
-ghost use Rattle.x_session.specs.KeptView.{AreParsed, entry_definitions};
+ghost use Rattle.x_session.specs.KeptView.{AreParsed, entry_definitions, kept_found};
 
 use crate::compile::kept::{Kept, entry_of};
 use std::alloc::Global;
@@ -23,6 +23,7 @@ pub fn parse_items(
 ) -> Result<Vec<Entry<Kept>>, NoMemory>
     requires { AreTokens source.now tokens.now.list }
     ensures parsed { IfOk result (λ entries. AreParsed (lexemes source.now tokens.now.list) entries.items) }
+    ensures unchecked { IfOk result (λ entries. All (λ e. kept_found e.kept ≡ None) entries.items) }
     ensures short { IfOk result (λ entries. AreShort (entry_definitions entries.items)) }
     ensures of_text { IfOk result (λ entries. AreOfText (counts entries.items)) }
     ensures counted { IfOk result (λ entries. meter.new

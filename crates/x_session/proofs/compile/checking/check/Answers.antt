@@ -1,6 +1,5 @@
 use Rattle.std.proofs.Common.{◌≡◌, length, map, Some, ap, sym, subst, ◌∙◌}
 use Rattle.x_item.specs.View.{view_definition}
-use Rattle.x_schema.specs.Definitions.{tree_at}
 use Rattle.x_sema.specs.Declarers.{IsShort}
 use Rattle.x_sema.specs.DeclarerTable.{first_in}
 use Rattle.x_sema.specs.Outlined.{outlined}
@@ -8,7 +7,7 @@ use Rattle.x_sema.specs.Views.{names_of}
 use Rattle.x_sema.specs.Results.{result_at, IsOutcome, IsResult}
 use Rattle.x_sema.specs.RustViews.{view_view}
 use Rattle.x_session.specs.Checking.{view_by_first}
-use Rattle.x_session.specs.KeptView.{found_result}
+use Rattle.x_session.specs.KeptView.{found_result, kept_definition}
 use Rattle.x_session.specs.declared.compile.kept.Found.{Found}
 use Rattle.x_session.proofs.CheckingLemmas.{some_result}
 use Rattle.x_session.proofs.compile.checking.check.Goals as goal
@@ -25,5 +24,6 @@ returns-clause-result c definitions short first =
     let here = λ (fits : IsShort d). c.in_ok-outline.ensures.outline fits in
     let seen = λ (fits : IsShort d). c.in_ok-views.ensures (here fits) ∙ (λ i. map (view_by_first find results index) (names_of (same i))) in
     let checked = λ (fits : IsShort d). subst (λ t. IsOutcome t views c.in_ok-checked.checked) same (subst (λ vs. IsOutcome (outlined outline) (map view_view vs) c.in_ok-checked.checked) c.deref.ensures.value (c.in_ok-checked.ensures.checked (here fits))) in
-    subst (λ (f : Found). IsResult definitions results index (tree_at c.args.definition) (Some f.checked)) (sym c.in_ok-new.ensures.ok)
-    (some_result definitions find results index d (tree_at c.args.definition) views c.in_ok-checked.checked (sym (ap tree_at c.in-Some.is)) short first seen checked)
+    let item = kept_definition c.args.item.now in
+    subst (λ (f : Found). IsResult definitions results index item (Some f.checked)) (sym c.in_ok-new.ensures.ok)
+    (some_result definitions find results index d item views c.in_ok-checked.checked c.in-Some.ensures short first seen checked)

@@ -1,42 +1,58 @@
-use Rattle.std.proofs.Common.{◌≡◌, ◌∷◌, [], map, length, Option, ap, sym, subst, ◌∙◌}
+use Rattle.std.proofs.Common.{◌≡◌, ◌+◌, ◌∷◌, [], map, length, Option, ap, sym, subst, ◌∙◌}
+use Rattle.std.specs.Borrow.{Bor}
 use Rattle.std.proofs.lemmas.List.{length-map, map-append}
 use Rattle.x_item.specs.Tree.{Definition}
-use Rattle.x_item.specs.declared.cutting.entry.Entry.{Entry}
+use Rattle.x_sema.proofs.OutlineLemmas.{map_map}
+use Rattle.x_sema.specs.Declarers.{AreShort, FirstIs}
+use Rattle.x_sema.specs.DeclarerTable.{first_in}
 use Rattle.x_sema.specs.Results.{IsResult, result_at}
-use Rattle.x_session.specs.Checking.{IsShortAt, counted, sound_pieces}
-use Rattle.x_session.specs.KeptView.{entry_definitions, found_pieces, found_result, kept_definition}
+use Rattle.x_session.specs.Checking.{IsShortAt, counted}
+use Rattle.x_session.specs.KeptView.{found_result, kept_definition}
 use Rattle.x_session.specs.declared.compile.kept.Kept.{Kept}
-use Rattle.x_session.proofs.CheckingLemmas.{short_here, many_more, results_next, rendered_next, counted_more}
+use Rattle.x_session.proofs.CheckingLemmas.{checked_all, counted_all, counted_more, faults_next, many_more, rendered_next, results_next, short_here}
 use Rattle.x_session.proofs.compile.checking.check_items.Goals as goal
 
-abbrev defined : Entry Kept → Option Definition
-defined e = kept_definition e.kept
+abbrev lent : Bor Kept → Kept
+lent k = k.now
 
-pub loop-entry-preserved : goal.loop-entry-preserved
-loop-entry-preserved c =
-    let es = c.args.entries.now in
-    let ds = entry_definitions es in
-    let index = c.loop-entry.entry-index in
-    let e = c.entry-item.result in
-    let rs = c.loop-entry.results.items in
+abbrev defined : Bor Kept → Option Definition
+defined k = kept_definition k.now
+
+pub loop-item-preserved : goal.loop-item-preserved
+loop-item-preserved c =
+    let xs = c.args.items.now in
+    let ds = map defined xs in
+    let same = sym (map_map kept_definition lent xs) in
+    let index = c.loop-item.item-index in
+    let x = c.item-item.result in
+    let rs = c.loop-item.results.items in
     let new = c.push.new.self.items in
     let found = c.in_ok-found.found in
-    let lt = c.loop-entry-test.true in
-    let at = c.entry-item.is in
-    let same = c.definition-definition.ensures in
-    let short = subst IsShortAt (sym same) (short_here defined es index e lt at c.requires.short) in
+    let lt = c.loop-item-test.true in
+    let at = c.item-item.is in
+    let short = short_here defined xs index x lt at (subst AreShort same c.requires.short) in
+    let first = subst (λ l. (name : _) → FirstIs l name (first_in c.args.names.now name)) same c.requires.first in
     let more = ap (map found_result) c.in_ok-push.ensures.items ∙ map-append found_result rs (found ∷ []) in
     let many = sym (length-map rs found_result) in
-    let is = c.in_ok-found.ensures.result ds short c.requires.first in
-    let here : IsResult ds (result_at (map found_result rs)) (length (map found_result rs)) (defined e) (found_result found) =
-    subst (λ n. IsResult ds (result_at (map found_result rs)) n (defined e) (found_result found)) many
-    (subst (λ l. IsResult ds (result_at (map found_result l)) (length l) (defined e) (found_result found)) c.deref.ensures.value
-    (subst (λ d. IsResult ds (result_at (map found_result c.deref.result.now)) (length c.deref.result.now) d (found_result found)) same is)) in
-    let rendered : found_pieces found ≡ sound_pieces (defined e) (found_result found) = subst (λ d. found_pieces found ≡ sound_pieces d (found_result found)) same c.in_ok-found.ensures.rendered in
-    let counts = c.in_ok-found.ensures.counted ∙ ap (λ d. counted c.loop-entry.meter (d ∷ [])) same in
+    let is = c.in_ok-found.ensures.result ds short first in
+    let here : IsResult ds (result_at (map found_result rs)) (length (map found_result rs)) (defined x) (found_result found) =
+    subst (λ n. IsResult ds (result_at (map found_result rs)) n (defined x) (found_result found)) many
+    (subst (λ l. IsResult ds (result_at (map found_result l)) (length l) (defined x) (found_result found)) c.deref.ensures.value is) in
     record {
-      many = many_more index rs new found c.in_ok-push.ensures.items c.loop-entry.invariant.many;
-      are = results_next defined es index e (map found_result rs) (map found_result new) (found_result found) lt at more (c.loop-entry.invariant.many ∙ many) c.loop-entry.invariant.are here;
-      rendered = rendered_next defined es index e rs new found lt at c.in_ok-push.ensures.items c.loop-entry.invariant.rendered rendered;
-      counted = counted_more defined c.loop-entry.meter c.check.new.meter (counted c.args.meter.now ds) es index e lt at counts c.loop-entry.invariant.counted;
+      many = many_more index rs new found c.in_ok-push.ensures.items c.loop-item.invariant.many;
+      are = results_next defined xs index x (map found_result rs) (map found_result new) (found_result found) lt at more (c.loop-item.invariant.many ∙ many) c.loop-item.invariant.are here;
+      rendered = rendered_next lent xs index x rs new found lt at c.in_ok-push.ensures.items c.loop-item.invariant.rendered c.in_ok-found.ensures.rendered;
+      faults = c.in_ok-faults.ensures ∙ ap (λ n. c.loop-item.faults + n) c.fault_count.ensures
+          ∙ faults_next lent xs index c.loop-item.faults x rs new found lt at c.in_ok-push.ensures.items c.loop-item.invariant.many c.loop-item.invariant.faults;
+      counted = counted_more defined c.loop-item.meter c.check.new.meter (counted c.args.meter.now ds) xs index x lt at c.in_ok-found.ensures.counted c.loop-item.invariant.counted;
     }
+
+pub returns-clause-checked : goal.returns-clause-checked
+returns-clause-checked c =
+    checked_all lent c.args.items.now c.loop-item.item-index (record { results = c.loop-item.results; faults = c.loop-item.faults }) c.loop-item-test.false
+    c.loop-item.invariant.are c.loop-item.invariant.rendered c.loop-item.invariant.faults
+
+pub returns-clause-counted : goal.returns-clause-counted
+returns-clause-counted c =
+    counted_all lent c.args.items.now c.loop-item.item-index c.loop-item.meter (counted c.args.meter.now (map defined c.args.items.now)) c.loop-item-test.false c.loop-item.invariant.counted
+    ∙ ap (counted c.args.meter.now) (map_map kept_definition lent c.args.items.now)

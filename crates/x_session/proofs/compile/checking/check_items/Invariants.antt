@@ -1,15 +1,17 @@
 use Rattle.std.proofs.Common.{◌≡◌, map, take, drop, length}
 use Rattle.x_sema.specs.Results.{AreResultsFrom, result_at}
 use Rattle.x_session.specs.Checking.{AreRendered, counted}
-use Rattle.x_session.specs.KeptView.{entry_definitions, found_result}
+use Rattle.x_session.specs.Counting.{faults_found}
+use Rattle.x_session.specs.KeptView.{found_result, kept_definition}
 use Rattle.x_session.proofs.compile.checking.check_items.Given as goal
 
--- the results of the items so far
-abbrev pub invariant-loop-entry : goal.invariant-loop-entry
-invariant-loop-entry l = record {
-  many : l.entry-index ≡ length l.results.items;
-  are : AreResultsFrom (entry_definitions l.entries) (result_at (map found_result l.results.items)) 0
-      (take l.entry-index (entry_definitions l.entries)) (map found_result l.results.items);
-  rendered : AreRendered (take l.entry-index (entry_definitions l.entries)) l.results.items;
-  counted : counted l.meter (entry_definitions (drop l.entry-index l.entries)) ≡ counted l.fn.meter (entry_definitions l.entries);
+-- what was found of the items so far
+abbrev pub invariant-loop-item : goal.invariant-loop-item
+invariant-loop-item l = record {
+  many : l.item-index ≡ length l.results.items;
+  are : AreResultsFrom (map (λ k. kept_definition k.now) l.items) (result_at (map found_result l.results.items)) 0
+      (take l.item-index (map (λ k. kept_definition k.now) l.items)) (map found_result l.results.items);
+  rendered : AreRendered (take l.item-index (map (λ k. k.now) l.items)) l.results.items;
+  faults : l.faults ≡ faults_found (take l.item-index (map (λ k. k.now) l.items)) l.results.items;
+  counted : counted l.meter (map (λ k. kept_definition k.now) (drop l.item-index l.items)) ≡ counted l.fn.meter (map (λ k. kept_definition k.now) l.items);
 }

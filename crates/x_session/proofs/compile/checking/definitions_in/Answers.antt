@@ -1,7 +1,12 @@
-use Rattle.std.proofs.Common.{ap, ◌∙◌, arith}
+use Rattle.std.proofs.Common.{map, ap, ◌∙◌, arith}
+use Rattle.std.specs.Borrow.{Bor}
 use Rattle.std.proofs.lemmas.List.{take_all}
-use Rattle.x_session.specs.KeptView.{entry_definitions}
-use Rattle.x_session.proofs.compile.definitions_in.Goals as goal
+use Rattle.x_sema.proofs.OutlineLemmas.{map_map}
+use Rattle.x_session.specs.KeptView.{kept_definition}
+use Rattle.x_session.specs.declared.compile.kept.Kept.{Kept}
+use Rattle.x_session.proofs.compile.checking.definitions_in.Goals as goal
 
 pub returns : goal.returns
-returns c = c.loop-entry.invariant ∙ ap entry_definitions (take_all c.loop-entry.entry-index c.args.entries.now (omega arith))
+returns c =
+    c.loop-item.invariant ∙ ap (map (λ (k : Bor Kept). kept_definition k.now)) (take_all c.loop-item.item-index c.args.items.now (omega arith))
+    ∙ map_map kept_definition (λ (k : Bor Kept). k.now) c.args.items.now

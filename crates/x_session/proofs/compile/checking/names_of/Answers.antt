@@ -3,7 +3,7 @@ use Rattle.std.specs.Prelude.{IfOk}
 use Rattle.x_schema.specs.Definitions.{tree_at}
 use Rattle.x_sema.specs.DeclarerTable.{first_in}
 use Rattle.x_sema.specs.Declarers.{AreShort, FirstIs}
-use Rattle.x_session.proofs.compile.names_of.Goals as goal
+use Rattle.x_session.proofs.compile.checking.names_of.Goals as goal
 
 pub returns : goal.returns
 returns c =

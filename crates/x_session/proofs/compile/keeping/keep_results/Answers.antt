@@ -30,7 +30,8 @@ loop-found-preserved c =
       tokens = refl;
       parse = c.keep.ensures.parse;
       lines = c.keep.ensures.lines;
-      found = c.keep.ensures.found;
+      result = c.keep.ensures.result;
+      pieces = c.keep.ensures.pieces;
     } in
     kept_more c.args.entries.now.items c.args.results.items c.loop-found.entries.items _ rs c.in-Some.found c.len.result f last at refl
     (subst (λ e. IsWith e c.in-Some.found f) is now)

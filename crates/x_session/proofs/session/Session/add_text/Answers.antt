@@ -4,14 +4,16 @@ use Rattle.x_gen.specs.Texts.{text}
 use Rattle.x_session.specs.Session.{Compiles}
 use Rattle.x_session.specs.SessionState.{items_of}
 use Rattle.x_session.specs.Generated.{text_of}
+use Rattle.x_session.proofs.Compiled.{compilation}
+use Rattle.x_session.proofs.KeptLemmas.{parts_kept}
 use Rattle.x_session.proofs.session.Session.add_text.Goals as goal
 
 pub returns : goal.returns
 returns g c =
     let start = g.S.Sink.state c.args.sink.now in
     let end = g.S.Sink.state c.add_text.new.sink in
-    let items = items_of c.self.inside.source c.self.inside.tokens.list c.self.inside.items.entries.list in
+    let items = items_of c.self.inside.texts.text c.self.inside.tokens.list c.self.inside.items.entries.list in
     let told = subst (λ t. Adds c.args.pen.now start c.add_text.new.pen end t)
-    (λ i. text c.args.which (c.deref.ensures.value i) (c.self.invariant.parts_are i)) c.add_text.ensures in
+    (λ i. text c.args.which (c.deref.ensures.value i) (parts_kept c.self.invariant i)) c.add_text.ensures in
     subst (λ v. Compiles v.text (λ is. Adds c.args.pen.now start c.add_text.new.pen end (text_of c.args.which v.base is))) c.self.view_is
-    (c.self.inside.tokens.list, items, c.self.invariant.compiles, told)
+    (c.self.inside.tokens.list, items, (compilation c.self.invariant), told)

@@ -3,12 +3,14 @@ use Rattle.x_session.specs.Compile.{faults_of}
 use Rattle.x_session.specs.Session.{Compiles}
 use Rattle.x_session.specs.SessionState.{items_of}
 use Rattle.x_session.proofs.KeptLemmas.{are_ordered}
+use Rattle.x_session.proofs.Compiled.{compilation}
 use Rattle.x_session.proofs.session.Session.faults.Goals as goal
 
 pub of-requires-clause-ordered : goal.of-requires-clause-ordered
-of-requires-clause-ordered c = are_ordered c.self.inside.source c.self.inside.tokens.list c.self.inside.items.entries.list c.self.invariant.compiles
+of-requires-clause-ordered c = are_ordered c.self.inside.texts.text c.self.inside.tokens.list c.self.inside.items.entries.list (compilation c.self.invariant)
 
 pub returns : goal.returns
 returns c =
-    let items = items_of c.self.inside.source c.self.inside.tokens.list c.self.inside.items.entries.list in
-    subst (λ v. Compiles v.text (λ is. c.of.result ≡ faults_of v.text is)) c.self.view_is (c.self.inside.tokens.list, items, c.self.invariant.compiles, c.of.ensures)
+    let items = items_of c.self.inside.texts.text c.self.inside.tokens.list c.self.inside.items.entries.list in
+    subst (λ v. Compiles v.text (λ is. c.of.result ≡ faults_of v.text is)) c.self.view_is (c.self.inside.tokens.list, items, compilation c.self.invariant,
+    subst (λ t. c.of.result ≡ faults_of t (items_of t c.self.inside.tokens.list c.self.inside.items.entries.list)) c.text.ensures c.of.ensures)
