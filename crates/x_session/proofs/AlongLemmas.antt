@@ -1,5 +1,5 @@
 -- Items along tokens: what becomes of them where tokens before or behind them change.
-use Rattle.std.proofs.Common.{◌≡◌, ℕ, zero, suc, ◌+◌, ◌-◌, ◌<◌, ◌≤◌, List, [], ◌∷◌, ◌++◌, length, map, take, drop, refl, sym, ap, subst, ◌∙◌, arith, length-append, length-drop, length-take-le}
+use Rattle.std.proofs.Common.{◌≡◌, ℕ, ◌+◌, ◌≤◌, List, [], ◌∷◌, ◌++◌, length, map, take, drop, refl, sym, ap, subst, ◌∙◌, arith, length-append, length-drop}
 use Rattle.std.proofs.lemmas.List.{drop-map, drop-drop, take-append-le, take-append-drop}
 use Rattle.std.specs.List.{take-map}
 use Rattle.x_text.proofs.LengthLemmas.{total-append}
@@ -8,7 +8,6 @@ use Rattle.x_text.proofs.SeqLemmas.{drop_front}
 use Rattle.x_lex.specs.Places.{Lexeme}
 use Rattle.x_item.specs.ItemList.{counts, tokens_before, tokens_in, total}
 use Rattle.x_item.specs.Items.{IsCut, joined}
-use Rattle.x_item.specs.Parse.{IsParse}
 use Rattle.x_item.specs.declared.cutting.entry.Entry.{Entry}
 use Rattle.x_session.specs.KeptView.{AreAlong, AreEach, AreParsed, IsItem, kept_parse}
 use Rattle.x_session.specs.declared.compile.kept.Kept.{Kept}

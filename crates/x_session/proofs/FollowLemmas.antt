@@ -1,11 +1,10 @@
 -- What an edit leaves of the items of a text: those before it and behind it stay what they are.
 use Rattle.std.proofs.Common.{◌≡◌, ℕ, zero, suc, ◌+◌, ◌-◌, ◌<◌, ◌≤◌, ⊎_elim, true, List, [], ◌∷◌, ◌++◌, length, map, take, drop, refl, sym, ap, subst, ◌∙◌, arith, length-append, length-drop, length-take-le}
-use Rattle.std.specs.List.{splice, take-map}
+use Rattle.std.specs.List.{splice}
 use Rattle.std.proofs.lemmas.Bool.{cases_lt}
 use Rattle.std.proofs.lemmas.List.{drop-map, drop-drop, drop_all, drop-take, take-append-le, take-append-drop, take-take}
 use Rattle.std.proofs.Math.Seq.{take-append_seam, drop-append-add}
 use Rattle.x_text.specs.Edits.{Change, edited_by, LiesWithin}
-use Rattle.x_text.proofs.LengthLemmas.{before_le}
 use Rattle.x_lex.specs.declared.kind.Kind.{Kind}
 use Rattle.x_lex.specs.Places.{Lexeme, lexeme_at, lexemes, lexemes_from}
 use Rattle.x_lex.specs.Relex.{IsFront, old_place}

@@ -23,7 +23,7 @@ use Rattle.x_session.specs.Checking.{AreChecked, AreKnown, AreRendered, IsMade, 
 use Rattle.x_session.specs.Compile.{IsCompilation, definitions_of, faults_at, faults_from, item_faults, parsed_definition, placed, rule_faults, token_faults}
 use Rattle.x_session.specs.Counting.{faults_found, faults_with}
 use Rattle.x_session.specs.FaultWalk.{AreOrdered}
-use Rattle.x_session.specs.Generated.{faultless, lines_of, part_of}
+use Rattle.x_session.specs.Generated.{faultless, part_of}
 use Rattle.x_session.specs.KeptView.{AreAlong, AreEach, AreParsed, AreWith, IsItem, entry_definitions, entry_results, found_pieces, found_result}
 use Rattle.x_session.specs.KeptView.{item_with, items_with, kept_definition, kept_found, kept_parse, kept_part}
 use Rattle.x_session.specs.SessionState.{IsKept, items_of}

@@ -1,11 +1,11 @@
 -- What tokens are, wherever they stand: items of tokens that look alike parse alike.
-use Rattle.std.proofs.Common.{◌≡◌, ℕ, suc, ◌+◌, ◌-◌, inl, inr, Bool, true, false, cond, List, [], ◌∷◌, ◌++◌, length, map, take, drop, refl, sym, ap, subst, ◌∙◌, arith}
+use Rattle.std.proofs.Common.{◌≡◌, ℕ, inl, inr, Bool, true, false, cond, List, [], ◌∷◌, ◌++◌, length, map, drop, refl, sym, ap, subst, ◌∙◌}
 use Rattle.std.specs.Prelude.{IsTrue, codes}
 use Rattle.std.specs.List.{filter, flat_map}
 use Rattle.std.proofs.lemmas.List.{length-map}
 use Rattle.x_lex.specs.declared.kind.Kind.{Kind}
 use Rattle.x_lex.specs.Places.{Lexeme}
-use Rattle.x_item.specs.Spell.{Begins, KeepsLimits, spell}
+use Rattle.x_item.specs.Spell.{Begins}
 use Rattle.x_item.specs.Words.{Word, is_significant, word_by, word_of, words_of}
 use Rattle.x_item.specs.Parse.{Parse, Nothing, Def, Fault, IsParse, IsStuck, IsLastWord, IsUnfinished, code_of}
 use Rattle.x_item.specs.declared.parsing.fault_code.FaultCode.{FaultCode}

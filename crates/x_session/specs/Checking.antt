@@ -49,7 +49,8 @@ kept_definitions ks = map kept_definition ks
 
 -- of the definition the pieces that it has, if any, are generated
 abbrev pub IsMade : Kept → Type 0
-IsMade k = (p : Pieces) → found_pieces (kept_found k) ≡ Some p → option_map pieces_of (kept_definition k) ≡ Some p
+IsMade k =
+    (p : Pieces) → found_pieces (kept_found k) ≡ Some p → option_map pieces_of (kept_definition k) ≡ Some p
 
 -- the item has pieces exactly where its definition has no fault, and they are generated of it
 abbrev pub IsSound : Kept → Type 0
@@ -59,7 +60,8 @@ IsSound k = found_pieces (kept_found k) ≡ sound_pieces (kept_definition k) (fo
 abbrev pub AreRendered : List Kept → List (Option (Box Found)) → Type 0
 AreRendered [] [] = Unit {0}
 AreRendered (k ∷ ks) (r ∷ rs) =
-    (renewed_pieces (found_pieces (kept_found k)) r ≡ sound_pieces (kept_definition k) (found_result r)) × AreRendered ks rs
+    (renewed_pieces (found_pieces (kept_found k)) r ≡ sound_pieces (kept_definition k) (found_result r))
+    × AreRendered ks rs
 AreRendered ks rs = ⊥
 
 -- each item has what was found of it, and nothing was found of one without a definition

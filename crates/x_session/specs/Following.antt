@@ -1,5 +1,5 @@
 -- What an edit does to what a session keeps of its text.
-use Rattle.std.specs.Prelude.{◌≡◌, ℕ, ◌+◌, ◌≤◌, List, length, All}
+use Rattle.std.specs.Prelude.{◌≡◌, ℕ, ◌+◌, ◌≤◌, List, All}
 use Rattle.x_text.specs.Edits.{Change, edited_by, LiesWithin}
 use Rattle.x_text.specs.Seqs.{Gapped}
 use Rattle.x_lex.specs.declared.kind.Kind.{Kind}
@@ -18,21 +18,25 @@ use Rattle.x_session.specs.declared.compile.kept.Kept.{Kept}
 use Rattle.x_session.specs.declared.following.Plan.{Plan}
 
 -- the change makes `new` of a text that has these tokens and items
-pub record IsToFollow (change : Change) (new : List ℕ) (ts : List (Kind × ℕ)) (es : List (Entry Kept)) : Type 0 where
+pub record IsToFollow (change : Change) (new : List ℕ) (ts : List (Kind × ℕ)) (es : List (Entry Kept))
+    : Type 0 where
   pub within : LiesWithin change
   pub edited : new ≡ edited_by change
   pub are_tokens : AreTokens change.old ts
   pub parsed : AreParsed (lexemes change.old ts) es
   pub sound : All (λ e. IsSound e.kept) es
 
--- the same of some change, which does this to the tokens: those that stay behind it stand behind the bytes that it takes out
-pub record AreFollowed (new : List ℕ) (ts : List (Kind × ℕ)) (es : List (Entry Kept)) (patch : TokenPatch) : Type 0 where
+-- The same of some change, which does this to the tokens: those that stay behind it stand behind the bytes
+-- that it takes out.
+pub record AreFollowed (new : List ℕ) (ts : List (Kind × ℕ)) (es : List (Entry Kept)) (patch : TokenPatch)
+    : Type 0 where
   pub change : Change
   pub relexed : IsRelexed change new ts (counts es) patch
   pub parsed : AreParsed (lexemes change.old ts) es
   pub behind : change.end ≤ end_of ts (patch.at + patch.removed)
 
--- the plan has what the change does to the tokens and items, what the fresh items parse to, and what checking all items gives then
+-- The plan has what the change does to the tokens and items, what the fresh items parse to, and what checking
+-- all items gives then.
 pub record IsPlan (change : Change) (ts : List (Kind × ℕ)) (es : List (Entry Kept)) (p : Plan) : Type 0 where
   pub patch : IsPatch change ts p.tokens
   pub recut : IsItemPatch change ts (tokens.patched ts p.tokens) es p.items

@@ -103,7 +103,8 @@ abbrev pub AreAlong : List Lexeme → List (Entry Kept) → Type 0
 AreAlong tokens [] = Unit {0}
 AreAlong tokens (e ∷ es) = IsItem (take e.tokens tokens) e × AreAlong (drop e.tokens tokens) es
 
--- the pieces behind a check that made these, or none, and found these faults: those that were there stay where none are to be made
+-- The pieces behind a check that made these, or none, and found these faults: those that were there stay where
+-- none are to be made.
 abbrev pub pieces_behind : Option pieces.Pieces → Option pieces.Pieces → List WordFault → Option pieces.Pieces
 pieces_behind had (Some made) faults = Some made
 pieces_behind had None [] = had
@@ -129,7 +130,8 @@ AreWith (e ∷ es) (r ∷ rs) (f ∷ fs) = IsWith e r f × AreWith es rs fs
 AreWith es rs fs = ⊥
 
 -- this was found of the item at an index, and the others are as they were
-pub record IsWithAt (es : List (Entry Kept)) (index : ℕ) (r : Option (Box Found)) (fs : List (Entry Kept)) : Type 0 where
+pub record IsWithAt (es : List (Entry Kept)) (index : ℕ) (r : Option (Box Found)) (fs : List (Entry Kept))
+    : Type 0 where
   pub old : Entry Kept
   pub was : slice_get es index ≡ Some old
   pub item : Entry Kept

@@ -1,4 +1,5 @@
--- What a session is a view of: the text, the base of the names in what is generated of it, and the seats of its tokens and items.
+-- What a session is a view of: the text, the base of the names in what is generated of it, and the seats of its
+-- tokens and items.
 use Rattle.std.specs.Prelude.{◌≡◌, ℕ, List, [], ◌∷◌, ◌++◌, length}
 use Rattle.x_text.specs.Edits.{change_of, edited_by, Fits, Refuses}
 use Rattle.x_text.specs.declared.edit.Edit.{Edit}

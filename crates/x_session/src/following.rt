@@ -1,5 +1,5 @@
-//! What an edit does to all that is kept of a text: first it is planned, for which memory may be refused, and then it
-//! is carried out, which takes none.
+//! What an edit does to all that is kept of a text: first it is planned, for which memory may be refused, and
+//! then it is carried out, which takes none.
 
 ghost use Rattle.std.specs.Prelude.{◌≡◌, ◌+◌, ◌≤◌, All, IfOk, map, length};
 ghost use Rattle.x_text.specs.Counts.{raised};
@@ -35,8 +35,8 @@ pub struct Plan {
     pub checks: Checks,
 }
 
-/// Plans the edit that makes `new` of the text `old`, whose tokens and items these are: they stay, but for the room that
-/// there is for more of them.
+/// Plans the edit that makes `new` of the text `old`, whose tokens and items these are: they stay, but for the
+/// room that there is for more of them.
 pub fn plan_edit(
     alloc: Global,
     old: &Source,
@@ -96,8 +96,8 @@ fn next_tokens(
     Ok(patch)
 }
 
-/// What an edit that does this to the tokens does to the items, for which there is room then. Counts each fresh item as
-/// parsed.
+/// What an edit that does this to the tokens does to the items, for which there is room then. Counts each fresh
+/// item as parsed.
 fn next_items(
     alloc: Global,
     tokens: &Tokens,
@@ -169,7 +169,12 @@ fn kept_behind<'i>(
 }
 
 /// Carries out what was planned, and answers how many faults the text has then. It takes no memory.
-pub fn carry_out(plan: Plan, tokens: &mut Tokens, items: &mut Items<Kept>, meter: &mut Meter) -> usize
+pub fn carry_out(
+    plan: Plan,
+    tokens: &mut Tokens,
+    items: &mut Items<Kept>,
+    meter: &mut Meter,
+) -> usize
     requires { CanCarryOut tokens.old items.old plan }
     ensures tokens { tokens.new.list ≡ tokens_of.patched tokens.old.list plan.tokens }
     ensures token_seat { tokens.new.seat ≡ plan.tokens.at + length plan.tokens.fresh }

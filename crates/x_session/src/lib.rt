@@ -16,6 +16,5 @@ pub use script::{
 pub use session::{Faults, SchemaFault, Session, Work};
 pub use x_gen::Which;
 pub use x_sema::{RuleCode, Schema, TypeId};
-pub use x_text::TextFault as EditFault;
-pub use x_text::{EngineFault, Outcome};
+pub use x_text::{EngineFault, Outcome, TextFault as EditFault};
 pub use x_value::dump_value;

@@ -1,7 +1,7 @@
 use std::process::Abort;
 use std::test::Fail;
 use x_lex::Kind;
-use x_session::{FaultCode, Schema, Session, Which, Work};
+use x_session::{FaultCode, Schema, Session, Which};
 use x_text::{Edit, MemSink, TextFault, WriteFault};
 
 /// Checks the token and the definition of a session of the text `const A = 12;;`.
@@ -69,36 +69,6 @@ fn expect_stop(rt: &impl Abort, session: &mut Session) {
 fn edits_stop_at_the_first_that_is_refused(rt: HostRuntime) -> Result<(), Fail> {
     let mut session = Session::open(rt.alloc(), b"t", b"const A = 1;")?;
     expect_stop(&rt, &mut session);
-    Ok(())
-}
-
-/// Checks the work of an edit.
-fn expect_work(rt: &impl Abort, session: &mut Session) {
-    let wanted = Work {
-        lexed: 8,
-        parsed: 2,
-        checked: 1,
-        moved: 0,
-    };
-    assert_eq!(rt; session.apply(&LONGER), Ok(wanted));
-}
-
-/// Checks the faults and the tokens of the text after it.
-fn expect_longer(rt: &impl Abort, session: &Session) {
-    assert_eq!(rt; session.fault_count(), 0);
-    let mut last = 0;
-    for token in session.tokens() {
-        last = token.end;
-    }
-    assert_eq!(rt; last, 13);
-}
-
-/// For now an edit compiles the whole text, and this is the work of that.
-#[test]
-fn an_edit_tells_its_work(rt: HostRuntime) -> Result<(), Fail> {
-    let mut session = Session::open(rt.alloc(), b"t", b"const A = 1;")?;
-    expect_work(&rt, &mut session);
-    expect_longer(&rt, &session);
     Ok(())
 }
 

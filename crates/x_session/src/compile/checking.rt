@@ -27,8 +27,8 @@ use x_text::{Meter, NoMemory};
 /// What checking the items of a text finds.
 #[derive(Drop)]
 pub struct Checks {
-    /// Of each item, in their order, what was found of its definition if it has one: with its pieces where it has
-    /// no fault and none were there before.
+    /// Of each item, in their order, what was found of its definition if it has one: with its pieces where it
+    /// has no fault and none were there before.
     pub results: Vec<Option<Box<Found>>>,
     /// How many faults the items have.
     pub faults: usize,
@@ -100,7 +100,7 @@ fn check_items(
     Ok(Checks { results, faults })
 }
 
-/// The sum of two counts: one that does not fit is told as want of memory, since no text comes to so many faults.
+/// The sum of two counts: one that does not fit is told as want of memory, as no text has so many faults.
 fn sum_of(count: usize, more: usize) -> Result<usize, NoMemory>
     ensures { IfOk result (λ sum. sum ≡ count + more) }
 {

@@ -19,8 +19,8 @@ pub fn keep_results(entries: &mut Vec<Entry<Kept>>, results: Vec<Option<Box<Foun
     }
 }
 
-/// Keeps with each item what was found of it, from the last to the first, and answers how many entries moved. It takes
-/// no memory.
+/// Keeps with each item what was found of it, from the last to the first, and answers how many entries moved.
+/// It takes no memory.
 pub fn keep_in_place(items: &mut Items<Kept>, results: Vec<Option<Box<Found>>>) -> u64
     requires { AreKnown (kept items.old.list) results.items }
     ensures { AreWith items.old.list results.items items.new.list }

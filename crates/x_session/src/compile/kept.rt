@@ -209,8 +209,8 @@ impl Kept {
         }
     }
 
-    /// Keeps what was found of the item's definition. What was generated of it before stays where it has no fault
-    /// and nothing was generated anew.
+    /// Keeps what was found of the item's definition. What was generated of it before stays where it has no
+    /// fault and nothing was generated anew.
     pub fn keep(&mut self, found: Option<Box<Found>>)
         requires { kept_definition self.old ≡ None → found ≡ None }
         ensures parse { kept_parse self.new ≡ kept_parse self.old }

@@ -14,8 +14,8 @@ use x_item::ItemPatch;
 use x_lex::{Patch, PatchedWalk, Token, Tokens};
 use x_text::{Meter, NoMemory, Source};
 
-/// Parses the fresh items of a patch, whose tokens are of those that the patch of the tokens will leave, and keeps with
-/// each what it parses to. Counts each of them as parsed.
+/// Parses the fresh items of a patch, whose tokens are of those that the patch of the tokens will leave, and
+/// keeps with each what it parses to. Counts each of them as parsed.
 pub fn parse_fresh(
     alloc: Global,
     tokens: &Tokens,

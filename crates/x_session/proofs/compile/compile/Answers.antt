@@ -1,10 +1,9 @@
-use Rattle.std.proofs.Common.{◌≡◌, List, map, length, ap, sym, subst, ◌∙◌, arith}
+use Rattle.std.proofs.Common.{map, ap, sym, subst, ◌∙◌}
 use Rattle.std.specs.Borrow.{Bor}
-use Rattle.std.specs.Prelude.{All}
 use Rattle.x_item.specs.ItemList.{AreOfText}
 use Rattle.x_item.specs.ItemList as items
 use Rattle.x_sema.specs.Declarers.{AreShort}
-use Rattle.x_session.specs.Checking.{AreChecked, IsMade, kept_definitions}
+use Rattle.x_session.specs.Checking.{AreChecked, kept_definitions}
 use Rattle.x_session.specs.SessionState.{IsKept}
 use Rattle.x_session.specs.declared.compile.kept.Kept.{Kept}
 use Rattle.x_session.proofs.KeptLemmas.{are_known, counts_with, definitions_kept, kept_is, made_lent, made_unchecked}

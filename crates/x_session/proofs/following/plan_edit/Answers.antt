@@ -1,19 +1,16 @@
-use Rattle.std.proofs.Common.{List, ◌+◌, ◌≤◌, length, ap, sym, subst, ◌∙◌, arith}
+use Rattle.std.proofs.Common.{length, ap, sym, subst, arith}
 use Rattle.std.specs.Prelude.{All}
 use Rattle.x_text.specs.Edits.{change_of}
-use Rattle.x_text.specs.declared.source.TheConstants.{MAX_TEXT}
 use Rattle.x_lex.specs.Places.{lexemes}
 use Rattle.x_lex.specs.TokenList as tokens
 use Rattle.x_lex.proofs.SpanLemmas.{length-lexemes_from}
 use Rattle.x_item.specs.ItemList.{AreOfText, counts}
 use Rattle.x_item.specs.ItemList as items
 use Rattle.x_item.specs.Recut.{IsItemPatch, IsRelexed}
-use Rattle.x_item.specs.declared.cutting.entry.Entry.{Entry}
 use Rattle.x_sema.specs.Declarers.{AreShort}
 use Rattle.x_session.specs.Checking.{AreChecked, IsMade, kept_definitions}
 use Rattle.x_session.specs.Following.{AreFollowed}
 use Rattle.x_session.specs.KeptView.{AreParsed}
-use Rattle.x_session.specs.declared.compile.kept.Kept.{Kept}
 use Rattle.x_session.proofs.AlongLemmas.{cut_of}
 use Rattle.x_session.proofs.ItemLemmas.{short_items}
 use Rattle.x_session.proofs.KeptLemmas.{are_known, definitions_kept, made_patched}
@@ -29,12 +26,12 @@ next_items-requires c =
     (record {
       change = change;
       relexed = record {
-          within = c.requires.within;
-          edited = c.requires.edited;
-          tokens = c.requires.are_tokens;
-          items = cut_of (lexemes c.args.old.now ts) es c.requires.parsed;
-          patch = c.in_ok-patch.ensures.patch;
-        };
+        within = c.requires.within;
+        edited = c.requires.edited;
+        tokens = c.requires.are_tokens;
+        items = cut_of (lexemes c.args.old.now ts) es c.requires.parsed;
+        patch = c.in_ok-patch.ensures.patch;
+      };
       parsed = c.requires.parsed;
       behind = c.in_ok-patch.ensures.behind;
     })

@@ -1,4 +1,4 @@
-use Rattle.std.proofs.Common.{◌≡◌, ◌+◌, ◌∷◌, [], map, length, Option, ap, sym, subst, ◌∙◌}
+use Rattle.std.proofs.Common.{◌+◌, ◌∷◌, [], map, length, Option, ap, sym, subst, ◌∙◌}
 use Rattle.std.specs.Borrow.{Bor}
 use Rattle.std.proofs.lemmas.List.{length-map, map-append}
 use Rattle.x_item.specs.Tree.{Definition}
@@ -6,7 +6,7 @@ use Rattle.x_sema.proofs.OutlineLemmas.{map_map}
 use Rattle.x_sema.specs.Declarers.{AreShort, FirstIs}
 use Rattle.x_sema.specs.DeclarerTable.{first_in}
 use Rattle.x_sema.specs.Results.{IsResult, result_at}
-use Rattle.x_session.specs.Checking.{IsShortAt, counted}
+use Rattle.x_session.specs.Checking.{counted}
 use Rattle.x_session.specs.KeptView.{found_result, kept_definition}
 use Rattle.x_session.specs.declared.compile.kept.Kept.{Kept}
 use Rattle.x_session.proofs.CheckingLemmas.{checked_all, counted_all, counted_more, faults_next, many_more, rendered_next, results_next, short_here}

@@ -1,4 +1,4 @@
-use Rattle.std.proofs.Common.{ℕ, refl}
+use Rattle.std.proofs.Common.{refl}
 use Rattle.x_session.specs.declared.compile.kept.Kept.TheVariants as kept
 use Rattle.x_session.proofs.KeepingLemmas.{with_at}
 use Rattle.x_session.proofs.compile.keeping.keep_at.Goals as goal

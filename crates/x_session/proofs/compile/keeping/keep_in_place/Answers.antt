@@ -1,4 +1,4 @@
-use Rattle.std.proofs.Common.{◌≡◌, length, ap, ◌∙◌}
+use Rattle.std.proofs.Common.{◌∙◌}
 use Rattle.x_session.proofs.KeepingLemmas.{IsLast, kept_none, kept_on, last_item, last_known_at, last_within}
 use Rattle.x_session.proofs.compile.keeping.keep_in_place.Goals as goal
 use Rattle.x_session.proofs.compile.keeping.keep_in_place.Goals.{After-len}

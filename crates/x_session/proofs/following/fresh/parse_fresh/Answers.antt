@@ -1,14 +1,13 @@
-use Rattle.std.proofs.Common.{◌≡◌, ◌+◌, ◌≤◌, length, map, take, drop, ap, subst, sym, ◌∙◌, arith, length-drop}
-use Rattle.x_text.specs.Counts.{Counts, raised}
-use Rattle.x_lex.specs.Places.{Lexeme, lexeme, lexemes}
+use Rattle.std.proofs.Common.{◌≡◌, ◌≤◌, length, map, take, drop, ap, subst, sym, ◌∙◌, arith, length-drop}
+use Rattle.x_text.specs.Counts.{Counts}
+use Rattle.x_lex.specs.Places.{lexeme, lexemes}
 use Rattle.x_lex.specs.TokenList.{patched}
 use Rattle.x_lex.proofs.SpanLemmas.{length-lexemes_from}
-use Rattle.x_item.specs.ItemList.{ItemChange, counts, total}
+use Rattle.x_item.specs.ItemList.{counts, total}
 use Rattle.x_item.specs.Parse.{IsParse}
 use Rattle.x_session.specs.Generated.{lines_of}
-use Rattle.x_session.specs.KeptView.{kept_lines, kept_parse}
-use Rattle.x_session.specs.declared.compile.kept.Kept.{Kept}
-use Rattle.x_session.proofs.FreshLemmas.{next_within, parsed_next}
+use Rattle.x_session.specs.KeptView.{kept_parse}
+use Rattle.x_session.proofs.FreshLemmas.{parsed_next}
 use Rattle.x_session.proofs.following.fresh.parse_fresh.Goals as goal
 
 pub loop-index-preserved : goal.loop-index-preserved

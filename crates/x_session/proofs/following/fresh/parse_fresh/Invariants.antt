@@ -1,4 +1,4 @@
-use Rattle.std.proofs.Common.{◌≡◌, length, drop}
+use Rattle.std.proofs.Common.{◌≡◌, drop}
 use Rattle.x_text.specs.Counts.{raised}
 use Rattle.x_lex.specs.Places.{lexemes}
 use Rattle.x_lex.specs.TokenList.{patched}

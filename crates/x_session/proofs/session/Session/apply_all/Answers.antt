@@ -25,7 +25,7 @@ loop-index-preserved c =
       taken_more text edits (drop (index + 1) edits) (get_or edits index none) now c.apply.new.self.text index taken c.in-Ok.ensures.fault.fits c.in-Ok.ensures.text,
       c.in-Ok.ensures.base ∙ c.loop-index.invariant.1,
       subst (λ es. IsWorkOfAll c.args.self.now es c.apply.new.self c.with-total.result) (sym front)
-      (worked_more c.args.self.now c.loop-index.self c.apply.new.self (take index edits) (get_or edits index none) c.loop-index.total c.with-total.result c.in-Ok.work c.loop-index.invariant.2 c.in-Ok.ensures.work c.with-total.ensures),
+          (worked_more c.args.self.now c.loop-index.self c.apply.new.self (take index edits) (get_or edits index none) c.loop-index.total c.with-total.result c.in-Ok.work c.loop-index.invariant.2 c.in-Ok.ensures.work c.with-total.ensures),
     )
 
 pub returns-in-Err-clause-stops : goal.returns-in-Err-clause-stops

@@ -12,5 +12,9 @@ of-requires-clause-ordered c = are_ordered c.self.inside.texts.text c.self.insid
 pub returns : goal.returns
 returns c =
     let items = items_of c.self.inside.texts.text c.self.inside.tokens.list c.self.inside.items.entries.list in
-    subst (λ v. Compiles v.text (λ is. c.of.result ≡ faults_of v.text is)) c.self.view_is (c.self.inside.tokens.list, items, compilation c.self.invariant,
-    subst (λ t. c.of.result ≡ faults_of t (items_of t c.self.inside.tokens.list c.self.inside.items.entries.list)) c.text.ensures c.of.ensures)
+    subst (λ v. Compiles v.text (λ is. c.of.result ≡ faults_of v.text is)) c.self.view_is (
+      c.self.inside.tokens.list,
+      items,
+      compilation c.self.invariant,
+      subst (λ t. c.of.result ≡ faults_of t (items_of t c.self.inside.tokens.list c.self.inside.items.entries.list)) c.text.ensures c.of.ensures,
+    )
