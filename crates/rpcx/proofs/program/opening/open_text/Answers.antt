@@ -1,7 +1,10 @@
 use Rattle.std.proofs.Common.{◌≡◌, ◌∙◌, ◌<◌, ◌≤◌, ℕ, List, [], ◌∷◌, length, ap, subst, refl, arith, inl, inr}
-use Rattle.x_session.specs.Session.{Compiles}
+use Rattle.std.specs.Prelude.{IsErrOf, Ok, Err}
+use Rattle.x_text.specs.declared.fault.TextFault.TheVariants as fault
+use Rattle.x_session.specs.Session.{Compiles, Document}
 use Rattle.x_session.specs.Compile.{faults_of}
 use Rattle.x_session.specs.declared.compile.fault.Fault.{Fault}
+use Rattle.rpcx.specs.declared.program.status.Status.TheVariants as status
 use Rattle.rpcx.specs.Generate.{told_faults, IsTold}
 use Rattle.x_session.proofs.Compiled.{one_compilation}
 use Rattle.rpcx.proofs.Stopped.{not_opened}
@@ -10,6 +13,16 @@ use Rattle.rpcx.proofs.program.opening.open_text.Goals as goal
 no_fault : (fs : List Fault) (n : ℕ) → n ≡ length fs → n ≤ 0 → fs ≡ []
 no_fault [] n is none = refl
 no_fault (f ∷ fs) n is none = absurd (omega (arith, is, none))
+
+-- a search through all that is known here would take far longer
+no_error : {T E : Type 0} (v : T) (e : E) → IsErrOf (Ok v) e → ⊥
+no_error v e h = cc
+
+differs : status.Faulty ≡ status.Failed → ⊥
+differs e = cc
+
+other_error : {T E : Type 0} (e f : E) → (e ≡ f → ⊥) → IsErrOf {T = T} (Err e) f → ⊥
+other_error e f apart h = let same : e ≡ f = cc in apart same
 
 pub returns-else-fault_count-gt0-clause-opened : goal.returns-else-fault_count-gt0-clause-opened
 returns-else-fault_count-gt0-clause-opened g c =
@@ -20,9 +33,9 @@ returns-else-fault_count-gt0-clause-opened g c =
       base = c.in-Ok.ensures.base ∙ c.base_of_file.ensures;
       text = text;
       clean = subst (λ t. Compiles t (λ items. faults_of t items ≡ [])) text (h.0, h.1, h.2, none);
-      faulty = λ e. absurd (cc);
-      too_large = λ more. let off = c.in-Ok.ensures.too_large.1 more in absurd (cc);
-      failed = λ e. absurd (cc);
+      faulty = λ e. absurd (no_error c.in-Ok.session status.Faulty e);
+      too_large = λ more. absurd (no_error c.in-Ok.session fault.TooLarge (c.in-Ok.ensures.too_large.1 more));
+      failed = λ e. absurd (no_error c.in-Ok.session status.Failed e);
       others = tt;
     }
 
@@ -44,8 +57,8 @@ returns-then-fault_count-gt0-clause-opened g c =
       clean = tt;
       faulty = λ e. subst (λ t. Compiles t (λ items. (0 < length (faults_of t items)) × IsTold before after (told_faults c.args.file.now (faults_of t items))))
           c.in-Ok.ensures.text (all.0, all.1, all.2, (some, told));
-      too_large = λ more. let off = c.in-Ok.ensures.too_large.1 more in absurd (cc);
-      failed = λ e. absurd (cc);
+      too_large = λ more. absurd (no_error c.in-Ok.session fault.TooLarge (c.in-Ok.ensures.too_large.1 more));
+      failed = λ e. absurd (other_error {T = Document} status.Faulty status.Failed differs e);
       others = inl refl;
     }
 
