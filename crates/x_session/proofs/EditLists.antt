@@ -1,10 +1,10 @@
 -- One edit after another.
 use Rattle.std.proofs.Common.{◌≡◌, ℕ, ◌+◌, Err, List, [], ◌∷◌, ◌++◌, length, arith, append_assoc, append-nil, length-append, refl, sym, ap, subst, ◌∙◌}
-use Rattle.x_text.specs.Edits.{Change, change_of, edited_by, Fits, Refuses, Judges}
+use Rattle.x_text.specs.Edits.{change_of, edited_by, Fits, Judges}
 use Rattle.x_text.specs.declared.edit.Edit.{Edit}
 use Rattle.x_text.specs.declared.fault.TextFault.{TextFault}
-use Rattle.x_text.specs.declared.fault.TextFault.TheVariants.{BadRange, TooLarge, NoMemory}
 use Rattle.x_session.specs.Session.{edited_by_all, TakesAll, StopsAt}
+use Rattle.x_session.specs.declared.session.work.Work.{Work}
 
 -- the edits but for those that are left were taken, and leave this text
 pub record HasTaken (text : List ℕ) (edits left : List Edit) (now : List ℕ) (count : ℕ) : Type 0 where
@@ -41,7 +41,7 @@ taken_all text edits left now count none h =
     let whole : h.before ≡ edits = sym (append-nil h.before) ∙ ap (λ l. h.before ++ l) (sym none) ∙ h.split in
     (h.now_is ∙ ap (edited_by_all text) whole, subst (λ es. TakesAll text es) whole h.takes)
 
-pub stops_at : (text : List ℕ) (edits left : List Edit) (e : Edit) (now new : List ℕ) (count : ℕ) (fault : TextFault) → HasTaken text edits (e ∷ left) now count → new ≡ now → Refuses (change_of now e) fault
+pub stops_at : (text : List ℕ) (edits left : List Edit) (e : Edit) (now new : List ℕ) (count : ℕ) (fault : TextFault) → HasTaken text edits (e ∷ left) now count → new ≡ now → Judges {T = Work} (change_of now e) (Err fault)
     → StopsAt text edits new count fault
 stops_at text edits left e now new count fault h same refuses = record {
   before = h.before;
@@ -51,10 +51,5 @@ stops_at text edits left e now new count fault h same refuses = record {
   index_is = h.counted;
   takes = h.takes;
   left_is = same ∙ h.now_is;
-  refuses = subst (λ t. Refuses (change_of t e) fault) (sym same) refuses;
+  refuses = subst (λ t. Judges {T = Work} (change_of t e) (Err fault)) (sym same) refuses;
 }
-
-pub refuses_by : {T : Type 0} (change : Change) (fault : TextFault) → Judges {T = T} change (Err fault) → Refuses change fault
-refuses_by change BadRange h = h.bad_range.0 refl
-refuses_by change TooLarge h = h.too_large.0 refl
-refuses_by change NoMemory h = tt

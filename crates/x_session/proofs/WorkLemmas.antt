@@ -21,7 +21,7 @@ use Rattle.x_item.specs.declared.cutting.entry.Entry.{Entry}
 use Rattle.x_item.proofs.CountLemmas.{counts-splice}
 use Rattle.x_session.specs.Following.{IsPlan}
 use Rattle.x_session.specs.KeptView.{AreParsed, AreWith}
-use Rattle.x_session.specs.Session.{Document}
+use Rattle.x_session.specs.Session.{Document, LeavesText}
 use Rattle.x_session.specs.SessionState.{IsKept}
 use Rattle.x_session.specs.Work.{AreWorks, IsWork, IsWorkOfAll}
 use Rattle.x_session.specs.declared.compile.kept.Kept.{Kept}
@@ -140,11 +140,13 @@ work_edited change new ts es p w h are parsed few few_items lexed counted seat =
 
 -- ---- the work of one edit after another
 
-works_more : (old mid next : Document) (es : List Edit) (ws : List Work) (e : Edit) (w : Work) → AreWorks old es ws mid → IsWork (change_of mid.text e) next w → AreWorks old (es ++ e ∷ []) (ws ++ w ∷ []) next
-works_more old mid next [] [] e w are is = (next, subst (λ d. IsWork (change_of d.text e) next w) are is, refl)
-works_more old mid next [] (v ∷ ws) e w are is = absurd are
-works_more old mid next (d ∷ es) [] e w are is = absurd are
-works_more old mid next (d ∷ es) (v ∷ ws) e w are is = (are.0, are.1, works_more are.0 mid next es ws e w are.2 is)
+works_more : (old mid next : Document) (es : List Edit) (ws : List Work) (e : Edit) (w : Work) → AreWorks old es ws mid → LeavesText mid next (edited_by (change_of mid.text e)) → IsWork (change_of mid.text e) next w
+    → AreWorks old (es ++ e ∷ []) (ws ++ w ∷ []) next
+works_more old mid next [] [] e w are leaves is =
+    (next, subst (λ d. LeavesText d next (edited_by (change_of d.text e))) are leaves, subst (λ d. IsWork (change_of d.text e) next w) are is, refl)
+works_more old mid next [] (v ∷ ws) e w are leaves is = absurd are
+works_more old mid next (d ∷ es) [] e w are leaves is = absurd are
+works_more old mid next (d ∷ es) (v ∷ ws) e w are leaves is = (are.0, are.1, are.2, works_more are.0 mid next es ws e w are.3 leaves is)
 
 -- a count of one more, and the sum with it
 more_of : (f : Work → ℕ) (ws : List Work) (w : Work) (total next : ℕ) → total ≡ raised 0 (sum_by f ws) → next ≡ raised total (f w) → next ≡ raised 0 (sum_by f (ws ++ w ∷ []))
@@ -163,11 +165,11 @@ worked_none old total zero = record {
   moved = ap (λ w. w.moved) zero;
 }
 
-pub worked_more : (old mid next : Document) (es : List Edit) (e : Edit) (total new w : Work) → IsWorkOfAll old es mid total → IsWork (change_of mid.text e) next w
+pub worked_more : (old mid next : Document) (es : List Edit) (e : Edit) (total new w : Work) → IsWorkOfAll old es mid total → LeavesText mid next (edited_by (change_of mid.text e)) → IsWork (change_of mid.text e) next w
     → new ≡ record { lexed = raised total.lexed w.lexed; parsed = raised total.parsed w.parsed; checked = raised total.checked w.checked; moved = raised total.moved w.moved } → IsWorkOfAll old (es ++ e ∷ []) next new
-worked_more old mid next es e total new w h is more = record {
+worked_more old mid next es e total new w h leaves is more = record {
   works = h.works ++ w ∷ [];
-  are_works = works_more old mid next es h.works e w h.are_works is;
+  are_works = works_more old mid next es h.works e w h.are_works leaves is;
   lexed = more_of (λ w. w.lexed) h.works w total.lexed new.lexed h.lexed (ap (λ w. w.lexed) more);
   parsed = more_of (λ w. w.parsed) h.works w total.parsed new.parsed h.parsed (ap (λ w. w.parsed) more);
   checked = more_of (λ w. w.checked) h.works w total.checked new.checked h.checked (ap (λ w. w.checked) more);

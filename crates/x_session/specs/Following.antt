@@ -26,8 +26,8 @@ pub record IsToFollow (change : Change) (new : List ℕ) (ts : List (Kind × ℕ
   pub parsed : AreParsed (lexemes change.old ts) es
   pub sound : All (λ e. IsSound e.kept) es
 
--- The same of some change, which does this to the tokens: those that stay behind it stand behind the bytes
--- that it takes out.
+-- Some change makes `new` of a text that has these tokens and items, and does this to the tokens: those that
+-- stay behind the patch stand behind the bytes that the change takes out.
 pub record AreFollowed (new : List ℕ) (ts : List (Kind × ℕ)) (es : List (Entry Kept)) (patch : TokenPatch)
     : Type 0 where
   pub change : Change

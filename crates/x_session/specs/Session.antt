@@ -1,11 +1,12 @@
 -- What a session is a view of: the text, the base of the names in what is generated of it, and the seats of its
 -- tokens and items.
-use Rattle.std.specs.Prelude.{◌≡◌, ℕ, List, [], ◌∷◌, ◌++◌, length}
-use Rattle.x_text.specs.Edits.{change_of, edited_by, Fits, Refuses}
+use Rattle.std.specs.Prelude.{◌≡◌, ℕ, List, [], ◌∷◌, ◌++◌, length, Err}
+use Rattle.x_text.specs.Edits.{change_of, edited_by, Fits, Judges}
 use Rattle.x_text.specs.declared.edit.Edit.{Edit}
 use Rattle.x_text.specs.declared.fault.TextFault.{TextFault}
 use Rattle.x_lex.specs.declared.kind.Kind.{Kind}
 use Rattle.x_session.specs.Compile.{Item, IsCompilation}
+use Rattle.x_session.specs.declared.session.work.Work.{Work}
 
 -- A seat is the index in a list behind the entries that were put in last.
 pub record Document : Type 0 where
@@ -38,7 +39,8 @@ abbrev pub TakesAll : List ℕ → List Edit → Type 0
 TakesAll text [] = Unit {0}
 TakesAll text (e ∷ es) = Fits (change_of text e) × TakesAll (edited_by (change_of text e)) es
 
--- The text takes the edits before the one at the index, which leave this text, and refuses that one.
+-- The text takes the edits before the one at the index, which leave this text, and refuses that one as it would
+-- alone.
 pub record StopsAt (text : List ℕ) (edits : List Edit) (left : List ℕ) (index : ℕ) (fault : TextFault) : Type 0 where
   pub before : List Edit
   pub edit : Edit
@@ -47,4 +49,4 @@ pub record StopsAt (text : List ℕ) (edits : List Edit) (left : List ℕ) (inde
   pub index_is : index ≡ length before
   pub takes : TakesAll text before
   pub left_is : left ≡ edited_by_all text before
-  pub refuses : Refuses (change_of left edit) fault
+  pub refuses : Judges {T = Work} (change_of left edit) (Err fault)

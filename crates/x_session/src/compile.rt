@@ -1,4 +1,4 @@
-//! Compiling a text from scratch.
+//! What is found of a text and kept with its items, and compiling one from scratch.
 
 ghost use Rattle.std.specs.Prelude.{◌≡◌, IfOk, length, map};
 ghost use Rattle.x_session.specs.SessionState.{IsKept};

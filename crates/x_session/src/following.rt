@@ -31,7 +31,7 @@ pub struct Plan {
     pub tokens: Patch,
     /// What becomes of the items: each fresh one has what it parses to.
     pub items: ItemPatch<Kept>,
-    /// What checking the items finds that there are then.
+    /// What checking finds of the items that there are then.
     pub checks: Checks,
 }
 
@@ -69,7 +69,7 @@ pub fn plan_edit(
     })
 }
 
-/// What the edit does to the tokens, for which there is room then.
+/// What the edit does to the tokens, and makes room for it.
 fn next_tokens(
     alloc: Global,
     old: &Source,
@@ -96,8 +96,8 @@ fn next_tokens(
     Ok(patch)
 }
 
-/// What an edit that does this to the tokens does to the items, for which there is room then. Counts each fresh
-/// item as parsed.
+/// What an edit that does this to the tokens does to the items, and makes room for it. Counts each fresh item
+/// as parsed.
 fn next_items(
     alloc: Global,
     tokens: &Tokens,
@@ -131,7 +131,7 @@ fn next_items(
     Ok(fresh)
 }
 
-/// What checking the items finds that the patch will leave.
+/// What checking finds of the items that the patch will leave.
 fn checks_behind(
     alloc: Global,
     items: &Items<Kept>,

@@ -1,7 +1,7 @@
 //! A text that stays open, with all that compiling it gives.
 
 ghost use Rattle.std.specs.Prelude.{◌≡◌, ◌↔◌, ◌<◌, length, option_map, slice_get, IfOk};
-ghost use Rattle.std.specs.Prelude.{OnOk, OnErr, IfErr, IsErrOf};
+ghost use Rattle.std.specs.Prelude.{OnOk, OnErr, IfErr, IsErrOf, take};
 ghost use Rattle.x_text.specs.Edits.{change_of, edited_by, Judges};
 ghost use Rattle.x_text.specs.declared.source.TheConstants.{MAX_TEXT};
 ghost use Rattle.x_lex.specs.Places.{lexeme};
@@ -10,7 +10,7 @@ ghost use Rattle.x_session.specs.Session.{Document, Compiles, edited_by_all, Tak
 ghost use Rattle.x_session.specs.Compile.{tokens_of, definitions_of, definition_at, faults_of};
 ghost use Rattle.x_session.specs.Definitions.{numbered};
 ghost use Rattle.x_session.specs.Typed.{GivesSchema};
-ghost use Rattle.x_session.specs.Work.{IsWork, IsWorkOfAll};
+ghost use Rattle.x_session.specs.Work.{IsWork, IsWorkOfAll, HasDone};
 
 mod faults;
 mod item_faults;
@@ -139,6 +139,7 @@ impl Session {
         ensures takes { OnOk result (TakesAll self.old.text edits.now) }
         ensures stops { IfErr result
             (λ fault. StopsAt self.old.text edits.now self.new.text fault.0 fault.1) }
+        ensures done { IfErr result (λ fault. HasDone self.old (take fault.0 edits.now) self.new) }
         ensures works { IfOk result (λ total. IsWorkOfAll self.old edits.now self.new total) }
         ensures base { self.new.base ≡ self.old.base }
     {

@@ -8,7 +8,7 @@ ghost use Rattle.x_session.specs.KeptView.{AreWith, IsWithAt};
 use crate::compile::kept::{Found, Kept};
 use x_item::{Entry, Items};
 
-/// Keeps with each item what was found of it.
+/// Keeps with each item of a list, before it is a session's, what was found of it.
 pub fn keep_results(entries: &mut Vec<Entry<Kept>>, results: Vec<Option<Box<Found>>>)
     requires { AreKnown (kept entries.old.items) results.items }
     ensures { AreWith entries.old.items results.items entries.new.items }
@@ -19,7 +19,8 @@ pub fn keep_results(entries: &mut Vec<Entry<Kept>>, results: Vec<Option<Box<Foun
     }
 }
 
-/// Keeps with each item what was found of it, from the last to the first, and answers how many entries moved.
+/// Keeps with each of a session's items what was found of it, from the last to the first, and answers how
+/// many entries moved.
 /// It takes no memory.
 pub fn keep_in_place(items: &mut Items<Kept>, results: Vec<Option<Box<Found>>>) -> u64
     requires { AreKnown (kept items.old.list) results.items }

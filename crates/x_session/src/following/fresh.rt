@@ -14,8 +14,8 @@ use x_item::ItemPatch;
 use x_lex::{Patch, PatchedWalk, Token, Tokens};
 use x_text::{Meter, NoMemory, Source};
 
-/// Parses the fresh items of a patch, whose tokens are of those that the patch of the tokens will leave, and
-/// keeps with each what it parses to. Counts each of them as parsed.
+/// Parses the fresh items of a patch, whose tokens are among those that the patch of the tokens will leave,
+/// and keeps with each what it parses to. Counts each of them as parsed.
 pub fn parse_fresh(
     alloc: Global,
     tokens: &Tokens,
@@ -60,7 +60,8 @@ fn token_count(items: &ItemPatch<Kept>, index: usize) -> usize
     }
 }
 
-/// Takes so many of the tokens that a walk has left into the buffer, or all where it has fewer.
+/// Fills the buffer anew with the next so many tokens of a walk, or with all that it has left where there are
+/// fewer.
 fn take_tokens<'a>(
     part: &mut Vec<Token<'a>>,
     walk: &mut PatchedWalk<'a>,
