@@ -103,8 +103,8 @@ abbrev pub AreAlong : List Lexeme → List (Entry Kept) → Type 0
 AreAlong tokens [] = Unit {0}
 AreAlong tokens (e ∷ es) = IsItem (take e.tokens tokens) e × AreAlong (drop e.tokens tokens) es
 
--- The pieces behind a check that made these, or none, and found these faults: those that were there stay where
--- none are to be made.
+-- The pieces behind a check that made these, or none, and found these faults: those that were there stay
+-- where none are to be made.
 abbrev pub pieces_behind : Option pieces.Pieces → Option pieces.Pieces → List WordFault → Option pieces.Pieces
 pieces_behind had (Some made) faults = Some made
 pieces_behind had None [] = had

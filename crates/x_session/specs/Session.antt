@@ -1,5 +1,5 @@
--- What a session is a view of: the text, the base of the names in what is generated of it, and the seats of its
--- tokens and items.
+-- What a session is a view of: the text, the base of the names in what is generated of it, and the seats of
+-- its tokens and items.
 use Rattle.std.specs.Prelude.{◌≡◌, ℕ, List, [], ◌∷◌, ◌++◌, length, Err}
 use Rattle.x_text.specs.Edits.{change_of, edited_by, Fits, Judges}
 use Rattle.x_text.specs.declared.edit.Edit.{Edit}
@@ -39,8 +39,8 @@ abbrev pub TakesAll : List ℕ → List Edit → Type 0
 TakesAll text [] = Unit {0}
 TakesAll text (e ∷ es) = Fits (change_of text e) × TakesAll (edited_by (change_of text e)) es
 
--- The text takes the edits before the one at the index, which leave this text, and refuses that one as it would
--- alone.
+-- The text takes the edits before the one at the index, which leave this text, and refuses that one as it
+-- would alone.
 pub record StopsAt (text : List ℕ) (edits : List Edit) (left : List ℕ) (index : ℕ) (fault : TextFault) : Type 0 where
   pub before : List Edit
   pub edit : Edit

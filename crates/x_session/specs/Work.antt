@@ -15,8 +15,8 @@ use Rattle.x_item.specs.declared.cutting.entry.Entry.{Entry}
 use Rattle.x_session.specs.Session.{Document, LeavesText}
 use Rattle.x_session.specs.declared.session.work.Work.{Work}
 
--- The change took this work: as many tokens were lexed as are fresh, and as many items parsed as are recut. The
--- tokens' seat is behind the fresh ones then.
+-- The change took this work: as many tokens were lexed as are fresh, and as many items parsed as are recut.
+-- The tokens' seat is behind the fresh ones then.
 pub record IsWork (change : Change) (new : Document) (w : Work) : Type 0 where
   pub tokens : List (Kind × ℕ)
   pub are_tokens : AreTokens change.old tokens
@@ -39,8 +39,8 @@ AreWorks old (e ∷ es) (w ∷ ws) new =
     (next : Document) × LeavesText old next (edited_by (change_of old.text e))
     × IsWork (change_of old.text e) next w × AreWorks next es ws new
 
--- The counts are the sums of those of the edits, each of which stays at the greatest number. What one edit checks
--- and moves is not said yet, so nothing is of all.
+-- The counts are the sums of those of the edits, each of which stays at the greatest number. What one edit
+-- checks and moves is not said yet, so nothing is of all.
 pub record IsWorkOfAll (old : Document) (edits : List Edit) (new : Document) (total : Work) : Type 0 where
   pub works : List Work
   pub are_works : AreWorks old edits works new

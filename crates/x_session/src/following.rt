@@ -35,8 +35,8 @@ pub struct Plan {
     pub checks: Checks,
 }
 
-/// Plans the edit that makes `new` of the text `old`, whose tokens and items these are: they stay, but for the
-/// room that there is for more of them.
+/// Plans the edit that makes `new` of the text `old`, whose tokens and items these are: they stay, but for
+/// the room that there is for more of them.
 pub fn plan_edit(
     alloc: Global,
     old: &Source,
