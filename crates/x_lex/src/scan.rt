@@ -106,6 +106,7 @@ fn first_token(rest: &[u8], line_start: bool) -> (Kind, usize)
 /// The kind and the end of the token that begins at `at`, where `line_start` says whether `at` is 0 or stands behind a line feed.
 ///
 /// Counts one token.
+#[inline(always)]
 pub fn lex_one(bytes: &[u8], at: usize, line_start: bool, meter: &mut Meter) -> (Kind, usize)
     requires { at < length bytes.now }
     ensures meter { meter.new ≡ record meter.old { lexed = raised meter.old.lexed 1 } }

@@ -98,7 +98,7 @@ fn table_of<'d>(
     ensures { IfOk result (λ table. AreShort (map tree_at definitions.now)
         → (name : List ℕ) → entry_in table.entries name ≡ first_from 0 (map tree_at definitions.now) name) }
 {
-    let mut table = IndexMap::with_capacity(alloc, definitions.len())?;
+    let mut table = IndexMap::with_capacity(alloc, definition_count(definitions))?;
     let mut names = Vec::new(alloc);
     for item in (0..definitions.len()).rev() {
         if let Some(definition) = definitions[item] {
@@ -106,6 +106,17 @@ fn table_of<'d>(
         }
     }
     Ok(table)
+}
+
+/// How many items have a definition: a text may be items without one, and the table takes memory for its room.
+fn definition_count(definitions: &[Option<&Definition>]) -> usize {
+    let mut count: usize = 0;
+    for definition in definitions {
+        if definition.is_some() {
+            count = count.saturating_add(1);
+        }
+    }
+    count
 }
 
 /// What the table has for the name.
