@@ -1,19 +1,39 @@
-"""How many tokens and items of a text are fresh after an edit. Both texts are read from scratch, and compared."""
+"""What work an edit takes: tokens and items of a text that are fresh, and items that are stale. Both texts are compiled from
+scratch, and compared."""
+from collections import namedtuple
+
 import rpclang
+
+# What an item sees of a name: whether nobody declares it first, or an earlier item, the item's own or a later one; as what
+# it is declared there, and whether lifted; and, where an earlier item declares it, what it means.
+View = namedtuple("View", "declarer shape lifted meaning")
 
 
 class Reading:
-    """A text with its tokens and items, and the places where these end. The last item has no end of its own."""
+    """A text, what it is compiled to, and the places where its tokens and items end. The last item has no end of its own."""
 
     def __init__(self, text):
+        compilation = rpclang.Compilation(text)
         self.text = text
-        self.tokens = rpclang.tokens_of(text)
-        self.items = rpclang.items_of(self.tokens)
+        self.tokens = compilation.tokens
+        self.items = compilation.items
+        self.definitions = compilation.definitions
+        self.first = compilation.first
+        self.meanings = compilation.meanings
         self.boundaries = [0] + [token.end for token in self.tokens]
         self.item_boundaries = [0] + [item[-1].end for item in self.items[:-1]]
 
     def is_line_start(self, place):
         return place == 0 or self.text[place - 1] == 10
+
+    def view(self, item, name):
+        """What this item sees of a name. One that is declared beforehand has a declarer before all items."""
+        first = self.first.get(name)
+        if first is None:
+            return View("nobody", None, None, None)
+        if first.item < item:
+            return View("earlier", first.shape, first.lifted, self.meanings[name])
+        return View("own" if first.item == item else "later", first.shape, first.lifted, None)
 
 
 def edited(text, edit):
@@ -31,23 +51,56 @@ def agreeing(old, edit, new):
             if before in ends and new.is_line_start(place) == old.is_line_start(before)]
 
 
-def fresh_counts(old, edit, new):
-    """How many tokens and how many items of the new text are fresh, by the two readings."""
-    start = edit[0]
+def fresh_tokens(old, edit, new):
+    """How many tokens of the new text are fresh."""
     agree = agreeing(old, edit, new)
-    # From here on tokens stay, and from there on items do.
+    # From here on tokens stay.
     rest = agree[0][0] if agree else len(new.text)
-    item_ends, new_item_ends = set(old.item_boundaries), set(new.item_boundaries)
-    item_rests = [place for place, before in agree if place in new_item_ends and before in item_ends]
-    tokens = sum(token.end >= start and token.start < rest for token in new.tokens)
-    items = 0
-    for index, begin in enumerate(new.item_boundaries):
-        ends_before = index + 1 < len(new.items) and new.item_boundaries[index + 1] < start
-        stays_behind = bool(item_rests) and begin >= item_rests[0]
-        items += not ends_before and not stays_behind
-    return tokens, items
+    return sum(token.end >= edit[0] and token.start < rest for token in new.tokens)
+
+
+def kept_items(old, edit, new):
+    """The items that stay: for the number of each in the new text the one that it has in the old text. All others are fresh."""
+    ends, new_ends = set(old.item_boundaries), set(new.item_boundaries)
+    rests = [place for place, before in agreeing(old, edit, new) if place in new_ends and before in ends]
+    kept = {}
+    for item, begin in enumerate(new.item_boundaries):
+        if item + 1 < len(new.items) and new.item_boundaries[item + 1] < edit[0]:
+            kept[item] = item
+        elif rests and begin >= rests[0]:
+            kept[item] = item - len(new.items) + len(old.items)
+    return kept
+
+
+def names_seen(definition):
+    """The names that an item declares or uses."""
+    return {name.name for name in rpclang.declared(definition) + rpclang.mentioned(definition)}
+
+
+def changed_views(old, edit, new):
+    """Of each item that stays and has a definition, by its number in the new text, what it sees in another way than before:
+    by the names, what it saw and what it sees."""
+    changed = {}
+    for item, before in kept_items(old, edit, new).items():
+        if new.definitions[item] is not None:
+            pairs = {name: (old.view(before, name), new.view(item, name)) for name in names_seen(new.definitions[item])}
+            changed[item] = {name: (was, sees) for name, (was, sees) in pairs.items() if was != sees}
+    return changed
+
+
+def stale_items(old, edit, new):
+    """The items of the new text that have a definition, and that are fresh or see a name in another way than before."""
+    changed = changed_views(old, edit, new)
+    return [item for item, definition in enumerate(new.definitions)
+            if definition is not None and (item not in changed or changed[item])]
+
+
+def work_of(old, edit, new):
+    """How many tokens are lexed, how many items parsed and how many checked, by the two readings."""
+    parsed = len(new.items) - len(kept_items(old, edit, new))
+    return fresh_tokens(old, edit, new), parsed, len(stale_items(old, edit, new))
 
 
 def counts(text, edit):
-    """How many tokens are lexed and how many items parsed where this text is edited so."""
-    return fresh_counts(Reading(text), edit, Reading(edited(text, edit)))
+    """How many tokens are lexed, how many items parsed and how many checked where this text is edited so."""
+    return work_of(Reading(text), edit, Reading(edited(text, edit)))

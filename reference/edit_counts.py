@@ -1,0 +1,31 @@
+#!/usr/bin/env python3
+"""edit_counts FILE: of each edit that the lines of standard input ask for, how many tokens are lexed, and how many items
+parsed and checked. The text is compiled anew at each edit."""
+import sys
+
+sys.dont_write_bytecode = True
+
+import rpcedit
+import work
+
+
+def main(words):
+    with open(words[0], "rb") as file:
+        session = rpcedit.Session(b"t", file.read())
+    reading = work.Reading(session.text)
+    for line in rpcedit.script_lines(sys.stdin.buffer.read()):
+        match = rpcedit.EDIT.fullmatch(line)
+        if match is None:
+            continue
+        answer = session.answer(line)
+        if answer.startswith(b"refused"):
+            print(answer.decode(), end="")
+            continue
+        new = work.Reading(session.text)
+        edit = int(match[1]), int(match[2]), bytes.fromhex((match[3] or b"").decode())
+        print("lexed %d parsed %d checked %d" % work.work_of(reading, edit, new))
+        reading = new
+
+
+if __name__ == "__main__":
+    main(sys.argv[1:])
