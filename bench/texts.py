@@ -48,3 +48,16 @@ def constants(lines):
 def long_struct(lines):
     """One struct with so many lines, each with a field."""
     return b"struct s {\n" + b"".join(b"    int f%07d;\n" % i for i in range(lines)) + b"};\n"
+
+
+def shared(uses, types, size):
+    """So many sizes by one constant, as many structs that hold one struct, so many types that stand for one type, and groups of at most
+    so many bytes behind them, with a constant in the middle that nobody uses."""
+    head = b"const MANY = 7;\nstruct shared { int a; };\ntypedef int renamed;\n"
+    sizes = (b"typedef opaque sized_%d[MANY];\n" % i for i in range(uses))
+    holders = (b"struct holder_%d { shared one; };\n" % i for i in range(uses))
+    aliases = (b"typedef renamed alias_%d;\n" % i for i in range(types))
+    groups = mixed(size)
+    middle = groups.index(b"/* Group", len(groups) // 2)
+    lone = b"const LONE = 1;\n"
+    return b"".join([head, *sizes, *holders, *aliases, groups[:middle], lone, groups[middle:]])

@@ -1,6 +1,6 @@
 #!/usr/bin/env python3
-"""edit_counts FILE: of each edit that the lines of standard input ask for, how many tokens are lexed, and how many items
-parsed and checked. The text is compiled anew at each edit."""
+"""edit_counts FILE: of each edit that the lines of standard input ask for, how many tokens are lexed, and how many
+items parsed and checked. The text is compiled anew at each edit."""
 import sys
 
 sys.dont_write_bytecode = True

@@ -371,18 +371,18 @@ def fresh_after_edits():
             (b"const A = 1;", (0, 0, b"/*"), (1, 1, 0)),
             (b"/*const A = 1;", (0, 2, b""), (8, 2, 1)),
             (b"enum e {A,B}; union u switch (e d) {case 1: void;};", (9, 9, b"=7"), (3, 1, 2)),
-            (many + b"typedef int a[c500];\ntypedef int b[c500];\ntypedef int d[c501];\n", (7904, 7904, b"2"), (1, 1, 3)),
+            (many + b"typedef int a[c500]; typedef int b[c500]; typedef int d[c501];", (7904, 7904, b"2"), (1, 1, 3)),
             (b"const A = 1;", (0, 0, b""), (0, 0, 0)),
             (b"const A = 1;", (12, 12, b""), (1, 1, 1)),
             (b"", (0, 0, b""), (0, 0, 0)),
             # Another order and one number twice are the same set; one number less is not.
-            (b"enum e {A,B}; union u switch (e d) {case 1: void;};", (8, 11, b"B,A,C=1"), (7, 1, 1)),
+            (b"enum e {A,B}; union u switch (e d) {case 1: void;};", (8, 11, b"B,A,C=1"), (8, 1, 1)),
             (b"enum e {A,B}; union u switch (e d) {case 0: void;};", (9, 11, b""), (1, 1, 2)),
             # What a link looks ahead to is a struct still, with whatever inside; a union it is no more.
-            (b"struct a { b *x; }; struct b { int y; };", (37, 37, b"[2]"), (5, 1, 1)),
-            (b"struct a { b *x; }; struct b { int y; };", (20, 26, b"typedef int b; struct"), (1, 2, 2)),
+            (b"struct a { b *x; }; struct b { int y; };", (36, 36, b"[2]"), (4, 1, 1)),
+            (b"struct a { b *x; }; struct b { int y; };", (20, 26, b"typedef int b; struct"), (9, 2, 3)),
             # The name is declared beforehand.
-            (b"typedef int v[TRUE];", (0, 0, b"const TRUE = 5;"), (8, 1, 1)),
+            (b"const A = 1; typedef int v[TRUE];", (12, 12, b" const TRUE = 5;"), (10, 2, 2)),
             ]:
         same(work.counts(text, edit), wanted)
     for place, (file, command) in enumerate([("relexing.rows", "relex"), ("recutting.rows", "recut")]):

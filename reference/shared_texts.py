@@ -3,10 +3,10 @@
 
     shared_texts.py EDITS SEED      prints how many kept items see something else after an edit, and what changes
 
-A text has constants, enums, typedefs, structs and unions that use each other, and often a chain: types up to the greatest
-height or beyond, each of which holds the one before, or constants of one another. Edits take definitions away, put them back
-elsewhere, declare names twice, rename them, change numbers and kinds, have enums lose numbers and structs grow, and bring
-faults; many are taken back.
+A text has constants, enums, typedefs, structs and unions that use each other, and often a chain: types up to the
+greatest height or beyond, each of which holds the one before, or constants of one another. Edits take definitions away,
+put them back elsewhere, declare names twice, rename them, change numbers and kinds, have enums lose numbers and structs
+grow, and bring faults; many are taken back.
 """
 import collections
 import random
@@ -60,7 +60,9 @@ class Shared:
     def type(self):
         if self.types and self.likely(0.75):
             return self.chance.choice(self.types)
-        return self.pick(b"int", b"bool", b"unsigned hyper", b"double") if self.likely(0.95) else b"s%d" % self.pick(0, 1, 2)
+        if self.likely(0.95):
+            return self.pick(b"int", b"bool", b"unsigned hyper", b"double")
+        return b"s%d" % self.pick(0, 1, 2)
 
     def inline(self):
         """An inline type: its name is lifted into the text."""
@@ -118,8 +120,14 @@ class Shared:
     def struct(self):
         name = self.fresh(b"s")
         words = self.fields(self.chance.randint(1, 4))
-        self.types += [name + b"_a"] * words.count(b"} a;") * 3 + [name]
+        self.types.append(name)
         return b"struct %s { %s };" % (name, words)
+
+    def lifting(self):
+        """A struct with an inline type, whose name others use."""
+        name = self.fresh(b"s")
+        self.types += [name + b"_a"] * 3
+        return b"struct %s { %s a; };" % (name, self.inline())
 
     def union(self):
         name = self.fresh(b"u")
@@ -135,11 +143,12 @@ class Shared:
 
     def program(self):
         name = self.fresh(b"P")
-        return b"program %s { version V { %s F(%s, %s) = 1; } = 1; } = 7;" % (name, self.type(), self.type(), self.type())
+        kinds = self.type(), self.type(), self.type()
+        return b"program %s { version V { %s F(%s, %s) = 1; } = 1; } = 7;" % (name, *kinds)
 
     def definition(self):
         return self.pick(self.constant, self.constant, self.enum, self.typedef, self.typedef, self.struct, self.struct,
-                         self.union, self.union, self.program)()
+                         self.lifting, self.union, self.union, self.program)()
 
     def definitions(self, low, high):
         return [self.definition() for _ in range(self.chance.randint(low, high))]
@@ -156,8 +165,10 @@ class Shared:
         if way < 0.5:
             # A typedef is switched on as what it stands for.
             self.classes[names[-1]] = [b"H1", b"H2"]
-            return [b"enum h1 { H1, H2 = %s };" % self.value()] + [b"typedef %s %s;" % pair for pair in zip(names, names[1:])]
-        forms = [b"struct %s { int b; %s a; };", b"struct %s { %s a[2]; };", b"union %s switch (int d) { case 1: %s a; };"]
+            first = b"enum h1 { H1, H2 = %s };" % self.value()
+            return [first] + [b"typedef %s %s;" % pair for pair in zip(names, names[1:])]
+        forms = [b"struct %s { int b; %s a; };", b"struct %s { %s a[2]; };",
+                 b"union %s switch (int d) { case 1: %s a; };"]
         if self.likely(0.5):
             forms = [self.chance.choice(forms)]
         return [b"struct h1 { int a[%s]; };" % self.value()] + [
@@ -168,7 +179,8 @@ class Shared:
         if self.likely(0.45):
             definitions += self.chain()
         definitions += self.definitions(3, 16)
-        return b"".join(line + self.pick(b"\n", b"\n", b"\n", b" ", b"\n%line\n", b" /* note */\n") for line in definitions)
+        ends = [b"\n", b"\n", b"\n", b" ", b"\n%line\n", b" /* note */\n"]
+        return b"".join(line + self.chance.choice(ends) for line in definitions)
 
 
 class Editor:
@@ -210,10 +222,12 @@ class Editor:
         at = self.pick(0, start, self.chance.choice(spans)[0], spans[-1][1], spans[-1][1])
         return at, at, text[start:end]
 
-    def lift(self, spans):
-        """A definition of a name that may be lifted, too."""
+    def lift(self, names, spans):
+        """A definition of a name that is lifted, too, where there is such."""
+        lifted = [name.text for name in names if b"_" in name.text]
         at = self.pick(0, self.early(spans)[0])
-        return at, at, self.pick(b"struct s%d_a { int a; };", b"enum s%d_a { R = 1 };") % self.chance.randint(0, 5)
+        name = self.chance.choice(lifted or [b"s1_a"])
+        return at, at, self.pick(b"struct %s { int a; };", b"enum %s { R = 1 };") % name
 
     def swap(self, text, spans):
         """Two definitions in each other's place, by one edit."""
@@ -227,11 +241,12 @@ class Editor:
         """One use of a name becomes another's, or one that nobody has."""
         self.count += 1
         name = self.early(names)
-        return name.start, name.end, self.pick(self.chance.choice(names).text, self.early(names).text, b"m%d" % self.count)
+        other = self.pick(self.chance.choice(names).text, self.early(names).text, b"m%d" % self.count)
+        return name.start, name.end, other
 
     def count_otherwise(self, numbers):
         number = self.early(numbers)
-        return number.start, number.end, self.chance.choice(SIZES if self.chance.random() < 0.7 else NUMBERS)
+        return number.start, number.end, self.chance.choice(self.pick(SIZES, SIZES, NUMBERS))
 
     def lose(self, tokens):
         """What stands from a comma to the next one or to what closes: mostly an enumerator."""
@@ -257,7 +272,8 @@ class Editor:
     def spoil(self, structs, tokens):
         """A fault in a struct or somewhere."""
         place = self.early(structs or tokens).end
-        return place, place, self.pick(b" void;", b" void;", b" int a; int a;", b" int w[0];", b" nobody w;", b"@", b"}", b"{")
+        faults = [b" void;", b" void;", b" int a; int a;", b" int w[0];", b" nobody w;", b"@", b"}", b"{"]
+        return place, place, self.chance.choice(faults)
 
     def remake(self, items):
         """Another definition of a name."""
@@ -265,7 +281,8 @@ class Editor:
         words = [token for token in item if token.kind in ("Keyword", "Name")]
         name = words[-1 if words[0].text == b"typedef" else 1].text
         makers = [b"const %s = 2;", b"typedef int %s;", b"struct %s { int a; };", b"enum %s { R = 1 };",
-                  b"union %s switch (bool d) { case 1: void; };", b"typedef bool %s;", b"struct R { struct { int a; } %s; };"]
+                  b"union %s switch (bool d) { case 1: void; };", b"typedef bool %s;",
+                  b"struct R { struct { int a; } %s; };"]
         return words[0].start, item[-1].end, self.chance.choice(makers) % name
 
     def brace(self, spans):
@@ -275,7 +292,7 @@ class Editor:
     def any_edit(self, text):
         """An edit of whole words or definitions, where there are such."""
         tokens = rpclang.tokens_of(text)
-        items = [item for item in rpclang.items_of(tokens)[:-1]]
+        items = rpclang.items_of(tokens)[:-1]
         names = [token for token in tokens if token.kind == "Name"]
         numbers = [token for token in tokens if token.kind == "Number"]
         if not items or not names or not numbers:
@@ -285,14 +302,15 @@ class Editor:
         words = [token for token in tokens if token.kind != "Space"]
         structs = [third for first, second, third in zip(words, words[1:], words[2:])
                    if first.text == b"struct" and second.kind == "Name" and third.text == b"{"]
-        enums = [(token, next((other for other in words[k:] if other.text == b"}"), token))
-                 for k, token in enumerate(words) if token.text == b"{" and b"enum" in [word.text for word in words[k - 2:k]]]
+        openings = [k for k, token in enumerate(words) if token.text == b"{"
+                    and b"enum" in [word.text for word in words[max(0, k - 2):k]]]
+        enums = [(words[k], next((other for other in words[k:] if other.text == b"}"), words[k])) for k in openings]
         ways = {
             "blank": (2, lambda: self.blank(tokens)),
             "take away": (3, lambda: self.take_away(text, spans)),
             "put back": (5 if self.taken else 0, lambda: self.put_back(spans)),
             "double": (2, lambda: self.double(text, spans)),
-            "lift": (1, lambda: self.lift(spans)),
+            "lift": (1, lambda: self.lift(names, spans)),
             "swap": (2, lambda: self.swap(text, spans)),
             "rename": (4, lambda: self.rename(names)),
             "count": (3, lambda: self.count_otherwise(numbers)),

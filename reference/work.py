@@ -1,16 +1,16 @@
-"""What work an edit takes: tokens and items of a text that are fresh, and items that are stale. Both texts are compiled from
-scratch, and compared."""
+"""What work an edit takes: tokens and items of a text that are fresh, and items that are stale. Both texts are compiled
+from scratch, and compared."""
 from collections import namedtuple
 
 import rpclang
 
-# What an item sees of a name: whether nobody declares it first, or an earlier item, the item's own or a later one; as what
-# it is declared there, and whether lifted; and, where an earlier item declares it, what it means.
+# What an item sees of a name: whether nobody declares it, or who declares it first: an earlier item, its own or a later
+# one; as what it is declared there, and whether lifted; and, where an earlier item declares it, what it means.
 View = namedtuple("View", "declarer shape lifted meaning")
 
 
 class Reading:
-    """A text, what it is compiled to, and the places where its tokens and items end. The last item has no end of its own."""
+    """A text, what it is compiled to, and where its tokens and items end. The last item has no end of its own."""
 
     def __init__(self, text):
         compilation = rpclang.Compilation(text)
@@ -42,8 +42,8 @@ def edited(text, edit):
 
 
 def agreeing(old, edit, new):
-    """The places behind what was inserted, in order, where a token ends or the text starts in both texts, and a line starts
-    in both or in neither; each with its old place."""
+    """The places behind what was inserted, in order, where a token ends or the text starts in both texts, and a line
+    starts in both or in neither; each with its old place."""
     start, end, insert = edit
     ends = set(old.boundaries)
     pairs = [(place, place - len(insert) + end - start) for place in new.boundaries if place >= start + len(insert)]
@@ -60,7 +60,8 @@ def fresh_tokens(old, edit, new):
 
 
 def kept_items(old, edit, new):
-    """The items that stay: for the number of each in the new text the one that it has in the old text. All others are fresh."""
+    """The items that stay: for the number of each in the new text the one that it has in the old text. All others are
+    fresh."""
     ends, new_ends = set(old.item_boundaries), set(new.item_boundaries)
     rests = [place for place, before in agreeing(old, edit, new) if place in new_ends and before in ends]
     kept = {}
@@ -78,18 +79,19 @@ def names_seen(definition):
 
 
 def changed_views(old, edit, new):
-    """Of each item that stays and has a definition, by its number in the new text, what it sees in another way than before:
-    by the names, what it saw and what it sees."""
+    """Of each item that stays and has a definition, by its number in the new text, the names that it sees in another way
+    than before: by the name, what it saw and what it sees."""
     changed = {}
     for item, before in kept_items(old, edit, new).items():
         if new.definitions[item] is not None:
-            pairs = {name: (old.view(before, name), new.view(item, name)) for name in names_seen(new.definitions[item])}
-            changed[item] = {name: (was, sees) for name, (was, sees) in pairs.items() if was != sees}
+            views = {name: (old.view(before, name), new.view(item, name))
+                     for name in names_seen(new.definitions[item])}
+            changed[item] = {name: (was, sees) for name, (was, sees) in views.items() if was != sees}
     return changed
 
 
 def stale_items(old, edit, new):
-    """The items of the new text that have a definition, and that are fresh or see a name in another way than before."""
+    """The items of the new text that have a definition, and are fresh or see a name in another way than before."""
     changed = changed_views(old, edit, new)
     return [item for item, definition in enumerate(new.definitions)
             if definition is not None and (item not in changed or changed[item])]

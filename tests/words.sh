@@ -141,8 +141,8 @@ given() {
     rpcdump -x t.x s
 }
 
-# counts TEXT LINE..: of each edit that these lines ask for, how many tokens were lexed and how many items parsed.
+# counts TEXT LINE..: of each edit that these lines ask for, how many tokens were lexed, and how many items parsed and checked.
 counts() {
     printf %b "$1" >t.x
-    printf '%s\n' "${@:2}" | edit_counts t.x | sed 's/ checked .*//'
+    printf '%s\n' "${@:2}" | edit_counts t.x | sed 's/ moved .*//'
 }
