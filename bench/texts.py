@@ -51,8 +51,8 @@ def long_struct(lines):
 
 
 def shared(uses, types, size):
-    """So many sizes by one constant, as many structs that hold one struct, so many types that stand for one type, and groups of at most
-    so many bytes behind them, with a constant in the middle that nobody uses."""
+    """So many sizes by one constant, as many structs that hold one struct, so many types that stand for one type, and
+    groups of at most so many bytes behind them, with a constant in the middle that nobody uses."""
     head = b"const MANY = 7;\nstruct shared { int a; };\ntypedef int renamed;\n"
     sizes = (b"typedef opaque sized_%d[MANY];\n" % i for i in range(uses))
     holders = (b"struct holder_%d { shared one; };\n" % i for i in range(uses))

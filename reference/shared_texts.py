@@ -4,9 +4,9 @@
     shared_texts.py EDITS SEED      prints how many kept items see something else after an edit, and what changes
 
 A text has constants, enums, typedefs, structs and unions that use each other, and often a chain: types up to the
-greatest height or beyond, each of which holds the one before, or constants of one another. Edits take definitions away,
-put them back elsewhere, declare names twice, rename them, change numbers and kinds, have enums lose numbers and structs
-grow, and bring faults; many are taken back.
+greatest height or beyond, each of which holds the one before, or constants of one another. Edits take definitions
+away, put them back elsewhere, declare names twice, rename them, change numbers and kinds, have enums lose numbers and
+structs grow, and bring faults; many are taken back.
 """
 import collections
 import random

@@ -1,11 +1,11 @@
-"""What work an edit takes: tokens and items of a text that are fresh, and items that are stale. Both texts are compiled
-from scratch, and compared."""
+"""What work an edit takes: which tokens and items of a text are fresh, and which items are stale. Both texts are
+compiled from scratch, and compared."""
 from collections import namedtuple
 
 import rpclang
 
-# What an item sees of a name: whether nobody declares it, or who declares it first: an earlier item, its own or a later
-# one; as what it is declared there, and whether lifted; and, where an earlier item declares it, what it means.
+# What an item sees of a name: whether nobody declares it, or who declares it first, an earlier item, its own or a
+# later one; as what it is declared there, and whether lifted; and, where an earlier item declares it, what it means.
 View = namedtuple("View", "declarer shape lifted meaning")
 
 
@@ -79,8 +79,8 @@ def names_seen(definition):
 
 
 def changed_views(old, edit, new):
-    """Of each item that stays and has a definition, by its number in the new text, the names that it sees in another way
-    than before: by the name, what it saw and what it sees."""
+    """Of each item that stays and has a definition, by its number in the new text, the names that it sees in another
+    way than before: by the name, what it saw and what it sees."""
     changed = {}
     for item, before in kept_items(old, edit, new).items():
         if new.definitions[item] is not None:
