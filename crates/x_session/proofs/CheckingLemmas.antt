@@ -2,8 +2,7 @@
 use Rattle.std.proofs.Common.{◌≡◌, ℕ, suc, ◌+◌, ◌<◌, Bool, true, false, cond, List, [], ◌∷◌, ◌++◌, length, map, arith, take, drop, get_or, ◌≤◌, Option, None, Some, refl, sym, ap, subst, ◌∙◌, append-nil}
 use Rattle.std.specs.Cow.{cow_slice_items}
 use Rattle.std.proofs.lemmas.List.{take_all, drop_all, length_push, length-map, length-take-le}
-use Rattle.x_text.specs.Counts.{Counts, raised}
-use Rattle.x_text.specs.declared.no_memory.NoMemory.{NoMemory}
+use Rattle.x_text.specs.Counts.{Counts}
 use Rattle.x_item.specs.Tree.{Definition}
 use Rattle.x_item.specs.Names.{Declared}
 use Rattle.x_item.specs.Named.{view_name}
@@ -26,11 +25,10 @@ use Rattle.x_sema.proofs.OutlineLemmas.{map_map}
 use Rattle.x_sema.proofs.ResultLaws.{AgreeBefore}
 use Rattle.x_text.proofs.Listing.{mapped_one}
 use Rattle.std.specs.Global.{Box}
-use Rattle.std.specs.Prelude.{IfOk, Result, Ok, Err, is_some, option_map, slice_get}
+use Rattle.std.specs.Prelude.{is_some, option_map, slice_get}
 use Rattle.x_session.specs.Checking.{AreChecked, AreRendered, IsShortAt, counted, kept_definitions, sound, sound_pieces, view_by_first}
 use Rattle.x_session.specs.Counting.{faults_found, faults_with}
 use Rattle.x_session.specs.KeptView.{found_pieces, found_result, kept_definition, kept_found, pieces_behind, renewed_pieces}
-use Rattle.x_session.specs.declared.compile.checking.Checks.{Checks}
 use Rattle.x_session.specs.declared.compile.kept.Found.{Found}
 use Rattle.x_session.specs.declared.compile.kept.Kept.{Kept}
 
@@ -176,11 +174,10 @@ faults_next f xs index faults x rs new r lt at pushed many is =
     omega (arith, more, same, is)
 
 -- all items are checked
-pub checked_all : {X : Type 0} (f : X → Kept) (xs : List X) (n : ℕ) (checks : Checks) → length xs ≤ n
-    → AreResultsFrom (map (λ x. kept_definition (f x)) xs) (result_at (map found_result checks.results.items)) 0 (take n (map (λ x. kept_definition (f x)) xs)) (map found_result checks.results.items)
-    → AreRendered (take n (map f xs)) checks.results.items → checks.faults ≡ faults_found (take n (map f xs)) checks.results.items → AreChecked (map f xs) checks
-checked_all f xs n checks end are rendered faults =
-    let rs = checks.results.items in
+pub checked_all : {X : Type 0} (f : X → Kept) (xs : List X) (n : ℕ) (rs : List (Option (Box Found))) (faults : ℕ) → length xs ≤ n
+    → AreResultsFrom (map (λ x. kept_definition (f x)) xs) (result_at (map found_result rs)) 0 (take n (map (λ x. kept_definition (f x)) xs)) (map found_result rs)
+    → AreRendered (take n (map f xs)) rs → faults ≡ faults_found (take n (map f xs)) rs → AreChecked (map f xs) rs faults
+checked_all f xs n rs faults end are rendered count =
     let ds = map (λ x. kept_definition (f x)) xs in
     let l = length-map xs f in
     let m = length-map xs (λ x. kept_definition (f x)) in
@@ -190,7 +187,7 @@ checked_all f xs n checks end are rendered faults =
     record {
       results = subst (λ l. AreResults l (map found_result rs)) (sym same) (subst (λ l. AreResultsFrom ds (result_at (map found_result rs)) 0 l (map found_result rs)) whole are);
       rendered = subst (λ l. AreRendered l rs) all rendered;
-      faults = faults ∙ ap (λ l. faults_found l rs) all;
+      count = count ∙ ap (λ l. faults_found l rs) all;
     }
 
 -- all of them are counted
@@ -209,19 +206,3 @@ pieces_stay d had new (f ∷ fs) has is made right = ap (λ n. pieces_behind had
     none : (b : Bool) → cond b None (option_map pieces_of (sound (Some d) (f ∷ fs))) ≡ None
     none true = refl
     none false = refl
-
--- ---- counts
-
--- checks count nothing else
-counted_same : (counts : Counts) (ds : List (Option Definition)) → ((counted counts ds).lexed ≡ counts.lexed) × ((counted counts ds).parsed ≡ counts.parsed)
-counted_same counts [] = (refl, refl)
-counted_same counts (None ∷ ds) = counted_same counts ds
-counted_same counts (Some d ∷ ds) = let h = counted_same (record counts { checked = raised counts.checked 1 }) ds in (h.0, h.1)
-
-pub lexed_same : (r : Result Checks NoMemory) (old new : Counts) (ds : List (Option Definition)) → IfOk r (λ checks. new ≡ counted old ds) → IfOk r (λ checks. new.lexed ≡ old.lexed)
-lexed_same (Ok checks) old new ds h = let s = counted_same old ds in ap (λ (c : Counts). c.lexed) h ∙ s.0
-lexed_same (Err fault) old new ds h = tt
-
-pub parsed_same : (r : Result Checks NoMemory) (old new : Counts) (ds : List (Option Definition)) → IfOk r (λ checks. new ≡ counted old ds) → IfOk r (λ checks. new.parsed ≡ old.parsed)
-parsed_same (Ok checks) old new ds h = let s = counted_same old ds in ap (λ (c : Counts). c.parsed) h ∙ s.1
-parsed_same (Err fault) old new ds h = tt

@@ -1,5 +1,5 @@
 -- What compiling gives, by what the program keeps of it.
-use Rattle.std.proofs.Common.{◌≡◌, ℕ, true, suc, ◌+◌, List, [], ◌∷◌, map, length, take, drop, refl, sym, ap, subst, ◌∙◌}
+use Rattle.std.proofs.Common.{◌≡◌, ℕ, true, suc, ◌+◌, List, [], ◌∷◌, Option, map, length, take, drop, refl, sym, ap, subst, ◌∙◌}
 use Rattle.std.specs.Prelude.{slice_get, option_and_then}
 use Rattle.x_lex.specs.declared.kind.Kind.{Kind}
 use Rattle.x_lex.specs.Places.{Lexeme, lexemes_from, lexemes}
@@ -10,6 +10,7 @@ use Rattle.x_item.specs.Items.{AreItems, joined, IsCut}
 use Rattle.x_item.proofs.ParseLaws.{one_parse}
 use Rattle.x_item.proofs.CuttingLemmas.{same_cut}
 use Rattle.x_sema.specs.Results.{AreResults}
+use Rattle.x_uses.specs.Occurrences.{UseTable}
 use Rattle.x_sema.proofs.ResultLaws.{one_results}
 use Rattle.x_item.specs.declared.cutting.entry.Entry.{Entry}
 use Rattle.x_session.specs.KeptView.{AreEach, AreParsed, entry_definitions, entry_results, found_result, items_with}
@@ -79,7 +80,7 @@ compiles text tokens entries are cut results =
     }
 
 -- what is kept of a text is its compilation
-pub compilation : {text : List ℕ} {tokens : List (Kind × ℕ)} {entries : List (Entry Kept)} {faults : ℕ} → IsKept text tokens entries faults → IsCompilation text tokens (items_of text tokens entries)
+pub compilation : {text : List ℕ} {tokens : List (Kind × ℕ)} {entries : List (Entry Kept)} {faults : ℕ} {uses : Option UseTable} → IsKept text tokens entries faults uses → IsCompilation text tokens (items_of text tokens entries)
 compilation {text} {tokens} {entries} h = compiles text tokens entries h.are_tokens h.parsed h.are_results
 
 -- lists of as many elements each, joined to one list, are the same

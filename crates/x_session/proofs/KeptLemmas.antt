@@ -2,7 +2,7 @@
 use Rattle.std.proofs.Common.{◌≡◌, ℕ, zero, suc, ◌+◌, List, [], ◌∷◌, ◌++◌, length, map, take, drop, Option, None, Some, refl, sym, ap, subst, ◌∙◌, arith}
 use Rattle.std.specs.Borrow.{Bor}
 use Rattle.std.specs.Global.{Box}
-use Rattle.std.specs.Prelude.{option_map, All}
+use Rattle.std.specs.Prelude.{option_map, All, IfSome}
 use Rattle.std.proofs.lemmas.List.Elements.{All-append, All-nil, All-cons, All-head, All-tail}
 use Rattle.std.proofs.lemmas.List.{length-map, length-append}
 use Rattle.x_lex.specs.declared.kind.Kind.{Kind}
@@ -15,10 +15,12 @@ use Rattle.x_item.specs.Tree.{Definition}
 use Rattle.x_item.specs.Parse.{Parse, Nothing, Def, Fault, IsParse}
 use Rattle.x_item.specs.declared.cutting.entry.Entry.{Entry}
 use Rattle.x_sema.specs.Results.{Outcome, AreResultsFrom, AreResults, IsResult, result_at}
+use Rattle.x_sema.specs.Declarers.{AreShort}
 use Rattle.x_sema.specs.Rules.{Ascends}
 use Rattle.x_sema.specs.declared.fault.WordFault.{WordFault}
 use Rattle.x_gen.specs.Pieces.{Pieces}
 use Rattle.x_gen.specs.Rendering.{pieces_of}
+use Rattle.x_uses.specs.Occurrences.{IsUsesOf, UseTable}
 use Rattle.x_session.specs.Checking.{AreChecked, AreKnown, AreRendered, IsMade, IsSound, kept_definitions, sound, sound_pieces}
 use Rattle.x_session.specs.Compile.{IsCompilation, definitions_of, faults_at, faults_from, item_faults, parsed_definition, placed, rule_faults, token_faults}
 use Rattle.x_session.specs.Counting.{faults_found, faults_with}
@@ -27,7 +29,6 @@ use Rattle.x_session.specs.Generated.{faultless, part_of}
 use Rattle.x_session.specs.KeptView.{AreAlong, AreEach, AreParsed, AreWith, IsItem, entry_definitions, entry_results, found_pieces, found_result}
 use Rattle.x_session.specs.KeptView.{item_with, items_with, kept_definition, kept_found, kept_parse, kept_part}
 use Rattle.x_session.specs.SessionState.{IsKept, items_of}
-use Rattle.x_session.specs.declared.compile.checking.Checks.{Checks}
 use Rattle.x_session.specs.declared.compile.kept.Found.{Found}
 use Rattle.x_session.specs.declared.compile.kept.Kept.{Kept}
 use Rattle.x_session.proofs.Compiled.{results-items}
@@ -52,8 +53,8 @@ known_from definitions results n (k ∷ ks) [] are = absurd are
 known_from definitions results n (k ∷ ks) (r ∷ rs) are =
     (λ none. none_found r (known_one definitions results n (kept_definition k) (found_result r) are.0 none), known_from definitions results (suc n) ks rs are.1)
 
-pub are_known : (ks : List Kept) (checks : Checks) → AreChecked ks checks → AreKnown ks checks.results.items
-are_known ks checks h = known_from (kept_definitions ks) (result_at (map found_result checks.results.items)) 0 ks checks.results.items h.results
+pub are_known : (ks : List Kept) (rs : List (Option (Box Found))) (faults : ℕ) → AreChecked ks rs faults → AreKnown ks rs
+are_known ks rs faults h = known_from (kept_definitions ks) (result_at (map found_result rs)) 0 ks rs h.results
 
 -- the definitions by what is kept
 pub definitions_kept : (es : List (Entry Kept)) → kept_definitions (items.kept es) ≡ entry_definitions es
@@ -145,7 +146,7 @@ parts_along (e ∷ es) tokens along sound =
     λ i. record { lines = lines i; pieces = pieces i } ∷ others i
 
 -- what is generated of the items of a text
-pub parts_kept : {text : List ℕ} {tokens : List (Kind × ℕ)} {entries : List (Entry Kept)} {faults : ℕ} → IsKept text tokens entries faults
+pub parts_kept : {text : List ℕ} {tokens : List (Kind × ℕ)} {entries : List (Entry Kept)} {faults : ℕ} {uses : Option UseTable} → IsKept text tokens entries faults uses
     → map (λ e. kept_part e.kept) entries ≡ map part_of (items_of text tokens entries)
 parts_kept {text} {tokens} {entries} h = parts_along entries (lexemes text tokens) (along_each h.parsed.parts entries (lexemes text tokens) h.parsed.are.all h.parsed.each) h.sound
 
@@ -210,7 +211,7 @@ many_faults tokens others Nothing fs = length-map fs _ ∙ sym (length-map fs _)
 many_faults tokens others (Def d) fs = length-map fs _ ∙ sym (length-map fs _)
 many_faults tokens others (Fault token code) fs = refl
 
-count_found : (text : List ℕ) (n : ℕ) (tokens : List Lexeme) (es : List (Entry Kept)) (rs : List (Option (Box Found))) (fs : List (Entry Kept)) → AreWith es rs fs
+pub count_found : (text : List ℕ) (n : ℕ) (tokens : List Lexeme) (es : List (Entry Kept)) (rs : List (Option (Box Found))) (fs : List (Entry Kept)) → AreWith es rs fs
     → faults_found (items.kept es) rs ≡ length (faults_from text n (items_with tokens fs))
 count_found text n tokens [] [] [] with = refl
 count_found text n tokens (e ∷ es) (r ∷ rs) (f ∷ fs) with =
@@ -228,10 +229,9 @@ count_found text n tokens (e ∷ es) [] fs with = absurd with
 count_found text n tokens (e ∷ es) (r ∷ rs) [] with = absurd with
 
 -- all that is kept of a text, once what was found of its items is kept with them
-pub kept_is : (text : List ℕ) (tokens : List (Kind × ℕ)) (es : List (Entry Kept)) (checks : Checks) (fs : List (Entry Kept)) → AreTokens text tokens → AreParsed (lexemes text tokens) es → AreOfText (counts es)
-    → AreChecked (items.kept es) checks → AreWith es checks.results.items fs → IsKept text tokens fs checks.faults
-kept_is text tokens es checks fs are parsed of_text checked with =
-    let rs = checks.results.items in
+pub kept_is : (text : List ℕ) (tokens : List (Kind × ℕ)) (es : List (Entry Kept)) (rs : List (Option (Box Found))) (count : ℕ) (fs : List (Entry Kept)) (uses : Option UseTable) → AreTokens text tokens
+    → AreParsed (lexemes text tokens) es → AreShort (entry_definitions es) → AreOfText (counts es) → AreChecked (items.kept es) rs count → AreWith es rs fs → IfSome uses (IsUsesOf (entry_definitions es)) → IsKept text tokens fs count uses
+kept_is text tokens es rs count fs uses are parsed short of_text checked with used =
     let all = lexemes text tokens in
     let few = of_text.few in
     let counted = length-map es (λ e. e.tokens) in
@@ -241,11 +241,13 @@ kept_is text tokens es checks fs are parsed of_text checked with =
     record {
       are_tokens = are;
       parsed = parsed_with all es rs fs with parsed;
+      short = subst AreShort (sym (definitions_with es rs fs with)) short;
       are_results = subst (λ os. AreResults (entry_definitions fs) os) (sym (results_with es rs fs with))
           (subst (λ ds. AreResults ds (map found_result rs)) (sym definitions) checked.results);
       sound = sound_with es rs fs with checked.rendered;
       few = omega (arith, few, counted, same, parts);
-      count_is = checked.faults ∙ count_found text 0 all es rs fs with;
+      count_is = checked.count ∙ count_found text 0 all es rs fs with;
+      uses_are = subst (λ ds. IfSome uses (IsUsesOf ds)) (sym (definitions_with es rs fs with)) used;
     }
 
 -- ---- the faults that were found come in order

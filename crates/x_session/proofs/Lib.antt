@@ -2,6 +2,7 @@ pub mod AlongLemmas
 pub mod CheckingLemmas
 pub mod CommandLemmas
 pub mod Compiled
+pub mod CountingLemmas
 pub mod DefinitionLemmas
 pub mod DumpLines
 pub mod EditLists
@@ -14,12 +15,15 @@ pub mod KeptLemmas
 pub mod LineLemmas
 pub mod LookLemmas
 pub mod Parting
+pub mod PlannedLemmas
 pub mod QueueLemmas
 pub mod ReadingLemmas
 pub mod Running
 pub mod Scripts
 pub mod SearchLemmas
 pub mod ShowingLemmas
+pub mod StaleLemmas
+pub mod TableLemmas
 pub mod TypedLemmas
 pub mod WalkLemmas
 pub mod WorkLemmas

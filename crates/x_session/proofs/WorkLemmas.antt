@@ -1,34 +1,47 @@
 -- What work edits took.
-use Rattle.std.proofs.Common.{◌≡◌, ℕ, ◌+◌, ◌<◌, ◌≤◌, ◌-◌, ◌^◌, List, [], ◌∷◌, ◌++◌, length, map, take, drop, refl, sym, ap, subst, ◌∙◌, arith, lit≤}
-use Rattle.std.specs.Prelude.{◌↔◌, option_map, sum_by}
+use Rattle.std.proofs.Common.{◌≡◌, ℕ, zero, suc, ◌+◌, ◌<◌, ◌≤◌, ◌-◌, ◌^◌, List, [], ◌∷◌, ◌++◌, Option, Some, length, map, take, drop, refl, sym, ap, subst, ◌∙◌, arith, lit≤}
+use Rattle.std.specs.Global.{Box}
+use Rattle.std.specs.Prelude.{◌↔◌, option_and_then, option_map, slice_get, sum_by}
+use Rattle.std.specs.List as Among
 use Rattle.std.specs.List.{splice}
-use Rattle.std.proofs.lemmas.List.{length-append, length-map}
+use Rattle.std.proofs.lemmas.List.{length-append, length-map, take-map, drop-map}
 use Rattle.std.proofs.lemmas.List.Sums.{sum_by-append}
 use Rattle.x_text.specs.Counts.{raised}
 use Rattle.x_text.specs.Edits.{Change, change_of, edited_by}
 use Rattle.x_text.specs.declared.edit.Edit.{Edit}
 use Rattle.x_text.specs.declared.source.TheConstants.{MAX_TEXT}
+use Rattle.x_text.proofs.ListLemmas.{map_append}
 use Rattle.x_lex.specs.declared.kind.Kind.{Kind}
 use Rattle.x_lex.specs.Places.{lexemes}
 use Rattle.x_lex.specs.Relex.{IsPatch, old_place}
 use Rattle.x_lex.specs.Tiling.{AreTokens}
 use Rattle.x_lex.specs.TokenList as tokens
 use Rattle.x_lex.specs.TokenList.{IsOfText, TokenPatch}
+use Rattle.x_item.specs.ItemList as items
 use Rattle.x_item.specs.ItemList.{AreOfText, ItemChange, counts, patched, tokens_before, tokens_in}
 use Rattle.x_item.specs.Items.{IsCut}
 use Rattle.x_item.specs.Recut.{EndsBefore, IsAmong, IsBehind, IsItemPatch, IsRecut, IsRejoining, start_of}
 use Rattle.x_item.specs.declared.cutting.entry.Entry.{Entry}
 use Rattle.x_item.proofs.CountLemmas.{counts-splice}
-use Rattle.x_session.specs.Following.{IsPlan}
-use Rattle.x_session.specs.KeptView.{AreParsed, AreWith}
+use Rattle.x_sema.specs.Results.{Outcome}
+use Rattle.x_sema.proofs.AmongLemmas.{among_first, among_more}
+use Rattle.x_uses.specs.Editing.{TextEdit, definitions_after}
+use Rattle.x_uses.specs.Occurrences.{UseTable}
+use Rattle.x_uses.specs.Staleness.{AreStale, Ascending}
+use Rattle.x_session.specs.Checking.{AreChecked}
+use Rattle.x_session.specs.Following.{AreUsed, IsPlan, behind, edit_of}
+use Rattle.x_session.specs.KeptView.{AreWith, entry_definitions, found_result, kept_definition}
 use Rattle.x_session.specs.Session.{Document, LeavesText}
-use Rattle.x_session.specs.SessionState.{IsKept}
-use Rattle.x_session.specs.Work.{AreWorks, IsWork, IsWorkOfAll}
+use Rattle.x_session.specs.SessionState.{IsKept, items_of}
+use Rattle.x_session.specs.Work.{AreStaleItems, AreWorks, IsWork, IsWorkOfAll, definitions_edit}
+use Rattle.x_session.specs.declared.compile.kept.Found.{Found}
 use Rattle.x_session.specs.declared.compile.kept.Kept.{Kept}
+use Rattle.x_session.specs.declared.compile.kept.Planned.{Planned}
 use Rattle.x_session.specs.declared.following.Plan.{Plan}
 use Rattle.x_session.specs.declared.session.work.Work.{Work}
 use Rattle.x_session.proofs.AlongLemmas.{cut_of}
-use Rattle.x_session.proofs.KeptLemmas.{kept_is}
+use Rattle.x_session.proofs.Compiled.{compilation, definitions-items, results-items}
+use Rattle.x_session.proofs.KeptLemmas.{definitions_with, kept_is, results_with}
 
 -- ---- what an edit does to items, whatever is kept with them
 
@@ -78,17 +91,70 @@ module _ {K L : Type 0} (change : Change) (ts us : List (Kind × ℕ)) (es : Lis
 
 -- ---- the work of an edit
 
-bare : Entry Kept → Entry (Unit {0})
+abbrev pub bare : Entry Kept → Entry (Unit {0})
 bare e = record { tokens = e.tokens; kept = tt }
 
 counts_bare : (es : List (Entry Kept)) → counts es ≡ counts (map bare es)
-unfolding bare
 counts_bare [] = refl
 counts_bare (e ∷ es) = ap (λ cs. e.tokens ∷ cs) (counts_bare es)
 
-pub work_of : (change : Change) (new : Document) (ts : List (Kind × ℕ)) (es : List (Entry Kept)) (p : TokenPatch) (ip : ItemChange Kept) (w : Work) → AreTokens change.old ts → IsPatch change ts p
-    → IsCut (lexemes change.old ts) (counts es) → IsItemPatch change ts (tokens.patched ts p) es ip → w.lexed ≡ length p.fresh → w.parsed ≡ length ip.fresh → new.token_seat ≡ p.at + length p.fresh → IsWork change new w
-work_of change new ts es p ip w are patch cut recut lexed parsed seat =
+-- the numbers that ascend below a bound are no more than it
+ascending_few : (low n : ℕ) (ks : List ℕ) → Ascending low ks → ((k : ℕ) → Among.IsAmong ks k → k < n) → low ≤ n → low + length ks ≤ n
+ascending_few low n [] up below le = omega (arith, le)
+ascending_few low n (k ∷ ks) up below le =
+    let here : k < n = below k (among_first k ks) in
+    let le_k = up.0 in
+    let rest = ascending_few (suc k) n ks up.1 (λ j is. below j (among_more k j ks is)) (omega (arith, here)) in
+    omega (arith, rest, le_k)
+
+some_within : {X : Type 0} (xs : List (Option X)) (k : ℕ) (x : X) → option_and_then (λ d. d) (slice_get xs k) ≡ Some x → k < length xs
+some_within [] k x is = absurd (cc)
+some_within (y ∷ xs) zero x is = omega arith
+some_within (y ∷ xs) (suc k) x is = let rest = some_within xs k x is in omega (arith, rest)
+
+-- no more items are stale than there are
+pub stale_few : (e : TextEdit) (after : List (Option Outcome)) (ks : List ℕ) → AreStale e after ks → length ks ≤ length (definitions_after e)
+stale_few e after ks h =
+    let few = ascending_few 0 (length (definitions_after e)) ks h.ascend (λ k is. let s = (h.each k).0 is in some_within (definitions_after e) k s.definition s.has) (omega arith) in
+    omega (arith, few)
+
+-- an edit of items is one of their definitions
+pub definitions_splice : (es : List (Entry Kept)) (p : ItemChange Kept) → entry_definitions (patched es p) ≡ splice (entry_definitions es) p.at (p.at + p.removed) (entry_definitions p.fresh)
+definitions_splice es p =
+    let f = λ (e : Entry Kept). kept_definition e.kept in
+    map_append f (take p.at es) (p.fresh ++ drop (p.at + p.removed) es)
+    ∙ ap (λ l. map f (take p.at es) ++ l) (map_append f p.fresh (drop (p.at + p.removed) es))
+    ∙ (λ i. (sym (take-map f p.at es)) i ++ (map f p.fresh ++ (sym (drop-map f (p.at + p.removed) es)) i))
+
+-- the items that an edit makes stale, by what is kept of both texts
+pub stale_items : (change : Change) (ts us : List (Kind × ℕ)) (es fs : List (Entry Kept)) (p : ItemChange Kept) (m n : ℕ) (v w : Option UseTable) (rs : List (Option (Box Found))) (ks : List ℕ)
+    → IsKept change.old ts es m v → IsKept (edited_by change) us fs n w → AreWith (patched es p) rs fs → AreStale (edit_of es p) (map found_result rs) ks
+    → AreStaleItems change ts us (record { at = p.at; removed = p.removed; start = p.start; fresh = map bare p.fresh }) ks
+stale_items change ts us es fs p m n v w rs ks old new with are =
+    let olds = items_of change.old ts es in
+    let news = items_of (edited_by change) us fs in
+    let recut : ItemChange (Unit {0}) = record { at = p.at; removed = p.removed; start = p.start; fresh = map bare p.fresh } in
+    let put = entry_definitions p.fresh in
+    let long : length p.fresh ≡ length recut.fresh = sym (length-map p.fresh bare) in
+    let ds = sym (definitions-items (lexemes change.old ts) es) in
+    let os = sym (results-items (lexemes change.old ts) es) in
+    let edit_is : edit_of es p ≡ definitions_edit olds recut put = λ i. record { old = ds i; outcomes = os i; place = record { at = p.at; removed = p.removed; added = long i }; put = put } in
+    let after : map found_result rs ≡ map (λ i. i.result) news = sym (results_with (patched es p) rs fs with) ∙ sym (results-items (lexemes (edited_by change) us) fs) in
+    record {
+      olds = olds;
+      are_olds = compilation old;
+      news = news;
+      are_news = compilation new;
+      put = put;
+      added = length-map p.fresh (λ e. kept_definition e.kept) ∙ long;
+      edited_is = ap definitions_after (sym edit_is) ∙ sym (definitions_splice es p) ∙ sym (definitions_with (patched es p) rs fs with) ∙ sym (definitions-items (lexemes (edited_by change) us) fs);
+      are = subst (λ a. AreStale (definitions_edit olds recut put) a ks) after (subst (λ e. AreStale e (map found_result rs) ks) edit_is are);
+    }
+
+pub work_of : (change : Change) (new : Document) (ts : List (Kind × ℕ)) (es : List (Entry Kept)) (p : TokenPatch) (ip : ItemChange Kept) (w : Work) (ks : List ℕ) → AreTokens change.old ts → IsPatch change ts p
+    → IsCut (lexemes change.old ts) (counts es) → IsItemPatch change ts (tokens.patched ts p) es ip → w.lexed ≡ length p.fresh → w.parsed ≡ length ip.fresh → w.checked ≡ length ks
+    → AreStaleItems change ts (tokens.patched ts p) (record { at = ip.at; removed = ip.removed; start = ip.start; fresh = map bare ip.fresh }) ks → new.token_seat ≡ p.at + length p.fresh → IsWork change new w
+work_of change new ts es p ip w ks are patch cut recut lexed parsed checked stale seat =
     let fresh : ItemChange (Unit {0}) = record { at = ip.at; removed = ip.removed; start = ip.start; fresh = map bare ip.fresh } in
     record {
       tokens = ts;
@@ -101,19 +167,25 @@ work_of change new ts es p ip w are patch cut recut lexed parsed seat =
       is_recut = same_patch change ts (tokens.patched ts p) es (map bare es) ip fresh (counts_bare es) refl refl refl (counts_bare ip.fresh) recut;
       lexed = lexed;
       parsed = parsed ∙ sym (length-map ip.fresh bare);
+      stale = ks;
+      are_stale = stale;
+      checked = checked;
       token_seat = seat;
     }
 
 -- ---- what an edit leaves that was planned
 
 -- all that is kept of the edited text
-pub kept_edited : (change : Change) (ts : List (Kind × ℕ)) (es : List (Entry Kept)) (p : Plan) (text : List ℕ) (us : List (Kind × ℕ)) (fs : List (Entry Kept)) (faults : ℕ) → IsPlan change ts es p → text ≡ edited_by change
-    → us ≡ tokens.patched ts p.tokens → AreOfText (counts (patched es p.items)) → AreWith (patched es p.items) p.checks.results.items fs → faults ≡ p.checks.faults → IsKept text us fs faults
-kept_edited change ts es p text us fs faults h edited same few with count =
-    subst (λ n. IsKept text us fs n) (sym count)
-    (subst (λ l. IsKept text l fs p.checks.faults) (sym same)
-    (subst (λ t. IsKept t (tokens.patched ts p.tokens) fs p.checks.faults) (sym edited)
-    (kept_is (edited_by change) (tokens.patched ts p.tokens) (patched es p.items) p.checks fs h.patch.tokens h.parsed few h.checked with)))
+pub kept_edited : (change : Change) (ts : List (Kind × ℕ)) (es : List (Entry Kept)) (p : Plan) (text : List ℕ) (us : List (Kind × ℕ)) (fs : List (Entry Kept)) (faults : ℕ) (uses : Option UseTable) → IsPlan change ts es p
+    → text ≡ edited_by change → us ≡ tokens.patched ts p.tokens → AreOfText (counts (patched es p.items)) → AreWith (patched es p.items) (behind es p.items p.found.items) fs → faults ≡ p.faults
+    → AreUsed (patched es p.items) uses → IsKept text us fs faults uses
+kept_edited change ts es p text us fs faults uses h edited same few with count used =
+    let rs = behind es p.items p.found.items in
+    let checked : AreChecked (items.kept (patched es p.items)) rs p.faults = record { results = h.checked.results; rendered = h.checked.rendered; count = h.count } in
+    subst (λ n. IsKept text us fs n uses) (sym count)
+    (subst (λ l. IsKept text l fs p.faults uses) (sym same)
+    (subst (λ t. IsKept t (tokens.patched ts p.tokens) fs p.faults uses) (sym edited)
+    (kept_is (edited_by change) (tokens.patched ts p.tokens) (patched es p.items) rs p.faults fs uses h.patch.tokens h.parsed h.short few checked with used)))
 
 most_items : MAX_TEXT + 1 ≤ 2 ^ 64 - 1
 most_items = lit≤ tt
@@ -126,17 +198,27 @@ fresh_few : {T : Type 0} (xs ys : List T) (i j : ℕ) → length ys ≤ length (
 fresh_few xs ys i j = let a = length-append (take i xs) (ys ++ drop j xs) in let b = length-append ys (drop j xs) in omega (arith, a, b)
 
 -- the work that it took
-pub work_edited : (change : Change) (new : Document) (ts : List (Kind × ℕ)) (es : List (Entry Kept)) (p : Plan) (w : Work) → IsPlan change ts es p → AreTokens change.old ts → AreParsed (lexemes change.old ts) es
-    → IsOfText (tokens.patched ts p.tokens) → AreOfText (counts (patched es p.items)) → w.lexed ≡ raised 0 (length p.tokens.fresh) → w.parsed ≡ raised 0 (length p.items.fresh) → new.token_seat ≡ p.tokens.at + length p.tokens.fresh
-    → IsWork change new w
-work_edited change new ts es p w h are parsed few few_items lexed counted seat =
+pub work_edited : (change : Change) (new : Document) (ts us : List (Kind × ℕ)) (es fs : List (Entry Kept)) (m n : ℕ) (u v : Option UseTable) (p : Plan) (w : Work) → IsPlan change ts es p → IsKept change.old ts es m u
+    → IsKept (edited_by change) us fs n v → us ≡ tokens.patched ts p.tokens → AreWith (patched es p.items) (behind es p.items p.found.items) fs → IsOfText (tokens.patched ts p.tokens) → AreOfText (counts (patched es p.items))
+    → w.lexed ≡ raised 0 (length p.tokens.fresh) → w.parsed ≡ raised 0 (length p.items.fresh) → w.checked ≡ raised 0 (length p.found.items) → new.token_seat ≡ p.tokens.at + length p.tokens.fresh → IsWork change new w
+work_edited change new ts us es fs m n u v p w h old made same with few few_items lexed counted checked seat =
     let f = fresh_few ts p.tokens.fresh p.tokens.at (p.tokens.at + p.tokens.removed) in
     let g = fresh_few es p.items.fresh p.items.at (p.items.at + p.items.removed) in
     let a = few.few in
     let b = few_items.few in
     let l = length-map (patched es p.items) tokens_in in
-    work_of change new ts es p.tokens p.items w are h.patch (cut_of (lexemes change.old ts) es parsed) h.recut
-    (counted_few w.lexed (length p.tokens.fresh) lexed (omega (arith, f, a))) (counted_few w.parsed (length p.items.fresh) counted (omega (arith, g, b, l))) seat
+    let rs = behind es p.items p.found.items in
+    let ks = map (λ (q : Planned). q.item) p.found.items in
+    let stale = h.checked.stale in
+    let many = stale_few (edit_of es p.items) (map found_result rs) ks stale in
+    let long = ap length (definitions_splice es p.items) in
+    let all = length-map (patched es p.items) (λ e. kept_definition e.kept) in
+    let some = length-map p.found.items (λ (q : Planned). q.item) in
+    let once : w.checked ≡ length p.found.items = counted_few w.checked (length p.found.items) checked (omega (arith, many, long, all, some, b, l)) in
+    work_of change new ts es p.tokens p.items w ks old.are_tokens h.patch (cut_of (lexemes change.old ts) es old.parsed) h.recut
+    (counted_few w.lexed (length p.tokens.fresh) lexed (omega (arith, f, a))) (counted_few w.parsed (length p.items.fresh) counted (omega (arith, g, b, l))) (once ∙ sym some)
+    (subst (λ l. AreStaleItems change ts l (record { at = p.items.at; removed = p.items.removed; start = p.items.start; fresh = map bare p.items.fresh }) ks) same
+    (stale_items change ts us es fs p.items m n u v rs ks old made with stale)) seat
 
 -- ---- the work of one edit after another
 
@@ -156,13 +238,13 @@ more_of f ws w total next is more =
     omega (arith, s, one, is, more)
 
 pub worked_none : (old : Document) (total : Work) → total ≡ record { lexed = 0; parsed = 0; checked = 0; moved = 0 } → IsWorkOfAll old [] old total
-worked_none old total zero = record {
+worked_none old total none = record {
   works = [];
   are_works = refl;
-  lexed = ap (λ w. w.lexed) zero;
-  parsed = ap (λ w. w.parsed) zero;
-  checked = ap (λ w. w.checked) zero;
-  moved = ap (λ w. w.moved) zero;
+  lexed = ap (λ w. w.lexed) none;
+  parsed = ap (λ w. w.parsed) none;
+  checked = ap (λ w. w.checked) none;
+  moved = ap (λ w. w.moved) none;
 }
 
 pub worked_more : (old mid next : Document) (es : List Edit) (e : Edit) (total new w : Work) → IsWorkOfAll old es mid total → LeavesText mid next (edited_by (change_of mid.text e)) → IsWork (change_of mid.text e) next w

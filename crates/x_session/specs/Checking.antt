@@ -14,7 +14,6 @@ use Rattle.x_gen.specs.Rendering.{pieces_of}
 use Rattle.x_session.specs.Compile.{rule_faults}
 use Rattle.x_session.specs.Counting.{faults_found}
 use Rattle.x_session.specs.KeptView.{found_pieces, found_result, kept_definition, kept_found, renewed_pieces}
-use Rattle.x_session.specs.declared.compile.checking.Checks.{Checks}
 use Rattle.x_session.specs.declared.compile.kept.Found.{Found}
 use Rattle.x_session.specs.declared.compile.kept.Kept.{Kept}
 
@@ -74,8 +73,8 @@ AreKnown ks rs = ⊥
 abbrev pub IsKnownAt : List Kept → ℕ → Option (Box Found) → Type 0
 IsKnownAt ks index r = (k : Kept) → slice_get ks index ≡ Some k → kept_definition k ≡ None → r ≡ None
 
--- this is what checking these items gives
-pub record AreChecked (ks : List Kept) (checks : Checks) : Type 0 where
-  pub results : AreResults (kept_definitions ks) (map found_result checks.results.items)
-  pub rendered : AreRendered ks checks.results.items
-  pub faults : checks.faults ≡ faults_found ks checks.results.items
+-- this is what checking these items gives, and so many faults
+pub record AreChecked (ks : List Kept) (rs : List (Option (Box Found))) (faults : ℕ) : Type 0 where
+  pub results : AreResults (kept_definitions ks) (map found_result rs)
+  pub rendered : AreRendered ks rs
+  pub count : faults ≡ faults_found ks rs

@@ -1,8 +1,9 @@
 -- How many faults items have, by what the program keeps of them.
-use Rattle.std.specs.Prelude.{ℕ, ◌+◌, List, [], ◌∷◌, length, Option}
+use Rattle.std.specs.Prelude.{ℕ, ◌+◌, List, [], ◌∷◌, length, None, Option, Some}
 use Rattle.std.specs.Global.{Box}
 use Rattle.x_session.specs.Compile.{faults_at, rule_faults}
-use Rattle.x_session.specs.KeptView.{found_result, kept_parse}
+use Rattle.x_session.specs.KeptView.{found_result, kept_found, kept_parse}
+use Rattle.x_item.specs.declared.cutting.entry.Entry.{Entry}
 use Rattle.x_session.specs.declared.compile.kept.Found.{Found}
 use Rattle.x_session.specs.declared.compile.kept.Kept.{Kept}
 
@@ -13,3 +14,13 @@ faults_with k r = length (faults_at [] (kept_parse k) (rule_faults (found_result
 abbrev pub faults_found : List Kept → List (Option (Box Found)) → ℕ
 faults_found (k ∷ ks) (r ∷ rs) = faults_with k r + faults_found ks rs
 faults_found ks rs = 0
+
+-- how many items have by what is kept with each
+abbrev pub own_faults : List Kept → ℕ
+own_faults [] = 0
+own_faults (k ∷ ks) = faults_with k (kept_found k) + own_faults ks
+
+-- how many an item has, if there is one
+abbrev pub entry_faults : Option (Entry Kept) → ℕ
+entry_faults None = 0
+entry_faults (Some e) = faults_with e.kept (kept_found e.kept)

@@ -1,7 +1,7 @@
 -- What an edit does to what a session keeps of its text.
-use Rattle.std.specs.Prelude.{◌≡◌, ℕ, ◌+◌, ◌≤◌, List, All}
+use Rattle.std.specs.Prelude.{◌≡◌, ℕ, ◌+◌, ◌≤◌, List, All, IfSome, Option, Some, drop, length, map, take}
+use Rattle.std.specs.Global.{Box}
 use Rattle.x_text.specs.Edits.{Change, edited_by, LiesWithin}
-use Rattle.x_text.specs.Seqs.{Gapped}
 use Rattle.x_lex.specs.declared.kind.Kind.{Kind}
 use Rattle.x_lex.specs.Places.{lexemes}
 use Rattle.x_lex.specs.Relex.{IsPatch}
@@ -9,22 +9,45 @@ use Rattle.x_lex.specs.Tiling.{AreTokens, end_of}
 use Rattle.x_lex.specs.TokenList.{TokenList, TokenPatch}
 use Rattle.x_lex.specs.TokenList as tokens
 use Rattle.x_item.specs.ItemList as items
-use Rattle.x_item.specs.ItemList.{AreOfText, counts}
+use Rattle.x_item.specs.ItemList.{AreOfText, ItemChange, counts}
 use Rattle.x_item.specs.Recut.{IsRelexed, IsItemPatch}
 use Rattle.x_item.specs.declared.cutting.entry.Entry.{Entry}
-use Rattle.x_session.specs.Checking.{AreChecked, AreKnown, IsSound}
-use Rattle.x_session.specs.KeptView.{AreParsed}
+use Rattle.x_sema.specs.Declarers.{AreShort}
+use Rattle.x_sema.specs.Results.{AreResults}
+use Rattle.x_uses.specs.Editing.{TextEdit}
+use Rattle.x_uses.specs.Occurrences.{HasRoomFor, IsUsesOf, UseTable}
+use Rattle.x_uses.specs.Staleness.{AreStale}
+use Rattle.x_session.specs.Checking.{AreRendered, IsSound, kept_definitions}
+use Rattle.x_session.specs.Counting.{faults_found, own_faults}
+use Rattle.x_session.specs.KeptView.{AreParsed, entry_definitions, entry_results, found_result}
+use Rattle.x_session.specs.Planned.{ArePlanned, overlaid}
+use Rattle.x_session.specs.declared.compile.item_table.ItemTable.{ItemTable}
+use Rattle.x_session.specs.declared.compile.kept.Found.{Found}
 use Rattle.x_session.specs.declared.compile.kept.Kept.{Kept}
+use Rattle.x_session.specs.declared.compile.kept.Planned.{Planned}
 use Rattle.x_session.specs.declared.following.Plan.{Plan}
+use Rattle.x_session.specs.declared.following.naming.NameChange.{NameChange}
 
--- the change makes `new` of a text that has these tokens and items
-pub record IsToFollow (change : Change) (new : List ℕ) (ts : List (Kind × ℕ)) (es : List (Entry Kept))
-    : Type 0 where
+-- the table of names, where there is one, is that of the items
+abbrev pub AreUsed : List (Entry Kept) → Option UseTable → Type 0
+AreUsed es uses = IfSome uses (IsUsesOf (entry_definitions es))
+
+-- What checking each item gives is kept with it, what is generated of it, how many faults all have, and the table
+-- of names where there is one.
+pub record IsCheckedTable (t : ItemTable) : Type 0 where
+  pub short : AreShort (entry_definitions t.entries.list)
+  pub results : AreResults (entry_definitions t.entries.list) (entry_results t.entries.list)
+  pub sound : All (λ e. IsSound e.kept) t.entries.list
+  pub count : t.faults ≡ own_faults (items.kept t.entries.list)
+  pub uses : AreUsed t.entries.list t.uses
+
+-- the change makes `new` of a text that has these tokens and items, with all that is kept of them
+pub record IsToFollow (change : Change) (new : List ℕ) (ts : List (Kind × ℕ)) (t : ItemTable) : Type 0 where
   pub within : LiesWithin change
   pub edited : new ≡ edited_by change
   pub are_tokens : AreTokens change.old ts
-  pub parsed : AreParsed (lexemes change.old ts) es
-  pub sound : All (λ e. IsSound e.kept) es
+  pub parsed : AreParsed (lexemes change.old ts) t.entries.list
+  pub checked : IsCheckedTable t
 
 -- Some change makes `new` of a text that has these tokens and items, and does this to the tokens: those that
 -- stay behind the patch stand behind the bytes that the change takes out.
@@ -35,20 +58,58 @@ pub record AreFollowed (new : List ℕ) (ts : List (Kind × ℕ)) (es : List (En
   pub parsed : AreParsed (lexemes change.old ts) es
   pub behind : change.end ≤ end_of ts (patch.at + patch.removed)
 
--- The plan has what the change does to the tokens and items, what the fresh items parse to, and what checking
--- all items gives then.
+-- What becomes of the table of names: the names of the items that go, and of the fresh ones.
+pub record IsNameChange (es : List (Entry Kept)) (p : ItemChange Kept) (n : NameChange) : Type 0 where
+  pub at : n.place.at ≡ p.at
+  pub removed : n.place.removed ≡ p.removed
+  pub added : n.place.added ≡ length p.fresh
+  pub gone : IsUsesOf (take p.removed (drop p.at (entry_definitions es))) n.gone
+  pub fresh : IsUsesOf (entry_definitions p.fresh) n.fresh
+
+-- there is a table, and it has room for the change
+pub record HasRoomForNames (uses : Option UseTable) (n : NameChange) : Type 0 where
+  pub table : UseTable
+  pub is : uses ≡ Some table
+  pub room : HasRoomFor table n.fresh
+
+-- the edit of the items, which the patch makes, as an edit of their definitions
+abbrev pub edit_of : List (Entry Kept) → ItemChange Kept → TextEdit
+edit_of es p = record {
+  old = entry_definitions es;
+  outcomes = entry_results es;
+  place = record { at = p.at; removed = p.removed; added = length p.fresh };
+  put = entry_definitions p.fresh;
+}
+
+-- what will be kept of the items that the patch leaves
+abbrev pub behind : List (Entry Kept) → ItemChange Kept → List Planned → List (Option (Box Found))
+behind es p ps = overlaid 0 (items.kept (items.patched es p)) ps
+
+-- Each stale item is planned, and no other; with what it has then, each item has what checking it gives.
+pub record AreStaleChecked (es : List (Entry Kept)) (p : ItemChange Kept) (ps : List Planned) : Type 0 where
+  pub planned : ArePlanned (items.kept (items.patched es p)) ps
+  pub results : AreResults (kept_definitions (items.kept (items.patched es p))) (map found_result (behind es p ps))
+  pub rendered : AreRendered (items.kept (items.patched es p)) (behind es p ps)
+  pub stale : AreStale (edit_of es p) (map found_result (behind es p ps)) (map (λ f. f.item) ps)
+
+-- The plan has what the change does to the tokens and items, what the fresh items parse to, and what checking the
+-- stale items gives then.
 pub record IsPlan (change : Change) (ts : List (Kind × ℕ)) (es : List (Entry Kept)) (p : Plan) : Type 0 where
   pub patch : IsPatch change ts p.tokens
   pub recut : IsItemPatch change ts (tokens.patched ts p.tokens) es p.items
   pub parsed : AreParsed (lexemes (edited_by change) (tokens.patched ts p.tokens)) (items.patched es p.items)
-  pub checked : AreChecked (items.kept (items.patched es p.items)) p.checks
+  pub short : AreShort (entry_definitions (items.patched es p.items))
+  pub checked : AreStaleChecked es p.items p.found.items
+  pub count : p.faults ≡ faults_found (items.kept (items.patched es p.items)) (behind es p.items p.found.items)
 
 -- the plan fits these tokens and items, and there is room for it
-pub record CanCarryOut (ts : TokenList) (es : Gapped (Entry Kept)) (p : Plan) : Type 0 where
+pub record CanCarryOut (ts : TokenList) (t : ItemTable) (p : Plan) : Type 0 where
   pub tokens_among : tokens.LiesAmong ts.list p.tokens
   pub token_room : tokens.HasRoom ts p.tokens
   pub tokens_of_text : tokens.IsOfText (tokens.patched ts.list p.tokens)
-  pub items_among : items.LiesAmong es.list p.items
-  pub item_room : items.HasRoom es p.items
-  pub items_of_text : AreOfText (counts (items.patched es.list p.items))
-  pub known : AreKnown (items.kept (items.patched es.list p.items)) p.checks.results.items
+  pub items_among : items.LiesAmong t.entries.list p.items
+  pub item_room : items.HasRoom t.entries p.items
+  pub items_of_text : AreOfText (counts (items.patched t.entries.list p.items))
+  pub planned : ArePlanned (items.kept (items.patched t.entries.list p.items)) p.found.items
+  pub names : IsNameChange t.entries.list p.items p.names
+  pub name_room : HasRoomForNames t.uses p.names

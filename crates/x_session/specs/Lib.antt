@@ -12,6 +12,8 @@ pub mod ItemReading
 pub mod KeptView
 pub mod LineAnswers
 pub mod Lines
+pub mod Planned
+pub mod Rendered
 pub mod Script
 pub mod Session
 pub mod SessionState

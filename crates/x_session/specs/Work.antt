@@ -1,5 +1,5 @@
 -- What work an edit takes, by both texts: each is compiled from its start, and then they are compared.
-use Rattle.std.specs.Prelude.{◌≡◌, ℕ, ◌+◌, List, [], ◌∷◌, length, sum_by}
+use Rattle.std.specs.Prelude.{◌≡◌, ℕ, ◌+◌, List, [], ◌∷◌, Option, length, map, sum_by}
 use Rattle.x_text.specs.Counts.{raised}
 use Rattle.x_text.specs.Edits.{Change, change_of, edited_by}
 use Rattle.x_text.specs.declared.edit.Edit.{Edit}
@@ -11,12 +11,38 @@ use Rattle.x_lex.specs.TokenList.{TokenPatch, patched}
 use Rattle.x_item.specs.ItemList.{ItemChange, counts}
 use Rattle.x_item.specs.Items.{IsCut}
 use Rattle.x_item.specs.Recut.{IsItemPatch}
+use Rattle.x_item.specs.Tree.{Definition}
 use Rattle.x_item.specs.declared.cutting.entry.Entry.{Entry}
+use Rattle.x_uses.specs.Editing.{TextEdit, definitions_after}
+use Rattle.x_uses.specs.Staleness.{AreStale}
+use Rattle.x_session.specs.Compile.{Item, IsCompilation, definitions_of}
 use Rattle.x_session.specs.Session.{Document, LeavesText}
 use Rattle.x_session.specs.declared.session.work.Work.{Work}
 
--- The change took this work: as many tokens were lexed as are fresh, and as many items parsed as are recut.
--- The tokens' seat is behind the fresh ones then.
+-- What an edit does to the items of a text, of which it recuts these, as an edit of their definitions.
+abbrev pub definitions_edit : List Item → ItemChange (Unit {0}) → List (Option Definition) → TextEdit
+definitions_edit olds recut put = record {
+  old = definitions_of olds;
+  outcomes = map (λ i. i.result) olds;
+  place = record { at = recut.at; removed = recut.removed; added = length recut.fresh };
+  put = put;
+}
+
+-- These are the numbers of the items that the change makes stale: both texts are compiled from their starts, and an
+-- item with a definition is stale if it is recut, or if it sees a name that it declares or uses otherwise than before.
+pub record AreStaleItems (change : Change) (ts us : List (Kind × ℕ)) (recut : ItemChange (Unit {0})) (stale : List ℕ)
+    : Type 0 where
+  pub olds : List Item
+  pub are_olds : IsCompilation change.old ts olds
+  pub news : List Item
+  pub are_news : IsCompilation (edited_by change) us news
+  pub put : List (Option Definition)
+  pub added : length put ≡ length recut.fresh
+  pub edited_is : definitions_after (definitions_edit olds recut put) ≡ definitions_of news
+  pub are : AreStale (definitions_edit olds recut put) (map (λ i. i.result) news) stale
+
+-- The change took this work: as many tokens were lexed as are fresh, as many items parsed as are recut, and as many
+-- checked as are stale. The tokens' seat is behind the fresh ones then.
 pub record IsWork (change : Change) (new : Document) (w : Work) : Type 0 where
   pub tokens : List (Kind × ℕ)
   pub are_tokens : AreTokens change.old tokens
@@ -28,6 +54,9 @@ pub record IsWork (change : Change) (new : Document) (w : Work) : Type 0 where
   pub is_recut : IsItemPatch change tokens (patched tokens patch) items recut
   pub lexed : w.lexed ≡ length patch.fresh
   pub parsed : w.parsed ≡ length recut.fresh
+  pub stale : List ℕ
+  pub are_stale : AreStaleItems change tokens (patched tokens patch) recut stale
+  pub checked : w.checked ≡ length stale
   pub token_seat : new.token_seat ≡ patch.at + length patch.fresh
 
 -- the edits took this work, one after another
@@ -40,7 +69,7 @@ AreWorks old (e ∷ es) (w ∷ ws) new =
     × IsWork (change_of old.text e) next w × AreWorks next es ws new
 
 -- The counts are the sums of those of the edits, each of which stays at the greatest number. What one edit
--- checks and moves is not said yet, so nothing is of all.
+-- moves is not said yet, so nothing is of all.
 pub record IsWorkOfAll (old : Document) (edits : List Edit) (new : Document) (total : Work) : Type 0 where
   pub works : List Work
   pub are_works : AreWorks old edits works new

@@ -11,12 +11,13 @@ mod kept;
 mod lines;
 mod parsing;
 
-pub use checking::{Checks, check_all};
+pub use checking::{new_pieces, sum_of};
+use checking::{Checks, check_all};
 pub use fault::{Fault, FaultCode};
 pub(crate) use item_table::ItemTable;
 pub use keeping::keep_in_place;
 use keeping::keep_results;
-pub(crate) use kept::{Kept, Told};
+pub(crate) use kept::{Found, Kept, Planned, Told};
 use parsing::parse_items;
 use std::alloc::Global;
 use x_item::Entry;
@@ -28,13 +29,12 @@ use x_text::{Meter, NoMemory, Source};
 pub struct Compilation {
     pub tokens: Tokens,
     pub items: ItemTable,
-    /// How many faults the text has.
-    pub faults: usize,
 }
 
 /// Compiles a text from scratch. Tokens and items have their seats behind the last of them.
 pub fn compile(alloc: Global, source: &Source, meter: &mut Meter) -> Result<Compilation, NoMemory>
-    ensures kept { IfOk result (λ c. IsKept source.now c.tokens.list c.items.entries.list c.faults) }
+    ensures kept { IfOk result
+        (λ c. IsKept source.now c.tokens.list c.items.entries.list c.items.faults c.items.uses) }
     ensures token_seat { IfOk result (λ c. c.tokens.seat ≡ length c.tokens.list) }
     ensures item_seat { IfOk result (λ c. c.items.entries.seat ≡ length c.items.entries.list) }
 {
@@ -42,12 +42,8 @@ pub fn compile(alloc: Global, source: &Source, meter: &mut Meter) -> Result<Comp
     let mut entries = parse_items(alloc, &tokens, source, meter)?;
     let Checks { results, faults } = check_all(alloc, &kept_of(alloc, &entries)?, meter)?;
     keep_results(&mut entries, results);
-    let items = ItemTable::of(alloc, entries)?;
-    Ok(Compilation {
-        tokens,
-        items,
-        faults,
-    })
+    let items = ItemTable::of(alloc, entries, faults)?;
+    Ok(Compilation { tokens, items })
 }
 
 /// What is kept with each item.

@@ -1,7 +1,7 @@
 //! What an edit does to all that is kept of a text: first it is planned, for which memory may be refused, and
 //! then it is carried out, which takes none.
 
-ghost use Rattle.std.specs.Prelude.{◌≡◌, ◌+◌, ◌≤◌, All, IfOk, map, length};
+ghost use Rattle.std.specs.Prelude.{◌≡◌, ◌+◌, ◌≤◌, All, IfOk, None, map, length};
 ghost use Rattle.x_text.specs.Counts.{raised};
 ghost use Rattle.x_text.specs.Edits.{Change, change_of, edited_by, LiesWithin};
 ghost use Rattle.x_lex.specs.Places.{lexemes};
@@ -10,15 +10,20 @@ ghost use Rattle.x_lex.specs.Tiling.{AreTokens, end_of};
 ghost use Rattle.x_lex.specs.TokenList as tokens_of;
 ghost use Rattle.x_item.specs.ItemList as items_of;
 ghost use Rattle.x_item.specs.Recut.{IsRelexed, IsItemPatch};
-ghost use Rattle.x_sema.specs.Declarers.{AreShort};
-ghost use Rattle.x_session.specs.Checking.{AreChecked, IsMade, kept_definitions};
-ghost use Rattle.x_session.specs.Following.{AreFollowed, CanCarryOut, IsPlan, IsToFollow};
+ghost use Rattle.x_session.specs.Following.{AreFollowed, AreUsed, CanCarryOut, IsPlan, IsToFollow};
 ghost use Rattle.x_session.specs.KeptView.{AreParsed, AreWith, kept_found};
+ghost use Rattle.x_session.specs.Planned.{overlaid};
 
+mod counting;
 mod fresh;
+mod naming;
+mod stale;
 
-use crate::compile::{Checks, Kept, check_all, keep_in_place};
+use crate::compile::{ItemTable, Kept, Planned, keep_in_place};
+use counting::faults_behind;
 use fresh::parse_fresh;
+use naming::{NameChange, change_names};
+use stale::check_stale_items;
 use std::alloc::Global;
 use x_item::{ItemPatch, Items, recut};
 use x_lex::{Patch, Tokens, relex};
@@ -31,41 +36,53 @@ pub struct Plan {
     pub tokens: Patch,
     /// What becomes of the items: each fresh one has what it parses to.
     pub items: ItemPatch<Kept>,
-    /// What checking finds of the items that there are then.
-    pub checks: Checks,
+    /// What becomes of the table of names.
+    pub names: NameChange,
+    /// What checking finds of the items that the edit makes stale, in their order.
+    pub found: Vec<Planned>,
+    /// How many faults the items have then.
+    pub faults: usize,
 }
 
 /// Plans the edit that makes `new` of the text `old`, whose tokens and items these are: they stay, but for
-/// the room that there is for more of them.
+/// the room that there is for more of them, and the table of names, which is made where there was none.
 pub fn plan_edit(
     alloc: Global,
     old: &Source,
     edit: &Edit,
     new: &Source,
     tokens: &mut Tokens,
-    items: &mut Items<Kept>,
+    items: &mut ItemTable,
     meter: &mut Meter,
 ) -> Result<Plan, NoMemory>
-    requires { IsToFollow (change_of old.now edit.now) new.now tokens.old.list items.old.list }
+    requires { IsToFollow (change_of old.now edit.now) new.now tokens.old.list items.old }
     ensures plan { IfOk result
-        (λ plan. IsPlan (change_of old.now edit.now) tokens.old.list items.old.list plan) }
+        (λ plan. IsPlan (change_of old.now edit.now) tokens.old.list items.old.entries.list plan) }
     ensures room { IfOk result (λ plan. CanCarryOut tokens.new items.new plan) }
     ensures tokens { tokens.new.list ≡ tokens.old.list }
     ensures token_seat { tokens.new.seat ≡ tokens.old.seat }
-    ensures items { items.new.list ≡ items.old.list }
-    ensures item_seat { items.new.seat ≡ items.old.seat }
+    ensures items { items.new.entries.list ≡ items.old.entries.list }
+    ensures item_seat { items.new.entries.seat ≡ items.old.entries.seat }
+    ensures faults { items.new.faults ≡ items.old.faults }
+    ensures uses { AreUsed items.new.entries.list items.new.uses }
     ensures lexed { IfOk result
         (λ plan. meter.new.lexed ≡ raised meter.old.lexed (length plan.tokens.fresh)) }
     ensures parsed { IfOk result
         (λ plan. meter.new.parsed ≡ raised meter.old.parsed (length plan.items.fresh)) }
+    ensures checked { IfOk result
+        (λ plan. meter.new.checked ≡ raised meter.old.checked (length plan.found.items)) }
 {
     let patch = next_tokens(alloc, old, edit, new, tokens, meter)?;
-    let fresh = next_items(alloc, tokens, &patch, new, items, meter)?;
-    let checks = checks_behind(alloc, items, &fresh, meter)?;
+    let fresh = next_items(alloc, tokens, &patch, new, &mut items.entries, meter)?;
+    let names = change_names(alloc, items, &fresh)?;
+    let found = check_stale_items(alloc, items, &fresh, &names, meter)?;
+    let faults = faults_behind(items, &fresh, &found)?;
     Ok(Plan {
         tokens: patch,
         items: fresh,
-        checks,
+        names,
+        found,
+        faults,
     })
 }
 
@@ -131,67 +148,33 @@ fn next_items(
     Ok(fresh)
 }
 
-/// What checking finds of the items that the patch will leave.
-fn checks_behind(
-    alloc: Global,
-    items: &Items<Kept>,
-    patch: &ItemPatch<Kept>,
-    meter: &mut Meter,
-) -> Result<Checks, NoMemory>
-    requires among { items_of.LiesAmong items.now.list patch.now }
-    requires short { AreShort (kept_definitions
-        (items_of.kept (items_of.patched items.now.list patch.now))) }
-    requires made { All IsMade (items_of.kept (items_of.patched items.now.list patch.now)) }
-    ensures checked { IfOk result
-        (λ checks. AreChecked (items_of.kept (items_of.patched items.now.list patch.now)) checks) }
-    ensures lexed { IfOk result (λ checks. meter.new.lexed ≡ meter.old.lexed) }
-    ensures parsed { IfOk result (λ checks. meter.new.parsed ≡ meter.old.parsed) }
-{
-    check_all(alloc, &kept_behind(alloc, items, patch)?, meter)
-}
-
-/// What is kept with each of the items that the patch will leave.
-fn kept_behind<'i>(
-    alloc: Global,
-    items: &'i Items<Kept>,
-    patch: &'i ItemPatch<Kept>,
-) -> Result<Vec<&'i Kept>, NoMemory>
-    requires { items_of.LiesAmong items.now.list patch.now }
-    ensures { IfOk result (λ kept. map (λ k. k.now) kept.items
-        ≡ items_of.kept (items_of.patched items.now.list patch.now)) }
-{
-    let mut kept = Vec::new(alloc);
-    kept.reserve(items.len())?;
-    for entry in items.iter_patched(patch) {
-        kept.push(&entry.kept)?;
-    }
-    Ok(kept)
-}
-
-/// Carries out what was planned, and answers how many faults the text has then. It takes no memory.
-pub fn carry_out(
-    plan: Plan,
-    tokens: &mut Tokens,
-    items: &mut Items<Kept>,
-    meter: &mut Meter,
-) -> usize
-    requires { CanCarryOut tokens.old items.old plan }
+/// Carries out what was planned. It takes no memory.
+pub fn carry_out(plan: Plan, tokens: &mut Tokens, items: &mut ItemTable, meter: &mut Meter)
+    requires room { CanCarryOut tokens.old items.old plan }
+    requires uses { AreUsed items.old.entries.list items.old.uses }
     ensures tokens { tokens.new.list ≡ tokens_of.patched tokens.old.list plan.tokens }
     ensures token_seat { tokens.new.seat ≡ plan.tokens.at + length plan.tokens.fresh }
-    ensures items { AreWith (items_of.patched items.old.list plan.items) plan.checks.results.items
-        items.new.list }
-    ensures faults { result ≡ plan.checks.faults }
+    ensures items { AreWith (items_of.patched items.old.entries.list plan.items)
+        (overlaid 0 (items_of.kept (items_of.patched items.old.entries.list plan.items)) plan.found.items)
+        items.new.entries.list }
+    ensures faults { items.new.faults ≡ plan.faults }
+    ensures uses { AreUsed (items_of.patched items.old.entries.list plan.items) items.new.uses }
     ensures lexed { meter.new.lexed ≡ meter.old.lexed }
     ensures parsed { meter.new.parsed ≡ meter.old.parsed }
+    ensures checked { meter.new.checked ≡ meter.old.checked }
 {
     let Plan {
         tokens: patch,
         items: fresh,
-        checks,
+        names,
+        found,
+        faults,
     } = plan;
-    let Checks { results, faults } = checks;
+    // A read of the count shows that it fits its type.
+    let _counted = items.entries.len();
+    names.carry_out(&mut items.uses);
     meter.add_moved(tokens.put(patch));
-    meter.add_moved(items.put(fresh));
-    meter.add_moved(keep_in_place(items, results));
-    faults
+    meter.add_moved(items.entries.put(fresh));
+    meter.add_moved(keep_in_place(&mut items.entries, found));
+    items.faults = faults;
 }

@@ -40,7 +40,6 @@ pub struct Session {
     texts: TextBuffers,
     tokens: Tokens,
     items: ItemTable,
-    fault_count: usize,
 }
 
 impl Model for Session {
@@ -56,7 +55,7 @@ impl Model for Session {
       item_seat = s.items.entries.seat;
     } };
 
-    ghost invariant = { λ s. IsKept s.texts.text s.tokens.list s.items.entries.list s.fault_count };
+    ghost invariant = { λ s. IsKept s.texts.text s.tokens.list s.items.entries.list s.items.faults s.items.uses };
 }
 
 impl Session {
@@ -88,18 +87,13 @@ impl Session {
     {
         let mut meter = Meter::new();
         let base = Vec::from_slice(alloc, base)?;
-        let Compilation {
-            tokens,
-            items,
-            faults,
-        } = compile(alloc, &source, &mut meter)?;
+        let Compilation { tokens, items } = compile(alloc, &source, &mut meter)?;
         Ok(Session {
             alloc,
             base,
             texts: TextBuffers::of(alloc, source),
             tokens,
             items,
-            fault_count: faults,
         })
     }
 
@@ -120,7 +114,7 @@ impl Session {
             edit,
             self.texts.ready(),
             &mut self.tokens,
-            &mut self.items.entries,
+            &mut self.items,
             &mut meter,
         );
         let plan = match planned {
@@ -128,7 +122,7 @@ impl Session {
             Err(NoMemory) => return Err(EditFault::NoMemory),
         };
         self.texts.turn();
-        self.fault_count = carry_out(plan, &mut self.tokens, &mut self.items.entries, &mut meter);
+        carry_out(plan, &mut self.tokens, &mut self.items, &mut meter);
         Ok(Work::of(&meter))
     }
 
@@ -207,7 +201,7 @@ impl Session {
     pub fn fault_count(&self) -> usize
         ensures { Compiles self.now.text (λ items. result ≡ length (faults_of self.now.text items)) }
     {
-        self.fault_count
+        self.items.faults
     }
 
     /// The fault at an index: faults stand in order of item, then of place, then of code.
@@ -230,7 +224,7 @@ impl Session {
     pub fn schema(&self) -> Result<Schema, SchemaFault>
         ensures { Compiles self.now.text (λ items. GivesSchema self.now.text items result) }
     {
-        if self.fault_count > 0 {
+        if self.items.faults > 0 {
             return Err(SchemaFault::Faulty);
         }
         match self.items.schema(self.alloc) {

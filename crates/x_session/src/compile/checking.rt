@@ -17,7 +17,7 @@ ghost use Rattle.x_session.specs.Checking.{sound_pieces, view_by_first};
 ghost use Rattle.x_session.specs.KeptView.{found_pieces, found_result};
 ghost use Rattle.x_session.specs.KeptView.{kept_definition, kept_found, renewed_pieces};
 
-use crate::compile::kept::{Found, Kept};
+use crate::compile::kept::{Found, Kept, faults_of};
 use std::alloc::Global;
 use x_gen::{Pieces, Renderer};
 use x_item::Definition;
@@ -38,7 +38,7 @@ pub struct Checks {
 pub fn check_all(alloc: Global, items: &[&Kept], meter: &mut Meter) -> Result<Checks, NoMemory>
     requires short { AreShort (kept_definitions (map (λ k. k.now) items.now)) }
     requires made { All (λ k. IsMade k.now) items.now }
-    ensures checked { IfOk result (λ checks. AreChecked (map (λ k. k.now) items.now) checks) }
+    ensures checked { IfOk result (λ checks. AreChecked (map (λ k. k.now) items.now) checks.results.items checks.faults) }
     ensures counted { IfOk result
         (λ checks. meter.new ≡ counted meter.old (kept_definitions (map (λ k. k.now) items.now))) }
 {
@@ -81,7 +81,7 @@ fn check_items(
     requires first { (name : List ℕ)
         → FirstIs (kept_definitions (map (λ k. k.now) items.now)) name (first_in names.now name) }
     requires made { All (λ k. IsMade k.now) items.now }
-    ensures checked { IfOk result (λ checks. AreChecked (map (λ k. k.now) items.now) checks) }
+    ensures checked { IfOk result (λ checks. AreChecked (map (λ k. k.now) items.now) checks.results.items checks.faults) }
     ensures counted { IfOk result
         (λ checks. meter.new ≡ counted meter.old (kept_definitions (map (λ k. k.now) items.now))) }
 {
@@ -94,14 +94,14 @@ fn check_items(
     };
     for item in items {
         let found = check(alloc, item, &mut walk, names, &results, meter)?;
-        faults = sum_of(faults, item.fault_count(&found))?;
+        faults = sum_of(faults, item.fault_count(faults_of(&found)))?;
         results.push(found)?;
     }
     Ok(Checks { results, faults })
 }
 
 /// The sum of two counts: one that does not fit is told as want of memory, as no text has so many faults.
-fn sum_of(count: usize, more: usize) -> Result<usize, NoMemory>
+pub fn sum_of(count: usize, more: usize) -> Result<usize, NoMemory>
     ensures { IfOk result (λ sum. sum ≡ count + more) }
 {
     count.checked_add(more).ok_or(NoMemory)
@@ -232,7 +232,7 @@ fn checked_at(results: &[Option<Box<Found>>], index: usize) -> Option<&Checked>
 }
 
 /// What is generated of a definition, where checking it found no fault and it has no pieces yet.
-fn new_pieces(
+pub fn new_pieces(
     renderer: &mut Renderer,
     definition: &Definition,
     checked: &Checked,

@@ -1,6 +1,6 @@
 //! The items of a text.
 
-ghost use Rattle.std.specs.Prelude.{◌≡◌, ◌≤◌, ◌+◌, length, map, IfOk, option_and_then, slice_get};
+ghost use Rattle.std.specs.Prelude.{◌≡◌, ◌≤◌, ◌+◌, length, map, IfOk, None, option_and_then, slice_get};
 ghost use Rattle.x_text.specs.declared.source.TheConstants.{MAX_TEXT};
 ghost use Rattle.x_item.specs.ItemList.{AreOfText, counts};
 ghost use Rattle.x_schema.specs.Definitions.{tree_at};
@@ -12,24 +12,39 @@ use crate::compile::kept::Kept;
 use std::alloc::Global;
 use x_gen::{PieceList, Pieces};
 use x_item::{Definition, Entry, Items};
-use x_sema::Schema;
+use x_sema::{Checked, Schema};
 use x_text::{GapIter, NoMemory};
+use x_uses::{CheckedItems, Uses};
 
 /// The items of a text, in order, each with what is kept with it.
 #[derive(Drop)]
 pub struct ItemTable {
     pub entries: Items<Kept>,
+    /// How many faults they have.
+    pub faults: usize,
+    /// Which of them declare and use each name: made at the first edit, so that who makes none pays nothing.
+    pub uses: Option<Uses>,
 }
 
 impl ItemTable {
-    /// These items.
-    pub fn of(alloc: Global, entries: Vec<Entry<Kept>>) -> Result<ItemTable, NoMemory>
+    /// These items, which have so many faults.
+    pub fn of(
+        alloc: Global,
+        entries: Vec<Entry<Kept>>,
+        faults: usize,
+    ) -> Result<ItemTable, NoMemory>
         requires { AreOfText (counts entries.items) }
         ensures list { IfOk result (λ table. table.entries.list ≡ entries.items) }
         ensures seat { IfOk result (λ table. table.entries.seat ≡ length entries.items) }
+        ensures faults { IfOk result (λ table. table.faults ≡ faults) }
+        ensures uses { IfOk result (λ table. table.uses ≡ None) }
     {
         let entries = Items::from_entries(alloc, entries)?;
-        Ok(ItemTable { entries })
+        Ok(ItemTable {
+            entries,
+            faults,
+            uses: None,
+        })
     }
 
     /// How many items there are.
@@ -63,7 +78,7 @@ impl ItemTable {
     }
 
     /// The definition of each item.
-    fn definitions(&self, alloc: Global) -> Result<Vec<Option<&Definition>>, NoMemory>
+    pub fn definitions(&self, alloc: Global) -> Result<Vec<Option<&Definition>>, NoMemory>
         ensures { IfOk result
             (λ definitions. map tree_at definitions.items ≡ entry_definitions self.now.entries.list) }
     {
@@ -107,5 +122,22 @@ impl PieceList for ItemTable {
 
     fn pieces(&self, index: usize) -> Option<&Pieces> {
         self.entries.get(index)?.kept.pieces()
+    }
+}
+
+impl CheckedItems for ItemTable {
+    ghost use Rattle.x_session.specs.KeptView.{entry_definitions, entry_results};
+
+    ghost text = { λ table. record {
+      definitions = entry_definitions table.entries.list;
+      outcomes = entry_results table.entries.list;
+    } };
+
+    fn definition(&self, item: usize) -> Option<&Definition> {
+        ItemTable::definition(self, item)
+    }
+
+    fn checked(&self, item: usize) -> Option<&Checked> {
+        self.entries.get(item)?.kept.checked()
     }
 }

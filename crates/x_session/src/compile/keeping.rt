@@ -4,8 +4,9 @@ ghost use Rattle.std.specs.Prelude.{◌<◌, length};
 ghost use Rattle.x_item.specs.ItemList.{kept};
 ghost use Rattle.x_session.specs.Checking.{AreKnown, IsKnownAt};
 ghost use Rattle.x_session.specs.KeptView.{AreWith, IsWithAt};
+ghost use Rattle.x_session.specs.Planned.{ArePlanned, overlaid};
 
-use crate::compile::kept::{Found, Kept};
+use crate::compile::kept::{Found, Kept, Planned};
 use x_item::{Entry, Items};
 
 /// Keeps with each item of a list, before it is a session's, what was found of it.
@@ -19,17 +20,16 @@ pub fn keep_results(entries: &mut Vec<Entry<Kept>>, results: Vec<Option<Box<Foun
     }
 }
 
-/// Keeps with each of a session's items what was found of it, from the last to the first, and answers how
-/// many entries moved.
-/// It takes no memory.
-pub fn keep_in_place(items: &mut Items<Kept>, results: Vec<Option<Box<Found>>>) -> u64
-    requires { AreKnown (kept items.old.list) results.items }
-    ensures { AreWith items.old.list results.items items.new.list }
+/// Keeps with these of a session's items what was found of them, from the last to the first, and answers how
+/// many entries moved. It takes no memory.
+pub fn keep_in_place(items: &mut Items<Kept>, found: Vec<Planned>) -> u64
+    requires { ArePlanned (kept items.old.list) found.items }
+    ensures { AreWith items.old.list (overlaid 0 (kept items.old.list) found.items) items.new.list }
 {
-    let mut results = results;
+    let mut left = found;
     let mut moved: u64 = 0;
-    while let Some(found) = results.pop() {
-        moved = moved.saturating_add(keep_at(items, results.len(), found));
+    while let Some(planned) = left.pop() {
+        moved = moved.saturating_add(keep_at(items, planned.item, Some(planned.found)));
     }
     moved
 }

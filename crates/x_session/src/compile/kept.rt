@@ -1,12 +1,13 @@
 //! What is kept with an item.
 
-ghost use Rattle.std.specs.Prelude.{◌≡◌, ◌≤◌, length, map, IfOk, None, option_copied};
+ghost use Rattle.std.specs.Prelude.{◌≡◌, ◌≤◌, [], length, map, IfOk, None, option_copied};
 ghost use Rattle.x_text.specs.Counts.{raised};
 ghost use Rattle.x_text.specs.declared.source.TheConstants.{MAX_TEXT};
 ghost use Rattle.x_lex.specs.Places.{lexeme};
 ghost use Rattle.x_item.specs.Parse.{IsParse};
 ghost use Rattle.x_schema.specs.Definitions.{tree_at};
-ghost use Rattle.x_session.specs.Compile.{rule_faults};
+ghost use Rattle.x_sema.specs.KeptViews.{lent_outcome};
+ghost use Rattle.x_session.specs.Compile.{faults_at, rule_faults};
 ghost use Rattle.x_session.specs.Counting.{faults_with};
 ghost use Rattle.x_session.specs.FaultWalk.{IsToldBy};
 ghost use Rattle.x_session.specs.Generated.{lines_of};
@@ -43,6 +44,14 @@ pub struct Found {
     pub checked: Checked,
     /// What is generated of it, where it has no fault.
     pub pieces: Option<Pieces>,
+}
+
+/// What checking an item finds that an edit makes stale.
+#[derive(Drop)]
+pub struct Planned {
+    /// The item, counted from 0 among those that the edit leaves.
+    pub item: usize,
+    pub found: Box<Found>,
 }
 
 /// What is kept with an item that has a definition or lines that pass through.
@@ -199,13 +208,33 @@ impl Kept {
         }
     }
 
-    /// How many faults the item has, of whose definition this was found.
-    pub fn fault_count(&self, found: &Option<Box<Found>>) -> usize
-        ensures { result ≡ faults_with self.now found.now }
+    /// What checking found of the item's definition.
+    pub fn checked(&self) -> Option<&Checked>
+        ensures { lent_outcome result ≡ found_result (kept_found self.now) }
+    {
+        match self {
+            Kept::Body(body) => Some(&body.found.as_ref()?.checked),
+            _ => None,
+        }
+    }
+
+    /// How many faults the item has, where its definition breaks these rules.
+    pub fn fault_count(&self, ruled: &[WordFault]) -> usize
+        ensures { result ≡ length (faults_at [] (kept_parse self.now) ruled.now) }
     {
         match self.told() {
             Told::Syntax { .. } => 1,
-            Told::Rules(_) => faults_of(found).len(),
+            Told::Rules(_) => ruled.len(),
+        }
+    }
+
+    /// How many faults the item has.
+    pub fn own_fault_count(&self) -> usize
+        ensures { result ≡ faults_with self.now (kept_found self.now) }
+    {
+        match self.told() {
+            Told::Syntax { .. } => 1,
+            Told::Rules(ruled) => ruled.len(),
         }
     }
 
@@ -241,7 +270,7 @@ fn renewed(old: Option<Box<Found>>, new: Option<Box<Found>>) -> Option<Box<Found
 }
 
 /// The faults by the rules that were found.
-fn faults_of(found: &Option<Box<Found>>) -> &[WordFault]
+pub fn faults_of(found: &Option<Box<Found>>) -> &[WordFault]
     ensures { result.now ≡ rule_faults (found_result found.now) }
 {
     match found {

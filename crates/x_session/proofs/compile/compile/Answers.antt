@@ -1,4 +1,4 @@
-use Rattle.std.proofs.Common.{map, ap, sym, subst, ◌∙◌}
+use Rattle.std.proofs.Common.{None, map, ap, sym, subst, ◌∙◌}
 use Rattle.std.specs.Borrow.{Bor}
 use Rattle.x_item.specs.ItemList.{AreOfText}
 use Rattle.x_item.specs.ItemList as items
@@ -22,8 +22,9 @@ check_all-requires-clause-made c =
 pub keep_results-requires : goal.keep_results-requires
 keep_results-requires c =
     let ks = items.kept c.in_ok-entries.entries.items in
+    let checks = c.in_ok-results.field-0 in
     let same = ap (map (λ (k : Bor Kept). k.now)) c.deref-2.ensures.value ∙ c.in_ok-kept_of.ensures ∙ ap items.kept c.deref.ensures.value in
-    are_known ks c.in_ok-results.field-0 (subst (λ l. AreChecked l c.in_ok-results.field-0) same c.in_ok-results.ensures.checked)
+    are_known ks checks.results.items checks.faults (subst (λ l. AreChecked l checks.results.items checks.faults) same c.in_ok-results.ensures.checked)
 
 pub of-requires : goal.of-requires
 of-requires c =
@@ -35,7 +36,10 @@ returns-clause-kept c =
     let tokens = c.in_ok-tokens.tokens.list in
     let es = c.in_ok-entries.entries.items in
     let checks = c.in_ok-results.field-0 in
+    let made = c.in_ok-items.items in
     let same = ap (map (λ (k : Bor Kept). k.now)) c.deref-2.ensures.value ∙ c.in_ok-kept_of.ensures ∙ ap items.kept c.deref.ensures.value in
-    let checked = subst (λ l. AreChecked l checks) same c.in_ok-results.ensures.checked in
-    subst (λ l. IsKept text tokens l checks.faults) (sym c.in_ok-items.ensures.list)
-    (kept_is text tokens es checks c.keep_results.new.entries.items c.in_ok-tokens.ensures.tokens c.in_ok-entries.ensures.parsed c.in_ok-entries.ensures.of_text checked c.keep_results.ensures)
+    let checked = subst (λ l. AreChecked l checks.results.items checks.faults) same c.in_ok-results.ensures.checked in
+    subst (λ u. IsKept text tokens made.entries.list made.faults u) (sym c.in_ok-items.ensures.uses)
+    (subst (λ n. IsKept text tokens made.entries.list n None) (sym c.in_ok-items.ensures.faults)
+    (subst (λ l. IsKept text tokens l checks.faults None) (sym c.in_ok-items.ensures.list)
+    (kept_is text tokens es checks.results.items checks.faults c.keep_results.new.entries.items None c.in_ok-tokens.ensures.tokens c.in_ok-entries.ensures.parsed c.in_ok-entries.ensures.short c.in_ok-entries.ensures.of_text checked c.keep_results.ensures tt)))

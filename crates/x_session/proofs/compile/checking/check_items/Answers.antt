@@ -7,7 +7,8 @@ use Rattle.x_sema.specs.Declarers.{AreShort, FirstIs}
 use Rattle.x_sema.specs.DeclarerTable.{first_in}
 use Rattle.x_sema.specs.Results.{IsResult, result_at}
 use Rattle.x_session.specs.Checking.{counted}
-use Rattle.x_session.specs.KeptView.{found_result, kept_definition}
+use Rattle.x_session.specs.Compile.{faults_at}
+use Rattle.x_session.specs.KeptView.{found_result, kept_definition, kept_parse}
 use Rattle.x_session.specs.declared.compile.kept.Kept.{Kept}
 use Rattle.x_session.proofs.CheckingLemmas.{checked_all, counted_all, counted_more, faults_next, many_more, rendered_next, results_next, short_here}
 use Rattle.x_session.proofs.compile.checking.check_items.Goals as goal
@@ -42,14 +43,14 @@ loop-item-preserved c =
       many = many_more index rs new found c.in_ok-push.ensures.items c.loop-item.invariant.many;
       are = results_next defined xs index x (map found_result rs) (map found_result new) (found_result found) lt at more (c.loop-item.invariant.many ∙ many) c.loop-item.invariant.are here;
       rendered = rendered_next lent xs index x rs new found lt at c.in_ok-push.ensures.items c.loop-item.invariant.rendered c.in_ok-found.ensures.rendered;
-      faults = c.in_ok-faults.ensures ∙ ap (λ n. c.loop-item.faults + n) c.fault_count.ensures
+      faults = c.in_ok-faults.ensures ∙ ap (λ n. c.loop-item.faults + n) (c.fault_count.ensures ∙ ap (λ fs. length (faults_at [] (kept_parse x.now) fs)) c.faults_of.ensures)
           ∙ faults_next lent xs index c.loop-item.faults x rs new found lt at c.in_ok-push.ensures.items c.loop-item.invariant.many c.loop-item.invariant.faults;
       counted = counted_more defined c.loop-item.meter c.check.new.meter (counted c.args.meter.now ds) xs index x lt at c.in_ok-found.ensures.counted c.loop-item.invariant.counted;
     }
 
 pub returns-clause-checked : goal.returns-clause-checked
 returns-clause-checked c =
-    checked_all lent c.args.items.now c.loop-item.item-index (record { results = c.loop-item.results; faults = c.loop-item.faults }) c.loop-item-test.false
+    checked_all lent c.args.items.now c.loop-item.item-index c.loop-item.results.items c.loop-item.faults c.loop-item-test.false
     c.loop-item.invariant.are c.loop-item.invariant.rendered c.loop-item.invariant.faults
 
 pub returns-clause-counted : goal.returns-clause-counted

@@ -1,24 +1,18 @@
-use Rattle.std.proofs.Common.{◌∙◌}
-use Rattle.x_session.proofs.KeepingLemmas.{IsLast, kept_none, kept_on, last_item, last_known_at, last_within}
+use Rattle.x_session.proofs.PlannedLemmas.{put_known, put_more, put_none, put_within}
 use Rattle.x_session.proofs.compile.keeping.keep_in_place.Goals as goal
-use Rattle.x_session.proofs.compile.keeping.keep_in_place.Goals.{After-len}
 
-last : (c : After-len) → IsLast c.args.items.now.list c.args.results.items c.loop-found.items.list c.pop.new.self.items c.in-Some.found
-last c = last_item c.args.items.now.list c.args.results.items c.loop-found.items.list c.loop-found.results.items c.pop.new.self.items c.in-Some.found c.in-Some.ensures.items c.loop-found.invariant
-
-pub loop-found-init : goal.loop-found-init
-loop-found-init c = kept_none c.args.items.now.list c.args.results.items c.requires
+pub loop-planned-init : goal.loop-planned-init
+loop-planned-init c = put_none c.args.items.now.list c.args.found.items
 
 pub keep_at-requires-clause-within : goal.keep_at-requires-clause-within
 keep_at-requires-clause-within c =
-    last_within c.args.items.now.list c.args.results.items c.loop-found.items.list c.pop.new.self.items c.in-Some.found (last c) c.len.result (c.len.ensures ∙ c.pop.new.self.ok.0)
+    put_within c.args.items.now.list c.args.found.items c.loop-planned.items.list c.loop-planned.left.items c.pop.new.self.items c.in-Some.planned c.in-Some.ensures.items c.loop-planned.invariant c.requires
 
 pub keep_at-requires-clause-known : goal.keep_at-requires-clause-known
 keep_at-requires-clause-known c =
-    last_known_at c.args.items.now.list c.args.results.items c.loop-found.items.list c.pop.new.self.items c.in-Some.found (last c) c.len.result (c.len.ensures ∙ c.pop.new.self.ok.0) c.requires
+    put_known c.args.items.now.list c.args.found.items c.loop-planned.items.list c.loop-planned.left.items c.pop.new.self.items c.in-Some.planned c.in-Some.ensures.items c.loop-planned.invariant c.requires
 
-pub loop-found-preserved : goal.loop-found-preserved
-loop-found-preserved c =
-    kept_on c.args.items.now.list c.args.results.items c.loop-found.items.list c.keep_at.new.items.list c.pop.new.self.items c.in-Some.found c.len.result
-    (last_item c.args.items.now.list c.args.results.items c.loop-found.items.list c.loop-found.results.items c.pop.new.self.items c.in-Some.found c.in-Some.ensures.items c.loop-found.invariant)
-    (c.len.ensures ∙ c.pop.new.self.ok.0) c.keep_at.ensures
+pub loop-planned-preserved : goal.loop-planned-preserved
+loop-planned-preserved c =
+    put_more c.args.items.now.list c.args.found.items c.loop-planned.items.list c.keep_at.new.items.list c.loop-planned.left.items c.pop.new.self.items c.in-Some.planned c.in-Some.ensures.items c.loop-planned.invariant c.requires
+    c.keep_at.ensures

@@ -4,13 +4,16 @@ use Rattle.x_text.specs.Edits.{change_of, edited_by}
 use Rattle.x_lex.specs.TokenList as tokens
 use Rattle.x_item.specs.ItemList as items
 use Rattle.x_item.specs.ItemList.{AreOfText, counts}
-use Rattle.x_session.specs.Following.{IsPlan, IsToFollow}
+use Rattle.x_session.specs.Following.{AreUsed, IsPlan, IsToFollow, behind}
 use Rattle.x_session.specs.KeptView.{AreWith}
 use Rattle.x_session.specs.Session.{Document}
+use Rattle.x_session.specs.SessionState.{IsKept}
 use Rattle.x_session.specs.Work.{IsWork}
 use Rattle.x_session.specs.declared.session.work.Work.{Work}
+use Rattle.x_session.proofs.TableLemmas.{table_checked}
 use Rattle.x_session.proofs.WorkLemmas.{kept_edited, work_edited}
 use Rattle.x_session.proofs.session.Session.apply.Goals as goal
+use Rattle.x_session.proofs.session.Session.apply.Goals.{After-of}
 
 pub plan_edit-planned-requires : goal.plan_edit-planned-requires
 plan_edit-planned-requires c =
@@ -18,50 +21,57 @@ plan_edit-planned-requires c =
     let edit = c.args.edit.now in
     let text : c.text.result.now ≡ old = c.text.ensures ∙ c.in_ok-prepare.ensures.text in
     let ready : c.ready.result.now ≡ edited_by (change_of old edit) = c.ready.ensures ∙ c.in_ok-prepare.ensures.ready in
-    subst (λ t. IsToFollow (change_of t edit) c.ready.result.now c.self.inside.tokens.list c.self.inside.items.entries.list) (sym text) (record {
+    subst (λ t. IsToFollow (change_of t edit) c.ready.result.now c.self.inside.tokens.list c.self.inside.items) (sym text) (record {
       within = c.in_ok-prepare.ensures.fault.fits.lies_within;
       edited = ready;
       are_tokens = c.self.invariant.are_tokens;
       parsed = c.self.invariant.parsed;
-      sound = c.self.invariant.sound;
+      checked = table_checked old c.self.inside.tokens.list c.self.inside.items c.self.invariant;
     })
 
-pub invariant_of-self-2 : goal.invariant_of-self-2
-invariant_of-self-2 c =
-    let old = c.self.inside.texts.text in
-    let edit = c.args.edit.now in
-    let ts = c.self.inside.tokens.list in
-    let es = c.self.inside.items.entries.list in
+planned : (c : After-of) → IsPlan (change_of c.self.inside.texts.text c.args.edit.now) c.self.inside.tokens.list c.self.inside.items.entries.list c.in-Ok.plan
+planned c = subst (λ t. IsPlan (change_of t c.args.edit.now) c.self.inside.tokens.list c.self.inside.items.entries.list c.in-Ok.plan) (c.text.ensures ∙ c.in_ok-prepare.ensures.text) c.in-Ok.ensures.plan
+
+with : (c : After-of) → AreWith (items.patched c.self.inside.items.entries.list c.in-Ok.plan.items) (behind c.self.inside.items.entries.list c.in-Ok.plan.items c.in-Ok.plan.found.items) c.carry_out.new.items.entries.list
+with c =
     let plan = c.in-Ok.plan in
-    let carried = c.carry_out-self-inside in
-    let text : c.text.result.now ≡ old = c.text.ensures ∙ c.in_ok-prepare.ensures.text in
-    let planned = subst (λ t. IsPlan (change_of t edit) ts es plan) text c.in-Ok.ensures.plan in
-    kept_edited (change_of old edit) ts es plan c.turn.new.self.text carried.new.tokens.list carried.new.items.list carried.result planned (c.turn.ensures.text ∙ c.in_ok-prepare.ensures.ready)
-    (carried.ensures.tokens ∙ ap (λ l. tokens.patched l plan.tokens) c.in-Ok.ensures.tokens)
-    (subst (λ l. AreOfText (counts (items.patched l plan.items))) c.in-Ok.ensures.items c.in-Ok.ensures.room.items_of_text)
-    (subst (λ l. AreWith (items.patched l plan.items) plan.checks.results.items carried.new.items.list) c.in-Ok.ensures.items carried.ensures.items)
-    carried.ensures.faults
+    subst (λ l. AreWith (items.patched l plan.items) (behind l plan.items plan.found.items) c.carry_out.new.items.entries.list) c.in-Ok.ensures.items c.carry_out.ensures.items
+
+tokens_are : (c : After-of) → c.carry_out.new.tokens.list ≡ tokens.patched c.self.inside.tokens.list c.in-Ok.plan.tokens
+tokens_are c = c.carry_out.ensures.tokens ∙ ap (λ l. tokens.patched l c.in-Ok.plan.tokens) c.in-Ok.ensures.tokens
+
+of_text : (c : After-of) → AreOfText (counts (items.patched c.self.inside.items.entries.list c.in-Ok.plan.items))
+of_text c = subst (λ l. AreOfText (counts (items.patched l c.in-Ok.plan.items))) c.in-Ok.ensures.items c.in-Ok.ensures.room.items_of_text
+
+turned : (c : After-of) → c.turn.new.self.text ≡ edited_by (change_of c.self.inside.texts.text c.args.edit.now)
+turned c = c.turn.ensures.text ∙ c.in_ok-prepare.ensures.ready
+
+kept : (c : After-of) → IsKept c.turn.new.self.text c.carry_out.new.tokens.list c.carry_out.new.items.entries.list c.carry_out.new.items.faults c.carry_out.new.items.uses
+kept c =
+    let plan = c.in-Ok.plan in
+    let new = c.carry_out.new.items in
+    kept_edited (change_of c.self.inside.texts.text c.args.edit.now) c.self.inside.tokens.list c.self.inside.items.entries.list plan c.turn.new.self.text c.carry_out.new.tokens.list new.entries.list new.faults new.uses (planned c)
+    (turned c) (tokens_are c) (of_text c) (with c) c.carry_out.ensures.faults (subst (λ l. AreUsed (items.patched l plan.items) new.uses) c.in-Ok.ensures.items c.carry_out.ensures.uses)
+
+pub invariant_of-self-2 : goal.invariant_of-self-2
+invariant_of-self-2 c = kept c
 
 pub returns-clause-work : goal.returns-clause-work
 returns-clause-work c =
     let old = c.self.inside.texts.text in
     let edit = c.args.edit.now in
-    let ts = c.self.inside.tokens.list in
-    let es = c.self.inside.items.entries.list in
     let plan = c.in-Ok.plan in
-    let carried = c.carry_out-self-inside in
-    let text : c.text.result.now ≡ old = c.text.ensures ∙ c.in_ok-prepare.ensures.text in
-    let planned = subst (λ t. IsPlan (change_of t edit) ts es plan) text c.in-Ok.ensures.plan in
-    let lexed = ap (λ (w : Work). w.lexed) c.of.ensures ∙ carried.ensures.lexed ∙ c.in-Ok.ensures.lexed ∙ ap (λ (n : Counts). raised n.lexed (length plan.tokens.fresh)) c.new-meter.ensures in
-    let parsed = ap (λ (w : Work). w.parsed) c.of.ensures ∙ carried.ensures.parsed ∙ c.in-Ok.ensures.parsed ∙ ap (λ (n : Counts). raised n.parsed (length plan.items.fresh)) c.new-meter.ensures in
+    let made = c.carry_out.new in
+    let lexed = ap (λ (w : Work). w.lexed) c.of.ensures ∙ c.carry_out.ensures.lexed ∙ c.in-Ok.ensures.lexed ∙ ap (λ (n : Counts). raised n.lexed (length plan.tokens.fresh)) c.new-meter.ensures in
+    let parsed = ap (λ (w : Work). w.parsed) c.of.ensures ∙ c.carry_out.ensures.parsed ∙ c.in-Ok.ensures.parsed ∙ ap (λ (n : Counts). raised n.parsed (length plan.items.fresh)) c.new-meter.ensures in
+    let checked = ap (λ (w : Work). w.checked) c.of.ensures ∙ c.carry_out.ensures.checked ∙ c.in-Ok.ensures.checked ∙ ap (λ (n : Counts). raised n.checked (length plan.found.items)) c.new-meter.ensures in
     let new : Document = record {
       base = c.self.inside.base.items;
       text = c.turn.new.self.text;
-      token_seat = carried.new.tokens.seat;
-      item_seat = carried.new.items.seat;
+      token_seat = made.tokens.seat;
+      item_seat = made.items.entries.seat;
     } in
     subst (λ (v : Document). IsWork (change_of v.text edit) new c.of.result) c.self.view_is
-    (work_edited (change_of old edit) new ts es plan c.of.result planned c.self.invariant.are_tokens c.self.invariant.parsed
-    (subst (λ l. tokens.IsOfText (tokens.patched l plan.tokens)) c.in-Ok.ensures.tokens c.in-Ok.ensures.room.tokens_of_text)
-    (subst (λ l. AreOfText (counts (items.patched l plan.items))) c.in-Ok.ensures.items c.in-Ok.ensures.room.items_of_text)
-    lexed parsed carried.ensures.token_seat)
+    (work_edited (change_of old edit) new c.self.inside.tokens.list made.tokens.list c.self.inside.items.entries.list made.items.entries.list c.self.inside.items.faults made.items.faults c.self.inside.items.uses made.items.uses plan c.of.result
+    (planned c) c.self.invariant (subst (λ t. IsKept t made.tokens.list made.items.entries.list made.items.faults made.items.uses) (turned c) (kept c)) (tokens_are c) (with c)
+    (subst (λ l. tokens.IsOfText (tokens.patched l plan.tokens)) c.in-Ok.ensures.tokens c.in-Ok.ensures.room.tokens_of_text) (of_text c) lexed parsed checked c.carry_out.ensures.token_seat)

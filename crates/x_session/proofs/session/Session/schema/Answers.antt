@@ -18,7 +18,7 @@ pub returns-in-Ok : goal.returns-in-Ok
 returns-in-Ok c =
     let tokens = lexemes c.self.inside.texts.text c.self.inside.tokens.list in
     let items = items_of c.self.inside.texts.text c.self.inside.tokens.list c.self.inside.items.entries.list in
-    let none = no_faults c.self.inside.fault_count (faults_of c.self.inside.texts.text items) c.self.invariant.count_is c.if-self-gt0.false in
+    let none = no_faults c.self.inside.items.faults (faults_of c.self.inside.texts.text items) c.self.invariant.count_is c.if-self-gt0.false in
     let types = subst (λ ds. IsSchemaOf ds c.in-Ok.schema) (sym (definitions-items tokens c.self.inside.items.entries.list)) c.in-Ok.ensures in
     subst (λ v. Compiles v.text (λ is. (faults_of v.text is ≡ []) × IsSchemaOf (definitions_of is) c.in-Ok.schema)) c.self.view_is
     (c.self.inside.tokens.list, items, (compilation c.self.invariant), (none, types))
@@ -26,5 +26,5 @@ returns-in-Ok c =
 pub returns-in-Err : goal.returns-in-Err
 returns-in-Err c =
     let items = items_of c.self.inside.texts.text c.self.inside.tokens.list c.self.inside.items.entries.list in
-    let none = no_faults c.self.inside.fault_count (faults_of c.self.inside.texts.text items) c.self.invariant.count_is c.if-self-gt0.false in
+    let none = no_faults c.self.inside.items.faults (faults_of c.self.inside.texts.text items) c.self.invariant.count_is c.if-self-gt0.false in
     subst (λ v. Compiles v.text (λ is. faults_of v.text is ≡ [])) c.self.view_is (c.self.inside.tokens.list, items, (compilation c.self.invariant), none)

@@ -1,0 +1,33 @@
+-- What is planned to be kept with the items that an edit makes stale.
+use Rattle.std.specs.Prelude.{◌≡◌, ℕ, suc, nat_eq, List, [], ◌∷◌, Option, None, Some, slice_get, if◌then◌else◌}
+use Rattle.std.specs.Global.{Box}
+use Rattle.std.specs.Option.{option_or}
+use Rattle.x_session.specs.Checking.{sound_pieces}
+use Rattle.x_session.specs.KeptView.{found_pieces, found_result, kept_definition, kept_found, renewed_pieces}
+use Rattle.x_session.specs.declared.compile.kept.Found.{Found}
+use Rattle.x_session.specs.declared.compile.kept.Kept.{Kept}
+use Rattle.x_session.specs.declared.compile.kept.Planned.{Planned}
+
+-- what is planned for the item of this number
+abbrev pub planned_at : ℕ → List Planned → Option (Box Found)
+planned_at n [] = None
+planned_at n (p ∷ ps) = if nat_eq n p.item then Some p.found else planned_at n ps
+
+-- what will be kept of each of these items, of which the first has this number: what is planned for it, or else
+-- what it has
+abbrev pub overlaid : ℕ → List Kept → List Planned → List (Option (Box Found))
+overlaid n [] ps = []
+overlaid n (k ∷ ks) ps = option_or (planned_at n ps) (kept_found k) ∷ overlaid (suc n) ks ps
+
+-- The item has a definition, and it will have pieces exactly where that has no fault.
+pub record IsPlannedOf (ks : List Kept) (p : Planned) : Type 0 where
+  pub item : Kept
+  pub at : slice_get ks p.item ≡ Some item
+  pub defined : kept_definition item ≡ None → ⊥
+  pub rendered : renewed_pieces (found_pieces (kept_found item)) (Some p.found)
+      ≡ sound_pieces (kept_definition item) (found_result (Some p.found))
+
+-- so it is with each of them, and no item is planned twice
+abbrev pub ArePlanned : List Kept → List Planned → Type 0
+ArePlanned ks [] = Unit {0}
+ArePlanned ks (p ∷ ps) = IsPlannedOf ks p × (planned_at p.item ps ≡ None) × ArePlanned ks ps

@@ -1,0 +1,223 @@
+//! The items that wait for a check because of an edit, or of what another item means.
+
+ghost use Rattle.std.specs.Prelude.{◌≡◌, ◌<◌, ◌≤◌, ℕ, List, [], length, map, Some, IfOk, OnOk, IsTrue, true};
+ghost use Rattle.std.specs.Prelude.{false};
+ghost use Rattle.std.specs.Cow.{cow_slice_items};
+ghost use Rattle.std.specs.List.{IsAmong};
+ghost use Rattle.x_item.specs.Names.{declared};
+ghost use Rattle.x_item.specs.Tree.{Definition as Tree};
+ghost use Rattle.x_uses.specs.Editing.{definitions_after, definition_at, old_number, count_after};
+ghost use Rattle.x_uses.specs.Rechecking.{AddsItems, HasAlike, IsCovered, IsDeclaredIn, IsFormer, IsKept};
+ghost use Rattle.x_uses.specs.Rechecking.{IsKeptUser, IsReady};
+ghost use Rattle.x_uses.specs.Rechecking.{AreEditedItems, edit_of, removed_definitions, is_waiting};
+
+use super::CheckedItems;
+use super::edited_items::EditedItems;
+use super::queue::Queue;
+use std::alloc::Global;
+use x_item::{DeclaredName, declares_into};
+use x_text::NoMemory;
+
+/// Has an item before the edit wait, if it is kept and its number is `low` or more.
+fn add_user<L: CheckedItems>(
+    items: &EditedItems<L>,
+    low: usize,
+    was: usize,
+    queue: &mut Queue,
+) -> Result<(), NoMemory>
+    requires items { AreEditedItems L.text items.now }
+    requires was { was < length (edit_of L.text items.now).old }
+    ensures adds { OnOk result (AddsItems queue.old queue.new low (count_after (edit_of L.text items.now))) }
+    ensures waits { OnOk result ((k : ℕ) → low ≤ k → old_number items.now.place k ≡ Some was
+        → is_waiting queue.new k ≡ true) }
+{
+    match items.new_number(was) {
+        Some(item) if low <= item => queue.insert(item),
+        _ => Ok(()),
+    }
+}
+
+/// Has the kept users of a name wait whose numbers are `low` or more.
+pub fn add_users<L: CheckedItems>(
+    items: &EditedItems<L>,
+    low: usize,
+    name: &[u8],
+    queue: &mut Queue,
+) -> Result<(), NoMemory>
+    requires { AreEditedItems L.text items.now }
+    ensures adds { OnOk result (AddsItems queue.old queue.new low (count_after (edit_of L.text items.now))) }
+    ensures waits { OnOk result ((k : ℕ) → low ≤ k → IsKeptUser (edit_of L.text items.now) k name.now
+        → is_waiting queue.new k ≡ true) }
+{
+    for user in items.users(name) {
+        add_user(items, low, *user as usize, queue)?;
+    }
+    Ok(())
+}
+
+/// Whether an item before the edit is this one after it, or went for a fresh one.
+fn is_former<L: CheckedItems>(items: &EditedItems<L>, before: usize, after: usize) -> bool
+    requires items { AreEditedItems L.text items.now }
+    requires after { after < count_after (edit_of L.text items.now) }
+    ensures { IsTrue result → IsFormer items.now.place before (old_number items.now.place after) }
+{
+    let place = items.place;
+    match items.old_number(after) {
+        Some(was) => before == was,
+        None => place.at <= before && before < place.at + place.removed,
+    }
+}
+
+/// Whether the first declarers of a name before and after the edit are alike to each kept item, but for what
+/// it means.
+fn is_alike<L: CheckedItems>(items: &EditedItems<L>, name: &[u8]) -> bool
+    requires { AreEditedItems L.text items.now }
+    ensures { IsTrue result → HasAlike (edit_of L.text items.now) name.now }
+{
+    match (items.first(name), items.first_after(name)) {
+        (None, None) => true,
+        (Some(before), Some(after)) => {
+            is_former(items, before.item, after.item)
+                && before.kind == after.kind
+                && before.lifted == after.lifted
+        }
+        _ => false,
+    }
+}
+
+/// Has the kept users of a name wait, unless its first declarers are alike.
+fn add_candidates<L: CheckedItems>(
+    items: &EditedItems<L>,
+    name: &[u8],
+    queue: &mut Queue,
+) -> Result<(), NoMemory>
+    requires { AreEditedItems L.text items.now }
+    ensures adds { OnOk result (AddsItems queue.old queue.new 0 (count_after (edit_of L.text items.now))) }
+    ensures covered { OnOk result (IsCovered (edit_of L.text items.now) (is_waiting queue.new) name.now) }
+{
+    if is_alike(items, name) {
+        return Ok(());
+    }
+    add_users(items, 0, name, queue)
+}
+
+/// Has the kept users of each of these names wait, unless its first declarers are alike.
+fn add_candidates_of<L: CheckedItems>(
+    items: &EditedItems<L>,
+    names: &[DeclaredName],
+    queue: &mut Queue,
+) -> Result<(), NoMemory>
+    requires { AreEditedItems L.text items.now }
+    ensures adds { OnOk result (AddsItems queue.old queue.new 0 (count_after (edit_of L.text items.now))) }
+    ensures covered { OnOk result ((name : List ℕ)
+        → IsAmong (map (λ d. cow_slice_items d.name) names.now) name
+        → IsCovered (edit_of L.text items.now) (is_waiting queue.new) name) }
+{
+    for declared in names {
+        add_candidates(items, &declared.name, queue)?;
+    }
+    Ok(())
+}
+
+/// Has those wait that see a name otherwise because an item goes, which is taken as it was before the edit.
+fn add_gone<'i, L: CheckedItems>(
+    alloc: Global,
+    items: &'i EditedItems<L>,
+    names: &mut Vec<DeclaredName<'i>>,
+    item: usize,
+    queue: &mut Queue,
+) -> Result<(), NoMemory>
+    requires { AreEditedItems L.text items.now }
+    ensures adds { OnOk result (AddsItems queue.old queue.new 0 (count_after (edit_of L.text items.now))) }
+    ensures covered { OnOk result ((d : Tree) → definition_at (edit_of L.text items.now).old item ≡ Some d
+        → (name : List ℕ) → IsAmong (map (λ x. x.name) (declared d)) name
+        → IsCovered (edit_of L.text items.now) (is_waiting queue.new) name) }
+{
+    let Some(definition) = items.old_definition(item) else {
+        return Ok(());
+    };
+    declares_into(alloc, names, definition)?;
+    add_candidates_of(items, names, queue)
+}
+
+/// Has a fresh item wait, if it has a definition, and those that see a name otherwise because of it.
+fn add_fresh<'i, L: CheckedItems>(
+    alloc: Global,
+    items: &'i EditedItems<L>,
+    names: &mut Vec<DeclaredName<'i>>,
+    item: usize,
+    queue: &mut Queue,
+) -> Result<(), NoMemory>
+    requires items { AreEditedItems L.text items.now }
+    requires item { item < count_after (edit_of L.text items.now) }
+    ensures adds { OnOk result (AddsItems queue.old queue.new 0 (count_after (edit_of L.text items.now))) }
+    ensures waits { OnOk result ((d : Tree)
+        → definition_at (definitions_after (edit_of L.text items.now)) item ≡ Some d
+        → is_waiting queue.new item ≡ true) }
+    ensures covered { OnOk result ((d : Tree)
+        → definition_at (definitions_after (edit_of L.text items.now)) item ≡ Some d
+        → (name : List ℕ) → IsAmong (map (λ x. x.name) (declared d)) name
+        → IsCovered (edit_of L.text items.now) (is_waiting queue.new) name) }
+{
+    let Some(definition) = items.definition(item) else {
+        return Ok(());
+    };
+    declares_into(alloc, names, definition)?;
+    queue.insert(item)?;
+    add_candidates_of(items, names, queue)
+}
+
+/// Has those wait that see a name otherwise because of the items that go.
+fn add_all_gone<L: CheckedItems>(
+    alloc: Global,
+    items: &EditedItems<L>,
+    queue: &mut Queue,
+) -> Result<(), NoMemory>
+    requires { AreEditedItems L.text items.now }
+    ensures adds { OnOk result (AddsItems queue.old queue.new 0 (count_after (edit_of L.text items.now))) }
+    ensures covered { OnOk result ((name : List ℕ)
+        → IsDeclaredIn (removed_definitions (edit_of L.text items.now)) name
+        → IsCovered (edit_of L.text items.now) (is_waiting queue.new) name) }
+{
+    let place = items.place;
+    let mut names = Vec::new(alloc);
+    for item in place.at..place.at + place.removed {
+        add_gone(alloc, items, &mut names, item, queue)?;
+    }
+    Ok(())
+}
+
+/// Has the fresh items wait that have a definition, and those that see a name otherwise because of them.
+fn add_all_fresh<L: CheckedItems>(
+    alloc: Global,
+    items: &EditedItems<L>,
+    queue: &mut Queue,
+) -> Result<(), NoMemory>
+    requires { AreEditedItems L.text items.now }
+    ensures adds { OnOk result (AddsItems queue.old queue.new 0 (count_after (edit_of L.text items.now))) }
+    ensures kept { OnOk result ((k : ℕ) → is_waiting queue.new k ≡ false
+        → IsKept (edit_of L.text items.now) k) }
+    ensures covered { OnOk result ((name : List ℕ) → IsDeclaredIn (edit_of L.text items.now).put name
+        → IsCovered (edit_of L.text items.now) (is_waiting queue.new) name) }
+{
+    let place = items.place;
+    let mut names = Vec::new(alloc);
+    for item in place.at..place.at + place.added {
+        add_fresh(alloc, items, &mut names, item, queue)?;
+    }
+    Ok(())
+}
+
+/// The items that wait before any is checked.
+pub fn first_candidates<L: CheckedItems>(
+    alloc: Global,
+    items: &EditedItems<L>,
+) -> Result<Queue, NoMemory>
+    requires { AreEditedItems L.text items.now }
+    ensures { IfOk result (λ queue. IsReady (edit_of L.text items.now) queue [] 0) }
+{
+    let mut queue = Queue::new(alloc);
+    add_all_gone(alloc, items, &mut queue)?;
+    add_all_fresh(alloc, items, &mut queue)?;
+    Ok(queue)
+}
