@@ -76,13 +76,13 @@ class Shared:
             return self.inline() + b" " + name
         if way < 0.45:
             return self.type() + b" " + name
-        if way < 0.7:
+        if way < 0.68:
             return b"%s %s[%s]" % (self.type(), name, self.value())
-        if way < 0.8:
-            return b"%s %s<%s>" % (self.type(), name, self.pick(b"", self.value()))
-        if way < 0.9:
+        if way < 0.92:
             # A link may look ahead.
-            return b"%s *%s" % (self.pick(self.type(), b"s%d" % self.pick(0, 1, 2, 3, 4, 5)), name)
+            struct = b"s%d" % self.chance.randint(0, 5)
+            kind = self.pick(self.type(), struct, struct, struct + b"_a")
+            return self.pick(b"%s *%s" % (kind, name), b"%s %s<%s>" % (kind, name, self.pick(b"", self.value())))
         return self.pick(b"opaque %s[%s]", b"string %s<%s>") % (name, self.value())
 
     def fields(self, count):
@@ -148,7 +148,7 @@ class Shared:
 
     def definition(self):
         return self.pick(self.constant, self.constant, self.enum, self.typedef, self.typedef, self.struct, self.struct,
-                         self.lifting, self.union, self.union, self.program)()
+                         self.lifting, self.lifting, self.union, self.union, self.program)()
 
     def definitions(self, low, high):
         return [self.definition() for _ in range(self.chance.randint(low, high))]
@@ -310,7 +310,7 @@ class Editor:
             "take away": (3, lambda: self.take_away(text, spans)),
             "put back": (5 if self.taken else 0, lambda: self.put_back(spans)),
             "double": (2, lambda: self.double(text, spans)),
-            "lift": (1, lambda: self.lift(names, spans)),
+            "lift": (2, lambda: self.lift(names, spans)),
             "swap": (2, lambda: self.swap(text, spans)),
             "rename": (4, lambda: self.rename(names)),
             "count": (3, lambda: self.count_otherwise(numbers)),
@@ -318,7 +318,7 @@ class Editor:
             "gain": (2 if enums else 0, lambda: self.gain(enums)),
             "grow": (3 if structs else 0, lambda: self.grow(structs, names)),
             "spoil": (3, lambda: self.spoil(structs, tokens)),
-            "remake": (2 if plain else 0, lambda: self.remake(plain)),
+            "remake": (3 if plain else 0, lambda: self.remake(plain)),
             "brace": (1, lambda: self.brace(spans)),
             "likely": (1, lambda: random_texts.likely_edit(self.chance, text)),
             "any": (0.3, lambda: random_texts.random_edit(self.chance, text)),
