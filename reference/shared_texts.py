@@ -277,7 +277,7 @@ class Editor:
 
     def remake(self, items):
         """Another definition of a name."""
-        item = self.early(items)
+        item = self.chance.choice(items)
         words = [token for token in item if token.kind in ("Keyword", "Name")]
         name = words[-1 if words[0].text == b"typedef" else 1].text
         makers = [b"const %s = 2;", b"typedef int %s;", b"struct %s { int a; };", b"enum %s { R = 1 };",
