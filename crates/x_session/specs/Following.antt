@@ -32,8 +32,8 @@ use Rattle.x_session.specs.declared.following.naming.NameChange.{NameChange}
 abbrev pub AreUsed : List (Entry Kept) → Option UseTable → Type 0
 AreUsed es uses = IfSome uses (IsUsesOf (entry_definitions es))
 
--- What checking each item gives is kept with it, what is generated of it, how many faults all have, and the table
--- of names where there is one.
+-- What checking each item gives is kept with it, what is generated of it, how many faults all have, and the
+-- table of names where there is one.
 pub record IsCheckedTable (t : ItemTable) : Type 0 where
   pub short : AreShort (entry_definitions t.entries.list)
   pub results : AreResults (entry_definitions t.entries.list) (entry_results t.entries.list)
@@ -92,8 +92,8 @@ pub record AreStaleChecked (es : List (Entry Kept)) (p : ItemChange Kept) (ps : 
   pub rendered : AreRendered (items.kept (items.patched es p)) (behind es p ps)
   pub stale : AreStale (edit_of es p) (map found_result (behind es p ps)) (map (λ f. f.item) ps)
 
--- The plan has what the change does to the tokens and items, what the fresh items parse to, and what checking the
--- stale items gives then.
+-- The plan has what the change does to the tokens and items, what the fresh items parse to, and what checking
+-- the stale items gives then.
 pub record IsPlan (change : Change) (ts : List (Kind × ℕ)) (es : List (Entry Kept)) (p : Plan) : Type 0 where
   pub patch : IsPatch change ts p.tokens
   pub recut : IsItemPatch change ts (tokens.patched ts p.tokens) es p.items

@@ -13,8 +13,8 @@ abbrev pub planned_at : ℕ → List Planned → Option (Box Found)
 planned_at n [] = None
 planned_at n (p ∷ ps) = if nat_eq n p.item then Some p.found else planned_at n ps
 
--- what will be kept of each of these items, of which the first has this number: what is planned for it, or else
--- what it has
+-- what will be kept of each of these items, of which the first has this number: what is planned for it, or
+-- else what it has
 abbrev pub overlaid : ℕ → List Kept → List Planned → List (Option (Box Found))
 overlaid n [] ps = []
 overlaid n (k ∷ ks) ps = option_or (planned_at n ps) (kept_found k) ∷ overlaid (suc n) ks ps

@@ -19,7 +19,8 @@ use Rattle.x_session.specs.Compile.{Item, IsCompilation, definitions_of}
 use Rattle.x_session.specs.Session.{Document, LeavesText}
 use Rattle.x_session.specs.declared.session.work.Work.{Work}
 
--- What an edit does to the items of a text, of which it recuts these, as an edit of their definitions.
+-- An edit of a text's items as one of their definitions: `recut` says which items go and how many come, `put`
+-- what those that come define, if anything.
 abbrev pub definitions_edit : List Item → ItemChange (Unit {0}) → List (Option Definition) → TextEdit
 definitions_edit olds recut put = record {
   old = definitions_of olds;
@@ -28,10 +29,12 @@ definitions_edit olds recut put = record {
   put = put;
 }
 
--- These are the numbers of the items that the change makes stale: both texts are compiled from their starts, and an
--- item with a definition is stale if it is recut, or if it sees a name that it declares or uses otherwise than before.
-pub record AreStaleItems (change : Change) (ts us : List (Kind × ℕ)) (recut : ItemChange (Unit {0})) (stale : List ℕ)
-    : Type 0 where
+-- These are the numbers of the items that the change makes stale: both texts are compiled from their starts,
+-- and an item with a definition is stale if it is recut, or if it sees a name that it declares or mentions
+-- otherwise than before. `recut` is what the change does to the items (`IsItemPatch`); by it and both texts
+-- `put` is determined.
+pub record AreStaleItems (change : Change) (ts us : List (Kind × ℕ)) (recut : ItemChange (Unit {0}))
+    (stale : List ℕ) : Type 0 where
   pub olds : List Item
   pub are_olds : IsCompilation change.old ts olds
   pub news : List Item
@@ -41,8 +44,8 @@ pub record AreStaleItems (change : Change) (ts us : List (Kind × ℕ)) (recut :
   pub edited_is : definitions_after (definitions_edit olds recut put) ≡ definitions_of news
   pub are : AreStale (definitions_edit olds recut put) (map (λ i. i.result) news) stale
 
--- The change took this work: as many tokens were lexed as are fresh, as many items parsed as are recut, and as many
--- checked as are stale. The tokens' seat is behind the fresh ones then.
+-- The change took this work: as many tokens were lexed as are fresh, as many items parsed as are recut, and
+-- as many checked as are stale. The tokens' seat is behind the fresh ones then.
 pub record IsWork (change : Change) (new : Document) (w : Work) : Type 0 where
   pub tokens : List (Kind × ℕ)
   pub are_tokens : AreTokens change.old tokens
@@ -69,7 +72,7 @@ AreWorks old (e ∷ es) (w ∷ ws) new =
     × IsWork (change_of old.text e) next w × AreWorks next es ws new
 
 -- The counts are the sums of those of the edits, each of which stays at the greatest number. What one edit
--- moves is not said yet, so nothing is of all.
+-- moves is not said yet, so `moved` is only a sum of some numbers.
 pub record IsWorkOfAll (old : Document) (edits : List Edit) (new : Document) (total : Work) : Type 0 where
   pub works : List Work
   pub are_works : AreWorks old edits works new
@@ -78,6 +81,6 @@ pub record IsWorkOfAll (old : Document) (edits : List Edit) (new : Document) (to
   pub checked : total.checked ≡ raised 0 (sum_by (λ w. w.checked) works)
   pub moved : total.moved ≡ raised 0 (sum_by (λ w. w.moved) works)
 
--- the edits were done, one after another, and the session is as they leave it
+-- the edits were done, one after another, each with its work, and the session is as they leave it
 abbrev pub HasDone : Document → List Edit → Document → Type 0
 HasDone old edits new = (total : Work) × IsWorkOfAll old edits new total

@@ -55,7 +55,8 @@ impl Model for Session {
       item_seat = s.items.entries.seat;
     } };
 
-    ghost invariant = { λ s. IsKept s.texts.text s.tokens.list s.items.entries.list s.items.faults s.items.uses };
+    ghost invariant = { λ s.
+        IsKept s.texts.text s.tokens.list s.items.entries.list s.items.faults s.items.uses };
 }
 
 impl Session {

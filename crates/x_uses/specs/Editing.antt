@@ -52,8 +52,8 @@ definitions_after e = splice e.old e.place.at (e.place.at + e.place.removed) e.p
 abbrev pub count_after : TextEdit → ℕ
 count_after e = length (definitions_after e)
 
--- The place lies within the text, the outcomes are those of its definitions, and there are fewer than 2^32
--- items.
+-- The place lies within the text, and `added` items are put in there; the outcomes are those of the
+-- definitions, each of which has fewer than 2^64 words; and old and new items are fewer than 2^32 together.
 pub record IsEdit (e : TextEdit) : Type 0 where
   pub within : e.place.at + e.place.removed ≤ length e.old
   pub added : e.place.added ≡ length e.put

@@ -21,11 +21,13 @@ abbrev pub sees : Option Definition → List ℕ → Bool
 sees None name = false
 sees (Some d) name = list_any (bytes_eq name) (names_of d)
 
+-- the list, behind this where it is there
 abbrev pub before : {X : Type 0} → Option X → List X → List X
 before None xs = xs
 before (Some x) xs = x ∷ xs
 
--- of each item that declares the name, its first place there, in the order of items, of which the first has this number
+-- of each item that declares the name, its first place there, in the order of items, of which the first has
+-- this number
 abbrev pub declarers_of : ℕ → Definitions → List ℕ → List Declarer
 declarers_of item [] name = []
 declarers_of item (d ∷ ds) name = before (declarer_in item name d) (declarers_of (suc item) ds name)

@@ -17,12 +17,15 @@ abbrev pub SeesOtherwise : TextEdit → List (Option Outcome) → ℕ → ℕ �
 SeesOtherwise e after j k name =
     view_by e.old (result_at e.outcomes) j name ≡ view_by (definitions_after e) (result_at after) k name → ⊥
 
--- an item of this old number sees one of these names otherwise than before; a fresh one was not there before
+-- an item of this old number sees one of these names otherwise than before; a fresh one counts as outdated,
+-- whatever it sees
 abbrev pub IsOutdated : TextEdit → List (Option Outcome) → Option ℕ → ℕ → List (List ℕ) → Type 0
 IsOutdated e after None k names = Unit {0}
 IsOutdated e after (Some j) k names = (name : List ℕ) × IsAmong names name × SeesOtherwise e after j k name
 
--- The item has a definition, and is fresh, or sees a name otherwise than before that it declares or uses.
+-- The item has a definition; and it is fresh, or it sees a name that it declares or mentions otherwise than
+-- before. What it sees of a name (a view) is who declares it first (nobody, an earlier item, itself, a later
+-- one; TRUE and FALSE come before all), as what, and where that is earlier what the name means.
 pub record IsStale (e : TextEdit) (after : List (Option Outcome)) (k : ℕ) : Type 0 where
   pub definition : Definition
   pub has : definition_at (definitions_after e) k ≡ Some definition

@@ -1,5 +1,5 @@
-//! The names of a text over its edits: who declares and who sees each of them ([`Uses`]), and the check of the items that an
-//! edit makes stale ([`recheck`]).
+//! The names of a text over its edits: who declares and who sees each of them ([`Uses`]), and the check of
+//! the items that an edit makes stale ([`recheck`]).
 #![tactic(auto)]
 
 mod laws;

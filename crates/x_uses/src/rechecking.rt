@@ -47,9 +47,9 @@ pub struct Rechecked {
     pub checked: Checked,
 }
 
-/// Checks the items that an edit makes stale, which puts `put` in at the place, and no others. What is found
-/// is in the order of their numbers. Counts each as checked. `uses` is the table of the names of the items
-/// `old`, and `fresh` that of `put`.
+/// Checks the items that are stale once `put` takes the place of the items there, and no others. What is
+/// found is in the order of their numbers. Counts each as checked. `uses` is the table of the names of the
+/// items `old`, and `fresh` that of `put`.
 ///
 /// An item is stale if it has a definition, and is fresh or sees a name otherwise than before that it
 /// declares or uses.

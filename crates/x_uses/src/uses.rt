@@ -109,8 +109,8 @@ impl Uses {
         make_room_in(alloc, &mut self.table, &fresh.table)
     }
 
-    /// Follows an edit that takes out the items at the place, with the uses `gone`, and puts in those of `fresh`.
-    /// It takes no memory.
+    /// Follows an edit that takes out the items at the place, with the uses `gone`, and puts in those of
+    /// `fresh`. It takes no memory.
     pub fn replace(&mut self, place: Place, gone: &Uses, fresh: &Uses)
         requires room { HasRoomFor self.old fresh.now }
         ensures { (old put : Definitions) → IsUsesOf old self.old

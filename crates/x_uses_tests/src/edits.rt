@@ -39,8 +39,8 @@ fn follow(
     Ok(())
 }
 
-/// Checks that a table that has followed edits has the first declarers of the definitions, and these users of `A`
-/// and `T`.
+/// Checks that a table that has followed edits has the first declarers of the definitions, and these users of
+/// `A` and `T`.
 fn expect_uses(
     rt: &impl Abort,
     alloc: Global,
@@ -111,7 +111,8 @@ fn follow_edits(rt: &impl Abort, alloc: Global) -> Result<(), NoMemory> {
     follow_both(rt, alloc, [Some(&first), Some(&using), Some(&second)])
 }
 
-/// Run by itself with each allocation refused in turn: the table is right, or the test tells that memory ran out.
+/// Run by itself with each allocation refused in turn: the table is right, or the test tells that memory ran
+/// out.
 #[test]
 fn sweep_uses(rt: HostRuntime) -> Result<(), Fail> {
     if follow_edits(&rt, rt.alloc()).is_ok() {

@@ -38,7 +38,8 @@ pub struct Checks {
 pub fn check_all(alloc: Global, items: &[&Kept], meter: &mut Meter) -> Result<Checks, NoMemory>
     requires short { AreShort (kept_definitions (map (λ k. k.now) items.now)) }
     requires made { All (λ k. IsMade k.now) items.now }
-    ensures checked { IfOk result (λ checks. AreChecked (map (λ k. k.now) items.now) checks.results.items checks.faults) }
+    ensures checked { IfOk result
+        (λ checks. AreChecked (map (λ k. k.now) items.now) checks.results.items checks.faults) }
     ensures counted { IfOk result
         (λ checks. meter.new ≡ counted meter.old (kept_definitions (map (λ k. k.now) items.now))) }
 {
@@ -81,7 +82,8 @@ fn check_items(
     requires first { (name : List ℕ)
         → FirstIs (kept_definitions (map (λ k. k.now) items.now)) name (first_in names.now name) }
     requires made { All (λ k. IsMade k.now) items.now }
-    ensures checked { IfOk result (λ checks. AreChecked (map (λ k. k.now) items.now) checks.results.items checks.faults) }
+    ensures checked { IfOk result
+        (λ checks. AreChecked (map (λ k. k.now) items.now) checks.results.items checks.faults) }
     ensures counted { IfOk result
         (λ checks. meter.new ≡ counted meter.old (kept_definitions (map (λ k. k.now) items.now))) }
 {

@@ -232,9 +232,9 @@ impl Kept {
     pub fn own_fault_count(&self) -> usize
         ensures { result ≡ faults_with self.now (kept_found self.now) }
     {
-        match self.told() {
-            Told::Syntax { .. } => 1,
-            Told::Rules(ruled) => ruled.len(),
+        match self {
+            Kept::Body(body) => self.fault_count(faults_of(&body.found)),
+            _ => self.fault_count(&[]),
         }
     }
 

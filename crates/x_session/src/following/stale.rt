@@ -18,8 +18,8 @@ use x_item::{ItemPatch, Items};
 use x_text::{Meter, NoMemory};
 use x_uses::{Rechecked, recheck};
 
-/// Checks the items that the patch makes stale, and makes what is generated of those that have no fault and no
-/// pieces yet. Counts each of them as checked.
+/// Checks the items that the patch makes stale, and makes what is generated of those that have no fault and
+/// no pieces yet. Counts each of them as checked.
 pub fn check_stale_items(
     alloc: Global,
     items: &ItemTable,

@@ -28,8 +28,8 @@ fn take_out_each(table: &mut Table, gone: &Table, place: Place)
     }
 }
 
-/// Gives all items their numbers after the edit. They are others only where it puts in more or fewer items than it
-/// takes out.
+/// Gives all items their numbers after the edit. They are others only where it puts in more or fewer items
+/// than it takes out.
 fn renumber(table: &mut Table, place: Place)
     ensures same { place.removed ≡ place.added → HasSameSlots table.old.entries table.new.entries }
     ensures moved { (place.removed ≡ place.added → ⊥) → (name : List ℕ) → slot_at table.new.entries name
