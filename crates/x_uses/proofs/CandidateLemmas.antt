@@ -1,29 +1,26 @@
 -- Which items wait before any is checked.
-use Rattle.std.specs.List.{IsAmong}
 use Rattle.std.proofs.Common.{◌≡◌, ◌<◌, ◌≤◌, ◌⊎◌, inl, inr, ℕ, ◌+◌, Bool, true, false, List, [], map, length, Option, Some, None, refl, sym, ap, subst, ◌∙◌, arith}
 use Rattle.std.proofs.lemmas.Bool.{cases_lt, true≢false}
-use Rattle.std.proofs.lemmas.Option.{same_Some, slice_get_within}
 use Rattle.x_item.specs.Tree.{Definition}
 use Rattle.x_item.specs.Names.{declared}
 use Rattle.x_item.specs.Named.{view_name}
 use Rattle.x_item.specs.declared.names.declared_name.DeclaredName.{DeclaredName}
-use Rattle.x_sema.specs.Declarers.{IsShort, AreShort}
+use Rattle.x_sema.specs.Declarers.{IsShort, AreShort, first_declarer}
+use Rattle.x_sema.specs.declared.names.Declarer.{Declarer}
 use Rattle.x_uses.specs.Editing.{TextEdit, definitions_after, IsEdit, definition_at, old_number}
-use Rattle.x_uses.specs.Rechecking.{IsCovered, IsDeclaredIn, IsKept, IsReady, AddsItems, removed_definitions, is_waiting}
+use Rattle.x_uses.specs.Rechecking.{IsCovered, IsKept, IsNamed, IsReady, AddsItems, is_waiting}
 use Rattle.x_uses.specs.declared.rechecking.queue.Queue.{Queue}
 use Rattle.x_uses.proofs.DecidedLemmas.{decided_first}
-use Rattle.x_uses.proofs.FirstDeclarers.{alike_everywhere}
-use Rattle.x_uses.proofs.Numbering.{definition_there, fresh_cases, gone_there, put_there}
-use Rattle.x_uses.proofs.OutlineNames.{declared_name, names_each}
+use Rattle.x_uses.proofs.FirstDeclarers.{alike_everywhere, first_defined, first_named}
+use Rattle.x_uses.proofs.Numbering.{definition_there, fresh_cases}
 use Rattle.x_uses.proofs.WaitingLemmas.{adds_more, rests_before}
 
--- what holds of each name that is listed of a definition holds of each that the definition declares
-pub listed_each : (P : List ℕ → Type 0) (view : Definition) (here : Option Definition) (lent items : List DeclaredName) → Some view ≡ here → (here ≡ Some view → IsShort view)
-    → (IsShort view → map view_name items ≡ declared view) → lent ≡ items → ((name : List ℕ) → IsAmong (map declared_name lent) name → P name)
-    → (d : Definition) → here ≡ Some d → (name : List ℕ) → IsAmong (map (λ x. x.name) (declared d)) name → P name
-listed_each P view here lent items is short are same each d has name among =
-    let one : d ≡ view = same_Some d view (sym has ∙ sym is) in
-    names_each P lent (declared view) (ap (map view_name) same ∙ are (short (sym is))) each name (subst (λ x. IsAmong (map (λ y. y.name) (declared x)) name) one among)
+-- what is known of the names that are listed of a definition is known of those that its item declares first
+pub listed_first : (P : List ℕ → Type 0) (ds : List (Option Definition)) (item : ℕ) (view : Definition) (lent items : List DeclaredName) → Some view ≡ definition_at ds item → (definition_at ds item ≡ Some view → IsShort view)
+    → (IsShort view → map view_name items ≡ declared view) → lent ≡ items → ((name : List ℕ) (f : Declarer) → first_declarer ds name ≡ Some f → f.item ≡ item → IsNamed lent f.place name → P name)
+    → (d : Definition) → definition_at ds item ≡ Some d → (name : List ℕ) (f : Declarer) → first_declarer ds name ≡ Some f → f.item ≡ item → P name
+listed_first P ds item view lent items is short are same each d has name f first here =
+    each name f first here (first_named ds name f view lent first (ap (definition_at ds) here ∙ sym is) (ap (map view_name) same ∙ are (short (sym is))))
 
 pub short_at : (ds : List (Option Definition)) (i : ℕ) (d : Definition) → AreShort ds → definition_at ds i ≡ Some d → IsShort d
 short_at ds i d short h = short i d (definition_there ds i d h)
@@ -36,23 +33,13 @@ each_number P Q low n more so here i le lt = by (cases_lt i n)
     by (inl l) = more i (so i le l)
     by (inr l) = let same : n ≡ i = omega (arith, l, lt) in subst Q same here
 
--- all names are covered that something declares which goes
-pub gone_covered : (e : TextEdit) (waits : ℕ → Bool) (end : ℕ) → e.place.at + e.place.removed ≤ end
-    → ((i : ℕ) → e.place.at ≤ i → i < end → (d : Definition) → definition_at e.old i ≡ Some d → (name : List ℕ) → IsAmong (map (λ x. x.name) (declared d)) name → IsCovered e waits name)
-    → (name : List ℕ) → IsDeclaredIn (removed_definitions e) name → IsCovered e waits name
-gone_covered e waits end all each name h =
-    let there = gone_there e h.index h.definition h.has in
-    let lt = there.0 in
-    each (e.place.at + h.index) (omega arith) (omega (arith, all, lt)) h.definition there.1 name h.among
-
--- or which is put in
-pub put_covered : (e : TextEdit) (waits : ℕ → Bool) (end : ℕ) → IsEdit e → e.place.at + e.place.added ≤ end
-    → ((i : ℕ) → e.place.at ≤ i → i < end → (d : Definition) → definition_at (definitions_after e) i ≡ Some d → (name : List ℕ) → IsAmong (map (λ x. x.name) (declared d)) name → IsCovered e waits name)
-    → (name : List ℕ) → IsDeclaredIn e.put name → IsCovered e waits name
-put_covered e waits end is all each name h =
-    let lt = slice_get_within e.put h.index (Some h.definition) h.has in
-    let added = is.added in
-    each (e.place.at + h.index) (omega arith) (omega (arith, all, lt, added)) h.definition (put_there e h.index h.definition is h.has) name h.among
+-- what holds of the items in a range holds of each name that is declared first there
+pub first_covered : (P : List ℕ → Type 0) (ds : List (Option Definition)) (low high end : ℕ) → high ≤ end
+    → ((i : ℕ) → low ≤ i → i < end → (d : Definition) → definition_at ds i ≡ Some d → (name : List ℕ) (f : Declarer) → first_declarer ds name ≡ Some f → f.item ≡ i → P name)
+    → (name : List ℕ) (f : Declarer) → first_declarer ds name ≡ Some f → low ≤ f.item → f.item < high → P name
+first_covered P ds low high end all each name f first le lt =
+    let there = first_defined ds name f first in
+    each f.item le (omega (arith, all, lt)) there.0 there.1 name f first refl
 
 -- an item that does not wait is kept, where all fresh ones wait that have a definition
 pub kept_resting : (e : TextEdit) (waits : ℕ → Bool) (end : ℕ) → e.place.at + e.place.added ≤ end
@@ -69,12 +56,14 @@ kept_resting e waits end all each k rests d has = by (old_number e.place k) refl
 
 -- so all is ready before the first check
 pub ready_first : (e : TextEdit) (none a b : Queue) → IsEdit e → ((k : ℕ) → is_waiting none k ≡ false) → AddsItems none a 0 (length (definitions_after e)) → AddsItems a b 0 (length (definitions_after e))
-    → ((name : List ℕ) → IsDeclaredIn (removed_definitions e) name → IsCovered e (is_waiting a) name) → ((name : List ℕ) → IsDeclaredIn e.put name → IsCovered e (is_waiting b) name)
+    → ((name : List ℕ) (f : Declarer) → first_declarer e.old name ≡ Some f → e.place.at ≤ f.item → f.item < e.place.at + e.place.removed → IsCovered e (is_waiting a) name)
+    → ((name : List ℕ) (f : Declarer) → first_declarer (definitions_after e) name ≡ Some f → e.place.at ≤ f.item → f.item < e.place.at + e.place.added → IsCovered e (is_waiting b) name)
     → ((k : ℕ) → is_waiting b k ≡ false → IsKept e k) → IsReady e b [] 0
 ready_first e none a b is empty first next without come kept = record {
   within = omega arith;
   range = λ k w. (adds_more none a b 0 (length (definitions_after e)) first next).range k w (empty k);
   ascend = tt;
   decided = λ after are. decided_first e after (is_waiting b) (λ k lt rests. kept k rests)
-      (λ name k lt u rests. alike_everywhere e name is (λ d. without name d k lt u (rests_before a b 0 (length (definitions_after e)) k next rests)) (λ d. come name d k lt u rests));
+      (λ name k lt u rests. alike_everywhere e name is
+      (λ o h le l. without name o h le l k lt u (rests_before a b 0 (length (definitions_after e)) k next rests)) (λ f h le l. come name f h le l k lt u rests));
 }

@@ -1,21 +1,21 @@
 -- First declarers of names before an edit and after it.
 use Rattle.std.specs.Prelude.{slice_get, option_and_then}
-use Rattle.std.specs.List.{IsAmong}
 use Rattle.std.specs.Option.{option_or}
 use Rattle.std.specs.Str.{bytes_eq}
 use Rattle.std.proofs.Common.{◌≡◌, ◌<◌, ◌≤◌, inr, ℕ, zero, suc, ◌+◌, Bool, true, false, cond, List, [], ◌∷◌, ◌++◌, map, take, drop, length, Option, Some, None, refl, sym, ap, subst, ◌∙◌, arith, length-drop}
 use Rattle.std.proofs.lemmas.List.{length-take-le, take-append-drop, drop-drop}
 use Rattle.std.proofs.lemmas.Option.{same_Some, slice_get_within}
 use Rattle.x_item.specs.Tree.{Definition}
+use Rattle.x_item.specs.Named.{view_name}
 use Rattle.x_item.specs.Names.{Declared, declared}
+use Rattle.x_item.specs.declared.names.declared_name.DeclaredName.{DeclaredName}
 use Rattle.x_sema.specs.Declarers.{is_beforehand, IsDeclarer, IsFirstDeclarer, FirstIs, declarer_at, place_of_name, declarer_in, first_from, first_declarer}
 use Rattle.x_sema.specs.declared.names.Declarer.{Declarer}
-use Rattle.x_sema.proofs.AmongLemmas.{among_first, among_more}
-use Rattle.x_sema.proofs.DeclarerLaws.{first_is, found_is_first}
+use Rattle.x_sema.proofs.DeclarerLaws.{first_is}
 use Rattle.x_sema.proofs.NameLemmas.{option_or_after}
 use Rattle.x_uses.specs.declared.uses.Place.{Place}
 use Rattle.x_uses.specs.Editing.{TextEdit, definitions_after, IsEdit, definition_at}
-use Rattle.x_uses.specs.Rechecking.{IsAlike, HasAlike, IsDeclaredIn, removed_definitions}
+use Rattle.x_uses.specs.Rechecking.{IsAlike, HasAlike, IsNamed}
 use Rattle.x_uses.proofs.Numbering.{former_front, former_rear}
 
 -- ---- declarers in items that count from another number
@@ -94,14 +94,18 @@ first_append n (x ∷ xs) ys name =
     ap (option_or (declarer_in n name x)) (first_append (suc n) xs ys name ∙ ap (λ k. option_or (first_from (suc n) xs name) (first_from k ys name)) e)
     ∙ sym (option_or_after (declarer_in n name x) (first_from (suc n) xs name) (first_from (n + suc (length xs)) ys name))
 
--- a name that those in the middle do not declare is declared before them or behind
-without_middle : (front middle rear : List (Option Definition)) (n m : ℕ) (name : List ℕ) → length front ≡ n → n + length middle ≡ m → first_from n middle name ≡ None
-    → first_from 0 (front ++ (middle ++ rear)) name ≡ option_or (first_from 0 front name) (first_from m rear name)
-without_middle front middle rear n m name long more none =
+-- the first declarer in three lists one behind another
+first_parts : (front middle rear : List (Option Definition)) (n m : ℕ) (name : List ℕ) → length front ≡ n → n + length middle ≡ m
+    → first_from 0 (front ++ (middle ++ rear)) name ≡ option_or (first_from 0 front name) (option_or (first_from n middle name) (first_from m rear name))
+first_parts front middle rear n m name long more =
     let at : 0 + length front ≡ n = omega (arith, long) in
     first_append 0 front (middle ++ rear) name
     ∙ ap (λ k. option_or (first_from 0 front name) (first_from k (middle ++ rear) name)) at
-    ∙ ap (option_or (first_from 0 front name)) (first_append n middle rear name ∙ ap (λ o. option_or o (first_from (n + length middle) rear name)) none ∙ ap (λ k. first_from k rear name) more)
+    ∙ ap (option_or (first_from 0 front name)) (first_append n middle rear name ∙ ap (λ k. option_or (first_from n middle name) (first_from k rear name)) more)
+
+-- the definitions that an edit takes out, and those behind them
+abbrev removed_definitions : TextEdit → List (Option Definition)
+removed_definitions e = take e.place.removed (drop e.place.at e.old)
 
 abbrev rear_of : TextEdit → List (Option Definition)
 rear_of e = drop (e.place.at + e.place.removed) e.old
@@ -112,42 +116,82 @@ old_parts e =
     ∙ ap (λ l. take e.place.at e.old ++ l) (take-append-drop e.place.removed (drop e.place.at e.old))
     ∙ take-append-drop e.place.at e.old
 
-alike_parts : (p : Place) (front rear rear' : Option Declarer) → IsBelow p.at front → IsMoved (p.at + p.removed) (p.at + p.added) rear rear' → IsAlike p (option_or front rear) (option_or front rear')
-alike_parts p (Some a) rear rear' low moved = (former_front p a.item low, refl, refl)
-alike_parts p None None None low moved = tt
-alike_parts p None None (Some b) low moved = moved
-alike_parts p None (Some a) None low moved = moved
-alike_parts p None (Some a) (Some b) low moved = (former_rear p a.item b.item moved.0 moved.1, moved.2, moved.3)
+abbrev IsWithin : ℕ → ℕ → Option Declarer → Type 0
+IsWithin low high None = Unit {0}
+IsWithin low high (Some a) = (low ≤ a.item) × (a.item < high)
 
-not_beforehand : (p : Place) (name : List ℕ) (a b : Option Declarer) → IsAlike p a b → IsAlike p (cond (is_beforehand name) None a) (cond (is_beforehand name) None b)
-not_beforehand p name a b h = by (is_beforehand name)
+first_inside : (n k : ℕ) (ds : List (Option Definition)) (name : List ℕ) → n + length ds ≤ k → IsWithin n k (first_from n ds name)
+first_inside n k ds name le = by (first_from n ds name) (first_moved n n ds name) (first_below n k ds name le)
   where
-    by : (t : Bool) → IsAlike p (cond t None a) (cond t None b)
-    by true = tt
-    by false = h
+    by : (o : Option Declarer) → IsMoved n n o o → IsBelow k o → IsWithin n k o
+    by None moved below = tt
+    by (Some a) moved below = (moved.0, below)
 
--- the first declarers of a name are alike that nothing declares that comes or goes
-pub alike_untouched : (e : TextEdit) (name : List ℕ) → IsEdit e → first_from e.place.at (removed_definitions e) name ≡ None → first_from e.place.at e.put name ≡ None → HasAlike e name
-alike_untouched e name is without come =
-    let p = e.place in
-    let within = is.within in
-    let added = is.added in
-    let front = take p.at e.old in
-    let long : length front ≡ p.at = length-take-le p.at e.old (omega (arith, within)) in
-    let taken : p.at + length (removed_definitions e) ≡ p.at + p.removed =
-    let l = length-drop p.at e.old in
-    let m = length-take-le p.removed (drop p.at e.old) (omega (arith, within, l)) in
-    omega (arith, m) in
-    let put : p.at + length e.put ≡ p.at + p.added = omega (arith, added) in
-    let a : first_from 0 e.old name ≡ option_or (first_from 0 front name) (first_from (p.at + p.removed) (rear_of e) name) =
-    sym (ap (λ l. first_from 0 l name) (old_parts e)) ∙ without_middle front (removed_definitions e) (rear_of e) p.at (p.at + p.removed) name long taken without in
-    let b : first_from 0 (definitions_after e) name ≡ option_or (first_from 0 front name) (first_from (p.at + p.added) (rear_of e) name) =
-    without_middle front e.put (rear_of e) p.at (p.at + p.added) name long put come in
-    let below = first_below 0 p.at front name (omega (arith, long)) in
-    let moved = first_moved (p.at + p.removed) (p.at + p.added) (rear_of e) name in
-    let alike = alike_parts p (first_from 0 front name) (first_from (p.at + p.removed) (rear_of e) name) (first_from (p.at + p.added) (rear_of e) name) below moved in
-    not_beforehand p name (first_from 0 e.old name) (first_from 0 (definitions_after e) name)
-    (subst (λ o. IsAlike p o (first_from 0 (definitions_after e) name)) (sym a) (subst (IsAlike p (option_or (first_from 0 front name) (first_from (p.at + p.removed) (rear_of e) name))) (sym b) alike))
+-- first declarers are alike, unless that before the edit goes, or that after it is fresh
+alike_parts : (p : Place) (front removed rear put rear' : Option Declarer) → IsBelow p.at front → IsMoved (p.at + p.removed) (p.at + p.added) rear rear'
+    → IsWithin p.at (p.at + p.removed) removed → IsWithin p.at (p.at + p.added) put
+    → ((o : Declarer) → option_or front (option_or removed rear) ≡ Some o → p.at ≤ o.item → o.item < p.at + p.removed → IsAlike p (option_or front (option_or removed rear)) (option_or front (option_or put rear')))
+    → ((f : Declarer) → option_or front (option_or put rear') ≡ Some f → p.at ≤ f.item → f.item < p.at + p.added → IsAlike p (option_or front (option_or removed rear)) (option_or front (option_or put rear')))
+    → IsAlike p (option_or front (option_or removed rear)) (option_or front (option_or put rear'))
+alike_parts p (Some a) removed rear put rear' low moved gone new without come = (former_front p a.item low, refl, refl)
+alike_parts p None (Some o) rear put rear' low moved gone new without come = without o refl gone.0 gone.1
+alike_parts p None None rear (Some f) rear' low moved gone new without come = come f refl new.0 new.1
+alike_parts p None None None None None low moved gone new without come = tt
+alike_parts p None None None None (Some b) low moved gone new without come = moved
+alike_parts p None None (Some a) None None low moved gone new without come = moved
+alike_parts p None None (Some a) None (Some b) low moved gone new without come = (former_rear p a.item b.item moved.0 moved.1, moved.2, moved.3)
+
+pub alike_everywhere : (e : TextEdit) (name : List ℕ) → IsEdit e
+    → ((o : Declarer) → first_declarer e.old name ≡ Some o → e.place.at ≤ o.item → o.item < e.place.at + e.place.removed → HasAlike e name)
+    → ((f : Declarer) → first_declarer (definitions_after e) name ≡ Some f → e.place.at ≤ f.item → f.item < e.place.at + e.place.added → HasAlike e name) → HasAlike e name
+alike_everywhere e name is without come = by (is_beforehand name) refl
+  where
+    p : Place
+    p = e.place
+
+    front : Option Declarer
+    front = first_from 0 (take e.place.at e.old) name
+
+    before : Option Declarer
+    before = option_or front (option_or (first_from p.at (removed_definitions e) name) (first_from (p.at + p.removed) (rear_of e) name))
+
+    now : Option Declarer
+    now = option_or front (option_or (first_from p.at e.put name) (first_from (p.at + p.added) (rear_of e) name))
+
+    long : length (take e.place.at e.old) ≡ e.place.at
+    long = let within = is.within in length-take-le e.place.at e.old (omega (arith, within))
+
+    taken : e.place.at + length (removed_definitions e) ≡ e.place.at + e.place.removed
+    taken =
+        let within = is.within in
+        let l = length-drop e.place.at e.old in
+        let m = length-take-le e.place.removed (drop e.place.at e.old) (omega (arith, within, l)) in
+        omega (arith, m)
+
+    put : e.place.at + length e.put ≡ e.place.at + e.place.added
+    put = let added = is.added in omega (arith, added)
+
+    by : (b : Bool) → is_beforehand name ≡ b → HasAlike e name
+    by true not = subst (λ t. IsAlike e.place (cond t None (first_from 0 e.old name)) (cond t None (first_from 0 (definitions_after e) name))) (sym not) tt
+    by false not =
+        let a : first_declarer e.old name ≡ before =
+        ap (λ b. cond b None (first_from 0 e.old name)) not ∙ sym (ap (λ l. first_from 0 l name) (old_parts e))
+        ∙ first_parts (take e.place.at e.old) (removed_definitions e) (rear_of e) p.at (p.at + p.removed) name long taken in
+        let b : first_declarer (definitions_after e) name ≡ now =
+        ap (λ b. cond b None (first_from 0 (definitions_after e) name)) not
+        ∙ first_parts (take e.place.at e.old) e.put (rear_of e) p.at (p.at + p.added) name long put in
+        let into : HasAlike e name → IsAlike p before now = λ h. subst (IsAlike p before) b (subst (λ o. IsAlike p o (first_declarer (definitions_after e) name)) a h) in
+        let fits = long in
+        let all = taken in
+        let some = put in
+        subst (λ o. IsAlike p o (first_declarer (definitions_after e) name)) (sym a)
+        (subst (IsAlike p before) (sym b)
+        (alike_parts p front (first_from p.at (removed_definitions e) name) (first_from (p.at + p.removed) (rear_of e) name) (first_from p.at e.put name) (first_from (p.at + p.added) (rear_of e) name)
+        (first_below 0 p.at (take e.place.at e.old) name (omega (arith, fits)))
+        (first_moved (p.at + p.removed) (p.at + p.added) (rear_of e) name)
+        (first_inside p.at (p.at + p.removed) (removed_definitions e) name (omega (arith, all)))
+        (first_inside p.at (p.at + p.added) e.put name (omega (arith, some)))
+        (λ o h le lt. into (without o (a ∙ h) le lt)) (λ f h le lt. into (come f (b ∙ h) le lt))))
 
 -- ---- who a first declarer is
 
@@ -179,34 +223,16 @@ same_place e name o f is before now same =
     let ge = not_earlier (definitions_after e) e.old name f o b a (sym same) in
     omega (arith, le, ge)
 
--- a name that is declared is one of those that an item of the list declares
-among_declared : (ds : List Declared) (place : ℕ) (x : Declared) → slice_get ds place ≡ Some x → IsAmong (map (λ d. d.name) ds) x.name
-among_declared [] place x h = absurd (cc)
-among_declared (d ∷ ds) zero x h = let is : d ≡ x = same_Some d x h in subst (λ y. IsAmong (d.name ∷ map (λ d. d.name) ds) y.name) is (among_first d.name (map (λ d. d.name) ds))
-among_declared (d ∷ ds) (suc place) x h = among_more d.name x.name (map (λ d. d.name) ds) (among_declared ds place x h)
+-- the name stands where its first declarer declares it
+named_at : (names : List DeclaredName) (place : ℕ) (x : Declared) → slice_get (map view_name names) place ≡ Some x → IsNamed names place x.name
+named_at [] place x h = absurd (cc)
+named_at (n ∷ names) zero x h = record { declared = n; there = refl; is = ap (λ d. d.name) (same_Some (view_name n) x h) }
+named_at (n ∷ names) (suc place) x h = let more = named_at names place x h in record { declared = more.declared; there = more.there; is = more.is }
 
--- the name is among those that its first declarer declares
-pub first_among : (ds : List (Option Definition)) (name : List ℕ) (at : Declarer) (d : Definition) → first_declarer ds name ≡ Some at → definition_at ds at.item ≡ Some d → IsAmong (map (λ x. x.name) (declared d)) name
-first_among ds name at d h has =
+pub first_named : (ds : List (Option Definition)) (name : List ℕ) (at : Declarer) (d : Definition) (names : List DeclaredName) → first_declarer ds name ≡ Some at → definition_at ds at.item ≡ Some d
+    → map view_name names ≡ declared d → IsNamed names at.place name
+first_named ds name at d names h has are =
     let is = (first_declares ds name at h).declares in
     let same : is.definition ≡ d = same_Some is.definition d (sym (ap (option_and_then (λ x. x)) is.item_is) ∙ has) in
-    subst (λ x. IsAmong (map (λ y. y.name) (declared x)) name) same (among_declared (declared is.definition) at.place _ is.declares)
-
-declared_in : (n : ℕ) (ds : List (Option Definition)) (name : List ℕ) (a : Declarer) → is_beforehand name ≡ false → first_from n ds name ≡ Some a → IsDeclaredIn ds name
-declared_in n ds name a not h = by (first_from 0 ds name) refl (subst (λ o. IsMoved n 0 o (first_from 0 ds name)) h (first_moved n 0 ds name))
-  where
-    by : (o : Option Declarer) → first_from 0 ds name ≡ o → IsMoved n 0 (Some a) o → IsDeclaredIn ds name
-    by None e moved = absurd moved
-    by (Some b) e moved =
-        let is = (found_is_first ds name b e not).declares in
-        record { index = b.item; definition = is.definition; has = is.item_is; among = among_declared (declared is.definition) b.place _ is.declares }
-
--- first declarers are alike where they are for each name that something declares that comes or goes
-pub alike_everywhere : (e : TextEdit) (name : List ℕ) → IsEdit e → (IsDeclaredIn (removed_definitions e) name → HasAlike e name) → (IsDeclaredIn e.put name → HasAlike e name) → HasAlike e name
-alike_everywhere e name is without come = by (is_beforehand name) refl (first_from e.place.at (removed_definitions e) name) refl (first_from e.place.at e.put name) refl
-  where
-    by : (b : Bool) → is_beforehand name ≡ b → (o : Option Declarer) → first_from e.place.at (removed_definitions e) name ≡ o → (f : Option Declarer) → first_from e.place.at e.put name ≡ f → HasAlike e name
-    by true not o a f b = subst (λ t. IsAlike e.place (cond t None (first_from 0 e.old name)) (cond t None (first_from 0 (definitions_after e) name))) (sym not) tt
-    by false not (Some x) a f b = without (declared_in e.place.at (removed_definitions e) name x not a)
-    by false not None a (Some y) b = come (declared_in e.place.at e.put name y not b)
-    by false not None a None b = alike_untouched e name is a b
+    let x : Declared = record { name = name; word = at.word; kind = at.kind; lifted = at.lifted } in
+    named_at names at.place x (ap (λ l. slice_get l at.place) (are ∙ sym (ap declared same)) ∙ is.declares)

@@ -1,12 +1,12 @@
 -- One turn: the first item that waits is decided.
 use Rattle.std.specs.Prelude.{option_map}
-use Rattle.std.specs.List.{IsAmong}
 use Rattle.std.specs.Option.{unwrap_or}
 use Rattle.std.proofs.Common.{◌≡◌, ◌<◌, ◌≤◌, ◌⊎◌, inl, inr, ℕ, ◌+◌, Bool, true, false, List, [], ◌∷◌, ◌++◌, map, length, Option, Some, None, refl, sym, ap, subst, ◌∙◌, arith, add-one}
 use Rattle.std.proofs.lemmas.Bool.{cases_lt, true≢false}
-use Rattle.std.proofs.lemmas.Option.{same_Some}
 use Rattle.x_item.specs.Tree.{Definition}
+use Rattle.x_item.specs.Named.{view_name}
 use Rattle.x_item.specs.Names.{declared}
+use Rattle.x_item.specs.declared.names.declared_name.DeclaredName.{DeclaredName}
 use Rattle.x_sema.specs.Declarers.{first_declarer}
 use Rattle.x_sema.specs.declared.names.Declarer.{Declarer}
 use Rattle.x_sema.specs.Results.{Outcome, AreResults, result_at, meaning_in}
@@ -14,11 +14,11 @@ use Rattle.x_sema.specs.Views.{Bad}
 use Rattle.x_sema.proofs.HasResults.{has_results}
 use Rattle.x_uses.specs.Editing.{TextEdit, definitions_after, IsEdit, definition_at}
 use Rattle.x_uses.specs.Staleness.{IsRecheck, IsStale}
-use Rattle.x_uses.specs.Rechecking.{AddsItems, IsDecided, IsReady, IsSpread, IsTold, IsUnchanged, is_waiting}
+use Rattle.x_uses.specs.Rechecking.{AddsItems, IsDecided, IsNamed, IsReady, IsSpread, IsTold, IsUnchanged, is_waiting}
 use Rattle.x_uses.specs.declared.rechecking.Rechecked.{Rechecked}
 use Rattle.x_uses.specs.declared.rechecking.queue.Queue.{Queue}
 use Rattle.x_uses.proofs.DecidedLemmas.{decided_stale, decided_to, decided_unchanged}
-use Rattle.x_uses.proofs.FirstDeclarers.{first_among}
+use Rattle.x_uses.proofs.FirstDeclarers.{first_named}
 use Rattle.x_uses.proofs.Numbering.{definition_within}
 use Rattle.x_uses.proofs.WaitingLemmas.{rests_before}
 
@@ -33,14 +33,13 @@ unchanged_none e after k none = record {
     clash d h = let bad : None ≡ Some d = sym none ∙ h in cc
 
 -- the users of a name know what it means, once the item was checked that declares it first
-spread_told : (e : TextEdit) (after : List (Option Outcome)) (waits : ℕ → Bool) (k : ℕ) (d : Definition) (c : Outcome) → definition_at (definitions_after e) k ≡ Some d → Some c ≡ result_at after k
-    → ((name : List ℕ) → IsAmong (map (λ x. x.name) (declared d)) name → IsTold e k c waits name)
+spread_told : (e : TextEdit) (after : List (Option Outcome)) (waits : ℕ → Bool) (k : ℕ) (d : Definition) (names : List DeclaredName) (c : Outcome) → definition_at (definitions_after e) k ≡ Some d
+    → map view_name names ≡ declared d → Some c ≡ result_at after k → ((name : List ℕ) (place : ℕ) → IsNamed names place name → IsTold e k place c waits name)
     → (name : List ℕ) (f : Declarer) → first_declarer (definitions_after e) name ≡ Some f → f.item ≡ k → IsSpread e after waits k name
-spread_told e after waits k d c has result told name f first here j lt within u rests o g before now there =
-    let same : f ≡ g = same_Some f g (sym first ∙ now) in
-    let among = first_among (definitions_after e) name f d first (ap (definition_at (definitions_after e)) here ∙ has) in
+spread_told e after waits k d names c has are result told name f first here j lt within u rests o g before now there =
     let item : result_at after g.item ≡ Some c = ap (result_at after) there ∙ sym result in
-    told name among j lt within u rests o g before now there ∙ sym (ap (λ r. unwrap_or (option_map (λ x. meaning_in x g.place) r) Bad) item)
+    let named = first_named (definitions_after e) name g d names now (ap (definition_at (definitions_after e)) there ∙ has) are in
+    told name g.place named j lt within u rests o g before now there refl ∙ sym (ap (λ r. unwrap_or (option_map (λ x. meaning_in x g.place) r) Bad) item)
 
 -- ---- an item is decided
 
@@ -48,15 +47,15 @@ pub decided_same : (e : TextEdit) (after : List (Option Outcome)) (waits waits' 
     → IsUnchanged e after k → ((j : ℕ) → k < j → waits' j ≡ false → waits j ≡ false) → IsDecided e after waits' rs (k + 1)
 decided_same e after waits waits' rs k is are d same stay = subst (IsDecided e after waits' rs) (sym (add-one k)) (decided_unchanged e after waits waits' rs k is are d same stay)
 
-pub decided_anew : (e : TextEdit) (after : List (Option Outcome)) (waits : ℕ → Bool) (q q' : Queue) (rs new : List Rechecked) (r : Rechecked) (k high : ℕ) (d : Definition) → IsDecided e after waits rs k
-    → r.item ≡ k → definition_at (definitions_after e) k ≡ Some d → IsStale e after k × (Some r.checked ≡ result_at after k) → AddsItems q q' (k + 1) high
+pub decided_anew : (e : TextEdit) (after : List (Option Outcome)) (waits : ℕ → Bool) (q q' : Queue) (rs new : List Rechecked) (r : Rechecked) (k high : ℕ) (d : Definition) (names : List DeclaredName) → IsDecided e after waits rs k
+    → r.item ≡ k → definition_at (definitions_after e) k ≡ Some d → map view_name names ≡ declared d → IsStale e after k × (Some r.checked ≡ result_at after k) → AddsItems q q' (k + 1) high
     → ((j : ℕ) → k < j → is_waiting q j ≡ false → waits j ≡ false)
-    → ((name : List ℕ) → IsAmong (map (λ x. x.name) (declared d)) name → IsTold e k r.checked (is_waiting q') name) → new ≡ rs ++ r ∷ [] → IsDecided e after (is_waiting q') new (k + 1)
-decided_anew e after waits q q' rs new r k high d decided here has found adds stay told pushed =
+    → ((name : List ℕ) (place : ℕ) → IsNamed names place name → IsTold e k place r.checked (is_waiting q') name) → new ≡ rs ++ r ∷ [] → IsDecided e after (is_waiting q') new (k + 1)
+decided_anew e after waits q q' rs new r k high d names decided here has are found adds stay told pushed =
     subst (λ l. IsDecided e after (is_waiting q') l (k + 1)) (sym pushed)
     (subst (IsDecided e after (is_waiting q') (rs ++ r ∷ [])) (sym (add-one k))
     (decided_stale e after waits (is_waiting q') rs r k decided here found.0 found.1 (λ j lt rests. stay j lt (rests_before q q' (k + 1) high j adds rests))
-    (spread_told e after (is_waiting q') k d r.checked has found.1 told)))
+    (spread_told e after (is_waiting q') k d names r.checked has are found.1 told)))
 
 -- ---- a turn
 

@@ -1,17 +1,16 @@
 -- The numbers of items before an edit and after it, and what stands there.
 use Rattle.std.specs.Prelude.{slice_get, option_and_then, nat_lt}
 use Rattle.std.specs.List.{splice}
-use Rattle.std.proofs.Common.{◌≡◌, ◌<◌, ◌≤◌, ◌⊎◌, inl, inr, ℕ, zero, suc, ◌+◌, ◌-◌, Bool, true, false, cond, List, [], ◌∷◌, ◌++◌, take, drop, length, Option, Some, None, refl, sym, ap, subst, ◌∙◌, arith, length-take}
+use Rattle.std.proofs.Common.{◌≡◌, ◌<◌, ◌≤◌, ◌⊎◌, inl, inr, ℕ, zero, suc, ◌+◌, ◌-◌, Bool, true, false, cond, List, [], ◌∷◌, ◌++◌, take, drop, length, Option, Some, None, refl, sym, ap, subst, ◌∙◌, arith}
 use Rattle.std.proofs.lemmas.Bool.{ltb-true, ltb-false, lt-ltb, le-ltb}
 use Rattle.std.proofs.lemmas.List.{length-take-le}
 use Rattle.std.proofs.lemmas.Option.{same_Some, slice_get_within}
 use Rattle.x_item.specs.Tree.{Definition}
 use Rattle.x_item.proofs.PatchedLemmas.{get_drop}
 use Rattle.x_uses.specs.declared.uses.Place.{Place}
-use Rattle.x_text.proofs.PatchLemmas.{length-spliced}
-use Rattle.x_uses.specs.Editing.{TextEdit, definitions_after, IsEdit, definition_at, new_number, old_number}
+use Rattle.x_uses.specs.Editing.{TextEdit, definitions_after, IsEdit, definition_at, old_number}
 use Rattle.x_sema.specs.Declarers.{AreShort, IsShort}
-use Rattle.x_uses.specs.Rechecking.{IsFormer, removed_definitions}
+use Rattle.x_uses.specs.Rechecking.{IsFormer}
 
 -- ---- lists
 
@@ -61,64 +60,11 @@ fresh_cases p k h = by (nat_lt k p.at) refl (nat_lt k (p.at + p.added)) refl h
 pub number_front : (p : Place) (k : ℕ) → k < p.at → old_number p k ≡ Some k
 number_front p k lt = ap (λ b. cond b (Some k) (cond (nat_lt k (p.at + p.added)) None (Some (k - p.added + p.removed)))) (lt-ltb k p.at lt)
 
-pub number_fresh : (p : Place) (k : ℕ) → p.at ≤ k → k < p.at + p.added → old_number p k ≡ None
-number_fresh p k le lt =
-    ap (λ b. cond b (Some k) (cond (nat_lt k (p.at + p.added)) None (Some (k - p.added + p.removed)))) (le-ltb k p.at le)
-    ∙ ap (λ b. cond b None (Some (k - p.added + p.removed))) (lt-ltb k (p.at + p.added) lt)
-
 pub number_rear : (p : Place) (k : ℕ) → p.at + p.added ≤ k → old_number p k ≡ Some (k - p.added + p.removed)
 number_rear p k le =
     let front : p.at ≤ k = omega (arith, le) in
     ap (λ b. cond b (Some k) (cond (nat_lt k (p.at + p.added)) None (Some (k - p.added + p.removed)))) (le-ltb k p.at front)
     ∙ ap (λ b. cond b None (Some (k - p.added + p.removed))) (le-ltb k (p.at + p.added) le)
-
--- a kept item has the number that it is found by
-pub new_of_old : (p : Place) (k was : ℕ) → old_number p k ≡ Some was → new_number p was ≡ Some k
-new_of_old p k was h = by (kept_cases p k was h)
-  where
-    behind : Option ℕ
-    behind = Some (was - p.removed + p.added)
-
-    by : IsKeptAs p k was → new_number p was ≡ Some k
-    by (inl c) =
-        let lt : was < p.at = let a = c.0 in let b = c.1 in omega (arith, a, b) in
-        ap (λ b. cond b (Some was) (cond (nat_lt was (p.at + p.removed)) None behind)) (lt-ltb was p.at lt) ∙ ap Some c.1
-    by (inr c) =
-        let a = c.0 in
-        let b = c.1 in
-        let rear : p.at + p.removed ≤ was = omega (arith, a, b) in
-        let front : p.at ≤ was = omega (arith, rear) in
-        let same : was - p.removed + p.added ≡ k = omega (arith, b, rear) in
-        ap (λ b. cond b (Some was) (cond (nat_lt was (p.at + p.removed)) None behind)) (le-ltb was p.at front)
-        ∙ ap (λ b. cond b None behind) (le-ltb was (p.at + p.removed) rear) ∙ ap Some same
-
--- how many items there are after the edit
-pub edited_length : (e : TextEdit) → IsEdit e → length (definitions_after e) + e.place.removed ≡ length e.old + e.place.added
-edited_length e is =
-    let within = is.within in
-    let added = is.added in
-    let long = length-spliced e.old e.put e.place.at (e.place.at + e.place.removed) (omega (arith, within)) in
-    omega (arith, within, added, long)
-
-pub new_within : (e : TextEdit) (j k : ℕ) → IsEdit e → j < length e.old → new_number e.place j ≡ Some k → k < length (definitions_after e)
-new_within e j k is lt h = by (nat_lt j e.place.at) refl (nat_lt j (e.place.at + e.place.removed)) refl h
-  where
-    long : length (definitions_after e) + e.place.removed ≡ length e.old + e.place.added
-    long = edited_length e is
-
-    by : (b : Bool) → nat_lt j e.place.at ≡ b → (c : Bool) → nat_lt j (e.place.at + e.place.removed) ≡ c → cond b (Some j) (cond c None (Some (j - e.place.removed + e.place.added))) ≡ Some k → k < length (definitions_after e)
-    by true x c y h =
-        let same = same_Some j k h in
-        let front = ltb-true j e.place.at x in
-        let within = is.within in
-        let sum = long in
-        omega (arith, same, front, within, sum)
-    by false x true y h = absurd (cc)
-    by false x false y h =
-        let same = same_Some (j - e.place.removed + e.place.added) k h in
-        let rear = ltb-false j (e.place.at + e.place.removed) y in
-        let sum = long in
-        omega (arith, same, rear, sum, lt)
 
 -- ---- what stands there
 
@@ -178,23 +124,6 @@ short_after e is item d h = by (old_number e.place item) refl
     by : (n : Option ℕ) → old_number e.place item ≡ n → IsShort d
     by None fresh = is.short_put (item - e.place.at) d (definition_there e.put (item - e.place.at) d (sym (definition_fresh e item is fresh) ∙ defined_at (definitions_after e) item d h))
     by (Some j) kept = is.short j d (definition_there e.old j d (sym (definition_kept e item j is kept) ∙ defined_at (definitions_after e) item d h))
-
--- what is put in has a number after the edit
-pub put_there : (e : TextEdit) (i : ℕ) (d : Definition) → IsEdit e → slice_get e.put i ≡ Some (Some d) → definition_at (definitions_after e) (e.place.at + i) ≡ Some d
-put_there e i d is h =
-    let added = is.added in
-    let lt = slice_get_within e.put i (Some d) h in
-    let fresh = number_fresh e.place (e.place.at + i) (omega arith) (omega (arith, added, lt)) in
-    let same : e.place.at + i - e.place.at ≡ i = omega arith in
-    definition_fresh e (e.place.at + i) is fresh ∙ ap (definition_at e.put) same ∙ defined_at e.put i d h
-
--- what goes had a number before it
-pub gone_there : (e : TextEdit) (i : ℕ) (d : Definition) → slice_get (removed_definitions e) i ≡ Some (Some d) → (i < e.place.removed) × (definition_at e.old (e.place.at + i) ≡ Some d)
-gone_there e i d h =
-    let within = slice_get_within (removed_definitions e) i (Some d) h in
-    let long = length-take e.place.removed (drop e.place.at e.old) in
-    let lt : i < e.place.removed = omega (arith, within, long) in
-    (lt, defined_at e.old (e.place.at + i) d (sym (get_drop e.place.at e.old i) ∙ sym (get_take e.place.removed (drop e.place.at e.old) i lt) ∙ h))
 
 -- ---- who stood where
 

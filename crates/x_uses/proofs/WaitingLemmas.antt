@@ -1,6 +1,7 @@
 -- Items that wait.
-use Rattle.std.proofs.Common.{◌≡◌, ◌<◌, ◌≤◌, ℕ, Bool, true, false, List, refl, sym, ◌∙◌, arith}
+use Rattle.std.proofs.Common.{◌≡◌, ◌<◌, ◌≤◌, ℕ, Bool, true, false, List, refl, sym, ◌∙◌}
 use Rattle.std.proofs.lemmas.Bool.{true≢false}
+use Rattle.x_sema.specs.Results.{Outcome}
 use Rattle.x_uses.specs.Editing.{TextEdit}
 use Rattle.x_uses.specs.Rechecking.{AddsItems, IsCovered, IsTold, is_waiting}
 use Rattle.x_uses.specs.declared.rechecking.queue.Queue.{Queue}
@@ -25,22 +26,8 @@ adds_more a b c low high h m = record {
     by k w f true e = h.range k e f
     by k w f false e = m.range k w e
 
-pub adds_one : (a b : Queue) (item low high : ℕ) → low ≤ item → item < high → ((k : ℕ) → is_waiting a k ≡ true → is_waiting b k ≡ true)
-    → ((k : ℕ) → is_waiting b k ≡ true → (k ≡ item → ⊥) → is_waiting a k ≡ true) → AddsItems a b low high
-adds_one a b item low high le lt keeps others = record {
-  keeps = keeps;
-  range = λ k w f.
-      let above : k < item → ⊥ = λ n. other k w f (λ e. omega (arith, e, n)) in
-      let below : item < k → ⊥ = λ n. other k w f (λ e. omega (arith, e, n)) in
-      let same : k ≡ item = omega (arith, above, below) in
-      (omega (arith, same, le), omega (arith, same, lt));
-}
-  where
-    other : (k : ℕ) → is_waiting b k ≡ true → is_waiting a k ≡ false → (k ≡ item → ⊥) → ⊥
-    other k w f differs = true≢false (sym (others k w differs) ∙ f)
-
 pub covered_more : (e : TextEdit) (a b : Queue) (low high : ℕ) (name : List ℕ) → AddsItems a b low high → IsCovered e (is_waiting a) name → IsCovered e (is_waiting b) name
 covered_more e a b low high name adds h k lt u rests = h k lt u (rests_before a b low high k adds rests)
 
-pub told_more : (e : TextEdit) (item : ℕ) (found : _) (a b : Queue) (low high : ℕ) (name : List ℕ) → AddsItems a b low high → IsTold e item found (is_waiting a) name → IsTold e item found (is_waiting b) name
-told_more e item found a b low high name adds h k lt within u rests = h k lt within u (rests_before a b low high k adds rests)
+pub told_more : (e : TextEdit) (item place : ℕ) (found : Outcome) (a b : Queue) (low high : ℕ) (name : List ℕ) → AddsItems a b low high → IsTold e item place found (is_waiting a) name → IsTold e item place found (is_waiting b) name
+told_more e item place found a b low high name adds h k lt within u rests = h k lt within u (rests_before a b low high k adds rests)

@@ -1,8 +1,10 @@
 -- What holds of each element that a loop has gone over.
+use Rattle.std.specs.Prelude.{slice_get}
 use Rattle.std.specs.List.{IsAmong}
-use Rattle.std.proofs.Common.{◌≡◌, ◌<◌, ◌≤◌, ◌⊎◌, inl, inr, ℕ, suc, ◌+◌, List, [], ◌∷◌, ◌++◌, map, take, drop, length, get_or, refl, sym, ap, subst, ◌∙◌, arith}
+use Rattle.std.proofs.Common.{◌≡◌, ◌<◌, ◌≤◌, ◌⊎◌, inl, inr, ℕ, suc, ◌+◌, List, [], ◌∷◌, ◌++◌, map, take, drop, length, get_or, Some, refl, sym, ap, subst, ◌∙◌, arith}
+use Rattle.std.proofs.lemmas.Bool.{cases_lt}
 use Rattle.std.proofs.lemmas.List.{take_all}
-use Rattle.std.proofs.lemmas.Option.{get_or_from_slice_get, slice_get-get_or}
+use Rattle.std.proofs.lemmas.Option.{get_or_from_slice_get, slice_get-get_or, slice_get_within}
 use Rattle.x_text.proofs.ListLemmas.{drop_one, take_next}
 use Rattle.x_sema.proofs.AmongLemmas.{among_cases, among_none, among_parts, among_same, among_more}
 
@@ -57,3 +59,20 @@ map_among f (z ∷ xs) x h = by (among_cases z x xs h) (λ k. map_among f xs x k
 
 pub each_mapped : {X Y : Type 0} (P : Y → Type 0) (f : X → Y) (xs : List X) → ((x : X) → IsAmong xs x → P (f x)) → (y : Y) → IsAmong (map f xs) y → P y
 each_mapped P f xs h y k = let r = among_map f xs y k in subst P (sym r.2) (h r.0 r.1)
+
+-- ---- by place
+
+pub each_place_next : {X : Type 0} (P Q : ℕ → X → Type 0) (xs : List X) (index : ℕ) (x : X) → index < length xs → x ≡ get_or xs index x → ((i : ℕ) (y : X) → P i y → Q i y)
+    → ((i : ℕ) (y : X) → i < index → slice_get xs i ≡ Some y → P i y) → Q index x → (i : ℕ) (y : X) → i < index + 1 → slice_get xs i ≡ Some y → Q i y
+each_place_next P Q xs index x lt at more so here i y below there = by (cases_lt i index)
+  where
+    by : (i < index) ⊎ (index ≤ i) → Q i y
+    by (inl l) = more i y (so i y l there)
+    by (inr l) =
+        let same : index ≡ i = omega (arith, l, below) in
+        let one : x ≡ y = at ∙ get_or_from_slice_get xs index y x (ap (slice_get xs) same ∙ there) in
+        subst (λ k. Q k y) same (subst (Q index) one here)
+
+pub each_place_all : {X : Type 0} (P : ℕ → X → Type 0) (xs : List X) (index : ℕ) → length xs ≤ index → ((i : ℕ) (y : X) → i < index → slice_get xs i ≡ Some y → P i y)
+    → (i : ℕ) (y : X) → slice_get xs i ≡ Some y → P i y
+each_place_all P xs index end so i y there = let lt = slice_get_within xs i y there in so i y (omega (arith, end, lt)) there

@@ -1,12 +1,13 @@
 -- What is known of the items while those are checked that an edit makes stale.
-use Rattle.std.specs.Prelude.{◌≡◌, ◌<◌, ◌≤◌, ◌↔◌, ℕ, ◌+◌, Bool, true, false, List, map, take, drop}
+use Rattle.std.specs.Prelude.{◌≡◌, ◌<◌, ◌≤◌, ◌↔◌, ◌⊎◌, ℕ, ◌+◌, Bool, true, false, List, map}
 use Rattle.std.specs.Prelude.{slice_get, Option, Some, None}
 use Rattle.std.specs.BTreeSet.{contains}
+use Rattle.std.specs.Cow.{cow_slice_items}
 use Rattle.std.specs.List.{IsAmong}
 use Rattle.std.specs.Ordering.{nat_cmp}
 use Rattle.x_text.specs.Counts.{Counts, raised}
 use Rattle.x_item.specs.Tree.{Definition}
-use Rattle.x_item.specs.Names.{declared}
+use Rattle.x_item.specs.declared.names.declared_name.DeclaredName.{DeclaredName}
 use Rattle.x_schema.specs.Definitions.{tree_at}
 use Rattle.x_sema.specs.Declarers.{first_declarer}
 use Rattle.x_sema.specs.declared.names.Declarer.{Declarer}
@@ -115,18 +116,15 @@ IsSpread e after waits low name = (k : ℕ) → low < k → k < count_after e �
     → first_declarer (definitions_after e) name ≡ Some f → f.item ≡ low
     → meaning_at (result_at e.outcomes) o ≡ meaning_at (result_at after) f
 
--- ---- what comes and goes
+-- this is a first declarer of the name, before the edit or after it
+abbrev pub IsFirst : TextEdit → List ℕ → Declarer → Type 0
+IsFirst e name f = (first_declarer e.old name ≡ Some f) ⊎ (first_declarer (definitions_after e) name ≡ Some f)
 
--- the definitions that an edit takes out
-abbrev pub removed_definitions : TextEdit → List (Option Definition)
-removed_definitions e = take e.place.removed (drop e.place.at e.old)
-
--- one of these definitions declares the name
-pub record IsDeclaredIn (ds : List (Option Definition)) (name : List ℕ) : Type 0 where
-  pub index : ℕ
-  pub definition : Definition
-  pub has : slice_get ds index ≡ Some (Some definition)
-  pub among : IsAmong (map (λ d. d.name) (declared definition)) name
+-- the name stands in this place of those that are listed of a definition
+pub record IsNamed (names : List DeclaredName) (place : ℕ) (name : List ℕ) : Type 0 where
+  pub declared : DeclaredName
+  pub there : slice_get names place ≡ Some declared
+  pub is : cow_slice_items declared.name ≡ name
 
 -- ---- items that wait
 
@@ -169,13 +167,14 @@ abbrev pub CountsOn : Counts → Counts → Type 0
 CountsOn before now = (base : Counts) (n : ℕ) → before ≡ counts_after base n
     → (m : ℕ) × (now ≡ counts_after base m)
 
--- where the item declares the name first, it means there what it meant, by what was found of the item
-abbrev pub IsMeantAs : TextEdit → ℕ → Outcome → List ℕ → Type 0
-IsMeantAs e item found name = (o f : Declarer) → first_declarer e.old name ≡ Some o
-    → first_declarer (definitions_after e) name ≡ Some f → f.item ≡ item
-    → meaning_at (result_at e.outcomes) o ≡ meaning_in found f.place
+-- where the item declares the name first in this place, it means there what it meant, by what was found of the
+-- item
+abbrev pub IsMeantAs : TextEdit → ℕ → ℕ → Outcome → List ℕ → Type 0
+IsMeantAs e item place found name = (o f : Declarer) → first_declarer e.old name ≡ Some o
+    → first_declarer (definitions_after e) name ≡ Some f → f.item ≡ item → f.place ≡ place
+    → meaning_at (result_at e.outcomes) o ≡ meaning_in found place
 
--- where a kept user of the name behind the item does not wait, the name means there what it meant
-abbrev pub IsTold : TextEdit → ℕ → Outcome → (ℕ → Bool) → List ℕ → Type 0
-IsTold e item found waits name = (k : ℕ) → item < k → k < count_after e → IsKeptUser e k name
-    → waits k ≡ false → IsMeantAs e item found name
+-- so it is where a kept user of the name behind the item does not wait
+abbrev pub IsTold : TextEdit → ℕ → ℕ → Outcome → (ℕ → Bool) → List ℕ → Type 0
+IsTold e item place found waits name = (k : ℕ) → item < k → k < count_after e → IsKeptUser e k name
+    → waits k ≡ false → IsMeantAs e item place found name

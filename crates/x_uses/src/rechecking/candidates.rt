@@ -1,21 +1,20 @@
 //! The items that wait for a check because of an edit, or of what another item means.
 
-ghost use Rattle.std.specs.Prelude.{◌≡◌, ◌<◌, ◌≤◌, ℕ, List, [], length, map, Some, IfOk, OnOk, IsTrue, true};
-ghost use Rattle.std.specs.Prelude.{false};
-ghost use Rattle.std.specs.Cow.{cow_slice_items};
-ghost use Rattle.std.specs.List.{IsAmong};
-ghost use Rattle.x_item.specs.Names.{declared};
+ghost use Rattle.std.specs.Prelude.{◌≡◌, ◌<◌, ◌≤◌, ◌+◌, ℕ, List, [], length, Option, Some, IfOk, OnOk, IsTrue};
+ghost use Rattle.std.specs.Prelude.{true, false};
 ghost use Rattle.x_item.specs.Tree.{Definition as Tree};
-ghost use Rattle.x_uses.specs.Editing.{definitions_after, definition_at, old_number, count_after};
-ghost use Rattle.x_uses.specs.Rechecking.{AddsItems, HasAlike, IsCovered, IsDeclaredIn, IsFormer, IsKept};
-ghost use Rattle.x_uses.specs.Rechecking.{IsKeptUser, IsReady};
-ghost use Rattle.x_uses.specs.Rechecking.{AreEditedItems, edit_of, removed_definitions, is_waiting};
+ghost use Rattle.x_sema.specs.Declarers.{first_declarer};
+ghost use Rattle.x_sema.specs.declared.names.Declarer.{Declarer as First};
+ghost use Rattle.x_uses.specs.Editing.{count_after, definition_at, definitions_after, old_number};
+ghost use Rattle.x_uses.specs.Rechecking.{AddsItems, AreEditedItems, HasAlike, IsCovered, IsFirst, IsFormer};
+ghost use Rattle.x_uses.specs.Rechecking.{IsKept, IsKeptUser, IsNamed, IsReady, edit_of, is_waiting};
 
 use super::CheckedItems;
 use super::edited_items::EditedItems;
 use super::queue::Queue;
 use std::alloc::Global;
 use x_item::{DeclaredName, declares_into};
+use x_sema::Declarer;
 use x_text::NoMemory;
 
 /// Has an item before the edit wait, if it is kept and its number is `low` or more.
@@ -85,36 +84,64 @@ fn is_alike<L: CheckedItems>(items: &EditedItems<L>, name: &[u8]) -> bool
     }
 }
 
-/// Has the kept users of a name wait, unless its first declarers are alike.
+/// Whether this is where the item declares the name first.
+fn is_at(first: Option<Declarer>, item: usize, place: usize) -> bool
+    ensures { (f : First) → first ≡ Some f → f.item ≡ item → f.place ≡ place → IsTrue result }
+{
+    match first {
+        Some(declarer) => declarer.item == item && declarer.place == place,
+        None => false,
+    }
+}
+
+/// Whether the name is first declared in this place of the item, before the edit or after it.
+fn is_first<L: CheckedItems>(items: &EditedItems<L>, item: usize, place: usize, name: &[u8]) -> bool
+    requires { AreEditedItems L.text items.now }
+    ensures { (f : First) → IsFirst (edit_of L.text items.now) name.now f → f.item ≡ item
+        → f.place ≡ place → IsTrue result }
+{
+    is_at(items.first(name), item, place) || is_at(items.first_after(name), item, place)
+}
+
+/// Has the kept users of a name wait, if the item declares it first in this place and first declarers are not
+/// alike. So the users are gone over once for each name, however many items declare it.
 fn add_candidates<L: CheckedItems>(
     items: &EditedItems<L>,
+    item: usize,
+    place: usize,
     name: &[u8],
     queue: &mut Queue,
 ) -> Result<(), NoMemory>
     requires { AreEditedItems L.text items.now }
     ensures adds { OnOk result (AddsItems queue.old queue.new 0 (count_after (edit_of L.text items.now))) }
-    ensures covered { OnOk result (IsCovered (edit_of L.text items.now) (is_waiting queue.new) name.now) }
+    ensures covered { OnOk result ((f : First) → IsFirst (edit_of L.text items.now) name.now f
+        → f.item ≡ item → f.place ≡ place
+        → IsCovered (edit_of L.text items.now) (is_waiting queue.new) name.now) }
 {
+    if !is_first(items, item, place, name) {
+        return Ok(());
+    }
     if is_alike(items, name) {
         return Ok(());
     }
     add_users(items, 0, name, queue)
 }
 
-/// Has the kept users of each of these names wait, unless its first declarers are alike.
+/// Has those wait that see one of these names otherwise, which the item declares, because of who declares it.
 fn add_candidates_of<L: CheckedItems>(
     items: &EditedItems<L>,
+    item: usize,
     names: &[DeclaredName],
     queue: &mut Queue,
 ) -> Result<(), NoMemory>
     requires { AreEditedItems L.text items.now }
     ensures adds { OnOk result (AddsItems queue.old queue.new 0 (count_after (edit_of L.text items.now))) }
-    ensures covered { OnOk result ((name : List ℕ)
-        → IsAmong (map (λ d. cow_slice_items d.name) names.now) name
+    ensures covered { OnOk result ((name : List ℕ) (f : First)
+        → IsFirst (edit_of L.text items.now) name f → f.item ≡ item → IsNamed names.now f.place name
         → IsCovered (edit_of L.text items.now) (is_waiting queue.new) name) }
 {
-    for declared in names {
-        add_candidates(items, &declared.name, queue)?;
+    for (place, declared) in names.iter().enumerate() {
+        add_candidates(items, item, place, &declared.name, queue)?;
     }
     Ok(())
 }
@@ -130,14 +157,14 @@ fn add_gone<'i, L: CheckedItems>(
     requires { AreEditedItems L.text items.now }
     ensures adds { OnOk result (AddsItems queue.old queue.new 0 (count_after (edit_of L.text items.now))) }
     ensures covered { OnOk result ((d : Tree) → definition_at (edit_of L.text items.now).old item ≡ Some d
-        → (name : List ℕ) → IsAmong (map (λ x. x.name) (declared d)) name
-        → IsCovered (edit_of L.text items.now) (is_waiting queue.new) name) }
+        → (name : List ℕ) (f : First) → first_declarer (edit_of L.text items.now).old name ≡ Some f
+        → f.item ≡ item → IsCovered (edit_of L.text items.now) (is_waiting queue.new) name) }
 {
     let Some(definition) = items.old_definition(item) else {
         return Ok(());
     };
     declares_into(alloc, names, definition)?;
-    add_candidates_of(items, names, queue)
+    add_candidates_of(items, item, names, queue)
 }
 
 /// Has a fresh item wait, if it has a definition, and those that see a name otherwise because of it.
@@ -156,7 +183,8 @@ fn add_fresh<'i, L: CheckedItems>(
         → is_waiting queue.new item ≡ true) }
     ensures covered { OnOk result ((d : Tree)
         → definition_at (definitions_after (edit_of L.text items.now)) item ≡ Some d
-        → (name : List ℕ) → IsAmong (map (λ x. x.name) (declared d)) name
+        → (name : List ℕ) (f : First)
+        → first_declarer (definitions_after (edit_of L.text items.now)) name ≡ Some f → f.item ≡ item
         → IsCovered (edit_of L.text items.now) (is_waiting queue.new) name) }
 {
     let Some(definition) = items.definition(item) else {
@@ -164,7 +192,7 @@ fn add_fresh<'i, L: CheckedItems>(
     };
     declares_into(alloc, names, definition)?;
     queue.insert(item)?;
-    add_candidates_of(items, names, queue)
+    add_candidates_of(items, item, names, queue)
 }
 
 /// Has those wait that see a name otherwise because of the items that go.
@@ -175,8 +203,9 @@ fn add_all_gone<L: CheckedItems>(
 ) -> Result<(), NoMemory>
     requires { AreEditedItems L.text items.now }
     ensures adds { OnOk result (AddsItems queue.old queue.new 0 (count_after (edit_of L.text items.now))) }
-    ensures covered { OnOk result ((name : List ℕ)
-        → IsDeclaredIn (removed_definitions (edit_of L.text items.now)) name
+    ensures covered { OnOk result ((name : List ℕ) (f : First)
+        → first_declarer (edit_of L.text items.now).old name ≡ Some f
+        → items.now.place.at ≤ f.item → f.item < items.now.place.at + items.now.place.removed
         → IsCovered (edit_of L.text items.now) (is_waiting queue.new) name) }
 {
     let place = items.place;
@@ -197,7 +226,9 @@ fn add_all_fresh<L: CheckedItems>(
     ensures adds { OnOk result (AddsItems queue.old queue.new 0 (count_after (edit_of L.text items.now))) }
     ensures kept { OnOk result ((k : ℕ) → is_waiting queue.new k ≡ false
         → IsKept (edit_of L.text items.now) k) }
-    ensures covered { OnOk result ((name : List ℕ) → IsDeclaredIn (edit_of L.text items.now).put name
+    ensures covered { OnOk result ((name : List ℕ) (f : First)
+        → first_declarer (definitions_after (edit_of L.text items.now)) name ≡ Some f
+        → items.now.place.at ≤ f.item → f.item < items.now.place.at + items.now.place.added
         → IsCovered (edit_of L.text items.now) (is_waiting queue.new) name) }
 {
     let place = items.place;

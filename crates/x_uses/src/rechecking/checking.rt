@@ -10,7 +10,7 @@ ghost use Rattle.x_sema.specs.Results.{Outcome, AreResults, meaning_at, result_a
 ghost use Rattle.x_sema.specs.RustViews.{view_meaning};
 ghost use Rattle.x_uses.specs.Editing.{definitions_after, definition_at, count_after};
 ghost use Rattle.x_uses.specs.Rechecking.{AddsItems, IsDecided, AreEditedItems, IsFoundAs, IsMeantAs};
-ghost use Rattle.x_uses.specs.Rechecking.{IsReady, IsTold, HasAdvanced};
+ghost use Rattle.x_uses.specs.Rechecking.{IsReady, IsNamed, IsTold, HasAdvanced};
 ghost use Rattle.x_uses.specs.Rechecking.{CountsOn, counts_found, edit_of, is_waiting};
 ghost use Rattle.x_uses.specs.Staleness.{Ascending, counts_after, result_after, items_of};
 
@@ -72,29 +72,32 @@ fn is_same_meaning(one: &Meaning, other: &Meaning) -> bool
     one == other
 }
 
-/// Whether a name means what it meant, as far as that is for the item to tell where this was found.
+/// Whether a name means what it meant, as far as it is for the item to tell, which declares it in this place
+/// and where this was found.
 fn means_same<L: CheckedItems>(
     items: &EditedItems<L>,
     item: usize,
+    place: usize,
     name: &[u8],
     checked: &Checked,
 ) -> bool
     requires { AreEditedItems L.text items.now }
-    ensures { IsTrue result → IsMeantAs (edit_of L.text items.now) item checked.now name.now }
+    ensures { IsTrue result → IsMeantAs (edit_of L.text items.now) item place checked.now name.now }
 {
     match (items.first(name), items.first_after(name)) {
-        (Some(before), Some(after)) if after.item == item => is_same_meaning(
-            &old_meaning(items, before),
-            &checked.meaning(after.place),
-        ),
+        (Some(before), Some(after)) if after.item == item && after.place == place => {
+            is_same_meaning(&old_meaning(items, before), &checked.meaning(place))
+        }
         _ => true,
     }
 }
 
-/// Has the kept users of a name behind the item wait, unless it means what it meant.
+/// Has the kept users of a name behind the item wait, which declares it in this place, unless it means what it
+/// meant.
 fn tell_name<L: CheckedItems>(
     items: &EditedItems<L>,
     item: usize,
+    place: usize,
     name: &[u8],
     checked: &Checked,
     queue: &mut Queue,
@@ -103,10 +106,10 @@ fn tell_name<L: CheckedItems>(
     requires item { item < count_after (edit_of L.text items.now) }
     ensures adds { OnOk result (AddsItems queue.old queue.new (item + 1) (count_after
         (edit_of L.text items.now))) }
-    ensures told { OnOk result (IsTold (edit_of L.text items.now) item checked.now
+    ensures told { OnOk result (IsTold (edit_of L.text items.now) item place checked.now
         (is_waiting queue.new) name.now) }
 {
-    if means_same(items, item, name, checked) {
+    if means_same(items, item, place, name, checked) {
         return Ok(());
     }
     add_users(items, item + 1, name, queue)
@@ -124,11 +127,11 @@ fn tell<L: CheckedItems>(
     requires item { item < count_after (edit_of L.text items.now) }
     ensures adds { OnOk result (AddsItems queue.old queue.new (item + 1) (count_after
         (edit_of L.text items.now))) }
-    ensures told { OnOk result ((name : List ℕ) → IsAmong (map (λ d. cow_slice_items d.name) names.now) name
-        → IsTold (edit_of L.text items.now) item checked.now (is_waiting queue.new) name) }
+    ensures told { OnOk result ((name : List ℕ) (place : ℕ) → IsNamed names.now place name
+        → IsTold (edit_of L.text items.now) item place checked.now (is_waiting queue.new) name) }
 {
-    for declared in names {
-        tell_name(items, item, &declared.name, checked, queue)?;
+    for (place, declared) in names.iter().enumerate() {
+        tell_name(items, item, place, &declared.name, checked, queue)?;
     }
     Ok(())
 }

@@ -1,10 +1,10 @@
-use Rattle.std.proofs.Common.{◌≡◌, ℕ, List, Some, true, arith, length, map}
-use Rattle.std.specs.List.{IsAmong}
-use Rattle.x_item.specs.Names.{declared}
+use Rattle.std.proofs.Common.{◌≡◌, ◌+◌, ℕ, List, Some, true, arith, length}
 use Rattle.x_item.specs.Tree.{Definition}
+use Rattle.x_sema.specs.Declarers.{first_declarer}
+use Rattle.x_sema.specs.declared.names.Declarer.{Declarer}
 use Rattle.x_uses.specs.Editing.{definition_at, definitions_after}
 use Rattle.x_uses.specs.Rechecking.{IsCovered, edit_of, is_waiting}
-use Rattle.x_uses.proofs.CandidateLemmas.{each_number, kept_resting, put_covered}
+use Rattle.x_uses.proofs.CandidateLemmas.{each_number, first_covered, kept_resting}
 use Rattle.x_uses.proofs.WaitingLemmas.{adds_more, covered_more}
 use Rattle.x_uses.proofs.rechecking.candidates.add_all_fresh.Goals as goal
 
@@ -20,9 +20,9 @@ loop-item-preserved g c =
       waits = each_number (λ i. (d : Definition) → definition_at (definitions_after e) i ≡ Some d → is_waiting before i ≡ true) (λ i. (d : Definition) → definition_at (definitions_after e) i ≡ Some d → is_waiting now i ≡ true)
           e.place.at c.loop-item.item (λ i so d has. step.adds.keeps i (so d has)) c.loop-item.invariant.waits step.waits;
       covered = each_number
-          (λ i. (d : Definition) → definition_at (definitions_after e) i ≡ Some d → (name : List ℕ) → IsAmong (map (λ x. x.name) (declared d)) name → IsCovered e (is_waiting before) name)
-          (λ i. (d : Definition) → definition_at (definitions_after e) i ≡ Some d → (name : List ℕ) → IsAmong (map (λ x. x.name) (declared d)) name → IsCovered e (is_waiting now) name)
-          e.place.at c.loop-item.item (λ i so d has name among. covered_more e before now 0 high name step.adds (so d has name among)) c.loop-item.invariant.covered step.covered;
+          (λ i. (d : Definition) → definition_at (definitions_after e) i ≡ Some d → (name : List ℕ) (f : Declarer) → first_declarer (definitions_after e) name ≡ Some f → f.item ≡ i → IsCovered e (is_waiting before) name)
+          (λ i. (d : Definition) → definition_at (definitions_after e) i ≡ Some d → (name : List ℕ) (f : Declarer) → first_declarer (definitions_after e) name ≡ Some f → f.item ≡ i → IsCovered e (is_waiting now) name)
+          e.place.at c.loop-item.item (λ i so d has name f first here. covered_more e before now 0 high name step.adds (so d has name f first here)) c.loop-item.invariant.covered step.covered;
     }
 
 pub returns-clause-kept : goal.returns-clause-kept
@@ -32,5 +32,6 @@ returns-clause-kept g c =
 
 pub returns-clause-covered : goal.returns-clause-covered
 returns-clause-covered g c =
+    let e = edit_of g.L.CheckedItems.text c.args.items.now in
     let end = c.loop-item-test.false in
-    put_covered (edit_of g.L.CheckedItems.text c.args.items.now) (is_waiting c.loop-item.queue) c.loop-item.item c.requires.edit (omega (arith, end)) c.loop-item.invariant.covered
+    first_covered (IsCovered e (is_waiting c.loop-item.queue)) (definitions_after e) e.place.at (e.place.at + e.place.added) c.loop-item.item (omega (arith, end)) c.loop-item.invariant.covered

@@ -1,10 +1,10 @@
-use Rattle.std.proofs.Common.{◌≡◌, ℕ, List, Some, arith, length, map}
-use Rattle.std.specs.List.{IsAmong}
-use Rattle.x_item.specs.Names.{declared}
+use Rattle.std.proofs.Common.{◌≡◌, ◌+◌, ℕ, List, Some, arith, length}
 use Rattle.x_item.specs.Tree.{Definition}
+use Rattle.x_sema.specs.Declarers.{first_declarer}
+use Rattle.x_sema.specs.declared.names.Declarer.{Declarer}
 use Rattle.x_uses.specs.Editing.{definition_at, definitions_after}
 use Rattle.x_uses.specs.Rechecking.{IsCovered, edit_of, is_waiting}
-use Rattle.x_uses.proofs.CandidateLemmas.{each_number, gone_covered}
+use Rattle.x_uses.proofs.CandidateLemmas.{each_number, first_covered}
 use Rattle.x_uses.proofs.WaitingLemmas.{adds_more, covered_more}
 use Rattle.x_uses.proofs.rechecking.candidates.add_all_gone.Goals as goal
 
@@ -18,12 +18,13 @@ loop-item-preserved g c =
     record {
       adds = adds_more c.args.queue.now before now 0 high c.loop-item.invariant.adds step.adds;
       covered = each_number
-          (λ i. (d : Definition) → definition_at e.old i ≡ Some d → (name : List ℕ) → IsAmong (map (λ x. x.name) (declared d)) name → IsCovered e (is_waiting before) name)
-          (λ i. (d : Definition) → definition_at e.old i ≡ Some d → (name : List ℕ) → IsAmong (map (λ x. x.name) (declared d)) name → IsCovered e (is_waiting now) name)
-          e.place.at c.loop-item.item (λ i so d has name among. covered_more e before now 0 high name step.adds (so d has name among)) c.loop-item.invariant.covered step.covered;
+          (λ i. (d : Definition) → definition_at e.old i ≡ Some d → (name : List ℕ) (f : Declarer) → first_declarer e.old name ≡ Some f → f.item ≡ i → IsCovered e (is_waiting before) name)
+          (λ i. (d : Definition) → definition_at e.old i ≡ Some d → (name : List ℕ) (f : Declarer) → first_declarer e.old name ≡ Some f → f.item ≡ i → IsCovered e (is_waiting now) name)
+          e.place.at c.loop-item.item (λ i so d has name f first here. covered_more e before now 0 high name step.adds (so d has name f first here)) c.loop-item.invariant.covered step.covered;
     }
 
 pub returns-clause-covered : goal.returns-clause-covered
 returns-clause-covered g c =
+    let e = edit_of g.L.CheckedItems.text c.args.items.now in
     let end = c.loop-item-test.false in
-    gone_covered (edit_of g.L.CheckedItems.text c.args.items.now) (is_waiting c.loop-item.queue) c.loop-item.item (omega (arith, end)) c.loop-item.invariant.covered
+    first_covered (IsCovered e (is_waiting c.loop-item.queue)) e.old e.place.at (e.place.at + e.place.removed) c.loop-item.item (omega (arith, end)) c.loop-item.invariant.covered

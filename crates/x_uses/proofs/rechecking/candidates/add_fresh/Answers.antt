@@ -1,8 +1,9 @@
+use Rattle.std.proofs.Common.{inr}
 use Rattle.std.proofs.lemmas.Result.{on_ok_weaker}
 use Rattle.x_item.specs.View.{view_definition}
-use Rattle.x_uses.specs.Editing.{definition_at, definitions_after}
+use Rattle.x_uses.specs.Editing.{definitions_after}
 use Rattle.x_uses.specs.Rechecking.{IsCovered, edit_of, is_waiting}
-use Rattle.x_uses.proofs.CandidateLemmas.{listed_each, short_at}
+use Rattle.x_uses.proofs.CandidateLemmas.{listed_first, short_at}
 use Rattle.x_uses.proofs.Numbering.{short_after}
 use Rattle.x_uses.proofs.rechecking.candidates.add_fresh.Goals as goal
 
@@ -11,6 +12,6 @@ returns-clause-covered g c =
     let e = edit_of g.L.CheckedItems.text c.args.items.now in
     let view = view_definition c.in-Some.definition.now in
     on_ok_weaker c.add_candidates_of.result
-    (λ each. listed_each (IsCovered e (is_waiting c.add_candidates_of.new.queue)) view (definition_at (definitions_after e) c.args.item) c.deref.result.now c.declares_into.new.list.items
-    c.in-Some.ensures (short_at (definitions_after e) c.args.item view (short_after e c.requires.items.edit)) c.in_ok-declares_into.ensures c.deref.ensures.value each)
+    (λ each. listed_first (IsCovered e (is_waiting c.add_candidates_of.new.queue)) (definitions_after e) c.args.item view c.deref.result.now c.declares_into.new.list.items
+    c.in-Some.ensures (short_at (definitions_after e) c.args.item view (short_after e c.requires.items.edit)) c.in_ok-declares_into.ensures c.deref.ensures.value (λ name f first here named. each name f (inr first) here named))
     c.add_candidates_of.ensures.covered

@@ -1,16 +1,15 @@
-use Rattle.std.proofs.Common.{◌≡◌, ◌<◌, ℕ, List, None, Some, length, map, ap, refl, sym, subst, ◌∙◌}
-use Rattle.std.specs.List.{IsAmong}
+use Rattle.std.proofs.Common.{◌≡◌, ◌<◌, ℕ, None, Some, length, map, ap, refl, sym, subst, ◌∙◌}
+use Rattle.x_item.specs.Named.{view_name}
 use Rattle.x_item.specs.View.{view_definition}
 use Rattle.x_schema.specs.Definitions.{tree_at}
 use Rattle.x_sema.specs.Outlined.{IsOutline, outlined}
 use Rattle.x_sema.specs.Results.{result_at}
 use Rattle.x_uses.specs.Editing.{definition_at, definitions_after}
-use Rattle.x_uses.specs.Rechecking.{IsFoundAs, IsTold, edit_of, is_waiting}
+use Rattle.x_uses.specs.Rechecking.{IsFoundAs, edit_of, is_waiting}
 use Rattle.x_uses.specs.Staleness.{result_after}
 use Rattle.x_uses.specs.declared.rechecking.Rechecked.{Rechecked}
 use Rattle.x_uses.proofs.CandidateLemmas.{short_at}
 use Rattle.x_uses.proofs.Numbering.{short_after}
-use Rattle.x_uses.proofs.OutlineNames.{declared_name, names_each}
 use Rattle.x_uses.proofs.NextLemmas.{decided_anew, decided_same, unchanged_none}
 use Rattle.x_uses.proofs.rechecking.checking.decide.Goals as goal
 
@@ -44,6 +43,7 @@ returns-clause-decided g c after waits are decided stay =
     let so_far = subst (λ l. (j : ℕ) → j < item → result_after e l j ≡ result_at after j) (sym c.deref.ensures.value) decided.each in
     let found = subst (IsFoundAs e after item) c.in-Some-2.is (c.in_ok-checked.ensures.found after are so_far is has) in
     let r : Rechecked = record { item = item; checked = checked } in
-    let told = names_each (IsTold e item checked (is_waiting c.tell.new.queue)) outline.declared.items _ is.names_are (subst (λ l. (name : List ℕ) → IsAmong (map declared_name l) name → IsTold e item checked (is_waiting c.tell.new.queue) name) c.declared.ensures c.in_ok-tell.ensures.told) in
-    decided_anew e after waits c.args.queue.now c.tell.new.queue c.args.rechecked.now.items c.push.new.self.items r item (length (definitions_after e)) (outlined outline) decided
-    refl has found c.in_ok-tell.ensures.adds stay told c.in_ok-push.ensures.items
+    let names = c.declared.result.now in
+    let listed = ap (map view_name) c.declared.ensures ∙ is.names_are in
+    decided_anew e after waits c.args.queue.now c.tell.new.queue c.args.rechecked.now.items c.push.new.self.items r item (length (definitions_after e)) (outlined outline) names decided
+    refl has listed found c.in_ok-tell.ensures.adds stay c.in_ok-tell.ensures.told c.in_ok-push.ensures.items

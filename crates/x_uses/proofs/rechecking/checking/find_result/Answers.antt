@@ -6,9 +6,15 @@ use Rattle.x_sema.specs.Views.{names_of}
 use Rattle.x_uses.specs.Editing.{definitions_after}
 use Rattle.x_uses.specs.Rechecking.{edit_of}
 use Rattle.x_uses.specs.Staleness.{result_after}
-use Rattle.x_uses.proofs.FoundLemmas.{counted_next, found_result, outdated_fresh, outdated_kept}
+use Rattle.x_uses.proofs.FoundLemmas.{counted_next, found_result, outdated_fresh, outdated_kept, unchanged_by}
 use Rattle.x_uses.proofs.rechecking.checking.find_result.Goals as goal
 use Rattle.x_uses.proofs.rechecking.checking.find_result.Goals.{in-Some+else-sees_same, in_default}
+
+pub returns-then-sees_same-clause-found : goal.returns-then-sees_same-clause-found
+returns-then-sees_same-clause-found g c after are so_far o has =
+    let e = edit_of g.L.CheckedItems.text c.args.items.now in
+    unchanged_by e (result_after e c.args.rechecked.now) after c.args.item c.in-Some.was (outlined c.args.outline.now) so_far (sym c.old_number.ensures ∙ c.in-Some.is) has
+    (c.sees_same.ensures.same c.if-sees_same.true o)
 
 pub returns-in_err-checked-clause-counts : goal.returns-in_err-checked-clause-counts
 returns-in_err-checked-clause-counts g c base n so = (n + 1, counted_next base c.args.meter.now c.check_outline.new.meter n so c.check_outline.ensures.counted)
