@@ -26,4 +26,5 @@ pub mod StaleLemmas
 pub mod TableLemmas
 pub mod TypedLemmas
 pub mod WalkLemmas
+pub mod WorkLaws
 pub mod WorkLemmas

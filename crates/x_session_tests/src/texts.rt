@@ -2,7 +2,7 @@ use std::alloc::Global;
 use std::fmt::Display;
 use std::process::Abort;
 use std::test::Fail;
-use x_session::{EngineFault, LineFault, one_compilation};
+use x_session::{EngineFault, LineFault, one_compilation, one_work};
 
 /// Checks the text of a fault.
 fn expect_text(
@@ -45,6 +45,7 @@ fn faults_of_a_line_have_their_texts(rt: HostRuntime) -> Result<(), Fail> {
 }
 
 #[test]
-fn the_law_does_nothing(_rt: HostRuntime) {
+fn the_laws_do_nothing(_rt: HostRuntime) {
     one_compilation();
+    one_work();
 }

@@ -1,0 +1,95 @@
+-- A change takes one work.
+use Rattle.std.proofs.Common.{◌≡◌, ℕ, ◌+◌, true, List, [], ◌∷◌, ◌++◌, length, map, take, drop, refl, sym, ap, subst, ◌∙◌, arith}
+use Rattle.std.specs.List.{splice}
+use Rattle.std.proofs.lemmas.List.{length-map}
+use Rattle.x_text.specs.Edits.{Change, edited_by, LiesWithin}
+use Rattle.x_lex.specs.declared.kind.Kind.{Kind}
+use Rattle.x_lex.specs.Places.{lexemes}
+use Rattle.x_lex.specs.Relex.{IsPatch}
+use Rattle.x_lex.specs.TokenList as tokens
+use Rattle.x_lex.specs.TokenList.{TokenPatch}
+use Rattle.x_lex.proofs.MeetingLemmas as meeting
+use Rattle.x_lex.proofs.TilingLemmas.{same_tiles}
+use Rattle.x_item.specs.ItemList.{ItemChange, counts, tokens_in}
+use Rattle.x_item.specs.Items.{IsCut}
+use Rattle.x_item.specs.Recut.{AreOne, IsItemPatch}
+use Rattle.x_item.specs.declared.cutting.entry.Entry.{Entry}
+use Rattle.x_item.proofs.CuttingLemmas.{same_cut}
+use Rattle.x_item.proofs.RecutLaws.{same_item_patch}
+use Rattle.x_uses.specs.Staleness.{AreStale}
+use Rattle.x_uses.proofs.StaleLists.{one_stale_list}
+use Rattle.x_session.specs.Compile.{definitions_of}
+use Rattle.x_session.specs.Session.{Document}
+use Rattle.x_session.specs.Work.{AreStaleItems, IsWork, definitions_edit}
+use Rattle.x_session.specs.declared.session.work.Work.{Work}
+use Rattle.x_session.proofs.Compiled.{one_compilation}
+
+-- items of which nothing is kept are told by their counts
+bare_items : (xs ys : List (Entry (Unit {0}))) → counts xs ≡ counts ys → xs ≡ ys
+bare_items [] [] same = refl
+bare_items [] (y ∷ ys) same = absurd (cc)
+bare_items (x ∷ xs) [] same = absurd (cc)
+bare_items (x ∷ xs) (y ∷ ys) same =
+    let here : x.tokens ≡ y.tokens = cc in
+    let there : counts xs ≡ counts ys = cc in
+    let rest = bare_items xs ys there in
+    λ i. record { tokens = here i; kept = tt } ∷ rest i
+
+-- what stands between the same lists is the same
+between : {X : Type 0} (front xs ys rear more : List X) → length xs ≡ length ys → front ++ (xs ++ rear) ≡ front ++ (ys ++ more) → xs ≡ ys
+between [] [] [] rear more long same = refl
+between [] [] (y ∷ ys) rear more long same = absurd (omega (arith, long))
+between [] (x ∷ xs) [] rear more long same = absurd (omega (arith, long))
+between [] (x ∷ xs) (y ∷ ys) rear more long same =
+    let here : x ≡ y = cc in
+    let there : xs ++ rear ≡ ys ++ more = cc in
+    let rest = between [] xs ys rear more (omega (arith, long)) there in
+    λ i. here i ∷ rest i
+between (f ∷ front) xs ys rear more long same =
+    let there : front ++ (xs ++ rear) ≡ front ++ (ys ++ more) = cc in
+    between front xs ys rear more long there
+
+-- the stale items, of one recut
+one_stale : (change : Change) (ts us : List (Kind × ℕ)) (r q : ItemChange (Unit {0})) (ks ls : List ℕ) → AreOne r q → AreStaleItems change ts us r ks → AreStaleItems change ts us q ls → length ks ≡ length ls
+one_stale change ts us r q ks ls one h k =
+    let old = (one_compilation change.old ts ts h.olds k.olds h.are_olds k.are_olds).1 in
+    let new = (one_compilation (edited_by change) us us h.news k.news h.are_news k.are_news).1 in
+    let many : length r.fresh ≡ length q.fresh = sym (length-map r.fresh tokens_in) ∙ ap length one.fresh ∙ length-map q.fresh tokens_in in
+    let at = one.at in
+    let removed = one.removed in
+    let same : splice (definitions_of k.olds) q.at (q.at + q.removed) h.put ≡ splice (definitions_of k.olds) q.at (q.at + q.removed) k.put =
+    sym (λ i. splice (definitions_of (old i)) (at i) (at i + removed i) h.put) ∙ h.edited_is ∙ ap definitions_of new ∙ sym k.edited_is in
+    let long : length h.put ≡ length k.put = h.added ∙ many ∙ sym k.added in
+    let put = between (take q.at (definitions_of k.olds)) h.put k.put (drop (q.at + q.removed) (definitions_of k.olds)) (drop (q.at + q.removed) (definitions_of k.olds)) long same in
+    let edit : definitions_edit h.olds r h.put ≡ definitions_edit k.olds q k.put =
+    λ i. record { old = definitions_of (old i); outcomes = map (λ x. x.result) (old i); place = record { at = at i; removed = removed i; added = many i }; put = put i } in
+    let stale = subst (λ e. AreStale e (map (λ x. x.result) h.news) ks) edit h.are in
+    let there = subst (λ ns. AreStale (definitions_edit k.olds q k.put) (map (λ x. x.result) ns) ls) (sym new) k.are in
+    ap length (one_stale_list (definitions_edit k.olds q k.put) (map (λ x. x.result) h.news) ks ls stale there)
+
+pub one_work : (change : Change) (d e : Document) (v w : Work) → LiesWithin change → IsWork change d v → IsWork change e w → (v.lexed ≡ w.lexed) × (v.parsed ≡ w.parsed) × (v.checked ≡ w.checked) × (d.token_seat ≡ e.token_seat)
+one_work change d e v w within h k =
+    let ts = h.tokens in
+    let same : ts ≡ k.tokens = same_tiles true change.old ts k.tokens h.are_tokens k.are_tokens in
+    let back = sym same in
+    let patch : h.patch ≡ k.patch = meeting.same_patch change ts h.patch k.patch h.is_patch (subst (λ t. IsPatch change t k.patch) back k.is_patch) in
+    let cut = subst (λ t. IsCut (lexemes change.old t) (counts k.items)) back k.are_items in
+    let items : h.items ≡ k.items = bare_items h.items k.items (same_cut (lexemes change.old ts) (counts h.items) (counts k.items) h.are_items cut) in
+    let there : IsItemPatch change ts (tokens.patched ts h.patch) h.items k.recut =
+    subst (λ l. IsItemPatch change ts (tokens.patched ts h.patch) l k.recut) (sym items)
+    (subst (λ p. IsItemPatch change ts (tokens.patched ts p) k.items k.recut) (sym patch) (subst (λ t. IsItemPatch change t (tokens.patched t k.patch) k.items k.recut) back k.is_recut)) in
+    let one : AreOne h.recut k.recut = same_item_patch change (edited_by change) ts h.items h.patch h.recut k.recut (record {
+      within = within;
+      edited = refl;
+      tokens = h.are_tokens;
+      items = h.are_items;
+      patch = h.is_patch;
+    }) h.is_recut there in
+    let stale : AreStaleItems change ts (tokens.patched ts h.patch) k.recut k.stale =
+    subst (λ p. AreStaleItems change ts (tokens.patched ts p) k.recut k.stale) (sym patch) (subst (λ t. AreStaleItems change t (tokens.patched t k.patch) k.recut k.stale) back k.are_stale) in
+    let many : length h.recut.fresh ≡ length k.recut.fresh = sym (length-map h.recut.fresh tokens_in) ∙ ap length one.fresh ∙ length-map k.recut.fresh tokens_in in (
+      h.lexed ∙ ap (λ (p : TokenPatch). length p.fresh) patch ∙ sym k.lexed,
+      h.parsed ∙ many ∙ sym k.parsed,
+      h.checked ∙ one_stale change ts (tokens.patched ts h.patch) h.recut k.recut h.stale k.stale one h.are_stale stale ∙ sym k.checked,
+      h.token_seat ∙ ap (λ (p : TokenPatch). p.at + length p.fresh) patch ∙ sym k.token_seat,
+    )
