@@ -195,14 +195,18 @@ made_patched es p sound none =
     (All-append IsMade (items.kept (take p.at es)) (items.kept p.fresh ++ items.kept (drop (p.at + p.removed) es)) (kept_all (λ e. IsSound e.kept) IsMade step (take p.at es) front)
     (All-append IsMade (items.kept p.fresh) (items.kept (drop (p.at + p.removed) es)) (made_unchecked p.fresh none) (kept_all (λ e. IsSound e.kept) IsMade step (drop (p.at + p.removed) es) rear)))
 
--- the same of what is lent
-pub made_lent : (refs : List (Bor Kept)) (ks : List Kept) → map (λ k. k.now) refs ≡ ks → All IsMade ks → All (λ k. IsMade k.now) refs
-made_lent [] ks same all = All-nil (λ k. IsMade k.now)
-made_lent (r ∷ refs) [] same all = absurd (cc)
-made_lent (r ∷ refs) (k ∷ ks) same all =
+-- what holds of each item, of what is lent
+pub all_lent : (P : Kept → Type 0) (refs : List (Bor Kept)) (ks : List Kept) → map (λ k. k.now) refs ≡ ks → All P ks → All (λ k. P k.now) refs
+all_lent P [] ks same all = All-nil (λ k. P k.now)
+all_lent P (r ∷ refs) [] same all = absurd (cc)
+all_lent P (r ∷ refs) (k ∷ ks) same all =
     let here : r.now ≡ k = cc in
     let there : map (λ x. x.now) refs ≡ ks = cc in
-    All-cons (λ x. IsMade x.now) r refs (subst IsMade (sym here) (All-head IsMade k ks all)) (made_lent refs ks there (All-tail IsMade k ks all))
+    All-cons (λ x. P x.now) r refs (subst P (sym here) (All-head P k ks all)) (all_lent P refs ks there (All-tail P k ks all))
+
+-- nothing was found of these
+pub none_kept : (es : List (Entry Kept)) → All (λ e. kept_found e.kept ≡ None) es → All (λ k. kept_found k ≡ None) (items.kept es)
+none_kept es all = kept_all (λ e. kept_found e.kept ≡ None) (λ k. kept_found k ≡ None) (λ e none. none) es all
 
 -- ---- how many faults they have
 

@@ -12,7 +12,7 @@ ghost use Rattle.x_sema.specs.Outlined.{IsOutline, outlined};
 ghost use Rattle.x_sema.specs.Results.{IsResult, result_at};
 ghost use Rattle.x_sema.specs.RustViews.{view_view};
 ghost use Rattle.x_sema.specs.Views.{names_of};
-ghost use Rattle.x_session.specs.Checking.{AreChecked, IsMade, IsShortAt, counted, kept_definitions};
+ghost use Rattle.x_session.specs.Checking.{AreChecked, IsShortAt, counted, kept_definitions};
 ghost use Rattle.x_session.specs.Checking.{sound_pieces, view_by_first};
 ghost use Rattle.x_session.specs.KeptView.{found_pieces, found_result};
 ghost use Rattle.x_session.specs.KeptView.{kept_definition, kept_found, renewed_pieces};
@@ -28,16 +28,17 @@ use x_text::{Meter, NoMemory};
 #[derive(Drop)]
 pub struct Checks {
     /// Of each item, in their order, what was found of its definition if it has one: with its pieces where it
-    /// has no fault and none were there before.
+    /// has no fault.
     pub results: Vec<Option<Box<Found>>>,
     /// How many faults the items have.
     pub faults: usize,
 }
 
-/// Checks the items of a text, in their order. Counts each that has a definition as checked.
+/// Checks the items of a text, none of which is checked yet, in their order. Counts each that has a definition
+/// as checked.
 pub fn check_all(alloc: Global, items: &[&Kept], meter: &mut Meter) -> Result<Checks, NoMemory>
     requires short { AreShort (kept_definitions (map (λ k. k.now) items.now)) }
-    requires made { All (λ k. IsMade k.now) items.now }
+    requires unchecked { All (λ k. kept_found k.now ≡ None) items.now }
     ensures checked { IfOk result
         (λ checks. AreChecked (map (λ k. k.now) items.now) checks.results.items checks.faults) }
     ensures counted { IfOk result
@@ -81,7 +82,7 @@ fn check_items(
     requires short { AreShort (kept_definitions (map (λ k. k.now) items.now)) }
     requires first { (name : List ℕ)
         → FirstIs (kept_definitions (map (λ k. k.now) items.now)) name (first_in names.now name) }
-    requires made { All (λ k. IsMade k.now) items.now }
+    requires unchecked { All (λ k. kept_found k.now ≡ None) items.now }
     ensures checked { IfOk result
         (λ checks. AreChecked (map (λ k. k.now) items.now) checks.results.items checks.faults) }
     ensures counted { IfOk result
@@ -128,7 +129,7 @@ fn check<'i>(
     results: &[Option<Box<Found>>],
     meter: &mut Meter,
 ) -> Result<Option<Box<Found>>, NoMemory>
-    requires { IsMade item.now }
+    requires { kept_found item.now ≡ None }
     ensures result { IfOk result (λ found. (definitions : List (Option tree.Definition))
         → IsShortAt (kept_definition item.now)
         → ((name : List ℕ) → FirstIs definitions name (first_in names.now name))
@@ -154,8 +155,7 @@ fn check<'i>(
     let checked = check_outline(alloc, &outline, &views, meter)?;
     walk.declared = walk.declared.saturating_add(outline.declared().len());
     walk.last = Some(outline);
-    let has_pieces = item.pieces().is_some();
-    let pieces = new_pieces(&mut walk.renderer, definition, &checked, has_pieces)?;
+    let pieces = new_pieces(&mut walk.renderer, definition, &checked, false)?;
     Ok(Some(Box::new(alloc, Found { checked, pieces })?))
 }
 

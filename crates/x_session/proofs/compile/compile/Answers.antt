@@ -1,12 +1,13 @@
-use Rattle.std.proofs.Common.{None, map, ap, sym, subst, ◌∙◌}
+use Rattle.std.proofs.Common.{◌≡◌, None, map, ap, sym, subst, ◌∙◌}
 use Rattle.std.specs.Borrow.{Bor}
 use Rattle.x_item.specs.ItemList.{AreOfText}
 use Rattle.x_item.specs.ItemList as items
 use Rattle.x_sema.specs.Declarers.{AreShort}
 use Rattle.x_session.specs.Checking.{AreChecked, kept_definitions}
+use Rattle.x_session.specs.KeptView.{kept_found}
 use Rattle.x_session.specs.SessionState.{IsKept}
 use Rattle.x_session.specs.declared.compile.kept.Kept.{Kept}
-use Rattle.x_session.proofs.KeptLemmas.{are_known, counts_with, definitions_kept, kept_is, made_lent, made_unchecked}
+use Rattle.x_session.proofs.KeptLemmas.{are_known, counts_with, definitions_kept, kept_is, all_lent, none_kept}
 use Rattle.x_session.proofs.compile.compile.Goals as goal
 
 pub check_all-requires-clause-short : goal.check_all-requires-clause-short
@@ -14,10 +15,10 @@ check_all-requires-clause-short c =
     let same = ap (map (λ (k : Bor Kept). k.now)) c.deref-2.ensures.value ∙ c.in_ok-kept_of.ensures ∙ ap items.kept c.deref.ensures.value in
     subst (λ ks. AreShort (kept_definitions ks)) (sym same) (subst AreShort (sym (definitions_kept c.in_ok-entries.entries.items)) c.in_ok-entries.ensures.short)
 
-pub check_all-requires-clause-made : goal.check_all-requires-clause-made
-check_all-requires-clause-made c =
+pub check_all-requires-clause-unchecked : goal.check_all-requires-clause-unchecked
+check_all-requires-clause-unchecked c =
     let same = ap (map (λ (k : Bor Kept). k.now)) c.deref-2.ensures.value ∙ c.in_ok-kept_of.ensures ∙ ap items.kept c.deref.ensures.value in
-    made_lent c.deref-2.result.now (items.kept c.in_ok-entries.entries.items) same (made_unchecked c.in_ok-entries.entries.items c.in_ok-entries.ensures.unchecked)
+    all_lent (λ k. kept_found k ≡ None) c.deref-2.result.now (items.kept c.in_ok-entries.entries.items) same (none_kept c.in_ok-entries.entries.items c.in_ok-entries.ensures.unchecked)
 
 pub keep_results-requires : goal.keep_results-requires
 keep_results-requires c =
