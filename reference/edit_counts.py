@@ -1,6 +1,6 @@
 #!/usr/bin/env python3
-"""edit_counts FILE: of each edit that the lines of standard input ask for, how many tokens are lexed, and how many
-items parsed and checked. The text is compiled anew at each edit."""
+"""edit_counts FILE: of each edit that the lines of standard input ask for, how many tokens are lexed, how many items
+parsed and checked, and how many entries move. The text is compiled anew at each edit."""
 import sys
 
 sys.dont_write_bytecode = True
@@ -13,6 +13,7 @@ def main(words):
     with open(words[0], "rb") as file:
         session = rpcedit.Session(b"t", file.read())
     reading = work.Reading(session.text)
+    seats = work.seats_of(reading)
     for line in rpcedit.script_lines(sys.stdin.buffer.read()):
         match = rpcedit.EDIT.fullmatch(line)
         if match is None:
@@ -23,8 +24,9 @@ def main(words):
             continue
         new = work.Reading(session.text)
         edit = int(match[1]), int(match[2]), bytes.fromhex((match[3] or b"").decode())
-        print("lexed %d parsed %d checked %d" % work.work_of(reading, edit, new))
-        reading = new
+        took = work.work_of(reading, edit, new, seats)
+        print(work.line_of(took))
+        reading, seats = new, took.seats
 
 
 if __name__ == "__main__":

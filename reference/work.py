@@ -1,5 +1,5 @@
-"""What work an edit takes: which tokens and items of a text are fresh, and which items are stale. Both texts are
-compiled from scratch, and compared."""
+"""What work an edit takes: which tokens and items of a text are fresh, which items are stale, and how many entries
+move. Both texts are compiled from scratch, and compared."""
 from collections import namedtuple
 
 import rpclang
@@ -7,6 +7,12 @@ import rpclang
 # What an item sees of a name: whether nobody declares it, or who declares it first, an earlier item, its own or a
 # later one; as what it is declared there, and whether lifted; and, where an earlier item declares it, what it means.
 View = namedtuple("View", "declarer shape lifted meaning")
+
+# What an edit takes, and where the seats are behind it.
+Work = namedtuple("Work", "lexed parsed checked moved seats")
+
+# The indexes behind the tokens and behind the items that were put in last.
+Seats = namedtuple("Seats", "tokens items")
 
 
 class Reading:
@@ -51,12 +57,14 @@ def agreeing(old, edit, new):
             if before in ends and new.is_line_start(place) == old.is_line_start(before)]
 
 
-def fresh_tokens(old, edit, new):
-    """How many tokens of the new text are fresh."""
+def token_change(old, edit, new):
+    """The old tokens that go, from the first to before the last, and how many tokens of the new text are fresh."""
     agree = agreeing(old, edit, new)
     # From here on tokens stay.
-    rest = agree[0][0] if agree else len(new.text)
-    return sum(token.end >= edit[0] and token.start < rest for token in new.tokens)
+    rest, old_rest = agree[0] if agree else (len(new.text), len(old.text))
+    first = sum(token.end < edit[0] for token in old.tokens)
+    last = sum(token.end <= old_rest for token in old.tokens) if agree else len(old.tokens)
+    return first, last, sum(token.end >= edit[0] and token.start < rest for token in new.tokens)
 
 
 def kept_items(old, edit, new):
@@ -97,12 +105,60 @@ def stale_items(old, edit, new):
             if definition is not None and (item not in changed or changed[item])]
 
 
-def work_of(old, edit, new):
-    """How many tokens are lexed, how many items parsed and how many checked, by the two readings."""
+def recut_place(old, edit, new):
+    """The old items that go, from the first to before the last, and how many items of the new text are fresh."""
+    kept = kept_items(old, edit, new)
+    added = len(new.items) - len(kept)
+    removed = len(old.items) - len(kept)
+    first = next((item for item in range(len(new.items)) if kept.get(item) != item), len(new.items))
+    return first, first + removed, added
+
+
+def changed_items(old, edit, new):
+    """The items that change, in order: each the old items from the first to before the last, and the index behind
+    those of the new text. They are the recut place, where anything goes or comes there, and the stale items that stay."""
+    kept = kept_items(old, edit, new)
+    first, last, added = recut_place(old, edit, new)
+    changed = [(kept[item], kept[item] + 1, item + 1) for item in stale_items(old, edit, new) if item in kept]
+    if first < last or added:
+        changed.append((first, last, first + added))
+    return sorted(changed, key=lambda change: change[2])
+
+
+def steps(seat, first, last):
+    """How many entries lie between a seat and those from the first to before the last."""
+    return max(0, first - seat, seat - last)
+
+
+def moved_items(seat, changed):
+    """How many items move where these are put in place from the first to the last: those from the seat to the first,
+    and those between the first and the last that do not change. And where the seat is then."""
+    if not changed:
+        return 0, seat
+    between = changed[-1][0] - changed[0][1] - sum(last - first for first, last, _ in changed[1:-1])
+    return steps(seat, *changed[0][:2]) + max(0, between), changed[-1][2]
+
+
+def seats_of(reading):
+    """The seats once a text is opened: behind all tokens and all items."""
+    return Seats(len(reading.tokens), len(reading.items))
+
+
+def work_of(old, edit, new, seats):
+    """What work the edit takes by the two readings, where the seats are there."""
+    first, last, lexed = token_change(old, edit, new)
+    moved, seat = moved_items(seats.items, changed_items(old, edit, new))
     parsed = len(new.items) - len(kept_items(old, edit, new))
-    return fresh_tokens(old, edit, new), parsed, len(stale_items(old, edit, new))
+    return Work(lexed, parsed, len(stale_items(old, edit, new)), steps(seats.tokens, first, last) + moved,
+                Seats(first + lexed, seat))
+
+
+def line_of(work):
+    """The work as a line of counts."""
+    return "lexed %d parsed %d checked %d moved %d" % work[:4]
 
 
 def counts(text, edit):
     """How many tokens are lexed, how many items parsed and how many checked where this text is edited so."""
-    return work_of(Reading(text), edit, Reading(edited(text, edit)))
+    old = Reading(text)
+    return work_of(old, edit, Reading(edited(text, edit)), seats_of(old))[:3]

@@ -142,7 +142,10 @@ given() {
 }
 
 # counts TEXT LINE..: of each edit that these lines ask for, how many tokens were lexed, and how many items parsed and checked.
-counts() {
+counts() { work "$@" | sed 's/ moved .*//'; }
+
+# work TEXT LINE..: the same, with how many entries move.
+work() {
     printf %b "$1" >t.x
-    printf '%s\n' "${@:2}" | edit_counts t.x | sed 's/ moved .*//'
+    printf '%s\n' "${@:2}" | edit_counts t.x
 }

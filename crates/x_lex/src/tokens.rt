@@ -54,6 +54,7 @@ impl Tokens {
     pub fn len(&self) -> usize
         ensures count { result ≡ length self.now.list }
         ensures small { result ≤ MAX_TEXT }
+        ensures seat { self.now.seat ≤ result }
     {
         self.entries.len()
     }

@@ -18,7 +18,7 @@ pub use fault::{RULE_TEXTS, RuleCode, WordFault};
 pub use laws::{
     has_results, one_first_declarer, one_list_of_faults, one_list_of_results, one_outcome,
 };
-pub use names::{Declarer, Names};
+pub use names::{Declarer, Names, is_beforehand};
 pub use numbers::Numbers;
 pub use outline::Outline;
 pub use views::{Class, MOST_HEIGHT, Meaning, View};

@@ -108,7 +108,7 @@ fn table_of<'d>(
     Ok(table)
 }
 
-/// How many items have a definition: a text may be items without one, and the table takes memory for its room.
+/// How many items have a definition. A text may be items without one, and the table takes memory for its room.
 fn definition_count(definitions: &[Option<&Definition>]) -> usize {
     let mut count: usize = 0;
     for definition in definitions {
@@ -183,8 +183,8 @@ fn note<'d>(
     Ok(())
 }
 
-/// Whether the name is a constant that no item declares.
-pub(crate) fn is_beforehand(name: &[u8]) -> bool
+/// Whether the name is `TRUE` or `FALSE`, a constant that no item declares (RFC 4506, section 4.4).
+pub fn is_beforehand(name: &[u8]) -> bool
     ensures { result ≡ is_beforehand name.now }
 {
     matches!(name, b"TRUE" | b"FALSE")

@@ -146,7 +146,7 @@ last_within olds all news rs r h m at =
     let many = h.many in
     omega (arith, l, many, at)
 
-kept_get : (es : List (Entry Kept)) (i : ℕ) (e : Entry Kept) → slice_get es i ≡ Some e → slice_get (items.kept es) i ≡ Some e.kept
+pub kept_get : (es : List (Entry Kept)) (i : ℕ) (e : Entry Kept) → slice_get es i ≡ Some e → slice_get (items.kept es) i ≡ Some e.kept
 kept_get [] i e is = absurd (cc)
 kept_get (x ∷ es) zero e is = let same : x ≡ e = same_Some x e is in ap (λ (y : Entry Kept). Some y.kept) same
 kept_get (x ∷ es) (suc i) e is = kept_get es i e is
@@ -208,7 +208,7 @@ set_twice [] i x y = refl
 set_twice (z ∷ xs) zero x y = refl
 set_twice (z ∷ xs) (suc i) x y = ap (λ l. z ∷ l) (set_twice xs i x y)
 
-entry_of : (es : List (Entry Kept)) (i : ℕ) (k : Kept) → slice_get (items.kept es) i ≡ Some k → (e : Entry Kept) × (slice_get es i ≡ Some e) × (e.kept ≡ k)
+pub entry_of : (es : List (Entry Kept)) (i : ℕ) (k : Kept) → slice_get (items.kept es) i ≡ Some k → (e : Entry Kept) × (slice_get es i ≡ Some e) × (e.kept ≡ k)
 entry_of [] i k is = absurd (cc)
 entry_of (x ∷ es) zero k is = (x, refl, same_Some x.kept k is)
 entry_of (x ∷ es) (suc i) k is = entry_of es i k is

@@ -14,7 +14,9 @@ pub mod KeepingLemmas
 pub mod KeptLemmas
 pub mod LineLemmas
 pub mod LookLemmas
+pub mod MoveLemmas
 pub mod Parting
+pub mod PlacingLemmas
 pub mod PlannedLemmas
 pub mod QueueLemmas
 pub mod ReadingLemmas

@@ -3,7 +3,7 @@ use Rattle.std.proofs.Common.{◌≡◌, ℕ, zero, suc, ◌+◌, ◌<◌, nat_e
 use Rattle.std.specs.Global.{Box}
 use Rattle.std.specs.Option.{option_or}
 use Rattle.std.specs.Prelude.{slice_get, slice_set}
-use Rattle.std.proofs.lemmas.Bool.{eq-eqb, eqb-true, ne_eqb}
+use Rattle.std.proofs.lemmas.Bool.{eq-eqb, eqb-true, ne_eqb, true≢false}
 use Rattle.std.proofs.lemmas.Option.{same_Some}
 use Rattle.std.proofs.lemmas.List.{length-map}
 use Rattle.x_text.proofs.ListLemmas.{drop_one}
@@ -116,31 +116,81 @@ kept_at [] n e is = absurd (cc)
 kept_at (x ∷ es) zero e is = let same : x ≡ e = same_Some x e is in ap (λ (y : Entry Kept). Some y.kept) same
 kept_at (x ∷ es) (suc n) e is = kept_at es n e is
 
--- ---- from the last to the first
+-- ---- from the first to the last
 
--- the last of what is planned is done, and this is left
+-- the first of what is planned is done, and this is left
 pub record ArePut (olds : List (Entry Kept)) (all : List Planned) (news : List (Entry Kept)) (left : List Planned) : Type 0 where
   pub done : List Planned
-  pub all_are : all ≡ left ++ done
+  pub all_are : all ≡ done ++ left
   pub with : AreWith olds (overlaid 0 (items.kept olds) done) news
 
-pub put_none : (olds : List (Entry Kept)) (all : List Planned) → ArePut olds all olds all
-put_none olds all = record {
+pub put_none : (olds : List (Entry Kept)) (all left : List Planned) → left ≡ all → ArePut olds all olds left
+put_none olds all left same = record {
   done = [];
-  all_are = sym (append-nil all);
+  all_are = sym same;
   with = with_none 0 olds;
 }
 
-planned_behind : (ks : List Kept) (left ps : List Planned) → ArePlanned ks (left ++ ps) → ArePlanned ks ps
-planned_behind ks [] ps are = are
-planned_behind ks (p ∷ left) ps are = planned_behind ks left ps are.2
+planned_among : (ks : List Kept) (done left : List Planned) (p : Planned) → ArePlanned ks (done ++ p ∷ left) → IsPlannedOf ks p
+planned_among ks [] left p are = are.0
+planned_among ks (d ∷ done) left p are = planned_among ks done left p are.2
 
--- what is next
-pub next_planned : (olds : List (Entry Kept)) (all : List Planned) (news : List (Entry Kept)) (before left : List Planned) (p : Planned) → before ≡ left ++ p ∷ [] → (h : ArePut olds all news before) → ArePlanned (items.kept olds) all
-    → ArePlanned (items.kept olds) (p ∷ h.done)
-next_planned olds all news before left p popped h are =
-    let whole : all ≡ left ++ p ∷ h.done = h.all_are ∙ ap (λ l. l ++ h.done) popped ∙ append_assoc left (p ∷ []) h.done in
-    planned_behind (items.kept olds) left (p ∷ h.done) (subst (ArePlanned (items.kept olds)) whole are)
+-- what has nothing planned among these is another than each of them
+other_number : (n : ℕ) (done left : List Planned) (p : Planned) → planned_at n (done ++ p ∷ left) ≡ None → nat_eq n p.item ≡ false
+other_number n [] left p none = by (nat_eq n p.item) refl none
+  where
+    by : (b : Bool) → nat_eq n p.item ≡ b → cond b (Some p.found) (planned_at n left) ≡ None → nat_eq n p.item ≡ false
+    by true e h = absurd (cc)
+    by false e h = e
+other_number n (d ∷ done) left p none = by (λ h. other_number n done left p h) (nat_eq n d.item) none
+  where
+    by : (planned_at n (done ++ p ∷ left) ≡ None → nat_eq n p.item ≡ false) → (b : Bool) → cond b (Some d.found) (planned_at n (done ++ p ∷ left)) ≡ None → nat_eq n p.item ≡ false
+    by rest true h = absurd (cc)
+    by rest false h = rest h
+
+-- nothing was planned before for what comes next
+none_before : (ks : List Kept) (done left : List Planned) (p : Planned) → ArePlanned ks (done ++ p ∷ left) → planned_at p.item done ≡ None
+none_before ks [] left p are = refl
+none_before ks (d ∷ done) left p are =
+    let other = other_number d.item done left p are.1 in
+    let turned : nat_eq p.item d.item ≡ false = ne_eqb p.item d.item (λ same. absurd (true≢false (sym (eq-eqb d.item p.item (sym same)) ∙ other))) in
+    ap (λ b. cond b (Some d.found) (planned_at p.item done)) turned ∙ none_before ks done left p are.2
+
+planned_last : (n : ℕ) (ps : List Planned) (p : Planned) → planned_at n (ps ++ p ∷ []) ≡ option_or (planned_at n ps) (cond (nat_eq n p.item) (Some p.found) None)
+planned_last n [] p = refl
+planned_last n (q ∷ ps) p = by (planned_last n ps p) (nat_eq n q.item)
+  where
+    by : planned_at n (ps ++ p ∷ []) ≡ option_or (planned_at n ps) (cond (nat_eq n p.item) (Some p.found) None)
+        → (b : Bool) → cond b (Some q.found) (planned_at n (ps ++ p ∷ [])) ≡ option_or (cond b (Some q.found) (planned_at n ps)) (cond (nat_eq n p.item) (Some p.found) None)
+    by rest true = refl
+    by rest false = rest
+
+or_none : {X : Type 0} (o : Option X) → option_or o None ≡ o
+or_none None = refl
+or_none (Some x) = refl
+
+last_skip : (m : ℕ) (ks : List Kept) (ps : List Planned) (p : Planned) → p.item < m → overlaid m ks (ps ++ p ∷ []) ≡ overlaid m ks ps
+last_skip m [] ps p lt = refl
+last_skip m (k ∷ ks) ps p lt =
+    let other : nat_eq m p.item ≡ false = ne_eqb m p.item (λ same. omega (arith, same, lt)) in
+    let here = planned_last m ps p ∙ ap (λ b. option_or (planned_at m ps) (cond b (Some p.found) None)) other ∙ or_none (planned_at m ps) in
+    let rest = last_skip (suc m) ks ps p (omega (arith, lt)) in
+    λ i. option_or (here i) (kept_found k) ∷ rest i
+
+last_set : (m j : ℕ) (ks : List Kept) (ps : List Planned) (p : Planned) → p.item ≡ m + j → j < length ks → planned_at p.item ps ≡ None → overlaid m ks (ps ++ p ∷ []) ≡ slice_set (overlaid m ks ps) j (Some p.found)
+last_set m j [] ps p at lt none = absurd (omega (arith, lt))
+last_set m zero (k ∷ ks) ps p at lt none =
+    let same : p.item ≡ m = omega (arith, at) in
+    let here : nat_eq m p.item ≡ true = eq-eqb m p.item (sym same) in
+    let alone : planned_at m (ps ++ p ∷ []) ≡ Some p.found =
+    planned_last m ps p ∙ ap (λ o. option_or o (cond (nat_eq m p.item) (Some p.found) None)) (ap (λ n. planned_at n ps) (sym same) ∙ none) ∙ ap (λ b. cond b (Some p.found) None) here in
+    let rest = last_skip (suc m) ks ps p (omega (arith, at)) in
+    λ i. option_or (alone i) (kept_found k) ∷ rest i
+last_set m (suc j) (k ∷ ks) ps p at lt none =
+    let other : nat_eq m p.item ≡ false = ne_eqb m p.item (λ same. omega (arith, same, at)) in
+    let here = planned_last m ps p ∙ ap (λ b. option_or (planned_at m ps) (cond b (Some p.found) None)) other ∙ or_none (planned_at m ps) in
+    let rest = last_set (suc m) j ks ps p (omega (arith, at)) (omega (arith, lt)) none in
+    λ i. option_or (here i) (kept_found k) ∷ rest i
 
 with_long : (es : List (Entry Kept)) (rs : List (Option (Box Found))) (fs : List (Entry Kept)) → AreWith es rs fs → length fs ≡ length es
 with_long [] [] [] with = refl
@@ -162,31 +212,37 @@ with_definition [] (r ∷ rs) fs n k j with a b = absurd with
 with_definition (e ∷ es) [] fs n k j with a b = absurd with
 with_definition (e ∷ es) (r ∷ rs) [] n k j with a b = absurd with
 
-pub put_within : (olds : List (Entry Kept)) (all : List Planned) (news : List (Entry Kept)) (before left : List Planned) (p : Planned) → before ≡ left ++ p ∷ [] → ArePut olds all news before → ArePlanned (items.kept olds) all → p.item < length news
-put_within olds all news before left p popped h are =
-    let next = next_planned olds all news before left p popped h are in
+-- what comes next, among all that is planned
+next_of : (olds : List (Entry Kept)) (all : List Planned) (news : List (Entry Kept)) (left : List Planned) (p : Planned) (h : ArePut olds all news (p ∷ left)) → ArePlanned (items.kept olds) all
+    → IsPlannedOf (items.kept olds) p × (planned_at p.item h.done ≡ None)
+next_of olds all news left p h are =
+    let there = subst (ArePlanned (items.kept olds)) h.all_are are in
+    (planned_among (items.kept olds) h.done left p there, none_before (items.kept olds) h.done left p there)
+
+pub put_within : (olds : List (Entry Kept)) (all : List Planned) (news : List (Entry Kept)) (left : List Planned) (p : Planned) → ArePut olds all news (p ∷ left) → ArePlanned (items.kept olds) all → p.item < length news
+put_within olds all news left p h are =
+    let next = next_of olds all news left p h are in
     let lt = within (items.kept olds) p.item next.0.item next.0.at in
     let l = length-map olds (λ e. e.kept) in
     let m = with_long olds (overlaid 0 (items.kept olds) h.done) news h.with in
     omega (arith, lt, l, m)
 
-pub put_known : (olds : List (Entry Kept)) (all : List Planned) (news : List (Entry Kept)) (before left : List Planned) (p : Planned) → before ≡ left ++ p ∷ [] → ArePut olds all news before → ArePlanned (items.kept olds) all
-    → IsKnownAt (items.kept news) p.item (Some p.found)
-put_known olds all news before left p popped h are k is none =
-    let next = next_planned olds all news before left p popped h are in
+pub put_known : (olds : List (Entry Kept)) (all : List Planned) (news : List (Entry Kept)) (left : List Planned) (p : Planned) → ArePut olds all news (p ∷ left) → ArePlanned (items.kept olds) all → IsKnownAt (items.kept news) p.item (Some p.found)
+put_known olds all news left p h are k is none =
+    let next = next_of olds all news left p h are in
     absurd (next.0.defined (sym (with_definition olds (overlaid 0 (items.kept olds) h.done) news p.item next.0.item k h.with next.0.at is) ∙ none))
 
-pub put_more : (olds : List (Entry Kept)) (all : List Planned) (news next : List (Entry Kept)) (before left : List Planned) (p : Planned) → before ≡ left ++ p ∷ [] → ArePut olds all news before → ArePlanned (items.kept olds) all
-    → IsWithAt news p.item (Some p.found) next → ArePut olds all next left
-put_more olds all news next before left p popped h are put =
+pub put_more : (olds : List (Entry Kept)) (all : List Planned) (news next : List (Entry Kept)) (left : List Planned) (p : Planned) → ArePut olds all news (p ∷ left) → ArePlanned (items.kept olds) all → IsWithAt news p.item (Some p.found) next
+    → ArePut olds all next left
+put_more olds all news next left p h are put =
     let ks = items.kept olds in
-    let here = next_planned olds all news before left p popped h are in
+    let here = next_of olds all news left p h are in
     let lt = within ks p.item here.0.item here.0.at in
-    let set : overlaid 0 ks (p ∷ h.done) ≡ slice_set (overlaid 0 ks h.done) p.item (Some p.found) = overlaid_first p.item ks p h.done refl lt in
+    let set : overlaid 0 ks (h.done ++ p ∷ []) ≡ slice_set (overlaid 0 ks h.done) p.item (Some p.found) = last_set 0 p.item ks h.done p (omega arith) lt here.1 in
     let own = λ (e : Entry Kept) (is : slice_get olds p.item ≡ Some e). own_left p.item ks h.done e.kept (kept_at olds p.item e is) here.1 in
     record {
-      done = p ∷ h.done;
-      all_are = h.all_are ∙ ap (λ l. l ++ h.done) popped ∙ append_assoc left (p ∷ []) h.done;
+      done = h.done ++ p ∷ [];
+      all_are = h.all_are ∙ sym (append_assoc h.done (p ∷ []) left);
       with = subst (λ rs. AreWith olds rs next) (sym set)
           (subst (AreWith olds (slice_set (overlaid 0 ks h.done) p.item (Some p.found))) (sym put.put)
           (with_set olds (overlaid 0 ks h.done) news p.item put.old put.item (Some p.found) h.with put.was put.with own));
@@ -194,7 +250,7 @@ put_more olds all news next before left p popped h are put =
 
 pub put_all : (olds : List (Entry Kept)) (all : List Planned) (news : List (Entry Kept)) (left : List Planned) → left ≡ [] → ArePut olds all news left → AreWith olds (overlaid 0 (items.kept olds) all) news
 put_all olds all news left none h =
-    let done : h.done ≡ all = sym (h.all_are ∙ ap (λ l. l ++ h.done) none) in
+    let done : h.done ≡ all = sym (append-nil h.done) ∙ sym (ap (λ l. h.done ++ l) none) ∙ sym h.all_are in
     subst (λ l. AreWith olds (overlaid 0 (items.kept olds) l) news) done h.with
 
 -- ---- what is planned for a number

@@ -1,8 +1,12 @@
 -- A change takes one work.
-use Rattle.std.proofs.Common.{◌≡◌, ℕ, ◌+◌, true, List, [], ◌∷◌, ◌++◌, length, map, take, drop, refl, sym, ap, subst, ◌∙◌, arith}
+use Rattle.std.proofs.Common.{◌≡◌, ◌≤◌, ℕ, suc, ◌+◌, ◌*◌, true, List, [], ◌∷◌, ◌++◌, length, map, take, drop, refl, sym, ap, subst, ◌∙◌, arith}
 use Rattle.std.specs.List.{splice}
+use Rattle.std.specs.Prelude.{sum_by}
 use Rattle.std.proofs.lemmas.List.{length-map}
+use Rattle.std.proofs.lemmas.List.Sums.{sum_by-append}
 use Rattle.x_text.specs.Edits.{Change, edited_by, LiesWithin}
+use Rattle.x_text.specs.declared.edit.Edit.{Edit}
+use Rattle.x_text.specs.Seqs.{distance}
 use Rattle.x_lex.specs.declared.kind.Kind.{Kind}
 use Rattle.x_lex.specs.Places.{lexemes}
 use Rattle.x_lex.specs.Relex.{IsPatch}
@@ -19,8 +23,9 @@ use Rattle.x_item.proofs.RecutLaws.{same_item_patch}
 use Rattle.x_uses.specs.Staleness.{AreStale}
 use Rattle.x_uses.proofs.StaleLists.{one_stale_list}
 use Rattle.x_session.specs.Compile.{definitions_of}
+use Rattle.x_session.specs.Moves.{AreNear, Changed, changed_items, moves, place_of, seat_behind}
 use Rattle.x_session.specs.Session.{Document}
-use Rattle.x_session.specs.Work.{AreStaleItems, IsWork, definitions_edit}
+use Rattle.x_session.specs.Work.{AreNearWorks, AreStaleItems, IsWork, definitions_edit}
 use Rattle.x_session.specs.declared.session.work.Work.{Work}
 use Rattle.x_session.proofs.Compiled.{one_compilation}
 
@@ -50,7 +55,7 @@ between (f ∷ front) xs ys rear more long same =
     between front xs ys rear more long there
 
 -- the stale items, of one recut
-one_stale : (change : Change) (ts us : List (Kind × ℕ)) (r q : ItemChange (Unit {0})) (ks ls : List ℕ) → AreOne r q → AreStaleItems change ts us r ks → AreStaleItems change ts us q ls → length ks ≡ length ls
+one_stale : (change : Change) (ts us : List (Kind × ℕ)) (r q : ItemChange (Unit {0})) (ks ls : List ℕ) → AreOne r q → AreStaleItems change ts us r ks → AreStaleItems change ts us q ls → ks ≡ ls
 one_stale change ts us r q ks ls one h k =
     let old = (one_compilation change.old ts ts h.olds k.olds h.are_olds k.are_olds).1 in
     let new = (one_compilation (edited_by change) us us h.news k.news h.are_news k.are_news).1 in
@@ -65,10 +70,10 @@ one_stale change ts us r q ks ls one h k =
     λ i. record { old = definitions_of (old i); outcomes = map (λ x. x.result) (old i); place = record { at = at i; removed = removed i; added = many i }; put = put i } in
     let stale = subst (λ e. AreStale e (map (λ x. x.result) h.news) ks) edit h.are in
     let there = subst (λ ns. AreStale (definitions_edit k.olds q k.put) (map (λ x. x.result) ns) ls) (sym new) k.are in
-    ap length (one_stale_list (definitions_edit k.olds q k.put) (map (λ x. x.result) h.news) ks ls stale there)
+    one_stale_list (definitions_edit k.olds q k.put) (map (λ x. x.result) h.news) ks ls stale there
 
-pub one_work : (change : Change) (d e : Document) (v w : Work) → LiesWithin change → IsWork change d v → IsWork change e w → (v.lexed ≡ w.lexed) × (v.parsed ≡ w.parsed) × (v.checked ≡ w.checked) × (d.token_seat ≡ e.token_seat)
-one_work change d e v w within h k =
+pub one_work : (change : Change) (old d e : Document) (v w : Work) → LiesWithin change → IsWork change old d v → IsWork change old e w → (v ≡ w) × (d.token_seat ≡ e.token_seat) × (d.item_seat ≡ e.item_seat)
+one_work change old d e v w within h k =
     let ts = h.tokens in
     let same : ts ≡ k.tokens = same_tiles true change.old ts k.tokens h.are_tokens k.are_tokens in
     let back = sym same in
@@ -87,9 +92,37 @@ one_work change d e v w within h k =
     }) h.is_recut there in
     let stale : AreStaleItems change ts (tokens.patched ts h.patch) k.recut k.stale =
     subst (λ p. AreStaleItems change ts (tokens.patched ts p) k.recut k.stale) (sym patch) (subst (λ t. AreStaleItems change t (tokens.patched t k.patch) k.recut k.stale) back k.are_stale) in
-    let many : length h.recut.fresh ≡ length k.recut.fresh = sym (length-map h.recut.fresh tokens_in) ∙ ap length one.fresh ∙ length-map k.recut.fresh tokens_in in (
-      h.lexed ∙ ap (λ (p : TokenPatch). length p.fresh) patch ∙ sym k.lexed,
-      h.parsed ∙ many ∙ sym k.parsed,
-      h.checked ∙ one_stale change ts (tokens.patched ts h.patch) h.recut k.recut h.stale k.stale one h.are_stale stale ∙ sym k.checked,
+    let many : length h.recut.fresh ≡ length k.recut.fresh = sym (length-map h.recut.fresh tokens_in) ∙ ap length one.fresh ∙ length-map k.recut.fresh tokens_in in
+    let stales : h.stale ≡ k.stale = one_stale change ts (tokens.patched ts h.patch) h.recut k.recut h.stale k.stale one h.are_stale stale in
+    let place : place_of h.recut ≡ place_of k.recut = λ i. record { at = one.at i; removed = one.removed i; added = many i } in
+    let changed : changed_items (place_of h.recut) h.stale ≡ changed_items (place_of k.recut) k.stale = λ i. changed_items (place i) (stales i) in
+    let lexed : v.lexed ≡ w.lexed = h.lexed ∙ ap (λ (p : TokenPatch). length p.fresh) patch ∙ sym k.lexed in
+    let parsed : v.parsed ≡ w.parsed = h.parsed ∙ many ∙ sym k.parsed in
+    let checked : v.checked ≡ w.checked = h.checked ∙ ap length stales ∙ sym k.checked in
+    let moved : v.moved ≡ w.moved = h.moved ∙ (λ i. distance old.token_seat (patch i).at ((patch i).at + (patch i).removed) + moves old.item_seat (changed i)) ∙ sym k.moved in (
+      λ i. record { lexed = lexed i; parsed = parsed i; checked = checked i; moved = moved i },
       h.token_seat ∙ ap (λ (p : TokenPatch). p.at + length p.fresh) patch ∙ sym k.token_seat,
+      h.item_seat ∙ ap (seat_behind old.item_seat) changed ∙ sym k.item_seat,
     )
+
+-- ---- edits near one another
+
+near_moves : (reach seat : ℕ) (cs : List Changed) → AreNear reach seat cs → moves seat cs ≤ 2 * reach
+near_moves reach seat [] near = omega arith
+near_moves reach seat (c ∷ cs) near = let a = near.0 in let b = near.1 in omega (arith, a, b)
+
+pub near_edits : (reach : ℕ) (old new : Document) (es : List Edit) (ws : List Work) → AreNearWorks reach old es ws new → sum_by (λ w. w.moved) ws ≤ 3 * reach * length es
+near_edits reach old new [] [] are = omega arith
+near_edits reach old new [] (w ∷ ws) are = absurd are
+near_edits reach old new (e ∷ es) [] are = absurd are
+near_edits reach old new (e ∷ es) (w ∷ ws) are =
+    let near = are.2 in
+    let a = near.tokens in
+    let b = near_moves reach old.item_seat (changed_items (place_of near.work.recut) near.work.stale) near.items in
+    let here = near.work.moved in
+    let rest = near_edits reach are.0 new es ws are.3 in
+    let n = length es in
+    let more : 3 * reach * suc n ≡ 3 * reach * n + 3 * reach = omega arith in
+    let all = sum_by-append (λ (v : Work). v.moved) (w ∷ []) ws in
+    let one : sum_by (λ (v : Work). v.moved) (w ∷ []) ≡ w.moved = omega arith in
+    omega (arith, a, b, here, rest, more, all, one)

@@ -8,6 +8,7 @@ use Rattle.std.proofs.lemmas.List.{length-append, length-map, take-map, drop-map
 use Rattle.std.proofs.lemmas.List.Sums.{sum_by-append}
 use Rattle.x_text.specs.Counts.{raised}
 use Rattle.x_text.specs.Edits.{Change, change_of, edited_by}
+use Rattle.x_text.specs.Seqs.{distance}
 use Rattle.x_text.specs.declared.edit.Edit.{Edit}
 use Rattle.x_text.specs.declared.source.TheConstants.{MAX_TEXT}
 use Rattle.x_text.proofs.ListLemmas.{map_append}
@@ -31,6 +32,8 @@ use Rattle.x_uses.specs.Staleness.{AreStale, Ascending}
 use Rattle.x_session.specs.Checking.{AreChecked}
 use Rattle.x_session.specs.Following.{AreUsed, IsPlan, behind, edit_of}
 use Rattle.x_session.specs.KeptView.{AreWith, entry_definitions, found_result, kept_definition}
+use Rattle.x_session.specs.Moves.{changed_items, moves, place_of, seat_behind}
+use Rattle.x_session.specs.Planned.{numbers_of}
 use Rattle.x_session.specs.Session.{Document, LeavesText}
 use Rattle.x_session.specs.SessionState.{IsKept, items_of}
 use Rattle.x_session.specs.Work.{AreStaleItems, AreWorks, IsWork, IsWorkOfAll, definitions_edit}
@@ -151,11 +154,14 @@ stale_items change ts us es fs p m n v w rs ks old new with are =
       are = subst (λ a. AreStale (definitions_edit olds recut put) a ks) after (subst (λ e. AreStale e (map found_result rs) ks) edit_is are);
     }
 
-pub work_of : (change : Change) (new : Document) (ts : List (Kind × ℕ)) (es : List (Entry Kept)) (p : TokenPatch) (ip : ItemChange Kept) (w : Work) (ks : List ℕ) → AreTokens change.old ts → IsPatch change ts p
+pub work_of : (change : Change) (before new : Document) (ts : List (Kind × ℕ)) (es : List (Entry Kept)) (p : TokenPatch) (ip : ItemChange Kept) (w : Work) (ks : List ℕ) → AreTokens change.old ts → IsPatch change ts p
     → IsCut (lexemes change.old ts) (counts es) → IsItemPatch change ts (tokens.patched ts p) es ip → w.lexed ≡ length p.fresh → w.parsed ≡ length ip.fresh → w.checked ≡ length ks
-    → AreStaleItems change ts (tokens.patched ts p) (record { at = ip.at; removed = ip.removed; start = ip.start; fresh = map bare ip.fresh }) ks → new.token_seat ≡ p.at + length p.fresh → IsWork change new w
-work_of change new ts es p ip w ks are patch cut recut lexed parsed checked stale seat =
+    → AreStaleItems change ts (tokens.patched ts p) (record { at = ip.at; removed = ip.removed; start = ip.start; fresh = map bare ip.fresh }) ks
+    → w.moved ≡ distance before.token_seat p.at (p.at + p.removed) + moves before.item_seat (changed_items (place_of ip) ks) → new.token_seat ≡ p.at + length p.fresh
+    → new.item_seat ≡ seat_behind before.item_seat (changed_items (place_of ip) ks) → IsWork change before new w
+work_of change before new ts es p ip w ks are patch cut recut lexed parsed checked stale moved seat item_seat =
     let fresh : ItemChange (Unit {0}) = record { at = ip.at; removed = ip.removed; start = ip.start; fresh = map bare ip.fresh } in
+    let place : place_of ip ≡ place_of fresh = λ i. record { at = ip.at; removed = ip.removed; added = sym (length-map ip.fresh bare) i } in
     record {
       tokens = ts;
       are_tokens = are;
@@ -170,7 +176,9 @@ work_of change new ts es p ip w ks are patch cut recut lexed parsed checked stal
       stale = ks;
       are_stale = stale;
       checked = checked;
+      moved = moved ∙ ap (λ q. distance before.token_seat p.at (p.at + p.removed) + moves before.item_seat (changed_items q ks)) place;
       token_seat = seat;
+      item_seat = item_seat ∙ ap (λ q. seat_behind before.item_seat (changed_items q ks)) place;
     }
 
 -- ---- what an edit leaves that was planned
@@ -198,10 +206,12 @@ fresh_few : {T : Type 0} (xs ys : List T) (i j : ℕ) → length ys ≤ length (
 fresh_few xs ys i j = let a = length-append (take i xs) (ys ++ drop j xs) in let b = length-append ys (drop j xs) in omega (arith, a, b)
 
 -- the work that it took
-pub work_edited : (change : Change) (new : Document) (ts us : List (Kind × ℕ)) (es fs : List (Entry Kept)) (m n : ℕ) (u v : Option UseTable) (p : Plan) (w : Work) → IsPlan change ts es p → IsKept change.old ts es m u
+pub work_edited : (change : Change) (before new : Document) (ts us : List (Kind × ℕ)) (es fs : List (Entry Kept)) (m n : ℕ) (u v : Option UseTable) (p : Plan) (w : Work) → IsPlan change ts es p → IsKept change.old ts es m u
     → IsKept (edited_by change) us fs n v → us ≡ tokens.patched ts p.tokens → AreWith (patched es p.items) (behind es p.items p.found.items) fs → IsOfText (tokens.patched ts p.tokens) → AreOfText (counts (patched es p.items))
-    → w.lexed ≡ raised 0 (length p.tokens.fresh) → w.parsed ≡ raised 0 (length p.items.fresh) → w.checked ≡ raised 0 (length p.found.items) → new.token_seat ≡ p.tokens.at + length p.tokens.fresh → IsWork change new w
-work_edited change new ts us es fs m n u v p w h old made same with few few_items lexed counted checked seat =
+    → w.lexed ≡ raised 0 (length p.tokens.fresh) → w.parsed ≡ raised 0 (length p.items.fresh) → w.checked ≡ raised 0 (length p.found.items)
+    → w.moved ≡ distance before.token_seat p.tokens.at (p.tokens.at + p.tokens.removed) + moves before.item_seat (changed_items (place_of p.items) (numbers_of p.found.items))
+    → new.token_seat ≡ p.tokens.at + length p.tokens.fresh → new.item_seat ≡ seat_behind before.item_seat (changed_items (place_of p.items) (numbers_of p.found.items)) → IsWork change before new w
+work_edited change before new ts us es fs m n u v p w h old made same with few few_items lexed counted checked moved seat item_seat =
     let f = fresh_few ts p.tokens.fresh p.tokens.at (p.tokens.at + p.tokens.removed) in
     let g = fresh_few es p.items.fresh p.items.at (p.items.at + p.items.removed) in
     let a = few.few in
@@ -215,17 +225,17 @@ work_edited change new ts us es fs m n u v p w h old made same with few few_item
     let all = length-map (patched es p.items) (λ e. kept_definition e.kept) in
     let some = length-map p.found.items (λ (q : Planned). q.item) in
     let once : w.checked ≡ length p.found.items = counted_few w.checked (length p.found.items) checked (omega (arith, many, long, all, some, b, l)) in
-    work_of change new ts es p.tokens p.items w ks old.are_tokens h.patch (cut_of (lexemes change.old ts) es old.parsed) h.recut
+    work_of change before new ts es p.tokens p.items w ks old.are_tokens h.patch (cut_of (lexemes change.old ts) es old.parsed) h.recut
     (counted_few w.lexed (length p.tokens.fresh) lexed (omega (arith, f, a))) (counted_few w.parsed (length p.items.fresh) counted (omega (arith, g, b, l))) (once ∙ sym some)
     (subst (λ l. AreStaleItems change ts l (record { at = p.items.at; removed = p.items.removed; start = p.items.start; fresh = map bare p.items.fresh }) ks) same
-    (stale_items change ts us es fs p.items m n u v rs ks old made with stale)) seat
+    (stale_items change ts us es fs p.items m n u v rs ks old made with stale)) moved seat item_seat
 
 -- ---- the work of one edit after another
 
-works_more : (old mid next : Document) (es : List Edit) (ws : List Work) (e : Edit) (w : Work) → AreWorks old es ws mid → LeavesText mid next (edited_by (change_of mid.text e)) → IsWork (change_of mid.text e) next w
+works_more : (old mid next : Document) (es : List Edit) (ws : List Work) (e : Edit) (w : Work) → AreWorks old es ws mid → LeavesText mid next (edited_by (change_of mid.text e)) → IsWork (change_of mid.text e) mid next w
     → AreWorks old (es ++ e ∷ []) (ws ++ w ∷ []) next
 works_more old mid next [] [] e w are leaves is =
-    (next, subst (λ d. LeavesText d next (edited_by (change_of d.text e))) are leaves, subst (λ d. IsWork (change_of d.text e) next w) are is, refl)
+    (next, subst (λ d. LeavesText d next (edited_by (change_of d.text e))) are leaves, subst (λ d. IsWork (change_of d.text e) d next w) are is, refl)
 works_more old mid next [] (v ∷ ws) e w are leaves is = absurd are
 works_more old mid next (d ∷ es) [] e w are leaves is = absurd are
 works_more old mid next (d ∷ es) (v ∷ ws) e w are leaves is = (are.0, are.1, are.2, works_more are.0 mid next es ws e w are.3 leaves is)
@@ -247,7 +257,7 @@ worked_none old total none = record {
   moved = ap (λ w. w.moved) none;
 }
 
-pub worked_more : (old mid next : Document) (es : List Edit) (e : Edit) (total new w : Work) → IsWorkOfAll old es mid total → LeavesText mid next (edited_by (change_of mid.text e)) → IsWork (change_of mid.text e) next w
+pub worked_more : (old mid next : Document) (es : List Edit) (e : Edit) (total new w : Work) → IsWorkOfAll old es mid total → LeavesText mid next (edited_by (change_of mid.text e)) → IsWork (change_of mid.text e) mid next w
     → new ≡ record { lexed = raised total.lexed w.lexed; parsed = raised total.parsed w.parsed; checked = raised total.checked w.checked; moved = raised total.moved w.moved } → IsWorkOfAll old (es ++ e ∷ []) next new
 worked_more old mid next es e total new w h leaves is more = record {
   works = h.works ++ w ∷ [];

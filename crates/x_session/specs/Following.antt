@@ -1,7 +1,8 @@
 -- What an edit does to what a session keeps of its text.
-use Rattle.std.specs.Prelude.{◌≡◌, ℕ, ◌+◌, ◌≤◌, List, All, IfSome, Option, Some, drop, length, map, take}
+use Rattle.std.specs.Prelude.{◌≡◌, ℕ, ◌+◌, ◌≤◌, List, All, IfSome, Option, None, Some, drop, length, map, take}
 use Rattle.std.specs.Global.{Box}
 use Rattle.x_text.specs.Edits.{Change, edited_by, LiesWithin}
+use Rattle.x_text.specs.Seqs.{Gapped}
 use Rattle.x_lex.specs.declared.kind.Kind.{Kind}
 use Rattle.x_lex.specs.Places.{lexemes}
 use Rattle.x_lex.specs.Relex.{IsPatch}
@@ -16,11 +17,12 @@ use Rattle.x_sema.specs.Declarers.{AreShort}
 use Rattle.x_sema.specs.Results.{AreResults}
 use Rattle.x_uses.specs.Editing.{TextEdit}
 use Rattle.x_uses.specs.Occurrences.{HasRoomFor, IsUsesOf, UseTable}
-use Rattle.x_uses.specs.Staleness.{AreStale}
+use Rattle.x_uses.specs.Staleness.{AreStale, Ascending}
 use Rattle.x_session.specs.Checking.{AreRendered, IsSound, kept_definitions}
 use Rattle.x_session.specs.Counting.{faults_found, own_faults}
 use Rattle.x_session.specs.KeptView.{AreParsed, entry_definitions, entry_results, found_result}
-use Rattle.x_session.specs.Planned.{ArePlanned, overlaid}
+use Rattle.x_session.specs.Moves.{place_of}
+use Rattle.x_session.specs.Planned.{ArePlanned, numbers_of, overlaid}
 use Rattle.x_session.specs.declared.compile.item_table.ItemTable.{ItemTable}
 use Rattle.x_session.specs.declared.compile.kept.Found.{Found}
 use Rattle.x_session.specs.declared.compile.kept.Kept.{Kept}
@@ -77,20 +79,24 @@ abbrev pub edit_of : List (Entry Kept) → ItemChange Kept → TextEdit
 edit_of es p = record {
   old = entry_definitions es;
   outcomes = entry_results es;
-  place = record { at = p.at; removed = p.removed; added = length p.fresh };
+  place = place_of p;
   put = entry_definitions p.fresh;
 }
 
+-- what is kept with the items that the patch leaves, before the stale ones are checked
+abbrev pub kept_behind : List (Entry Kept) → ItemChange Kept → List Kept
+kept_behind es p = items.kept (items.patched es p)
+
 -- what will be kept of the items that the patch leaves
 abbrev pub behind : List (Entry Kept) → ItemChange Kept → List Planned → List (Option (Box Found))
-behind es p ps = overlaid 0 (items.kept (items.patched es p)) ps
+behind es p ps = overlaid 0 (kept_behind es p) ps
 
 -- Each stale item is planned, and no other; with what it has then, each item has what checking it gives.
 pub record AreStaleChecked (es : List (Entry Kept)) (p : ItemChange Kept) (ps : List Planned) : Type 0 where
-  pub planned : ArePlanned (items.kept (items.patched es p)) ps
-  pub results : AreResults (kept_definitions (items.kept (items.patched es p))) (map found_result (behind es p ps))
-  pub rendered : AreRendered (items.kept (items.patched es p)) (behind es p ps)
-  pub stale : AreStale (edit_of es p) (map found_result (behind es p ps)) (map (λ f. f.item) ps)
+  pub planned : ArePlanned (kept_behind es p) ps
+  pub results : AreResults (kept_definitions (kept_behind es p)) (map found_result (behind es p ps))
+  pub rendered : AreRendered (kept_behind es p) (behind es p ps)
+  pub stale : AreStale (edit_of es p) (map found_result (behind es p ps)) (numbers_of ps)
 
 -- The plan has what the change does to the tokens and items, what the fresh items parse to, and what checking
 -- the stale items gives then.
@@ -100,7 +106,7 @@ pub record IsPlan (change : Change) (ts : List (Kind × ℕ)) (es : List (Entry 
   pub parsed : AreParsed (lexemes (edited_by change) (tokens.patched ts p.tokens)) (items.patched es p.items)
   pub short : AreShort (entry_definitions (items.patched es p.items))
   pub checked : AreStaleChecked es p.items p.found.items
-  pub count : p.faults ≡ faults_found (items.kept (items.patched es p.items)) (behind es p.items p.found.items)
+  pub count : p.faults ≡ faults_found (kept_behind es p.items) (behind es p.items p.found.items)
 
 -- the plan fits these tokens and items, and there is room for it
 pub record CanCarryOut (ts : TokenList) (t : ItemTable) (p : Plan) : Type 0 where
@@ -110,6 +116,20 @@ pub record CanCarryOut (ts : TokenList) (t : ItemTable) (p : Plan) : Type 0 wher
   pub items_among : items.LiesAmong t.entries.list p.items
   pub item_room : items.HasRoom t.entries p.items
   pub items_of_text : AreOfText (counts (items.patched t.entries.list p.items))
-  pub planned : ArePlanned (items.kept (items.patched t.entries.list p.items)) p.found.items
+  pub planned : ArePlanned (kept_behind t.entries.list p.items) p.found.items
+  pub ascending : Ascending 0 (numbers_of p.found.items)
   pub names : IsNameChange t.entries.list p.items p.names
   pub name_room : HasRoomForNames t.uses p.names
+
+-- ---- while it is carried out
+
+-- the patch can be carried out in room that is there
+pub record CanPut (entries : Gapped (Entry Kept)) (p : ItemChange Kept) : Type 0 where
+  pub among : items.LiesAmong entries.list p
+  pub room : items.HasRoom entries p
+  pub of_text : AreOfText (counts (items.patched entries.list p))
+
+-- the items that the patch will leave where it is still to be carried out, and else these
+abbrev pub whole : List (Entry Kept) → Option (ItemChange Kept) → List (Entry Kept)
+whole es None = es
+whole es (Some p) = items.patched es p

@@ -12,6 +12,7 @@ pub mod ItemReading
 pub mod KeptView
 pub mod LineAnswers
 pub mod Lines
+pub mod Moves
 pub mod Planned
 pub mod Rendered
 pub mod Script

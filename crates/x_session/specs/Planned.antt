@@ -1,5 +1,6 @@
 -- What is planned to be kept with the items that an edit makes stale.
-use Rattle.std.specs.Prelude.{◌≡◌, ℕ, suc, nat_eq, List, [], ◌∷◌, Option, None, Some, slice_get, if◌then◌else◌}
+use Rattle.std.specs.Prelude.{◌≡◌, ℕ, suc, nat_eq, List, [], ◌∷◌, map, Option, None, Some, slice_get}
+use Rattle.std.specs.Prelude.{if◌then◌else◌}
 use Rattle.std.specs.Global.{Box}
 use Rattle.std.specs.Option.{option_or}
 use Rattle.x_session.specs.Checking.{sound_pieces}
@@ -7,6 +8,10 @@ use Rattle.x_session.specs.KeptView.{found_pieces, found_result, kept_definition
 use Rattle.x_session.specs.declared.compile.kept.Found.{Found}
 use Rattle.x_session.specs.declared.compile.kept.Kept.{Kept}
 use Rattle.x_session.specs.declared.compile.kept.Planned.{Planned}
+
+-- the numbers of the items for which these are planned
+abbrev pub numbers_of : List Planned → List ℕ
+numbers_of ps = map (λ p. p.item) ps
 
 -- what is planned for the item of this number
 abbrev pub planned_at : ℕ → List Planned → Option (Box Found)

@@ -1,7 +1,8 @@
 -- What work an edit takes, by both texts: each is compiled from its start, and then they are compared.
-use Rattle.std.specs.Prelude.{◌≡◌, ℕ, ◌+◌, List, [], ◌∷◌, Option, length, map, sum_by}
+use Rattle.std.specs.Prelude.{◌≡◌, ◌≤◌, ℕ, ◌+◌, List, [], ◌∷◌, Option, length, map, sum_by}
 use Rattle.x_text.specs.Counts.{raised}
 use Rattle.x_text.specs.Edits.{Change, change_of, edited_by}
+use Rattle.x_text.specs.Seqs.{distance}
 use Rattle.x_text.specs.declared.edit.Edit.{Edit}
 use Rattle.x_lex.specs.declared.kind.Kind.{Kind}
 use Rattle.x_lex.specs.Places.{lexemes}
@@ -16,6 +17,7 @@ use Rattle.x_item.specs.declared.cutting.entry.Entry.{Entry}
 use Rattle.x_uses.specs.Editing.{TextEdit, definitions_after}
 use Rattle.x_uses.specs.Staleness.{AreStale}
 use Rattle.x_session.specs.Compile.{Item, IsCompilation, definitions_of}
+use Rattle.x_session.specs.Moves.{AreNear, changed_items, moves, place_of, seat_behind}
 use Rattle.x_session.specs.Session.{Document, LeavesText}
 use Rattle.x_session.specs.declared.session.work.Work.{Work}
 
@@ -25,7 +27,7 @@ abbrev pub definitions_edit : List Item → ItemChange (Unit {0}) → List (Opti
 definitions_edit olds recut put = record {
   old = definitions_of olds;
   outcomes = map (λ i. i.result) olds;
-  place = record { at = recut.at; removed = recut.removed; added = length recut.fresh };
+  place = place_of recut;
   put = put;
 }
 
@@ -45,8 +47,10 @@ pub record AreStaleItems (change : Change) (ts us : List (Kind × ℕ)) (recut :
   pub are : AreStale (definitions_edit olds recut put) (map (λ i. i.result) news) stale
 
 -- The change took this work: as many tokens were lexed as are fresh, as many items parsed as are recut, and
--- as many checked as are stale. The tokens' seat is behind the fresh ones then.
-pub record IsWork (change : Change) (new : Document) (w : Work) : Type 0 where
+-- as many checked as are stale. Entries moved as far as the tokens' seat is from those that go, and as putting
+-- the changed items in place takes, from the first to the last. The tokens' seat is behind the fresh ones
+-- then, and the items' seat behind the last changed one.
+pub record IsWork (change : Change) (old new : Document) (w : Work) : Type 0 where
   pub tokens : List (Kind × ℕ)
   pub are_tokens : AreTokens change.old tokens
   pub patch : TokenPatch
@@ -60,7 +64,10 @@ pub record IsWork (change : Change) (new : Document) (w : Work) : Type 0 where
   pub stale : List ℕ
   pub are_stale : AreStaleItems change tokens (patched tokens patch) recut stale
   pub checked : w.checked ≡ length stale
+  pub moved : w.moved ≡ distance old.token_seat patch.at (patch.at + patch.removed)
+      + moves old.item_seat (changed_items (place_of recut) stale)
   pub token_seat : new.token_seat ≡ patch.at + length patch.fresh
+  pub item_seat : new.item_seat ≡ seat_behind old.item_seat (changed_items (place_of recut) stale)
 
 -- the edits took this work, one after another
 abbrev pub AreWorks : Document → List Edit → List Work → Document → Type 0
@@ -69,10 +76,9 @@ AreWorks old [] (w ∷ ws) new = ⊥
 AreWorks old (e ∷ es) [] new = ⊥
 AreWorks old (e ∷ es) (w ∷ ws) new =
     (next : Document) × LeavesText old next (edited_by (change_of old.text e))
-    × IsWork (change_of old.text e) next w × AreWorks next es ws new
+    × IsWork (change_of old.text e) old next w × AreWorks next es ws new
 
--- The counts are the sums of those of the edits, each of which stays at the greatest number. What one edit
--- moves is not said yet, so `moved` is only a sum of some numbers.
+-- The counts are the sums of those of the edits, each of which stays at the greatest number.
 pub record IsWorkOfAll (old : Document) (edits : List Edit) (new : Document) (total : Work) : Type 0 where
   pub works : List Work
   pub are_works : AreWorks old edits works new
@@ -84,3 +90,19 @@ pub record IsWorkOfAll (old : Document) (edits : List Edit) (new : Document) (to
 -- the edits were done, one after another, each with its work, and the session is as they leave it
 abbrev pub HasDone : Document → List Edit → Document → Type 0
 HasDone old edits new = (total : Work) × IsWorkOfAll old edits new total
+
+-- The work of an edit near the one before it, which left the seats: within so many tokens and items, and
+-- with so few items between those that it changes.
+pub record IsNearWork (reach : ℕ) (change : Change) (old new : Document) (w : Work) : Type 0 where
+  pub work : IsWork change old new w
+  pub tokens : distance old.token_seat work.patch.at (work.patch.at + work.patch.removed) ≤ reach
+  pub items : AreNear reach old.item_seat (changed_items (place_of work.recut) work.stale)
+
+-- so each of the edits is, one after another
+abbrev pub AreNearWorks : ℕ → Document → List Edit → List Work → Document → Type 0
+AreNearWorks reach old [] [] new = new ≡ old
+AreNearWorks reach old [] (w ∷ ws) new = ⊥
+AreNearWorks reach old (e ∷ es) [] new = ⊥
+AreNearWorks reach old (e ∷ es) (w ∷ ws) new =
+    (next : Document) × LeavesText old next (edited_by (change_of old.text e))
+    × IsNearWork reach (change_of old.text e) old next w × AreNearWorks reach next es ws new

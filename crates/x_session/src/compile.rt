@@ -15,7 +15,6 @@ pub use checking::{new_pieces, sum_of};
 use checking::{Checks, check_all};
 pub use fault::{Fault, FaultCode};
 pub(crate) use item_table::ItemTable;
-pub use keeping::keep_in_place;
 use keeping::keep_results;
 pub(crate) use kept::{Found, Kept, Planned, Told};
 use parsing::parse_items;

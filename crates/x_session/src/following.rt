@@ -4,25 +4,29 @@
 ghost use Rattle.std.specs.Prelude.{◌≡◌, ◌+◌, ◌≤◌, All, IfOk, None, map, length};
 ghost use Rattle.x_text.specs.Counts.{raised};
 ghost use Rattle.x_text.specs.Edits.{Change, change_of, edited_by, LiesWithin};
+ghost use Rattle.x_text.specs.Seqs.{distance};
 ghost use Rattle.x_lex.specs.Places.{lexemes};
 ghost use Rattle.x_lex.specs.Relex.{IsPatch};
 ghost use Rattle.x_lex.specs.Tiling.{AreTokens, end_of};
 ghost use Rattle.x_lex.specs.TokenList as tokens_of;
 ghost use Rattle.x_item.specs.ItemList as items_of;
 ghost use Rattle.x_item.specs.Recut.{IsRelexed, IsItemPatch};
-ghost use Rattle.x_session.specs.Following.{AreFollowed, AreUsed, CanCarryOut, IsPlan, IsToFollow};
+ghost use Rattle.x_session.specs.Following.{AreFollowed, AreUsed, CanCarryOut, IsPlan, IsToFollow, behind};
 ghost use Rattle.x_session.specs.KeptView.{AreParsed, AreWith, kept_found};
-ghost use Rattle.x_session.specs.Planned.{overlaid};
+ghost use Rattle.x_session.specs.Moves.{changed_items, moves, place_of, seat_behind};
+ghost use Rattle.x_session.specs.Planned.{numbers_of};
 
 mod counting;
 mod fresh;
 mod naming;
+mod placing;
 mod stale;
 
-use crate::compile::{ItemTable, Kept, Planned, keep_in_place};
+use crate::compile::{ItemTable, Kept, Planned};
 use counting::faults_behind;
 use fresh::parse_fresh;
-use naming::{NameChange, change_names};
+use naming::{NameChange, change_names, fresh_definitions};
+use placing::put_changes;
 use stale::check_stale_items;
 use std::alloc::Global;
 use x_item::{ItemPatch, Items, recut};
@@ -71,11 +75,14 @@ pub fn plan_edit(
         (λ plan. meter.new.parsed ≡ raised meter.old.parsed (length plan.items.fresh)) }
     ensures checked { IfOk result
         (λ plan. meter.new.checked ≡ raised meter.old.checked (length plan.found.items)) }
+    ensures moved { IfOk result (λ plan. meter.new.moved ≡ meter.old.moved) }
 {
     let patch = next_tokens(alloc, old, edit, new, tokens, meter)?;
     let fresh = next_items(alloc, tokens, &patch, new, &mut items.entries, meter)?;
-    let names = change_names(alloc, items, &fresh)?;
-    let found = check_stale_items(alloc, items, &fresh, &names, meter)?;
+    let put = fresh_definitions(alloc, &fresh)?;
+    let names = change_names(alloc, items, &fresh, &put)?;
+    let found = check_stale_items(alloc, items, &fresh, &put, &names, meter)?;
+    drop(put);
     let faults = faults_behind(items, &fresh, &found)?;
     Ok(Plan {
         tokens: patch,
@@ -155,13 +162,17 @@ pub fn carry_out(plan: Plan, tokens: &mut Tokens, items: &mut ItemTable, meter: 
     ensures tokens { tokens.new.list ≡ tokens_of.patched tokens.old.list plan.tokens }
     ensures token_seat { tokens.new.seat ≡ plan.tokens.at + length plan.tokens.fresh }
     ensures items { AreWith (items_of.patched items.old.entries.list plan.items)
-        (overlaid 0 (items_of.kept (items_of.patched items.old.entries.list plan.items)) plan.found.items)
-        items.new.entries.list }
+        (behind items.old.entries.list plan.items plan.found.items) items.new.entries.list }
     ensures faults { items.new.faults ≡ plan.faults }
     ensures uses { AreUsed (items_of.patched items.old.entries.list plan.items) items.new.uses }
     ensures lexed { meter.new.lexed ≡ meter.old.lexed }
     ensures parsed { meter.new.parsed ≡ meter.old.parsed }
     ensures checked { meter.new.checked ≡ meter.old.checked }
+    ensures moved { meter.old.moved ≡ 0 → meter.new.moved ≡ distance tokens.old.seat plan.tokens.at
+        (plan.tokens.at + plan.tokens.removed) + moves items.old.entries.seat
+        (changed_items (place_of plan.items) (numbers_of plan.found.items)) }
+    ensures item_seat { items.new.entries.seat ≡ seat_behind items.old.entries.seat
+        (changed_items (place_of plan.items) (numbers_of plan.found.items)) }
 {
     let Plan {
         tokens: patch,
@@ -170,11 +181,10 @@ pub fn carry_out(plan: Plan, tokens: &mut Tokens, items: &mut ItemTable, meter: 
         found,
         faults,
     } = plan;
-    // A read of the count shows that it fits its type.
-    let _counted = items.entries.len();
+    // Reads of the counts show that they and what moves fit their types.
+    let _counted = (tokens.len(), items.entries.len());
     names.carry_out(&mut items.uses);
     meter.add_moved(tokens.put(patch));
-    meter.add_moved(items.entries.put(fresh));
-    meter.add_moved(keep_in_place(&mut items.entries, found));
+    meter.add_moved(put_changes(&mut items.entries, fresh, found));
     items.faults = faults;
 }

@@ -1,11 +1,12 @@
 //! Laws of the definitions that the contracts of this crate speak of, each a function that does nothing and ensures the law.
 
-ghost use Rattle.std.specs.Prelude.{◌≡◌, ℕ, List};
+ghost use Rattle.std.specs.Prelude.{◌≡◌, ◌≤◌, ◌*◌, ℕ, List, length, sum_by};
 ghost use Rattle.x_text.specs.Edits.{Change, LiesWithin};
+ghost use Rattle.x_text.specs.declared.edit.Edit as edit;
 ghost use Rattle.x_lex.specs.declared.kind.Kind.{Kind};
 ghost use Rattle.x_session.specs.Compile.{Item, IsCompilation};
 ghost use Rattle.x_session.specs.Session.{Document};
-ghost use Rattle.x_session.specs.Work.{IsWork};
+ghost use Rattle.x_session.specs.Work.{AreNearWorks, IsWork};
 ghost use Rattle.x_session.specs.declared.session.work.Work.{Work};
 
 /// A text has one compilation: all that a session answers is a function of its text.
@@ -15,11 +16,19 @@ pub fn one_compilation()
         → (tokens ≡ others) × (items ≡ more) }
 {}
 
-/// The counts that are said of an edit's work are determined by the text and the edit: so many tokens are fresh,
-/// so many items recut, and so many stale.
+/// An edit's work is determined by the text, the edit and the two seats: so many tokens are fresh, so many items
+/// recut and stale, and so many entries move; and where the seats are then.
 pub fn one_work()
-    ensures { (change : Change) (d e : Document) (v w : Work) → LiesWithin change
-        → IsWork change d v → IsWork change e w
-        → (v.lexed ≡ w.lexed) × (v.parsed ≡ w.parsed) × (v.checked ≡ w.checked)
-        × (d.token_seat ≡ e.token_seat) }
+    ensures { (change : Change) (old d e : Document) (v w : Work) → LiesWithin change
+        → IsWork change old d v → IsWork change old e w
+        → (v ≡ w) × (d.token_seat ≡ e.token_seat) × (d.item_seat ≡ e.item_seat) }
+{}
+
+/// Edits each of which is near the one before it move few entries, however long the text is: three times for
+/// each edit as many as lie at the most between its tokens and the seat that the one before it left, between its
+/// items and theirs, and between the first and the last item that it changes.
+pub fn near_edits()
+    ensures { (reach : ℕ) (old new : Document) (edits : List edit.Edit) (works : List Work)
+        → AreNearWorks reach old edits works new
+        → sum_by (λ w. w.moved) works ≤ 3 * reach * length edits }
 {}

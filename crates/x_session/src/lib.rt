@@ -8,7 +8,7 @@ mod script;
 mod session;
 
 pub use compile::{Fault, FaultCode};
-pub use laws::{one_compilation, one_work};
+pub use laws::{near_edits, one_compilation, one_work};
 pub use script::{
     Command, Found, Insert, LONGEST, LineFault, LineReader, add_place, dump_words, parse_command,
     run_script,

@@ -2,7 +2,7 @@ use std::alloc::Global;
 use std::fmt::Display;
 use std::process::Abort;
 use std::test::Fail;
-use x_session::{EngineFault, LineFault, one_compilation, one_work};
+use x_session::{EngineFault, LineFault, near_edits, one_compilation, one_work};
 
 /// Checks the text of a fault.
 fn expect_text(
@@ -48,4 +48,5 @@ fn faults_of_a_line_have_their_texts(rt: HostRuntime) -> Result<(), Fail> {
 fn the_laws_do_nothing(_rt: HostRuntime) {
     one_compilation();
     one_work();
+    near_edits();
 }

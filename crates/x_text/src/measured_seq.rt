@@ -62,7 +62,8 @@ impl<T: Measured + Drop> MeasuredSeq<T> {
 
     /// How many entries there are.
     pub fn len(&self) -> usize
-        ensures { result ≡ length self.now.list }
+        ensures count { result ≡ length self.now.list }
+        ensures seat { self.now.seat ≤ result }
     {
         self.entries.len()
     }

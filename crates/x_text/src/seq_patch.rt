@@ -1,6 +1,7 @@
-ghost use Rattle.std.specs.Prelude.{◌≡◌, ◌↔◌, ◌<◌, [], IsTrue, length, option_copied, slice_get, slice_set};
+ghost use Rattle.std.specs.Prelude.{◌≡◌, ◌↔◌, ◌<◌, [], Some, IsTrue, length, option_copied, slice_get, slice_set};
 
 use std::marker::Model;
+use std::mem;
 
 /// Fresh entries that take the place of some old ones of a [`crate::MeasuredSeq`].
 #[derive(Debug, Drop)]
@@ -92,14 +93,13 @@ impl<T> SeqPatch<T> {
     {
         self.fresh
     }
-}
 
-impl<T: Drop> SeqPatch<T> {
-    /// Puts an entry in the place of the fresh one at `index`, counted from the first of them.
-    pub fn replace(&mut self, index: usize, new: T)
+    /// Puts an entry in the place of the fresh one at `index`, counted from the first of them, and gives that one back.
+    pub fn exchange(&mut self, index: usize, new: T) -> T
         requires { index < length self.old.fresh }
-        ensures { self.new ≡ record self.old { fresh = slice_set self.old.fresh index new } }
+        ensures out { slice_get self.old.fresh index ≡ Some result }
+        ensures put { self.new ≡ record self.old { fresh = slice_set self.old.fresh index new } }
     {
-        self.fresh[index] = new;
+        mem::replace(&mut self.fresh[index], new)
     }
 }

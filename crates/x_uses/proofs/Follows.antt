@@ -10,7 +10,7 @@ use Rattle.x_item.specs.Tree.{Definition}
 use Rattle.x_item.specs.Names.{Declared, declared}
 use Rattle.x_sema.specs.Declarers.{declarer_at, place_of_name, declarer_in, first_from}
 use Rattle.x_sema.specs.declared.names.Declarer.{Declarer}
-use Rattle.x_uses.specs.Occurrences.{Definitions, UseTable, declarers_in, sees, before, declarers_of, users_of, declarer_of, declarers_at, users_at, HasRoom, IsUsesOf, slot_in}
+use Rattle.x_uses.specs.Occurrences.{Definitions, UseTable, declarers_in, sees, put_before, declarers_of, users_of, declarer_of, declarers_at, users_at, HasRoom, IsUsesOf, slot_in}
 use Rattle.x_uses.specs.Slots.{front_of, rear_of, sum_of, number_after, stays, renumbered, filled, declarer_item, put_declarer, user_item, put_user, slot_stays, slot_renumbered, slot_filled, Entries, slot_at, by_slot, going, coming, ChangesEach, HasSameSlots, HasSameLists, RoomFor, item_of_declarer, with_item, first_of, first_after, names_of_entries}
 use Rattle.x_uses.specs.declared.uses.Place.{Place}
 use Rattle.x_uses.specs.declared.uses.slot.CompactDeclarer.{CompactDeclarer}
@@ -35,13 +35,13 @@ put_item item d = with_item (min item (2 ^ 32 - 1)) d
 
 pub declarers_found : (i : ℕ) (ds : Definitions) (name : List ℕ) → declarers_of i ds name ≡ found (declarer_pick name) i ds
 declarers_found i [] name = refl
-declarers_found i (d ∷ ds) name = ap (before (declarer_in i name d)) (declarers_found (suc i) ds name)
+declarers_found i (d ∷ ds) name = ap (put_before (declarer_in i name d)) (declarers_found (suc i) ds name)
 
 pub users_found : (i : ℕ) (ds : Definitions) (name : List ℕ) → users_of i ds name ≡ found (user_pick name) i ds
 users_found i [] name = refl
 users_found i (d ∷ ds) name = by (sees d name) (users_found (suc i) ds name)
   where
-    by : (b : Bool) → users_of (suc i) ds name ≡ found (user_pick name) (suc i) ds → cond b (i ∷ users_of (suc i) ds name) (users_of (suc i) ds name) ≡ before (cond b (Some i) None) (found (user_pick name) (suc i) ds)
+    by : (b : Bool) → users_of (suc i) ds name ≡ found (user_pick name) (suc i) ds → cond b (i ∷ users_of (suc i) ds name) (users_of (suc i) ds name) ≡ put_before (cond b (Some i) None) (found (user_pick name) (suc i) ds)
     by true h = ap (λ l. i ∷ l) h
     by false h = h
 
@@ -226,7 +226,7 @@ pub first_of_declarers : (i : ℕ) (ds : Definitions) (name : List ℕ) → firs
 first_of_declarers i [] name = refl
 first_of_declarers i (d ∷ ds) name = by (declarer_in i name d) (first_of_declarers (suc i) ds name)
   where
-    by : (o : Option Declarer) → first_of (declarers_of (suc i) ds name) ≡ first_from (suc i) ds name → first_of (before o (declarers_of (suc i) ds name)) ≡ option_or o (first_from (suc i) ds name)
+    by : (o : Option Declarer) → first_of (declarers_of (suc i) ds name) ≡ first_from (suc i) ds name → first_of (put_before o (declarers_of (suc i) ds name)) ≡ option_or o (first_from (suc i) ds name)
     by None h = h
     by (Some y) h = refl
 

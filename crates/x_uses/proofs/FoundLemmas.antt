@@ -8,7 +8,7 @@ use Rattle.x_sema.specs.Results.{Outcome, IsOutcome, IsResult, AreResults, resul
 use Rattle.x_sema.specs.Views.{View, names_of}
 use Rattle.x_sema.proofs.ResultLaws.{AgreeBefore, one_outcome, same_views}
 use Rattle.x_uses.specs.Editing.{TextEdit, definitions_after, definition_at, old_number}
-use Rattle.x_uses.specs.Staleness.{IsOutdated, counts_after}
+use Rattle.x_uses.specs.Staleness.{IsOutdated, checked_more}
 use Rattle.x_uses.specs.Rechecking.{IsUnchanged, SeesSame, SeesOther}
 use Rattle.x_uses.proofs.AlikeLemmas.{result_by_index}
 
@@ -55,8 +55,8 @@ found_result ds results after k d views c are agree has same is =
 raised_one : (c n : ℕ) → raised (raised c n) 1 ≡ raised c (n + 1)
 raised_one c n = omega arith
 
-pub counted_next : (base a b : Counts) (n : ℕ) → a ≡ counts_after base n → b ≡ record a { checked = raised a.checked 1 } → b ≡ counts_after base (n + 1)
+pub counted_next : (base a b : Counts) (n : ℕ) → a ≡ checked_more base n → b ≡ record a { checked = raised a.checked 1 } → b ≡ checked_more base (n + 1)
 counted_next base a b n so step = step ∙ ap (λ (c : Counts). record c { checked = raised c.checked 1 }) so ∙ ap (λ k. record base { checked = k }) (raised_one base.checked n)
 
-pub counted_none : (base : Counts) → base.checked < 2 ^ 64 → base ≡ counts_after base 0
+pub counted_none : (base : Counts) → base.checked < 2 ^ 64 → base ≡ checked_more base 0
 counted_none base fits = let same : base.checked ≡ raised base.checked 0 = omega (arith, fits) in ap (λ k. record base { checked = k }) same

@@ -17,7 +17,7 @@ use Rattle.x_item.specs.declared.names.declared_name.DeclaredName.{DeclaredName}
 use Rattle.x_item.specs.declared.names.mention.Mention.{Mention}
 use Rattle.x_sema.specs.Declarers.{declarer_at, place_of_name, declarer_in}
 use Rattle.x_sema.specs.declared.names.Declarer.{Declarer}
-use Rattle.x_uses.specs.Occurrences.{before, declarers_at, users_at, declarer_of, sees}
+use Rattle.x_uses.specs.Occurrences.{put_before, declarers_at, users_at, declarer_of, sees}
 use Rattle.x_uses.specs.declared.uses.slot.CompactDeclarer.{CompactDeclarer}
 use Rattle.x_uses.specs.Slots.{Entries, slot_at, ends_at, noted, noted_some, Notes, item_of_declarer, user_item}
 use Rattle.x_uses.proofs.OccurrenceLaws.{found, found_joined, Picks}
@@ -153,7 +153,7 @@ ends_before : {D Y : Type 0} (item_of : Y → ℕ) (put : ℕ → Y → Y) (pick
 ends_before item_of put pick is k i [] le = refl
 ends_before {D} {Y} item_of put pick is k i (d ∷ ds) le = by (pick i d) refl (found pick (suc i) ds) (ends_before item_of put pick is k (suc i) ds (omega (arith, le)))
   where
-    by : (o : Option Y) → pick i d ≡ o → (ys : List Y) → ends_at item_of k ys ≡ false → ends_at item_of k (before o ys) ≡ false
+    by : (o : Option Y) → pick i d ≡ o → (ys : List Y) → ends_at item_of k ys ≡ false → ends_at item_of k (put_before o ys) ≡ false
     by None e ys h = h
     by (Some y) e [] h = let number = is.at i d y e in grind (arith, nat_tests, le, number)
     by (Some y) e (z ∷ ys) h = h
@@ -161,17 +161,17 @@ ends_before {D} {Y} item_of put pick is k i (d ∷ ds) le = by (pick i d) refl (
 -- an item more
 pub found_more : {D Y : Type 0} (item_of : Y → ℕ) (put : ℕ → Y → Y) (pick : ℕ → D → Option Y) → Picks item_of put pick → (k : ℕ) (ds : List D) (d : D) → k ≡ length ds
     → noted_some item_of (found pick 0 ds) (pick k d) ≡ found pick 0 (ds ++ d ∷ [])
-found_more {D} {Y} item_of put pick is k ds d all = by (pick k d) refl ∙ ap (λ n. found pick 0 ds ++ before (pick n d) []) here ∙ sym (found_joined pick 0 ds (d ∷ []))
+found_more {D} {Y} item_of put pick is k ds d all = by (pick k d) refl ∙ ap (λ n. found pick 0 ds ++ put_before (pick n d) []) here ∙ sym (found_joined pick 0 ds (d ∷ []))
   where
     here : k ≡ 0 + length ds
     here = omega (arith, all)
 
-    by : (o : Option Y) → pick k d ≡ o → noted_some item_of (found pick 0 ds) (pick k d) ≡ found pick 0 ds ++ before (pick k d) []
-    by None e = ap (noted_some item_of (found pick 0 ds)) e ∙ sym (append-nil (found pick 0 ds)) ∙ ap (λ o. found pick 0 ds ++ before o []) (sym e)
+    by : (o : Option Y) → pick k d ≡ o → noted_some item_of (found pick 0 ds) (pick k d) ≡ found pick 0 ds ++ put_before (pick k d) []
+    by None e = ap (noted_some item_of (found pick 0 ds)) e ∙ sym (append-nil (found pick 0 ds)) ∙ ap (λ o. found pick 0 ds ++ put_before o []) (sym e)
     by (Some y) e =
         let number = is.at k d y e in
         let none : ends_at item_of (item_of y) (found pick 0 ds) ≡ false = ap (λ n. ends_at item_of n (found pick 0 ds)) number ∙ ends_before item_of put pick is k 0 ds (omega (arith, all)) in
-        ap (noted_some item_of (found pick 0 ds)) e ∙ ap (λ b. cond b (found pick 0 ds) (found pick 0 ds ++ y ∷ [])) none ∙ ap (λ o. found pick 0 ds ++ before o []) (sym e)
+        ap (noted_some item_of (found pick 0 ds)) e ∙ ap (λ b. cond b (found pick 0 ds) (found pick 0 ds ++ y ∷ [])) none ∙ ap (λ o. found pick 0 ds ++ put_before o []) (sym e)
 
 -- ---- lists of names
 

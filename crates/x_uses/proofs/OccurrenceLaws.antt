@@ -5,7 +5,7 @@ use Rattle.std.specs.List.{splice}
 use Rattle.std.specs.Option.{option_or}
 use Rattle.std.proofs.lemmas.Bool.{lt-ltb, le-ltb}
 use Rattle.std.proofs.lemmas.List.{map-append, take-append-drop, length-take-le}
-use Rattle.x_uses.specs.Occurrences.{before}
+use Rattle.x_uses.specs.Occurrences.{put_before}
 use Rattle.x_uses.specs.Slots.{front_of, rear_of, sum_of, number_after, stays, renumbered, filled, first_of}
 use Rattle.x_uses.specs.declared.uses.Place.{Place}
 use Rattle.x_uses.proofs.PlaceLists.{drop_drop}
@@ -13,14 +13,14 @@ use Rattle.x_uses.proofs.PlaceLists.{drop_drop}
 -- what is found at the items, of which the first has this number
 abbrev pub found : {D Y : Type 0} → (ℕ → D → Option Y) → ℕ → List D → List Y
 found pick i [] = []
-found pick i (d ∷ ds) = before (pick i d) (found pick (suc i) ds)
+found pick i (d ∷ ds) = put_before (pick i d) (found pick (suc i) ds)
 
 -- What is found at an item has its number, and elsewhere only another number. Numbers are those of the program.
 pub record Picks {D Y : Type 0} (item_of : Y → ℕ) (put : ℕ → Y → Y) (pick : ℕ → D → Option Y) : Type 0 where
   pub at : (i : ℕ) (d : D) (y : Y) → pick i d ≡ Some y → item_of y ≡ i
   pub moves : (i j : ℕ) (d : D) → j < 2 ^ 32 → pick j d ≡ option_map (put j) (pick i d)
 
-before_joined : {Y : Type 0} (o : Option Y) (xs ys zs : List Y) → xs ≡ ys ++ zs → before o xs ≡ before o ys ++ zs
+before_joined : {Y : Type 0} (o : Option Y) (xs ys zs : List Y) → xs ≡ ys ++ zs → put_before o xs ≡ put_before o ys ++ zs
 before_joined None xs ys zs e = e
 before_joined (Some y) xs ys zs e = ap (λ l. y ∷ l) e
 
@@ -36,7 +36,7 @@ module _ {D Y : Type 0} (item_of : Y → ℕ) (put : ℕ → Y → Y) (pick : �
       → found pick j ds ≡ map (λ y. put (f (item_of y)) y) (found pick i ds)
   found_moved f i j [] few h = refl
   found_moved f i j (d ∷ ds) few h =
-      ap (λ o. before o (found pick (suc j) ds)) (is.moves i j d (omega arith))
+      ap (λ o. put_before o (found pick (suc j) ds)) (is.moves i j d (omega arith))
       ∙ by (pick i d) refl
       (found_moved f (suc i) (suc j) ds (omega arith) (λ k lt. let a : suc i + k ≡ i + suc k = omega arith in let b : j + suc k ≡ suc j + k = omega arith in ap f a ∙ h (suc k) (omega arith) ∙ b))
     where
@@ -44,7 +44,7 @@ module _ {D Y : Type 0} (item_of : Y → ℕ) (put : ℕ → Y → Y) (pick : �
       here = let a : i ≡ i + 0 = omega arith in let b : j + 0 ≡ j = omega arith in ap f a ∙ h 0 (omega arith) ∙ b
 
       by : (o : Option Y) → pick i d ≡ o → found pick (suc j) ds ≡ map (λ y. put (f (item_of y)) y) (found pick (suc i) ds)
-          → before (option_map (put j) o) (found pick (suc j) ds) ≡ map (λ y. put (f (item_of y)) y) (before o (found pick (suc i) ds))
+          → put_before (option_map (put j) o) (found pick (suc j) ds) ≡ map (λ y. put (f (item_of y)) y) (put_before o (found pick (suc i) ds))
       by None e more = more
       by (Some y) e more = ap (λ k. put k y ∷ found pick (suc j) ds) (sym (ap f (is.at i d y e) ∙ here)) ∙ ap (λ l. put (f (item_of y)) y ∷ l) more
 
@@ -54,7 +54,7 @@ module _ {D Y : Type 0} (item_of : Y → ℕ) (put : ℕ → Y → Y) (pick : �
   none_below bound i (d ∷ ds) le = by (pick i d) refl (none_below bound (suc i) ds (omega (arith, le)))
     where
       by : (o : Option Y) → pick i d ≡ o → (front_of item_of bound (found pick (suc i) ds) ≡ []) × (rear_of item_of bound (found pick (suc i) ds) ≡ found pick (suc i) ds)
-          → (front_of item_of bound (before o (found pick (suc i) ds)) ≡ []) × (rear_of item_of bound (before o (found pick (suc i) ds)) ≡ before o (found pick (suc i) ds))
+          → (front_of item_of bound (put_before o (found pick (suc i) ds)) ≡ []) × (rear_of item_of bound (put_before o (found pick (suc i) ds)) ≡ put_before o (found pick (suc i) ds))
       by None e more = more
       by (Some y) e more =
           let number = is.at i d y e in
@@ -71,7 +71,7 @@ module _ {D Y : Type 0} (item_of : Y → ℕ) (put : ℕ → Y → Y) (pick : �
       rest = found pick (suc i) ds
 
       by : (o : Option Y) → pick i d ≡ o → (front_of item_of bound (rest ++ ys) ≡ rest ++ front_of item_of bound ys) × (rear_of item_of bound (rest ++ ys) ≡ rear_of item_of bound ys)
-          → (front_of item_of bound (before o rest ++ ys) ≡ before o rest ++ front_of item_of bound ys) × (rear_of item_of bound (before o rest ++ ys) ≡ rear_of item_of bound ys)
+          → (front_of item_of bound (put_before o rest ++ ys) ≡ put_before o rest ++ front_of item_of bound ys) × (rear_of item_of bound (put_before o rest ++ ys) ≡ rear_of item_of bound ys)
       by None e more = more
       by (Some y) e more =
           let number = is.at i d y e in

@@ -1,5 +1,6 @@
 -- Who declares and who sees each name of a text.
-use Rattle.std.specs.Prelude.{◌≡◌, ◌≤◌, ◌+◌, ℕ, suc, Bool, false, List, [], ◌∷◌, length, map, Option, None, Some, if◌then◌else◌}
+use Rattle.std.specs.Prelude.{◌≡◌, ◌≤◌, ◌+◌, ℕ, suc, Bool, false, List, [], ◌∷◌, length, map}
+use Rattle.std.specs.Prelude.{Option, None, Some, if◌then◌else◌}
 use Rattle.std.specs.List.{list_any}
 use Rattle.std.specs.Map.{lookup}
 use Rattle.std.specs.Str.{bytes_eq}
@@ -22,20 +23,21 @@ sees None name = false
 sees (Some d) name = list_any (bytes_eq name) (names_of d)
 
 -- the list, behind this where it is there
-abbrev pub before : {X : Type 0} → Option X → List X → List X
-before None xs = xs
-before (Some x) xs = x ∷ xs
+abbrev pub put_before : {X : Type 0} → Option X → List X → List X
+put_before None xs = xs
+put_before (Some x) xs = x ∷ xs
 
 -- of each item that declares the name, its first place there, in the order of items, of which the first has
 -- this number
 abbrev pub declarers_of : ℕ → Definitions → List ℕ → List Declarer
 declarers_of item [] name = []
-declarers_of item (d ∷ ds) name = before (declarer_in item name d) (declarers_of (suc item) ds name)
+declarers_of item (d ∷ ds) name = put_before (declarer_in item name d) (declarers_of (suc item) ds name)
 
 -- the items that see the name, in order
 abbrev pub users_of : ℕ → Definitions → List ℕ → List ℕ
 users_of item [] name = []
-users_of item (d ∷ ds) name = if sees d name then item ∷ users_of (suc item) ds name else users_of (suc item) ds name
+users_of item (d ∷ ds) name =
+    if sees d name then item ∷ users_of (suc item) ds name else users_of (suc item) ds name
 
 -- ---- of a table
 

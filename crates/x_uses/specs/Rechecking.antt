@@ -5,7 +5,7 @@ use Rattle.std.specs.BTreeSet.{contains}
 use Rattle.std.specs.Cow.{cow_slice_items}
 use Rattle.std.specs.List.{IsAmong}
 use Rattle.std.specs.Ordering.{nat_cmp}
-use Rattle.x_text.specs.Counts.{Counts, raised}
+use Rattle.x_text.specs.Counts.{Counts}
 use Rattle.x_item.specs.Tree.{Definition}
 use Rattle.x_item.specs.declared.names.declared_name.DeclaredName.{DeclaredName}
 use Rattle.x_schema.specs.Definitions.{tree_at}
@@ -16,8 +16,8 @@ use Rattle.x_sema.specs.Views.{names_of}
 use Rattle.x_uses.specs.declared.uses.Place.{Place}
 use Rattle.x_uses.specs.Editing.{CheckedText, TextEdit, edit_at, count_after, definitions_after, IsEdit}
 use Rattle.x_uses.specs.Editing.{definition_at, old_number}
-use Rattle.x_uses.specs.Occurrences.{UseTable, IsUsesOf}
-use Rattle.x_uses.specs.Staleness.{Ascending, IsStale, counts_after, items_of, result_after}
+use Rattle.x_uses.specs.Occurrences.{Definitions, UseTable, IsUsesOf}
+use Rattle.x_uses.specs.Staleness.{Ascending, IsStale, checked_more, items_of, result_after}
 use Rattle.x_uses.specs.declared.rechecking.Rechecked.{Rechecked}
 use Rattle.x_uses.specs.declared.rechecking.edited_items.EditedItems.{EditedItems}
 use Rattle.x_uses.specs.declared.rechecking.queue.Queue.{Queue}
@@ -107,6 +107,18 @@ pub record IsDecided (e : TextEdit) (after : List (Option Outcome)) (waits : ℕ
 abbrev pub IsCovered : TextEdit → (ℕ → Bool) → List ℕ → Type 0
 IsCovered e waits name = (k : ℕ) → k < count_after e → IsKeptUser e k name → waits k ≡ false → HasAlike e name
 
+-- so it is for each name that this item declares first, by these definitions
+abbrev pub AreCoveredAt : TextEdit → (ℕ → Bool) → Definitions → ℕ → Type 0
+AreCoveredAt e waits definitions item = (d : Definition) → definition_at definitions item ≡ Some d
+    → (name : List ℕ) (f : Declarer) → first_declarer definitions name ≡ Some f
+    → f.item ≡ item → IsCovered e waits name
+
+-- so it is for each name that one of these items declares first, from `low` to before `high`
+abbrev pub AreCovered : TextEdit → (ℕ → Bool) → Definitions → ℕ → ℕ → Type 0
+AreCovered e waits definitions low high =
+    (name : List ℕ) (f : Declarer) → first_declarer definitions name ≡ Some f
+    → low ≤ f.item → f.item < high → IsCovered e waits name
+
 -- all kept users of the name behind the item `low` wait, unless it is not first declared there or means what
 -- it meant
 abbrev pub IsSpread : TextEdit → List (Option Outcome) → (ℕ → Bool) → ℕ → List ℕ → Type 0
@@ -136,6 +148,10 @@ pub record AddsItems (before now : Queue) (low high : ℕ) : Type 0 where
   pub keeps : (k : ℕ) → is_waiting before k ≡ true → is_waiting now k ≡ true
   pub range : (k : ℕ) → is_waiting now k ≡ true → is_waiting before k ≡ false → (low ≤ k) × (k < high)
 
+-- the same, with numbers from `low` on of items that the text has then
+abbrev pub AddsItemsFrom : TextEdit → Queue → Queue → ℕ → Type 0
+AddsItemsFrom e before now low = AddsItems before now low (count_after e)
+
 -- what was found of an item: nothing where it is unchanged
 abbrev pub IsFoundAs : TextEdit → List (Option Outcome) → ℕ → Option Outcome → Type 0
 IsFoundAs e after k None = IsUnchanged e after k
@@ -160,15 +176,15 @@ HasAdvanced e low (Some k) rechecked queue = (low ≤ k) × (k < count_after e)
 -- what was found of an item is counted
 abbrev pub counts_found : Counts → Option Outcome → Counts
 counts_found counts None = counts
-counts_found counts (Some c) = record counts { checked = raised counts.checked 1 }
+counts_found counts (Some c) = checked_more counts 1
 
 -- the same of what was counted behind so many checks
 abbrev pub CountsOn : Counts → Counts → Type 0
-CountsOn before now = (base : Counts) (n : ℕ) → before ≡ counts_after base n
-    → (m : ℕ) × (now ≡ counts_after base m)
+CountsOn before now = (base : Counts) (n : ℕ) → before ≡ checked_more base n
+    → (m : ℕ) × (now ≡ checked_more base m)
 
--- where the item declares the name first in this place, it means there what it meant, by what was found of the
--- item
+-- where the item declares the name first in this place, it means there what it meant, by what was found of
+-- the item
 abbrev pub IsMeantAs : TextEdit → ℕ → ℕ → Outcome → List ℕ → Type 0
 IsMeantAs e item place found name = (o f : Declarer) → first_declarer e.old name ≡ Some o
     → first_declarer (definitions_after e) name ≡ Some f → f.item ≡ item → f.place ≡ place

@@ -1,5 +1,6 @@
 -- Lists of what stands at items, and tables of them, over an edit.
-use Rattle.std.specs.Prelude.{◌≡◌, ◌≤◌, ℕ, ◌+◌, ◌-◌, ◌^◌, min, nat_lt, nat_eq, Bool, false, List, [], ◌∷◌, ◌++◌, map, Option, None, Some, IfSome, option_map, if◌then◌else◌}
+use Rattle.std.specs.Prelude.{◌≡◌, ◌≤◌, ℕ, ◌+◌, ◌-◌, ◌^◌, min, nat_lt, nat_eq, Bool, false, List, [], ◌∷◌, ◌++◌}
+use Rattle.std.specs.Prelude.{map, Option, None, Some, IfSome, option_map, if◌then◌else◌}
 use Rattle.std.specs.Global.{Vec}
 use Rattle.std.specs.Option.{option_or}
 use Rattle.std.specs.Map.{lookup}
@@ -42,7 +43,8 @@ renumbered item_of put p xs = map (λ x. put (number_after p (item_of x)) x) xs
 
 -- with others between, whose items are counted from `at`
 abbrev pub filled : {X : Type 0} → (X → ℕ) → (ℕ → X → X) → ℕ → List X → List X → List X
-filled item_of put at ys xs = front_of item_of at xs ++ (map (λ y. put (sum_of at (item_of y)) y) ys ++ rear_of item_of at xs)
+filled item_of put at ys xs =
+    front_of item_of at xs ++ (map (λ y. put (sum_of at (item_of y)) y) ys ++ rear_of item_of at xs)
 
 -- the list ends with what stands at this item
 abbrev pub ends_at : {X : Type 0} → (X → ℕ) → ℕ → List X → Bool
@@ -64,7 +66,13 @@ abbrev pub declarer_item : CompactDeclarer → ℕ
 declarer_item d = d.item
 
 abbrev pub put_declarer : ℕ → CompactDeclarer → CompactDeclarer
-put_declarer item d = record { item = min item (2 ^ 32 - 1); word = d.word; place = d.place; kind = d.kind; lifted = d.lifted }
+put_declarer item d = record {
+  item = min item (2 ^ 32 - 1);
+  word = d.word;
+  place = d.place;
+  kind = d.kind;
+  lifted = d.lifted;
+}
 
 abbrev pub user_item : ℕ → ℕ
 user_item k = k
@@ -80,19 +88,31 @@ slot_stays p s = record {
 
 abbrev pub slot_renumbered : Place → Slot → Slot
 slot_renumbered p s = record {
-  declarers = record { items = renumbered declarer_item put_declarer p s.declarers.items; capacity = s.declarers.capacity };
+  declarers = record {
+    items = renumbered declarer_item put_declarer p s.declarers.items;
+    capacity = s.declarers.capacity;
+  };
   users = record { items = renumbered user_item put_user p s.users.items; capacity = s.users.capacity };
 }
 
 abbrev pub slot_filled : ℕ → Slot → Slot → Slot
 slot_filled at f s = record {
-  declarers = record { items = filled declarer_item put_declarer at f.declarers.items s.declarers.items; capacity = s.declarers.capacity };
-  users = record { items = filled user_item put_user at f.users.items s.users.items; capacity = s.users.capacity };
+  declarers = record {
+    items = filled declarer_item put_declarer at f.declarers.items s.declarers.items;
+    capacity = s.declarers.capacity;
+  };
+  users = record {
+    items = filled user_item put_user at f.users.items s.users.items;
+    capacity = s.users.capacity;
+  };
 }
 
 -- one without declarers and users
 abbrev pub empty_slot : Slot
-empty_slot = record { declarers = record { items = []; capacity = 1 }; users = record { items = []; capacity = 4 } }
+empty_slot = record {
+  declarers = record { items = []; capacity = 1 };
+  users = record { items = []; capacity = 4 };
+}
 
 -- the lists are the same, and have as much room
 pub record Widens (old new : Slot) : Type 0 where
@@ -112,7 +132,8 @@ slot_at es name = lookup (λ key. bytes_eq name key.items) es
 
 -- the slot of the name is changed, and no other
 abbrev pub Changes : Entries → Entries → List ℕ → (Option Slot → Option Slot) → Type 0
-Changes old new name change = (other : List ℕ) → slot_at new other ≡ (if bytes_eq other name then change (slot_at old other) else slot_at old other)
+Changes old new name change = (other : List ℕ)
+    → slot_at new other ≡ (if bytes_eq other name then change (slot_at old other) else slot_at old other)
 
 -- a change by the slot that another table has of the same name, if it has one
 abbrev pub by_slot : (Slot → Option Slot → Option Slot) → Option Slot → Option Slot → Option Slot
@@ -128,7 +149,8 @@ coming at f = option_map (slot_filled at f)
 
 -- the slot of each name of another table is changed
 abbrev pub ChangesEach : Entries → Entries → Entries → (Slot → Option Slot → Option Slot) → Type 0
-ChangesEach old new names change = (name : List ℕ) → slot_at new name ≡ by_slot change (slot_at names name) (slot_at old name)
+ChangesEach old new names change = (name : List ℕ)
+    → slot_at new name ≡ by_slot change (slot_at names name) (slot_at old name)
 
 -- the names of a table, and their slots
 abbrev pub names_of_entries : Entries → List (List ℕ × Slot)
@@ -152,9 +174,12 @@ abbrev pub item_of_declarer : Declarer → ℕ
 item_of_declarer d = d.item
 
 -- each name has the declarers and users that it had, and those that an item declares or sees behind them
-pub record Notes (old new : Entries) (declares : List ℕ → Option Declarer) (sees : List ℕ → Bool) (item : ℕ) : Type 0 where
-  pub declarers : (name : List ℕ) → declarers_at (slot_at new name) ≡ noted_some item_of_declarer (declarers_at (slot_at old name)) (declares name)
-  pub users : (name : List ℕ) → users_at (slot_at new name) ≡ noted_some user_item (users_at (slot_at old name)) (if sees name then Some item else None)
+pub record Notes (old new : Entries) (declares : List ℕ → Option Declarer) (sees : List ℕ → Bool) (item : ℕ)
+    : Type 0 where
+  pub declarers : (name : List ℕ) → declarers_at (slot_at new name)
+      ≡ noted_some item_of_declarer (declarers_at (slot_at old name)) (declares name)
+  pub users : (name : List ℕ) → users_at (slot_at new name)
+      ≡ noted_some user_item (users_at (slot_at old name)) (if sees name then Some item else None)
 
 -- ---- first declarers
 
@@ -170,7 +195,8 @@ abbrev pub first_after : Place → List Declarer → List Declarer → Option De
 first_after p fresh old =
     option_or (first_of (front_of item_of_declarer p.at old))
     (option_or (option_map (λ d. with_item (sum_of p.at d.item) d) (first_of fresh))
-    (option_map (λ d. with_item (number_after p d.item) d) (first_of (rear_of item_of_declarer (sum_of p.at p.removed) old))))
+    (option_map (λ d. with_item (number_after p d.item) d)
+    (first_of (rear_of item_of_declarer (sum_of p.at p.removed) old))))
 
 -- ---- room
 

@@ -54,13 +54,13 @@ new_result (r ∷ rs) k = if nat_eq k r.item then Some r.checked else new_result
 abbrev pub result_after : TextEdit → List Rechecked → ℕ → Option Outcome
 result_after e rechecked k = option_or (new_result rechecked k) (old_result e.place e.outcomes k)
 
--- what is counted once so many items were checked
-abbrev pub counts_after : Counts → ℕ → Counts
-counts_after counts n = record counts { checked = raised counts.checked n }
+-- what is counted once so many more items were checked
+abbrev pub checked_more : Counts → ℕ → Counts
+checked_more counts n = record counts { checked = raised counts.checked n }
 
 -- some items were checked, or none, and nothing else was counted
 abbrev pub CountsChecks : Counts → Counts → Type 0
-CountsChecks before now = (n : ℕ) × (now ≡ counts_after before n)
+CountsChecks before now = (n : ℕ) × (now ≡ checked_more before n)
 
 -- Of the stale items, and of no other, it was found anew what checking them gives; so each item has its
 -- result.

@@ -6,7 +6,7 @@ ghost use Rattle.x_sema.specs.KeptViews.{lent_outcome};
 ghost use Rattle.x_sema.specs.Results.{result_at};
 ghost use Rattle.x_uses.specs.Editing.{CheckedText, IsEdit, definition_at, edit_at};
 ghost use Rattle.x_uses.specs.Occurrences.{IsUsesOf};
-ghost use Rattle.x_uses.specs.Staleness.{CountsChecks, IsRecheck, counts_after};
+ghost use Rattle.x_uses.specs.Staleness.{CountsChecks, IsRecheck, checked_more};
 
 mod candidates;
 mod checking;
@@ -71,10 +71,11 @@ pub fn recheck<L: CheckedItems>(
     requires fresh { IsUsesOf (map tree_at put.now) fresh.now }
     ensures rechecked { IfOk result (λ rechecked. IsRecheck (edit_at (L.text old.now) place
         (map tree_at put.now)) rechecked.items) }
-    ensures counted { IfOk result (λ rechecked. meter.new ≡ counts_after meter.old (length rechecked.items)) }
+    ensures counted { IfOk result (λ rechecked. meter.new ≡ checked_more meter.old (length rechecked.items)) }
     ensures counts { CountsChecks meter.old meter.new }
 {
-    let _before = meter.checked();
+    // A read of the count shows that it fits its type.
+    let _counted = meter.checked();
     let items = EditedItems {
         old,
         put,

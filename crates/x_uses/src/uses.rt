@@ -2,7 +2,7 @@
 ghost use Rattle.std.specs.Prelude.{◌≡◌, ◌<◌, ◌≤◌, ◌+◌, ◌^◌, length, take, drop, map, IfOk, OnOk};
 ghost use Rattle.std.specs.List.{splice};
 ghost use Rattle.x_schema.specs.Definitions.{tree_at};
-ghost use Rattle.x_sema.specs.Declarers.{AreShort, first_declarer, is_beforehand};
+ghost use Rattle.x_sema.specs.Declarers.{AreShort, first_declarer};
 ghost use Rattle.x_uses.specs.Occurrences.{Definitions, IsUsesOf, IsSameTable, HasRoomFor, users_in};
 
 mod making;
@@ -19,7 +19,7 @@ use std::alloc::Global;
 use std::marker::Model;
 use table::{Table, first_after_in, first_in, users_in};
 use x_item::Definition;
-use x_sema::Declarer;
+use x_sema::{Declarer, is_beforehand};
 use x_text::NoMemory;
 
 /// The items that an edit takes out, from one on, and how many it puts in there.
@@ -121,11 +121,4 @@ impl Uses {
     {
         replace_in(&mut self.table, place, &gone.table, &fresh.table);
     }
-}
-
-/// Whether the name is a constant that no item declares.
-fn is_beforehand(name: &[u8]) -> bool
-    ensures { result ≡ is_beforehand name.now }
-{
-    name == b"TRUE".as_slice() || name == b"FALSE".as_slice()
 }

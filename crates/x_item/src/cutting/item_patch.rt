@@ -1,5 +1,5 @@
 //! What an edit does to the items of a text.
-ghost use Rattle.std.specs.Prelude.{◌≡◌, ◌<◌, ◌↔◌, [], IsTrue, length, option_copied, slice_get, slice_set};
+ghost use Rattle.std.specs.Prelude.{◌≡◌, ◌<◌, ◌↔◌, [], Some, IsTrue, length, option_copied, slice_get, slice_set};
 ghost use Rattle.x_item.specs.ItemList.{counts, kept};
 
 use super::Entry;
@@ -72,17 +72,16 @@ impl<K> ItemPatch<K> {
         self.entries.get(index)
     }
 
-    /// Keeps this with the fresh item at `index`, counted from the first of them, in place of what was kept with it.
-    pub fn keep(&mut self, index: usize, new: K)
-    where
-        K: Drop,
+    /// Keeps this with the fresh item at `index`, counted from the first of them, and gives back what was kept with it.
+    pub fn exchange(&mut self, index: usize, new: K) -> K
         requires { index < length self.old.fresh }
+        ensures out { slice_get (kept self.old.fresh) index ≡ Some result }
         ensures counts { counts self.new.fresh ≡ counts self.old.fresh }
         ensures kept { kept self.new.fresh ≡ slice_set (kept self.old.fresh) index new }
         ensures others { self.new ≡ record self.old { fresh = self.new.fresh } }
     {
         let entry = Entry::in_place_of(self.entries.get(index), new);
-        self.entries.replace(index, entry);
+        self.entries.exchange(index, entry).kept
     }
 
     /// The entries of the fresh items, and what they take the place of, as they are kept.

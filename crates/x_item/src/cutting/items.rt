@@ -47,6 +47,7 @@ impl<K: Drop> Items<K> {
         ensures count { result ≡ length self.now.list }
         ensures some { 0 < result }
         ensures small { result ≤ MAX_TEXT + 1 }
+        ensures seat { self.now.seat ≤ result }
     {
         self.entries.len()
     }

@@ -44,7 +44,7 @@ pub fn parse_fresh(
     for index in 0..items.len() {
         take_tokens(&mut part, &mut walk, token_count(items, index))?;
         let kept = Kept::parsed(alloc, &part, meter)?;
-        items.keep(index, kept);
+        items.exchange(index, kept);
     }
     Ok(())
 }

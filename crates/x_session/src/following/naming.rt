@@ -26,12 +26,15 @@ pub struct NameChange {
     pub fresh: Uses,
 }
 
-/// What the patch does to the table of names, and makes room for it. The table is made where there was none.
+/// What the patch does to the table of names, where `put` are the definitions of its fresh items, and makes room
+/// for it. The table is made where there was none.
 pub fn change_names(
     alloc: Global,
     items: &mut ItemTable,
     patch: &ItemPatch<Kept>,
+    put: &[Option<&Definition>],
 ) -> Result<NameChange, NoMemory>
+    requires put { map tree_at put.now ≡ entry_definitions patch.now.fresh }
     requires among { LiesAmong items.old.entries.list patch.now }
     requires uses { AreUsed items.old.entries.list items.old.uses }
     requires short { AreShort (entry_definitions items.old.entries.list) }
@@ -43,7 +46,7 @@ pub fn change_names(
     ensures room { IfOk result (λ names. HasRoomForNames items.new.uses names) }
 {
     let gone = Uses::of(alloc, &removed_definitions(alloc, &items.entries, patch)?)?;
-    let fresh = Uses::of(alloc, &fresh_definitions(alloc, patch)?)?;
+    let fresh = Uses::of(alloc, put)?;
     let mut uses = take_table(alloc, items)?;
     let room = uses.make_room(alloc, &fresh);
     items.uses = Some(uses);

@@ -1,8 +1,9 @@
 //! The items that an edit makes stale.
 
-ghost use Rattle.std.specs.Prelude.{◌≡◌, All, IfOk, None, length};
+ghost use Rattle.std.specs.Prelude.{◌≡◌, All, IfOk, None, length, map};
 ghost use Rattle.x_text.specs.Counts.{raised};
 ghost use Rattle.x_item.specs.ItemList.{AreOfText, LiesAmong, counts, kept, patched};
+ghost use Rattle.x_schema.specs.Definitions.{tree_at};
 ghost use Rattle.x_sema.specs.Declarers.{AreShort};
 ghost use Rattle.x_session.specs.Checking.{IsMade};
 ghost use Rattle.x_session.specs.Following.{AreStaleChecked, HasRoomForNames, IsCheckedTable, IsNameChange};
@@ -11,22 +12,24 @@ ghost use Rattle.x_session.specs.Rendered.{AreRenderings, HasDefinitionAt, HaveD
 
 use crate::compile::{Found, ItemTable, Kept, Planned, new_pieces};
 use crate::following::counting::kept_behind;
-use crate::following::naming::{NameChange, fresh_definitions};
+use crate::following::naming::NameChange;
 use std::alloc::Global;
 use x_gen::Renderer;
-use x_item::{ItemPatch, Items};
+use x_item::{Definition, ItemPatch, Items};
 use x_text::{Meter, NoMemory};
 use x_uses::{Rechecked, recheck};
 
-/// Checks the items that the patch makes stale, and makes what is generated of those that have no fault and
-/// no pieces yet. Counts each of them as checked.
+/// Checks the items that the patch makes stale, where `put` are the definitions of its fresh ones, and makes
+/// what is generated of those that have no fault and no pieces yet. Counts each of them as checked.
 pub fn check_stale_items(
     alloc: Global,
     items: &ItemTable,
     patch: &ItemPatch<Kept>,
+    put: &[Option<&Definition>],
     names: &NameChange,
     meter: &mut Meter,
 ) -> Result<Vec<Planned>, NoMemory>
+    requires put { map tree_at put.now ≡ entry_definitions patch.now.fresh }
     requires among { LiesAmong items.now.entries.list patch.now }
     requires of_text_behind { AreOfText (counts (patched items.now.entries.list patch.now)) }
     requires checked { IsCheckedTable items.now }
@@ -43,8 +46,7 @@ pub fn check_stale_items(
     };
     // A read of the count shows that it fits its type.
     let _counted = items.entries.len();
-    let put = fresh_definitions(alloc, patch)?;
-    let stale = recheck(alloc, items, &put, names.place, uses, &names.fresh, meter)?;
+    let stale = recheck(alloc, items, put, names.place, uses, &names.fresh, meter)?;
     render_all(alloc, &items.entries, patch, stale)
 }
 

@@ -1,13 +1,13 @@
 //! The items that wait for a check because of an edit, or of what another item means.
 
-ghost use Rattle.std.specs.Prelude.{◌≡◌, ◌<◌, ◌≤◌, ◌+◌, ℕ, List, [], length, Option, Some, IfOk, OnOk, IsTrue};
-ghost use Rattle.std.specs.Prelude.{true, false};
+ghost use Rattle.std.specs.Prelude.{◌≡◌, ◌<◌, ◌≤◌, ◌+◌, ℕ, List, [], length, Option, Some, IfOk, OnOk};
+ghost use Rattle.std.specs.Prelude.{IsTrue, true, false};
 ghost use Rattle.x_item.specs.Tree.{Definition as Tree};
-ghost use Rattle.x_sema.specs.Declarers.{first_declarer};
 ghost use Rattle.x_sema.specs.declared.names.Declarer.{Declarer as First};
 ghost use Rattle.x_uses.specs.Editing.{count_after, definition_at, definitions_after, old_number};
-ghost use Rattle.x_uses.specs.Rechecking.{AddsItems, AreEditedItems, HasAlike, IsCovered, IsFirst, IsFormer};
-ghost use Rattle.x_uses.specs.Rechecking.{IsKept, IsKeptUser, IsNamed, IsReady, edit_of, is_waiting};
+ghost use Rattle.x_uses.specs.Rechecking.{AddsItemsFrom, AreCovered, AreCoveredAt, AreEditedItems, IsAlike};
+ghost use Rattle.x_uses.specs.Rechecking.{IsCovered, IsFirst, IsFormer, IsKept, IsKeptUser, IsNamed, IsReady};
+ghost use Rattle.x_uses.specs.Rechecking.{edit_of, is_waiting};
 
 use super::CheckedItems;
 use super::edited_items::EditedItems;
@@ -17,7 +17,7 @@ use x_item::{DeclaredName, declares_into};
 use x_sema::Declarer;
 use x_text::NoMemory;
 
-/// Has an item before the edit wait, if it is kept and its number is `low` or more.
+/// Queues an item before the edit, if it is kept and its number is `low` or more.
 fn add_user<L: CheckedItems>(
     items: &EditedItems<L>,
     low: usize,
@@ -26,7 +26,7 @@ fn add_user<L: CheckedItems>(
 ) -> Result<(), NoMemory>
     requires items { AreEditedItems L.text items.now }
     requires was { was < length (edit_of L.text items.now).old }
-    ensures adds { OnOk result (AddsItems queue.old queue.new low (count_after (edit_of L.text items.now))) }
+    ensures adds { OnOk result (AddsItemsFrom (edit_of L.text items.now) queue.old queue.new low) }
     ensures waits { OnOk result ((k : ℕ) → low ≤ k → old_number items.now.place k ≡ Some was
         → is_waiting queue.new k ≡ true) }
 {
@@ -36,7 +36,7 @@ fn add_user<L: CheckedItems>(
     }
 }
 
-/// Has the kept users of a name wait whose numbers are `low` or more.
+/// Queues the kept users of a name whose numbers are `low` or more.
 pub fn add_users<L: CheckedItems>(
     items: &EditedItems<L>,
     low: usize,
@@ -44,7 +44,7 @@ pub fn add_users<L: CheckedItems>(
     queue: &mut Queue,
 ) -> Result<(), NoMemory>
     requires { AreEditedItems L.text items.now }
-    ensures adds { OnOk result (AddsItems queue.old queue.new low (count_after (edit_of L.text items.now))) }
+    ensures adds { OnOk result (AddsItemsFrom (edit_of L.text items.now) queue.old queue.new low) }
     ensures waits { OnOk result ((k : ℕ) → low ≤ k → IsKeptUser (edit_of L.text items.now) k name.now
         → is_waiting queue.new k ≡ true) }
 {
@@ -67,13 +67,18 @@ fn is_former<L: CheckedItems>(items: &EditedItems<L>, before: usize, after: usiz
     }
 }
 
-/// Whether the first declarers of a name before and after the edit are alike to each kept item, but for what
-/// it means.
-fn is_alike<L: CheckedItems>(items: &EditedItems<L>, name: &[u8]) -> bool
-    requires { AreEditedItems L.text items.now }
-    ensures { IsTrue result → HasAlike (edit_of L.text items.now) name.now }
+/// Whether these first declarers of a name, before the edit and after it, are alike to each kept item, but for
+/// what the name means.
+fn is_alike<L: CheckedItems>(
+    items: &EditedItems<L>,
+    before: Option<Declarer>,
+    after: Option<Declarer>,
+) -> bool
+    requires items { AreEditedItems L.text items.now }
+    requires after { (f : First) → after ≡ Some f → f.item < count_after (edit_of L.text items.now) }
+    ensures { IsTrue result → IsAlike items.now.place before after }
 {
-    match (items.first(name), items.first_after(name)) {
+    match (before, after) {
         (None, None) => true,
         (Some(before), Some(after)) => {
             is_former(items, before.item, after.item)
@@ -94,16 +99,7 @@ fn is_at(first: Option<Declarer>, item: usize, place: usize) -> bool
     }
 }
 
-/// Whether the name is first declared in this place of the item, before the edit or after it.
-fn is_first<L: CheckedItems>(items: &EditedItems<L>, item: usize, place: usize, name: &[u8]) -> bool
-    requires { AreEditedItems L.text items.now }
-    ensures { (f : First) → IsFirst (edit_of L.text items.now) name.now f → f.item ≡ item
-        → f.place ≡ place → IsTrue result }
-{
-    is_at(items.first(name), item, place) || is_at(items.first_after(name), item, place)
-}
-
-/// Has the kept users of a name wait, if the item declares it first in this place and first declarers are not
+/// Queues the kept users of a name, if the item declares it first in this place and first declarers are not
 /// alike. So the users are gone over once for each name, however many items declare it.
 fn add_candidates<L: CheckedItems>(
     items: &EditedItems<L>,
@@ -113,21 +109,23 @@ fn add_candidates<L: CheckedItems>(
     queue: &mut Queue,
 ) -> Result<(), NoMemory>
     requires { AreEditedItems L.text items.now }
-    ensures adds { OnOk result (AddsItems queue.old queue.new 0 (count_after (edit_of L.text items.now))) }
+    ensures adds { OnOk result (AddsItemsFrom (edit_of L.text items.now) queue.old queue.new 0) }
     ensures covered { OnOk result ((f : First) → IsFirst (edit_of L.text items.now) name.now f
         → f.item ≡ item → f.place ≡ place
         → IsCovered (edit_of L.text items.now) (is_waiting queue.new) name.now) }
 {
-    if !is_first(items, item, place, name) {
+    let before = items.first(name);
+    let after = items.first_after(name);
+    if !is_at(before, item, place) && !is_at(after, item, place) {
         return Ok(());
     }
-    if is_alike(items, name) {
+    if is_alike(items, before, after) {
         return Ok(());
     }
     add_users(items, 0, name, queue)
 }
 
-/// Has those wait that see one of these names otherwise, which the item declares, because of who declares it.
+/// Queues those that see one of these names otherwise, which the item declares, because of who declares it.
 fn add_candidates_of<L: CheckedItems>(
     items: &EditedItems<L>,
     item: usize,
@@ -135,7 +133,7 @@ fn add_candidates_of<L: CheckedItems>(
     queue: &mut Queue,
 ) -> Result<(), NoMemory>
     requires { AreEditedItems L.text items.now }
-    ensures adds { OnOk result (AddsItems queue.old queue.new 0 (count_after (edit_of L.text items.now))) }
+    ensures adds { OnOk result (AddsItemsFrom (edit_of L.text items.now) queue.old queue.new 0) }
     ensures covered { OnOk result ((name : List ℕ) (f : First)
         → IsFirst (edit_of L.text items.now) name f → f.item ≡ item → IsNamed names.now f.place name
         → IsCovered (edit_of L.text items.now) (is_waiting queue.new) name) }
@@ -146,7 +144,7 @@ fn add_candidates_of<L: CheckedItems>(
     Ok(())
 }
 
-/// Has those wait that see a name otherwise because an item goes, which is taken as it was before the edit.
+/// Queues those that see a name otherwise because an item goes, which is taken as it was before the edit.
 fn add_gone<'i, L: CheckedItems>(
     alloc: Global,
     items: &'i EditedItems<L>,
@@ -155,10 +153,9 @@ fn add_gone<'i, L: CheckedItems>(
     queue: &mut Queue,
 ) -> Result<(), NoMemory>
     requires { AreEditedItems L.text items.now }
-    ensures adds { OnOk result (AddsItems queue.old queue.new 0 (count_after (edit_of L.text items.now))) }
-    ensures covered { OnOk result ((d : Tree) → definition_at (edit_of L.text items.now).old item ≡ Some d
-        → (name : List ℕ) (f : First) → first_declarer (edit_of L.text items.now).old name ≡ Some f
-        → f.item ≡ item → IsCovered (edit_of L.text items.now) (is_waiting queue.new) name) }
+    ensures adds { OnOk result (AddsItemsFrom (edit_of L.text items.now) queue.old queue.new 0) }
+    ensures covered { OnOk result (AreCoveredAt (edit_of L.text items.now) (is_waiting queue.new)
+        (edit_of L.text items.now).old item) }
 {
     let Some(definition) = items.old_definition(item) else {
         return Ok(());
@@ -167,7 +164,7 @@ fn add_gone<'i, L: CheckedItems>(
     add_candidates_of(items, item, names, queue)
 }
 
-/// Has a fresh item wait, if it has a definition, and those that see a name otherwise because of it.
+/// Queues a fresh item, if it has a definition, and those that see a name otherwise because of it.
 fn add_fresh<'i, L: CheckedItems>(
     alloc: Global,
     items: &'i EditedItems<L>,
@@ -177,15 +174,12 @@ fn add_fresh<'i, L: CheckedItems>(
 ) -> Result<(), NoMemory>
     requires items { AreEditedItems L.text items.now }
     requires item { item < count_after (edit_of L.text items.now) }
-    ensures adds { OnOk result (AddsItems queue.old queue.new 0 (count_after (edit_of L.text items.now))) }
+    ensures adds { OnOk result (AddsItemsFrom (edit_of L.text items.now) queue.old queue.new 0) }
     ensures waits { OnOk result ((d : Tree)
         → definition_at (definitions_after (edit_of L.text items.now)) item ≡ Some d
         → is_waiting queue.new item ≡ true) }
-    ensures covered { OnOk result ((d : Tree)
-        → definition_at (definitions_after (edit_of L.text items.now)) item ≡ Some d
-        → (name : List ℕ) (f : First)
-        → first_declarer (definitions_after (edit_of L.text items.now)) name ≡ Some f → f.item ≡ item
-        → IsCovered (edit_of L.text items.now) (is_waiting queue.new) name) }
+    ensures covered { OnOk result (AreCoveredAt (edit_of L.text items.now) (is_waiting queue.new)
+        (definitions_after (edit_of L.text items.now)) item) }
 {
     let Some(definition) = items.definition(item) else {
         return Ok(());
@@ -195,18 +189,17 @@ fn add_fresh<'i, L: CheckedItems>(
     add_candidates_of(items, item, names, queue)
 }
 
-/// Has those wait that see a name otherwise because of the items that go.
+/// Queues those that see a name otherwise because of the items that go.
 fn add_all_gone<L: CheckedItems>(
     alloc: Global,
     items: &EditedItems<L>,
     queue: &mut Queue,
 ) -> Result<(), NoMemory>
     requires { AreEditedItems L.text items.now }
-    ensures adds { OnOk result (AddsItems queue.old queue.new 0 (count_after (edit_of L.text items.now))) }
-    ensures covered { OnOk result ((name : List ℕ) (f : First)
-        → first_declarer (edit_of L.text items.now).old name ≡ Some f
-        → items.now.place.at ≤ f.item → f.item < items.now.place.at + items.now.place.removed
-        → IsCovered (edit_of L.text items.now) (is_waiting queue.new) name) }
+    ensures adds { OnOk result (AddsItemsFrom (edit_of L.text items.now) queue.old queue.new 0) }
+    ensures covered { OnOk result (AreCovered (edit_of L.text items.now) (is_waiting queue.new)
+        (edit_of L.text items.now).old items.now.place.at
+        (items.now.place.at + items.now.place.removed)) }
 {
     let place = items.place;
     let mut names = Vec::new(alloc);
@@ -216,20 +209,19 @@ fn add_all_gone<L: CheckedItems>(
     Ok(())
 }
 
-/// Has the fresh items wait that have a definition, and those that see a name otherwise because of them.
+/// Queues the fresh items that have a definition, and those that see a name otherwise because of them.
 fn add_all_fresh<L: CheckedItems>(
     alloc: Global,
     items: &EditedItems<L>,
     queue: &mut Queue,
 ) -> Result<(), NoMemory>
     requires { AreEditedItems L.text items.now }
-    ensures adds { OnOk result (AddsItems queue.old queue.new 0 (count_after (edit_of L.text items.now))) }
+    ensures adds { OnOk result (AddsItemsFrom (edit_of L.text items.now) queue.old queue.new 0) }
     ensures kept { OnOk result ((k : ℕ) → is_waiting queue.new k ≡ false
         → IsKept (edit_of L.text items.now) k) }
-    ensures covered { OnOk result ((name : List ℕ) (f : First)
-        → first_declarer (definitions_after (edit_of L.text items.now)) name ≡ Some f
-        → items.now.place.at ≤ f.item → f.item < items.now.place.at + items.now.place.added
-        → IsCovered (edit_of L.text items.now) (is_waiting queue.new) name) }
+    ensures covered { OnOk result (AreCovered (edit_of L.text items.now) (is_waiting queue.new)
+        (definitions_after (edit_of L.text items.now)) items.now.place.at
+        (items.now.place.at + items.now.place.added)) }
 {
     let place = items.place;
     let mut names = Vec::new(alloc);

@@ -9,10 +9,10 @@ ghost use Rattle.x_sema.specs.Outlined.{IsOutline, outlined};
 ghost use Rattle.x_sema.specs.Results.{Outcome, AreResults, meaning_at, result_at};
 ghost use Rattle.x_sema.specs.RustViews.{view_meaning};
 ghost use Rattle.x_uses.specs.Editing.{definitions_after, definition_at, count_after};
-ghost use Rattle.x_uses.specs.Rechecking.{AddsItems, IsDecided, AreEditedItems, IsFoundAs, IsMeantAs};
+ghost use Rattle.x_uses.specs.Rechecking.{AddsItemsFrom, IsDecided, AreEditedItems, IsFoundAs, IsMeantAs};
 ghost use Rattle.x_uses.specs.Rechecking.{IsReady, IsNamed, IsTold, HasAdvanced};
 ghost use Rattle.x_uses.specs.Rechecking.{CountsOn, counts_found, edit_of, is_waiting};
-ghost use Rattle.x_uses.specs.Staleness.{Ascending, counts_after, result_after, items_of};
+ghost use Rattle.x_uses.specs.Staleness.{Ascending, checked_more, items_of, result_after};
 
 use super::candidates::add_users;
 use super::edited_items::EditedItems;
@@ -92,7 +92,7 @@ fn means_same<L: CheckedItems>(
     }
 }
 
-/// Has the kept users of a name behind the item wait, which declares it in this place, unless it means what it
+/// Queues the kept users of a name behind the item, which declares it in this place, unless it means what it
 /// meant.
 fn tell_name<L: CheckedItems>(
     items: &EditedItems<L>,
@@ -104,8 +104,8 @@ fn tell_name<L: CheckedItems>(
 ) -> Result<(), NoMemory>
     requires items { AreEditedItems L.text items.now }
     requires item { item < count_after (edit_of L.text items.now) }
-    ensures adds { OnOk result (AddsItems queue.old queue.new (item + 1) (count_after
-        (edit_of L.text items.now))) }
+    ensures adds { OnOk result (AddsItemsFrom (edit_of L.text items.now) queue.old queue.new
+        (item + 1)) }
     ensures told { OnOk result (IsTold (edit_of L.text items.now) item place checked.now
         (is_waiting queue.new) name.now) }
 {
@@ -115,7 +115,7 @@ fn tell_name<L: CheckedItems>(
     add_users(items, item + 1, name, queue)
 }
 
-/// Has those behind the item wait that see another meaning of one of its names.
+/// Queues those behind the item that see another meaning of one of its names.
 fn tell<L: CheckedItems>(
     items: &EditedItems<L>,
     item: usize,
@@ -125,8 +125,8 @@ fn tell<L: CheckedItems>(
 ) -> Result<(), NoMemory>
     requires items { AreEditedItems L.text items.now }
     requires item { item < count_after (edit_of L.text items.now) }
-    ensures adds { OnOk result (AddsItems queue.old queue.new (item + 1) (count_after
-        (edit_of L.text items.now))) }
+    ensures adds { OnOk result (AddsItemsFrom (edit_of L.text items.now) queue.old queue.new
+        (item + 1)) }
     ensures told { OnOk result ((name : List ℕ) (place : ℕ) → IsNamed names.now place name
         → IsTold (edit_of L.text items.now) item place checked.now (is_waiting queue.new) name) }
 {
@@ -148,16 +148,16 @@ fn decide<L: CheckedItems>(
     requires items { AreEditedItems L.text items.now }
     requires item { item < count_after (edit_of L.text items.now) }
     requires ascend { Ascending 0 (items_of rechecked.old.items) }
-    ensures adds { OnOk result (AddsItems queue.old queue.new (item + 1) (count_after
-        (edit_of L.text items.now))) }
+    ensures adds { OnOk result (AddsItemsFrom (edit_of L.text items.now) queue.old queue.new
+        (item + 1)) }
     ensures decided { OnOk result ((after : List (Option Outcome)) (waits : ℕ → Bool)
         → AreResults (definitions_after (edit_of L.text items.now)) after
         → IsDecided (edit_of L.text items.now) after waits rechecked.old.items item
         → ((k : ℕ) → item < k → is_waiting queue.old k ≡ false → waits k ≡ false)
         → IsDecided (edit_of L.text items.now) after (is_waiting queue.new) rechecked.new.items (item + 1)) }
     ensures counted { OnOk result ((base : Counts)
-        → meter.old ≡ counts_after base (length rechecked.old.items)
-        → meter.new ≡ counts_after base (length rechecked.new.items)) }
+        → meter.old ≡ checked_more base (length rechecked.old.items)
+        → meter.new ≡ checked_more base (length rechecked.new.items)) }
     ensures counts { CountsOn meter.old meter.new }
 {
     let Some(definition) = items.definition(item) else {
@@ -187,8 +187,8 @@ pub fn check_next<L: CheckedItems>(
     ensures turned { IfOk result (λ r. HasAdvanced
         (edit_of L.text items.now) low r rechecked.new.items queue.new) }
     ensures counted { OnOk result ((base : Counts)
-        → meter.old ≡ counts_after base (length rechecked.old.items)
-        → meter.new ≡ counts_after base (length rechecked.new.items)) }
+        → meter.old ≡ checked_more base (length rechecked.old.items)
+        → meter.new ≡ checked_more base (length rechecked.new.items)) }
     ensures counts { CountsOn meter.old meter.new }
 {
     let Some(item) = queue.pop_first() else {

@@ -59,7 +59,7 @@ check_stale_items-requires-clause-checked c =
 
 pub faults_behind-requires-clause-planned : goal.faults_behind-requires-clause-planned
 faults_behind-requires-clause-planned c =
-    subst (ArePlanned (items.kept (items.patched c.change_names.new.items.entries.list c.in_ok-fresh.fresh))) (sym c.deref.ensures.value) c.in_ok-found.ensures.stale.planned
+    subst (ArePlanned (items.kept (items.patched c.change_names.new.items.entries.list c.in_ok-fresh.fresh))) (sym c.deref-3.ensures.value) c.in_ok-found.ensures.stale.planned
 
 pub returns-clause-plan : goal.returns-clause-plan
 returns-clause-plan c =
@@ -84,7 +84,7 @@ returns-clause-plan c =
           (subst (λ l. AreParsed (lexemes c.args.new.now (tokens.patched l patch)) (items.patched es fresh)) list c.in_ok-fresh.ensures.parsed);
       short = short_behind c.args.new.now c.args.tokens.now.list ts patch (items.patched es fresh) list c.in_ok-patch.ensures.of_text c.in_ok-fresh.ensures.parsed;
       checked = subst (λ l. AreStaleChecked l fresh c.in_ok-found.found.items) same c.in_ok-found.ensures.stale;
-      count = c.in_ok-faults.ensures ∙ (λ i. faults_found (items.kept (items.patched (same i) fresh)) (behind (same i) fresh (c.deref.ensures.value i)));
+      count = c.in_ok-faults.ensures ∙ (λ i. faults_found (items.kept (items.patched (same i) fresh)) (behind (same i) fresh (c.deref-3.ensures.value i)));
     }
 
 pub returns-clause-room : goal.returns-clause-room
@@ -101,6 +101,7 @@ returns-clause-room c =
       item_room = subst (λ g. items.HasRoom g fresh) (sym c.in_ok-names.ensures.entries) c.in_ok-fresh.ensures.room;
       items_of_text = subst (λ l. AreOfText (counts (items.patched l fresh))) (sym same) c.in_ok-fresh.ensures.of_text;
       planned = c.in_ok-found.ensures.stale.planned;
+      ascending = c.in_ok-found.ensures.stale.stale.ascend;
       names = subst (λ l. IsNameChange l fresh c.in_ok-names.names) (sym names) c.in_ok-names.ensures.change;
       name_room = c.in_ok-names.ensures.room;
     }

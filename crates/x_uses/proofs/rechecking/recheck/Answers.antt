@@ -8,21 +8,21 @@ use Rattle.x_uses.proofs.rechecking.recheck.Goals as goal
 
 pub returns-in_err-queue-clause-counts : goal.returns-in_err-queue-clause-counts
 returns-in_err-queue-clause-counts g c =
-    let fits : c.checked-before.result < 2 ^ 64 = c.checked-before.type_inv in
-    let is = c.checked-before.ensures in
+    let fits : c.checked-counted.result < 2 ^ 64 = c.checked-counted.type_inv in
+    let is = c.checked-counted.ensures in
     (0, counted_none c.args.meter.now (omega (arith, fits, is)))
 
 pub returns-in_err-item-clause-counts : goal.returns-in_err-item-clause-counts
 returns-in_err-item-clause-counts g c =
-    let fits : c.checked-before.result < 2 ^ 64 = c.checked-before.type_inv in
-    let is = c.checked-before.ensures in
+    let fits : c.checked-counted.result < 2 ^ 64 = c.checked-counted.type_inv in
+    let is = c.checked-counted.ensures in
     let h = c.loop-rechecked.invariant.counts c.args.meter.now 0 (counted_none c.args.meter.now (omega (arith, fits, is))) in
     c.check_next.ensures.counts c.args.meter.now h.0 h.1
 
 pub returns-clause-counts : goal.returns-clause-counts
 returns-clause-counts g c =
-    let fits : c.checked-before.result < 2 ^ 64 = c.checked-before.type_inv in
-    let is = c.checked-before.ensures in
+    let fits : c.checked-counted.result < 2 ^ 64 = c.checked-counted.type_inv in
+    let is = c.checked-counted.ensures in
     let h = c.loop-rechecked.invariant.counts c.args.meter.now 0 (counted_none c.args.meter.now (omega (arith, fits, is))) in
     c.check_next.ensures.counts c.args.meter.now h.0 h.1
 

@@ -1,7 +1,7 @@
 use Rattle.std.proofs.Common.{◌≡◌, ◌-◌, length}
 use Rattle.x_uses.specs.Editing.{definitions_after}
 use Rattle.x_uses.specs.Rechecking.{CountsOn, IsReady, edit_of}
-use Rattle.x_uses.specs.Staleness.{counts_after}
+use Rattle.x_uses.specs.Staleness.{checked_more}
 use Rattle.x_uses.proofs.rechecking.recheck.Given as goal
 
 -- the items below `low` are decided
@@ -9,7 +9,7 @@ abbrev pub invariant-loop-rechecked : goal.invariant-loop-rechecked
 invariant-loop-rechecked g l = record {
   ready : IsReady (edit_of g.L.CheckedItems.text l.items) l.queue l.rechecked.items l.low;
   counts : CountsOn l.fn.meter l.meter;
-  counted : l.meter ≡ counts_after l.fn.meter (length l.rechecked.items);
+  counted : l.meter ≡ checked_more l.fn.meter (length l.rechecked.items);
 }
 
 abbrev pub decreases-loop-rechecked : goal.decreases-loop-rechecked

@@ -28,9 +28,9 @@ loop-index-preserved c =
     let one = ap (λ (n : Counts). n.parsed) counted in
     let ticks = inv.ticks in
     record {
-      parsed = parsed_next tokens c.args.items.now.fresh c.loop-index.items.fresh c.keep.new.self.fresh walk c.take_tokens.new.walk index count k inv.parsed fits c.token_count.ensures c.in_ok-take_tokens.ensures.walk
-          (subst (λ t. IsParse t (kept_parse k)) part c.in_ok-kept.ensures.parse) (c.in_ok-kept.ensures.lines ∙ ap lines_of part) c.in_ok-kept.ensures.unchecked c.keep.ensures.counts c.keep.ensures.kept;
-      others = c.keep.ensures.others ∙ (λ i. record (inv.others i) { fresh = c.keep.new.self.fresh });
+      parsed = parsed_next tokens c.args.items.now.fresh c.loop-index.items.fresh c.exchange.new.self.fresh walk c.take_tokens.new.walk index count k inv.parsed fits c.token_count.ensures c.in_ok-take_tokens.ensures.walk
+          (subst (λ t. IsParse t (kept_parse k)) part c.in_ok-kept.ensures.parse) (c.in_ok-kept.ensures.lines ∙ ap lines_of part) c.in_ok-kept.ensures.unchecked c.exchange.ensures.counts c.exchange.ensures.kept;
+      others = c.exchange.ensures.others ∙ (λ i. record (inv.others i) { fresh = c.exchange.new.self.fresh });
       ticks = omega (arith, one, ticks);
       no_others = counted ∙ (λ i. record (inv.no_others i) { parsed = (sym one) i });
     }

@@ -20,5 +20,5 @@ returns-clause-change c =
       added = c.len.ensures;
       gone = uses_of (map tree_at c.deref.result.now) (take p.removed (drop p.at ds)) c.in_ok-gone.gone (ap (map tree_at) c.deref.ensures.value ∙ c.in_ok-removed_definitions.ensures) (short_removed ds p.at p.removed c.requires.short)
           c.in_ok-gone.ensures;
-      fresh = uses_of (map tree_at c.deref-2.result.now) (entry_definitions p.fresh) c.in_ok-fresh.fresh (ap (map tree_at) c.deref-2.ensures.value ∙ c.in_ok-fresh_definitions.ensures) c.requires.short_fresh c.in_ok-fresh.ensures;
+      fresh = uses_of (map tree_at c.args.put.now) (entry_definitions p.fresh) c.in_ok-fresh.fresh c.requires.put c.requires.short_fresh c.in_ok-fresh.ensures;
     }

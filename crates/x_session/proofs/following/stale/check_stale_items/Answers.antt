@@ -16,22 +16,20 @@ pub recheck-requires-clause-edit : goal.recheck-requires-clause-edit
 recheck-requires-clause-edit c =
     let es = c.args.items.now.entries.list in
     let p = c.args.patch.now in
-    let put = ap (map tree_at) c.deref.ensures.value ∙ c.in_ok-put.ensures in
     let small = c.len-counted.ensures.small in
     let count = c.len-counted.ensures.count in
-    subst IsEdit (sym (edit_is es p c.args.names.now (map tree_at c.deref.result.now) c.requires.names put))
+    subst IsEdit (sym (edit_is es p c.args.names.now (map tree_at c.args.put.now) c.requires.names c.requires.put))
     (is_edit es p c.requires.among (omega (arith, small, count)) c.requires.of_text_behind c.requires.checked.results c.requires.checked.short c.requires.short)
 
 pub recheck-requires-clause-uses : goal.recheck-requires-clause-uses
 recheck-requires-clause-uses c = subst (AreUsed c.args.items.now.entries.list) c.in-Some.is c.requires.checked.uses
 
 pub recheck-requires-clause-fresh : goal.recheck-requires-clause-fresh
-recheck-requires-clause-fresh c = subst (λ ds. IsUsesOf ds c.args.names.now.fresh) (sym (ap (map tree_at) c.deref.ensures.value ∙ c.in_ok-put.ensures)) c.requires.names.fresh
+recheck-requires-clause-fresh c = subst (λ ds. IsUsesOf ds c.args.names.now.fresh) (sym c.requires.put) c.requires.names.fresh
 
 rechecked : (c : In_ok-stale) → IsRecheck (edit_of c.args.items.now.entries.list c.args.patch.now) c.in_ok-stale.stale.items
 rechecked c =
-    let put = ap (map tree_at) c.deref.ensures.value ∙ c.in_ok-put.ensures in
-    subst (λ e. IsRecheck e c.in_ok-stale.stale.items) (edit_is c.args.items.now.entries.list c.args.patch.now c.args.names.now (map tree_at c.deref.result.now) c.requires.names put) c.in_ok-stale.ensures.rechecked
+    subst (λ e. IsRecheck e c.in_ok-stale.stale.items) (edit_is c.args.items.now.entries.list c.args.patch.now c.args.names.now (map tree_at c.args.put.now) c.requires.names c.requires.put) c.in_ok-stale.ensures.rechecked
 
 pub render_all-requires-clause-made : goal.render_all-requires-clause-made
 render_all-requires-clause-made c = made_patched c.args.items.now.entries.list c.args.patch.now c.requires.checked.sound c.requires.unchecked
@@ -44,8 +42,7 @@ returns-clause-stale c =
     let es = c.args.items.now.entries.list in
     let p = c.args.patch.now in
     let rs = c.in_ok-stale.stale.items in
-    let put = ap (map tree_at) c.deref.ensures.value ∙ c.in_ok-put.ensures in
-    let is = subst (λ e. IsRecheck e rs) (edit_is es p c.args.names.now (map tree_at c.deref.result.now) c.requires.names put) c.in_ok-stale.ensures.rechecked in
+    let is = subst (λ e. IsRecheck e rs) (edit_is es p c.args.names.now (map tree_at c.args.put.now) c.requires.names c.requires.put) c.in_ok-stale.ensures.rechecked in
     if_ok c.render_all.result (λ found. AreRenderings (items.kept (items.patched es p)) rs found.items) (λ found. AreStaleChecked es p found.items)
     (λ found are. stale_checked es p rs found.items c.requires.among is are c.requires.checked.sound c.requires.unchecked) c.render_all.ensures
 

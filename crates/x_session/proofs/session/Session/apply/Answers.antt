@@ -1,11 +1,14 @@
-use Rattle.std.proofs.Common.{◌≡◌, length, ap, subst, sym, ◌∙◌}
+use Rattle.std.proofs.Common.{◌≡◌, ◌+◌, length, ap, subst, sym, ◌∙◌}
 use Rattle.x_text.specs.Counts.{Counts, raised}
 use Rattle.x_text.specs.Edits.{change_of, edited_by}
+use Rattle.x_text.specs.Seqs.{distance}
 use Rattle.x_lex.specs.TokenList as tokens
 use Rattle.x_item.specs.ItemList as items
 use Rattle.x_item.specs.ItemList.{AreOfText, counts}
 use Rattle.x_session.specs.Following.{AreUsed, IsPlan, IsToFollow, behind}
 use Rattle.x_session.specs.KeptView.{AreWith}
+use Rattle.x_session.specs.Moves.{changed_items, moves, place_of, seat_behind}
+use Rattle.x_session.specs.Planned.{numbers_of}
 use Rattle.x_session.specs.Session.{Document}
 use Rattle.x_session.specs.SessionState.{IsKept}
 use Rattle.x_session.specs.Work.{IsWork}
@@ -65,13 +68,24 @@ returns-clause-work c =
     let lexed = ap (λ (w : Work). w.lexed) c.of.ensures ∙ c.carry_out.ensures.lexed ∙ c.in-Ok.ensures.lexed ∙ ap (λ (n : Counts). raised n.lexed (length plan.tokens.fresh)) c.new-meter.ensures in
     let parsed = ap (λ (w : Work). w.parsed) c.of.ensures ∙ c.carry_out.ensures.parsed ∙ c.in-Ok.ensures.parsed ∙ ap (λ (n : Counts). raised n.parsed (length plan.items.fresh)) c.new-meter.ensures in
     let checked = ap (λ (w : Work). w.checked) c.of.ensures ∙ c.carry_out.ensures.checked ∙ c.in-Ok.ensures.checked ∙ ap (λ (n : Counts). raised n.checked (length plan.found.items)) c.new-meter.ensures in
+    let before : Document = record {
+      base = c.self.inside.base.items;
+      text = old;
+      token_seat = c.self.inside.tokens.seat;
+      item_seat = c.self.inside.items.entries.seat;
+    } in
     let new : Document = record {
       base = c.self.inside.base.items;
       text = c.turn.new.self.text;
       token_seat = made.tokens.seat;
       item_seat = made.items.entries.seat;
     } in
-    subst (λ (v : Document). IsWork (change_of v.text edit) new c.of.result) c.self.view_is
-    (work_edited (change_of old edit) new c.self.inside.tokens.list made.tokens.list c.self.inside.items.entries.list made.items.entries.list c.self.inside.items.faults made.items.faults c.self.inside.items.uses made.items.uses plan c.of.result
+    let none = c.in-Ok.ensures.moved ∙ ap (λ (n : Counts). n.moved) c.new-meter.ensures in
+    let moved : c.of.result.moved ≡ distance before.token_seat plan.tokens.at (plan.tokens.at + plan.tokens.removed) + moves before.item_seat (changed_items (place_of plan.items) (numbers_of plan.found.items)) =
+    ap (λ (w : Work). w.moved) c.of.ensures ∙ c.carry_out.ensures.moved none
+    ∙ (λ i. distance (c.in-Ok.ensures.token_seat i) plan.tokens.at (plan.tokens.at + plan.tokens.removed) + moves (c.in-Ok.ensures.item_seat i) (changed_items (place_of plan.items) (numbers_of plan.found.items))) in
+    let item_seat = c.carry_out.ensures.item_seat ∙ ap (λ s. seat_behind s (changed_items (place_of plan.items) (numbers_of plan.found.items))) c.in-Ok.ensures.item_seat in
+    subst (λ (v : Document). IsWork (change_of v.text edit) v new c.of.result) c.self.view_is
+    (work_edited (change_of old edit) before new c.self.inside.tokens.list made.tokens.list c.self.inside.items.entries.list made.items.entries.list c.self.inside.items.faults made.items.faults c.self.inside.items.uses made.items.uses plan c.of.result
     (planned c) c.self.invariant (subst (λ t. IsKept t made.tokens.list made.items.entries.list made.items.faults made.items.uses) (turned c) (kept c)) (tokens_are c) (with c)
-    (subst (λ l. tokens.IsOfText (tokens.patched l plan.tokens)) c.in-Ok.ensures.tokens c.in-Ok.ensures.room.tokens_of_text) (of_text c) lexed parsed checked c.carry_out.ensures.token_seat)
+    (subst (λ l. tokens.IsOfText (tokens.patched l plan.tokens)) c.in-Ok.ensures.tokens c.in-Ok.ensures.room.tokens_of_text) (of_text c) lexed parsed checked moved c.carry_out.ensures.token_seat item_seat)

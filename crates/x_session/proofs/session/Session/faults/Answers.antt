@@ -1,4 +1,4 @@
-use Rattle.std.proofs.Common.{◌≡◌, subst}
+use Rattle.std.proofs.Common.{◌≡◌, length, subst, sym}
 use Rattle.x_session.specs.Compile.{faults_of}
 use Rattle.x_session.specs.Session.{Compiles}
 use Rattle.x_session.specs.SessionState.{items_of}
@@ -8,6 +8,11 @@ use Rattle.x_session.proofs.session.Session.faults.Goals as goal
 
 pub of-requires-clause-ordered : goal.of-requires-clause-ordered
 of-requires-clause-ordered c = are_ordered c.self.inside.texts.text c.self.inside.tokens.list c.self.inside.items.entries.list (compilation c.self.invariant)
+
+pub of-requires-clause-count : goal.of-requires-clause-count
+of-requires-clause-count c =
+    let inside = c.self.inside in
+    subst (λ t. inside.items.faults ≡ length (faults_of t (items_of t inside.tokens.list inside.items.entries.list))) (sym c.text.ensures) c.self.invariant.count_is
 
 pub returns : goal.returns
 returns c =

@@ -10,9 +10,9 @@ overflow_sub-behind g c =
     let size = g.T.Measured.length in
     let xs = c.args.self.now.list in
     let patch = c.args.patch.now in
-    let a = c.len-2.ensures in
-    let d = c.len-3.ensures in
-    let l = c.len-4.ensures in
+    let a = c.len-2.ensures.count in
+    let d = c.len-3.ensures.count in
+    let l = c.len-4.ensures.count in
     let b = c.at-2.ensures in
     let r = c.removed.ensures in
     let among = c.requires.among in
@@ -48,14 +48,14 @@ parts g c =
     let same : min (index - c.min-from.result) (length ys) ≡ min (index - patch.at) (length ys) = omega (arith, from) in
     let passed : c.total_length.result ≡ length_before size ys (index - patch.at) =
     c.total_length.ensures ∙ (λ i. total_length size (take ((into ∙ same) i) (c.fresh.ensures i))) ∙ ap (total_length size) (take_min (index - patch.at) ys) in
-    let count3 = c.len-3.ensures in
-    let left = c.len-4.ensures in
+    let count3 = c.len-3.ensures.count in
+    let left = c.len-4.ensures.count in
     let gone : c.start_of-2.result ≡ length_before size xs end =
-    c.start_of-2.ensures ∙ ap (length_before size xs) (let a = c.len-2.ensures in let b = c.at-2.ensures in let r = c.removed.ensures in omega (arith, a, b, r, left, among)) in
+    c.start_of-2.ensures ∙ ap (length_before size xs) (let a = c.len-2.ensures.count in let b = c.at-2.ensures in let r = c.removed.ensures in omega (arith, a, b, r, left, among)) in
     let behind : c.start_of.result ≡ length_before size xs (end + (index - patch.at - length ys)) =
     c.start_of.ensures
     ∙ ap (λ n. length_before size xs (n - (c.len-2.result - c.at-2.result - c.removed.result - (index - c.min-from.result - c.min-into.result)))) count3
-    ∙ ap (length_before size xs) (behind_at c.len-2.result (length xs) c.at-2.result patch.at c.removed.result patch.removed index c.min-from.result c.min-into.result (length ys) among fits c.len-2.ensures c.at-2.ensures c.removed.ensures from into) in
+    ∙ ap (length_before size xs) (behind_at c.len-2.result (length xs) c.at-2.result patch.at c.removed.result patch.removed index c.min-from.result c.min-into.result (length ys) among fits c.len-2.ensures.count c.at-2.ensures c.removed.ensures from into) in
     starts_by size xs ys patch.at end index c.start_of-3.result c.total_length.result c.start_of-2.result c.start_of.result within (c.start_of-3.ensures ∙ ap (length_before size xs) from) passed gone behind
 
 pub overflow_add-result : goal.overflow_add-result

@@ -1,6 +1,9 @@
 use Rattle.std.proofs.Common.{sym, ◌∙◌}
-use Rattle.std.proofs.lemmas.Bool.{true≢false}
+use Rattle.x_uses.specs.Editing.{definitions_after}
+use Rattle.x_uses.specs.Rechecking.{edit_of}
+use Rattle.x_uses.proofs.FirstDeclarers.{first_within}
 use Rattle.x_uses.proofs.rechecking.candidates.add_candidates.Goals as goal
 
-pub returns-then-not-is_first-clause-covered : goal.returns-then-not-is_first-clause-covered
-returns-then-not-is_first-clause-covered g c f first here place = absurd (true≢false (sym (c.is_first.ensures f first here place) ∙ c.if-not-is_first.true))
+pub is_alike-requires-clause-after : goal.is_alike-requires-clause-after
+is_alike-requires-clause-after g c f is =
+    first_within (definitions_after (edit_of g.L.CheckedItems.text c.args.items.now)) c.args.name.now f (sym c.first_after-after.ensures ∙ is)

@@ -15,5 +15,7 @@ loop-self-preserved c =
       left = next_item before.lines before.item c.begin.new.self before.next e before.entries es all none (c.begin.ensures.faults before.lines) c.begin.ensures.behind ∙ c.loop-self.invariant.left;
       telling = c.begin.ensures.telling;
       ordered = ordered_rest e before.entries es all c.loop-self.invariant.ordered;
+      count = c.loop-self.invariant.count;
+      some = c.loop-self.invariant.some;
       few = omega (arith, few, one);
     }
