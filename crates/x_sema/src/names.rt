@@ -108,7 +108,7 @@ fn table_of<'d>(
     Ok(table)
 }
 
-/// How many items have a definition. A text may be items without one, and the table takes memory for its room.
+/// How many items have a definition. A text may be items without one, and a table takes memory for its room.
 fn definition_count(definitions: &[Option<&Definition>]) -> usize {
     let mut count: usize = 0;
     for definition in definitions {

@@ -1,5 +1,6 @@
 -- What an edit does to what a session keeps of its text.
-use Rattle.std.specs.Prelude.{◌≡◌, ℕ, ◌+◌, ◌≤◌, List, All, IfSome, Option, None, Some, drop, length, map, take}
+use Rattle.std.specs.Prelude.{◌≡◌, ℕ, ◌+◌, ◌≤◌, List, All, IfSome, Option, None, Some, drop, length}
+use Rattle.std.specs.Prelude.{map, take}
 use Rattle.std.specs.Global.{Box}
 use Rattle.x_text.specs.Edits.{Change, edited_by, LiesWithin}
 use Rattle.x_text.specs.Seqs.{Gapped}

@@ -47,9 +47,9 @@ pub record AreStaleItems (change : Change) (ts us : List (Kind × ℕ)) (recut :
   pub are : AreStale (definitions_edit olds recut put) (map (λ i. i.result) news) stale
 
 -- The change took this work: as many tokens were lexed as are fresh, as many items parsed as are recut, and
--- as many checked as are stale. Entries moved as far as the tokens' seat is from those that go, and as putting
--- the changed items in place takes, from the first to the last. The tokens' seat is behind the fresh ones
--- then, and the items' seat behind the last changed one.
+-- as many checked as are stale. As many entries moved as lie between the tokens' seat and the tokens that go,
+-- and as move where the changed items are put in place from the first to the last. The tokens' seat is behind
+-- the fresh ones then, and the items' seat behind the last changed one.
 pub record IsWork (change : Change) (old new : Document) (w : Work) : Type 0 where
   pub tokens : List (Kind × ℕ)
   pub are_tokens : AreTokens change.old tokens

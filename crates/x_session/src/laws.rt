@@ -16,17 +16,17 @@ pub fn one_compilation()
         → (tokens ≡ others) × (items ≡ more) }
 {}
 
-/// An edit's work is determined by the text, the edit and the two seats: so many tokens are fresh, so many items
-/// recut and stale, and so many entries move; and where the seats are then.
+/// An edit's work is determined by the text, the edit and the two seats: so many tokens are fresh, so many
+/// items recut and stale, and so many entries move; and where the seats are then.
 pub fn one_work()
     ensures { (change : Change) (old d e : Document) (v w : Work) → LiesWithin change
         → IsWork change old d v → IsWork change old e w
         → (v ≡ w) × (d.token_seat ≡ e.token_seat) × (d.item_seat ≡ e.item_seat) }
 {}
 
-/// Edits each of which is near the one before it move few entries, however long the text is: three times for
-/// each edit as many as lie at the most between its tokens and the seat that the one before it left, between its
-/// items and theirs, and between the first and the last item that it changes.
+/// Edits each of which is near the one before it move few entries, however long the text is: for each edit
+/// three times as many as lie at the most between its tokens and the seat that the one before it left, its
+/// items and theirs, and the first and the last item that it changes.
 pub fn near_edits()
     ensures { (reach : ℕ) (old new : Document) (edits : List edit.Edit) (works : List Work)
         → AreNearWorks reach old edits works new

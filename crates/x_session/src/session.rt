@@ -105,7 +105,8 @@ impl Session {
         ensures base { self.new.base ≡ self.old.base }
         ensures fault { Judges (change_of self.old.text edit.now) result }
         ensures same { OnErr result (self.new ≡ self.old) }
-        ensures work { IfOk result (λ work. IsWork (change_of self.old.text edit.now) self.old self.new work) }
+        ensures work { IfOk result
+            (λ work. IsWork (change_of self.old.text edit.now) self.old self.new work) }
     {
         self.texts.prepare(edit)?;
         let mut meter = Meter::new();

@@ -34,8 +34,8 @@ pub struct Checks {
     pub faults: usize,
 }
 
-/// Checks the items of a text, none of which is checked yet, in their order. Counts each that has a definition
-/// as checked.
+/// Checks the items of a text, none of which is checked yet, in their order. Counts each that has a
+/// definition as checked.
 pub fn check_all(alloc: Global, items: &[&Kept], meter: &mut Meter) -> Result<Checks, NoMemory>
     requires short { AreShort (kept_definitions (map (λ k. k.now) items.now)) }
     requires unchecked { All (λ k. kept_found k.now ≡ None) items.now }

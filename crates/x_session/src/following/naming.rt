@@ -26,8 +26,8 @@ pub struct NameChange {
     pub fresh: Uses,
 }
 
-/// What the patch does to the table of names, where `put` are the definitions of its fresh items, and makes room
-/// for it. The table is made where there was none.
+/// What the patch does to the table of names, where `put` are the definitions of its fresh items, and makes
+/// room for it. The table is made where there was none.
 pub fn change_names(
     alloc: Global,
     items: &mut ItemTable,

@@ -14,8 +14,8 @@ ghost use Rattle.x_session.specs.Planned.{ArePlanned, numbers_of, overlaid};
 use crate::compile::{Found, Kept, Planned};
 use x_item::{ItemPatch, Items};
 
-/// Carries the patch out, and keeps with each stale item of those that it leaves what was found of it, from the
-/// first that changes to the last. Answers how many entries moved. It takes no memory.
+/// Carries the patch out, and keeps with each stale item of those that it leaves what was found of it, from
+/// the first that changes to the last. Answers how many entries moved. It takes no memory.
 pub fn put_changes(items: &mut Items<Kept>, patch: ItemPatch<Kept>, found: Vec<Planned>) -> u64
     requires patch { CanPut items.old patch }
     requires planned { ArePlanned (kept (patched items.old.list patch)) found.items }
@@ -37,8 +37,8 @@ pub fn put_changes(items: &mut Items<Kept>, patch: ItemPatch<Kept>, found: Vec<P
     moved.saturating_add(put_pending(items, &mut pending))
 }
 
-/// Keeps with an item what was found of it, once what the patch puts in before it is in place. The item is one
-/// of those that the patch leaves. Answers how many entries moved.
+/// Keeps with an item what was found of it, once what the patch puts in before it is in place. The item is
+/// one of those that the patch leaves. Answers how many entries moved.
 fn put_next(items: &mut Items<Kept>, pending: &mut Option<ItemPatch<Kept>>, planned: Planned) -> u64
     requires pending { IfSome pending.old (CanPut items.old) }
     requires within { planned.item < length (whole items.old.list pending.old) }

@@ -67,8 +67,8 @@ fn is_former<L: CheckedItems>(items: &EditedItems<L>, before: usize, after: usiz
     }
 }
 
-/// Whether these first declarers of a name, before the edit and after it, are alike to each kept item, but for
-/// what the name means.
+/// Whether these first declarers of a name, before the edit and after it, are alike to each kept item, but
+/// for what the name means.
 fn is_alike<L: CheckedItems>(
     items: &EditedItems<L>,
     before: Option<Declarer>,
