@@ -8,7 +8,7 @@ import rpclang
 # later one; as what it is declared there, and whether lifted; and, where an earlier item declares it, what it means.
 View = namedtuple("View", "declarer shape lifted meaning")
 
-# What an edit takes, and where the seats are behind it.
+# What an edit takes, and where the seats are after it.
 Work = namedtuple("Work", "lexed parsed checked moved seats")
 
 # The indexes behind the tokens and behind the items that were put in last.
@@ -145,7 +145,7 @@ def seats_of(reading):
 
 
 def work_of(old, edit, new, seats):
-    """What work the edit takes by the two readings, where the seats are there."""
+    """What work the edit takes by the two readings, from these seats."""
     first, last, lexed = token_change(old, edit, new)
     moved, seat = moved_items(seats.items, changed_items(old, edit, new))
     parsed = len(new.items) - len(kept_items(old, edit, new))

@@ -9,7 +9,7 @@ use Rattle.x_item.specs.ItemList.{counts}
 use Rattle.x_item.specs.ItemList as items
 use Rattle.x_item.specs.declared.cutting.entry.Entry.{Entry}
 use Rattle.x_session.specs.Checking.{AreKnown, IsKnownAt}
-use Rattle.x_session.specs.KeptView.{AreWith, IsWith, IsWithAt, kept_definition}
+use Rattle.x_session.specs.KeptView.{AreWith, IsWith, IsWithAt, found_pieces, found_result, kept_definition, kept_found, kept_lines, kept_parse, renewed_pieces}
 use Rattle.x_session.specs.declared.compile.kept.Found.{Found}
 use Rattle.x_session.specs.declared.compile.kept.Kept.{Kept}
 
@@ -212,6 +212,17 @@ pub entry_of : (es : List (Entry Kept)) (i : ℕ) (k : Kept) → slice_get (item
 entry_of [] i k is = absurd (cc)
 entry_of (x ∷ es) zero k is = (x, refl, same_Some x.kept k is)
 entry_of (x ∷ es) (suc i) k is = entry_of es i k is
+
+-- the same item, whatever the number of its tokens, with which what was found is kept
+pub kept_with : (out new : Kept) (r : Option (Box Found)) → kept_parse new ≡ kept_parse out → kept_lines new ≡ kept_lines out → found_result (kept_found new) ≡ found_result r
+    → found_pieces (kept_found new) ≡ renewed_pieces (found_pieces (kept_found out)) r → (n : ℕ) → IsWith (record { tokens = n; kept = out }) r (record { tokens = n; kept = new })
+kept_with out new r parse lines result pieces n = record {
+  tokens = refl;
+  parse = parse;
+  lines = lines;
+  result = result;
+  pieces = pieces;
+}
 
 -- what was kept with an item is exchanged, and then again
 pub with_at : (es fs gs : List (Entry Kept)) (i : ℕ) (out none new : Kept) (r : Option (Box Found)) → slice_get (items.kept es) i ≡ Some out → counts fs ≡ counts es → items.kept fs ≡ slice_set (items.kept es) i none

@@ -1,4 +1,4 @@
--- How many entries an edit moves: what changes is put in place from the first to the last, from the seat on.
+-- How many items an edit moves: those that change are put in place from the first to the last.
 use Rattle.std.specs.Prelude.{◌≡◌, ◌≤◌, ℕ, ◌+◌, ◌-◌, nat_lt, List, [], ◌∷◌, ◌++◌, length, map}
 use Rattle.std.specs.Prelude.{Option, None, Some, if◌then◌else◌}
 use Rattle.std.specs.List.{filter}
@@ -47,13 +47,13 @@ changed_items p ks = changed_before p ks ++ (changed_place p ++ changed_behind p
 
 -- ---- what moves
 
--- the entries between these that do not change, from this index on
+-- the unchanged entries between these, by their indexes before the edit, from this one on
 abbrev pub unchanged_between : ℕ → List Changed → ℕ
 unchanged_between end [] = 0
 unchanged_between end (c ∷ cs) = (c.from - end) + unchanged_between c.to cs
 
--- How many entries move: those between the seat and the first that changes, and those between the first and
--- the last that do not change.
+-- How many entries move: those between the seat and the first that changes, and the unchanged ones between the
+-- first and the last that change.
 abbrev pub moves : ℕ → List Changed → ℕ
 moves seat [] = 0
 moves seat (c ∷ cs) = distance seat c.from c.to + unchanged_between c.to cs
@@ -63,8 +63,8 @@ abbrev pub seat_behind : ℕ → List Changed → ℕ
 seat_behind seat [] = seat
 seat_behind seat (c ∷ cs) = seat_behind c.end cs
 
--- So many entries at the most lie between the seat and the first that changes, and as many between the first
--- and the last that do not change.
+-- So many entries at the most lie between the seat and the first that changes, and as many unchanged ones
+-- between the first and the last that change.
 abbrev pub AreNear : ℕ → ℕ → List Changed → Type 0
 AreNear reach seat [] = Unit {0}
 AreNear reach seat (c ∷ cs) = (distance seat c.from c.to ≤ reach) × (unchanged_between c.to cs ≤ reach)

@@ -92,7 +92,7 @@ abbrev pub HasDone : Document → List Edit → Document → Type 0
 HasDone old edits new = (total : Work) × IsWorkOfAll old edits new total
 
 -- The work of an edit near the one before it, which left the seats: within so many tokens and items, and
--- with so few items between those that it changes.
+-- with so few unchanged items between those that it changes.
 pub record IsNearWork (reach : ℕ) (change : Change) (old new : Document) (w : Work) : Type 0 where
   pub work : IsWork change old new w
   pub tokens : distance old.token_seat work.patch.at (work.patch.at + work.patch.removed) ≤ reach

@@ -24,9 +24,10 @@ pub fn one_work()
         → (v ≡ w) × (d.token_seat ≡ e.token_seat) × (d.item_seat ≡ e.item_seat) }
 {}
 
-/// Edits each of which is near the one before it move few entries, however long the text is: for each edit
-/// three times as many as lie at the most between its tokens and the seat that the one before it left, its
-/// items and theirs, and the first and the last item that it changes.
+/// Edits near one another move few entries, however long the text is. At most `reach` tokens lie between those
+/// that an edit takes out and their seat, at most as many items between the first that it changes and theirs,
+/// and as many unchanged items between the first and the last that it changes; the seats are those that the
+/// edit before it left. Then at most three times as many entries move for each edit.
 pub fn near_edits()
     ensures { (reach : ℕ) (old new : Document) (edits : List edit.Edit) (works : List Work)
         → AreNearWorks reach old edits works new

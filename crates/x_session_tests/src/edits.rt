@@ -1,10 +1,11 @@
 //! Edits with little memory: after a refusal all is as before.
 
+use crate::answers::{expect_answers, write_answers};
 use std::alloc::Global;
 use std::process::Abort;
 use std::test::Fail;
-use x_session::{EngineFault, Session, Work, run_script};
-use x_text::{Edit, MemSink, MemTap, TextFault};
+use x_session::{Session, Work};
+use x_text::{Edit, TextFault};
 
 /// What is asked of a session.
 const ASKED: &[u8] = b"tokens\ndefinitions\nfaults\nheader\nroutines\nstubs\ntable\n";
@@ -102,31 +103,6 @@ const ROWS: [Row; 5] = [
     },
 ];
 
-/// Writes what a session answers to each question, and tells how many bytes that is.
-fn write_answers(
-    alloc: Global,
-    session: &mut Session,
-    buffer: &mut [u8],
-) -> Result<usize, EngineFault> {
-    let mut sink = MemSink::new(buffer, 1 << 20, 1 << 20);
-    let mut tap = MemTap::new(ASKED, 512, usize::MAX);
-    run_script(alloc, session, &mut tap, &mut sink)?;
-    Ok(sink.bytes().len())
-}
-
-/// Checks what the session answers to each question.
-fn expect_answers(
-    rt: &impl Abort,
-    alloc: Global,
-    session: &mut Session,
-    wanted: &[u8],
-) -> Result<(), EngineFault> {
-    let mut buffer = [0u8; 32768];
-    let length = write_answers(alloc, session, &mut buffer)?;
-    assert_eq!(rt; buffer.get(..length), Some(wanted));
-    Ok(())
-}
-
 /// Carries the edit out, and after a refusal once more: then all was as before, seats included, by the
 /// answers and by what the edit takes. It tells whether nothing was refused.
 fn apply_with_little_memory(
@@ -143,7 +119,7 @@ fn apply_with_little_memory(
         }
         Err(fault) => assert_eq!(rt; fault, TextFault::NoMemory),
     }
-    expect_answers(rt, alloc, session, before)?;
+    expect_answers(rt, alloc, session, ASKED, before)?;
     let work = session.apply(&row.edit)?;
     assert_eq!(rt; work, row.work);
     Ok(false)
@@ -155,7 +131,7 @@ fn follow(rt: &impl Abort, alloc: Global, row: &Row) -> Result<bool, Fail> {
         return Ok(false);
     };
     let mut buffer = [0u8; 32768];
-    let Ok(asked) = write_answers(alloc, &mut session, &mut buffer) else {
+    let Ok(asked) = write_answers(alloc, &mut session, ASKED, &mut buffer) else {
         return Ok(false);
     };
     let before = buffer.get(..asked).unwrap_or_default();

@@ -25,20 +25,18 @@ loop-planned-init c =
       many = c.into_iter-planned-iterator.ensures.into_iter_gives.1 ∙ c.args.found.ok.0 ∙ ap length (sym all);
     }
 
--- what is left, with what comes next
+-- what is put so far, and what comes next
+next : (c : goal.After-pending-1) → ArePut (items.patched c.args.items.now.list c.args.patch) c.args.found.items (whole c.loop-planned.items.list c.loop-planned.pending) (c.in-Some.planned ∷ into_iter_items c.next.new.self)
+next c =
+    subst (ArePut (items.patched c.args.items.now.list c.args.patch) c.args.found.items (whole c.loop-planned.items.list c.loop-planned.pending)) c.in-Some.ensures.steps.0 c.loop-planned.invariant.put
+
 pub put_next-requires-clause-within : goal.put_next-requires-clause-within
 put_next-requires-clause-within c =
-    let at = c.loop-planned in
-    let olds = items.patched c.args.items.now.list c.args.patch in
-    let left = into_iter_items c.next.new.self in
-    put_within olds c.args.found.items _ left c.in-Some.planned (subst (ArePut olds c.args.found.items _) c.in-Some.ensures.steps.0 at.invariant.put) c.requires.planned
+    put_within (items.patched c.args.items.now.list c.args.patch) c.args.found.items (whole c.loop-planned.items.list c.loop-planned.pending) (into_iter_items c.next.new.self) c.in-Some.planned (next c) c.requires.planned
 
 pub put_next-requires-clause-known : goal.put_next-requires-clause-known
 put_next-requires-clause-known c =
-    let at = c.loop-planned in
-    let olds = items.patched c.args.items.now.list c.args.patch in
-    let left = into_iter_items c.next.new.self in
-    put_known olds c.args.found.items _ left c.in-Some.planned (subst (ArePut olds c.args.found.items _) c.in-Some.ensures.steps.0 at.invariant.put) c.requires.planned
+    put_known (items.patched c.args.items.now.list c.args.patch) c.args.found.items (whole c.loop-planned.items.list c.loop-planned.pending) (into_iter_items c.next.new.self) c.in-Some.planned (next c) c.requires.planned
 
 pub loop-planned-preserved : goal.loop-planned-preserved
 loop-planned-preserved c =
