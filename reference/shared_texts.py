@@ -387,7 +387,8 @@ def main(words):
                 kept["refused"] += 1
                 continue
             new = work.Reading(work.edited(reading.text, edit))
-            changed = [pairs for pairs in work.changed_views(reading, edit, new).values() if pairs]
+            views = work.changed_views(reading, new, work.kept_items(reading, edit, new))
+            changed = [pairs for pairs in views.values() if pairs]
             kept[band(len(changed))] += 1
             changes.update({change_of(*pair) for pairs in changed for pair in pairs.values()})
             reading = new

@@ -86,11 +86,11 @@ def names_seen(definition):
     return {name.name for name in rpclang.declared(definition) + rpclang.mentioned(definition)}
 
 
-def changed_views(old, edit, new):
+def changed_views(old, new, kept):
     """Of each item that stays and has a definition, by its number in the new text, the names that it sees in another
     way than before: by the name, what it saw and what it sees."""
     changed = {}
-    for item, before in kept_items(old, edit, new).items():
+    for item, before in kept.items():
         if new.definitions[item] is not None:
             views = {name: (old.view(before, name), new.view(item, name))
                      for name in names_seen(new.definitions[item])}
@@ -98,28 +98,25 @@ def changed_views(old, edit, new):
     return changed
 
 
-def stale_items(old, edit, new):
+def stale_items(old, new, kept):
     """The items of the new text that have a definition, and are fresh or see a name in another way than before."""
-    changed = changed_views(old, edit, new)
+    changed = changed_views(old, new, kept)
     return [item for item, definition in enumerate(new.definitions)
             if definition is not None and (item not in changed or changed[item])]
 
 
-def recut_place(old, edit, new):
+def recut_place(old, new, kept):
     """The old items that go, from the first to before the last, and how many items of the new text are fresh."""
-    kept = kept_items(old, edit, new)
-    added = len(new.items) - len(kept)
-    removed = len(old.items) - len(kept)
     first = next((item for item in range(len(new.items)) if kept.get(item) != item), len(new.items))
-    return first, first + removed, added
+    return first, first + len(old.items) - len(kept), len(new.items) - len(kept)
 
 
-def changed_items(old, edit, new):
-    """The items that change, in order: each the old items from the first to before the last, and the index behind
-    those of the new text. They are the recut place, where anything goes or comes there, and the stale items that stay."""
-    kept = kept_items(old, edit, new)
-    first, last, added = recut_place(old, edit, new)
-    changed = [(kept[item], kept[item] + 1, item + 1) for item in stale_items(old, edit, new) if item in kept]
+def changed_items(place, stale, kept):
+    """The items that change, in order: each the old items from the first to before the last, and the index behind those
+    of the new text. They are the recut place, where anything goes or comes there, and the stale items that stay. A
+    stale item before a place where none comes has the same index, and stands first."""
+    first, last, added = place
+    changed = [(kept[item], kept[item] + 1, item + 1) for item in stale if item in kept]
     if first < last or added:
         changed.append((first, last, first + added))
     return sorted(changed, key=lambda change: change[2])
@@ -147,10 +144,10 @@ def seats_of(reading):
 def work_of(old, edit, new, seats):
     """What work the edit takes by the two readings, from these seats."""
     first, last, lexed = token_change(old, edit, new)
-    moved, seat = moved_items(seats.items, changed_items(old, edit, new))
-    parsed = len(new.items) - len(kept_items(old, edit, new))
-    return Work(lexed, parsed, len(stale_items(old, edit, new)), steps(seats.tokens, first, last) + moved,
-                Seats(first + lexed, seat))
+    kept = kept_items(old, edit, new)
+    place, stale = recut_place(old, new, kept), stale_items(old, new, kept)
+    moved, seat = moved_items(seats.items, changed_items(place, stale, kept))
+    return Work(lexed, place[2], len(stale), steps(seats.tokens, first, last) + moved, Seats(first + lexed, seat))
 
 
 def line_of(work):

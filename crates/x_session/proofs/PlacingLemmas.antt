@@ -3,16 +3,19 @@ use Rattle.std.proofs.Common.{◌≡◌, ◌<◌, ◌≤◌, ℕ, zero, suc, ◌
 use Rattle.std.specs.Global.{Box}
 use Rattle.std.specs.List.{splice}
 use Rattle.std.specs.Prelude.{IfSome, slice_get, slice_set}
-use Rattle.std.proofs.lemmas.List.{length-map, take-append-drop}
+use Rattle.std.proofs.lemmas.List.{length-map, length-take-le, take-append-drop}
+use Rattle.std.proofs.lemmas.Option.{slice_get_within}
 use Rattle.x_text.specs.Counts.{raised}
 use Rattle.x_text.specs.Seqs.{Gapped, distance}
 use Rattle.x_text.specs.declared.source.TheConstants.{MAX_TEXT}
 use Rattle.x_text.proofs.PatchLemmas.{length-spliced}
+use Rattle.x_text.proofs.SeqLemmas.{set_front}
 use Rattle.x_item.specs.ItemList as items
 use Rattle.x_item.specs.ItemList.{AreOfText, ItemChange, counts, patched, tokens_in}
 use Rattle.x_item.specs.declared.cutting.entry.Entry.{Entry}
 use Rattle.x_item.proofs.CountLemmas.{counts-splice}
 use Rattle.x_uses.specs.Staleness.{Ascending}
+use Rattle.x_uses.proofs.Numbering.{get_front, get_rear}
 use Rattle.x_session.specs.Checking.{IsKnownAt}
 use Rattle.x_session.specs.Following.{CanPut}
 use Rattle.x_session.specs.KeptView.{IsWithAt}
@@ -23,7 +26,6 @@ use Rattle.x_session.specs.declared.compile.kept.Kept.{Kept}
 use Rattle.x_session.specs.declared.compile.kept.Planned.{Planned}
 use Rattle.x_session.proofs.KeepingLemmas.{entry_of, kept_get}
 use Rattle.x_session.proofs.MoveLemmas.{AreBelow, items_most, moved_before, moved_fresh, moved_nothing, moved_own, moved_place, moved_then}
-use Rattle.x_session.proofs.PlannedLemmas.{within}
 
 -- ---- an entry before the place
 
@@ -43,31 +45,10 @@ set_before (x ∷ xs) ys (suc at) (suc end) (suc i) y among le lt = ap (λ l. x 
 
 -- ---- a fresh entry
 
-get_joined : {X : Type 0} (xs ys : List X) (i : ℕ) → i < length xs → slice_get (xs ++ ys) i ≡ slice_get xs i
-get_joined [] ys i lt = absurd (omega (arith, lt))
-get_joined (x ∷ xs) ys zero lt = refl
-get_joined (x ∷ xs) ys (suc i) lt = get_joined xs ys i (omega (arith, lt))
-
-set_joined : {X : Type 0} (xs ys : List X) (i : ℕ) (y : X) → i < length xs → slice_set xs i y ++ ys ≡ slice_set (xs ++ ys) i y
-set_joined [] ys i y lt = absurd (omega (arith, lt))
-set_joined (x ∷ xs) ys zero y lt = refl
-set_joined (x ∷ xs) ys (suc i) y lt = ap (λ l. x ∷ l) (set_joined xs ys i y (omega (arith, lt)))
-
-get_behind : {X : Type 0} (front xs : List X) (at i n : ℕ) → at ≡ length front → n ≡ at + i → slice_get (front ++ xs) n ≡ slice_get xs i
-get_behind [] xs at i n is sum = ap (slice_get xs) (let same : n ≡ i = omega (arith, is, sum) in same)
-get_behind (x ∷ front) xs at i zero is sum = absurd (omega (arith, is, sum))
-get_behind (x ∷ front) xs at i (suc n) is sum = get_behind front xs (length front) i n refl (omega (arith, is, sum))
-
 set_behind : {X : Type 0} (front xs : List X) (at i n : ℕ) (y : X) → at ≡ length front → n ≡ at + i → front ++ slice_set xs i y ≡ slice_set (front ++ xs) n y
 set_behind [] xs at i n y is sum = ap (λ j. slice_set xs j y) (let same : i ≡ n = omega (arith, is, sum) in same)
 set_behind (x ∷ front) xs at i zero y is sum = absurd (omega (arith, is, sum))
 set_behind (x ∷ front) xs at i (suc n) y is sum = ap (λ l. x ∷ l) (set_behind front xs (length front) i n y refl (omega (arith, is, sum)))
-
-length-taken : {X : Type 0} (xs : List X) (n : ℕ) → n ≤ length xs → n ≡ length (take n xs)
-length-taken [] zero le = refl
-length-taken [] (suc n) le = absurd (omega (arith, le))
-length-taken (x ∷ xs) zero le = refl
-length-taken (x ∷ xs) (suc n) le = let rest = length-taken xs n (omega (arith, le)) in omega (arith, rest)
 
 -- ---- what was found of an item is kept with it
 
@@ -95,7 +76,10 @@ with_before es fs p i r among lt h =
 -- with a fresh one
 get_fresh : (es : List (Entry Kept)) (p : ItemChange Kept) (n i : ℕ) → items.LiesAmong es p → n ≡ p.at + i → i < length p.fresh → slice_get (patched es p) n ≡ slice_get p.fresh i
 get_fresh es p n i among sum lt =
-    get_behind (take p.at es) (p.fresh ++ drop (p.at + p.removed) es) p.at i n (length-taken es p.at (omega (arith, among))) sum ∙ get_joined p.fresh (drop (p.at + p.removed) es) i lt
+    let rear = drop (p.at + p.removed) es in
+    let front = length-take-le p.at es (omega (arith, among)) in
+    let index : n - length (take p.at es) ≡ i = omega (arith, front, sum) in
+    get_rear (take p.at es) (p.fresh ++ rear) n (omega (arith, front, sum)) ∙ ap (slice_get (p.fresh ++ rear)) index ∙ get_front p.fresh rear i lt
 
 pub known_fresh : (es : List (Entry Kept)) (p : ItemChange Kept) (n i : ℕ) (r : Option (Box Found)) → items.LiesAmong es p → n ≡ p.at + i → i < length p.fresh → IsKnownAt (items.kept (patched es p)) n r → IsKnownAt (items.kept p.fresh) i r
 known_fresh es p n i r among sum lt known = known_of (patched es p) p.fresh n i r (get_fresh es p n i among sum lt) known
@@ -105,7 +89,7 @@ pub with_fresh : (es : List (Entry Kept)) (p q : ItemChange Kept) (n i : ℕ) (r
 with_fresh es p q n i r among sum lt h same =
     let rear = drop (p.at + p.removed) es in
     let set : patched es (record p { fresh = slice_set p.fresh i h.item }) ≡ slice_set (patched es p) n h.item =
-    ap (λ l. take p.at es ++ l) (set_joined p.fresh rear i h.item lt) ∙ set_behind (take p.at es) (p.fresh ++ rear) p.at i n h.item (length-taken es p.at (omega (arith, among))) sum in
+    ap (λ l. take p.at es ++ l) (sym (set_front p.fresh rear i h.item lt)) ∙ set_behind (take p.at es) (p.fresh ++ rear) p.at i n h.item (sym (length-take-le p.at es (omega (arith, among)))) sum in
     record {
       old = h.old;
       was = get_fresh es p n i among sum lt ∙ h.was;
@@ -156,7 +140,7 @@ moved_fits h fits = omega (arith, fits)
 
 planned_below : (ks : List Kept) (ps : List Planned) → ArePlanned ks ps → AreBelow (length ks) (numbers_of ps)
 planned_below ks [] are = tt
-planned_below ks (p ∷ ps) are = (within ks p.item are.0.item are.0.at, planned_below ks ps are.2)
+planned_below ks (p ∷ ps) are = (slice_get_within ks p.item are.0.item are.0.at, planned_below ks ps are.2)
 
 -- no more than twice as many as there are
 pub moves_few : (g : Gapped (Entry Kept)) (p : ItemChange Kept) (ps : List Planned) (most : ℕ) → CanPut g p → ArePlanned (items.kept (patched g.list p)) ps → Ascending 0 (numbers_of ps) → g.seat ≤ length g.list → length g.list ≤ most

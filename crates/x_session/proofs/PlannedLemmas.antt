@@ -4,7 +4,7 @@ use Rattle.std.specs.Global.{Box}
 use Rattle.std.specs.Option.{option_or}
 use Rattle.std.specs.Prelude.{slice_get, slice_set}
 use Rattle.std.proofs.lemmas.Bool.{eq-eqb, eqb-true, ne_eqb, true≢false}
-use Rattle.std.proofs.lemmas.Option.{same_Some}
+use Rattle.std.proofs.lemmas.Option.{same_Some, slice_get_within}
 use Rattle.std.proofs.lemmas.List.{length-map}
 use Rattle.x_text.proofs.ListLemmas.{drop_one}
 use Rattle.x_item.specs.ItemList as items
@@ -105,11 +105,6 @@ own_left : (n : ℕ) (ks : List Kept) (ps : List Planned) (k : Kept) → slice_g
 own_left n ks ps k is none =
     let zero_on : 0 + n ≡ n = omega arith in
     overlaid_get 0 n ks ps k is ∙ ap (λ o. Some (option_or o (kept_found k))) (ap (λ a. planned_at a ps) zero_on ∙ none)
-
-pub within : {X : Type 0} (xs : List X) (n : ℕ) (x : X) → slice_get xs n ≡ Some x → n < length xs
-within [] n x is = absurd (cc)
-within (y ∷ xs) zero x is = omega arith
-within (y ∷ xs) (suc n) x is = let rest = within xs n x is in omega (arith, rest)
 
 kept_at : (es : List (Entry Kept)) (n : ℕ) (e : Entry Kept) → slice_get es n ≡ Some e → slice_get (items.kept es) n ≡ Some e.kept
 kept_at [] n e is = absurd (cc)
@@ -222,7 +217,7 @@ next_of olds all news left p h are =
 pub put_within : (olds : List (Entry Kept)) (all : List Planned) (news : List (Entry Kept)) (left : List Planned) (p : Planned) → ArePut olds all news (p ∷ left) → ArePlanned (items.kept olds) all → p.item < length news
 put_within olds all news left p h are =
     let next = next_of olds all news left p h are in
-    let lt = within (items.kept olds) p.item next.0.item next.0.at in
+    let lt = slice_get_within (items.kept olds) p.item next.0.item next.0.at in
     let l = length-map olds (λ e. e.kept) in
     let m = with_long olds (overlaid 0 (items.kept olds) h.done) news h.with in
     omega (arith, lt, l, m)
@@ -237,7 +232,7 @@ pub put_more : (olds : List (Entry Kept)) (all : List Planned) (news next : List
 put_more olds all news next left p h are put =
     let ks = items.kept olds in
     let here = next_of olds all news left p h are in
-    let lt = within ks p.item here.0.item here.0.at in
+    let lt = slice_get_within ks p.item here.0.item here.0.at in
     let set : overlaid 0 ks (h.done ++ p ∷ []) ≡ slice_set (overlaid 0 ks h.done) p.item (Some p.found) = last_set 0 p.item ks h.done p (omega arith) lt here.1 in
     let own = λ (e : Entry Kept) (is : slice_get olds p.item ≡ Some e). own_left p.item ks h.done e.kept (kept_at olds p.item e is) here.1 in
     record {
@@ -318,7 +313,7 @@ faults_own n (k ∷ ks) = ap (λ m. faults_with k (kept_found k) + m) (faults_ow
 pub faults_planned : (ks : List Kept) (p : Planned) (ps : List Planned) (k : Kept) → slice_get ks p.item ≡ Some k → planned_at p.item ps ≡ None
     → faults_found ks (overlaid 0 ks (p ∷ ps)) + faults_with k (kept_found k) ≡ faults_found ks (overlaid 0 ks ps) + faults_with k (Some p.found)
 faults_planned ks p ps k is none =
-    let lt = within ks p.item k is in
+    let lt = slice_get_within ks p.item k is in
     ap (λ rs. faults_found ks rs + faults_with k (kept_found k)) (overlaid_first p.item ks p ps refl lt)
     ∙ faults_set ks (overlaid 0 ks ps) p.item k (kept_found k) (Some p.found) is (own_left p.item ks ps k is none)
 
@@ -340,7 +335,7 @@ planned_here ks all n p are lt is =
     record { split = split; are = subst (ArePlanned ks) split (planned_drop ks all n are) }
 
 pub planned_within : (ks : List Kept) (all : List Planned) (n : ℕ) (p : Planned) → IsPlannedAt ks all n p → p.item < length ks
-planned_within ks all n p h = within ks p.item h.are.0.item h.are.0.at
+planned_within ks all n p h = slice_get_within ks p.item h.are.0.item h.are.0.at
 
 pub not_planned : (ks : List Kept) (all : List Planned) (n : ℕ) (p : Planned) → IsPlannedAt ks all n p → slice_get ks p.item ≡ None → ⊥
 not_planned ks all n p h none = no (sym h.are.0.at ∙ none)

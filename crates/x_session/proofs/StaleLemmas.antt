@@ -5,7 +5,7 @@ use Rattle.std.specs.List.{IsAmong, splice}
 use Rattle.std.specs.Option.{option_or}
 use Rattle.std.specs.Prelude.{option_and_then, slice_get, All, IfOk, Result, Ok, Err}
 use Rattle.std.proofs.lemmas.Bool.{eq-eqb, ne_eqb}
-use Rattle.std.proofs.lemmas.Option.{same_Some}
+use Rattle.std.proofs.lemmas.Option.{same_Some, slice_get_within}
 use Rattle.std.proofs.lemmas.List.{length-append, length-map}
 use Rattle.std.proofs.lemmas.List.Elements.{All-head, All-tail}
 use Rattle.x_text.specs.declared.source.TheConstants.{MAX_TEXT}
@@ -40,7 +40,7 @@ use Rattle.x_session.specs.declared.compile.kept.Planned.{Planned}
 use Rattle.x_session.specs.declared.following.naming.NameChange.{NameChange}
 use Rattle.x_session.proofs.ItemLemmas.{short_items}
 use Rattle.x_session.proofs.KeptLemmas.{definitions_kept}
-use Rattle.x_session.proofs.PlannedLemmas.{overlaid_get, rendered_planned, within}
+use Rattle.x_session.proofs.PlannedLemmas.{overlaid_get, rendered_planned}
 use Rattle.x_session.proofs.WorkLemmas.{definitions_splice}
 
 -- ---- one after another
@@ -318,7 +318,7 @@ short_fresh es p among short item d is =
     let put = entry_definitions p.fresh in
     let place : Place = record { at = p.at; removed = p.removed; added = length put } in
     let l = length-map es (λ (e : Entry Kept). kept_definition e.kept) in
-    let lt = within put item (Some d) is in
+    let lt = slice_get_within put item (Some d) is in
     let here : p.at + item - p.at ≡ item = omega arith in
     let at = spliced_fresh olds put place (p.at + item) (omega (arith, among, l)) refl (omega arith) (omega (arith, lt)) in
     short (p.at + item) d (ap (λ ds. slice_get ds (p.at + item)) (definitions_splice es p) ∙ at ∙ ap (slice_get put) here ∙ is)

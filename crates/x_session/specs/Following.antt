@@ -109,26 +109,22 @@ pub record IsPlan (change : Change) (ts : List (Kind × ℕ)) (es : List (Entry 
   pub checked : AreStaleChecked es p.items p.found.items
   pub count : p.faults ≡ faults_found (kept_behind es p.items) (behind es p.items p.found.items)
 
--- the plan fits these tokens and items, and there is room for it
-pub record CanCarryOut (ts : TokenList) (t : ItemTable) (p : Plan) : Type 0 where
-  pub tokens_among : tokens.LiesAmong ts.list p.tokens
-  pub token_room : tokens.HasRoom ts p.tokens
-  pub tokens_of_text : tokens.IsOfText (tokens.patched ts.list p.tokens)
-  pub items_among : items.LiesAmong t.entries.list p.items
-  pub item_room : items.HasRoom t.entries p.items
-  pub items_of_text : AreOfText (counts (items.patched t.entries.list p.items))
-  pub planned : ArePlanned (kept_behind t.entries.list p.items) p.found.items
-  pub ascending : Ascending 0 (numbers_of p.found.items)
-  pub names : IsNameChange t.entries.list p.items p.names
-  pub name_room : HasRoomForNames t.uses p.names
-
--- ---- while it is carried out
-
 -- the patch can be carried out in room that is there
 pub record CanPut (entries : Gapped (Entry Kept)) (p : ItemChange Kept) : Type 0 where
   pub among : items.LiesAmong entries.list p
   pub room : items.HasRoom entries p
   pub of_text : AreOfText (counts (items.patched entries.list p))
+
+-- the plan fits these tokens and items, and there is room for it
+pub record CanCarryOut (ts : TokenList) (t : ItemTable) (p : Plan) : Type 0 where
+  pub tokens_among : tokens.LiesAmong ts.list p.tokens
+  pub token_room : tokens.HasRoom ts p.tokens
+  pub tokens_of_text : tokens.IsOfText (tokens.patched ts.list p.tokens)
+  pub items : CanPut t.entries p.items
+  pub planned : ArePlanned (kept_behind t.entries.list p.items) p.found.items
+  pub ascending : Ascending 0 (numbers_of p.found.items)
+  pub names : IsNameChange t.entries.list p.items p.names
+  pub name_room : HasRoomForNames t.uses p.names
 
 -- the items that the patch will leave where it is still to be carried out, and else these
 abbrev pub whole : List (Entry Kept) → Option (ItemChange Kept) → List (Entry Kept)

@@ -52,8 +52,8 @@ abbrev pub unchanged_between : ℕ → List Changed → ℕ
 unchanged_between end [] = 0
 unchanged_between end (c ∷ cs) = (c.from - end) + unchanged_between c.to cs
 
--- How many entries move: those between the seat and the first that changes, and the unchanged ones between the
--- first and the last that change.
+-- How many entries move: those between the seat and the first that changes, and the unchanged ones between
+-- the first and the last that change.
 abbrev pub moves : ℕ → List Changed → ℕ
 moves seat [] = 0
 moves seat (c ∷ cs) = distance seat c.from c.to + unchanged_between c.to cs

@@ -1,4 +1,5 @@
-//! Laws of the definitions that the contracts of this crate speak of, each a function that does nothing and ensures the law.
+//! Laws of the definitions that the contracts of this crate speak of, each a function that does nothing and
+//! ensures the law.
 
 ghost use Rattle.std.specs.Prelude.{◌≡◌, ◌≤◌, ◌*◌, ℕ, List, length, sum_by};
 ghost use Rattle.x_text.specs.Edits.{Change, LiesWithin};
@@ -24,10 +25,10 @@ pub fn one_work()
         → (v ≡ w) × (d.token_seat ≡ e.token_seat) × (d.item_seat ≡ e.item_seat) }
 {}
 
-/// Edits near one another move few entries, however long the text is. At most `reach` tokens lie between those
-/// that an edit takes out and their seat, at most as many items between the first that it changes and theirs,
-/// and as many unchanged items between the first and the last that it changes; the seats are those that the
-/// edit before it left. Then at most three times as many entries move for each edit.
+/// Edits near one another move few entries, however long the text is. At most `reach` tokens lie between
+/// those that an edit takes out and their seat, at most as many items between the first that it changes and
+/// theirs, and as many unchanged items between the first and the last that it changes; the seats are those
+/// that the edit before it left. Then at most three times as many entries move for each edit.
 pub fn near_edits()
     ensures { (reach : ℕ) (old new : Document) (edits : List edit.Edit) (works : List Work)
         → AreNearWorks reach old edits works new

@@ -1,4 +1,5 @@
-ghost use Rattle.std.specs.Prelude.{◌≡◌, ◌↔◌, ◌<◌, [], Some, IsTrue, length, option_copied, slice_get, slice_set};
+ghost use Rattle.std.specs.Prelude.{◌≡◌, ◌↔◌, ◌<◌, [], Some, IsTrue, length};
+ghost use Rattle.std.specs.Prelude.{option_copied, slice_get, slice_set};
 
 use std::marker::Model;
 use std::mem;
@@ -94,7 +95,8 @@ impl<T> SeqPatch<T> {
         self.fresh
     }
 
-    /// Puts an entry in the place of the fresh one at `index`, counted from the first of them, and gives that one back.
+    /// Puts an entry in the place of the fresh one at `index`, counted from the first of them, and gives that
+    /// one back.
     pub fn exchange(&mut self, index: usize, new: T) -> T
         requires { index < length self.old.fresh }
         ensures out { slice_get self.old.fresh index ≡ Some result }

@@ -1,5 +1,6 @@
 //! What an edit does to the items of a text.
-ghost use Rattle.std.specs.Prelude.{◌≡◌, ◌<◌, ◌↔◌, [], Some, IsTrue, length, option_copied, slice_get, slice_set};
+ghost use Rattle.std.specs.Prelude.{◌≡◌, ◌<◌, ◌↔◌, [], Some, IsTrue, length};
+ghost use Rattle.std.specs.Prelude.{option_copied, slice_get, slice_set};
 ghost use Rattle.x_item.specs.ItemList.{counts, kept};
 
 use super::Entry;
@@ -72,7 +73,8 @@ impl<K> ItemPatch<K> {
         self.entries.get(index)
     }
 
-    /// Keeps this with the fresh item at `index`, counted from the first of them, and gives back what was kept with it.
+    /// Keeps this with the fresh item at `index`, counted from the first of them, and gives back what was kept
+    /// with it.
     pub fn exchange(&mut self, index: usize, new: K) -> K
         requires { index < length self.old.fresh }
         ensures out { slice_get (kept self.old.fresh) index ≡ Some result }

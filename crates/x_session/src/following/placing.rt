@@ -6,10 +6,10 @@ ghost use Rattle.x_text.specs.Seqs.{distance};
 ghost use Rattle.x_item.specs.ItemList.{counts, kept, patched};
 ghost use Rattle.x_uses.specs.Staleness.{Ascending};
 ghost use Rattle.x_session.specs.Checking.{IsKnownAt};
-ghost use Rattle.x_session.specs.Following.{CanPut, whole};
+ghost use Rattle.x_session.specs.Following.{CanPut, behind, kept_behind, whole};
 ghost use Rattle.x_session.specs.KeptView.{AreWith, IsWithAt};
 ghost use Rattle.x_session.specs.Moves.{HasMoved, changed_items, left_changes, moves, place_of, seat_behind};
-ghost use Rattle.x_session.specs.Planned.{ArePlanned, numbers_of, overlaid};
+ghost use Rattle.x_session.specs.Planned.{ArePlanned, numbers_of};
 
 use crate::compile::{Found, Kept, Planned};
 use x_item::{ItemPatch, Items};
@@ -18,10 +18,10 @@ use x_item::{ItemPatch, Items};
 /// the first that changes to the last. Answers how many entries moved. It takes no memory.
 pub fn put_changes(items: &mut Items<Kept>, patch: ItemPatch<Kept>, found: Vec<Planned>) -> u64
     requires patch { CanPut items.old patch }
-    requires planned { ArePlanned (kept (patched items.old.list patch)) found.items }
+    requires planned { ArePlanned (kept_behind items.old.list patch) found.items }
     requires ascending { Ascending 0 (numbers_of found.items) }
-    ensures items { AreWith (patched items.old.list patch)
-        (overlaid 0 (kept (patched items.old.list patch)) found.items) items.new.list }
+    ensures items { AreWith (patched items.old.list patch) (behind items.old.list patch found.items)
+        items.new.list }
     ensures moved { result ≡ moves items.old.seat (changed_items (place_of patch) (numbers_of found.items)) }
     ensures few { result ≤ 2 * (MAX_TEXT + 1) }
     ensures seat { items.new.seat ≡ seat_behind items.old.seat

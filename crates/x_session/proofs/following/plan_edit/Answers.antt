@@ -97,9 +97,11 @@ returns-clause-room c =
       tokens_among = subst (λ l. tokens.LiesAmong l patch) (sym c.in_ok-patch.ensures.list) c.in_ok-patch.ensures.patch.among;
       token_room = c.in_ok-patch.ensures.room;
       tokens_of_text = subst (λ l. tokens.IsOfText (tokens.patched l patch)) (sym c.in_ok-patch.ensures.list) c.in_ok-patch.ensures.of_text;
-      items_among = subst (λ l. items.LiesAmong l fresh) (sym same) c.in_ok-fresh.ensures.among;
-      item_room = subst (λ g. items.HasRoom g fresh) (sym c.in_ok-names.ensures.entries) c.in_ok-fresh.ensures.room;
-      items_of_text = subst (λ l. AreOfText (counts (items.patched l fresh))) (sym same) c.in_ok-fresh.ensures.of_text;
+      items = record {
+        among = subst (λ l. items.LiesAmong l fresh) (sym same) c.in_ok-fresh.ensures.among;
+        room = subst (λ g. items.HasRoom g fresh) (sym c.in_ok-names.ensures.entries) c.in_ok-fresh.ensures.room;
+        of_text = subst (λ l. AreOfText (counts (items.patched l fresh))) (sym same) c.in_ok-fresh.ensures.of_text;
+      };
       planned = c.in_ok-found.ensures.stale.planned;
       ascending = c.in_ok-found.ensures.stale.stale.ascend;
       names = subst (λ l. IsNameChange l fresh c.in_ok-names.names) (sym names) c.in_ok-names.ensures.change;

@@ -44,7 +44,7 @@ tokens_are : (c : After-of) → c.carry_out.new.tokens.list ≡ tokens.patched c
 tokens_are c = c.carry_out.ensures.tokens ∙ ap (λ l. tokens.patched l c.in-Ok.plan.tokens) c.in-Ok.ensures.tokens
 
 of_text : (c : After-of) → AreOfText (counts (items.patched c.self.inside.items.entries.list c.in-Ok.plan.items))
-of_text c = subst (λ l. AreOfText (counts (items.patched l c.in-Ok.plan.items))) c.in-Ok.ensures.items c.in-Ok.ensures.room.items_of_text
+of_text c = subst (λ l. AreOfText (counts (items.patched l c.in-Ok.plan.items))) c.in-Ok.ensures.items c.in-Ok.ensures.room.items.of_text
 
 turned : (c : After-of) → c.turn.new.self.text ≡ edited_by (change_of c.self.inside.texts.text c.args.edit.now)
 turned c = c.turn.ensures.text ∙ c.in_ok-prepare.ensures.ready
