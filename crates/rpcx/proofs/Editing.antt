@@ -3,7 +3,7 @@ use Rattle.std.proofs.Common.{◌≡◌, ℕ, Bool, true, false, List, Option, S
 use Rattle.std.specs.Prelude.{MatchOption}
 use Rattle.x_text.specs.Streams.{Stream}
 use Rattle.x_session.specs.Session.{Document}
-use Rattle.x_session.specs.Lines.{script_lines}
+use Rattle.x_lines.specs.Lines.{script_lines}
 use Rattle.x_session.specs.Script.{HasRun, Runs}
 use Rattle.x_text.specs.Engines.{is_refused}
 use Rattle.x_text.specs.declared.outcome.Outcome.{Outcome}

@@ -2,7 +2,7 @@
 use Rattle.std.specs.Prelude.{◌≡◌, ℕ, Bool, List, Option, Some, Err, if◌then◌else◌}
 use Rattle.x_text.specs.Streams.{Stream}
 use Rattle.x_session.specs.Session.{Document, IsOpenOf}
-use Rattle.x_session.specs.Lines.{script_lines}
+use Rattle.x_lines.specs.Lines.{script_lines}
 use Rattle.x_session.specs.Script.{HasRun, Runs}
 use Rattle.x_text.specs.declared.outcome.EngineFault.{EngineFault}
 use Rattle.rpcx.specs.declared.program.status.Status.{Status}

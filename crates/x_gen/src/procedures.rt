@@ -15,7 +15,7 @@ use crate::c_types::{CType, argument_type, own, passed_type};
 use itoa::Buffer;
 use std::alloc::Global;
 use x_item::{Argument, Procedure, Version};
-use x_schema::number_value;
+use x_numbers::number_value;
 use x_text::NoMemory;
 
 /// A letter in lower case.

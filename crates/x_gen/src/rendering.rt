@@ -17,7 +17,7 @@ use crate::types::{NamedBody, types_of};
 use crate::{header, program_header, routines, table};
 use std::alloc::Global;
 use x_item::Definition;
-use x_sema::Checked;
+use x_rules::Checked;
 use x_text::NoMemory;
 
 /// Adds the forward lines of types.

@@ -1,5 +1,6 @@
 -- The tree of a definition of the program.
-use Rattle.std.specs.Prelude.{List, [], ◌∷◌, Option, Some, None, map}
+use Rattle.std.specs.Prelude.{List, [], ◌∷◌, Option, Some, None, map, option_map}
+use Rattle.std.specs.Borrow.{Bor}
 use Rattle.x_item.specs.Tree as tree
 use Rattle.x_item.specs.declared.trees.value.Value.{Value}
 use Rattle.x_item.specs.declared.trees.value.Value.TheVariants as values
@@ -116,3 +117,7 @@ view_definition (definitions.Const name value) = tree.Const name.items (view_val
 view_definition (definitions.Typedef d) = tree.Typedef (view_declaration d.value)
 view_definition (definitions.NewType name body) = tree.NewType name.items (view_body body)
 view_definition (definitions.Program name versions number) = tree.Program name.items (map view_version versions.items) number.items
+
+-- the tree of a definition that is lent, if there is one
+abbrev pub tree_at : Option (Bor Definition) → Option tree.Definition
+tree_at definition = option_map (λ d. view_definition d.now) definition

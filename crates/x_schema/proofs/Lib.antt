@@ -1,6 +1,4 @@
-pub mod Digits
 pub mod KeyedTables
-pub mod Lookups
 pub mod MakerArms
 pub mod MakerForms
 pub mod MakerItems

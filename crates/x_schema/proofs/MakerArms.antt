@@ -4,7 +4,7 @@ use Rattle.std.proofs.lemmas.Bool.Decides.{nat_tests}
 use Rattle.std.specs.Map.{lookup}
 use Rattle.x_item.specs.Tree as tree
 use Rattle.x_schema.specs.Choices.{Choice, or_default}
-use Rattle.x_schema.specs.Numbers.{next_number}
+use Rattle.x_numbers.specs.Numbers.{next_number}
 use Rattle.x_schema.specs.Schema.{Schema, form_at, name_at}
 use Rattle.x_schema.specs.SchemaOf.{Known, Numbers, AreArms, IsBody, IsDefault, IsEnum, number_in, case_word, if_legal, word_by, signed_word, unsigned_word, enum_form, number_given, typedefs_inside, typedefs_of, typedefs_of_arms, typedefs_of_default, union_form, with_cases, with_word, words_from}
 use Rattle.x_schema.specs.SchemaMaking.{Completes, IsGood, Puts, PutsAll, PutsPlace, AddsName, AddsForm, AreSoundCases, AreSoundWords, IsSoundDefault, words_named}

@@ -19,7 +19,7 @@ use Rattle.x_schema.specs.declared.maker.Link.{Link}
 use Rattle.x_schema.specs.declared.maker.Link.TheVariants as links
 use Rattle.x_schema.specs.declared.maker.Maker.{Maker}
 use Rattle.x_schema.specs.declared.schema.NamedType.{NamedType}
-use Rattle.x_schema.proofs.Lookups.{lookup_more}
+use Rattle.x_numbers.proofs.Lookups.{lookup_more}
 use Rattle.x_schema.proofs.ProcedureLemmas.{kept_found}
 use Rattle.x_schema.proofs.MakerSteps.{and_then, put_as, puts_none, puts_found, front_get, front_same, good_same, named_long, names_same}
 use Rattle.x_schema.proofs.MakerForms.{some_schema, some_completes, named_within, void_there}

@@ -1,6 +1,4 @@
 pub mod Choices
-pub mod Definitions
-pub mod Numbers
 pub mod ProcedureMaking
 pub mod ProceduresOf
 pub mod Schema

@@ -13,7 +13,7 @@ use Rattle.x_item.specs.declared.names.mention.Use.{Use}
 use Rattle.x_item.specs.declared.names.mention.Use.TheVariants as uses
 use Rattle.x_item.specs.declared.trees.declaration.Basic.{Basic}
 use Rattle.x_item.specs.declared.trees.declaration.Basic.TheVariants as basics
-use Rattle.x_schema.specs.Numbers.{next_number, number_spelled}
+use Rattle.x_numbers.specs.Numbers.{next_number, number_spelled}
 use Rattle.x_schema.specs.Choices.{Choice}
 use Rattle.x_schema.specs.Schema.{Schema, form_at, name_at, target_at}
 use Rattle.x_schema.specs.Sound.{is_legal}

@@ -5,7 +5,7 @@ ghost use Rattle.std.specs.Map.{lookup};
 ghost use Rattle.std.specs.Str.{bytes_eq};
 ghost use Rattle.x_item.specs.View.{view_value, view_most, view_enumerator, view_type, view_body, view_union};
 ghost use Rattle.x_item.specs.View.{view_declaration, view_declarations, view_arms, view_default, view_definition};
-ghost use Rattle.x_schema.specs.Definitions.{tree_at};
+ghost use Rattle.x_item.specs.View.{tree_at};
 ghost use Rattle.x_schema.specs.SchemaOf.{beforehand, number_in, number_given, numbers_of, size_in, limit_in};
 ghost use Rattle.x_schema.specs.SchemaOf.{with_number, with_enumerators, with_type};
 ghost use Rattle.x_schema.specs.SchemaOf.{with_body, with_declaration};
@@ -13,7 +13,7 @@ ghost use Rattle.x_schema.specs.SchemaOf.{with_declarations, with_arms, with_def
 ghost use Rattle.x_schema.specs.SchemaOf.{signed_word, unsigned_word, with_first};
 ghost use Rattle.x_schema.specs.SchemaTables.{numbers_held};
 
-use crate::number::{next_number, number_value};
+use x_numbers::{next_number, number_value};
 use indexmap::IndexMap;
 use std::alloc::Global;
 use x_item::{Arm, Body, DataType, Declaration, Definition, Enumerator, UnionBody, Value};

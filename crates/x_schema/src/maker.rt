@@ -25,7 +25,7 @@ ghost use Rattle.x_schema.specs.SchemaMaking.{PutsAll, PutsPlace, PutsLink};
 ghost use Rattle.x_schema.specs.SchemaMaking.{AreSoundCases, AreSoundWords, IsSoundDefault, IsStart};
 ghost use Rattle.x_schema.specs.SchemaMaking.{FindsItem, FindsItems, TakesFound, with_found};
 ghost use Rattle.x_schema.specs.SchemaMaking.{names_made, place_linked, words_named, view_known};
-ghost use Rattle.x_schema.specs.Definitions.{tree_at};
+ghost use Rattle.x_item.specs.View.{tree_at};
 ghost use Rattle.std.specs.Map.{lookup};
 ghost use Rattle.std.specs.Str.{bytes_eq};
 ghost use Rattle.x_schema.specs.declared.form.Form.TheVariants as forms;
@@ -33,7 +33,7 @@ ghost use Rattle.x_schema.specs.Sound.{AreSoundFields, IsSoundArm, IsSoundField,
 
 use crate::constants::{Constants, signed_word, unsigned_word};
 use crate::form::{Arm, Arms, Enumerators, Field, Form, FormIndex, LinkIndex, NameIndex};
-use crate::number::next_number;
+use x_numbers::next_number;
 use crate::schema::{NamedType, Schema};
 use indexmap::IndexMap;
 use std::alloc::Global;

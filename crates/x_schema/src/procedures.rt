@@ -2,7 +2,7 @@
 ghost use Rattle.std.specs.Prelude.{◌≡◌, ◌∷◌, [], Some, map, IfOk, OnOk};
 ghost use Rattle.std.specs.List.{flat_map};
 ghost use Rattle.x_item.specs.View.{view_argument, view_definition, view_passed, view_procedure, view_type, view_version};
-ghost use Rattle.x_schema.specs.Definitions.{tree_at};
+ghost use Rattle.x_item.specs.View.{tree_at};
 ghost use Rattle.x_schema.specs.ProceduresOf.{AreArguments, IsArgument, IsArgumentField};
 ghost use Rattle.x_schema.specs.ProceduresOf.{IsPassed, IsPassedType};
 ghost use Rattle.x_schema.specs.ProceduresOf.{IsProcedure, number_of, numbers_by, numbers_from};
@@ -15,7 +15,7 @@ ghost use Rattle.x_schema.specs.SchemaMaking.{AddsName, view_known};
 use crate::constants::unsigned_word;
 use crate::form::{Field, Form, FormIndex, NameIndex};
 use crate::maker::{Known, Maker, basic_form};
-use crate::number::number_value;
+use x_numbers::number_value;
 use crate::procedure::{KeptProcedure, ProcedureNumbers};
 use indexmap::IndexMap;
 use itoa::Buffer;

@@ -1,28 +1,14 @@
-//! Names and rules: who declares each name first ([`Names`]), what an item sees of a name ([`View`]), and what is wrong with a
-//! definition beyond its spelling, and what its names mean ([`check_item`]).
+//! What the definitions of a text mean: who declares each name first, what is wrong with a definition beyond its spelling and
+//! what its names mean (`x_rules`), the types that values are read by (`x_schema`), and the numbers of spellings (`x_numbers`).
 #![tactic(auto)]
 
-mod check;
-mod checked;
-mod fault;
-mod laws;
-mod names;
-mod numbers;
-mod outline;
-mod rules;
-mod views;
-
-pub use check::{check_item, check_outline};
-pub use checked::Checked;
-pub use fault::{RULE_TEXTS, RuleCode, WordFault};
-pub use laws::{
-    has_results, one_first_declarer, one_list_of_faults, one_list_of_results, one_outcome,
+pub use x_numbers::number_value;
+pub use x_rules::{
+    Checked, Class, Declarer, MOST_HEIGHT, Meaning, Names, Numbers, Outline, RULE_TEXTS, RuleCode,
+    View, WordFault, check_item, check_outline, has_results, is_beforehand, one_first_declarer,
+    one_list_of_faults, one_list_of_results, one_outcome,
 };
-pub use names::{Declarer, Names, is_beforehand};
-pub use numbers::Numbers;
-pub use outline::Outline;
-pub use views::{Class, MOST_HEIGHT, Meaning, View};
 pub use x_schema::{
     Arm, Arms, Enumerators, Field, Form, FormIndex, LinkIndex, NameIndex, Procedure,
-    ProcedureNumbers, Root, Schema, TypeId, number_value,
+    ProcedureNumbers, Root, Schema, TypeId,
 };

@@ -11,18 +11,18 @@ use Rattle.x_item.specs.Collected.{view_mention}
 use Rattle.x_item.specs.declared.names.declared_name.DeclaredName.{DeclaredName}
 use Rattle.x_item.specs.declared.names.mention.Mention as rust
 use Rattle.x_item.specs.declared.names.declared_name.NameKind.TheVariants as kinds
-use Rattle.x_sema.specs.Views.{View, Earlier, names_of}
-use Rattle.x_sema.specs.Declarers.{IsShort, AreShort, is_beforehand, FirstIs}
-use Rattle.x_sema.specs.declared.names.Declarer.{Declarer}
-use Rattle.x_sema.specs.Results.{Outcome, IsOutcome, IsResult, AreResults, AreResultsFrom, result_at, view_of, view_by, beforehand_meaning}
-use Rattle.x_sema.specs.declared.fault.WordFault.{WordFault}
+use Rattle.x_rules.specs.Views.{View, Earlier, names_of}
+use Rattle.x_rules.specs.Declarers.{IsShort, AreShort, is_beforehand, FirstIs}
+use Rattle.x_rules.specs.declared.names.Declarer.{Declarer}
+use Rattle.x_rules.specs.Results.{Outcome, IsOutcome, IsResult, AreResults, AreResultsFrom, result_at, view_of, view_by, beforehand_meaning}
+use Rattle.x_rules.specs.declared.fault.WordFault.{WordFault}
 use Rattle.x_gen.specs.Pieces.{Pieces}
 use Rattle.x_gen.specs.Rendering.{pieces_of}
-use Rattle.x_sema.proofs.DeclarerLaws.{as_found}
-use Rattle.x_sema.proofs.HasResults.{stays_result, agree_front}
+use Rattle.x_rules.proofs.DeclarerLaws.{as_found}
+use Rattle.x_rules.proofs.HasResults.{stays_result, agree_front}
 use Rattle.x_text.proofs.ListLemmas.{drop_one, get_at, take_next}
-use Rattle.x_sema.proofs.OutlineLemmas.{map_map}
-use Rattle.x_sema.proofs.ResultLaws.{AgreeBefore}
+use Rattle.x_rules.proofs.OutlineLemmas.{map_map}
+use Rattle.x_rules.proofs.ResultLaws.{AgreeBefore}
 use Rattle.x_text.proofs.Listing.{mapped_one}
 use Rattle.std.specs.Global.{Box}
 use Rattle.std.specs.Prelude.{is_some, option_map, slice_get}

@@ -5,7 +5,7 @@ use Rattle.std.specs.Borrow.{Bor}
 use Rattle.std.specs.Prelude.{slice_get, option_and_then}
 use Rattle.std.specs.Option.{is_some}
 use Rattle.x_item.specs.declared.trees.definition.Definition as rust
-use Rattle.x_schema.specs.Definitions.{tree_at}
+use Rattle.x_item.specs.View.{tree_at}
 use Rattle.std.specs.List.{flat_map}
 use Rattle.x_text.specs.Writing.{Inked, Adds}
 use Rattle.x_lex.specs.declared.kind.Kind.{Kind}

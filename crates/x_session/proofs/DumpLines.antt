@@ -10,7 +10,7 @@ use Rattle.x_session.specs.LineAnswers.{within, shows}
 use Rattle.x_session.specs.Script.{IsGiven, IsTold, LineAnswers}
 use Rattle.x_session.specs.Session.{Compiles, Document}
 use Rattle.x_session.specs.Showing.{IsDumpAnswer}
-use Rattle.x_session.specs.declared.script.lines.TheConstants.{LONGEST}
+use Rattle.x_lines.specs.declared.lines.TheConstants.{LONGEST}
 
 -- what was told of a value is the answer to the line
 pub dump_given : (old : Document) (line name message : List ℕ) (p q : Inked) (now now' : Stream) (r : Result Bool NoMemory) → length line ≤ LONGEST

@@ -6,8 +6,8 @@ use Rattle.x_lex.specs.Places.{Lexeme}
 use Rattle.x_item.specs.Words.{is_significant}
 use Rattle.x_item.specs.Parse.{Parse, Nothing, Def, Fault}
 use Rattle.x_item.specs.declared.cutting.entry.Entry.{Entry}
-use Rattle.x_sema.specs.Rules.{Ascends, IsBefore}
-use Rattle.x_sema.specs.declared.fault.WordFault.{WordFault}
+use Rattle.x_rules.specs.Rules.{Ascends, IsBefore}
+use Rattle.x_rules.specs.declared.fault.WordFault.{WordFault}
 use Rattle.x_session.specs.Compile.{at_token, faults_at, faults_from, item_faults, placed, start_of, token_of_word}
 use Rattle.x_session.specs.FaultWalk.{AreOrdered, IsToldBy, fault_at, faults_here, faults_left, places_left, rule_at}
 use Rattle.x_session.specs.KeptView.{item_with, items_with}

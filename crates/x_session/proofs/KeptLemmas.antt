@@ -14,10 +14,10 @@ use Rattle.x_item.specs.ItemList as items
 use Rattle.x_item.specs.Tree.{Definition}
 use Rattle.x_item.specs.Parse.{Parse, Nothing, Def, Fault, IsParse}
 use Rattle.x_item.specs.declared.cutting.entry.Entry.{Entry}
-use Rattle.x_sema.specs.Results.{Outcome, AreResultsFrom, AreResults, IsResult, result_at}
-use Rattle.x_sema.specs.Declarers.{AreShort}
-use Rattle.x_sema.specs.Rules.{Ascends}
-use Rattle.x_sema.specs.declared.fault.WordFault.{WordFault}
+use Rattle.x_rules.specs.Results.{Outcome, AreResultsFrom, AreResults, IsResult, result_at}
+use Rattle.x_rules.specs.Declarers.{AreShort}
+use Rattle.x_rules.specs.Rules.{Ascends}
+use Rattle.x_rules.specs.declared.fault.WordFault.{WordFault}
 use Rattle.x_gen.specs.Pieces.{Pieces}
 use Rattle.x_gen.specs.Rendering.{pieces_of}
 use Rattle.x_uses.specs.Occurrences.{IsUsesOf, UseTable}

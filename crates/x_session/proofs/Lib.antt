@@ -12,17 +12,12 @@ pub mod FreshLemmas
 pub mod ItemLemmas
 pub mod KeepingLemmas
 pub mod KeptLemmas
-pub mod LineLemmas
 pub mod LookLemmas
 pub mod MoveLemmas
-pub mod Parting
 pub mod PlacingLemmas
 pub mod PlannedLemmas
-pub mod QueueLemmas
-pub mod ReadingLemmas
 pub mod Running
 pub mod Scripts
-pub mod SearchLemmas
 pub mod ShowingLemmas
 pub mod StaleLemmas
 pub mod TableLemmas

@@ -9,7 +9,7 @@ use Rattle.std.proofs.lemmas.List.{length-map}
 use Rattle.x_text.proofs.ListLemmas.{drop_one}
 use Rattle.x_item.specs.ItemList as items
 use Rattle.x_item.specs.declared.cutting.entry.Entry.{Entry}
-use Rattle.x_sema.specs.declared.fault.WordFault.{WordFault}
+use Rattle.x_rules.specs.declared.fault.WordFault.{WordFault}
 use Rattle.x_gen.specs.Pieces.{Pieces}
 use Rattle.x_session.specs.Checking.{AreRendered, IsKnownAt, IsSound, sound_pieces}
 use Rattle.x_session.specs.Compile.{parsed_definition}

@@ -7,10 +7,10 @@ use Rattle.x_text.proofs.Pens.{writes_none, all_written, counted_all, front_writ
 use Rattle.x_session.specs.Session.{Document, LeavesText}
 use Rattle.x_session.specs.Answers.{Answer}
 use Rattle.x_session.specs.LineAnswers.{IsLineAnswer}
-use Rattle.x_session.specs.Lines.{Reading, IsUnread, script_lines}
+use Rattle.x_lines.specs.Lines.{Reading, IsUnread, script_lines}
 use Rattle.x_lex.specs.declared.kind.Kind.{Kind}
 use Rattle.x_session.specs.Compile.{Item, IsCompilation}
-use Rattle.x_session.specs.declared.script.lines.State.TheVariants.{Between}
+use Rattle.x_lines.specs.declared.lines.State.TheVariants.{Between}
 use Rattle.x_session.specs.Script.{then_answer, LineAnswers, AreAnswered, IsGiven, HasGiven, IsAsBefore, HasRun, HasStopped, HasFailed, IsFrontOf, AddsIfFound}
 use Rattle.x_text.specs.Engines.{WorksOn}
 use Rattle.x_session.proofs.Scripts.{answered_more}

@@ -4,14 +4,14 @@ use Rattle.std.specs.Prelude.{MatchResult}
 use Rattle.std.specs.Io.KnownBytes.{Consumes, IsAtEnd}
 use Rattle.x_session.specs.Answers.{Answer}
 use Rattle.x_session.specs.Script.{then_answer, LineAnswers, AreAnswered, HasGiven}
-use Rattle.x_session.specs.declared.script.lines.Found.{Found}
-use Rattle.x_session.specs.declared.script.lines.Found.TheVariants.{Line, TooLong, End}
-use Rattle.x_session.specs.declared.script.lines.State.{State}
-use Rattle.x_session.specs.declared.script.lines.State.TheVariants.{Ended}
-use Rattle.x_session.specs.declared.script.lines.LineFault.{LineFault}
-use Rattle.x_session.specs.declared.script.lines.LineFault.TheVariants.{Read, NoMemory}
-use Rattle.x_session.specs.Lines.{Reading, IsUnread, Advances, Tells, HasNoLine, IsNextLine, AreFeeds, StopsBehind, script_lines, whole_lines}
-use Rattle.x_session.proofs.LineLemmas.{given_line, given_whole_line, given_none, given_end}
+use Rattle.x_lines.specs.declared.lines.Found.{Found}
+use Rattle.x_lines.specs.declared.lines.Found.TheVariants.{Line, TooLong, End}
+use Rattle.x_lines.specs.declared.lines.State.{State}
+use Rattle.x_lines.specs.declared.lines.State.TheVariants.{Ended}
+use Rattle.x_lines.specs.declared.lines.LineFault.{LineFault}
+use Rattle.x_lines.specs.declared.lines.LineFault.TheVariants.{Read, NoMemory}
+use Rattle.x_lines.specs.Lines.{Reading, IsUnread, Advances, Tells, HasNoLine, IsNextLine, AreFeeds, StopsBehind, script_lines, whole_lines}
+use Rattle.x_lines.proofs.LineLemmas.{given_line, given_whole_line, given_none, given_end}
 
 or_assoc : (a b c : Bool) → (a || b || c) ≡ (a || (b || c))
 or_assoc false b c = refl

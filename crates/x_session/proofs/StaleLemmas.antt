@@ -19,10 +19,10 @@ use Rattle.x_item.specs.ItemList.{AreOfText, ItemChange, LiesAmong, counts, patc
 use Rattle.x_item.specs.Tree.{Definition}
 use Rattle.x_item.specs.declared.cutting.entry.Entry.{Entry}
 use Rattle.x_item.proofs.PatchedLemmas.{get_drop}
-use Rattle.x_sema.specs.Declarers.{AreShort}
-use Rattle.x_sema.specs.Results.{AreResults, AreResultsFrom, Outcome, result_at}
-use Rattle.x_sema.specs.Views.{names_of}
-use Rattle.x_sema.proofs.AmongLemmas.{among_first, among_more}
+use Rattle.x_rules.specs.Declarers.{AreShort}
+use Rattle.x_rules.specs.Results.{AreResults, AreResultsFrom, Outcome, result_at}
+use Rattle.x_rules.specs.Views.{names_of}
+use Rattle.x_rules.proofs.AmongLemmas.{among_first, among_more}
 use Rattle.x_uses.specs.Editing.{IsEdit, definition_at, definitions_after, edit_at, old_number, old_result}
 use Rattle.x_uses.specs.Occurrences.{IsSameTable, IsUsesOf, UseTable}
 use Rattle.x_uses.specs.Staleness.{AreStale, Ascending, IsOutdated, IsRecheck, new_result}

@@ -24,8 +24,8 @@ use Rattle.x_item.specs.Items.{IsCut}
 use Rattle.x_item.specs.Recut.{EndsBefore, IsAmong, IsBehind, IsItemPatch, IsRecut, IsRejoining, start_of}
 use Rattle.x_item.specs.declared.cutting.entry.Entry.{Entry}
 use Rattle.x_item.proofs.CountLemmas.{counts-splice}
-use Rattle.x_sema.specs.Results.{Outcome}
-use Rattle.x_sema.proofs.AmongLemmas.{among_first, among_more}
+use Rattle.x_rules.specs.Results.{Outcome}
+use Rattle.x_rules.proofs.AmongLemmas.{among_first, among_more}
 use Rattle.x_uses.specs.Editing.{TextEdit, definitions_after}
 use Rattle.x_uses.specs.Occurrences.{UseTable}
 use Rattle.x_uses.specs.Staleness.{AreStale, Ascending}

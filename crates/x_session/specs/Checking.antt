@@ -4,11 +4,11 @@ use Rattle.std.specs.Global.{Box}
 use Rattle.x_text.specs.Counts.{Counts, raised}
 use Rattle.x_item.specs.Tree.{Definition}
 use Rattle.x_item.specs.declared.names.declared_name.NameKind.TheVariants as kinds
-use Rattle.x_sema.specs.Views.{View, Earlier}
-use Rattle.x_sema.specs.Declarers.{IsShort, is_beforehand}
-use Rattle.x_sema.specs.Results.{AreResults, Outcome, beforehand_meaning, view_of}
-use Rattle.x_sema.specs.declared.fault.WordFault.{WordFault}
-use Rattle.x_sema.specs.declared.names.Declarer.{Declarer}
+use Rattle.x_rules.specs.Views.{View, Earlier}
+use Rattle.x_rules.specs.Declarers.{IsShort, is_beforehand}
+use Rattle.x_rules.specs.Results.{AreResults, Outcome, beforehand_meaning, view_of}
+use Rattle.x_rules.specs.declared.fault.WordFault.{WordFault}
+use Rattle.x_rules.specs.declared.names.Declarer.{Declarer}
 use Rattle.x_gen.specs.Pieces.{Pieces}
 use Rattle.x_gen.specs.Rendering.{pieces_of}
 use Rattle.x_session.specs.Compile.{rule_faults}

@@ -9,8 +9,8 @@ use Rattle.x_item.specs.Words.{is_significant}
 use Rattle.x_item.specs.Tree.{Definition}
 use Rattle.x_item.specs.Parse.{Parse, Nothing, Def, Fault, IsParse}
 use Rattle.x_item.specs.Items.{AreItems, joined}
-use Rattle.x_sema.specs.Results.{Outcome, AreResults}
-use Rattle.x_sema.specs.declared.fault.WordFault.{WordFault}
+use Rattle.x_rules.specs.Results.{Outcome, AreResults}
+use Rattle.x_rules.specs.declared.fault.WordFault.{WordFault}
 use Rattle.x_session.specs.declared.compile.fault.FaultCode.TheVariants as codes
 use Rattle.x_session.specs.declared.compile.fault.TokenFault.{TokenFault}
 use Rattle.x_session.specs.declared.compile.fault as rust

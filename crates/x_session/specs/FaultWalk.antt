@@ -4,8 +4,8 @@ use Rattle.x_text.specs.Text.{line_of, column_of}
 use Rattle.x_item.specs.declared.cutting.entry.Entry.{Entry}
 use Rattle.x_item.specs.Parse as parse
 use Rattle.x_item.specs.Parse.{Parse}
-use Rattle.x_sema.specs.Rules.{Ascends}
-use Rattle.x_sema.specs.declared.fault.WordFault.{WordFault}
+use Rattle.x_rules.specs.Rules.{Ascends}
+use Rattle.x_rules.specs.declared.fault.WordFault.{WordFault}
 use Rattle.x_session.specs.Compile.{faults_from, rule_faults, start_of}
 use Rattle.x_session.specs.KeptView.{found_result, items_with, kept_found}
 use Rattle.x_session.specs.ItemReading.{ItemReading, behind, place_of, unread}

@@ -1,7 +1,7 @@
 -- The numbers and names of faults.
 use Rattle.std.specs.Prelude.{ℕ, List}
 use Rattle.x_item.specs.FaultTexts as syntax
-use Rattle.x_sema.specs.RuleTexts.{rule_text}
+use Rattle.x_rules.specs.RuleTexts.{rule_text}
 use Rattle.x_session.specs.declared.compile.fault.FaultCode.{FaultCode}
 use Rattle.x_session.specs.declared.compile.fault.FaultCode.TheVariants.{Syntax, Rule}
 

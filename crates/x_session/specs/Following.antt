@@ -14,8 +14,8 @@ use Rattle.x_item.specs.ItemList as items
 use Rattle.x_item.specs.ItemList.{AreOfText, ItemChange, counts}
 use Rattle.x_item.specs.Recut.{IsRelexed, IsItemPatch}
 use Rattle.x_item.specs.declared.cutting.entry.Entry.{Entry}
-use Rattle.x_sema.specs.Declarers.{AreShort}
-use Rattle.x_sema.specs.Results.{AreResults}
+use Rattle.x_rules.specs.Declarers.{AreShort}
+use Rattle.x_rules.specs.Results.{AreResults}
 use Rattle.x_uses.specs.Editing.{TextEdit}
 use Rattle.x_uses.specs.Occurrences.{HasRoomFor, IsUsesOf, UseTable}
 use Rattle.x_uses.specs.Staleness.{AreStale, Ascending}

@@ -8,8 +8,8 @@ use Rattle.x_item.specs.Parse.{IsParse}
 use Rattle.x_item.specs.Parse as parse
 use Rattle.x_item.specs.View.{view_definition}
 use Rattle.x_item.specs.declared.cutting.entry.Entry.{Entry}
-use Rattle.x_sema.specs.Results.{Outcome}
-use Rattle.x_sema.specs.declared.fault.WordFault.{WordFault}
+use Rattle.x_rules.specs.Results.{Outcome}
+use Rattle.x_rules.specs.declared.fault.WordFault.{WordFault}
 use Rattle.x_gen.specs.Pieces as pieces
 use Rattle.x_session.specs.Compile as compile
 use Rattle.x_session.specs.Compile.{parsed_definition}

@@ -11,7 +11,6 @@ pub mod Generated
 pub mod ItemReading
 pub mod KeptView
 pub mod LineAnswers
-pub mod Lines
 pub mod Moves
 pub mod Planned
 pub mod Rendered

@@ -4,7 +4,7 @@ use Rattle.x_session.specs.Answers.{Answer, answer, refused}
 use Rattle.x_session.specs.Commands.{command_of, dump_asked}
 use Rattle.x_session.specs.Compile.{Item}
 use Rattle.x_session.specs.Showing.{IsDumpAnswer}
-use Rattle.x_session.specs.declared.script.lines.TheConstants.{LONGEST}
+use Rattle.x_lines.specs.declared.lines.TheConstants.{LONGEST}
 
 -- A line is answered so, over a text that has these items: it may ask to show a value, or be any other command; or it is too long.
 pub data IsLineAnswer (base text : List ℕ) (items : List Item) (line : List ℕ) (a : Answer) : Type 0 where

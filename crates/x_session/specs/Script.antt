@@ -5,13 +5,13 @@ use Rattle.x_text.specs.Writing.{Inked, Adds, HasFront, counted}
 use Rattle.x_session.specs.Session.{Document, LeavesText, Compiles}
 use Rattle.x_session.specs.Answers.{Answer}
 use Rattle.x_session.specs.LineAnswers.{IsLineAnswer}
-use Rattle.x_session.specs.declared.script.lines.LineFault.{LineFault}
-use Rattle.x_session.specs.declared.script.lines.State.TheVariants.{Ended}
+use Rattle.x_lines.specs.declared.lines.LineFault.{LineFault}
+use Rattle.x_lines.specs.declared.lines.State.TheVariants.{Ended}
 use Rattle.x_text.specs.declared.outcome.Outcome.{Outcome}
 use Rattle.x_text.specs.Engines.{is_refused}
 use Rattle.x_text.specs.declared.outcome.EngineFault.{EngineFault}
 use Rattle.x_text.specs.declared.outcome.EngineFault.TheVariants.{Read, Write, NoMemory}
-use Rattle.x_session.specs.Lines.{Reading, IsUnread, StopsBehind, script_lines, whole_lines}
+use Rattle.x_lines.specs.Lines.{Reading, IsUnread, StopsBehind, script_lines, whole_lines}
 use Rattle.std.specs.Io.KnownBytes.{Appends, Consumes}
 
 -- one answer behind another

@@ -5,8 +5,8 @@ use Rattle.x_lex.specs.declared.kind.Kind.{Kind}
 use Rattle.x_lex.specs.Tiling.{AreTokens}
 use Rattle.x_lex.specs.Places.{lexemes}
 use Rattle.x_item.specs.declared.cutting.entry.Entry.{Entry}
-use Rattle.x_sema.specs.Declarers.{AreShort}
-use Rattle.x_sema.specs.Results.{AreResults}
+use Rattle.x_rules.specs.Declarers.{AreShort}
+use Rattle.x_rules.specs.Results.{AreResults}
 use Rattle.x_uses.specs.Occurrences.{IsUsesOf, UseTable}
 use Rattle.x_session.specs.Checking.{IsSound}
 use Rattle.x_session.specs.Compile.{Item, faults_of}

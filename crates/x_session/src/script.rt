@@ -5,24 +5,22 @@ ghost use Rattle.x_text.specs.Edits.{change_of};
 ghost use Rattle.x_text.specs.Writing.{Adds};
 ghost use Rattle.x_session.specs.Session.{Compiles};
 ghost use Rattle.x_session.specs.Answers.{answer, edit_answer};
-ghost use Rattle.x_session.specs.declared.script.lines.TheConstants.{LONGEST};
+ghost use Rattle.x_lines.specs.declared.lines.TheConstants.{LONGEST};
 ghost use Rattle.x_session.specs.Script.{AddsIfFound, IsGiven, LineAnswers, HasGiven, GoesOn, Runs};
 ghost use Rattle.x_text.specs.Engines.{NamesCause, is_refused};
-ghost use Rattle.x_session.specs.Lines.{FailsBy};
+ghost use Rattle.x_lines.specs.Lines.{FailsBy};
 
 mod answer;
-mod byte_queue;
 mod command;
-mod lines;
 mod showing;
 
 use crate::Session;
 pub use answer::add_place;
 use answer::{add_counted, add_definitions, add_faults, add_text, add_tokens};
 pub use command::{Command, Insert, dump_words, parse_command};
-pub use lines::{Found, LONGEST, LineFault, LineReader};
 use showing::answer_dump;
 use std::alloc::Global;
+use x_lines::{Found, LineFault, LineReader};
 use x_text::{Edit, EngineFault, NoMemory, Outcome, Pen, Sink, Tap, TextFault};
 
 /// Carries out the script that a tap gives, line by line, and writes the answer to each line before it carries out the next.

@@ -1,5 +1,5 @@
 ghost use Rattle.std.specs.Prelude.{◌≡◌, length, IfOk, IfSome};
-ghost use Rattle.x_session.specs.Lines.{script_lines};
+ghost use Rattle.x_lines.specs.Lines.{script_lines};
 
 use std::alloc::Global;
 use std::process::Abort;

@@ -6,12 +6,12 @@ use Rattle.std.proofs.lemmas.Bool.{ltb-true, ltb-false}
 use Rattle.x_item.specs.Tree.{Definition}
 use Rattle.x_item.specs.declared.names.declared_name.NameKind.{NameKind}
 use Rattle.x_item.specs.declared.names.declared_name.NameKind.TheVariants as kinds
-use Rattle.x_sema.specs.Declarers.{is_beforehand, first_declarer}
-use Rattle.x_sema.specs.declared.names.Declarer.{Declarer}
-use Rattle.x_sema.specs.Results.{Outcome, IsOutcome, IsResult, AreResults, AreResultsFrom, result_at, view_of, view_by, meaning_at, beforehand_meaning}
-use Rattle.x_sema.specs.Views.{View, Meaning, Earlier, Later, Own, names_of}
-use Rattle.x_sema.proofs.AmongLemmas.{among_first, among_more}
-use Rattle.x_sema.proofs.ResultLaws.{one_outcome}
+use Rattle.x_rules.specs.Declarers.{is_beforehand, first_declarer}
+use Rattle.x_rules.specs.declared.names.Declarer.{Declarer}
+use Rattle.x_rules.specs.Results.{Outcome, IsOutcome, IsResult, AreResults, AreResultsFrom, result_at, view_of, view_by, meaning_at, beforehand_meaning}
+use Rattle.x_rules.specs.Views.{View, Meaning, Earlier, Later, Own, names_of}
+use Rattle.x_rules.proofs.AmongLemmas.{among_first, among_more}
+use Rattle.x_rules.proofs.ResultLaws.{one_outcome}
 use Rattle.x_uses.specs.declared.uses.Place.{Place}
 use Rattle.x_uses.specs.Editing.{TextEdit, definitions_after, IsEdit, definition_at, old_number, old_result}
 use Rattle.x_uses.specs.Rechecking.{IsAlike, IsUnchanged, IsSettled}

@@ -5,8 +5,8 @@ use Rattle.x_item.specs.Tree.{Definition}
 use Rattle.x_item.specs.Names.{declared}
 use Rattle.x_item.specs.Named.{view_name}
 use Rattle.x_item.specs.declared.names.declared_name.DeclaredName.{DeclaredName}
-use Rattle.x_sema.specs.Declarers.{IsShort, AreShort, first_declarer}
-use Rattle.x_sema.specs.declared.names.Declarer.{Declarer}
+use Rattle.x_rules.specs.Declarers.{IsShort, AreShort, first_declarer}
+use Rattle.x_rules.specs.declared.names.Declarer.{Declarer}
 use Rattle.x_uses.specs.Editing.{TextEdit, definitions_after, IsEdit, definition_at, old_number}
 use Rattle.x_uses.specs.Rechecking.{IsCovered, IsKept, IsNamed, IsReady, AddsItems, is_waiting}
 use Rattle.x_uses.specs.declared.rechecking.queue.Queue.{Queue}

@@ -4,10 +4,10 @@ use Rattle.std.specs.List.{IsAmong}
 use Rattle.std.specs.Option.{option_or, unwrap_or}
 use Rattle.std.proofs.Common.{◌≡◌, ◌<◌, ◌≤◌, ◌⊎◌, inl, inr, ℕ, zero, suc, ◌+◌, ◌-◌, Bool, false, List, [], ◌∷◌, ◌++◌, map, length, Option, Some, None, sym, ap, subst, ◌∙◌, arith, ⊎_elim}
 use Rattle.std.proofs.lemmas.Bool.{cases_lt}
-use Rattle.x_sema.specs.Declarers.{first_declarer}
-use Rattle.x_sema.specs.declared.names.Declarer.{Declarer}
-use Rattle.x_sema.specs.Results.{Outcome, AreResults, result_at, meaning_in, meaning_at}
-use Rattle.x_sema.specs.Views.{Bad, names_of}
+use Rattle.x_rules.specs.Declarers.{first_declarer}
+use Rattle.x_rules.specs.declared.names.Declarer.{Declarer}
+use Rattle.x_rules.specs.Results.{Outcome, AreResults, result_at, meaning_in, meaning_at}
+use Rattle.x_rules.specs.Views.{Bad, names_of}
 use Rattle.x_uses.specs.declared.rechecking.Rechecked.{Rechecked}
 use Rattle.x_uses.specs.Editing.{TextEdit, definitions_after, IsEdit, old_number, old_result}
 use Rattle.x_uses.specs.Staleness.{IsOutdated, IsStale, new_result, result_after}

@@ -9,10 +9,10 @@ use Rattle.x_item.specs.Tree.{Definition}
 use Rattle.x_item.specs.Named.{view_name}
 use Rattle.x_item.specs.Names.{Declared, declared}
 use Rattle.x_item.specs.declared.names.declared_name.DeclaredName.{DeclaredName}
-use Rattle.x_sema.specs.Declarers.{is_beforehand, IsDeclarer, IsFirstDeclarer, FirstIs, declarer_at, place_of_name, declarer_in, first_from, first_declarer}
-use Rattle.x_sema.specs.declared.names.Declarer.{Declarer}
-use Rattle.x_sema.proofs.DeclarerLaws.{first_is}
-use Rattle.x_sema.proofs.NameLemmas.{option_or_after}
+use Rattle.x_rules.specs.Declarers.{is_beforehand, IsDeclarer, IsFirstDeclarer, FirstIs, declarer_at, place_of_name, declarer_in, first_from, first_declarer}
+use Rattle.x_rules.specs.declared.names.Declarer.{Declarer}
+use Rattle.x_rules.proofs.DeclarerLaws.{first_is}
+use Rattle.x_rules.proofs.NameLemmas.{option_or_after}
 use Rattle.x_uses.specs.declared.uses.Place.{Place}
 use Rattle.x_uses.specs.Editing.{TextEdit, definitions_after, IsEdit, definition_at}
 use Rattle.x_uses.specs.Rechecking.{IsAlike, HasAlike, IsNamed}

@@ -4,9 +4,9 @@ use Rattle.std.proofs.Common.{◌≡◌, ◌<◌, ℕ, ◌+◌, ◌^◌, List, [
 use Rattle.std.proofs.lemmas.Option.{same_Some}
 use Rattle.x_text.specs.Counts.{Counts, raised}
 use Rattle.x_item.specs.Tree.{Definition}
-use Rattle.x_sema.specs.Results.{Outcome, IsOutcome, IsResult, AreResults, result_at, view_by}
-use Rattle.x_sema.specs.Views.{View, names_of}
-use Rattle.x_sema.proofs.ResultLaws.{AgreeBefore, one_outcome, same_views}
+use Rattle.x_rules.specs.Results.{Outcome, IsOutcome, IsResult, AreResults, result_at, view_by}
+use Rattle.x_rules.specs.Views.{View, names_of}
+use Rattle.x_rules.proofs.ResultLaws.{AgreeBefore, one_outcome, same_views}
 use Rattle.x_uses.specs.Editing.{TextEdit, definitions_after, definition_at, old_number}
 use Rattle.x_uses.specs.Staleness.{IsOutdated, checked_more}
 use Rattle.x_uses.specs.Rechecking.{IsUnchanged, SeesSame, SeesOther}

@@ -7,11 +7,11 @@ use Rattle.x_item.specs.Tree.{Definition}
 use Rattle.x_item.specs.Named.{view_name}
 use Rattle.x_item.specs.Names.{declared}
 use Rattle.x_item.specs.declared.names.declared_name.DeclaredName.{DeclaredName}
-use Rattle.x_sema.specs.Declarers.{first_declarer}
-use Rattle.x_sema.specs.declared.names.Declarer.{Declarer}
-use Rattle.x_sema.specs.Results.{Outcome, AreResults, result_at, meaning_in}
-use Rattle.x_sema.specs.Views.{Bad}
-use Rattle.x_sema.proofs.HasResults.{has_results}
+use Rattle.x_rules.specs.Declarers.{first_declarer}
+use Rattle.x_rules.specs.declared.names.Declarer.{Declarer}
+use Rattle.x_rules.specs.Results.{Outcome, AreResults, result_at, meaning_in}
+use Rattle.x_rules.specs.Views.{Bad}
+use Rattle.x_rules.proofs.HasResults.{has_results}
 use Rattle.x_uses.specs.Editing.{TextEdit, definitions_after, IsEdit, definition_at}
 use Rattle.x_uses.specs.Staleness.{IsRecheck, IsStale}
 use Rattle.x_uses.specs.Rechecking.{AddsItems, IsDecided, IsNamed, IsReady, IsSpread, IsTold, IsUnchanged, is_waiting}

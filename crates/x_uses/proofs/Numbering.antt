@@ -9,7 +9,7 @@ use Rattle.x_item.specs.Tree.{Definition}
 use Rattle.x_item.proofs.PatchedLemmas.{get_drop}
 use Rattle.x_uses.specs.declared.uses.Place.{Place}
 use Rattle.x_uses.specs.Editing.{TextEdit, definitions_after, IsEdit, definition_at, old_number}
-use Rattle.x_sema.specs.Declarers.{AreShort, IsShort}
+use Rattle.x_rules.specs.Declarers.{AreShort, IsShort}
 use Rattle.x_uses.specs.Rechecking.{IsFormer}
 
 -- ---- lists

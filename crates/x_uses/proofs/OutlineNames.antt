@@ -11,11 +11,11 @@ use Rattle.x_item.specs.Collected.{view_mention}
 use Rattle.x_item.specs.declared.names.declared_name.DeclaredName.{DeclaredName}
 use Rattle.x_item.specs.declared.names.mention.Mention.{Mention}
 use Rattle.x_item.specs.declared.names.mention.Use.TheVariants.{Value}
-use Rattle.x_sema.specs.Views.{View, names_of}
-use Rattle.x_sema.specs.Outlined.{IsOutline, outlined}
-use Rattle.x_sema.specs.declared.outline.Outline.{Outline}
-use Rattle.x_sema.proofs.AmongLemmas.{among_front, among_rear, among_parts}
-use Rattle.x_sema.proofs.OutlineLemmas.{map_map}
+use Rattle.x_rules.specs.Views.{View, names_of}
+use Rattle.x_rules.specs.Outlined.{IsOutline, outlined}
+use Rattle.x_rules.specs.declared.outline.Outline.{Outline}
+use Rattle.x_rules.proofs.AmongLemmas.{among_front, among_rear, among_parts}
+use Rattle.x_rules.proofs.OutlineLemmas.{map_map}
 use Rattle.x_uses.proofs.WalkLemmas.{each_mapped, map_among}
 
 abbrev pub declared_name : DeclaredName → List ℕ

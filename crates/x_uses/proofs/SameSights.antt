@@ -6,17 +6,17 @@ use Rattle.std.specs.Cmp.{booleans_Decides}
 use Rattle.std.specs.Cmp.Rules.{signed_items}
 use denote.Enum.Bare.{sameb, same_true, true_same}
 use Rattle.x_item.specs.contracts.names.declared_name.NameKind.{the_type}
-use Rattle.x_sema.specs.Views as views
-use Rattle.x_sema.specs.RustViews.{view_class, view_meaning, view_view}
-use Rattle.x_sema.specs.declared.views.Class.{Class}
-use Rattle.x_sema.specs.declared.views.Class.TheVariants as classes
-use Rattle.x_sema.specs.declared.views.Meaning.{Meaning}
-use Rattle.x_sema.specs.declared.views.Meaning.TheVariants as meanings
-use Rattle.x_sema.specs.declared.views.View.{View}
-use Rattle.x_sema.specs.declared.views.View.TheVariants as seen
-use Rattle.x_sema.specs.contracts.views.ClassPartialEq.TheImpl as class_eq
-use Rattle.x_sema.specs.contracts.views.MeaningPartialEq.TheImpl as meaning_eq
-use Rattle.x_sema.specs.contracts.views.ViewPartialEq.TheImpl as view_eq
+use Rattle.x_rules.specs.Views as views
+use Rattle.x_rules.specs.RustViews.{view_class, view_meaning, view_view}
+use Rattle.x_rules.specs.declared.views.Class.{Class}
+use Rattle.x_rules.specs.declared.views.Class.TheVariants as classes
+use Rattle.x_rules.specs.declared.views.Meaning.{Meaning}
+use Rattle.x_rules.specs.declared.views.Meaning.TheVariants as meanings
+use Rattle.x_rules.specs.declared.views.View.{View}
+use Rattle.x_rules.specs.declared.views.View.TheVariants as seen
+use Rattle.x_rules.specs.contracts.views.ClassPartialEq.TheImpl as class_eq
+use Rattle.x_rules.specs.contracts.views.MeaningPartialEq.TheImpl as meaning_eq
+use Rattle.x_rules.specs.contracts.views.ViewPartialEq.TheImpl as view_eq
 
 both_true : (a b : Bool) → a && b ≡ true → (a ≡ true) × (b ≡ true)
 both_true true b e = (refl, e)

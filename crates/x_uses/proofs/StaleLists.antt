@@ -10,8 +10,8 @@ use Rattle.std.proofs.lemmas.Option.{same_Some, slice_get-get_or, get_or_from_sl
 use Rattle.std.specs.List.Sorted.{IsSortedBy, IsBinarySearchResult, IsPartitionPoint, IsSearchInRange}
 use Rattle.std.specs.Ordering.{nat_cmp, is_lt}
 use Rattle.std.specs.declared.cmp.Ordering.TheVariants.{Less, Equal, Greater}
-use Rattle.x_sema.specs.Results.{Outcome}
-use Rattle.x_sema.proofs.AmongLemmas.{among_first, among_same, among_more, among_cases, among_none, among_front, among_rear, among_parts}
+use Rattle.x_rules.specs.Results.{Outcome}
+use Rattle.x_rules.proofs.AmongLemmas.{among_first, among_same, among_more, among_cases, among_none, among_front, among_rear, among_parts}
 use Rattle.x_uses.specs.Editing.{TextEdit}
 use Rattle.x_uses.specs.Staleness.{Ascending, AreStale, new_result}
 use Rattle.x_uses.specs.declared.rechecking.Rechecked.{Rechecked}

@@ -5,8 +5,8 @@ use Rattle.std.specs.Borrow.{Bor}
 use Rattle.std.proofs.lemmas.List.{length-take-le, length-map}
 use Rattle.x_item.specs.Tree as tree
 use Rattle.x_item.specs.declared.trees.definition.Definition.{Definition}
-use Rattle.x_schema.specs.Definitions.{tree_at}
-use Rattle.x_sema.specs.Declarers.{AreShort, IsShort, declarer_in}
+use Rattle.x_item.specs.View.{tree_at}
+use Rattle.x_rules.specs.Declarers.{AreShort, IsShort, declarer_in}
 use Rattle.x_uses.specs.Occurrences.{declarers_at, users_at, declarers_of, users_of, sees, IsUsesOf}
 use Rattle.x_uses.specs.Slots.{Entries, slot_at, Notes, IsShortItem, item_of_declarer, user_item, noted_some, names_of_entries, put_user, with_item}
 use Rattle.x_uses.proofs.NotedLaws.{found_more, map_more}

@@ -1,7 +1,7 @@
 -- Items that wait.
 use Rattle.std.proofs.Common.{◌≡◌, ◌<◌, ◌≤◌, ℕ, Bool, true, false, List, refl, sym, ◌∙◌}
 use Rattle.std.proofs.lemmas.Bool.{true≢false}
-use Rattle.x_sema.specs.Results.{Outcome}
+use Rattle.x_rules.specs.Results.{Outcome}
 use Rattle.x_uses.specs.Editing.{TextEdit}
 use Rattle.x_uses.specs.Rechecking.{AddsItems, IsCovered, IsTold, is_waiting}
 use Rattle.x_uses.specs.declared.rechecking.queue.Queue.{Queue}

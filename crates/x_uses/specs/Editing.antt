@@ -3,8 +3,8 @@ use Rattle.std.specs.Prelude.{◌≡◌, ◌<◌, ◌≤◌, ℕ, ◌+◌, ◌-�
 use Rattle.std.specs.Prelude.{slice_get, option_and_then, if◌then◌else◌}
 use Rattle.std.specs.List.{splice}
 use Rattle.x_item.specs.Tree.{Definition}
-use Rattle.x_sema.specs.Declarers.{AreShort}
-use Rattle.x_sema.specs.Results.{Outcome, AreResults, result_at}
+use Rattle.x_rules.specs.Declarers.{AreShort}
+use Rattle.x_rules.specs.Results.{Outcome, AreResults, result_at}
 use Rattle.x_uses.specs.declared.uses.Place.{Place}
 
 -- what a list of definitions has for an item

@@ -8,11 +8,11 @@ use Rattle.std.specs.Ordering.{nat_cmp}
 use Rattle.x_text.specs.Counts.{Counts}
 use Rattle.x_item.specs.Tree.{Definition}
 use Rattle.x_item.specs.declared.names.declared_name.DeclaredName.{DeclaredName}
-use Rattle.x_schema.specs.Definitions.{tree_at}
-use Rattle.x_sema.specs.Declarers.{first_declarer}
-use Rattle.x_sema.specs.declared.names.Declarer.{Declarer}
-use Rattle.x_sema.specs.Results.{Outcome, AreResults, result_at, meaning_at, meaning_in, view_by}
-use Rattle.x_sema.specs.Views.{names_of}
+use Rattle.x_item.specs.View.{tree_at}
+use Rattle.x_rules.specs.Declarers.{first_declarer}
+use Rattle.x_rules.specs.declared.names.Declarer.{Declarer}
+use Rattle.x_rules.specs.Results.{Outcome, AreResults, result_at, meaning_at, meaning_in, view_by}
+use Rattle.x_rules.specs.Views.{names_of}
 use Rattle.x_uses.specs.declared.uses.Place.{Place}
 use Rattle.x_uses.specs.Editing.{CheckedText, TextEdit, edit_at, count_after, definitions_after, IsEdit}
 use Rattle.x_uses.specs.Editing.{definition_at, old_number}

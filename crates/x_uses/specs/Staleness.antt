@@ -5,8 +5,8 @@ use Rattle.std.specs.List.{IsAmong}
 use Rattle.std.specs.Option.{option_or}
 use Rattle.x_text.specs.Counts.{Counts, raised}
 use Rattle.x_item.specs.Tree.{Definition}
-use Rattle.x_sema.specs.Results.{Outcome, AreResults, result_at, view_by}
-use Rattle.x_sema.specs.Views.{names_of}
+use Rattle.x_rules.specs.Results.{Outcome, AreResults, result_at, view_by}
+use Rattle.x_rules.specs.Views.{names_of}
 use Rattle.x_uses.specs.Editing.{TextEdit, count_after, definition_at, definitions_after}
 use Rattle.x_uses.specs.Editing.{old_number, old_result}
 use Rattle.x_uses.specs.declared.rechecking.Rechecked.{Rechecked}

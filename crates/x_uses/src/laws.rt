@@ -1,7 +1,7 @@
 //! Laws of stale items.
 
 ghost use Rattle.std.specs.Prelude.{◌≡◌, ℕ, List, Option};
-ghost use Rattle.x_sema.specs.Results.{Outcome};
+ghost use Rattle.x_rules.specs.Results.{Outcome};
 ghost use Rattle.x_uses.specs.Editing.{TextEdit};
 ghost use Rattle.x_uses.specs.Staleness.{AreStale};
 

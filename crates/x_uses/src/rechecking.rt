@@ -1,9 +1,9 @@
 //! The check of the items that an edit makes stale.
 
 ghost use Rattle.std.specs.Prelude.{◌≡◌, ◌+◌, length, map, IfOk};
-ghost use Rattle.x_schema.specs.Definitions.{tree_at};
-ghost use Rattle.x_sema.specs.KeptViews.{lent_outcome};
-ghost use Rattle.x_sema.specs.Results.{result_at};
+ghost use Rattle.x_item.specs.View.{tree_at};
+ghost use Rattle.x_rules.specs.KeptViews.{lent_outcome};
+ghost use Rattle.x_rules.specs.Results.{result_at};
 ghost use Rattle.x_uses.specs.Editing.{CheckedText, IsEdit, definition_at, edit_at};
 ghost use Rattle.x_uses.specs.Occurrences.{IsUsesOf};
 ghost use Rattle.x_uses.specs.Staleness.{CountsChecks, IsRecheck, checked_more};
@@ -21,7 +21,7 @@ use checking::check_next;
 use edited_items::EditedItems;
 use std::alloc::Global;
 use x_item::Definition;
-use x_sema::Checked;
+use x_rules::Checked;
 use x_text::{Meter, NoMemory};
 
 /// The items of a text, with what checking them found.

@@ -1,7 +1,7 @@
 //! The faults of an item, one after another.
 
 ghost use Rattle.std.specs.Prelude.{◌≡◌, [], ◌∷◌, ℕ, List, MatchOption, IsTrue, ◌↔◌, drop};
-ghost use Rattle.x_sema.specs.Rules.{Ascends};
+ghost use Rattle.x_rules.specs.Rules.{Ascends};
 ghost use Rattle.x_session.specs.Compile.{item_faults, rule_faults};
 ghost use Rattle.x_session.specs.FaultWalk.{IsTelling, faults_here, places_left};
 ghost use Rattle.x_session.specs.KeptView.{found_result, item_with, kept_found};

@@ -3,7 +3,7 @@
 ghost use Rattle.std.specs.Prelude.{◌≡◌, ◌<◌, ◌≤◌, ◌+◌, ℕ, List, [], length, Option, Some, IfOk, OnOk};
 ghost use Rattle.std.specs.Prelude.{IsTrue, true, false};
 ghost use Rattle.x_item.specs.Tree.{Definition as Tree};
-ghost use Rattle.x_sema.specs.declared.names.Declarer.{Declarer as First};
+ghost use Rattle.x_rules.specs.declared.names.Declarer.{Declarer as First};
 ghost use Rattle.x_uses.specs.Editing.{count_after, definition_at, definitions_after, old_number};
 ghost use Rattle.x_uses.specs.Rechecking.{AddsItemsFrom, AreCovered, AreCoveredAt, AreEditedItems, IsAlike};
 ghost use Rattle.x_uses.specs.Rechecking.{IsCovered, IsFirst, IsFormer, IsKept, IsKeptUser, IsNamed, IsReady};
@@ -14,7 +14,7 @@ use super::edited_items::EditedItems;
 use super::queue::Queue;
 use std::alloc::Global;
 use x_item::{DeclaredName, declares_into};
-use x_sema::Declarer;
+use x_rules::Declarer;
 use x_text::NoMemory;
 
 /// Queues an item before the edit, if it is kept and its number is `low` or more.

@@ -5,9 +5,9 @@ ghost use Rattle.std.specs.Prelude.{IsTrue, true, false};
 ghost use Rattle.std.specs.Cow.{cow_slice_items};
 ghost use Rattle.std.specs.List.{IsAmong};
 ghost use Rattle.x_text.specs.Counts.{Counts};
-ghost use Rattle.x_sema.specs.Outlined.{IsOutline, outlined};
-ghost use Rattle.x_sema.specs.Results.{Outcome, AreResults, meaning_at, result_at};
-ghost use Rattle.x_sema.specs.RustViews.{view_meaning};
+ghost use Rattle.x_rules.specs.Outlined.{IsOutline, outlined};
+ghost use Rattle.x_rules.specs.Results.{Outcome, AreResults, meaning_at, result_at};
+ghost use Rattle.x_rules.specs.RustViews.{view_meaning};
 ghost use Rattle.x_uses.specs.Editing.{definitions_after, definition_at, count_after};
 ghost use Rattle.x_uses.specs.Rechecking.{AddsItemsFrom, IsDecided, AreEditedItems, IsFoundAs, IsMeantAs};
 ghost use Rattle.x_uses.specs.Rechecking.{IsReady, IsNamed, IsTold, HasAdvanced};
@@ -21,7 +21,7 @@ use super::sights::{sees_same, views_of};
 use super::{CheckedItems, Rechecked};
 use std::alloc::Global;
 use x_item::DeclaredName;
-use x_sema::{Checked, Declarer, Meaning, Outline, check_outline};
+use x_rules::{Checked, Declarer, Meaning, Outline, check_outline};
 use x_text::{Meter, NoMemory};
 
 /// What checking an item finds, or `None` where it sees its names as before.

@@ -1,10 +1,10 @@
 //! The items of a text before an edit and after it.
 
 ghost use Rattle.std.specs.Prelude.{◌≡◌, ◌<◌, length, map, Option};
-ghost use Rattle.x_schema.specs.Definitions.{tree_at};
-ghost use Rattle.x_sema.specs.Declarers.{first_declarer};
-ghost use Rattle.x_sema.specs.KeptViews.{lent_outcome};
-ghost use Rattle.x_sema.specs.Results.{result_at};
+ghost use Rattle.x_item.specs.View.{tree_at};
+ghost use Rattle.x_rules.specs.Declarers.{first_declarer};
+ghost use Rattle.x_rules.specs.KeptViews.{lent_outcome};
+ghost use Rattle.x_rules.specs.Results.{result_at};
 ghost use Rattle.x_uses.specs.Editing.{definitions_after, definition_at, old_number, new_number, count_after};
 ghost use Rattle.x_uses.specs.Occurrences.{users_of};
 ghost use Rattle.x_uses.specs.Rechecking.{AreEditedItems, edit_of};
@@ -13,7 +13,7 @@ ghost use Rattle.x_uses.specs.Staleness.{Ascending, new_result, result_after, it
 use super::{CheckedItems, Rechecked};
 use crate::uses::{Place, Uses};
 use x_item::Definition;
-use x_sema::{Checked, Declarer};
+use x_rules::{Checked, Declarer};
 
 /// An edit of a text, with who declares and who uses each name.
 #[derive(Drop)]

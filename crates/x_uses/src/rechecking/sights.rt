@@ -2,10 +2,10 @@
 
 ghost use Rattle.std.specs.Prelude.{◌≡◌, ◌↔◌, ℕ, List, map, IfOk, IsTrue, IsFalse};
 ghost use Rattle.std.specs.List.{IsAmong};
-ghost use Rattle.x_sema.specs.Outlined.{IsOutline, outlined};
-ghost use Rattle.x_sema.specs.Results.{result_at, view_by};
-ghost use Rattle.x_sema.specs.RustViews.{view_view};
-ghost use Rattle.x_sema.specs.Views.{names_of};
+ghost use Rattle.x_rules.specs.Outlined.{IsOutline, outlined};
+ghost use Rattle.x_rules.specs.Results.{result_at, view_by};
+ghost use Rattle.x_rules.specs.RustViews.{view_view};
+ghost use Rattle.x_rules.specs.Views.{names_of};
 ghost use Rattle.x_uses.specs.Editing.{definitions_after};
 ghost use Rattle.x_uses.specs.Rechecking.{AreEditedItems, SeesSame, SeesOther, edit_of};
 ghost use Rattle.x_uses.specs.Staleness.{Ascending, result_after, items_of};
@@ -13,7 +13,7 @@ ghost use Rattle.x_uses.specs.Staleness.{Ascending, result_after, items_of};
 use super::edited_items::EditedItems;
 use super::{CheckedItems, Rechecked};
 use std::alloc::Global;
-use x_sema::{Outline, View};
+use x_rules::{Outline, View};
 use x_text::NoMemory;
 
 /// What an item saw of a name before the edit.

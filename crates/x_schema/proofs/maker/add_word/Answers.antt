@@ -2,7 +2,7 @@ use Rattle.std.proofs.Common.{◌≡◌, ◌∷◌, ◌++◌, [], nat_eq, cond, 
 use Rattle.std.specs.Map.{lookup}
 use Rattle.indexmap.proofs.CallerLemmas.{insert_entry-new}
 use Rattle.x_schema.specs.SchemaOf.{with_word}
-use Rattle.x_schema.proofs.Lookups.{none_is}
+use Rattle.x_numbers.proofs.Lookups.{none_is}
 use Rattle.x_schema.proofs.KeyedTables.{copied_some}
 use Rattle.x_schema.proofs.maker.add_word.Goals as goal
 

@@ -3,7 +3,7 @@ use Rattle.std.specs.Map.{lookup}
 use Rattle.indexmap.proofs.CallerLemmas.{insert_entry-new}
 use Rattle.x_schema.specs.ProceduresOf.{with_procedure}
 use Rattle.x_schema.specs.Schema.{same_numbers}
-use Rattle.x_schema.proofs.Lookups.{none_is}
+use Rattle.x_numbers.proofs.Lookups.{none_is}
 use Rattle.x_schema.proofs.KeyedTables.{copied_some, kept}
 use Rattle.x_schema.proofs.procedures.put_procedure.Goals as goal
 

@@ -1,5 +1,5 @@
 use Rattle.std.proofs.Common.{Bool, ◌||◌, ◌++◌, Option, Ok, Err, refl, sym, subst, ◌∙◌}
-use Rattle.x_session.specs.Lines.{script_lines}
+use Rattle.x_lines.specs.Lines.{script_lines}
 use Rattle.x_text.specs.Engines.{is_refused}
 use Rattle.x_session.specs.Script.{GoesOn, HasRun, HasStopped, HasFailed, IsFrontOf}
 use Rattle.x_session.proofs.Running.{IsBetween, works_at_start, works_on, added_some, at_start, behind, between, at_stop, at_fault, so_still}

@@ -1,6 +1,6 @@
 use Rattle.std.proofs.Common.{◌≡◌, ℕ, List, length}
-use Rattle.x_session.specs.Lines.{IsUnread}
-use Rattle.x_session.proofs.LineLemmas.{IsGiven}
+use Rattle.x_lines.specs.Lines.{IsUnread}
+use Rattle.x_lines.proofs.LineLemmas.{IsGiven}
 use Rattle.x_session_tests.proofs.lines.count_lines.Given as goal
 
 abbrev pub invariant-lines : goal.invariant-lines

@@ -1,7 +1,7 @@
 use Rattle.std.proofs.Common.{◌≡◌, ◌<◌, ◌^◌, nat_eq, true, false, Some, is_some, ap, sym, ◌∙◌}
 use Rattle.std.specs.Map.{lookup}
 use Rattle.indexmap.proofs.CallerLemmas.{insert_entry-new}
-use Rattle.x_schema.proofs.Lookups.{none_is}
+use Rattle.x_numbers.proofs.Lookups.{none_is}
 use Rattle.x_schema.proofs.KeyedTables.{copied_some}
 use Rattle.x_schema.proofs.MakerArms.{enumerator_kept, enumerator_new, word_there}
 use Rattle.x_schema.proofs.maker.Maker.put_enumerator.Goals as goal

@@ -1,11 +1,11 @@
 use Rattle.std.proofs.Common.{◌≡◌, length, map, Some, ap, sym, subst, ◌∙◌}
 use Rattle.x_item.specs.View.{view_definition}
-use Rattle.x_sema.specs.Declarers.{IsShort}
-use Rattle.x_sema.specs.DeclarerTable.{first_in}
-use Rattle.x_sema.specs.Outlined.{outlined}
-use Rattle.x_sema.specs.Views.{names_of}
-use Rattle.x_sema.specs.Results.{result_at, IsOutcome, IsResult}
-use Rattle.x_sema.specs.RustViews.{view_view}
+use Rattle.x_rules.specs.Declarers.{IsShort}
+use Rattle.x_rules.specs.DeclarerTable.{first_in}
+use Rattle.x_rules.specs.Outlined.{outlined}
+use Rattle.x_rules.specs.Views.{names_of}
+use Rattle.x_rules.specs.Results.{result_at, IsOutcome, IsResult}
+use Rattle.x_rules.specs.RustViews.{view_view}
 use Rattle.x_session.specs.Checking.{view_by_first}
 use Rattle.x_session.specs.KeptView.{found_result, kept_definition}
 use Rattle.x_session.specs.declared.compile.kept.Found.{Found}

@@ -2,10 +2,10 @@ use Rattle.std.proofs.Common.{◌+◌, ◌∷◌, [], map, length, Option, ap, s
 use Rattle.std.specs.Borrow.{Bor}
 use Rattle.std.proofs.lemmas.List.{length-map, map-append}
 use Rattle.x_item.specs.Tree.{Definition}
-use Rattle.x_sema.proofs.OutlineLemmas.{map_map}
-use Rattle.x_sema.specs.Declarers.{AreShort, FirstIs}
-use Rattle.x_sema.specs.DeclarerTable.{first_in}
-use Rattle.x_sema.specs.Results.{IsResult, result_at}
+use Rattle.x_rules.proofs.OutlineLemmas.{map_map}
+use Rattle.x_rules.specs.Declarers.{AreShort, FirstIs}
+use Rattle.x_rules.specs.DeclarerTable.{first_in}
+use Rattle.x_rules.specs.Results.{IsResult, result_at}
 use Rattle.x_session.specs.Checking.{counted}
 use Rattle.x_session.specs.Compile.{faults_at}
 use Rattle.x_session.specs.KeptView.{found_result, kept_definition, kept_parse}

@@ -1,5 +1,5 @@
 use Rattle.std.proofs.Common.{◌≡◌, map, take, drop, length}
-use Rattle.x_sema.specs.Results.{AreResultsFrom, result_at}
+use Rattle.x_rules.specs.Results.{AreResultsFrom, result_at}
 use Rattle.x_session.specs.Checking.{AreRendered, counted}
 use Rattle.x_session.specs.Counting.{faults_found}
 use Rattle.x_session.specs.KeptView.{found_result, kept_definition}

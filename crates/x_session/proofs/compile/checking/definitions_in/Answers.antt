@@ -1,7 +1,7 @@
 use Rattle.std.proofs.Common.{map, ap, ◌∙◌, arith}
 use Rattle.std.specs.Borrow.{Bor}
 use Rattle.std.proofs.lemmas.List.{take_all}
-use Rattle.x_sema.proofs.OutlineLemmas.{map_map}
+use Rattle.x_rules.proofs.OutlineLemmas.{map_map}
 use Rattle.x_session.specs.KeptView.{kept_definition}
 use Rattle.x_session.specs.declared.compile.kept.Kept.{Kept}
 use Rattle.x_session.proofs.compile.checking.definitions_in.Goals as goal

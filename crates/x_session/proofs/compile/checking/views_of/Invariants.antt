@@ -1,10 +1,10 @@
 use Rattle.std.proofs.Common.{◌≡◌, ◌++◌, map, take}
 use Rattle.std.specs.Cow.{cow_slice_items}
 use Rattle.x_item.specs.Names.{declared}
-use Rattle.x_sema.specs.DeclarerTable.{first_in}
-use Rattle.x_sema.specs.Outlined.{outlined, IsOutline}
-use Rattle.x_sema.specs.Results.{result_at}
-use Rattle.x_sema.specs.RustViews.{view_view}
+use Rattle.x_rules.specs.DeclarerTable.{first_in}
+use Rattle.x_rules.specs.Outlined.{outlined, IsOutline}
+use Rattle.x_rules.specs.Results.{result_at}
+use Rattle.x_rules.specs.RustViews.{view_view}
 use Rattle.x_session.specs.Checking.{view_by_first}
 use Rattle.x_session.specs.KeptView.{found_result}
 use Rattle.x_session.proofs.compile.checking.views_of.Given as goal

@@ -1,7 +1,7 @@
 use Rattle.std.proofs.Common.{◌≡◌, ◌≤◌, ◌<◌, ℕ, List, Some, length, true}
 use Rattle.x_item.specs.Tree.{Definition}
-use Rattle.x_sema.specs.Declarers.{first_declarer}
-use Rattle.x_sema.specs.declared.names.Declarer.{Declarer}
+use Rattle.x_rules.specs.Declarers.{first_declarer}
+use Rattle.x_rules.specs.declared.names.Declarer.{Declarer}
 use Rattle.x_uses.specs.Editing.{definition_at, definitions_after}
 use Rattle.x_uses.specs.Rechecking.{AddsItems, IsCovered, edit_of, is_waiting}
 use Rattle.x_uses.proofs.rechecking.candidates.add_all_fresh.Given as goal

@@ -1,5 +1,5 @@
 use Rattle.std.proofs.Common.{◌≡◌, arith, length, refl, subst}
-use Rattle.x_sema.specs.declared.names.Declarer.{Declarer}
+use Rattle.x_rules.specs.declared.names.Declarer.{Declarer}
 use Rattle.x_uses.specs.Editing.{definitions_after}
 use Rattle.x_uses.specs.Rechecking.{IsCovered, IsFirst, edit_of, is_waiting}
 use Rattle.x_uses.proofs.OutlineNames.{declared_name}

@@ -1,8 +1,8 @@
 use Rattle.std.proofs.Common.{◌+◌, map, sym, subst, ◌∙◌}
-use Rattle.x_sema.specs.Outlined.{outlined}
-use Rattle.x_sema.specs.Results.{IsOutcome}
-use Rattle.x_sema.specs.RustViews.{view_view}
-use Rattle.x_sema.specs.Views.{names_of}
+use Rattle.x_rules.specs.Outlined.{outlined}
+use Rattle.x_rules.specs.Results.{IsOutcome}
+use Rattle.x_rules.specs.RustViews.{view_view}
+use Rattle.x_rules.specs.Views.{names_of}
 use Rattle.x_uses.specs.Editing.{definitions_after}
 use Rattle.x_uses.specs.Rechecking.{edit_of}
 use Rattle.x_uses.specs.Staleness.{result_after}

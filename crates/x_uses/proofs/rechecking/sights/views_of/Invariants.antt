@@ -1,9 +1,9 @@
 use Rattle.std.proofs.Common.{◌≡◌, ◌++◌, map, take}
 use Rattle.std.specs.Cow.{cow_slice_items}
 use Rattle.x_item.specs.Names.{declared}
-use Rattle.x_sema.specs.Outlined.{outlined, IsOutline}
-use Rattle.x_sema.specs.Results.{view_by}
-use Rattle.x_sema.specs.RustViews.{view_view}
+use Rattle.x_rules.specs.Outlined.{outlined, IsOutline}
+use Rattle.x_rules.specs.Results.{view_by}
+use Rattle.x_rules.specs.RustViews.{view_view}
 use Rattle.x_uses.specs.Editing.{definitions_after}
 use Rattle.x_uses.specs.Rechecking.{edit_of}
 use Rattle.x_uses.specs.Staleness.{result_after}

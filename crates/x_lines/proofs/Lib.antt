@@ -1,0 +1,5 @@
+pub mod LineLemmas
+pub mod Parting
+pub mod QueueLemmas
+pub mod ReadingLemmas
+pub mod SearchLemmas

@@ -1,0 +1,34 @@
+use Rattle.std.proofs.Common.{List, ℕ, ◌++◌, map, refl, sym, ap, subst, ◌∙◌}
+use Rattle.std.proofs.lemmas.Result.{IfOk-weaker}
+use Rattle.std.specs.Cow.{cow_slice_items}
+use Rattle.x_item.specs.Collected.{view_mention}
+use Rattle.x_item.specs.Named.{view_name}
+use Rattle.x_item.specs.Names.{Declared, declared}
+use Rattle.x_rules.specs.Bodies.{enumerators_in}
+use Rattle.x_rules.specs.BodyWalks.{view_body_at, AreFilled}
+use Rattle.x_rules.specs.Constants.{knowns}
+use Rattle.x_rules.specs.Outlined.{outlined, AreTables}
+use Rattle.x_rules.specs.Tables.{ArePlaces, HasNumbers, place_seen, seen_by}
+use Rattle.x_rules.proofs.OutlineLemmas.{map_map, outcome_by}
+use Rattle.x_rules.proofs.check.outcome.Goals as goal
+
+pub returns : goal.returns
+returns c =
+    IfOk-weaker c.checked.result _ _
+    (λ checked h o.
+    let outline = c.args.outline.now in
+    let sights = c.in_ok-sights.sights in
+    let constants = c.in_ok-constants.constants in
+    let d = outlined outline in
+    let names =
+    ap (map (λ x. cow_slice_items x.name)) c.deref.ensures.value ∙ map_map (λ x. x.name) view_name outline.declared.items ∙ ap (map (λ x. x.name)) o.names_are in
+    let front : List (List ℕ) = map (λ (x : Declared). x.name) (declared d) in
+    let uses =
+    ap (map (λ m. m.name.now)) c.deref-2.ensures.value ∙ map_map (λ m. m.name) view_mention outline.mentioned.items ∙ ap (map (λ m. m.name)) o.uses_are in
+    let places = subst (ArePlaces (place_seen sights)) (ap (λ l. l ++ map (λ m. m.name.now) c.deref-2.result.now) names ∙ ap (λ l. front ++ l) uses) c.in_ok-sights.ensures.places in
+    let enumerators_are =
+    c.in_ok-enumerators.ensures (subst AreFilled (sym c.deref-3.ensures.value) o.filled) ∙ ap (λ l. enumerators_in (map view_body_at l)) c.deref-3.ensures.value ∙ ap enumerators_in o.bodies_are in
+    let numbers = subst (λ all. HasNumbers constants all (knowns (seen_by sights) all)) enumerators_are c.in_ok-constants.ensures in
+    let tables : AreTables outline sights constants = record { places = places; numbers = numbers } in
+    outcome_by d d (place_seen sights) sights.views.now c.args.views.now checked refl places c.in_ok-sights.ensures.views (h o tables))
+    c.checked.ensures

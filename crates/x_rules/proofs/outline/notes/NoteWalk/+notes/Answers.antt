@@ -1,0 +1,103 @@
+use Rattle.std.proofs.Common.{◌≡◌, ℕ, List, ◌+◌, ◌∷◌, [], ◌++◌, drop, map, Some, true, refl, ap, sym, ◌∙◌, append_assoc}
+use Rattle.std.proofs.lemmas.List.{drop_all, drop_more}
+use Rattle.std.proofs.lemmas.Result.{on_ok_weaker}
+use Rattle.x_item.specs.Tree.{Opaque, String, Struct, Union}
+use Rattle.x_item.specs.View.{view_union, view_type, view_length, view_most, view_shape, view_body, view_enumerator, view_value, view_declaration, view_declarations, view_arms, view_default}
+use Rattle.x_item.specs.Gloss.{AsField, AsArm, Inside, glossed, enumerators_by, cases_by, body_by, declaration_by, declarations_by, arms_by, default_by}
+use Rattle.x_rules.specs.NoteWalks.{NotesIn, place_in, view_walk}
+use Rattle.x_item.specs.declared.trees.declaration.Body.TheViews.{out-UnionBody}
+use Rattle.x_item.proofs.CollectLemmas.{covers_then, covers_next, covers_two, covers_as, goes_start, goes_over, goes_end}
+use Rattle.x_rules.proofs.NoteWalkLemmas.{covers_declared, covers_head, covers_string, covers_typed}
+use Rattle.x_item.proofs.Rows.{struct_view, union_parts}
+use Rattle.x_rules.proofs.outline.notes.NoteWalk.+notes.Goals as goal
+
+pub declarations-loop-declaration-init : goal.declarations-loop-declaration-init
+declarations-loop-declaration-init t c around = goes_start (view_walk c.args.self.now) _
+
+pub declarations-loop-declaration-preserved : goal.declarations-loop-declaration-preserved
+declarations-loop-declaration-preserved t c around =
+    let item = c.declaration-item.result in
+    let rest = drop (c.loop-declaration.declaration-index + 1) c.args.declarations.now in
+    let front : drop c.loop-declaration.declaration-index c.args.declarations.now ≡ item ∷ rest =
+    drop_more c.args.declarations.now c.loop-declaration.declaration-index _ c.loop-declaration-test.true ∙ ap (λ x. x ∷ rest) (sym c.declaration-item.is) in
+    let words = declaration_by glossed (Some (Inside AsField around)) (view_declaration item) in
+    goes_over (λ xs. declarations_by glossed (Some around) (view_declarations xs)) item _ rest front
+    (sym (append_assoc words (_ ∷ []) (declarations_by glossed (Some around) (view_declarations rest)))) (c.loop-declaration.invariant around)
+    (covers_then (c.in_ok-declaration.ensures around) record { all = c.skip.ensures })
+
+pub declarations-returns : goal.declarations-returns
+declarations-returns t c around =
+    goes_end (λ xs. declarations_by glossed (Some around) (view_declarations xs)) _ (drop_all _ _ c.loop-declaration-test.false) refl (c.loop-declaration.invariant around)
+
+pub arms-loop-arm-init : goal.arms-loop-arm-init
+arms-loop-arm-init t c around = goes_start (view_walk c.args.self.now) _
+
+pub arms-loop-arm-preserved : goal.arms-loop-arm-preserved
+arms-loop-arm-preserved t c around =
+    let item = c.arm-item.result in
+    let rest = drop (c.loop-arm.arm-index + 1) c.args.arms.now in
+    let front : drop c.loop-arm.arm-index c.args.arms.now ≡ item ∷ rest =
+    drop_more c.args.arms.now c.loop-arm.arm-index _ c.loop-arm-test.true ∙ ap (λ x. x ∷ rest) (sym c.arm-item.is) in
+    let cases = cases_by glossed true (map view_value item.cases.items) in
+    let words = declaration_by glossed (Some (Inside AsArm around)) (view_declaration item.declaration) in
+    let behind = arms_by glossed (Some around) (view_arms rest) in
+    let values : NotesIn c.loop-arm.self c.cases.new.self cases = rw c.deref.ensures.value at c.in_ok-cases.ensures in
+    goes_over (λ xs. arms_by glossed (Some around) (view_arms xs)) item _ rest front
+    (sym (append_assoc cases (words ++ _ ∷ []) behind ∙ ap (λ l. cases ++ l) (append_assoc words (_ ∷ []) behind))) (c.loop-arm.invariant around)
+    (covers_then values (covers_then (c.in_ok-declaration.ensures around) record { all = c.skip.ensures }))
+
+pub arms-returns : goal.arms-returns
+arms-returns t c around =
+    goes_end (λ xs. arms_by glossed (Some around) (view_arms xs)) _ (drop_all _ _ c.loop-arm-test.false) refl (c.loop-arm.invariant around)
+
+pub body-returns-in_ok-enumerators-in-Enum : goal.body-returns-in_ok-enumerators-in-Enum
+body-returns-in_ok-enumerators-in-Enum t c around =
+    let es = map view_enumerator c.in-Enum.enumerators.items in
+    let inside : NotesIn c.skip.new.self c.enumerators.new.self (enumerators_by glossed true es) = rw c.deref.ensures.value at c.in_ok-enumerators-in-Enum.ensures in
+    covers_as (covers_next record { all = c.skip.ensures } (covers_then inside record { all = c.skip-in-Enum.ensures }))
+    (ap (λ b. body_by glossed (Some around) (view_body b)) (sym c.in-Enum.is))
+
+pub body-returns-in_ok-declarations-in-Struct : goal.body-returns-in_ok-declarations-in-Struct
+body-returns-in_ok-declarations-in-Struct t c around =
+    let ds = view_declarations c.in-Struct.declarations.items in
+    let is : view_body c.args.body.now ≡ Struct ds = ap view_body c.in-Struct.is ∙ struct_view c.in-Struct.declarations in
+    let inside : (around : List ℕ) → NotesIn c.skip-in-Struct.new.self c.declarations.new.self (declarations_by glossed (Some around) ds) = rw c.deref-in-Struct.ensures.value at c.in_ok-declarations-in-Struct.ensures in
+    covers_as (covers_next record { all = c.skip-in-Struct.ensures } (covers_then (inside around) record { all = c.skip-in-Struct-2.ensures })) (ap (body_by glossed (Some around)) (sym is))
+
+pub body-returns-in_ok-arms-in-Union : goal.body-returns-in_ok-arms-in-Union
+body-returns-in_ok-arms-in-Union t c =
+    let u = out-UnionBody c.deref-body.result.now in
+    let arms = view_arms u.arms.items in
+    let is : view_body c.args.body.now ≡ Union (view_declaration u.discriminant) arms (view_default u.default) = ap view_body c.in-Union.is ∙ ap view_union (sym c.deref-body.ensures) ∙ union_parts c.deref-body.result.now in
+    let inside : (around : List ℕ) → NotesIn c.skip-in-Union-2.new.self c.arms.new.self (arms_by glossed (Some around) arms) = rw c.deref-in-Union.ensures.value at c.in_ok-arms-in-Union.ensures in
+    on_ok_weaker c.default.result
+    (λ last around. covers_as (covers_two record { all = c.skip-in-Union.ensures } (covers_then (c.in_ok-declaration-in-Union.ensures around)
+    (covers_two record { all = c.skip-in-Union-2.ensures } (covers_then (inside around) (last around))))) (ap (body_by glossed (Some around)) (sym is)))
+    c.default.ensures
+
+pub declaration-returns-in_ok-data_type-in-Of : goal.declaration-returns-in_ok-data_type-in-Of
+declaration-returns-in_ok-data_type-in-Of t c =
+    let is = ap view_declaration c.in-Of.is in
+    on_ok_weaker c.shape.result
+    (λ last around. covers_declared (place_in c.args.place around) is (λ d. covers_typed (place_in c.args.place around) (view_type c.in-Of.data) c.in-Of.name.items (view_shape c.in-Of.shape) d c.in_ok-data_type-in-Of.ensures last) (c.in_ok-leading-in-Of.ensures around))
+    c.shape.ensures
+
+pub default-returns-in_ok-declaration-in-Some : goal.default-returns-in_ok-declaration-in-Some
+default-returns-in_ok-declaration-in-Some t c around =
+    covers_as (covers_two record { all = c.skip.ensures } (covers_then (c.in_ok-declaration-in-Some.ensures around) record { all = c.skip-in-Some.ensures }))
+    (ap (λ d. default_by glossed (Some around) (view_default d)) (sym c.in-Some.is))
+
+pub declaration-returns-in_ok-leading-in-Opaque : goal.declaration-returns-in_ok-leading-in-Opaque
+declaration-returns-in_ok-leading-in-Opaque t c =
+    let d = Opaque c.in-Opaque.name.items (view_length c.in-Opaque.length) in
+    on_ok_weaker c.brackets.result
+    (λ last around. covers_declared {e = d} (place_in c.args.place around) (ap view_declaration c.in-Opaque.is)
+    (λ lead. covers_then (covers_head (place_in c.args.place around) d _ _ c.in-Opaque.name.items lead c.skip.ensures) last) (c.in_ok-leading-in-Opaque.ensures around))
+    c.brackets.ensures
+
+pub declaration-returns-in_ok-most-in-String : goal.declaration-returns-in_ok-most-in-String
+declaration-returns-in_ok-most-in-String t c around =
+    let d = String c.in-String.name.items (view_most c.in-String.most) in
+    covers_declared {e = d} (place_in c.args.place around) (ap view_declaration c.in-String.is)
+    (λ lead. covers_then (covers_string (place_in c.args.place around) d _ _ _ c.in-String.name.items lead c.skip-in-String.ensures)
+    (covers_then c.in_ok-most-in-String.ensures record { all = c.skip-in-String-2.ensures })) (c.in_ok-leading-in-String.ensures around)

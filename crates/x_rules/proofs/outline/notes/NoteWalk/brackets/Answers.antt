@@ -1,0 +1,10 @@
+use Rattle.std.proofs.Common.{true, ap, sym}
+use Rattle.x_item.specs.View.{view_length}
+use Rattle.x_item.specs.Gloss.{glossed, length_by}
+use Rattle.x_item.proofs.CollectLemmas.{covers_next, covers_as}
+use Rattle.x_rules.proofs.outline.notes.NoteWalk.brackets.Goals as goal
+
+pub returns-in_ok-value-in-Fixed : goal.returns-in_ok-value-in-Fixed
+returns-in_ok-value-in-Fixed c =
+    covers_as (covers_next record { all = c.skip.ensures } (covers_next c.in_ok-value-in-Fixed.ensures record { all = c.skip-in-Fixed.ensures }))
+    (ap (λ l. length_by glossed true (view_length l)) (sym c.in-Fixed.is))

@@ -1,0 +1,95 @@
+//! What stands in a definition, by its words.
+
+ghost use Rattle.std.specs.Prelude.{◌≡◌, IfOk};
+ghost use Rattle.x_item.specs.View.{view_definition};
+ghost use Rattle.x_rules.specs.Declarers.{IsShort};
+ghost use Rattle.x_rules.specs.Outlined.{IsOutline};
+
+pub mod bodies;
+pub mod note;
+pub mod notes;
+pub mod parts;
+pub mod programs;
+
+use bodies::bodies_into;
+use note::NoteAt;
+use notes::notes_into;
+use parts::BodyAt;
+use std::alloc::Global;
+use x_item::{DeclaredName, Definition, Mention, declares_into, mentions_into};
+use x_text::NoMemory;
+
+/// The names that stand in a definition, and its bodies: what is found of it once, both for its views and for its check.
+#[derive(Drop)]
+pub struct Outline<'d> {
+    pub(crate) definition: &'d Definition,
+    pub(crate) declared: Vec<DeclaredName<'d>>,
+    pub(crate) mentioned: Vec<Mention<'d>>,
+    pub(crate) bodies: Vec<BodyAt<'d>>,
+    /// What its words are to the rules.
+    pub(crate) notes: Vec<NoteAt<'d>>,
+}
+
+impl<'d> Outline<'d> {
+    /// The outline of the definition. It takes time in proportion to it.
+    ///
+    /// # Errors
+    ///
+    /// [`NoMemory`] where a list could not grow.
+    pub fn of(alloc: Global, definition: &'d Definition) -> Result<Outline<'d>, NoMemory>
+        ensures definition { IfOk result (λ outline. outline.definition ≡ definition.entry) }
+        ensures outline { IfOk result (λ outline. IsShort (view_definition definition.now) → IsOutline outline) }
+    {
+        let empty = Outline {
+            definition,
+            declared: Vec::new(alloc),
+            mentioned: Vec::new(alloc),
+            bodies: Vec::new(alloc),
+            notes: Vec::new(alloc),
+        };
+        empty.again(alloc, definition)
+    }
+
+    /// The outline of another definition, in the memory of this one.
+    ///
+    /// # Errors
+    ///
+    /// As [`Outline::of`].
+    pub fn again(self, alloc: Global, definition: &'d Definition) -> Result<Outline<'d>, NoMemory>
+        ensures definition { IfOk result (λ outline. outline.definition ≡ definition.entry) }
+        ensures outline { IfOk result (λ outline. IsShort (view_definition definition.now) → IsOutline outline) }
+    {
+        let Outline {
+            mut declared,
+            mut mentioned,
+            mut bodies,
+            mut notes,
+            ..
+        } = self;
+        declares_into(alloc, &mut declared, definition)?;
+        mentions_into(alloc, &mut mentioned, definition)?;
+        bodies_into(alloc, &mut bodies, definition)?;
+        notes_into(alloc, &mut notes, definition)?;
+        Ok(Outline {
+            definition,
+            declared,
+            mentioned,
+            bodies,
+            notes,
+        })
+    }
+
+    /// The names that the definition declares, in the order of [`x_item::declares`].
+    pub fn declared(&self) -> &[DeclaredName<'d>]
+        ensures { result.now ≡ self.now.declared.items }
+    {
+        &self.declared
+    }
+
+    /// The names that the definition uses, in the order of [`x_item::mentions`].
+    pub fn mentioned(&self) -> &[Mention<'d>]
+        ensures { result.now ≡ self.now.mentioned.items }
+    {
+        &self.mentioned
+    }
+}

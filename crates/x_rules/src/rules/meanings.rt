@@ -1,0 +1,170 @@
+//! What the names mean that an item declares.
+
+ghost use Rattle.std.specs.Prelude.{◌≡◌, ℕ, List, false, map, option_map, IfOk, OnOk};
+ghost use Rattle.std.specs.List.{list_any};
+ghost use Rattle.x_item.specs.Named.{view_name};
+ghost use Rattle.x_item.specs.View.{view_definition};
+ghost use Rattle.x_rules.specs.Bodies as outline;
+ghost use Rattle.x_rules.specs.BodyWalks.{view_body_at};
+ghost use Rattle.x_rules.specs.Constants.{Known, knowns};
+ghost use Rattle.x_rules.specs.KeptViews.{kept_class, kept_meaning};
+ghost use Rattle.x_rules.specs.Meanings.{HasBodies, counted_type, counted_definition};
+ghost use Rattle.x_rules.specs.Results.{type_of, constant_number, constant_of, meaning_of};
+ghost use Rattle.x_rules.specs.Tables.{HasNumbers, seen_by, is_too_high};
+ghost use Rattle.x_rules.specs.Types.{heights};
+
+use super::classes::{body_class, declaration_class};
+use super::constants::Constants;
+use super::heights::{body_height, held_height};
+use super::named_bodies::NamedBodies;
+use super::sights::Sights;
+use crate::checked::{KeptClass, KeptMeaning, KeptMeanings};
+use crate::outline::parts::BodyAt;
+use smallvec::SmallVec;
+use std::alloc::Global;
+use x_item::{DeclaredName, Definition, NameKind};
+use x_text::NoMemory;
+
+/// What a type means whose class is known.
+fn type_meaning(class: Option<KeptClass>, height: u32) -> KeptMeaning
+    ensures { kept_meaning result ≡ type_of (option_map kept_class class) height }
+{
+    match class {
+        Some(class) => KeptMeaning::Type { class, height },
+        None => KeptMeaning::Bad,
+    }
+}
+
+/// What a constant means whose number is known.
+fn number_meaning(number: Option<i128>) -> KeptMeaning
+    ensures { kept_meaning result ≡ constant_of number }
+{
+    match number {
+        Some(number) => KeptMeaning::Constant(number),
+        None => KeptMeaning::Bad,
+    }
+}
+
+/// What the name of a body's type means.
+fn named_meaning(
+    alloc: Global,
+    body: Option<&BodyAt>,
+    sights: &Sights,
+    constants: &Constants,
+) -> Result<KeptMeaning, NoMemory>
+    ensures { IfOk result (λ kept. (all : List outline.EnumeratorAt) (known : List Known)
+        → HasNumbers constants.now all known → kept_meaning kept
+        ≡ counted_type (seen_by sights.now) known (option_map (λ b. view_body_at b.now) body.entry)) }
+{
+    match body {
+        Some(body) => Ok(type_meaning(
+            body_class(alloc, constants, body.body)?,
+            body_height(sights, body.body),
+        )),
+        None => Ok(KeptMeaning::Bad),
+    }
+}
+
+/// What the name of a typedef means.
+fn typedef_meaning(
+    alloc: Global,
+    definition: &Definition,
+    sights: &Sights,
+    constants: &Constants,
+) -> Result<KeptMeaning, NoMemory>
+    ensures { IfOk result (λ kept. (all : List outline.EnumeratorAt) (known : List Known)
+        → HasNumbers constants.now all known → kept_meaning kept
+        ≡ counted_definition (seen_by sights.now) known (view_definition definition.now)) }
+{
+    match definition {
+        Definition::Typedef(declaration) => Ok(type_meaning(
+            declaration_class(alloc, sights, constants, declaration)?,
+            held_height(sights, declaration).saturating_add(1),
+        )),
+        _ => Ok(KeptMeaning::Bad),
+    }
+}
+
+/// The number of a constant of the name.
+fn constant_number(
+    definition: &Definition,
+    name: &[u8],
+    sights: &Sights,
+    constants: &Constants,
+) -> Option<i128>
+    ensures { let d = view_definition definition.now in let see = seen_by sights.now in
+        HasNumbers constants.now (outline.enumerators d) (knowns see (outline.enumerators d))
+        → result ≡ constant_number d see name.now }
+{
+    match definition {
+        Definition::Const { value, .. } => constants.number_at(sights, 3, value),
+        _ => constants.number_named(name),
+    }
+}
+
+/// What a declared name means.
+fn meaning(
+    alloc: Global,
+    name: &DeclaredName,
+    definition: &Definition,
+    bodies: &NamedBodies,
+    sights: &Sights,
+    constants: &Constants,
+) -> Result<KeptMeaning, NoMemory>
+    ensures { IfOk result (λ kept. let d = view_definition definition.now in let see = seen_by sights.now in
+        HasNumbers constants.now (outline.enumerators d) (knowns see (outline.enumerators d))
+        → HasBodies bodies.now (outline.bodies d)
+        → list_any is_too_high (heights d see) ≡ false
+        → kept_meaning kept ≡ meaning_of d see (view_name name.now)) }
+{
+    match name.kind {
+        NameKind::Constant => Ok(number_meaning(constant_number(
+            definition, &name.name, sights, constants,
+        ))),
+        NameKind::Typedef => typedef_meaning(alloc, definition, sights, constants),
+        NameKind::Program => Ok(KeptMeaning::Program),
+        _ => named_meaning(alloc, bodies.get(name.word), sights, constants),
+    }
+}
+
+/// What declared names mean.
+fn meanings_by(
+    alloc: Global,
+    definition: &Definition,
+    declared: &[DeclaredName],
+    bodies: &NamedBodies,
+    sights: &Sights,
+    constants: &Constants,
+) -> Result<KeptMeanings, NoMemory>
+    ensures { IfOk result (λ list. let d = view_definition definition.now in let see = seen_by sights.now in
+        HasNumbers constants.now (outline.enumerators d) (knowns see (outline.enumerators d))
+        → HasBodies bodies.now (outline.bodies d)
+        → list_any is_too_high (heights d see) ≡ false
+        → map kept_meaning list.items ≡ map (meaning_of d see) (map view_name declared.now)) }
+{
+    let mut list = SmallVec::with_capacity(alloc, declared.len())?;
+    for name in declared {
+        let kept = meaning(alloc, name, definition, bodies, sights, constants)?;
+        list.push(kept)?;
+    }
+    Ok(list)
+}
+
+/// What the names mean that a definition without a fault declares.
+pub fn meanings(
+    alloc: Global,
+    definition: &Definition,
+    declared: &[DeclaredName],
+    bodies: &[BodyAt],
+    sights: &Sights,
+    constants: &Constants,
+) -> Result<KeptMeanings, NoMemory>
+    ensures { IfOk result (λ list. let d = view_definition definition.now in let see = seen_by sights.now in
+        HasNumbers constants.now (outline.enumerators d) (knowns see (outline.enumerators d))
+        → map view_body_at bodies.now ≡ outline.bodies d
+        → list_any is_too_high (heights d see) ≡ false
+        → map kept_meaning list.items ≡ map (meaning_of d see) (map view_name declared.now)) }
+{
+    let bodies = NamedBodies::of(alloc, bodies)?;
+    meanings_by(alloc, definition, declared, &bodies, sights, constants)
+}

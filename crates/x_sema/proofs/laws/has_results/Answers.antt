@@ -1,5 +1,0 @@
-use Rattle.x_sema.proofs.HasResults as exist
-use Rattle.x_sema.proofs.laws.has_results.Goals as goal
-
-pub returns : goal.returns
-returns c = exist.has_results

@@ -1,5 +1,0 @@
-use Rattle.x_sema.proofs.ResultLaws.{one_results}
-use Rattle.x_sema.proofs.laws.one_list_of_results.Goals as goal
-
-pub returns : goal.returns
-returns c = one_results

@@ -1,9 +1,0 @@
-use Rattle.std.proofs.Common.{◌≡◌, ◌++◌, map, drop}
-use Rattle.x_sema.specs.Found.{spelled_numbers}
-use Rattle.x_sema.specs.Tables.{view_number_at}
-use Rattle.x_sema.proofs.rules.repeats.numbers_of.Given as goal
-
--- with those that are left, there are the numbers of all
-abbrev pub invariant-loop-spelled : goal.invariant-loop-spelled
-invariant-loop-spelled l =
-    l.list.items ++ spelled_numbers (map view_number_at (drop l.spelled-index l.numbers)) ≡ spelled_numbers (map view_number_at l.numbers)

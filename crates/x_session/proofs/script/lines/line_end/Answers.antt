@@ -1,5 +1,0 @@
-use Rattle.x_session.proofs.ReadingLemmas.{far_front}
-use Rattle.x_session.proofs.script.lines.line_end.Goals as goal
-
-pub returns-then-len-gt-LONGEST : goal.returns-then-len-gt-LONGEST
-returns-then-len-gt-LONGEST c bytes left h = far_front bytes c.args.len c.if-len-gt-LONGEST.true h
