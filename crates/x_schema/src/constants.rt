@@ -13,10 +13,10 @@ ghost use Rattle.x_schema.specs.SchemaOf.{with_declarations, with_arms, with_def
 ghost use Rattle.x_schema.specs.SchemaOf.{signed_word, unsigned_word, with_first};
 ghost use Rattle.x_schema.specs.SchemaTables.{numbers_held};
 
-use x_numbers::{next_number, number_value};
 use indexmap::IndexMap;
 use std::alloc::Global;
 use x_item::{Arm, Body, DataType, Declaration, Definition, Enumerator, UnionBody, Value};
+use x_numbers::{next_number, number_value};
 use x_text::NoMemory;
 
 /// The word of four bytes that is the number, if it is one from 0 to 2^32-1.

@@ -33,7 +33,6 @@ ghost use Rattle.x_schema.specs.Sound.{AreSoundFields, IsSoundArm, IsSoundField,
 
 use crate::constants::{Constants, signed_word, unsigned_word};
 use crate::form::{Arm, Arms, Enumerators, Field, Form, FormIndex, LinkIndex, NameIndex};
-use x_numbers::next_number;
 use crate::schema::{NamedType, Schema};
 use indexmap::IndexMap;
 use std::alloc::Global;
@@ -41,6 +40,7 @@ use x_item::{
     Arm as ArmTree, Basic, Body, DataType, Declaration, Definition, Enumerator, Length, Shape,
     UnionBody, Value, lifted_name,
 };
+use x_numbers::next_number;
 use x_text::NoMemory;
 
 /// The types of names.

@@ -15,12 +15,12 @@ ghost use Rattle.x_schema.specs.SchemaMaking.{AddsName, view_known};
 use crate::constants::unsigned_word;
 use crate::form::{Field, Form, FormIndex, NameIndex};
 use crate::maker::{Known, Maker, basic_form};
-use x_numbers::number_value;
 use crate::procedure::{KeptProcedure, ProcedureNumbers};
 use indexmap::IndexMap;
 use itoa::Buffer;
 use std::alloc::Global;
 use x_item::{Argument, DataType, Definition, Procedure, Version};
+use x_numbers::number_value;
 use x_text::NoMemory;
 
 /// Procedures by their numbers.

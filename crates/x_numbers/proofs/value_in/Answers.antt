@@ -1,7 +1,7 @@
 use Rattle.std.proofs.Common.{◌^◌, arith, sym}
 use Rattle.x_numbers.specs.Numbers.{value_in}
 use Rattle.x_numbers.proofs.Digits.{too_great, all_digits}
-use Rattle.x_schema.proofs.number.value_in.Goals as goal
+use Rattle.x_numbers.proofs.value_in.Goals as goal
 
 pub returns-in_default : goal.returns-in_default
 returns-in_default c =

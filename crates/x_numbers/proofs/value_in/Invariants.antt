@@ -1,6 +1,6 @@
 use Rattle.std.proofs.Common.{◌≡◌, ◌<◌, ◌^◌, drop}
 use Rattle.x_numbers.specs.Numbers.{value_behind}
-use Rattle.x_schema.proofs.number.value_in.Given as goal
+use Rattle.x_numbers.proofs.value_in.Given as goal
 
 -- the digits so far stand for the value
 abbrev pub invariant-loop-byte : goal.invariant-loop-byte
