@@ -1,10 +1,13 @@
--- The numbers and names of faults.
-use Rattle.std.specs.Prelude.{ℕ, List, [], map, slice_index_or}
-use denote.Enum.Declared.{tag_of}
-use Rattle.x_item.specs.contracts.parsing.fault_code.FaultCode.{the_type}
+-- The numbers and names of the faults of items that spell no definition (this project).
+use Rattle.std.specs.Prelude.{ℕ, List, codes}
 use Rattle.x_item.specs.declared.parsing.fault_code.FaultCode.{FaultCode}
-use Rattle.x_item.specs.declared.parsing.fault_code.TheConstants.{FAULT_TEXTS}
+use Rattle.x_item.specs.declared.parsing.fault_code.FaultCode.TheVariants as faults
 
--- what is printed for the code: the table has the order of the codes
+-- what is printed for a code: its number and its name
 abbrev pub fault_text : FaultCode → List ℕ
-fault_text code = slice_index_or (map (λ text. text.now) FAULT_TEXTS) (tag_of the_type code) []
+fault_text faults.Syntax = codes "10 Syntax"
+fault_text faults.BadByte = codes "11 BadByte"
+fault_text faults.BadNumber = codes "12 BadNumber"
+fault_text faults.OpenComment = codes "13 OpenComment"
+fault_text faults.Directive = codes "14 Directive"
+fault_text faults.Unfinished = codes "15 Unfinished"

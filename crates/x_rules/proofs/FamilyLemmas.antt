@@ -15,7 +15,7 @@ use Rattle.x_rules.specs.Mentioned.{mention_fault, suits}
 use Rattle.x_rules.specs.Tables.{is_too_high}
 use Rattle.x_rules.specs.Found.{fault_at, mention_faults, past_last, past_last_faults, too_high, too_high_faults}
 use Rattle.x_rules.specs.Rules.{HasMentionFault, IsPastLast, IsTooHigh}
-use Rattle.x_rules.specs.declared.views.TheConstants.{MOST_HEIGHT}
+use Rattle.x_rules.specs.Limits.{most_height}
 use Rattle.x_rules.specs.declared.fault.RuleCode.{RuleCode}
 use Rattle.x_rules.specs.declared.fault.RuleCode.TheVariants as codes
 use Rattle.x_rules.specs.declared.fault.WordFault.{WordFault}
@@ -173,7 +173,7 @@ too_high_at heights names own h among is_type not_lifted =
     let tall = any_is is_too_high heights h in
     record { own = own; among = among; is_type = is_type; not_lifted = not_lifted; word_is = refl; height = tall.0; is_height = tall.1; outside = over tall.0 tall.2 }
   where
-    over : (height : ℕ) → is_too_high height ≡ true → MOST_HEIGHT < height
+    over : (height : ℕ) → is_too_high height ≡ true → most_height < height
     over height e = grind (arith, nat_tests)
 
 pub found_too_high : (heights : List ℕ) (names : List Declared) (f : WordFault) → IsAmong (too_high_faults (list_any is_too_high heights) names) f
@@ -197,5 +197,5 @@ too_high_found heights names word h =
     no_code : Option RuleCode
     no_code = None
 
-    over : (height : ℕ) → MOST_HEIGHT < height → is_too_high height ≡ true
+    over : (height : ℕ) → most_height < height → is_too_high height ≡ true
     over height lt = grind (arith, nat_tests)

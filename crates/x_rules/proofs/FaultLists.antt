@@ -1,12 +1,11 @@
 -- Lists of faults in their order.
-use Rattle.std.proofs.Common.{◌≡◌, ◌<◌, ℕ, ◌⊎◌, inl, inr, List, [], ◌∷◌, get_or, arith, refl, sym, ap, subst, ◌∙◌}
+use Rattle.std.proofs.Common.{◌≡◌, ◌<◌, ℕ, ◌-◌, ◌⊎◌, inl, inr, List, [], ◌∷◌, get_or, arith, refl, sym, ap, subst, ◌∙◌}
 use Rattle.std.proofs.lemmas.Bool.{cases_order}
 use Rattle.std.specs.List.{IsAmong}
-use denote.Enum.Declared.{tag_of}
 use Rattle.x_item.specs.Tree.{Definition}
 use Rattle.x_rules.specs.Views.{View}
 use Rattle.x_rules.specs.Rules.{IsBefore, Ascends, AreFaults}
-use Rattle.x_rules.specs.contracts.fault.RuleCode.{the_type}
+use Rattle.x_rules.specs.RuleTexts.{rule_number}
 use Rattle.x_rules.specs.declared.fault.RuleCode.{RuleCode}
 use Rattle.x_rules.specs.declared.fault.RuleCode.TheVariants as codes
 use Rattle.x_rules.specs.declared.fault.WordFault.{WordFault}
@@ -40,45 +39,47 @@ first_before f (g ∷ rest) x h k = by (among_cases g x rest k) (first_before g 
 
 -- ---- codes by their numbers
 
+-- by their numbers from 20 on; there is no 35
 all_codes : List RuleCode
 all_codes =
     codes.Duplicate ∷ codes.Unknown ∷ codes.LateName ∷ codes.NotType ∷ codes.NotConst ∷ codes.Range ∷ codes.BadSize ∷ codes.VoidPlace ∷ codes.EmptyArray ∷ codes.BadDiscriminant ∷ codes.BadCase
-    ∷ codes.RepeatedCase ∷ codes.RepeatedField ∷ codes.RepeatedNumber ∷ codes.TooHigh ∷ codes.InlineArgument ∷ codes.UsesFaulty ∷ []
+    ∷ codes.RepeatedCase ∷ codes.RepeatedField ∷ codes.RepeatedNumber ∷ codes.TooHigh
+    ∷ codes.Duplicate ∷ codes.InlineArgument ∷ codes.UsesFaulty ∷ []
 
 code_at : ℕ → RuleCode
-code_at n = get_or all_codes n codes.Duplicate
+code_at n = get_or all_codes (n - 20) codes.Duplicate
 
-at_tag : (code : RuleCode) → code_at (tag_of the_type code) ≡ code
+at_number : (code : RuleCode) → code_at (rule_number code) ≡ code
 unfolding code_at all_codes
-at_tag codes.Duplicate = refl
-at_tag codes.Unknown = refl
-at_tag codes.LateName = refl
-at_tag codes.NotType = refl
-at_tag codes.NotConst = refl
-at_tag codes.Range = refl
-at_tag codes.BadSize = refl
-at_tag codes.VoidPlace = refl
-at_tag codes.EmptyArray = refl
-at_tag codes.BadDiscriminant = refl
-at_tag codes.BadCase = refl
-at_tag codes.RepeatedCase = refl
-at_tag codes.RepeatedField = refl
-at_tag codes.RepeatedNumber = refl
-at_tag codes.TooHigh = refl
-at_tag codes.InlineArgument = refl
-at_tag codes.UsesFaulty = refl
+at_number codes.Duplicate = refl
+at_number codes.Unknown = refl
+at_number codes.LateName = refl
+at_number codes.NotType = refl
+at_number codes.NotConst = refl
+at_number codes.Range = refl
+at_number codes.BadSize = refl
+at_number codes.VoidPlace = refl
+at_number codes.EmptyArray = refl
+at_number codes.BadDiscriminant = refl
+at_number codes.BadCase = refl
+at_number codes.RepeatedCase = refl
+at_number codes.RepeatedField = refl
+at_number codes.RepeatedNumber = refl
+at_number codes.TooHigh = refl
+at_number codes.InlineArgument = refl
+at_number codes.UsesFaulty = refl
 
 -- of two faults one stands before the other, or they are one
 compared : (f g : WordFault) → Compared IsBefore f g
 compared f g = by (cases_order f.word g.word)
   where
-    at_word : f.word ≡ g.word → (tag_of the_type f.code ≡ tag_of the_type g.code) ⊎ ((tag_of the_type f.code < tag_of the_type g.code) ⊎ (tag_of the_type g.code < tag_of the_type f.code)) → Compared IsBefore f g
-    at_word same (inl e) = let code : f.code ≡ g.code = sym (at_tag f.code) ∙ ap code_at e ∙ at_tag g.code in inr (inl (λ i. record { word = same i; code = code i }))
+    at_word : f.word ≡ g.word → (rule_number f.code ≡ rule_number g.code) ⊎ ((rule_number f.code < rule_number g.code) ⊎ (rule_number g.code < rule_number f.code)) → Compared IsBefore f g
+    at_word same (inl e) = let code : f.code ≡ g.code = sym (at_number f.code) ∙ ap code_at e ∙ at_number g.code in inr (inl (λ i. record { word = same i; code = code i }))
     at_word same (inr (inl lt)) = inl (inr (same, lt))
     at_word same (inr (inr lt)) = inr (inr (inr (sym same, lt)))
 
     by : (f.word ≡ g.word) ⊎ ((f.word < g.word) ⊎ (g.word < f.word)) → Compared IsBefore f g
-    by (inl same) = at_word same (cases_order (tag_of the_type f.code) (tag_of the_type g.code))
+    by (inl same) = at_word same (cases_order (rule_number f.code) (rule_number g.code))
     by (inr (inl lt)) = inl (inl lt)
     by (inr (inr lt)) = inr (inr (inl lt))
 

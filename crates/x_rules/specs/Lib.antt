@@ -8,6 +8,7 @@ pub mod Found
 pub mod KeptViews
 pub mod Meanings
 pub mod MemberWalks
+pub mod Limits
 pub mod Mentioned
 pub mod NoteWalks
 pub mod Notes

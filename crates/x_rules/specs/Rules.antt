@@ -3,7 +3,6 @@
 -- is none.
 use Rattle.std.specs.Prelude.{◌≡◌, ◌<◌, ◌≤◌, ◌⊎◌, ℕ, ◌+◌, Bool, true, false, nat_lt, List, [], ◌∷◌, ◌++◌, length, Option, Some, None, ℤ, pos, slice_get}
 use Rattle.std.specs.List.{IsAmong}
-use denote.Enum.Declared.{tag_of}
 use Rattle.x_item.specs.Tree as tree
 use Rattle.x_item.specs.Tree.{Definition, Declaration, Value}
 use Rattle.x_item.specs.Gloss as gloss
@@ -16,13 +15,13 @@ use Rattle.x_rules.specs.Views as views
 use Rattle.x_rules.specs.Views.{View, Class, NoClass, Signed, Unsigned, Boolean, Enumeration}
 use Rattle.x_rules.specs.Bodies.{BodyAt, EnumeratorAt, NameAt, ValueAt, NumberAt, Members, bodies, enumerators, cases_of, members, name_groups}
 use Rattle.x_rules.specs.Constants.{Known, knowns, number_at}
+use Rattle.x_rules.specs.Limits.{most_height}
 use Rattle.x_rules.specs.Mentioned.{mention_fault, suits}
+use Rattle.x_rules.specs.RuleTexts.{rule_number}
 use Rattle.x_rules.specs.Types.{declaration_class, heights}
-use Rattle.x_rules.specs.contracts.fault.RuleCode.{the_type}
 use Rattle.x_rules.specs.declared.fault.RuleCode.{RuleCode}
 use Rattle.x_rules.specs.declared.fault.RuleCode.TheVariants as codes
 use Rattle.x_rules.specs.declared.fault.WordFault.{WordFault}
-use Rattle.x_rules.specs.declared.views.TheConstants.{MOST_HEIGHT}
 
 -- the word of the definition has the role
 pub record HasRole (d : Definition) (word : ℕ) (role : Role) : Type 0 where
@@ -223,7 +222,7 @@ pub record IsTooHigh (names : List Declared) (heights : List ℕ) (word : ℕ) :
   pub word_is : word ≡ own.word
   pub height : ℕ
   pub is_height : IsAmong heights height
-  pub outside : MOST_HEIGHT < height
+  pub outside : most_height < height
 
 -- ---- all but 30
 
@@ -296,7 +295,7 @@ IsFault d see word code = Breaks d see word code
 
 -- at an earlier word, or at the same with a code of a lower number
 abbrev pub IsBefore : WordFault → WordFault → Type 0
-IsBefore f g = (f.word < g.word) ⊎ ((f.word ≡ g.word) × (tag_of the_type f.code < tag_of the_type g.code))
+IsBefore f g = (f.word < g.word) ⊎ ((f.word ≡ g.word) × (rule_number f.code < rule_number g.code))
 
 -- each stands before the next
 abbrev pub Ascends : List WordFault → Type 0

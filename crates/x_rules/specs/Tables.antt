@@ -19,7 +19,7 @@ use Rattle.x_rules.specs.Constants.{Known}
 use Rattle.x_rules.specs.Types as types
 use Rattle.x_rules.specs.RustViews.{view_class, view_view}
 use Rattle.x_rules.specs.declared.rules.classes.Sight.{Sight}
-use Rattle.x_rules.specs.declared.views.TheConstants.{MOST_HEIGHT}
+use Rattle.x_rules.specs.Limits.{most_height}
 use Rattle.x_rules.specs.declared.views.View.{View}
 use Rattle.x_rules.specs.declared.outline.parts.EnumeratorAt.{EnumeratorAt}
 use Rattle.x_rules.specs.declared.outline.parts.Members.{Members}
@@ -98,7 +98,7 @@ capped height = min height (2 ^ 32 - 1)
 
 -- a height that no type may have
 abbrev pub is_too_high : ℕ → Bool
-is_too_high height = nat_lt MOST_HEIGHT height
+is_too_high height = nat_lt most_height height
 
 abbrev pub is_by_value : Use → Bool
 is_by_value uses.ByValue = true

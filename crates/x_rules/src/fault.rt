@@ -76,7 +76,7 @@ fn text_in(table: &[&'static str], rule: RuleCode) -> &'static str
 
 impl RuleCode {
     /// The number and the name that are printed for the rule.
-    #[tactic(auto, using(crate::proofs::RuleTextLemmas::within))]
+    #[tactic(auto, using(crate::proofs::RuleTextLemmas::within, crate::proofs::RuleTextLemmas::text_is))]
     pub fn text(self) -> &'static str
         ensures { result.now ≡ rule_text self }
     {

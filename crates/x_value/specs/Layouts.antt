@@ -8,7 +8,6 @@ use Rattle.x_schema.specs.declared.form.Field.{Field}
 use Rattle.x_schema.specs.declared.form.Form.{Form}
 use Rattle.x_schema.specs.declared.form.Form.TheVariants as forms
 use Rattle.x_schema.specs.Choices.{Choice, arm_for, name_for}
-use Rattle.x_value.specs.declared.heads.TheConstants.{MOST_LINKS}
 use Rattle.x_schema.specs.Schema.{Schema, form_at, name_at, target_at}
 use Rattle.x_schema.specs.Sound.{is_legal}
 use Rattle.x_value.specs.declared.fault.ReadCode.{ReadCode}
@@ -17,7 +16,7 @@ use Rattle.x_value.specs.Shown.{Label, Name, Index, Star, Leaf, Signed, Unsigned
 
 -- the most links that may be open at once
 unfoldable pub most_links : ℕ
-most_links = MOST_LINKS
+most_links = 65536
 
 pub data Layout : Type 0 where
   -- so many bytes, shown as this leaf (sections 4.1, 4.2, 4.5 to 4.9, 4.16)

@@ -10,8 +10,8 @@ use Rattle.std.proofs.lemmas.List.Elements.{All-get_or, All-take, All-drop}
 use Rattle.std.proofs.lemmas.Nat.{be_bytes_4, from_be_bytes-to_be_bytes_4}
 use Rattle.std.proofs.lemmas.Bool.{cases_lt}
 use Rattle.std.proofs.lemmas.Bool.Decides.{nat_tests}
-use Rattle.x_wire.specs.declared.records.TheConstants.{MAX_RECORD}
-use Rattle.x_wire.specs.declared.records.framer.TheConstants.{LAST_BIT}
+use Rattle.x_wire.specs.Limits.{most_record}
+use Rattle.x_wire.specs.Limits.{last_bit}
 use Rattle.x_wire.specs.Records.{InHeader, InData, TooLong, Left, Moved, count_after, data_of, quiet}
 use Rattle.x_wire.specs.Records.{in_fragment, behind_header, step, after, told, left}
 use Rattle.x_wire.specs.Records.{records, nothing_left}
@@ -86,13 +86,13 @@ run_full taken bytes (b ∷ c ∷ bs) joined room short full =
 
 -- the number of a header
 abbrev pub number_of : Bool → ℕ → ℕ
-number_of last size = (if last then LAST_BIT else 0) + size
+number_of last size = (if last then last_bit else 0) + size
 
 number_below : (last : Bool) (size : ℕ) → size < 2 ^ 31 → number_of last size < 2 ^ 32
 number_below true size h = omega arith
 number_below false size h = omega arith
 
-number_size : (last : Bool) (size : ℕ) → size < 2 ^ 31 → number_of last size % LAST_BIT ≡ size
+number_size : (last : Bool) (size : ℕ) → size < 2 ^ 31 → number_of last size % last_bit ≡ size
 number_size true size h = omega arith
 number_size false size h = omega arith
 
@@ -102,30 +102,30 @@ le_true a b h = grind (arith, nat_tests)
 le_false : (a b : ℕ) → b < a → nat_le a b ≡ false
 le_false a b h = grind (arith, nat_tests)
 
-number_last : (last : Bool) (size : ℕ) → size < 2 ^ 31 → nat_le LAST_BIT (number_of last size) ≡ last
-number_last true size h = le_true LAST_BIT (LAST_BIT + size) (omega arith)
-number_last false size h = le_false LAST_BIT (0 + size) (omega arith)
+number_last : (last : Bool) (size : ℕ) → size < 2 ^ 31 → nat_le last_bit (number_of last size) ≡ last
+number_last true size h = le_true last_bit (last_bit + size) (omega arith)
+number_last false size h = le_false last_bit (0 + size) (omega arith)
 
 -- a header of a record that stays within the limit
 fits : (taken : ℕ) (last : Bool) (size : ℕ) (joined : List ℕ) → size < 2 ^ 31 →
-    length joined + size ≤ MAX_RECORD →
+    length joined + size ≤ most_record →
     behind_header taken (number_of last size) joined ≡ in_fragment taken size last joined
 fits taken last size joined small fit =
-    ap (λ n. if nat_lt MAX_RECORD (length joined + n) then quiet taken (TooLong (taken - 4)) else in_fragment
-    taken n (nat_le LAST_BIT (number_of last size)) joined) (number_size last size small)
+    ap (λ n. if nat_lt most_record (length joined + n) then quiet taken (TooLong (taken - 4)) else in_fragment
+    taken n (nat_le last_bit (number_of last size)) joined) (number_size last size small)
     ∙ ap (λ b. if b then quiet taken (TooLong (taken - 4)) else in_fragment taken size
-    (nat_le LAST_BIT (number_of last size)) joined) (lt_false MAX_RECORD (length joined + size) fit)
+    (nat_le last_bit (number_of last size)) joined) (lt_false most_record (length joined + size) fit)
     ∙ ap (λ b. in_fragment taken size b joined) (number_last last size small)
 
 -- a header that takes its record over the limit
 overflows : (taken : ℕ) (last : Bool) (size : ℕ) (joined : List ℕ) → size < 2 ^ 31 →
-    MAX_RECORD < length joined + size →
+    most_record < length joined + size →
     behind_header taken (number_of last size) joined ≡ quiet taken (TooLong (taken - 4))
 overflows taken last size joined small over =
-    ap (λ n. if nat_lt MAX_RECORD (length joined + n) then quiet taken (TooLong (taken - 4)) else in_fragment
-    taken n (nat_le LAST_BIT (number_of last size)) joined) (number_size last size small)
+    ap (λ n. if nat_lt most_record (length joined + n) then quiet taken (TooLong (taken - 4)) else in_fragment
+    taken n (nat_le last_bit (number_of last size)) joined) (number_size last size small)
     ∙ ap (λ b. if b then quiet taken (TooLong (taken - 4)) else in_fragment taken size
-    (nat_le LAST_BIT (number_of last size)) joined) (lt_true MAX_RECORD (length joined + size) over)
+    (nat_le last_bit (number_of last size)) joined) (lt_true most_record (length joined + size) over)
 
 -- a whole header
 run_header : (taken : ℕ) (joined : Option (List ℕ)) (last : Bool) (size : ℕ) → taken + 4 < 2 ^ 64 →
@@ -199,7 +199,7 @@ run_behind taken joined last size rest room small =
 
 -- a whole fragment
 run_whole : (taken : ℕ) (joined : Option (List ℕ)) (last : Bool) (bytes rest : List ℕ) →
-    taken + 4 + length bytes < 2 ^ 64 → length (data_of joined) + length bytes ≤ MAX_RECORD →
+    taken + 4 + length bytes < 2 ^ 64 → length (data_of joined) + length bytes ≤ most_record →
     run (stands taken (InHeader [] joined)) (header last (length bytes) ++ (bytes ++ rest))
     ≡ then_run (in_fragment (taken + 4 + length bytes) 0 last (data_of joined ++ bytes)) rest
 run_whole taken joined last bytes rest room fit =
@@ -274,7 +274,7 @@ Goes rest =
     All (λ b. b < 256) stream → SomeFrames at joined stream
 
 whole_frames : (at : ℕ) (joined : Option (List ℕ)) (last : Bool) (size : ℕ) (rest : List ℕ) →
-    size ≤ length rest → length (data_of joined) + size ≤ MAX_RECORD → All (λ b. b < 256) rest → Goes rest →
+    size ≤ length rest → length (data_of joined) + size ≤ most_record → All (λ b. b < 256) rest → Goes rest →
     SomeFrames at joined (header last size ++ rest)
 whole_frames at joined last size rest le fit all goes =
     let len : length (take size rest) ≡ size = length-take size rest ∙ omega arith in
@@ -282,7 +282,7 @@ whole_frames at joined last size rest le fit all goes =
     ≡ header last size ++ rest =
     ap (λ n. header last n ++ (take size rest ++ drop size rest)) len
     ∙ ap (λ t. header last size ++ t) (take-append-drop size rest) in
-    let within : length (data_of joined) + length (take size rest) ≤ MAX_RECORD = omega arith in
+    let within : length (data_of joined) + length (take size rest) ≤ most_record = omega arith in
     let shorter : length (drop size rest) ≤ length rest = simp length-drop (omega arith) in
     let all' = All-drop (λ b. b < 256) size rest all in
     subst (SomeFrames at joined) e
@@ -302,7 +302,7 @@ whole_frames at joined last size rest le fit all goes =
 header_frames : (at : ℕ) (joined : Option (List ℕ)) (last : Bool) (size : ℕ) (rest : List ℕ) → size < 2 ^ 31 →
     All (λ b. b < 256) rest → Goes rest → SomeFrames at joined (header last size ++ rest)
 header_frames at joined last size rest small all goes =
-    elim (cases_lt MAX_RECORD (length (data_of joined) + size)) [
+    elim (cases_lt most_record (length (data_of joined) + size)) [
       | inl over ↦ ([], stands (at + 4) (TooLong at), ends_too_long last size rest small over)
       | inr fit ↦ elim (cases_lt (length rest) size) [
         | inl part ↦ (

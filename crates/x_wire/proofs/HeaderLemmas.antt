@@ -9,7 +9,7 @@ use Rattle.x_value.specs.declared.fault.ReadCode.TheVariants as codes
 use Rattle.x_value.specs.Readings.{IsByteList}
 use Rattle.x_units.specs.Units.{are_zeros}
 use Rattle.x_value.proofs.Fronts.{cut_longer, append_is_nil}
-use Rattle.x_wire.specs.declared.messages.parts.TheConstants.{MOST_AUTH_BYTES}
+use Rattle.x_wire.specs.Limits.{most_auth_bytes}
 use Rattle.x_wire.specs.declared.messages.parts.AcceptStat.{AcceptStat}
 use Rattle.x_wire.specs.declared.messages.parts.AcceptStat.TheVariants as accepts
 use Rattle.x_wire.specs.declared.messages.parts.Reply.TheVariants as replies
@@ -101,7 +101,7 @@ leads_state last on before l (State c n) o =
 leads_state last on before l (Length n) o = absurd o
 leads_state last on before l (Body bs) o = absurd o
 
-leads_length : (on : ℕ → HeaderForm) (before : List HeaderField) → ((n : ℕ) → n ≤ MOST_AUTH_BYTES → Leads (on n) (before ++ (Length n ∷ []))) → Leads (length_form on) before
+leads_length : (on : ℕ → HeaderForm) (before : List HeaderField) → ((n : ℕ) → n ≤ most_auth_bytes → Leads (on n) (before ++ (Length n ∷ []))) → Leads (length_form on) before
 unfolding Leads
 leads_length on before l (Number n) o = absurd o
 leads_length on before l (State c n) o = absurd o
@@ -116,13 +116,13 @@ leads_body n on before l (Length m) o = absurd o
 leads_body n on before l (Body bs) o = l bs o.0 o.1
 
 leads_auth : (on : Auth → HeaderForm) (before : List HeaderField) →
-    ((a : Auth) → a.flavor < 2 ^ 32 → length a.body ≤ MOST_AUTH_BYTES → IsByteList a.body → Leads (on a) (((before ++ (Number a.flavor ∷ [])) ++ (Length (length a.body) ∷ [])) ++ (Body a.body ∷ []))) → Leads (auth_form on) before
+    ((a : Auth) → a.flavor < 2 ^ 32 → length a.body ≤ most_auth_bytes → IsByteList a.body → Leads (on a) (((before ++ (Number a.flavor ∷ [])) ++ (Length (length a.body) ∷ [])) ++ (Body a.body ∷ []))) → Leads (auth_form on) before
 leads_auth on before l =
     leads_number (λ flavor. length_form (λ n. body_form n (λ bs. on (auth flavor bs)))) before (λ flavor lf.
     leads_length (λ n. body_form n (λ bs. on (auth flavor bs))) (before ++ (Number flavor ∷ [])) (λ n ln.
     leads_body n (λ bs. on (auth flavor bs)) ((before ++ (Number flavor ∷ [])) ++ (Length n ∷ [])) (λ bs long fit.
     subst (λ t. Leads (on (auth flavor bs)) (((before ++ (Number flavor ∷ [])) ++ (Length t ∷ [])) ++ (Body bs ∷ []))) long
-    (l (auth flavor bs) lf (subst (λ t. t ≤ MOST_AUTH_BYTES) (sym long) ln) fit))))
+    (l (auth flavor bs) lf (subst (λ t. t ≤ most_auth_bytes) (sym long) ln) fit))))
 
 leads_whole : (h : Header) (before : List HeaderField) → IsHeader h → header_fields h ≡ before → Leads (Whole h) before
 unfolding Leads
@@ -150,7 +150,7 @@ call_leads xid lx =
     leads_auth (by_cred xid r p v q) _ (λ c cf cl cb. leads_auth (λ w. Whole (Call xid r p v q c w)) _ (λ w wf wl wb.
     leads_whole (Call xid r p v q c w) _ (lx, (lit< tt, (lr, (lp, (lv, (lq, (cf, (cl, (cb, (wf, (wl, (wb, tt)))))))))))) refl))))))
 
-accept_leads : (xid : ℕ) (verf : Auth) → xid < 2 ^ 32 → verf.flavor < 2 ^ 32 → length verf.body ≤ MOST_AUTH_BYTES → IsByteList verf.body → (n : ℕ) → n < 6 →
+accept_leads : (xid : ℕ) (verf : Auth) → xid < 2 ^ 32 → verf.flavor < 2 ^ 32 → length verf.body ≤ most_auth_bytes → IsByteList verf.body → (n : ℕ) → n < 6 →
     Leads (accept_form xid verf n) (Number xid ∷ (State 2 1 ∷ (State 2 0 ∷ (Number verf.flavor ∷ (Length (length verf.body) ∷ (Body verf.body ∷ (State 6 n ∷ [])))))))
 accept_leads xid verf lx f l b zero lt = leads_whole (Accepted xid verf Success) _ (lx, (lit< tt, (lit< tt, (f, (l, (b, (lit< tt, tt))))))) refl
 accept_leads xid verf lx f l b (suc zero) lt = leads_whole (Accepted xid verf ProgUnavail) _ (lx, (lit< tt, (lit< tt, (f, (l, (b, (lit< tt, tt))))))) refl
@@ -291,7 +291,7 @@ if_some false c d e = absurd cc
 never_memory : (k : UnitKind) (unit : List ℕ) → unit_fault k unit ≡ some_code codes.NoMemory → ⊥
 never_memory AnyUnit unit e = cc
 never_memory (StateUnit count) unit e = (let h : codes.BadEnum ≡ codes.NoMemory = if_none (nat_lt (from_be_bytes w32 unit) count) codes.BadEnum codes.NoMemory e in cc)
-never_memory LengthUnit unit e = (let h : codes.TooMany ≡ codes.NoMemory = if_some (nat_lt MOST_AUTH_BYTES (from_be_bytes w32 unit)) codes.TooMany codes.NoMemory e in cc)
+never_memory LengthUnit unit e = (let h : codes.TooMany ≡ codes.NoMemory = if_some (nat_lt most_auth_bytes (from_be_bytes w32 unit)) codes.TooMany codes.NoMemory e in cc)
 never_memory (PaddedUnit k) unit e = (let h : codes.BadPad ≡ codes.NoMemory = if_none (are_zeros (drop k unit)) codes.BadPad codes.NoMemory e in cc)
 
 not_short : codes.Short ≡ codes.NoMemory → ⊥

@@ -10,7 +10,7 @@ use Rattle.x_value.specs.Readings.{IsByteList}
 use Rattle.x_units.specs.Units.{are_zeros, word, copies, padding}
 use Rattle.x_value.proofs.Bytes.{word_length, word_from, copies_length, padding_least, zeros_true, zeros_copies, IsByteList-append, IsByteList-zeros, IsByteList-left, pad_left}
 use Rattle.x_value.proofs.Fronts.{cut_same}
-use Rattle.x_wire.specs.declared.messages.parts.TheConstants.{MOST_AUTH_BYTES}
+use Rattle.x_wire.specs.Limits.{most_auth_bytes}
 use Rattle.x_wire.specs.Headers.{Header, HeaderField, Number, State, Length, Body, field_bytes, fields_bytes}
 use Rattle.x_wire.specs.HeaderFaults.{UnitKind, AnyUnit, StateUnit, LengthUnit, PaddedUnit, body_units, field_units, fields_units, unit_fault}
 use Rattle.x_wire.specs.HeaderForms.{FieldKind, AnyNumber, AnyState, AnyLength, BodyOf, IsOfKind, HeaderForm, Whole, Next, Path, number_form, state_form, length_form, body_form, bytes_in, Reads, BegunForm, BadForm, CutForm, FormFault, ends, stops}
@@ -172,28 +172,28 @@ length_unit (State c n) o = absurd o
 length_unit (Length n) o = refl
 length_unit (Body bs) o = absurd o
 
-length_test : (n : ℕ) → n < 2 ^ 32 → unit_fault LengthUnit (word n) ≡ (if nat_lt MOST_AUTH_BYTES n then some_code codes.TooMany else no_code)
-length_test n lt = ap (λ t. if nat_lt MOST_AUTH_BYTES t then some_code codes.TooMany else no_code) (word_from n lt)
+length_test : (n : ℕ) → n < 2 ^ 32 → unit_fault LengthUnit (word n) ≡ (if nat_lt most_auth_bytes n then some_code codes.TooMany else no_code)
+length_test n lt = ap (λ t. if nat_lt most_auth_bytes t then some_code codes.TooMany else no_code) (word_from n lt)
 
 length_fine : (g : HeaderField) → IsOfKind AnyLength g → unit_fault LengthUnit (field_bytes g) ≡ no_code
 length_fine (Number n) o = absurd o
 length_fine (State c n) o = absurd o
 length_fine (Length n) o =
-    length_test n (omega arith) ∙ if_false (nat_lt MOST_AUTH_BYTES n) (some_code codes.TooMany) no_code (lt_false MOST_AUTH_BYTES n o)
+    length_test n (omega arith) ∙ if_false (nat_lt most_auth_bytes n) (some_code codes.TooMany) no_code (lt_false most_auth_bytes n o)
 length_fine (Body bs) o = absurd o
 
 length_kind : IsWordKind AnyLength LengthUnit
 length_kind = record { wide = length_wide; unit = length_unit; fine = length_fine }
 
-pub length_reads : (on : ℕ → HeaderForm) (n : ℕ) (bytes rest : List ℕ) → bytes ≡ word n ++ rest → n ≤ MOST_AUTH_BYTES → Reads (length_form on) bytes (on n) rest
+pub length_reads : (on : ℕ → HeaderForm) (n : ℕ) (bytes rest : List ℕ) → bytes ≡ word n ++ rest → n ≤ most_auth_bytes → Reads (length_form on) bytes (on n) rest
 length_reads on n bytes rest e le = reads_one AnyLength _ (Length n) bytes rest le e
 
 pub length_cut : (on : ℕ → HeaderForm) (bytes : List ℕ) → length bytes < 4 → FormFault (length_form on) bytes 0 codes.Short
 length_cut on bytes short = ends refl refl (word_cut AnyLength LengthUnit _ bytes length_kind short)
 
-pub length_bad : (on : ℕ → HeaderForm) (n : ℕ) (bytes rest : List ℕ) → bytes ≡ word n ++ rest → n < 2 ^ 32 → MOST_AUTH_BYTES < n → FormFault (length_form on) bytes (length bytes) codes.TooMany
+pub length_bad : (on : ℕ → HeaderForm) (n : ℕ) (bytes rest : List ℕ) → bytes ≡ word n ++ rest → n < 2 ^ 32 → most_auth_bytes < n → FormFault (length_form on) bytes (length bytes) codes.TooMany
 length_bad on n bytes rest e lt over =
-    let fault : unit_fault LengthUnit (word n) ≡ some_code codes.TooMany = length_test n lt ∙ if_true (nat_lt MOST_AUTH_BYTES n) (some_code codes.TooMany) no_code (lt_true MOST_AUTH_BYTES n over) in
+    let fault : unit_fault LengthUnit (word n) ≡ some_code codes.TooMany = length_test n lt ∙ if_true (nat_lt most_auth_bytes n) (some_code codes.TooMany) no_code (lt_true most_auth_bytes n over) in
     stops (subst (λ t. BadForm (length_form on) t (length t) codes.TooMany) (sym e) (word_bad AnyLength LengthUnit _ (word n) rest codes.TooMany length_kind (word_length n) fault))
 
 -- ---- bodies

@@ -1,7 +1,7 @@
 -- What the fields of a framer stand for.
 use Rattle.std.specs.Prelude.{◌≡◌, ℕ, ◌<◌, ◌≤◌, Bool, true, false, List, [], ◌∷◌, ◌++◌, take, length}
 use Rattle.std.specs.Prelude.{Some, None, if◌then◌else◌}
-use Rattle.x_wire.specs.declared.records.framer.TheConstants.{HEADER_LEN}
+use Rattle.x_wire.specs.Limits.{header_length}
 use Rattle.x_wire.specs.declared.records.framer.Phase.{Phase}
 use Rattle.x_wire.specs.declared.records.framer.Phase.TheVariants.{InHeader, InData, TooLong}
 use Rattle.x_wire.specs.declared.records.framer.Framer.{Framer}
@@ -24,7 +24,7 @@ left_by framer = record { taken = framer.taken; phase = phase_by framer.phase fr
 
 -- a header lacks a byte at least, and so does an open fragment
 abbrev pub IsOpen : Phase → Type 0
-IsOpen (InHeader bytes count is_open) = (count < HEADER_LEN) × (length bytes ≡ HEADER_LEN)
+IsOpen (InHeader bytes count is_open) = (count < header_length) × (length bytes ≡ header_length)
 IsOpen (InData lacks last) = 0 < lacks
 IsOpen (TooLong at) = Unit {0}
 

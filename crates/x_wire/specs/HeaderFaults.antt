@@ -4,7 +4,7 @@ use Rattle.std.specs.Int.{from_be_bytes, w32}
 use Rattle.x_value.specs.declared.fault.ReadCode.{ReadCode}
 use Rattle.x_value.specs.declared.fault.ReadCode.TheVariants as codes
 use Rattle.x_units.specs.Units.{are_zeros}
-use Rattle.x_wire.specs.declared.messages.parts.TheConstants.{MOST_AUTH_BYTES}
+use Rattle.x_wire.specs.Limits.{most_auth_bytes}
 use Rattle.x_wire.specs.Headers.{Header, HeaderField, Number, State, Length, Body, header_fields, header_bytes, IsHeader, IsBare}
 
 -- ---- what each unit of four bytes in a header is
@@ -46,7 +46,7 @@ unit_fault AnyUnit bytes = None
 unit_fault (StateUnit count) bytes =
     if nat_lt (from_be_bytes w32 bytes) count then None else Some codes.BadEnum
 unit_fault LengthUnit bytes =
-    if nat_lt MOST_AUTH_BYTES (from_be_bytes w32 bytes) then Some codes.TooMany else None
+    if nat_lt most_auth_bytes (from_be_bytes w32 bytes) then Some codes.TooMany else None
 unit_fault (PaddedUnit k) bytes = if are_zeros (drop k bytes) then None else Some codes.BadPad
 
 -- ---- faults

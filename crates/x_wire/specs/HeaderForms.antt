@@ -3,7 +3,7 @@ use Rattle.std.specs.Prelude.{◌≡◌, ℕ, zero, suc, ◌*◌, ◌^◌, ◌<�
 use Rattle.x_value.specs.declared.fault.ReadCode.{ReadCode}
 use Rattle.x_value.specs.declared.fault.ReadCode.TheVariants as codes
 use Rattle.x_value.specs.Readings.{IsByteList}
-use Rattle.x_wire.specs.declared.messages.parts.TheConstants.{MOST_AUTH_BYTES}
+use Rattle.x_wire.specs.Limits.{most_auth_bytes}
 use Rattle.x_wire.specs.Headers.{Auth, Success, ProgUnavail, ProgMismatch, ProcUnavail, GarbageArgs, SystemErr, RpcMismatch, AuthError, Header, Call, Accepted, Denied, HeaderField, Number, State, Length, Body, fields_bytes, IsBare}
 use Rattle.x_wire.specs.HeaderFaults.{UnitKind, unit_fault, fields_units}
 
@@ -20,7 +20,7 @@ pub data FieldKind : Type 0 where
 abbrev pub IsOfKind : FieldKind → HeaderField → Type 0
 IsOfKind AnyNumber (Number n) = n < 2 ^ 32
 IsOfKind (AnyState last) (State count n) = (count ≡ suc last) × (n < count) × (n < 2 ^ 32)
-IsOfKind AnyLength (Length n) = n ≤ MOST_AUTH_BYTES
+IsOfKind AnyLength (Length n) = n ≤ most_auth_bytes
 IsOfKind (BodyOf n) (Body bs) = (length bs ≡ n) × IsByteList bs
 IsOfKind _ _ = ⊥
 

@@ -2,7 +2,7 @@
 use Rattle.std.specs.Prelude.{◌≡◌, ℕ, ◌^◌, ◌<◌, ◌≤◌, List, [], ◌∷◌, ◌++◌, length}
 use Rattle.x_value.specs.Readings.{IsByteList}
 use Rattle.x_units.specs.Units.{word, copies, padding}
-use Rattle.x_wire.specs.declared.messages.parts.TheConstants.{MOST_AUTH_BYTES}
+use Rattle.x_wire.specs.Limits.{most_auth_bytes}
 
 -- ---- headers
 
@@ -91,7 +91,7 @@ header_fields (Denied xid reject) =
 abbrev pub IsHeaderField : HeaderField → Type 0
 IsHeaderField (Number n) = n < 2 ^ 32
 IsHeaderField (State count n) = n < count
-IsHeaderField (Length n) = n ≤ MOST_AUTH_BYTES
+IsHeaderField (Length n) = n ≤ most_auth_bytes
 IsHeaderField (Body bs) = IsByteList bs
 
 abbrev pub AreHeaderFields : List HeaderField → Type 0

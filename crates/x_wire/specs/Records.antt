@@ -3,8 +3,8 @@
 use Rattle.std.specs.Prelude.{ℕ, ◌+◌, ◌-◌, ◌%◌, ◌^◌, min, Bool, List, [], ◌∷◌, ◌++◌, length}
 use Rattle.std.specs.Prelude.{Option, Some, None, nat_lt, nat_le, if◌then◌else◌}
 use Rattle.std.specs.Int.{from_be_bytes, w32}
-use Rattle.x_wire.specs.declared.records.TheConstants.{MAX_RECORD}
-use Rattle.x_wire.specs.declared.records.framer.TheConstants.{HEADER_LEN, LAST_BIT}
+use Rattle.x_wire.specs.Limits.{most_record}
+use Rattle.x_wire.specs.Limits.{header_length, last_bit}
 
 -- Where a stream stands.
 pub data Phase : Type 0 where
@@ -53,13 +53,13 @@ in_fragment taken lacks last joined =
 -- bits are the fragment's length.
 abbrev pub behind_header : (taken number : ℕ) → List ℕ → Moved
 behind_header taken number joined =
-    if nat_lt MAX_RECORD (length joined + number % LAST_BIT) then quiet taken (TooLong (taken - HEADER_LEN))
-    else in_fragment taken (number % LAST_BIT) (nat_le LAST_BIT number) joined
+    if nat_lt most_record (length joined + number % last_bit) then quiet taken (TooLong (taken - header_length))
+    else in_fragment taken (number % last_bit) (nat_le last_bit number) joined
 
 -- these bytes of a header came
 abbrev pub in_header : (taken : ℕ) → List ℕ → Option (List ℕ) → Moved
 in_header taken bytes joined =
-    if nat_lt (length bytes) HEADER_LEN then quiet taken (InHeader bytes joined)
+    if nat_lt (length bytes) header_length then quiet taken (InHeader bytes joined)
     else behind_header taken (from_be_bytes w32 bytes) (data_of joined)
 
 -- one byte more, behind so many

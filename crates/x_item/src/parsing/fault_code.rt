@@ -43,7 +43,7 @@ fn text_in(table: &[&'static str], code: FaultCode) -> &'static str
 
 impl FaultCode {
     /// The number and the name that are printed for the code.
-    #[tactic(auto, using(crate::proofs::FaultTexts::within))]
+    #[tactic(auto, using(crate::proofs::FaultTexts::within, crate::proofs::FaultTexts::text_is))]
     pub fn text(self) -> &'static str
         ensures { result.now ≡ fault_text self }
     {
