@@ -2,7 +2,6 @@
 use Rattle.std.proofs.Common.{◌≡◌, ◌∙◌, ℕ, ◌+◌, ◌≤◌, ◌<◌, Bool, true, false, List, [], ◌++◌, length, Option, Some, None, Result, Ok, Err, Bor, ◌⊎◌, inl, inr, codes, refl, sym, subst, ap, append_assoc, append-nil, length-append, arith}
 use Rattle.std.specs.Prelude.{MatchOption, option_map, unwrap_or, IsErrAnd, IsErrOf}
 use Rattle.std.specs.Io.KnownBytes.{Consumes, IsAtEnd, Keeps}
-use Rattle.std.proofs.Math.Nat.{lt_of_not-le}
 use Rattle.x_text.specs.Streams.{Stream}
 use Rattle.x_text.specs.declared.source.TheConstants.{MAX_TEXT}
 use Rattle.x_schema.specs.Schema.{Schema}
@@ -11,15 +10,19 @@ use Rattle.x_session.specs.Compile.{faults_of}
 use Rattle.x_session.specs.Typed.{GivesSchema}
 use Rattle.x_text.specs.declared.outcome.Outcome.{Outcome}
 use Rattle.x_session.specs.declared.session.Session.{Session}
-use Rattle.rpcx.proofs.Grown.{stays}
-use Rattle.rpcx.specs.Dumping.{course, HasTypes, IsFaultless, IsRead, Opens, ReadsAll, ReadsOn, Shows, ShowsFile, StopsAt}
-use Rattle.rpcx.specs.Generate.{IsTold, NotOpened, told_faults}
+use Rattle.x_args.proofs.Grown.{stays}
+use Rattle.rpcx.proofs.Unopened.{fits}
+use Rattle.rpcx.specs.Course.{course}
+use Rattle.rpcx.specs.Dumping.{HasTypes, IsFaultless, IsRead, Opens, ReadsAll, ReadsOn, Shows, ShowsFile}
+use Rattle.rpcx.specs.Dumping.{StopsAt}
+use Rattle.rpcx.specs.Generate.{NotOpened, told_faults}
+use Rattle.x_args.specs.Telling.{IsTold}
 use Rattle.rpcx.specs.declared.program.dumping.Halt.{Halt}
 use Rattle.rpcx.specs.declared.program.dumping.Halt.TheVariants.{NoType, Unread, TooLarge, NoRoom, Ended, Unwritten}
-use Rattle.rpcx.specs.declared.program.dumping_args.Mode.{Mode}
-use Rattle.rpcx.specs.declared.program.dumping_args.Mode.TheVariants as modes
-use Rattle.rpcx.specs.declared.program.status.Status.{Status}
-use Rattle.rpcx.specs.declared.program.status.Status.TheVariants.{Done, Faulty, Failed}
+use Rattle.x_args.specs.declared.dumping_args.Mode.{Mode}
+use Rattle.x_args.specs.declared.dumping_args.Mode.TheVariants as modes
+use Rattle.x_args.specs.declared.status.Status.{Status}
+use Rattle.x_args.specs.declared.status.Status.TheVariants.{Done, Faulty, Failed}
 
 -- what an option of a text or another text says
 pub now_or : (o : Option (Bor (List ℕ))) (other : Bor (List ℕ)) (chosen : Bor (List ℕ)) → chosen ≡ unwrap_or o other
@@ -42,9 +45,6 @@ consumes_none None = tt
 consumes_none (Some x) = refl
 
 -- ---- the types of the schema
-
-fits : (n : ℕ) → (MAX_TEXT < n → ⊥) → n ≤ MAX_TEXT
-fits n none = let h = lt_of_not-le {n = MAX_TEXT + 1} {m = n} (λ le. none (omega (arith, le))) in omega (arith, h)
 
 -- an error that is passed on
 pub passed_on : {T E : Type 0} (P : Result T E → Type 0) (r : Result T E) (e : E) → IsErrAnd r (λ x. x ≡ e) → P (Err e) → P r

@@ -1,15 +1,22 @@
 -- What a run of `rpcedit` does, by what the run of its script does.
-use Rattle.std.proofs.Common.{◌≡◌, ℕ, Bool, true, false, List, Option, Some, None, Ok, Err, refl, sym, subst, ◌∙◌, ◌⊎◌, inl, inr}
-use Rattle.std.specs.Prelude.{MatchOption}
+use Rattle.std.proofs.Common.{◌≡◌, ◌↔◌, ◌<◌, ◌≤◌, ℕ, Bool, true, false, List, length, Option, Some, None}
+use Rattle.std.proofs.Common.{Ok, Err, refl, sym, subst, ◌∙◌}
+use Rattle.std.specs.Prelude.{MatchOption, IsErrOf}
 use Rattle.x_text.specs.Streams.{Stream}
+use Rattle.x_text.specs.declared.fault.TextFault.{TextFault}
+use Rattle.x_text.specs.declared.fault.TextFault.TheVariants as faults
+use Rattle.x_text.specs.declared.source.TheConstants.{MAX_TEXT}
 use Rattle.x_session.specs.Session.{Document}
 use Rattle.x_lines.specs.Lines.{script_lines}
 use Rattle.x_session.specs.Script.{HasRun, Runs}
-use Rattle.x_text.specs.Engines.{is_refused}
+use Rattle.x_text.specs.Engines.{is_refused, NamesCause}
 use Rattle.x_text.specs.declared.outcome.Outcome.{Outcome}
 use Rattle.x_text.specs.declared.outcome.EngineFault.{EngineFault}
-use Rattle.rpcx.specs.Editing.{Answers, EndsEarly, IsUntouched, status_of}
-use Rattle.rpcx.specs.declared.program.status.Status.{Status}
+use Rattle.x_session.specs.declared.session.Session.{Session}
+use Rattle.rpcx.specs.Course.{course}
+use Rattle.rpcx.specs.Editing.{Answers, EndsBy, EndsEarly, status_of}
+use Rattle.rpcx.proofs.Unopened.{fits}
+use Rattle.x_args.specs.declared.status.Status.{Status}
 
 one_status : (a b : Bool) → status_of a ≡ status_of b → a ≡ b
 one_status true true e = refl
@@ -24,20 +31,24 @@ answers_all None left old new before after outcome status is run = tt
 answers_all (Some script) left old new before after outcome status is run =
     λ refused e. (old, new, record { base_is = refl; text_is = refl }, subst (λ r. HasRun (script_lines script) old new before after r) (one_status (is_refused outcome) refused (sym is ∙ e)) run)
 
--- what a run says where a fault ended it
-pub ends_early : (at left : Option (List ℕ)) (old new : Document) (before after : Stream) (fault : EngineFault) → MatchOption at (Unit {0}) (λ script. Runs script left old new before after (Err fault))
-    → MatchOption at (Unit {0}) (λ script. EndsEarly script left old.base old.text before after)
-ends_early None left old new before after fault h = h
-ends_early (Some script) left old new before after fault h = (fault, old, new, record { base_is = refl; text_is = refl }, h)
+-- a fault ended a run
+pub ends_by : (file file' out out' : Stream) (old new : Document) (fault : EngineFault)
+    → NamesCause (Err fault) file.failed file'.failed out.failed out'.failed
+    → MatchOption file.bytes (Unit {0}) (λ script. Runs script file'.bytes old new out out' (Err fault))
+    → EndsBy fault old.base old.text (course file file' out out')
+ends_by file file' out out' old new fault cause run = record { cause = cause; run = go file.bytes run }
+  where
+    go : (at : Option (List ℕ))
+        → MatchOption at (Unit {0}) (λ script. Runs script file'.bytes old new out out' (Err fault))
+        → MatchOption at (Unit {0}) (λ script. EndsEarly script file'.bytes old.base old.text out out' fault)
+    go None h = h
+    go (Some script) h = (old, new, record { base_is = refl; text_is = refl }, h)
 
--- a run that was not begun
-pub not_begun : (at : Option (List ℕ)) (base text : List ℕ) (contents : Stream)
-    → MatchOption at (Unit {0}) (λ script. IsUntouched script at contents contents ⊎ EndsEarly script at base text contents contents)
-not_begun None base text contents = tt
-not_begun (Some script) base text contents = inl (record { unread = refl; unwritten = refl })
+-- a search through all that is known where this is used would take far longer
+opened_is_not_large : (session : Session) → IsErrOf {E = TextFault} (Ok session) faults.TooLarge → ⊥
+opened_is_not_large session h = cc
 
--- a run that was begun
-pub begun : (at left : Option (List ℕ)) (base text : List ℕ) (before after : Stream) → MatchOption at (Unit {0}) (λ script. EndsEarly script left base text before after)
-    → MatchOption at (Unit {0}) (λ script. IsUntouched script left before after ⊎ EndsEarly script left base text before after)
-begun None left base text before after h = h
-begun (Some script) left base text before after h = inr h
+-- a text that was opened is not too large
+pub opened_fits : (text : List ℕ) (session : Session)
+    → (IsErrOf {E = TextFault} (Ok session) faults.TooLarge ↔ (MAX_TEXT < length text)) → length text ≤ MAX_TEXT
+opened_fits text session large = fits (length text) (λ more. opened_is_not_large session (large.1 more))

@@ -1,6 +1,4 @@
 pub mod Bases
-pub mod Commands
 pub mod Dumping
 pub mod Editing
-pub mod Grown
-pub mod Stopped
+pub mod Unopened

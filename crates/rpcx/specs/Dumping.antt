@@ -16,14 +16,16 @@ use Rattle.x_text.specs.declared.outcome.Outcome.TheVariants.{Clean, Refused}
 use Rattle.x_text.specs.declared.outcome.EngineFault.{EngineFault}
 use Rattle.x_wire.specs.StreamTexts.{DumpsMessage, DumpsStream}
 use Rattle.x_wire.specs.declared.nfs2.TheConstants.{NFS2_X}
-use Rattle.rpcx.specs.Generate.{IsTold, NotOpened, stop_told, told_faults}
+use Rattle.rpcx.specs.Course.{Course, IsIdle}
+use Rattle.rpcx.specs.Generate.{NotOpened, stop_told, told_faults}
+use Rattle.x_args.specs.Telling.{IsTold}
 use Rattle.rpcx.specs.declared.program.dumping.Halt.{Halt}
 use Rattle.rpcx.specs.declared.program.dumping.Halt.TheVariants.{NoType, Unread, TooLarge, NoRoom, Ended, Unwritten}
-use Rattle.rpcx.specs.declared.program.dumping_args.DumpArgs.{DumpArgs}
-use Rattle.rpcx.specs.declared.program.dumping_args.Mode.{Mode}
-use Rattle.rpcx.specs.declared.program.dumping_args.Mode.TheVariants as modes
-use Rattle.rpcx.specs.declared.program.status.Status.{Status}
-use Rattle.rpcx.specs.declared.program.status.Status.TheVariants.{Done, Faulty, Failed}
+use Rattle.x_args.specs.declared.dumping_args.DumpArgs.{DumpArgs}
+use Rattle.x_args.specs.declared.dumping_args.Mode.{Mode}
+use Rattle.x_args.specs.declared.dumping_args.Mode.TheVariants as modes
+use Rattle.x_args.specs.declared.status.Status.{Status}
+use Rattle.x_args.specs.declared.status.Status.TheVariants.{Done, Faulty, Failed}
 
 -- ---- the schema
 
@@ -61,21 +63,6 @@ Opens file text before after (Err Failed) = NotOpened (codes "rpcdump") file tex
 Opens file text before after (Err Done) = ⊥
 
 -- ---- what is shown
-
--- the file and the output of a run, before and after it
-pub record Course : Type 0 where
-  pub file : Stream
-  pub file' : Stream
-  pub out : Stream
-  pub out' : Stream
-
-abbrev pub course : (file file' out out' : Stream) → Course
-course file file' out out' = record { file = file; file' = file'; out = out; out' = out' }
-
--- nothing was read, and nothing was written
-pub record IsIdle (c : Course) : Type 0 where
-  pub unread : c.file' ≡ c.file
-  pub unwritten : c.out' ≡ c.out
 
 -- all bytes were read, which are not too many
 pub record IsRead (bytes : List ℕ) (left : Option (List ℕ)) : Type 0 where

@@ -1,12 +1,17 @@
 -- What a run of `rpcedit` does with the script that it is given.
-use Rattle.std.specs.Prelude.{◌≡◌, ℕ, Bool, List, Option, Some, Err, if◌then◌else◌}
+use Rattle.std.specs.Prelude.{◌≡◌, ◌≤◌, ℕ, Bool, List, length, Option, MatchOption, Err, codes, if◌then◌else◌}
 use Rattle.x_text.specs.Streams.{Stream}
+use Rattle.x_text.specs.Engines.{NamesCause}
+use Rattle.x_text.specs.declared.source.TheConstants.{MAX_TEXT}
+use Rattle.x_text.specs.declared.outcome.EngineFault.{EngineFault}
 use Rattle.x_session.specs.Session.{Document, IsOpenOf}
 use Rattle.x_lines.specs.Lines.{script_lines}
 use Rattle.x_session.specs.Script.{HasRun, Runs}
-use Rattle.x_text.specs.declared.outcome.EngineFault.{EngineFault}
-use Rattle.rpcx.specs.declared.program.status.Status.{Status}
-use Rattle.rpcx.specs.declared.program.status.Status.TheVariants.{Done, Faulty}
+use Rattle.x_args.specs.Telling.{IsTold}
+use Rattle.x_args.specs.declared.status.Status.{Status}
+use Rattle.x_args.specs.declared.status.Status.TheVariants.{Done, Faulty}
+use Rattle.rpcx.specs.Course.{Course, IsIdle}
+use Rattle.rpcx.specs.Generate.{base_of, stop_told, NotOpened}
 
 -- the status of a run that carried out each line, whether or not one was refused
 abbrev pub status_of : Bool → Status
@@ -19,12 +24,28 @@ Answers script base text before after status =
     (refused : Bool) → status ≡ status_of refused → (old new : Document) × IsOpenOf old base text
     × HasRun (script_lines script) old new before after refused
 
--- nothing of the script was read, and nothing was written
-pub record IsUntouched (script : List ℕ) (left : Option (List ℕ)) (before after : Stream) : Type 0 where
-  pub unread : left ≡ Some script
-  pub unwritten : after ≡ before
+-- A run over a text that this fault ends: the sink has what the run of the script says of it.
+abbrev pub EndsEarly : (script : List ℕ) (left : Option (List ℕ)) (base text : List ℕ) (before after : Stream)
+    → EngineFault → Type 0
+EndsEarly script left base text before after fault =
+    (old new : Document) × IsOpenOf old base text × Runs script left old new before after (Err fault)
 
--- A run over a text that a fault ends: the sink has what the run of the script says of that fault.
-abbrev pub EndsEarly : (script : List ℕ) (left : Option (List ℕ)) (base text : List ℕ) (before after : Stream) → Type 0
-EndsEarly script left base text before after =
-    (fault : EngineFault) × (old new : Document) × IsOpenOf old base text × Runs script left old new before after (Err fault)
+-- This fault ends the run of a script over a text: it names what has failed, and where the script is known the sink
+-- has what its run says of the fault.
+pub record EndsBy (fault : EngineFault) (base text : List ℕ) (c : Course) : Type 0 where
+  pub cause : NamesCause (Err fault) c.file.failed c.file'.failed c.out.failed c.out'.failed
+  pub run : MatchOption c.file.bytes (Unit {0})
+      (λ script. EndsEarly script c.file'.bytes base text c.out c.out' fault)
+
+-- a fault ends the run of a script over a text, and that fault is told
+abbrev pub IsStopped : (base text : List ℕ) → Course → (before after : Stream) → Type 0
+IsStopped base text c before after =
+    (fault : EngineFault) × EndsBy fault base text c
+    × IsTold before after (stop_told (codes "rpcedit") (codes "-") fault)
+
+-- Why `rpcedit` does not carry a script out to its end on a file's text that it can read, as it tells it: the text is
+-- not opened, and then nothing is read and nothing is written; or a fault ends the run.
+pub data NotRun (file text : List ℕ) (c : Course) (before after : Stream) : Type 0 where
+  unopened : NotOpened (codes "rpcedit") file text before after → IsIdle c → NotRun file text c before after
+  stopped : length text ≤ MAX_TEXT → IsStopped (base_of file) text c before after
+      → NotRun file text c before after

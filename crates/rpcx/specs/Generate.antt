@@ -1,9 +1,8 @@
 -- What runs of the programs do, and what they tell.
-use Rattle.std.specs.Prelude.{◌≡◌, ◌⊎◌, ℕ, Bool, true, MatchBool, ◌-◌, ◌<◌, ◌≤◌, ◌==◌, List, []}
+use Rattle.std.specs.Prelude.{◌≡◌, ◌⊎◌, ℕ, ◌-◌, ◌<◌, ◌≤◌, ◌==◌, List, []}
 use Rattle.std.specs.Prelude.{◌++◌, length, take, drop, codes, if◌then◌else◌}
 use Rattle.std.specs.Prelude.{Result, IfOk, OnOk, IfErr, IsErrOf}
 use Rattle.std.specs.List.{after_last, flat_map}
-use Rattle.std.specs.Io.KnownBytes.{Appends}
 use Rattle.std.specs.Str.{bytes_eq}
 use Rattle.x_text.specs.Streams.{Stream}
 use Rattle.x_session.specs.declared.compile.fault.Fault.{Fault}
@@ -16,8 +15,9 @@ use Rattle.x_session.specs.Answers.{fault_place}
 use Rattle.x_text.specs.declared.fault.TextFault.{TextFault}
 use Rattle.x_text.specs.declared.fault.TextFault.TheVariants as faults
 use Rattle.x_text.specs.declared.source.TheConstants.{MAX_TEXT}
-use Rattle.rpcx.specs.declared.program.status.Status.{Status}
-use Rattle.rpcx.specs.declared.program.status.Status.TheVariants.{Faulty, Failed}
+use Rattle.x_args.specs.Telling.{IsTold, told_of}
+use Rattle.x_args.specs.declared.status.Status.{Status}
+use Rattle.x_args.specs.declared.status.Status.TheVariants.{Faulty, Failed}
 
 -- a name without a final `.x`
 abbrev pub without_x : List ℕ → List ℕ
@@ -27,14 +27,6 @@ without_x name = if bytes_eq (drop (length name - 2) name) (codes ".x") then tak
 abbrev pub base_of : List ℕ → List ℕ
 base_of file = without_x (after_last (λ b. b == 47) file)
 
--- what a sink holds grew by the text, or by a front of it
-abbrev pub Grows : Stream → Stream → List ℕ → Type 0
-Grows before after text = (count : ℕ) × (count ≤ length text) × Appends before.bytes after.bytes (take count text)
-
--- a sink was told a text: it took all, or it has failed with a front
-abbrev pub IsTold : Stream → Stream → List ℕ → Type 0
-IsTold before after text = MatchBool after.failed (Grows before after text) (Appends before.bytes after.bytes text)
-
 -- `FILE:LINE:COL: CODE NAME`
 abbrev pub told_fault : List ℕ → Fault → List ℕ
 told_fault file f = file ++ codes ":" ++ fault_place f ++ codes ": " ++ fault_text f.code ++ codes "\n"
@@ -42,10 +34,6 @@ told_fault file f = file ++ codes ":" ++ fault_place f ++ codes ": " ++ fault_te
 -- the faults of a file's text, one a line
 abbrev pub told_faults : List ℕ → List Fault → List ℕ
 told_faults file fs = flat_map (told_fault file) fs
-
--- `PROGRAM: WHAT`
-abbrev pub told_of : List ℕ → List ℕ → List ℕ
-told_of program what = program ++ codes ": " ++ what ++ codes "\n"
 
 -- why a file's text is not opened, as a program tells it
 abbrev pub unopened_told : List ℕ → List ℕ → TextFault → List ℕ
@@ -77,16 +65,3 @@ abbrev pub stop_told : List ℕ → List ℕ → EngineFault → List ℕ
 stop_told program file (Read written) = program ++ codes ": " ++ file ++ codes ": cannot be read\n"
 stop_told program file (Write written) = told_of program (codes "output cannot be written")
 stop_told program file (NoMemory written) = told_of program (codes "out of memory")
-
--- why a run stops, as it is told: the reader of the file has failed, or the writer of the answers, or memory ran out
-pub data Stops (program file : List ℕ) (before after : Stream) (reader_failed writer_failed : Bool) : Type 0 where
-  Unread : reader_failed ≡ true → IsTold before after (program ++ codes ": " ++ file ++ codes ": cannot be read\n")
-      → Stops program file before after reader_failed writer_failed
-  Unwritten : writer_failed ≡ true → IsTold before after (told_of program (codes "output cannot be written"))
-      → Stops program file before after reader_failed writer_failed
-  OutOfMemory : IsTold before after (told_of program (codes "out of memory")) → Stops program file before after reader_failed writer_failed
-
--- why `rpcedit` does not carry a script out on a file's text that it can read, as it tells it: the text is too large, or the script stops
-pub data NotRun (file text : List ℕ) (before after : Stream) (reader_failed writer_failed : Bool) : Type 0 where
-  TextTooLarge : MAX_TEXT < length text → IsTold before after (codes "rpcedit: " ++ file ++ codes ": 2 TooLarge\n") → NotRun file text before after reader_failed writer_failed
-  Stopped : length text ≤ MAX_TEXT → Stops (codes "rpcedit") (codes "-") before after reader_failed writer_failed → NotRun file text before after reader_failed writer_failed

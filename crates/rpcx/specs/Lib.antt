@@ -1,6 +1,4 @@
-pub mod Answering
-pub mod Args
+pub mod Course
 pub mod Dumping
 pub mod Editing
 pub mod Generate
-pub mod Status

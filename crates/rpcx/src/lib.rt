@@ -1,12 +1,11 @@
-//! What the programs do: their command lines, the files that they read, and what they tell.
+//! What the programs do: the files that they read, their runs, and what they tell.
 #![tactic(auto)]
 
-mod laws;
 mod program;
 
-pub use laws::request_first;
-pub use program::{
+pub use program::{dump_run, edit_run, gen_open, gen_write, read_text};
+pub use x_args::{
     DumpArgs, EditArgs, GenArgs, Manual, Mode, RPCDUMP, RPCEDIT, RPCGEN, Status, VERSION,
-    answer_words, complain, dump_args, dump_mode, dump_run, edit_args, edit_run, gen_args,
-    gen_mode, gen_open, gen_write, read_text, read_words, tell_of_file,
+    answer_words, complain, dump_args, dump_mode, edit_args, gen_args, gen_mode, read_words,
+    request_first, tell_of_file,
 };

@@ -1,32 +1,11 @@
-//! What the programs tell on standard error.
+//! Why a run over a file does not go on, as a program tells it.
 
-ghost use Rattle.std.specs.Prelude.{◌≡◌, ◌++◌, codes};
-ghost use Rattle.rpcx.specs.Generate.{stop_told, unopened_told, IsTold};
+ghost use Rattle.rpcx.specs.Generate.{stop_told, unopened_told};
+ghost use Rattle.x_args.specs.Telling.{IsTold};
 
+use x_args::tell_of_file;
 use x_session::EngineFault;
-use x_text::{Pen, Sink, TextFault};
-
-/// Writes text that says why a run does not go on. Where that fails there is nobody to tell.
-pub fn complain<E: Sink>(text: &str, err: &mut E)
-    ensures { IsTold (E.state err.old) (E.state err.new) text.now }
-{
-    let mut pen = Pen::new();
-    pen.add(text.as_bytes(), err);
-    let _ = pen.finish(err);
-}
-
-/// Writes what is wrong with a file, behind the name of the program.
-pub fn tell_of_file<E: Sink>(program: &str, file: &str, wrong: &str, err: &mut E)
-    ensures { IsTold (E.state err.old) (E.state err.new)
-        (program.now ++ codes ": " ++ file.now ++ wrong.now) }
-{
-    let mut pen = Pen::new();
-    pen.add(program.as_bytes(), err);
-    pen.add(b": ", err);
-    pen.add(file.as_bytes(), err);
-    pen.add(wrong.as_bytes(), err);
-    let _ = pen.finish(err);
-}
+use x_text::{Sink, TextFault};
 
 /// Writes why a file's text is not opened, behind the name of the program.
 pub(crate) fn tell_unopened<E: Sink>(program: &str, file: &str, fault: TextFault, err: &mut E)

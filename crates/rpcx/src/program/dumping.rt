@@ -1,15 +1,16 @@
 //! What `rpcdump` does over the text of a schema, a tap and sinks.
 
 ghost use Rattle.std.specs.Prelude.{◌≡◌, ◌<◌, ◌++◌, ℕ, List, codes, length, option_map, IfOk, OnOk, IfErr};
-ghost use Rattle.rpcx.specs.Dumping.{course, halt_told, schema_name, schema_text, type_asked, Ends, Goes, HasDumped, Opens, ReadsAll, ReadsOn, StopsAt};
-ghost use Rattle.rpcx.specs.Generate.{IsTold};
+ghost use Rattle.rpcx.specs.Course.{course};
+ghost use Rattle.rpcx.specs.Dumping.{halt_told, schema_name, schema_text, type_asked, Ends, Goes};
+ghost use Rattle.rpcx.specs.Dumping.{HasDumped, Opens, ReadsAll, ReadsOn, StopsAt};
+ghost use Rattle.x_args.specs.Telling.{IsTold};
 
-use crate::program::complaint::{tell_of_file, tell_stop};
-use crate::program::dumping_args::{DumpArgs, Mode};
+use crate::program::complaint::tell_stop;
 use crate::program::opening::open_text;
-use crate::program::status::Status;
 use std::alloc::Global;
 use std::mem;
+use x_args::{DumpArgs, Mode, Status, tell_of_file};
 use x_text::{MAX_TEXT, Pen, Sink, Tap};
 use x_wire::{EngineFault, NFS2_X, Outcome, Schema, dump_message, dump_stream, dump_value};
 

@@ -1,17 +1,17 @@
 //! What `rpcedit` does over a text that was read, a tap and sinks.
 
-ghost use Rattle.std.specs.Prelude.{◌≡◌, ◌≢◌, ◌⊎◌, ◌<◌, MatchOption, codes, length};
-ghost use Rattle.x_text.specs.declared.source.TheConstants.{MAX_TEXT};
-ghost use Rattle.rpcx.specs.Generate.{base_of, NotRun, Stops};
+ghost use Rattle.std.specs.Prelude.{◌≡◌, ◌≢◌, ◌<◌, MatchOption, length};
 ghost use Rattle.x_text.specs.Engines.{WorksOn};
-ghost use Rattle.rpcx.specs.Editing.{Answers, EndsEarly, IsUntouched};
+ghost use Rattle.x_text.specs.declared.source.TheConstants.{MAX_TEXT};
+ghost use Rattle.rpcx.specs.Course.{course};
+ghost use Rattle.rpcx.specs.Editing.{Answers, IsStopped, NotRun};
+ghost use Rattle.rpcx.specs.Generate.{base_of};
 
 use crate::program::base::base_of_file;
 use crate::program::complaint::{tell_stop, tell_unopened};
-use crate::program::editing_args::EditArgs;
-use crate::program::status::Status;
 use std::alloc::Global;
 use std::mem;
+use x_args::{EditArgs, Status};
 use x_session::{Outcome, Session, run_script};
 use x_text::{Sink, Tap};
 
@@ -27,17 +27,15 @@ pub fn edit_run<I: Tap, O: Sink, E: Sink>(
 ) -> Status
     ensures too_large { MAX_TEXT < length bytes.now → result ≡ Status.Failed }
     ensures failed { result ≡ Status.Failed
-        → NotRun args.now.file.now bytes.now (E.state err.old) (E.state err.new) (I.state input.new).failed
-        (O.state out.new).failed }
+        → NotRun args.now.file.now bytes.now
+        (course (I.state input.old) (I.state input.new) (O.state out.old) (O.state out.new))
+        (E.state err.old) (E.state err.new) }
     ensures quiet { result ≢ Status.Failed → err.new ≡ err.old }
+    ensures reading { result ≢ Status.Failed → (I.state input.new).failed ≡ (I.state input.old).failed }
     ensures working { result ≢ Status.Failed → WorksOn (O.state out.old).failed (O.state out.new).failed }
     ensures answers { MatchOption (I.state input.old).bytes (Unit {0})
         (λ script. Answers script (base_of args.now.file.now) bytes.now (O.state out.old)
         (O.state out.new) result) }
-    ensures ended { result ≡ Status.Failed → MatchOption (I.state input.old).bytes (Unit {0}) (λ script.
-        IsUntouched script (I.state input.new).bytes (O.state out.old) (O.state out.new)
-        ⊎ EndsEarly script (I.state input.new).bytes (base_of args.now.file.now) bytes.now
-        (O.state out.old) (O.state out.new)) }
 {
     let mut session = match Session::open(alloc, base_of_file(args.file), bytes) {
         Ok(session) => session,
@@ -60,16 +58,16 @@ fn answer_input<I: Tap, O: Sink, E: Sink>(
     out: &mut O,
     err: &mut E,
 ) -> Status
-    ensures failed { result ≡ Status.Failed
-        → Stops (codes "rpcedit") (codes "-") (E.state err.old) (E.state err.new) (I.state input.new).failed (O.state out.new).failed }
+    ensures stopped { result ≡ Status.Failed
+        → IsStopped session.old.base session.old.text
+        (course (I.state input.old) (I.state input.new) (O.state out.old) (O.state out.new))
+        (E.state err.old) (E.state err.new) }
     ensures quiet { result ≢ Status.Failed → err.new ≡ err.old }
+    ensures reading { result ≢ Status.Failed → (I.state input.new).failed ≡ (I.state input.old).failed }
     ensures working { result ≢ Status.Failed → WorksOn (O.state out.old).failed (O.state out.new).failed }
     ensures answers { MatchOption (I.state input.old).bytes (Unit {0})
         (λ script. Answers script session.old.base session.old.text (O.state out.old)
         (O.state out.new) result) }
-    ensures ended { result ≡ Status.Failed → MatchOption (I.state input.old).bytes (Unit {0}) (λ script.
-        EndsEarly script (I.state input.new).bytes session.old.base session.old.text
-        (O.state out.old) (O.state out.new)) }
 {
     match run_script(alloc, session, input, out) {
         Ok(Outcome::Clean) => Status::Done,

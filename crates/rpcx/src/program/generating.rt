@@ -2,14 +2,14 @@
 
 ghost use Rattle.std.specs.Prelude.{◌≡◌, ◌≢◌, false, not, codes, IsTrue, OnOk, if◌then◌else◌};
 ghost use Rattle.std.specs.Io.KnownBytes.{Appends};
-ghost use Rattle.rpcx.specs.Generate.{Grows, IsOpened, IsTold};
+ghost use Rattle.rpcx.specs.Generate.{IsOpened};
+ghost use Rattle.x_args.specs.Telling.{Grows, IsTold};
 ghost use Rattle.x_session.specs.Session.{Compiles};
 ghost use Rattle.x_session.specs.Generated.{text_of};
 
-use crate::program::complaint::complain;
 use crate::program::opening::open_text;
-use crate::program::status::Status;
 use std::alloc::Global;
+use x_args::{Status, complain};
 use x_session::{Session, Which};
 use x_text::Sink;
 

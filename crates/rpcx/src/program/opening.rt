@@ -2,12 +2,13 @@
 
 ghost use Rattle.std.specs.Prelude.{◌≡◌, OnOk};
 ghost use Rattle.x_text.specs.Writing.{Adds};
-ghost use Rattle.rpcx.specs.Generate.{told_fault, told_faults, IsOpened, IsTold};
+ghost use Rattle.rpcx.specs.Generate.{told_fault, told_faults, IsOpened};
+ghost use Rattle.x_args.specs.Telling.{IsTold};
 
 use crate::program::base::base_of_file;
 use crate::program::complaint::tell_unopened;
-use crate::program::status::Status;
 use std::alloc::Global;
+use x_args::Status;
 use x_session::{Fault, Faults, Session, add_place};
 use x_text::{Pen, Sink};
 

@@ -1,45 +1,12 @@
-//! What a program reads before its run: its words, and the text of its file.
+//! The text of a file, which a program reads before its run.
 
 ghost use Rattle.std.specs.Prelude.{◌≡◌, ◌⊎◌, ◌++◌, codes, OnOk, OnErr, IfErr};
-ghost use Rattle.rpcx.specs.Generate.{told_of, IsTold};
+ghost use Rattle.x_args.specs.Telling.{told_of, IsTold};
 
-use crate::program::complaint::tell_of_file;
-use crate::program::status::Status;
 use std::io::{ErrorKind, Read};
-use std::{env, fs, io};
+use std::{fs, io};
+use x_args::{Status, tell_of_file};
 use x_text::{MAX_TEXT, Sink};
-
-/// The words of the command line. Where there are none to be had it tells why, behind the name of the program, and answers
-/// `Failed`.
-pub fn read_words<E: Sink>(
-    rt: &HostRuntime,
-    program: &str,
-    err: &mut E,
-) -> Result<Vec<String>, Status>
-    ensures failed { IfErr result (λ status. status ≡ Status.Failed) }
-    ensures told { OnErr result
-        (IsTold (E.state err.old) (E.state err.new) (told_of program.now (codes "out of memory"))
-        ⊎ IsTold (E.state err.old) (E.state err.new)
-        (told_of program.now (codes "a word of the command line is not UTF-8"))) }
-    ensures quiet { OnOk result (err.new ≡ err.old) }
-{
-    match env::args(rt).map(|words| words.collect(rt.alloc())) {
-        Ok(Ok(words)) => Ok(words),
-        Err(error) if error.kind() == ErrorKind::InvalidData => {
-            tell_of_file(
-                program,
-                "a word of the command line is not UTF-8",
-                "\n",
-                err,
-            );
-            Err(Status::Failed)
-        }
-        _ => {
-            tell_of_file(program, "out of memory", "\n", err);
-            Err(Status::Failed)
-        }
-    }
-}
 
 /// The bytes of a file, but no more of them than show that it is too large.
 fn bytes_of_file(rt: &HostRuntime, file: &str) -> io::Result<Vec<u8>> {

@@ -1,5 +1,6 @@
 use Rattle.std.proofs.Common.{sym, subst}
-use Rattle.rpcx.specs.Generate.{stop_told, IsTold}
+use Rattle.rpcx.specs.Generate.{stop_told}
+use Rattle.x_args.specs.Telling.{IsTold}
 use Rattle.rpcx.proofs.program.complaint.tell_stop.Goals as goal
 
 pub returns-in-Read : goal.returns-in-Read

@@ -1,5 +1,6 @@
 use Rattle.std.proofs.Common.{sym, subst}
-use Rattle.rpcx.specs.Generate.{unopened_told, IsTold}
+use Rattle.rpcx.specs.Generate.{unopened_told}
+use Rattle.x_args.specs.Telling.{IsTold}
 use Rattle.rpcx.proofs.program.complaint.tell_unopened.Goals as goal
 
 pub returns-in-NoMemory : goal.returns-in-NoMemory

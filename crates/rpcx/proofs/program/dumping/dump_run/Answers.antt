@@ -1,6 +1,6 @@
 use Rattle.std.proofs.Common.{subst}
 use Rattle.rpcx.specs.Dumping.{halt_told, halted, type_asked}
-use Rattle.rpcx.specs.Generate.{IsTold}
+use Rattle.x_args.specs.Telling.{IsTold}
 use Rattle.rpcx.proofs.program.dumping.dump_run.Goals as goal
 
 pub returns-in-Err-shown-clause-dumped : goal.returns-in-Err-shown-clause-dumped

@@ -2,7 +2,7 @@ use Rattle.std.proofs.Common.{Ok, inr, codes, subst}
 use Rattle.x_session.specs.Session.{Compiles}
 use Rattle.x_session.specs.Typed.{GivesSchema}
 use Rattle.rpcx.specs.Dumping.{Opens}
-use Rattle.rpcx.specs.Generate.{IsTold}
+use Rattle.x_args.specs.Telling.{IsTold}
 use Rattle.rpcx.proofs.Dumping.{faultless, has_types, not_opened, passed_on}
 use Rattle.rpcx.proofs.program.dumping.open_types.Goals as goal
 

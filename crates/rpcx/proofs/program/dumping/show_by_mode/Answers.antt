@@ -1,5 +1,6 @@
 use Rattle.std.proofs.Common.{sym, subst}
-use Rattle.rpcx.specs.Dumping.{course, type_asked, Goes}
+use Rattle.rpcx.specs.Course.{course}
+use Rattle.rpcx.specs.Dumping.{type_asked, Goes}
 use Rattle.rpcx.proofs.program.dumping.show_by_mode.Goals as goal
 
 pub returns-in-Stream : goal.returns-in-Stream

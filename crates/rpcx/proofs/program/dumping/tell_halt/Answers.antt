@@ -1,6 +1,6 @@
 use Rattle.std.proofs.Common.{sym, subst, codes, ◌++◌}
 use Rattle.rpcx.specs.Dumping.{halt_told, type_asked}
-use Rattle.rpcx.specs.Generate.{IsTold}
+use Rattle.x_args.specs.Telling.{IsTold}
 use Rattle.rpcx.proofs.Dumping.{now_or}
 use Rattle.rpcx.proofs.program.dumping.tell_halt.Goals as goal
 

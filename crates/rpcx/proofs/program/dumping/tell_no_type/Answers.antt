@@ -1,7 +1,7 @@
 use Rattle.std.proofs.Common.{◌≡◌, ◌++◌, codes, [], sym, subst}
 use Rattle.x_text.specs.Writing.{Inked, Writes, IsWritten}
 use Rattle.x_text.proofs.Pens.{writes_none}
-use Rattle.rpcx.proofs.Grown.{told}
+use Rattle.x_args.proofs.Grown.{told}
 use Rattle.rpcx.proofs.program.dumping.tell_no_type.Goals as goal
 
 pub returns : goal.returns

@@ -1,5 +1,5 @@
 use Rattle.x_session.specs.Generated.{text_of}
-use Rattle.rpcx.proofs.Grown.{grown_kept}
+use Rattle.x_args.proofs.Grown.{grown_kept}
 use Rattle.rpcx.proofs.program.generating.is_written.Goals as goal
 
 pub returns-clause-front : goal.returns-clause-front

@@ -4,10 +4,11 @@ use Rattle.x_text.specs.declared.fault.TextFault.TheVariants as fault
 use Rattle.x_session.specs.Session.{Compiles, Document}
 use Rattle.x_session.specs.Compile.{faults_of}
 use Rattle.x_session.specs.declared.compile.fault.Fault.{Fault}
-use Rattle.rpcx.specs.declared.program.status.Status.TheVariants as status
-use Rattle.rpcx.specs.Generate.{told_faults, IsTold}
+use Rattle.x_args.specs.declared.status.Status.TheVariants as status
+use Rattle.rpcx.specs.Generate.{told_faults}
+use Rattle.x_args.specs.Telling.{IsTold}
 use Rattle.x_session.proofs.Compiled.{one_compilation}
-use Rattle.rpcx.proofs.Stopped.{not_opened}
+use Rattle.rpcx.proofs.Unopened.{not_opened}
 use Rattle.rpcx.proofs.program.opening.open_text.Goals as goal
 
 no_fault : (fs : List Fault) (n : ℕ) → n ≡ length fs → n ≤ 0 → fs ≡ []

@@ -1,0 +1,195 @@
+-- The command lines of the programs, in clap's words: what a program knows, and what it reads.
+use Rattle.std.specs.Prelude.{◌≡◌, ℕ, Bool, ◌&&◌, not, List, [], ◌∷◌, ◌++◌, Option, None, Some}
+use Rattle.std.specs.Prelude.{true, false, codes, find, is_some, map}
+use Rattle.std.specs.List.{All}
+use Rattle.std.specs.Prelude.{option_and_then, option_map, slice_get}
+use Rattle.std.specs.Str.{bytes_eq}
+use Rattle.clap.specs.Words.{AddsArg, AddsInTurn, App, IsParsedFrom, Row, Rule, Text}
+use Rattle.clap.specs.Words.{args_of, fault_of, first_of, first_value}
+use Rattle.clap.specs.Words.{found_of, groups_of, new_app, new_rule, with_rule}
+use Rattle.clap.specs.Built.{FitsChain}
+use Rattle.clap.specs.Simple.{on_top}
+use Rattle.clap.specs.declared.builder.action.ArgAction.{ArgAction}
+use Rattle.clap.specs.declared.builder.action.ArgAction.TheVariants.{Help, Set, SetTrue, Version}
+use Rattle.clap.specs.declared.builder.arg.Arg.{Arg}
+use Rattle.clap.specs.declared.builder.command.Command.{Command}
+use Rattle.clap.specs.declared.builder.command.Command.TheViews.{out-Command}
+use Rattle.clap.specs.declared.error.kind.ErrorKind.TheVariants.{DisplayHelp, DisplayVersion}
+use Rattle.clap.specs.declared.parser.matches.ArgMatches.{ArgMatches}
+use Rattle.clap.specs.declared.parser.matches.ValueSource.{ValueSource}
+use Rattle.clap.specs.declared.parser.matches.ValueSource.TheVariants.{CommandLine}
+use Rattle.x_gen.specs.declared.which.Which.{Which}
+use Rattle.x_gen.specs.declared.which.Which.TheVariants.{Header, Routines, Stubs, Table}
+use Rattle.x_args.specs.declared.dumping_args.DumpArgs.{DumpArgs}
+use Rattle.x_args.specs.declared.dumping_args.Mode.{Mode}
+use Rattle.x_args.specs.declared.dumping_args.Mode.TheVariants.{Stream, Message, Value}
+use Rattle.x_args.specs.declared.editing_args.EditArgs.{EditArgs}
+use Rattle.x_args.specs.declared.generating_args.GenArgs.{GenArgs}
+
+-- the id is neither empty nor one of clap's own
+abbrev pub is_own : Text → Bool
+is_own id = not (bytes_eq id []) && (not (bytes_eq id (codes "help")) && not (bytes_eq id (codes "version")))
+
+-- a letter without a value
+abbrev pub flag_rule : Text → Option ℕ → Rule
+flag_rule id letter = record (new_rule id) { short = letter; action = Some SetTrue }
+
+-- a letter with a value, which has a name
+abbrev pub valued_rule : Text → Option ℕ → Rule
+valued_rule id letter = record (new_rule id) { short = letter; value_names = 1; action = Some Set }
+
+-- a word without a letter, which clap answers
+abbrev pub request_rule : (id word : Text) → ArgAction → Rule
+request_rule id word action = record (new_rule id) { long = Some word; action = Some action }
+
+-- `--help`
+abbrev pub help_rule : Rule
+help_rule = request_rule (codes "asks_help") (codes "help") Help
+
+-- `--version`
+abbrev pub version_rule : Rule
+version_rule = request_rule (codes "asks_version") (codes "version") Version
+
+-- the ids of the two, which differ from those of clap's own
+abbrev pub request_ids : List Text
+request_ids = codes "asks_help" ∷ codes "asks_version" ∷ []
+
+-- `-c`
+abbrev pub routines_rule : Rule
+routines_rule = flag_rule (codes "routines") (slice_get (codes "c") 0)
+
+-- `-h`
+abbrev pub header_rule : Rule
+header_rule = flag_rule (codes "header") (slice_get (codes "h") 0)
+
+-- `-l`
+abbrev pub stubs_rule : Rule
+stubs_rule = flag_rule (codes "stubs") (slice_get (codes "l") 0)
+
+-- `-t`
+abbrev pub table_rule : Rule
+table_rule = flag_rule (codes "table") (slice_get (codes "t") 0)
+
+-- `-o OUT`
+abbrev pub output_rule : Rule
+output_rule = valued_rule (codes "output") (slice_get (codes "o") 0)
+
+-- FILE, which has to be there
+abbrev pub file_rule : Rule
+file_rule = record (new_rule (codes "file")) { action = Some Set; required = true }
+
+-- a command that knows nothing yet, not even clap's own `-h`
+abbrev pub bare_app : Text → App
+bare_app name = on_top (λ s. record s { disable_help_flag = true }) (new_app name)
+
+-- a command that knows `--help` and `--version`, and no letter yet
+abbrev pub plain_app : Text → App
+plain_app name = with_rule (with_rule (bare_app name) help_rule) version_rule
+
+-- the four letters of `rpcgen` behind what a command knows
+abbrev pub with_letters : App → App
+with_letters app = with_rule (with_rule (with_rule (with_rule app routines_rule) header_rule) stubs_rule) table_rule
+
+-- `rpcgen [--help] [--version] [-c] [-h] [-l] [-t] [-o OUT] FILE`
+unfoldable pub gen_app : App
+gen_app = with_rule (with_rule (with_letters (plain_app (codes "rpcgen"))) output_rule) file_rule
+
+-- `-x SCHEMA`
+abbrev pub schema_rule : Rule
+schema_rule = valued_rule (codes "schema") (slice_get (codes "x") 0)
+
+-- `-b`
+abbrev pub bare_rule : Rule
+bare_rule = flag_rule (codes "bare") (slice_get (codes "b") 0)
+
+-- `-t TYPE`
+abbrev pub type_rule : Rule
+type_rule = valued_rule (codes "type") (slice_get (codes "t") 0)
+
+-- `rpcdump [--help] [--version] [-x SCHEMA] [-b] [-t TYPE] FILE`
+unfoldable pub dump_app : App
+dump_app = with_rule (with_rule (with_rule (with_rule (plain_app (codes "rpcdump")) schema_rule) bare_rule) type_rule) file_rule
+
+-- `rpcedit [--help] [--version] FILE`
+unfoldable pub edit_app : App
+edit_app = with_rule (plain_app (codes "rpcedit")) file_rule
+
+-- The command was made by a chain of `.arg(..)` calls, which began with one that knows nothing, of arguments
+-- of these ids.
+pub record IsChain (ids : List Text) (cmd : Command) : Type 0 where
+  pub start : Command
+  pub args : List Arg
+  pub nothing : (args_of start ≡ []) × (groups_of start ≡ [])
+  pub local : (out-Command start).has_globals ≡ false
+  pub negates : (out-Command start).subcommand_negates_reqs ≡ false
+  pub steps : AddsInTurn AddsArg start args cmd
+  pub fit : All FitsChain args
+  pub ids_are : map (λ a. a.id.now) args ≡ ids
+
+-- every parse by the command that succeeds gives the argument a value
+abbrev pub AlwaysHas : Text → Command → Type 0
+AlwaysHas id c = (m : ArgMatches) → IsParsedFrom c m → is_some (first_value (found_of m) id) ≡ true
+
+-- where the entry of an id came from
+abbrev pub source_of : Text → List Row → Option ValueSource
+source_of id rows = option_and_then (λ r. r.source) (find (λ r. bytes_eq r.id id) rows)
+
+-- the entry came from the words, and not from a default alone
+abbrev pub is_command_line : Option ValueSource → Bool
+is_command_line (Some CommandLine) = true
+is_command_line _ = false
+
+-- the words themselves have the argument
+abbrev pub is_in_words : Text → List Row → Bool
+is_in_words id rows = is_command_line (source_of id rows)
+
+-- the letters and values of `rpcgen`, as clap read them
+pub record IsGenArgs (rows : List Row) (args : GenArgs) : Type 0 where
+  pub routines : args.routines ≡ is_in_words (codes "routines") rows
+  pub header : args.header ≡ is_in_words (codes "header") rows
+  pub stubs : args.stubs ≡ is_in_words (codes "stubs") rows
+  pub table : args.table ≡ is_in_words (codes "table") rows
+  pub output : option_map (λ s. s.now) args.output ≡ first_of (codes "output") rows
+  pub file : Some args.file.now ≡ first_of (codes "file") rows
+
+-- the value of `rpcedit`, as clap read it
+pub record IsEditArgs (rows : List Row) (args : EditArgs) : Type 0 where
+  pub file : Some args.file.now ≡ first_of (codes "file") rows
+
+-- the letters and values of `rpcdump`, as clap read them
+pub record IsDumpArgs (rows : List Row) (args : DumpArgs) : Type 0 where
+  pub schema : option_map (λ s. s.now) args.schema ≡ first_of (codes "schema") rows
+  pub bare : args.bare ≡ is_in_words (codes "bare") rows
+  pub type_name : option_map (λ s. s.now) args.type_name ≡ first_of (codes "type") rows
+  pub file : Some args.file.now ≡ first_of (codes "file") rows
+
+-- what the bytes are where there is `-b`, and where there is `-t TYPE`
+abbrev pub mode_by : (bare typed : Bool) → Option Mode
+mode_by false false = Some Stream
+mode_by true false = Some Message
+mode_by false true = Some Value
+mode_by true true = None
+
+-- what the letters say that the bytes are
+abbrev pub mode_of : DumpArgs → Option Mode
+mode_of args = mode_by args.bare (is_some args.type_name)
+
+abbrev pub if_asked : Bool → Which → List Which
+if_asked true which = which ∷ []
+if_asked false which = []
+
+-- the texts that the letters ask for
+abbrev pub asked_by : GenArgs → List Which
+asked_by args =
+    if_asked args.routines Routines ++ if_asked args.header Header ++ if_asked args.stubs Stubs ++ if_asked args.table Table
+
+-- the text of a list that has one
+abbrev pub only_of : List Which → Option Which
+only_of (which ∷ []) = Some which
+only_of all = None
+
+-- A first word that asks for the help or the version is answered so, whatever follows it.
+abbrev pub MindsFirst : App → Type 0
+MindsFirst app = (name : Text) (rest : List Text)
+    → (fault_of app (name ∷ codes "--help" ∷ rest) ≡ DisplayHelp ∷ [])
+    × (fault_of app (name ∷ codes "--version" ∷ rest) ≡ DisplayVersion ∷ [])

@@ -1,0 +1,4 @@
+pub mod Answering
+pub mod Args
+pub mod Status
+pub mod Telling

@@ -1,0 +1,28 @@
+//! What the programs tell on standard error.
+
+ghost use Rattle.std.specs.Prelude.{◌≡◌, ◌++◌, codes};
+ghost use Rattle.x_args.specs.Telling.{IsTold};
+
+use x_text::{Pen, Sink};
+
+/// Writes text that says why a run does not go on. Where that fails there is nobody to tell.
+pub fn complain<E: Sink>(text: &str, err: &mut E)
+    ensures { IsTold (E.state err.old) (E.state err.new) text.now }
+{
+    let mut pen = Pen::new();
+    pen.add(text.as_bytes(), err);
+    let _ = pen.finish(err);
+}
+
+/// Writes what is wrong with a file, behind the name of the program.
+pub fn tell_of_file<E: Sink>(program: &str, file: &str, wrong: &str, err: &mut E)
+    ensures { IsTold (E.state err.old) (E.state err.new)
+        (program.now ++ codes ": " ++ file.now ++ wrong.now) }
+{
+    let mut pen = Pen::new();
+    pen.add(program.as_bytes(), err);
+    pen.add(b": ", err);
+    pen.add(file.as_bytes(), err);
+    pen.add(wrong.as_bytes(), err);
+    let _ = pen.finish(err);
+}

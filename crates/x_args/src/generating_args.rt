@@ -1,0 +1,91 @@
+//! The command line of `rpcgen`, and the text that it asks for.
+
+ghost use Rattle.std.specs.Prelude.{◌≡◌, ◌≢◌, None, IfOk, codes, map};
+ghost use Rattle.clap.specs.Words.{FailsBy, app_of, fault_of, matches_of};
+ghost use Rattle.x_args.specs.Telling.{IsTold};
+ghost use Rattle.x_args.specs.Args.{AlwaysHas, IsGenArgs, asked_by, gen_app, only_of};
+
+use crate::arguments::{file, flag, is_given, plain_command, valued};
+use crate::complaint::complain;
+use clap::{Command, Error};
+use std::alloc::{AllocError, Global};
+use std::convert::AsStr;
+use x_gen::Which;
+use x_text::Sink;
+
+/// What a command line of `rpcgen` asks for.
+#[derive(Clone, Copy, Debug, PartialEq, Eq)]
+pub struct GenArgs<'a> {
+    /// `-c`: the XDR routines are wanted.
+    pub routines: bool,
+    /// `-h`: the header is wanted.
+    pub header: bool,
+    /// `-l`: the client's stubs are wanted.
+    pub stubs: bool,
+    /// `-t`: the server's tables are wanted.
+    pub table: bool,
+    /// `-o OUT`: the file that the text goes to, in place of standard output.
+    pub output: Option<&'a str>,
+    /// FILE: the text that is read.
+    pub file: &'a str,
+}
+
+/// Reads a command line of `rpcgen`; the first of `words` is the program's name, as in `env::args`.
+///
+/// # Errors
+/// The words ask for help or the version, or are no command line of `rpcgen`, or memory ran out.
+pub fn gen_args<'a, S: AsStr>(alloc: Global, words: &'a [S]) -> Result<GenArgs<'a>, Error>
+    ensures reads { IfOk result (IsGenArgs (matches_of gen_app (map S.text words.entry.now))) }
+    ensures refuses { FailsBy (fault_of gen_app (map S.text words.entry.now)) result }
+{
+    let matches = gen_command(alloc)?.try_get_matches_from(words)?;
+    Ok(GenArgs {
+        routines: is_given(&matches, "routines"),
+        header: is_given(&matches, "header"),
+        stubs: is_given(&matches, "stubs"),
+        table: is_given(&matches, "table"),
+        output: matches.get_str("output"),
+        file: matches.get_str("file").unwrap(),
+    })
+}
+
+// The letters and values of `rpcgen`.
+fn gen_command<'a>(alloc: Global) -> Result<Command<'a>, AllocError>
+    ensures app { IfOk result (λ c. app_of c ≡ gen_app) }
+    ensures file { IfOk result (AlwaysHas (codes "file")) }
+{
+    plain_command(alloc, "rpcgen")?
+        .arg(flag(alloc, "routines", 'c'))?
+        .arg(flag(alloc, "header", 'h'))?
+        .arg(flag(alloc, "stubs", 'l'))?
+        .arg(flag(alloc, "table", 't'))?
+        .arg(valued(alloc, "output", 'o', "OUT"))?
+        .arg(file(alloc))
+}
+
+/// The text that a command line asks for: exactly one letter tells it.
+pub fn gen_mode<E: Sink>(args: &GenArgs, err: &mut E) -> Option<Which>
+    ensures mode { result ≡ only_of (asked_by args.now) }
+    ensures told { result ≡ None
+        → IsTold (E.state err.old) (E.state err.new) (codes "rpcgen: exactly one of -c, -h, -l, -t\n") }
+    ensures quiet { result ≢ None → err.new ≡ err.old }
+{
+    let only = only_letter(args);
+    if only.is_none() {
+        complain("rpcgen: exactly one of -c, -h, -l, -t\n", err);
+    }
+    only
+}
+
+/// The text of the letter, where there is exactly one.
+fn only_letter(args: &GenArgs) -> Option<Which>
+    ensures { result ≡ only_of (asked_by args.now) }
+{
+    match (args.routines, args.header, args.stubs, args.table) {
+        (true, false, false, false) => Some(Which::Routines),
+        (false, true, false, false) => Some(Which::Header),
+        (false, false, true, false) => Some(Which::Stubs),
+        (false, false, false, true) => Some(Which::Table),
+        _ => None,
+    }
+}

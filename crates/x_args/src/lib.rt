@@ -1,0 +1,23 @@
+//! The command lines of the programs: what they ask for, and what is answered to those that no run comes of.
+#![tactic(auto)]
+
+mod answering;
+mod arguments;
+mod complaint;
+mod dumping_args;
+mod editing_args;
+mod generating_args;
+mod laws;
+mod manual;
+mod status;
+mod words;
+
+pub use answering::answer_words;
+pub use complaint::{complain, tell_of_file};
+pub use dumping_args::{DumpArgs, Mode, dump_args, dump_mode};
+pub use editing_args::{EditArgs, edit_args};
+pub use generating_args::{GenArgs, gen_args, gen_mode};
+pub use laws::request_first;
+pub use manual::{Manual, RPCDUMP, RPCEDIT, RPCGEN, VERSION};
+pub use status::Status;
+pub use words::read_words;
