@@ -1,4 +1,6 @@
-use rpcx::{DumpArgs, EditArgs, Mode, Status, dump_run, edit_run, gen_write};
+use rpcx::{
+    DumpArgs, EditArgs, GenArgs, Mode, Status, dump_run, edit_run, gen_mode, gen_open, gen_write,
+};
 use std::test::Fail;
 use x_session::{Session, Which};
 use x_text::{MemSink, MemTap};
@@ -16,6 +18,30 @@ fn a_generator_tells_of_a_full_sink(rt: HostRuntime) -> Result<(), Fail> {
         b"rpcgen: output cannot be written\n".as_slice()
     );
     Ok(())
+}
+
+const TWO_LETTERS: GenArgs<'static> = GenArgs {
+    routines: true,
+    header: true,
+    stubs: false,
+    table: false,
+    output: None,
+    file: "t.x",
+};
+
+/// A union whose case no enumerator has the name of.
+const FAULTY: &[u8] = b"enum e {A=0}; union u switch (e d) {case B: int x; default: void;};";
+
+#[test]
+fn a_generator_wants_one_letter_and_no_fault(rt: HostRuntime) {
+    let mut told = [0u8; 128];
+    let mut err = MemSink::new(&mut told, 128, 128);
+    let mode = gen_mode(&TWO_LETTERS, &mut err);
+    assert!(rt; mode.is_none());
+    let opened = gen_open(rt.alloc(), "t.x", FAULTY, &mut err);
+    assert!(rt; matches!(opened, Err(Status::Faulty)));
+    let wanted = "rpcgen: exactly one of -c, -h, -l, -t\nt.x:1:42: 21 Unknown\n";
+    assert_eq!(rt; err.bytes(), wanted.as_bytes());
 }
 
 #[test]
