@@ -33,6 +33,12 @@ short() (
     "$@"
 )
 
+# within KIB COMMAND..: where there is so much memory, the program itself included.
+within() (
+    ulimit -v "$1"
+    "${@:2}"
+)
+
 # adders COUNT: a program of so many procedures, each of two arguments.
 adders() {
     local k

@@ -40,34 +40,37 @@ fn follow(
     Ok(count)
 }
 
-/// Checks that the items are still those of the text `a;`.
-fn expect_as_before(rt: &impl Abort, items: &Items<u8>) {
-    assert_eq!(rt; items.len(), 2);
-    assert_eq!(rt; items.get(0).map(|item| item.tokens), Some(2));
-    assert_eq!(rt; items.get(1).map(|item| item.tokens), Some(0));
+/// Checks how many tokens each item has.
+fn expect_items(rt: &impl Abort, items: &Items<u8>, counts: &[usize]) {
+    assert_eq!(rt; items.len(), counts.len());
+    for (index, count) in counts.iter().enumerate() {
+        assert_eq!(rt; items.get(index).map(|item| item.tokens), Some(*count));
+    }
 }
 
-/// Follows an edit of the text `a;`, and checks after each refusal that its items are as before.
+/// Follows an edit of a text without a brace that puts it in: the one item, which no `;` ends, becomes three, the
+/// last of them empty. Checks after each refusal that the items are as before.
 fn follow_with_little_memory(rt: &impl Abort, alloc: Global) -> Result<(), TextFault> {
-    let old = Source::from_bytes(alloc, b"a;")?;
+    let old = Source::from_bytes(alloc, b"struct s { int a; const B = 2;")?;
     let Ok(mut tokens) = lex(alloc, &old, &mut Meter::new()) else {
         return Err(TextFault::NoMemory);
     };
     let Ok(mut items) = cut(alloc, &tokens, &old) else {
         return Err(TextFault::NoMemory);
     };
+    expect_items(rt, &items, &[19]);
     let edit = Edit {
-        start: 2,
-        end: 2,
-        insert: b" b;",
+        start: 18,
+        end: 18,
+        insert: b"}; ",
     };
     let new = old.edited(alloc, &edit)?;
-    let followed = follow(alloc, &mut items, &mut tokens, &old, &edit, &new);
-    if followed.is_err() {
-        expect_as_before(rt, &items);
+    let Ok(count) = follow(alloc, &mut items, &mut tokens, &old, &edit, &new) else {
+        expect_items(rt, &items, &[19]);
         return Err(TextFault::NoMemory);
-    }
-    assert_eq!(rt; items.len(), 3);
+    };
+    assert_eq!(rt; count, 3);
+    expect_items(rt, &items, &[13, 9, 0]);
     Ok(())
 }
 

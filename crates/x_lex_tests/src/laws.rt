@@ -1,3 +1,5 @@
+use refusals::{ALL, begin, end};
+use std::test::Fail;
 use x_lex::{Kind, has_tokens, lex_one, one_meeting, one_patch, one_tiling, tokens_by_place};
 use x_text::Meter;
 
@@ -10,11 +12,15 @@ fn laws_do_nothing(_rt: HostRuntime) {
     one_patch();
 }
 
+/// One token depends on the line start, and takes no memory.
 #[test]
-fn one_token_depends_on_the_line_start(rt: HostRuntime) {
+fn bare_token(rt: HostRuntime) -> Result<(), Fail> {
+    begin(rt.alloc(), ALL)?;
     let mut meter = Meter::new();
     let at_start = lex_one(b"a\n% b", 2, true, &mut meter);
     assert_eq!(rt; at_start, (Kind::Percent, 5));
     let elsewhere = lex_one(b"a\n% b", 2, false, &mut meter);
     assert_eq!(rt; elsewhere, (Kind::BadByte, 3));
+    assert!(rt; !end(rt.alloc()));
+    Ok(())
 }

@@ -1,28 +1,68 @@
-//! Edits with little memory: after a refusal all is as before.
+//! Worked texts with an edit each, and what is answered before and after it, with every allocation refused in
+//! turn: of opening a text, of an edit, of the types of a text and of a script.
+
+ghost use Rattle.std.specs.Prelude.{◌≤◌};
 
 use crate::answers::{expect_answers, write_answers};
+use refusals::{MOST_TURNS, begin, end};
 use std::alloc::Global;
 use std::process::Abort;
 use std::test::Fail;
-use x_session::{Session, Work};
-use x_text::{Edit, TextFault};
+use x_session::{EngineFault, SchemaFault, Session, Work, run_script};
+use x_text::{Edit, MemSink, MemTap, Source, TextFault};
 
-/// What is asked of a session.
+/// What is asked of a session before and after a refusal.
 const ASKED: &[u8] = b"tokens\ndefinitions\nfaults\nheader\nroutines\nstubs\ntable\n";
 
-/// A text, an edit of it, and the work that it takes where the text was just opened.
-struct Row {
-    text: &'static [u8],
+/// A line of a script, and its answer.
+#[derive(Drop)]
+pub struct Line {
+    asked: &'static [u8],
+    answer: &'static [u8],
+}
+
+/// A text, a script in which the line of this number is an edit of it, the text then, and the work that the edit
+/// takes where the text was just opened.
+#[derive(Drop)]
+pub struct Row {
+    pub text: &'static [u8],
+    edited: &'static [u8],
+    lines: [Line; 5],
     edit: Edit<'static>,
     work: Work,
 }
 
+const EDIT_LINE: usize = 2;
+
 /// A line feed goes in front of a `%`; a brace comes that was missing; an enum loses a number that a union
 /// names; a constant is declared before the one that it takes the name from; and a constant changes that 30
 /// types see.
-const ROWS: [Row; 5] = [
+pub const ROWS: [Row; 5] = [
     Row {
         text: b"x;\n%y",
+        edited: b"x;%y",
+        lines: [
+            Line {
+                asked: b"tokens\n",
+                answer: b"tokens 4\n0 1 Name\n1 2 Punct\n2 3 Space\n3 5 Percent\n",
+            },
+            Line {
+                asked: b"faults\n",
+                answer: b"faults 1\n1:1 10 Syntax\n",
+            },
+            Line {
+                asked: b"edit 2 3\n",
+                answer: b"ok 4\n",
+            },
+            Line {
+                asked: b"tokens\n",
+                answer: b"tokens 4\n0 1 Name\n1 2 Punct\n2 3 BadByte\n3 4 Name\n",
+            },
+            Line {
+                asked: b"faults\n",
+                answer: b"faults 2\n1:1 10 Syntax\n1:3 11 BadByte\n",
+            },
+        ],
         edit: Edit {
             start: 2,
             end: 3,
@@ -37,6 +77,29 @@ const ROWS: [Row; 5] = [
     },
     Row {
         text: b"struct s { int a; const B = 2;",
+        edited: b"struct s { int a; }; const B = 2;",
+        lines: [
+            Line {
+                asked: b"definitions\n",
+                answer: b"definitions 0\n",
+            },
+            Line {
+                asked: b"faults\n",
+                answer: b"faults 1\n1:19 10 Syntax\n",
+            },
+            Line {
+                asked: b"edit 18 18 7d3b20\n",
+                answer: b"ok 33\n",
+            },
+            Line {
+                asked: b"definitions\n",
+                answer: b"definitions 2\n0 struct s\n1 const B\n",
+            },
+            Line {
+                asked: b"faults\n",
+                answer: b"faults 0\n",
+            },
+        ],
         edit: Edit {
             start: 18,
             end: 18,
@@ -51,6 +114,29 @@ const ROWS: [Row; 5] = [
     },
     Row {
         text: b"enum e {A=0,B=1}; union u switch (e d) {case B: int x; default: void;};",
+        edited: b"enum e {A=0}; union u switch (e d) {case B: int x; default: void;};",
+        lines: [
+            Line {
+                asked: b"definitions\n",
+                answer: b"definitions 2\n0 enum e\n1 union u\n",
+            },
+            Line {
+                asked: b"faults\n",
+                answer: b"faults 0\n",
+            },
+            Line {
+                asked: b"edit 11 15\n",
+                answer: b"ok 67\n",
+            },
+            Line {
+                asked: b"definitions\n",
+                answer: b"definitions 2\n0 enum e\n1 union u\n",
+            },
+            Line {
+                asked: b"faults\n",
+                answer: b"faults 1\n1:42 21 Unknown\n",
+            },
+        ],
         edit: Edit {
             start: 11,
             end: 15,
@@ -65,6 +151,29 @@ const ROWS: [Row; 5] = [
     },
     Row {
         text: b"const N = 4; typedef int v[N];",
+        edited: b"const N = 3; const N = 4; typedef int v[N];",
+        lines: [
+            Line {
+                asked: b"definitions\n",
+                answer: b"definitions 2\n0 const N\n1 typedef v\n",
+            },
+            Line {
+                asked: b"faults\n",
+                answer: b"faults 0\n",
+            },
+            Line {
+                asked: b"edit 0 0 636f6e7374204e203d20333b20\n",
+                answer: b"ok 43\n",
+            },
+            Line {
+                asked: b"definitions\n",
+                answer: b"definitions 3\n0 const N\n1 const N\n2 typedef v\n",
+            },
+            Line {
+                asked: b"faults\n",
+                answer: b"faults 1\n1:20 20 Duplicate\n",
+            },
+        ],
         edit: Edit {
             start: 0,
             end: 0,
@@ -89,6 +198,39 @@ const ROWS: [Row; 5] = [
             typedef int c1[N];typedef int c2[N];typedef int c3[N];\
             typedef int c4[N];typedef int c5[N];typedef int c6[N];\
             typedef int c7[N];typedef int c8[N];typedef int c9[N];",
+        edited: b"const N = 2;\
+            typedef int a0[N];typedef int a1[N];typedef int a2[N];\
+            typedef int a3[N];typedef int a4[N];typedef int a5[N];\
+            typedef int a6[N];typedef int a7[N];typedef int a8[N];\
+            typedef int a9[N];typedef int b0[N];typedef int b1[N];\
+            typedef int b2[N];typedef int b3[N];typedef int b4[N];\
+            typedef int b5[N];typedef int b6[N];typedef int b7[N];\
+            typedef int b8[N];typedef int b9[N];typedef int c0[N];\
+            typedef int c1[N];typedef int c2[N];typedef int c3[N];\
+            typedef int c4[N];typedef int c5[N];typedef int c6[N];\
+            typedef int c7[N];typedef int c8[N];typedef int c9[N];",
+        lines: [
+            Line {
+                asked: b"faults\n",
+                answer: b"faults 0\n",
+            },
+            Line {
+                asked: b"dump a0 00000007\n",
+                answer: b"value 2\n0 a0 = array 1\n1 [0] = 7\n",
+            },
+            Line {
+                asked: b"edit 10 11 32\n",
+                answer: b"ok 552\n",
+            },
+            Line {
+                asked: b"faults\n",
+                answer: b"faults 0\n",
+            },
+            Line {
+                asked: b"dump a0 00000007\n",
+                answer: b"fault 50 Short at 4\n",
+            },
+        ],
         edit: Edit {
             start: 10,
             end: 11,
@@ -103,50 +245,265 @@ const ROWS: [Row; 5] = [
     },
 ];
 
-/// Carries the edit out, and after a refusal once more: then all was as before, seats included, by the
-/// answers and by what the edit takes. It tells whether nothing was refused.
-fn apply_with_little_memory(
+impl Row {
+    /// The text behind so many lines.
+    pub fn text_behind(&self, lines: usize) -> &'static [u8] {
+        if lines > EDIT_LINE {
+            self.edited
+        } else {
+            self.text
+        }
+    }
+
+    /// The script from a line on.
+    pub fn script(&self, alloc: Global, from: usize) -> Result<Vec<u8>, Fail> {
+        let mut script = Vec::new(alloc);
+        for line in self.lines.iter().skip(from) {
+            script.extend_from_slice(line.asked)?;
+        }
+        Ok(script)
+    }
+
+    /// The answers from a line on.
+    pub fn answers(&self, alloc: Global, from: usize) -> Result<Vec<u8>, Fail> {
+        let mut answers = Vec::new(alloc);
+        for line in self.lines.iter().skip(from) {
+            answers.extend_from_slice(line.answer)?;
+        }
+        Ok(answers)
+    }
+
+    /// How many answers are whole in the first bytes of all, and how many bytes these have.
+    pub fn whole_answers(&self, written: usize) -> (usize, usize) {
+        let mut lines = 0usize;
+        let mut bytes = 0usize;
+        for line in &self.lines {
+            let with = bytes.saturating_add(line.answer.len());
+            if with > written {
+                break;
+            }
+            bytes = with;
+            lines = lines.saturating_add(1);
+        }
+        (lines, bytes)
+    }
+}
+
+/// Opens the text with one allocation refused after another, and counts the turns.
+fn open_with_little_memory(rt: &impl Abort, alloc: Global, text: &[u8]) -> Result<usize, Fail> {
+    for turn in 0..MOST_TURNS {
+        begin(alloc, turn)?;
+        let source = Source::from_bytes(alloc, text);
+        let opened = Session::open(alloc, b"t", text);
+        let refused = end(alloc);
+        match source {
+            Ok(source) => assert_eq!(rt; source.bytes(), text),
+            Err(fault) => assert_eq!(rt; (refused, fault), (true, TextFault::NoMemory)),
+        }
+        match opened {
+            Ok(session) => assert_eq!(rt; session.bytes(), text),
+            Err(fault) => assert_eq!(rt; (refused, fault), (true, TextFault::NoMemory)),
+        }
+        if !refused {
+            return Ok(turn);
+        }
+    }
+    panic!(rt; "opening never ends")
+}
+
+/// Carries the edit out, and after a refusal once more: then all was as before, seats included, by the answers
+/// and by what the edit takes.
+fn apply_once(
     rt: &impl Abort,
     alloc: Global,
     session: &mut Session,
     row: &Row,
-    before: &[u8],
-) -> Result<bool, Fail> {
-    match session.apply(&row.edit) {
-        Ok(work) => {
-            assert_eq!(rt; work, row.work);
-            return Ok(true);
-        }
-        Err(fault) => assert_eq!(rt; fault, TextFault::NoMemory),
-    }
-    expect_answers(rt, alloc, session, ASKED, before)?;
-    let work = session.apply(&row.edit)?;
-    assert_eq!(rt; work, row.work);
-    Ok(false)
-}
-
-/// Asks a session of the text, and carries the edit out. It tells whether nothing was refused.
-fn follow(rt: &impl Abort, alloc: Global, row: &Row) -> Result<bool, Fail> {
-    let Ok(mut session) = Session::open(alloc, b"t", row.text) else {
-        return Ok(false);
-    };
+    turn: usize,
+) -> Result<bool, Fail>
+    requires { turn ≤ 20000 }
+{
     let mut buffer = [0u8; 32768];
-    let Ok(asked) = write_answers(alloc, &mut session, ASKED, &mut buffer) else {
-        return Ok(false);
-    };
-    let before = buffer.get(..asked).unwrap_or_default();
-    apply_with_little_memory(rt, alloc, &mut session, row, before)
+    let asked = write_answers(alloc, session, ASKED, &mut buffer)?;
+    begin(alloc, turn)?;
+    let answer = session.apply(&row.edit);
+    let refused = end(alloc);
+    match answer {
+        Ok(work) => assert_eq!(rt; work, row.work),
+        Err(fault) => {
+            assert_eq!(rt; (refused, fault), (true, TextFault::NoMemory));
+            assert_eq!(rt; session.bytes(), row.text);
+            expect_answers(
+                rt,
+                alloc,
+                session,
+                ASKED,
+                buffer.get(..asked).unwrap_or_default(),
+            )?;
+            assert_eq!(rt; session.apply(&row.edit)?, row.work);
+        }
+    }
+    Ok(refused)
 }
 
-/// Run by itself with each allocation refused in turn.
-#[test]
-fn sweep_rows(rt: HostRuntime) -> Result<(), Fail> {
-    let mut clean = true;
-    for row in &ROWS {
-        clean &= follow(&rt, rt.alloc(), row)?;
+/// The edit with one allocation refused after another, and then the lines behind it.
+fn apply_with_little_memory(rt: &impl Abort, alloc: Global, row: &Row) -> Result<usize, Fail> {
+    let script = row.script(alloc, EDIT_LINE + 1)?;
+    let answers = row.answers(alloc, EDIT_LINE + 1)?;
+    for turn in 0..MOST_TURNS {
+        let mut session = Session::open(alloc, b"t", row.text)?;
+        let refused = apply_once(rt, alloc, &mut session, row, turn)?;
+        assert_eq!(rt; session.bytes(), row.edited);
+        expect_answers(rt, alloc, &mut session, &script, &answers)?;
+        if !refused {
+            return Ok(turn);
+        }
     }
-    if clean {
-        println!(rt; "nothing was refused")?;
+    panic!(rt; "an edit never ends")
+}
+
+/// The types of the text, which there are where it has no fault, with one allocation refused after another.
+fn make_schema(rt: &impl Abort, alloc: Global, text: &[u8]) -> Result<usize, Fail> {
+    let session = Session::open(alloc, b"t", text)?;
+    for turn in 0..MOST_TURNS {
+        begin(alloc, turn)?;
+        let answer = session.schema();
+        let refused = end(alloc);
+        match answer {
+            Ok(_) => assert_eq!(rt; session.fault_count(), 0),
+            Err(SchemaFault::NoMemory) => assert!(rt; refused && session.schema().is_ok()),
+            Err(SchemaFault::Faulty) => assert!(rt; !refused && session.fault_count() > 0),
+        }
+        if !refused {
+            return Ok(turn);
+        }
+    }
+    panic!(rt; "a schema never ends")
+}
+
+/// Checks what a run of the script left that ended early or not, and answers the lines that are left.
+fn go_on(
+    rt: &impl Abort,
+    alloc: Global,
+    session: &mut Session,
+    sink: &mut MemSink,
+    row: &Row,
+) -> Result<usize, Fail> {
+    let written = sink.bytes().len();
+    let (lines, bytes) = row.whole_answers(written);
+    let answers = row.answers(alloc, 0)?;
+    assert_eq!(rt; bytes, written);
+    assert_eq!(rt; Some(sink.bytes()), answers.get(..written));
+    assert_eq!(rt; session.bytes(), row.text_behind(lines));
+    let rest = row.script(alloc, lines)?;
+    let mut tap = MemTap::new(&rest, 64, usize::MAX);
+    run_script(alloc, session, &mut tap, sink)?;
+    assert_eq!(rt; sink.bytes(), answers.as_slice());
+    assert_eq!(rt; session.bytes(), row.edited);
+    Ok(written)
+}
+
+/// The script with one allocation refused after another: what is written is whole answers, the session is as
+/// their lines left it, and the lines that are left are answered with memory.
+fn run_with_little_memory(rt: &impl Abort, alloc: Global, row: &Row) -> Result<usize, Fail> {
+    let script = row.script(alloc, 0)?;
+    for turn in 0..MOST_TURNS {
+        let mut session = Session::open(alloc, b"t", row.text)?;
+        let mut buffer = [0u8; 2048];
+        let mut sink = MemSink::new(&mut buffer, 64, 2048);
+        let mut tap = MemTap::new(&script, 64, usize::MAX);
+        begin(alloc, turn)?;
+        let outcome = run_script(alloc, &mut session, &mut tap, &mut sink);
+        let refused = end(alloc);
+        let written = go_on(rt, alloc, &mut session, &mut sink, row)? as u64;
+        match outcome {
+            Ok(_) => assert_eq!(rt; written, sink.bytes().len() as u64),
+            Err(fault) => assert!(rt; refused && fault == EngineFault::NoMemory { written }),
+        }
+        if !refused {
+            return Ok(turn);
+        }
+    }
+    panic!(rt; "a script never ends")
+}
+
+#[test]
+fn refused_rows(rt: HostRuntime) -> Result<(), Fail> {
+    let alloc = rt.alloc();
+    for row in &ROWS {
+        let opening = open_with_little_memory(&rt, alloc, row.text)?;
+        let editing = apply_with_little_memory(&rt, alloc, row)?;
+        let running = run_with_little_memory(&rt, alloc, row)?;
+        let types = make_schema(&rt, alloc, row.text)?;
+        let types_then = make_schema(&rt, alloc, row.edited)?;
+        println!(rt; "turns: {opening} {editing} {running} {types} {types_then}")?;
+    }
+    Ok(())
+}
+
+/// Whether the bytes begin and end so.
+fn begins_and_ends(bytes: &[u8], (first, last): (&[u8], &[u8])) -> bool {
+    let behind = bytes.len().saturating_sub(last.len());
+    bytes.get(..first.len()) == Some(first) && bytes.get(behind..) == Some(last)
+}
+
+/// Asks for a list of so many links, with one allocation refused after another, and after a refusal with memory.
+fn show_with_little_memory(
+    rt: &impl Abort,
+    alloc: Global,
+    count: u32,
+    answer: (&[u8], &[u8]),
+) -> Result<usize, Fail> {
+    let mut session = Session::open(alloc, b"t", b"struct l { l *n; };")?;
+    let mut script = Vec::from_slice(alloc, b"dump l ")?;
+    for _ in 0..count {
+        script.extend_from_slice(b"00000001")?;
+    }
+    script.extend_from_slice(b"00000000\n")?;
+    let mut room = vec![in alloc; 0u8; 4_000_000]?;
+    for turn in 0..MOST_TURNS {
+        let mut sink = MemSink::new(&mut room, 65_536, 4_000_000);
+        let mut tap = MemTap::new(&script, 65_536, usize::MAX);
+        begin(alloc, turn)?;
+        let outcome = run_script(alloc, &mut session, &mut tap, &mut sink);
+        let refused = end(alloc);
+        if let Err(fault) = outcome {
+            let written = 0;
+            assert!(rt; refused && fault == EngineFault::NoMemory { written });
+            assert!(rt; sink.bytes().is_empty());
+            let mut again = MemTap::new(&script, 65_536, usize::MAX);
+            run_script(alloc, &mut session, &mut again, &mut sink)?;
+        }
+        assert!(rt; begins_and_ends(sink.bytes(), answer));
+        if !refused {
+            return Ok(turn);
+        }
+    }
+    panic!(rt; "a value never ends")
+}
+
+/// A short list of links, one of as many as may be open at once, and one of one more.
+#[test]
+fn refused_links(rt: HostRuntime) -> Result<(), Fail> {
+    let rows = [
+        (
+            1,
+            b"value 4\n0 l = struct\n1 n = link\n".as_slice(),
+            b"2 * = struct\n3 n = null\n".as_slice(),
+        ),
+        (
+            65_536,
+            b"value 131074\n0 l = struct\n1 n = link\n2 * = struct\n".as_slice(),
+            b"131071 n = link\n131072 * = struct\n131073 n = null\n".as_slice(),
+        ),
+        (
+            65_537,
+            b"fault 56 TooDeep at 262144\n".as_slice(),
+            b"fault 56 TooDeep at 262144\n".as_slice(),
+        ),
+    ];
+    for (count, first, last) in rows {
+        let turns = show_with_little_memory(&rt, rt.alloc(), count, (first, last))?;
+        println!(rt; "turns: {turns}")?;
     }
     Ok(())
 }

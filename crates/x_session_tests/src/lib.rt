@@ -4,6 +4,8 @@
 #[cfg(test)]
 mod answers;
 #[cfg(test)]
+mod definitions;
+#[cfg(test)]
 mod edits;
 #[cfg(test)]
 mod lines;
@@ -13,3 +15,5 @@ mod scripts;
 mod sessions;
 #[cfg(test)]
 mod texts;
+#[cfg(test)]
+mod writers;

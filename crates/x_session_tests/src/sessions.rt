@@ -1,7 +1,9 @@
+use refusals::{ALL, begin, end};
 use std::process::Abort;
 use std::test::Fail;
 use x_lex::Kind;
-use x_session::{FaultCode, Schema, Session, Which};
+use x_sema::Form;
+use x_session::{FaultCode, Schema, SchemaFault, Session, Which, Work, dump_words};
 use x_text::{Edit, MemSink, TextFault, WriteFault};
 
 /// Checks the token and the definition of a session of the text `const A = 12;;`.
@@ -35,14 +37,30 @@ fn expect_counts(rt: &impl Abort, session: &Session) {
         session.fault_count(),
     );
     assert_eq!(rt; counts, (9, 3, 1));
+    assert_eq!(rt; session.tokens().count(), 9);
 }
 
+/// Checks that a sink of ten bytes has those of the header.
+fn expect_ten_bytes(rt: &impl Abort, session: &Session) {
+    let mut room = [0u8; 10];
+    let mut sink = MemSink::new(&mut room, 256, 256);
+    let answer = session.write_text(Which::Header, &mut sink);
+    assert_eq!(rt; answer, Err(WriteFault { written: 10 }));
+    assert_eq!(rt; sink.bytes(), b"/* Generat".as_slice());
+}
+
+/// Each query, with every allocation refused: none takes memory.
 #[test]
-fn a_session_answers_each_query(rt: HostRuntime) -> Result<(), Fail> {
+fn bare_queries(rt: HostRuntime) -> Result<(), Fail> {
     let session = Session::open(rt.alloc(), b"t", b"const A = 12;;")?;
+    begin(rt.alloc(), ALL)?;
+    assert_eq!(rt; session.bytes(), b"const A = 12;;".as_slice());
     expect_counts(&rt, &session);
     expect_parts(&rt, &session);
     expect_fault(&rt, &session);
+    expect_ten_bytes(&rt, &session);
+    assert_eq!(rt; session.schema().err(), Some(SchemaFault::Faulty));
+    assert!(rt; !end(rt.alloc()));
     Ok(())
 }
 
@@ -52,6 +70,26 @@ const LONGER: Edit<'static> = Edit {
     end: 11,
     insert: b"2",
 };
+
+/// The edit that makes a 13 of the 12.
+const OTHER: Edit<'static> = Edit {
+    start: 11,
+    end: 12,
+    insert: b"3",
+};
+
+/// Checks that of two edits both are done, with the work of both: the first goes to its places from the ends of
+/// tokens and items, and the second finds all there.
+fn expect_both(rt: &impl Abort, session: &mut Session) {
+    let both = Work {
+        lexed: 2,
+        parsed: 2,
+        checked: 2,
+        moved: 2,
+    };
+    assert_eq!(rt; session.apply_all(&[LONGER, OTHER]), Ok(both));
+    assert_eq!(rt; session.bytes(), b"const A = 13;".as_slice());
+}
 
 /// Checks that of two edits the second is refused, which lies outside of the text, and the first is done.
 fn expect_stop(rt: &impl Abort, session: &mut Session) {
@@ -69,49 +107,34 @@ fn expect_stop(rt: &impl Abort, session: &mut Session) {
 fn edits_stop_at_the_first_that_is_refused(rt: HostRuntime) -> Result<(), Fail> {
     let mut session = Session::open(rt.alloc(), b"t", b"const A = 1;")?;
     expect_stop(&rt, &mut session);
+    let mut session = Session::open(rt.alloc(), b"t", b"const A = 1;")?;
+    expect_both(&rt, &mut session);
     Ok(())
 }
 
-/// Checks that a sink of ten bytes has those of the header.
-fn expect_ten_bytes(rt: &impl Abort, session: &Session) {
-    let mut room = [0u8; 10];
-    let mut sink = MemSink::new(&mut room, 256, 256);
-    let answer = session.write_text(Which::Header, &mut sink);
-    assert_eq!(rt; answer, Err(WriteFault { written: 10 }));
-    assert_eq!(rt; sink.bytes(), b"/* Generat".as_slice());
-}
-
-#[test]
-fn a_sink_of_ten_bytes_has_the_first_ten(rt: HostRuntime) -> Result<(), Fail> {
-    let session = Session::open(rt.alloc(), b"t", b"const A = 12;")?;
-    expect_ten_bytes(&rt, &session);
-    Ok(())
-}
-
-/// Run by itself with each allocation refused in turn: an answer is the wanted one, or tells that memory ran out.
-#[test]
-fn sweep_open(rt: HostRuntime) -> Result<(), Fail> {
-    match Session::open(rt.alloc(), b"t", b"const A = 1;\n%y\nenum A { B = A };") {
-        Ok(session) => {
-            assert_eq!(rt; session.fault_count(), 1);
-            println!(rt; "nothing was refused")?;
-        }
-        Err(fault) => assert_eq!(rt; fault, TextFault::NoMemory),
-    }
-    Ok(())
-}
-
-/// Checks that procedure 1 is there, and no other.
-fn expect_procedure(rt: &impl Abort, schema: &Schema) {
+/// Checks that procedure 1 is there, and no other, and what type stands under a name.
+fn expect_types(rt: &impl Abort, schema: &Schema) {
     let name = schema.procedure(3, 2, 1).map(|procedure| procedure.name);
     assert_eq!(rt; name, Some(b"F".as_slice()));
-    assert!(rt; schema.procedure(3, 2, 2).is_none());
+    assert!(rt; schema.procedure(3, 2, 2).is_none() && schema.type_named(b"F").is_none());
+    let Some(id) = schema.type_named(b"T") else {
+        panic!(rt; "there is no such type");
+    };
+    assert!(rt; matches!(schema.form(id), Form::FixedOpaque(5)));
 }
 
+/// Types and procedures, and the words of a line that asks for a value, with every allocation refused: to find them
+/// takes no memory.
 #[test]
-fn a_schema_has_the_procedures_of_a_program(rt: HostRuntime) -> Result<(), Fail> {
-    let text = b"program P { version V { int F(int, string) = 1; } = 2; } = 3;";
+fn bare_types(rt: HostRuntime) -> Result<(), Fail> {
+    let text = b"typedef opaque T[5]; program P { version V { T F(int, string) = 1; } = 2; } = 3;";
     let session = Session::open(rt.alloc(), b"t", text)?;
-    expect_procedure(&rt, &session.schema()?);
+    let schema = session.schema()?;
+    begin(rt.alloc(), ALL)?;
+    expect_types(&rt, &schema);
+    let words = (b"T".as_slice(), b"00".as_slice());
+    assert_eq!(rt; dump_words(b"dump T 00"), Some(words));
+    assert_eq!(rt; dump_words(b"dump T 0"), None);
+    assert!(rt; !end(rt.alloc()));
     Ok(())
 }

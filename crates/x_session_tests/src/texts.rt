@@ -2,7 +2,7 @@ use std::alloc::Global;
 use std::fmt::Display;
 use std::process::Abort;
 use std::test::Fail;
-use x_session::{EngineFault, LineFault, near_edits, one_compilation, one_work};
+use x_session::{EngineFault, LineFault, SchemaFault, near_edits, one_compilation, one_work};
 
 /// Checks the text of a fault.
 fn expect_text(
@@ -39,9 +39,11 @@ fn faults_of_a_run_have_their_texts(rt: HostRuntime) -> Result<(), Fail> {
 }
 
 #[test]
-fn faults_of_a_line_have_their_texts(rt: HostRuntime) -> Result<(), Fail> {
+fn faults_of_a_line_and_of_types_have_their_texts(rt: HostRuntime) -> Result<(), Fail> {
     expect_text(&rt, rt.alloc(), &LineFault::Read, "a read failed")?;
-    expect_text(&rt, rt.alloc(), &LineFault::NoMemory, "out of memory")
+    expect_text(&rt, rt.alloc(), &LineFault::NoMemory, "out of memory")?;
+    expect_text(&rt, rt.alloc(), &SchemaFault::Faulty, "40 Faulty")?;
+    expect_text(&rt, rt.alloc(), &SchemaFault::NoMemory, "41 NoMemory")
 }
 
 #[test]

@@ -1,3 +1,4 @@
+use refusals::{ALL, begin, end};
 use std::test::Fail;
 use x_text::{Broken, Meter, NoMemory, TextFault, WriteFault};
 
@@ -21,8 +22,10 @@ fn faults_have_their_texts(rt: HostRuntime) -> Result<(), Fail> {
     Ok(())
 }
 
+/// A counter stays at the greatest number; with every allocation refused, since a meter takes no memory.
 #[test]
-fn a_counter_stays_at_the_greatest_number(rt: HostRuntime) {
+fn bare_meter(rt: HostRuntime) -> Result<(), Fail> {
+    begin(rt.alloc(), ALL)?;
     let mut meter = Meter::new();
     meter.tick_lexed();
     meter.tick_parsed();
@@ -36,4 +39,6 @@ fn a_counter_stays_at_the_greatest_number(rt: HostRuntime) {
         meter.moved(),
     );
     assert_eq!(rt; counts, (1, 1, 1, u64::MAX));
+    assert!(rt; !end(rt.alloc()));
+    Ok(())
 }

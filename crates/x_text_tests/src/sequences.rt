@@ -1,10 +1,11 @@
 ghost use Rattle.std.specs.Prelude.{◌≡◌, ◌+◌, ◌≤◌, OnOk, OnErr, IfOk, length};
 ghost use Rattle.std.specs.List.{splice};
 
+use refusals::{ALL, begin, end};
 use std::alloc::Global;
 use std::process::Abort;
 use std::test::Fail;
-use x_text::{GapSeq, NoMemory, PlainSeq, Seq};
+use x_text::{GapSeq, NoMemory, PlainSeq, Seq, SeqPatch};
 
 /// Makes room and carries a change out, by what every sequence promises.
 fn change<S: Seq<u32>>(
@@ -68,6 +69,41 @@ fn carries_changes_out(rt: HostRuntime) -> Result<(), Fail> {
     Ok(())
 }
 
+/// Replaces two of ten entries by one in room that is there, with every allocation refused, and answers how many
+/// others that moved.
+fn replace_two_in_room<S: Seq<u32>>(
+    rt: &impl Abort,
+    alloc: Global,
+    seq: &mut S,
+) -> Result<u64, Fail>
+    requires { length (S.list seq.old) ≡ 10 }
+{
+    let one = Vec::from_slice(alloc, &[30])?;
+    seq.reserve(1)?;
+    begin(alloc, ALL)?;
+    let moved = seq.splice(3, 2, one);
+    expect_entries(rt, seq, &[0, 1, 2, 30, 5, 6, 7, 8, 9]);
+    assert!(rt; seq.spare() >= 2);
+    assert!(rt; !end(alloc));
+    Ok(moved)
+}
+
+/// A list that is made empty, and one that is changed in room that is there, take no memory.
+#[test]
+fn bare_sequences(rt: HostRuntime) -> Result<(), Fail> {
+    begin(rt.alloc(), ALL)?;
+    let mut plain = PlainSeq::new(rt.alloc());
+    let mut gap = GapSeq::new(rt.alloc());
+    assert_eq!(rt; gap.seat(), 0);
+    assert!(rt; !end(rt.alloc()));
+    fill(&rt, rt.alloc(), &mut plain)?;
+    assert_eq!(rt; replace_two_in_room(&rt, rt.alloc(), &mut plain)?, 5);
+    fill(&rt, rt.alloc(), &mut gap)?;
+    assert_eq!(rt; replace_two_in_room(&rt, rt.alloc(), &mut gap)?, 5);
+    assert_eq!(rt; gap.seat(), 4);
+    Ok(())
+}
+
 #[test]
 fn makes_room(rt: HostRuntime) -> Result<(), Fail> {
     let mut plain: PlainSeq<u32> = PlainSeq::new(rt.alloc());
@@ -117,5 +153,18 @@ fn sweep_reserve_of_a_gap_seq(rt: HostRuntime) -> Result<(), Fail> {
     if answer.is_ok() {
         println!(rt; "nothing was refused")?;
     }
+    Ok(())
+}
+
+#[test]
+fn a_patch_lends_and_gives_its_entries(rt: HostRuntime) -> Result<(), Fail> {
+    let fresh = Vec::from_slice(rt.alloc(), &[7u32, 8])?;
+    let patch = SeqPatch::new(1, 2, 3, fresh);
+    assert_eq!(rt;
+        (patch.at(), patch.removed(), patch.start(), patch.len()),
+        (1, 2, 3, 2)
+    );
+    assert_eq!(rt; patch.fresh(), [7, 8].as_slice());
+    assert_eq!(rt; patch.into_fresh().as_slice(), [7, 8].as_slice());
     Ok(())
 }

@@ -1,6 +1,7 @@
+use refusals::{ALL, begin, end};
 use std::process::Abort;
 use std::test::Fail;
-use x_text::{Edit, Source, TextBuffers, TextFault};
+use x_text::{Edit, MAX_TEXT, Source, TextBuffers, TextFault};
 
 #[test]
 fn sweep_from_bytes(rt: HostRuntime) -> Result<(), Fail> {
@@ -41,6 +42,29 @@ fn sweep_replace(rt: HostRuntime) -> Result<(), Fail> {
         Ok(()) => println!(rt; "nothing was refused")?,
         Err(fault) => assert_eq!(rt; fault, TextFault::NoMemory),
     }
+    Ok(())
+}
+
+/// Checks that the edits of a text are refused that lie outside of it or make it too long, and that it stays.
+fn expect_refused(rt: &impl Abort, source: &mut Source, long: &[u8]) {
+    assert_eq!(rt; source.replace(&edit(2, 1, b"x")), Err(TextFault::BadRange));
+    assert_eq!(rt; source.replace(&edit(0, 4, b"x")), Err(TextFault::BadRange));
+    assert_eq!(rt; source.replace(&edit(0, 1, long)), Err(TextFault::TooLarge));
+    assert_eq!(rt; source.bytes(), b"a\nb".as_slice());
+    assert_eq!(rt; (source.line_col(1), source.line_col(2)), ((1, 2), (2, 1)));
+}
+
+/// What takes no memory of a text: an empty one, an edit that is refused, lines and columns.
+#[test]
+fn bare_sources(rt: HostRuntime) -> Result<(), Fail> {
+    let mut source = Source::from_bytes(rt.alloc(), b"a\nb")?;
+    let long = vec![in rt.alloc(); b'x'; MAX_TEXT]?;
+    begin(rt.alloc(), ALL)?;
+    let empty = Source::new(rt.alloc());
+    assert_eq!(rt; empty.bytes(), b"".as_slice());
+    assert_eq!(rt; empty.line_col(0), (1, 1));
+    expect_refused(&rt, &mut source, &long);
+    assert!(rt; !end(rt.alloc()));
     Ok(())
 }
 

@@ -24,8 +24,9 @@ fn definition_of(rt: &impl Abort, alloc: Global, text: &[u8]) -> Result<Definiti
     }
 }
 
-/// Follows an edit that takes out some definitions and puts in others.
+/// Follows an edit that takes out some definitions and puts in others. Who declares `A` first then is known before.
 fn follow(
+    rt: &impl Abort,
     alloc: Global,
     uses: &mut Uses,
     place: Place,
@@ -35,7 +36,9 @@ fn follow(
     let gone = Uses::of(alloc, gone)?;
     let fresh = Uses::of(alloc, fresh)?;
     uses.make_room(alloc, &fresh)?;
+    let first = uses.first_after(&fresh, place, b"A");
     uses.replace(place, &gone, &fresh);
+    assert_eq!(rt; uses.first(b"A"), first);
     Ok(())
 }
 
@@ -69,7 +72,7 @@ fn take_away(
         removed: 1,
         added: 0,
     };
-    follow(alloc, uses, place, &[first], &[])?;
+    follow(rt, alloc, uses, place, &[first], &[])?;
     expect_uses(rt, alloc, uses, &[None, using, second], (&[1, 2], &[1]))
 }
 
@@ -85,7 +88,7 @@ fn put_back(
         removed: 1,
         added: 2,
     };
-    follow(alloc, uses, place, &[using], &[first, using])?;
+    follow(rt, alloc, uses, place, &[using], &[first, using])?;
     let after = [None, first, using, second];
     expect_uses(rt, alloc, uses, &after, (&[1, 2, 3], &[2]))
 }

@@ -5,3 +5,5 @@
 mod records;
 #[cfg(test)]
 mod streams;
+#[cfg(test)]
+mod values;

@@ -1,7 +1,9 @@
+use crate::streams::{NULL_CALL, READDIR};
+use refusals::{ALL, MOST_TURNS, begin, end};
 use std::alloc::{AllocError, Global};
 use std::process::Abort;
 use std::test::Fail;
-use x_wire::{MAX_RECORD, RecordCode, RecordFault, Records};
+use x_wire::{MAX_RECORD, ReadCode, ReadFault, RecordCode, RecordFault, Records, message};
 
 /// A record of three fragments, the second of them empty; one of no bytes; and two bytes of a header.
 const STREAM: &[u8] = b"\0\0\0\x03abc\0\0\0\0\x80\0\0\x02de\x80\0\0\0\x80\0";
@@ -137,30 +139,101 @@ fn a_reason_has_its_text(rt: HostRuntime) -> Result<(), Fail> {
     Ok(())
 }
 
-/// One record of four fragments, for which memory grows again and again.
-const GROWING: &[u8] =
-    b"\0\0\0\x05aaaaa\0\0\0\0\0\0\0\x14bbbbbbbbbbbbbbbbbbbb\x80\0\0\x1eccccccccccccccccccccccccccccc.";
-
-/// Run by itself with each allocation refused in turn: all is as before the call, and with memory the record is
-/// whole.
-#[test]
-fn sweep_feed(rt: HostRuntime) -> Result<(), Fail> {
-    let mut records = Records::new(rt.alloc());
-    assert!(rt; records.feed(&GROWING[..2]).is_ok());
-    if feed_growing(&mut records) == Ok((69, Some(55))) {
-        println!(rt; "nothing was refused")?;
-    } else {
-        assert_eq!(rt; records.finish(), refusal(2, RecordCode::Truncated));
-        assert_eq!(rt; feed_growing(&mut records), Ok((69, Some(55))));
+/// Feeds what stands behind a cut with one allocation refused after another. After a refusal all is as before the
+/// call, and the same bytes then give the records.
+fn feed_with_little_memory(
+    rt: &impl Abort,
+    alloc: Global,
+    (first, rest): (&[u8], &[u8]),
+    whole: &[u8],
+) -> Result<usize, Fail> {
+    for turn in 0..MOST_TURNS {
+        let mut records = Records::new(alloc);
+        let mut text = Vec::new(alloc);
+        assert_eq!(rt; feed_all(&mut records, first, &mut text), Ok(()));
+        let before = records.finish();
+        begin(alloc, turn)?;
+        let answer = records.feed(rest);
+        let refused = end(alloc);
+        let used = match answer {
+            Ok(fed) => {
+                if let Some(whole) = fed.whole {
+                    add_record(&mut text, whole)?;
+                }
+                fed.used
+            }
+            Err(fault) => {
+                assert!(rt; refused && fault == NO_MEMORY);
+                0
+            }
+        };
+        if used == 0 {
+            assert_eq!(rt; records.finish(), before);
+        }
+        let rest = rest.get(used..).unwrap_or_default();
+        assert_eq!(rt; feed_all(&mut records, rest, &mut text), Ok(()));
+        assert_eq!(rt; records.finish(), Ok(()));
+        assert_eq!(rt; text.as_slice(), whole);
+        if !refused {
+            return Ok(turn);
+        }
     }
-    assert_eq!(rt; records.finish(), Ok(()));
+    panic!(rt; "feeding never ends")
+}
+
+/// Feeds a stream so, cut at each place. Its records are parts of it: from where, to where, and whether a record
+/// ends there.
+fn feed_every_cut(
+    rt: &impl Abort,
+    alloc: Global,
+    stream: &[u8],
+    parts: &[(usize, usize, bool)],
+) -> Result<usize, Fail> {
+    let mut whole = Vec::new(alloc);
+    for (from, to, ends) in parts {
+        whole.extend_from_slice(stream.get(*from..*to).unwrap_or_default())?;
+        if *ends {
+            whole.push(b';')?;
+        }
+    }
+    let mut turns = 0usize;
+    for cut in 0..stream.len() {
+        let pieces = stream.split_at(cut);
+        turns = turns.saturating_add(feed_with_little_memory(rt, alloc, pieces, &whole)?);
+    }
+    Ok(turns)
+}
+
+/// Two streams of a call and a reply each, the second reply in three fragments.
+#[test]
+fn refused_feeding(rt: HostRuntime) -> Result<(), Fail> {
+    let turns = feed_every_cut(&rt, rt.alloc(), NULL_CALL, &[(4, 44, true), (48, 72, true)])?;
+    let others = feed_every_cut(
+        &rt,
+        rt.alloc(),
+        READDIR,
+        &[(4, 84, true), (88, 112, false), (120, 172, true)],
+    )?;
+    println!(rt; "turns: {turns} {others}")?;
     Ok(())
 }
 
-/// Feeds the bytes behind the first two, and answers how many were taken, and the length of the record.
-fn feed_growing(records: &mut Records) -> Result<(usize, Option<usize>), RecordFault> {
-    match records.feed(&GROWING[2..]) {
-        Ok(fed) => Ok((fed.used, fed.whole.map(|whole| whole.len()))),
-        Err(fault) => Err(fault),
-    }
+/// What takes no memory, with every allocation refused: to begin with records, to end with them, and to read a
+/// message.
+#[test]
+fn bare_records(rt: HostRuntime) -> Result<(), Fail> {
+    begin(rt.alloc(), ALL)?;
+    let mut records = Records::new(rt.alloc());
+    assert_eq!(rt; records.finish(), Ok(()));
+    assert!(rt; records.feed(b"\x7f\xff\xff\xff").is_err());
+    assert_eq!(rt; records.finish(), refusal(0, RecordCode::RecordTooLong));
+    let read = message(&NULL_CALL[4..44]).map(|message| message.xid);
+    assert_eq!(rt; read, Ok(1));
+    let short = ReadFault {
+        at: 3,
+        code: ReadCode::Short,
+    };
+    assert_eq!(rt; message(&NULL_CALL[4..7]).err(), Some(short));
+    assert!(rt; !end(rt.alloc()));
+    Ok(())
 }

@@ -1,13 +1,16 @@
 use crate::records::feed_cut;
+use refusals::{MOST_TURNS, begin, end};
 use std::alloc::Global;
+use std::io::{self, Write};
+use std::process::Abort;
 use std::test::Fail;
-use x_session::Session;
-use x_text::{MemSink, MemTap};
-use x_wire::{EngineFault, NFS2_X, Outcome, dump_stream};
+use x_session::{SchemaFault, Session};
+use x_text::{MemSink, MemTap, Out, TextFault};
+use x_wire::{EngineFault, NFS2_X, Outcome, Schema, dump_message, dump_stream, dump_value};
 
-/// A call of procedure 0 of NFS version 2 in two fragments, and its reply.
-const STREAM: &[u8] =
-    b"\0\0\0\x04\0\0\0\x01\x80\0\0\x24\0\0\0\0\0\0\0\x02\0\x01\x86\xa3\0\0\0\x02\0\0\0\0\
+/// A call of procedure 0 of NFS version 2, and its reply.
+pub const NULL_CALL: &[u8] =
+    b"\x80\0\0\x28\0\0\0\x01\0\0\0\0\0\0\0\x02\0\x01\x86\xa3\0\0\0\x02\0\0\0\0\
 \0\0\0\0\0\0\0\0\0\0\0\0\0\0\0\0\x80\0\0\x18\0\0\0\x01\0\0\0\x01\0\0\0\0\0\0\0\0\0\0\0\0\0\0\0\0";
 
 const CALL_TEXT: &[u8] = b"# 1 call xid=1 rpcvers=2 prog=100003 vers=2 proc=0 NFSPROC_NULL
@@ -22,21 +25,24 @@ verf 0 0x
 ";
 
 /// A call of procedure 16, and its reply in three fragments, the second of them empty.
-const READDIR: &[u8] =
+pub const READDIR: &[u8] =
     b"\x80\0\0P\0\0\0\x07\0\0\0\0\0\0\0\x02\0\x01\x86\xa3\0\0\0\x02\0\0\0\x10\0\0\0\0\0\0\0\0\0\0\0\0\
 \0\0\0\0\n\n\n\n\n\n\n\n\n\n\n\n\n\n\n\n\n\n\n\n\n\n\n\n\n\n\n\n\n\n\n\n\0\0\0\0\0\0\x20\0\0\0\0\
 \x18\0\0\0\x07\0\0\0\x01\0\0\0\0\0\0\0\0\0\0\0\0\0\0\0\0\0\0\0\0\x80\0\04\0\0\0\0\0\0\0\x01\0\0\
 \0\x05\0\0\0\x01a\0\0\0\0\0\0\x01\0\0\0\x01\0\0\0\x06\0\0\0\x02bc\0\0\0\0\0\x02\0\0\0\0\0\0\0\
 \x01";
 
-const READDIR_TEXT: &[u8] = b"# 1 call xid=7 rpcvers=2 prog=100003 vers=2 proc=16 NFSPROC_READDIR
+const READDIR_CALL_TEXT: &[u8] =
+    b"# 1 call xid=7 rpcvers=2 prog=100003 vers=2 proc=16 NFSPROC_READDIR
 cred 0 0x
 verf 0 0x
 0 args = struct
 1 dir = 0x0a0a0a0a0a0a0a0a0a0a0a0a0a0a0a0a0a0a0a0a0a0a0a0a0a0a0a0a0a0a0a0a
 1 cookie = 0x00000000
 1 count = 8192
-# 2 reply xid=7 accepted SUCCESS call=1 NFSPROC_READDIR
+";
+
+const READDIR_REPLY_TEXT: &[u8] = b"# 2 reply xid=7 accepted SUCCESS call=1 NFSPROC_READDIR
 verf 0 0x
 0 results = union
 1 status = NFS_OK (0)
@@ -55,8 +61,38 @@ verf 0 0x
 2 eof = TRUE
 ";
 
-/// Where the call and the reply end.
-const CALL_END: usize = 48;
+/// A stream, and what is told of its call and of its reply.
+#[derive(Drop)]
+struct Row {
+    stream: &'static [u8],
+    call: &'static [u8],
+    reply: &'static [u8],
+}
+
+const ROWS: [Row; 2] = [
+    Row {
+        stream: NULL_CALL,
+        call: CALL_TEXT,
+        reply: REPLY_TEXT,
+    },
+    Row {
+        stream: READDIR,
+        call: READDIR_CALL_TEXT,
+        reply: READDIR_REPLY_TEXT,
+    },
+];
+
+impl Row {
+    /// All that is told.
+    fn text(&self, alloc: Global) -> Result<Vec<u8>, Fail> {
+        let mut text = Vec::from_slice(alloc, self.call)?;
+        text.extend_from_slice(self.reply)?;
+        Ok(text)
+    }
+}
+
+/// Where the call ends in the first stream.
+const CALL_END: usize = 44;
 
 #[test]
 fn the_schema_of_nfs_has_its_procedures(rt: HostRuntime) -> Result<(), Fail> {
@@ -72,32 +108,20 @@ fn the_schema_of_nfs_has_its_procedures(rt: HostRuntime) -> Result<(), Fail> {
     Ok(())
 }
 
-/// Dumps a stream by the types of a text.
-fn dump(
-    alloc: Global,
-    text: &[u8],
-    tap: &mut MemTap,
-    sink: &mut MemSink,
-) -> Result<Outcome, EngineFault> {
-    let Ok(session) = Session::open(alloc, b"t", text) else {
-        return Err(EngineFault::NoMemory { written: 0 });
-    };
-    match session.schema() {
-        Ok(schema) => dump_stream(alloc, &schema, tap, sink),
-        Err(_) => Err(EngineFault::NoMemory { written: 0 }),
-    }
-}
-
 /// Whole, byte by byte, and in pieces of every size between.
 #[test]
-fn a_stream_is_told_in_pieces_of_every_size(rt: HostRuntime) {
+fn a_stream_is_told_in_pieces_of_every_size(rt: HostRuntime) -> Result<(), Fail> {
+    let session = Session::open(rt.alloc(), b"nfs2", NFS2_X)?;
+    let schema = session.schema()?;
+    let text = ROWS[1].text(rt.alloc())?;
     for size in 1..=READDIR.len() {
         let mut told = [0u8; 1024];
         let mut sink = MemSink::new(&mut told, 1024, 1024);
         let mut tap = MemTap::new(READDIR, size, usize::MAX);
-        let result = dump(rt.alloc(), NFS2_X, &mut tap, &mut sink);
-        assert!(rt; result == Ok(Outcome::Clean) && sink.bytes() == READDIR_TEXT);
+        let result = dump_stream(rt.alloc(), &schema, &mut tap, &mut sink);
+        assert!(rt; result == Ok(Outcome::Clean) && sink.bytes() == text.as_slice());
     }
+    Ok(())
 }
 
 /// In every cut into two.
@@ -112,60 +136,230 @@ fn a_reply_in_fragments_is_one_record_in_every_cut(rt: HostRuntime) {
     }
 }
 
-/// How many bytes are told of the records that are whole in the first bytes of the stream.
+/// How many bytes are told of the records that are whole in the first bytes of the first stream.
 fn told_of(count: usize) -> usize {
     if count < CALL_END {
         return 0;
     }
-    if count < STREAM.len() {
+    if count < NULL_CALL.len() {
         return CALL_TEXT.len();
     }
     CALL_TEXT.len() + REPLY_TEXT.len()
 }
 
-/// The stream as it comes from a tap that fails after so many bytes.
-#[test]
-fn a_read_that_fails_comes_behind_all_whole_records(rt: HostRuntime) {
-    for count in 0..=STREAM.len() {
-        let mut told = [0u8; 256];
-        let mut sink = MemSink::new(&mut told, 256, 256);
-        let mut tap = MemTap::new(STREAM, 7, count);
-        let result = dump(rt.alloc(), NFS2_X, &mut tap, &mut sink);
-        let written = told_of(count) as u64;
-        assert!(rt; result == Err(EngineFault::Read { written }));
-        assert!(rt; sink.bytes().len() == told_of(count));
-    }
+/// Checks what is told of a tap.
+fn expect_told(
+    rt: &impl Abort,
+    alloc: Global,
+    schema: &Schema,
+    tap: &mut MemTap,
+    wanted: Result<Outcome, EngineFault>,
+    text: &[u8],
+) {
+    let mut told = [0u8; 256];
+    let mut sink = MemSink::new(&mut told, 256, 256);
+    let result = dump_stream(alloc, schema, tap, &mut sink);
+    assert_eq!(rt; result, wanted);
+    assert_eq!(rt; sink.bytes(), text);
 }
 
-/// Into a sink that fails after so many bytes.
+/// The stream cut to so many bytes, whole and byte by byte.
 #[test]
-fn a_write_that_fails_comes_behind_the_first_bytes(rt: HostRuntime) {
-    for count in 0..CALL_TEXT.len() + REPLY_TEXT.len() {
+fn a_stream_that_is_cut_is_told_as_far_as_it_goes(rt: HostRuntime) -> Result<(), Fail> {
+    let session = Session::open(rt.alloc(), b"nfs2", NFS2_X)?;
+    let schema = session.schema()?;
+    for count in 0..=NULL_CALL.len() {
+        let mut wanted = ROWS[0].text(rt.alloc())?;
+        wanted.truncate(told_of(count));
+        let mut outcome = Outcome::Clean;
+        if count != 0 && count != CALL_END && count != NULL_CALL.len() {
+            outcome = Outcome::Refused;
+            let line = format!(in rt.alloc(); "fault 61 Truncated at {count}\n")?;
+            wanted.extend_from_slice(line.as_bytes())?;
+        }
+        let stream = NULL_CALL.get(..count).unwrap_or_default();
+        for most in [1, 100] {
+            let mut tap = MemTap::new(stream, most, usize::MAX);
+            expect_told(&rt, rt.alloc(), &schema, &mut tap, Ok(outcome), &wanted);
+        }
+    }
+    Ok(())
+}
+
+/// The stream as it comes, byte by byte, from a tap that fails after so many bytes.
+#[test]
+fn a_read_that_fails_comes_behind_all_whole_records(rt: HostRuntime) -> Result<(), Fail> {
+    let session = Session::open(rt.alloc(), b"nfs2", NFS2_X)?;
+    let schema = session.schema()?;
+    for count in 0..=NULL_CALL.len() {
+        let mut wanted = ROWS[0].text(rt.alloc())?;
+        wanted.truncate(told_of(count));
+        let written = wanted.len() as u64;
+        let mut tap = MemTap::new(NULL_CALL, 1, count);
+        let fault = Err(EngineFault::Read { written });
+        expect_told(&rt, rt.alloc(), &schema, &mut tap, fault, &wanted);
+    }
+    Ok(())
+}
+
+/// Byte by byte into a sink that fails after so many bytes.
+#[test]
+fn a_write_that_fails_comes_behind_the_first_bytes(rt: HostRuntime) -> Result<(), Fail> {
+    let session = Session::open(rt.alloc(), b"nfs2", NFS2_X)?;
+    let schema = session.schema()?;
+    let text = ROWS[0].text(rt.alloc())?;
+    for count in 0..text.len() {
         let mut told = [0u8; 256];
-        let mut sink = MemSink::new(&mut told, 5, count);
-        let mut tap = MemTap::new(STREAM, 7, usize::MAX);
-        let result = dump(rt.alloc(), NFS2_X, &mut tap, &mut sink);
+        let mut sink = MemSink::new(&mut told, 1, count);
+        let mut tap = MemTap::new(NULL_CALL, 7, usize::MAX);
+        let result = dump_stream(rt.alloc(), &schema, &mut tap, &mut sink);
         let written = count as u64;
-        assert!(rt; result == Err(EngineFault::Write { written }));
-        assert!(rt; sink.bytes().len() == count);
+        assert_eq!(rt; result, Err(EngineFault::Write { written }));
+        assert_eq!(rt; Some(sink.bytes()), text.get(..count));
+    }
+    Ok(())
+}
+
+/// A writer that takes nothing.
+#[derive(Drop)]
+struct Stuck;
+
+impl Write for Stuck {
+    fn write(&mut self, _bytes: &[u8]) -> io::Result<usize> {
+        Ok(0)
+    }
+
+    fn flush(&mut self) -> io::Result<()> {
+        Ok(())
     }
 }
 
-/// Run by itself with each allocation refused in turn: what was told before is told whole.
+/// What is told of a stream, a message and a value goes nowhere.
+fn expect_stuck(rt: &impl Abort, alloc: Global, schema: &Schema) {
+    let stuck = Err(EngineFault::Write { written: 0 });
+    let mut tap = MemTap::new(NULL_CALL, 7, usize::MAX);
+    assert_eq!(rt;
+        dump_stream(alloc, schema, &mut tap, &mut Out::new(Stuck)),
+        stuck
+    );
+    let call = &NULL_CALL[4..44];
+    assert_eq!(rt;
+        dump_message(alloc, schema, call, &mut Out::new(Stuck)),
+        stuck
+    );
+    if let Some(id) = schema.type_named(b"ftype") {
+        let value = [0u8; 4];
+        assert_eq!(rt;
+            dump_value(alloc, schema, id, &value, &mut Out::new(Stuck)),
+            stuck
+        );
+    }
+}
+
 #[test]
-fn sweep_dumping_a_stream(rt: HostRuntime) -> Result<(), Fail> {
+fn a_writer_that_takes_nothing_is_told(rt: HostRuntime) -> Result<(), Fail> {
+    let session = Session::open(rt.alloc(), b"nfs2", NFS2_X)?;
+    let schema = session.schema()?;
+    assert!(rt; schema.type_named(b"ftype").is_some());
+    expect_stuck(&rt, rt.alloc(), &schema);
+    Ok(())
+}
+
+fn no_memory(written: usize) -> EngineFault {
+    EngineFault::NoMemory {
+        written: written as u64,
+    }
+}
+
+/// Checks what is told of a stream where there is memory.
+fn expect_row(rt: &impl Abort, alloc: Global, schema: &Schema, stream: &[u8], text: &[u8]) {
     let mut told = [0u8; 1024];
     let mut sink = MemSink::new(&mut told, 1024, 1024);
-    let mut tap = MemTap::new(READDIR, 7, usize::MAX);
-    match dump(rt.alloc(), b"const A = 1;", &mut tap, &mut sink) {
-        Err(EngineFault::NoMemory { written }) => {
-            assert!(rt; sink.bytes().len() as u64 == written);
-            assert!(rt; written == 0 || sink.bytes().last() == Some(&b'\n'));
+    let mut tap = MemTap::new(stream, 7, usize::MAX);
+    let result = dump_stream(alloc, schema, &mut tap, &mut sink);
+    assert_eq!(rt; result, Ok(Outcome::Clean));
+    assert_eq!(rt; sink.bytes(), text);
+}
+
+/// Tells of a stream with one allocation refused after another: what was told before is told whole, and the same
+/// stream is then told with memory.
+fn tell_with_little_memory(
+    rt: &impl Abort,
+    alloc: Global,
+    schema: &Schema,
+    row: &Row,
+) -> Result<usize, Fail> {
+    let text = row.text(alloc)?;
+    for turn in 0..MOST_TURNS {
+        let mut told = [0u8; 1024];
+        let mut sink = MemSink::new(&mut told, 1024, 1024);
+        let mut tap = MemTap::new(row.stream, 7, usize::MAX);
+        begin(alloc, turn)?;
+        let result = dump_stream(alloc, schema, &mut tap, &mut sink);
+        let refused = end(alloc);
+        let written = sink.bytes().len();
+        assert_eq!(rt; Some(sink.bytes()), text.get(..written));
+        match result {
+            Ok(outcome) => assert!(rt; outcome == Outcome::Clean && written == text.len()),
+            Err(fault) => {
+                assert!(rt; refused && fault == no_memory(written));
+                assert!(rt; written == 0 || written == row.call.len() || written == text.len());
+                expect_row(rt, alloc, schema, row.stream, &text);
+            }
         }
-        result => {
-            assert!(rt; result == Ok(Outcome::Clean));
-            println!(rt; "nothing was refused")?;
+        if !refused {
+            return Ok(turn);
         }
     }
+    panic!(rt; "telling never ends")
+}
+
+/// Why there are no types of a text.
+#[derive(Clone, Copy, Debug, PartialEq, Eq)]
+enum Lacking {
+    Session(TextFault),
+    Schema(SchemaFault),
+}
+
+/// Whether the built-in schema has the procedure of a number.
+fn has_procedure(alloc: Global, number: u32) -> Result<bool, Lacking> {
+    let session = match Session::open(alloc, b"nfs2", NFS2_X) {
+        Ok(session) => session,
+        Err(fault) => return Err(Lacking::Session(fault)),
+    };
+    match session.schema() {
+        Ok(schema) => Ok(schema.procedure(100003, 2, number).is_some()),
+        Err(fault) => Err(Lacking::Schema(fault)),
+    }
+}
+
+/// Makes the built-in schema with one allocation refused after another, and after a refusal with memory.
+fn open_with_little_memory(rt: &impl Abort, alloc: Global) -> Result<usize, Fail> {
+    for turn in 0..MOST_TURNS {
+        begin(alloc, turn)?;
+        let answer = has_procedure(alloc, 17);
+        let refused = end(alloc);
+        if answer != Ok(true) {
+            let told = answer == Err(Lacking::Session(TextFault::NoMemory))
+                || answer == Err(Lacking::Schema(SchemaFault::NoMemory));
+            assert!(rt; refused && told);
+        }
+        if !refused {
+            return Ok(turn);
+        }
+    }
+    panic!(rt; "opening never ends")
+}
+
+/// Each allocation of opening the schema of NFS version 2 with its types, and of telling of two streams by it.
+#[test]
+fn refused_streams(rt: HostRuntime) -> Result<(), Fail> {
+    let opening = open_with_little_memory(&rt, rt.alloc())?;
+    let session = Session::open(rt.alloc(), b"nfs2", NFS2_X)?;
+    let schema = session.schema()?;
+    let [first, second] = &ROWS;
+    let turns = tell_with_little_memory(&rt, rt.alloc(), &schema, first)?;
+    let others = tell_with_little_memory(&rt, rt.alloc(), &schema, second)?;
+    println!(rt; "turns: {opening} {turns} {others}")?;
     Ok(())
 }

@@ -1,0 +1,128 @@
+//! Writers that fail: what they took is the first bytes of what was to be written, and so many are told.
+
+use crate::edits::{ROWS, Row};
+use std::alloc::Global;
+use std::io::{self, Write};
+use std::process::Abort;
+use std::test::Fail;
+use x_session::{EngineFault, Session, Which, run_script};
+use x_text::{MemSink, MemTap, Out, WriteFault};
+
+/// A writer that takes nothing.
+#[derive(Drop)]
+struct Stuck;
+
+impl Write for Stuck {
+    fn write(&mut self, _bytes: &[u8]) -> io::Result<usize> {
+        Ok(0)
+    }
+
+    fn flush(&mut self) -> io::Result<()> {
+        Ok(())
+    }
+}
+
+/// Runs the script into a sink that takes a byte a call and fails behind so many. The session is as the line left
+/// it whose answer is not whole.
+fn stop_behind(
+    rt: &impl Abort,
+    alloc: Global,
+    row: &Row,
+    (script, answers): (&[u8], &[u8]),
+    count: usize,
+) -> Result<(), Fail> {
+    let mut session = Session::open(alloc, b"t", row.text)?;
+    let mut buffer = [0u8; 2048];
+    let mut sink = MemSink::new(&mut buffer, 1, count);
+    let mut tap = MemTap::new(script, 64, usize::MAX);
+    let outcome = run_script(alloc, &mut session, &mut tap, &mut sink);
+    let written = count as u64;
+    assert_eq!(rt; outcome, Err(EngineFault::Write { written }));
+    assert_eq!(rt; Some(sink.bytes()), answers.get(..count));
+    let (lines, _) = row.whole_answers(count);
+    assert_eq!(rt; session.bytes(), row.text_behind(lines.saturating_add(1)));
+    Ok(())
+}
+
+#[test]
+fn a_script_stops_at_the_first_byte_that_is_not_taken(rt: HostRuntime) -> Result<(), Fail> {
+    for row in &ROWS {
+        let script = row.script(rt.alloc(), 0)?;
+        let answers = row.answers(rt.alloc(), 0)?;
+        for count in 0..answers.len() {
+            stop_behind(&rt, rt.alloc(), row, (&script, &answers), count)?;
+        }
+        let mut session = Session::open(rt.alloc(), b"t", row.text)?;
+        let mut tap = MemTap::new(&script, 64, usize::MAX);
+        let outcome = run_script(rt.alloc(), &mut session, &mut tap, &mut Out::new(Stuck));
+        assert_eq!(rt; outcome, Err(EngineFault::Write { written: 0 }));
+        assert_eq!(rt; session.bytes(), row.text);
+    }
+    Ok(())
+}
+
+const TEXTS: [Which; 4] = [Which::Header, Which::Routines, Which::Stubs, Which::Table];
+
+/// The bytes of a generated text, of four million at most.
+fn whole_text(alloc: Global, session: &Session, which: Which) -> Result<Vec<u8>, Fail> {
+    let mut room = vec![in alloc; 0u8; 4_000_000]?;
+    let mut sink = MemSink::new(&mut room, usize::MAX, usize::MAX);
+    session.write_text(which, &mut sink)?;
+    Ok(Vec::from_slice(alloc, sink.bytes())?)
+}
+
+/// Writes a text into sinks that fail behind so many of its bytes: at each place of a short one, and at a thousand
+/// of a long one. The sink takes as many bytes a call as there are from one place to the next.
+fn cut_text(rt: &impl Abort, alloc: Global, session: &Session, which: Which) -> Result<(), Fail> {
+    let text = whole_text(alloc, session, which)?;
+    let step = (text.len() / 1000).max(1);
+    let mut room = vec![in alloc; 0u8; 4_000_000]?;
+    let mut count = 0usize;
+    for _ in 0..text.len() {
+        if count >= text.len() {
+            break;
+        }
+        let mut sink = MemSink::new(&mut room, step, count);
+        let answer = session.write_text(which, &mut sink);
+        let written = count as u64;
+        assert_eq!(rt; answer, Err(WriteFault { written }));
+        assert_eq!(rt; sink.bytes().len(), count);
+        // All of a short text, the end of what is written of a long one.
+        let from = count.saturating_sub(4096);
+        assert!(rt; sink.bytes().get(from..) == text.get(from..count));
+        count = count.saturating_add(step);
+    }
+    let answer = session.write_text(which, &mut Out::new(Stuck));
+    assert_eq!(rt; answer, Err(WriteFault { written: 0 }));
+    Ok(())
+}
+
+/// A line that passes through, of 500 bytes.
+const PASSED: &[u8] = &[b'%'; 499];
+
+/// A text of a million bytes and more: two thousand structs, a long line behind each.
+fn long_text(alloc: Global) -> Result<Vec<u8>, Fail> {
+    let mut text = Vec::new(alloc);
+    for number in 0..2000u32 {
+        let item = format!(in alloc; "struct s{number} {{ int a; opaque b<{number}>; }};\n")?;
+        text.extend_from_slice(item.as_bytes())?;
+        text.extend_from_slice(PASSED)?;
+        text.push(b'\n')?;
+    }
+    Ok(text)
+}
+
+#[test]
+fn a_text_stops_at_the_first_byte_that_is_not_taken(rt: HostRuntime) -> Result<(), Fail> {
+    let long = long_text(rt.alloc())?;
+    assert!(rt; long.len() > 1_000_000);
+    let texts = [ROWS[2].text, long.as_slice()];
+    for text in texts {
+        let session = Session::open(rt.alloc(), b"t", text)?;
+        assert_eq!(rt; session.fault_count(), 0);
+        for which in TEXTS {
+            cut_text(&rt, rt.alloc(), &session, which)?;
+        }
+    }
+    Ok(())
+}
