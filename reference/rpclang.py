@@ -1,12 +1,15 @@
 """The Sun RPC language read plainly: tokens, items, definitions, names and rules of one text, each time from scratch.
 
-The language is that of RFC 4506 section 6 and RFC 5531 section 12. Nothing here is kept from one text to the next.
+The language is that of RFC 4506 section 6 and RFC 5531 section 12. Of one text nothing is kept for the next one. What a
+list of words is as a definition, and what follows of a definition alone, is kept by these words, so that it is worked out
+once where many texts have them.
 """
+import functools
 import re
 from collections import namedtuple
 
-KEYWORDS = (b"bool case const default double enum float hyper int long opaque program quadruple string struct switch "
-            b"typedef union unsigned version void").split()
+KEYWORDS = frozenset((b"bool case const default double enum float hyper int long opaque program quadruple string struct "
+                      b"switch typedef union unsigned version void").split())
 CODE_NAMES = {
     10: "Syntax", 11: "BadByte", 12: "BadNumber", 13: "OpenComment", 14: "Directive", 15: "Unfinished",
     20: "Duplicate", 21: "Unknown", 22: "LateName", 23: "NotType", 24: "NotConst", 25: "Range", 26: "BadSize",
@@ -23,49 +26,35 @@ CONSTANTS = range(-2 ** 63, 2 ** 64)
 
 Token = namedtuple("Token", "kind start end text")
 
-SPACE = re.compile(rb"[\t\n\v\f\r ]+")
-COMMENT = re.compile(rb"/\*.*?\*/", re.DOTALL)
-PERCENT = re.compile(rb"%[^\n]*")
-MARKER = re.compile(rb"#[ \t]*[0-9][^\n]*")
-DIRECTIVE = re.compile(rb"#[^\n]*")
-LETTERS = re.compile(rb"[A-Za-z_][A-Za-z0-9_]*")
-RUN = re.compile(rb"-?[0-9][A-Za-z0-9_]*")
+# At each place the longest word that any class has there. No two classes share the first byte of a word but those that
+# stand here one behind the other, of which the first that has a word there has it. "Word" and "Run" are told apart below;
+# ^ is a place where a line starts.
+CLASSES = [
+    ("Space", rb"[\t\n\v\f\r ]+"),
+    ("Comment", rb"/\*(?s:.*?)\*/"),
+    ("OpenComment", rb"/\*(?s:.*)"),
+    ("Percent", rb"^%[^\n]*"),
+    ("Marker", rb"^#[ \t]*[0-9][^\n]*"),
+    ("Directive", rb"^#[^\n]*"),
+    ("Word", rb"[A-Za-z_][A-Za-z0-9_]*"),
+    ("Run", rb"-?[0-9][A-Za-z0-9_]*"),
+    ("Punct", rb"[{}()\[\]<>,;:=*]"),
+    ("BadByte", rb"(?s:.)"),
+]
+ANY_TOKEN = re.compile(b"|".join(b"(?P<%s>%s)" % (kind.encode(), words) for kind, words in CLASSES), re.MULTILINE)
 NUMBER = re.compile(rb"-?[1-9][0-9]*|0[xX][0-9a-fA-F]+|0[0-7]*")
-PUNCT = re.compile(rb"[{}()\[\]<>,;:=*]")
-
-
-def token_at(text, at):
-    """The longest word that any class has at this place. No two classes share the first byte of a word but those that
-    one branch decides between, so the branches may be tried in any order."""
-    line_start = at == 0 or text[at - 1:at] == b"\n"
-    if match := SPACE.match(text, at):
-        return "Space", match.end()
-    if text.startswith(b"/*", at):
-        match = COMMENT.match(text, at)
-        return ("Comment", match.end()) if match else ("OpenComment", len(text))
-    if line_start and (match := PERCENT.match(text, at)):
-        return "Percent", match.end()
-    if line_start and (match := MARKER.match(text, at)):
-        return "Marker", match.end()
-    if line_start and (match := DIRECTIVE.match(text, at)):
-        return "Directive", match.end()
-    if match := LETTERS.match(text, at):
-        return "Keyword" if match.group() in KEYWORDS else "Name", match.end()
-    if match := RUN.match(text, at):
-        return "Number" if NUMBER.fullmatch(match.group()) else "BadNumber", match.end()
-    if match := PUNCT.match(text, at):
-        return "Punct", match.end()
-    return "BadByte", at + 1
 
 
 def tokens_of(text):
     """The tokens, which follow one another from the first byte to the last."""
     tokens = []
-    at = 0
-    while at < len(text):
-        kind, end = token_at(text, at)
-        tokens.append(Token(kind, at, end, text[at:end]))
-        at = end
+    for match in ANY_TOKEN.finditer(text):
+        kind, word = match.lastgroup, match.group()
+        if kind == "Word":
+            kind = "Keyword" if word in KEYWORDS else "Name"
+        elif kind == "Run":
+            kind = "Number" if NUMBER.fullmatch(word) else "BadNumber"
+        tokens.append(Token(kind, match.start(), match.end(), word))
     return tokens
 
 
@@ -99,28 +88,41 @@ def items_of(tokens):
 # A word is a token that counts for the grammar; its place is the token's index in the item.
 Word = namedtuple("Word", "place kind text")
 
-Const = namedtuple("Const", "name value")
-Typedef = namedtuple("Typedef", "declaration")
-Enum = namedtuple("Enum", "name body")
-Struct = namedtuple("Struct", "name body")
-Union = namedtuple("Union", "name body")
-Program = namedtuple("Program", "name versions number")
+# How many answers are kept of a question about words or a definition.
+KEPT = 20_000
+
+
+def tree(name, parts):
+    """A named tuple that equals itself alone: what is kept of it is found without a look at its parts."""
+    alone = {"__slots__": (), "__eq__": object.__eq__, "__ne__": object.__ne__, "__hash__": object.__hash__}
+    return type(name, (namedtuple(name, parts),), alone)
+
+
+Const = tree("Const", "name value")
+Typedef = tree("Typedef", "declaration")
+Enum = tree("Enum", "name body")
+Struct = tree("Struct", "name body")
+Union = tree("Union", "name body")
+Program = tree("Program", "name versions number")
 Version = namedtuple("Version", "name procedures number")
 Procedure = namedtuple("Procedure", "result name arguments number")
 
-EnumBody = namedtuple("EnumBody", "enumerators")            # pairs of name and value or None
-StructBody = namedtuple("StructBody", "fields")
-UnionBody = namedtuple("UnionBody", "opening discriminant closing arms default")
+EnumBody = tree("EnumBody", "enumerators")                  # pairs of name and value or None
+StructBody = tree("StructBody", "fields")
+UnionBody = tree("UnionBody", "opening discriminant closing arms default")
 Arm = namedtuple("Arm", "values declaration")
 
 # Forms: plain, fixed, counted, pointer, opaque fixed, opaque counted, string, void.
-Declaration = namedtuple("Declaration", "form first type name size")
+Declaration = tree("Declaration", "form first type name size")
 
 # Of a type, exactly one is set but for the tag, which may stand before a name. Basic types are spelled whole
 # ("unsigned int" for "unsigned"); "void" and "string" are basic types of arguments and results alone.
 Type = namedtuple("Type", "first basic tag name body")
 
 KEYWORD_OF = {Const: "const", Typedef: "typedef", Enum: "enum", Struct: "struct", Union: "union", Program: "program"}
+
+
+PASSED_OVER = frozenset(["Space", "Comment", "Percent", "Marker"])
 
 
 class Wrong(Exception):
@@ -349,8 +351,12 @@ class Parser:
 
 def parse(item):
     """Of one item: ("nothing", None), ("definition", tree) or ("fault", (place, code))."""
-    words = [Word(place, token.kind, token.text) for place, token in enumerate(item)
-             if token.kind not in ("Space", "Comment", "Percent", "Marker")]
+    return parse_words(tuple(Word(place, token.kind, token.text) for place, token in enumerate(item)
+                             if token.kind not in PASSED_OVER))
+
+
+@functools.lru_cache(KEPT)
+def parse_words(words):
     if not words:
         return "nothing", None
     try:
@@ -378,6 +384,7 @@ def own_name(definition):
     return definition.declaration.name if isinstance(definition, Typedef) else definition.name
 
 
+@functools.lru_cache(KEPT)
 def declarations_in(body):
     """The declarations that stand directly in a body, in order."""
     if isinstance(body, StructBody):
@@ -406,6 +413,7 @@ def lifted_parts(around, body):
     return parts
 
 
+@functools.lru_cache(KEPT)
 def parts_of(definition):
     """The types that an item defines: those lifted from it, in the order of their declarations, then its own. Constants
     and programs define none: an inline type of a procedure is not looked into."""
@@ -420,6 +428,7 @@ def shape_of(body):
     return {EnumBody: "enum", StructBody: "struct", UnionBody: "union", Declaration: "typedef"}[type(body)]
 
 
+@functools.lru_cache(KEPT)
 def declared(definition):
     """The names that an item declares, in the order of their words; at one word the own name comes first."""
     names = []
@@ -450,6 +459,7 @@ def use_of(declaration):
     return "by value" if declaration.form in ("plain", "fixed") else "link"
 
 
+@functools.lru_cache(KEPT)
 def mentioned(definition):
     """The names that an item uses, in the order of their words."""
     mentions = []
@@ -514,7 +524,8 @@ class Check:
         self.first = first
         self.meanings = meanings
         self.parts = parts_of(definition)
-        self.mentions = {mention.place: mention for mention in mentioned(definition)}
+        # The fault of each use of a name, by its place; None where it has none.
+        self.codes = {mention.place: self.mention_code(mention) for mention in mentioned(definition)}
         self.constants = {}         # by the place of the declaring name; None where it has no number
         self.late_ranges = set()    # names of enumerators without a value that are one over the greatest
         self.find_constants()
@@ -558,13 +569,11 @@ class Check:
         return None
 
     def mention_faults(self):
-        return {(place, self.mention_code(mention)) for place, mention in self.mentions.items()
-                if self.mention_code(mention) is not None}
+        return {(place, code) for place, code in self.codes.items() if code is not None}
 
     def code_at(self, word):
         """The fault of the name that stands at this word, or None."""
-        mention = self.mentions.get(word.place)
-        return self.mention_code(mention) if mention else None
+        return self.codes.get(word.place)
 
     # ------------------------------------------------------------ numbers
 
@@ -824,16 +833,17 @@ class Compilation:
         self.tokens = tokens_of(text)
         self.items = items_of(self.tokens)
         parses = [parse(item) for item in self.items]
-        self.definitions = [tree if kind == "definition" else None for kind, tree in parses]
+        self.definitions = [found if kind == "definition" else None for kind, found in parses]
         self.first = first_declarers(self.definitions)
         self.meanings = dict(BEFOREHAND)
         self.faults = []
         self.faulty = set()
-        for item, (kind, tree) in enumerate(parses):
+        self.schema = None          # that of values.py, once it is asked for
+        for item, (kind, found) in enumerate(parses):
             if kind == "fault":
-                self.tell(item, [tree])
+                self.tell(item, [found])
             elif kind == "definition":
-                self.check(item, tree)
+                self.check(item, found)
 
     def tell(self, item, pairs):
         for place, code in pairs:
