@@ -1,15 +1,16 @@
 """The Sun RPC language read plainly: tokens, items, definitions, names and rules of one text, each time from scratch.
 
-The language is that of RFC 4506 section 6 and RFC 5531 section 12. Of one text nothing is kept for the next one. What a
-list of words is as a definition, and what follows of a definition alone, is kept by these words, so that it is worked out
-once where many texts have them.
+The language is that of RFC 4506 section 6 and RFC 5531 section 12. Of one text nothing is kept for another one but what
+follows of the words of one item alone: how it parses, and what its definition declares and uses. That is worked out once.
 """
 import functools
 import re
 from collections import namedtuple
 
-KEYWORDS = frozenset((b"bool case const default double enum float hyper int long opaque program quadruple string struct "
-                      b"switch typedef union unsigned version void").split())
+# Of how many questions about a text, and about words or a definition, the answers are kept.
+KEPT_TEXTS, KEPT = 256, 20_000
+KEYWORDS = (b"bool case const default double enum float hyper int long opaque program quadruple string struct switch "
+            b"typedef union unsigned version void").split()
 CODE_NAMES = {
     10: "Syntax", 11: "BadByte", 12: "BadNumber", 13: "OpenComment", 14: "Directive", 15: "Unfinished",
     20: "Duplicate", 21: "Unknown", 22: "LateName", 23: "NotType", 24: "NotConst", 25: "Range", 26: "BadSize",
@@ -26,36 +27,29 @@ CONSTANTS = range(-2 ** 63, 2 ** 64)
 
 Token = namedtuple("Token", "kind start end text")
 
-# At each place the longest word that any class has there. No two classes share the first byte of a word but those that
-# stand here one behind the other, of which the first that has a word there has it. "Word" and "Run" are told apart below;
-# ^ is a place where a line starts.
+# At each place the longest word that any class has there. Where words of several classes begin with one byte, the first
+# class that has a word there has the longest. ^ is a place where a line starts, \b one where letters, digits and _ end.
 CLASSES = [
     ("Space", rb"[\t\n\v\f\r ]+"),
+    ("Punct", rb"[{}()\[\]<>,;:=*]"),
+    ("Keyword", rb"(?:" + b"|".join(KEYWORDS) + rb")\b"),
+    ("Name", rb"[A-Za-z_][A-Za-z0-9_]*"),
+    ("Number", rb"(?:-?[1-9][0-9]*|0[xX][0-9a-fA-F]+|0[0-7]*)\b"),
+    ("BadNumber", rb"-?[0-9][A-Za-z0-9_]*"),
     ("Comment", rb"/\*(?s:.*?)\*/"),
     ("OpenComment", rb"/\*(?s:.*)"),
     ("Percent", rb"^%[^\n]*"),
     ("Marker", rb"^#[ \t]*[0-9][^\n]*"),
     ("Directive", rb"^#[^\n]*"),
-    ("Word", rb"[A-Za-z_][A-Za-z0-9_]*"),
-    ("Run", rb"-?[0-9][A-Za-z0-9_]*"),
-    ("Punct", rb"[{}()\[\]<>,;:=*]"),
     ("BadByte", rb"(?s:.)"),
 ]
 ANY_TOKEN = re.compile(b"|".join(b"(?P<%s>%s)" % (kind.encode(), words) for kind, words in CLASSES), re.MULTILINE)
-NUMBER = re.compile(rb"-?[1-9][0-9]*|0[xX][0-9a-fA-F]+|0[0-7]*")
 
 
+@functools.lru_cache(KEPT_TEXTS)
 def tokens_of(text):
     """The tokens, which follow one another from the first byte to the last."""
-    tokens = []
-    for match in ANY_TOKEN.finditer(text):
-        kind, word = match.lastgroup, match.group()
-        if kind == "Word":
-            kind = "Keyword" if word in KEYWORDS else "Name"
-        elif kind == "Run":
-            kind = "Number" if NUMBER.fullmatch(word) else "BadNumber"
-        tokens.append(Token(kind, match.start(), match.end(), word))
-    return tokens
+    return [Token(match.lastgroup, match.start(), match.end(), match.group()) for match in ANY_TOKEN.finditer(text)]
 
 
 def line_and_column(text, at):
@@ -87,10 +81,6 @@ def items_of(tokens):
 
 # A word is a token that counts for the grammar; its place is the token's index in the item.
 Word = namedtuple("Word", "place kind text")
-
-# How many answers are kept of a question about words or a definition.
-KEPT = 20_000
-
 
 def tree(name, parts):
     """A named tuple that equals itself alone: what is kept of it is found without a look at its parts."""
@@ -351,12 +341,12 @@ class Parser:
 
 def parse(item):
     """Of one item: ("nothing", None), ("definition", tree) or ("fault", (place, code))."""
-    return parse_words(tuple(Word(place, token.kind, token.text) for place, token in enumerate(item)
-                             if token.kind not in PASSED_OVER))
+    return parse_spelled(tuple([(token.kind, token.text) for token in item]))
 
 
 @functools.lru_cache(KEPT)
-def parse_words(words):
+def parse_spelled(tokens):
+    words = [Word(place, kind, text) for place, (kind, text) in enumerate(tokens) if kind not in PASSED_OVER]
     if not words:
         return "nothing", None
     try:
@@ -832,6 +822,7 @@ class Compilation:
         self.text = text
         self.tokens = tokens_of(text)
         self.items = items_of(self.tokens)
+        self.lines = [b"".join([token.text[1:] + b"\n" for token in item if token.kind == "Percent"]) for item in self.items]
         parses = [parse(item) for item in self.items]
         self.definitions = [found if kind == "definition" else None for kind, found in parses]
         self.first = first_declarers(self.definitions)

@@ -254,8 +254,8 @@ def text_of(kind, base, compilation):
     text = prologue(kind, base)
     if kind == "header":
         text += b"".join(piece("forward", definition) for definition in sound if definition)
-    for item, definition in zip(compilation.items, sound):
-        text += b"".join(token.text[1:] + b"\n" for token in item if token.kind == "Percent")
+    for lines, definition in zip(compilation.lines, sound):
+        text += lines
         if definition:
             text += piece(kind, definition)
     return text + (b"#endif\n" if kind == "header" else b"")

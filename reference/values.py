@@ -1,4 +1,5 @@
 """Values of the types of a faultless text: their encodings (RFC 4506 section 4), lines, and why bytes are refused."""
+import functools
 import random
 from collections import namedtuple
 
@@ -79,6 +80,7 @@ class Schema:
             return element()
         return Type(form, size=size, element=element)
 
+    @functools.lru_cache(rpclang.KEPT)
     def procedure(self, program, version, number):
         """The procedure of these numbers, in the first program of the text that has it, or None."""
         for definition, part in ((item, part) for item in self.programs for part in item.versions):
@@ -272,6 +274,14 @@ def schema_of(compilation):
     return compilation.schema
 
 
+def answer_of(kind, name, data):
+    """What a script's dump line of a type is answered."""
+    refused, lines = shown(kind, data, name)
+    if refused:
+        return b"fault %d %s at %d\n" % (refused[0], CODE_NAMES[refused[0]].encode(), refused[1])
+    return b"value %d\n" % len(lines) + b"".join(lines)
+
+
 def dump_answer(compilation, name, data):
     """A script's answer to a dump line."""
     if compilation.faults:
@@ -279,10 +289,7 @@ def dump_answer(compilation, name, data):
     kind = schema_of(compilation).type_named(name)
     if kind is None:
         return b"refused 42 NoType\n"
-    refused, lines = shown(kind, data, name)
-    if refused:
-        return b"fault %d %s at %d\n" % (refused[0], CODE_NAMES[refused[0]].encode(), refused[1])
-    return b"value %d\n" % len(lines) + b"".join(lines)
+    return answer_of(kind, name, data)
 
 
 # ---------------------------------------------------------------- random values
