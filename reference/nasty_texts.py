@@ -1,13 +1,13 @@
 #!/usr/bin/env python3
 """Short texts made to be nasty, with long lists of edits that keep them so, from a seed.
 
-    nasty_texts.py EDITS SEED       prints how often each kind of token and each fault code comes up after an edit
+    nasty_texts.py EDITS SEED   prints how often each kind of token and each fault code comes up after an edit
 
-A text is made of a few pieces: one name used everywhere, deep braces, comments that do not close, lines with % and #,
-bytes outside ASCII, numbers at every limit, words that are nearly keywords, items without their semicolon, lifted names
-that collide, enums with unions and typedefs over them, types one over the other up to a height of 33, programs with
-repeated numbers. Edits are of one byte and of large pieces, at places of tokens, lines and items and anywhere; some
-change nothing, some lie outside the text, and many are taken back.
+A text is made of a few pieces: one name used everywhere, deep braces, comments that do not close, lines with
+% and #, bytes outside ASCII, numbers at every limit, words that are nearly keywords, items without their
+semicolon, lifted names that collide, enums with unions and typedefs over them, types one over the other up to
+a height of 33, programs with repeated numbers. Edits are of one byte and of large pieces, at places of
+tokens, lines and items and anywhere; some change nothing, some lie outside the text, and many are taken back.
 """
 import collections
 import random
@@ -18,22 +18,20 @@ sys.dont_write_bytecode = True
 import random_texts
 import rpclang
 
-NAMES = [b"a", b"b", b"e", b"s", b"t", b"u", b"A", b"B", b"N", b"a_b", b"s_a", b"s_a_b", b"u_d", b"t_t", b"TRUE", b"FALSE"]
+NAMES = b"a b e s t u A B N a_b s_a s_a_b u_d t_t TRUE FALSE".split()
 # At and beside the limits of enums, of sizes, of constants, and beyond; and spelled otherwise.
-NUMBERS = [b"0", b"1", b"2", b"3", b"-1", b"-2", b"2147483646", b"2147483647", b"2147483648", b"-2147483648", b"-2147483649",
-           b"0x7fffffff", b"0X80000000", b"4294967295", b"4294967296", b"0xffffffff", b"0x100000000", b"-4294967296",
-           b"9223372036854775807", b"9223372036854775808", b"-9223372036854775808", b"-9223372036854775809",
-           b"18446744073709551615", b"18446744073709551616", b"0xffffffffffffffff", b"0x10000000000000000",
-           b"01777777777777777777777", b"02000000000000000000000", b"00", b"007", b"0x0", b"999999999999999999999999999999"]
-ODD_NUMBERS = [b"-0", b"0x", b"08", b"1a", b"0x1G", b"-0x1", b"-01", b"1_", b"0b1"]
-SIZES = [b"1", b"2", b"3", b"0", b"4294967295", b"4294967296", b"-1", b"A", b"B", b"N", b"TRUE", b"FALSE", b"a"]
-BASIC = [b"int", b"unsigned", b"unsigned int", b"long", b"unsigned long", b"hyper", b"unsigned hyper", b"float", b"double",
-         b"quadruple", b"bool"]
+NUMBERS = (b"0 1 2 3 -1 -2 2147483646 2147483647 2147483648 -2147483648 -2147483649 0x7fffffff 0X80000000 "
+           b"4294967295 4294967296 0xffffffff 0x100000000 -4294967296 9223372036854775807 9223372036854775808 "
+           b"-9223372036854775808 -9223372036854775809 18446744073709551615 18446744073709551616 "
+           b"0xffffffffffffffff 0x10000000000000000 01777777777777777777777 02000000000000000000000 00 007 0x0 "
+           b"999999999999999999999999999999").split()
+ODD_NUMBERS = b"-0 0x 08 1a 0x1G -0x1 -01 1_ 0b1".split()
+SIZES = b"1 2 3 0 4294967295 4294967296 -1 A B N TRUE FALSE a".split()
 HALVES = [word[:k] for word in sorted(rpclang.KEYWORDS) for k in range(1, len(word))]
 SINGLES = [bytes([byte]) for byte in b"{}{};;()[]<>,:=*/%#\n\n\r \t-0158xaAe_@\"'\\\0\x7f\x80\xc3\xff"]
-SMALL = [b"/*", b"*/", b"/**/", b"/*/", b"//", b"\n%", b"\n#", b"\n# 1", b"\r\n", b"\n\n", b"};", b"{}", b"{{", b"}}", b"; ",
-         b"case ", b"default:", b"void", b"struct ", b"enum ", b"union ", b"switch", b"typedef ", b"const ", b"\xc3\xa9",
-         b"=0", b"=2147483647", b",A", b"<>", b"[1]", b"[0]", b"*", b" a", b"a;"]
+SMALL = [b"/*", b"*/", b"/**/", b"/*/", b"//", b"\n%", b"\n#", b"\n# 1", b"\r\n", b"\n\n", b"};", b"{}", b"{{",
+         b"}}", b"; ", b"case ", b"default:", b"void", b"struct ", b"enum ", b"union ", b"switch", b"typedef ",
+         b"const ", b"\xc3\xa9", b"=0", b"=2147483647", b",A", b"<>", b"[1]", b"[0]", b"*", b" a", b"a;"]
 SPACES = [b" ", b" ", b" ", b"\n", b"\r\n", b"\t", b"\v", b"/**/", b"/*;*/", b"\n%l\n", b"\n# 1\n"]
 LONGEST = 1500
 SHORTEST = 50
@@ -44,8 +42,8 @@ class Nasty:
 
     def __init__(self, chance):
         self.chance = chance
-        self.pieces = [self.everywhere, self.everywhere, self.limits, self.limits, self.lifted, self.lifted, self.classes,
-                       self.classes, self.tower, self.programs, self.definitions, self.definitions, self.braces]
+        self.pieces = [self.everywhere, self.limits, self.lifted, self.classes, self.definitions] * 2
+        self.pieces += [self.tower, self.programs, self.braces]
         self.is_wild = chance.random() < 0.4
         if self.is_wild:
             self.pieces += [self.comments, self.lines, self.odd_bytes, self.halves, self.unended] * 2
@@ -63,13 +61,15 @@ class Nasty:
         return self.chance.choice(SIZES) if self.chance.random() < 0.7 else self.number()
 
     def type(self):
-        return self.pick(self.chance.choice(BASIC), self.name(), self.name(), b"struct " + self.name(), b"enum " + self.name())
+        basic = self.chance.choice(random_texts.BASIC)
+        return self.pick(basic, self.name(), self.name(), b"struct " + self.name(), b"enum " + self.name())
 
     def declaration(self, name):
         kind, value = self.type(), self.value()
-        return self.pick(kind + b" " + name, kind + b" " + name, kind + b" *" + name, b"%s %s<%s>" % (kind, name, value),
-                         kind + b" " + name + b"<>", b"%s %s[%s]" % (kind, name, value), b"opaque %s[%s]" % (name, value),
-                         b"opaque %s<%s>" % (name, value), b"string " + name + b"<>", b"void")
+        form = self.pick(b"%(kind)s %(name)s", b"%(kind)s %(name)s", b"%(kind)s *%(name)s", b"%(kind)s %(name)s<%(value)s>",
+                         b"%(kind)s %(name)s<>", b"%(kind)s %(name)s[%(value)s]", b"opaque %(name)s[%(value)s]",
+                         b"opaque %(name)s<%(value)s>", b"string %(name)s<>", b"void")
+        return form % {b"kind": kind, b"name": name, b"value": value}
 
     def some(self, least, most, make):
         return [make(k) for k in range(self.chance.randint(least, most))]
@@ -77,10 +77,12 @@ class Nasty:
     def everywhere(self):
         """One name in every place that a name may have."""
         name = self.name()
-        forms = [b"const %s = %s;", b"typedef %s %s;", b"struct %s { %s *a; };", b"enum %s { A = %s };", b"typedef int %s[%s];",
-                 b"struct s { %s %s; };", b"enum e { %s, B = %s };", b"union u switch (%s d) { case %s: void; };",
-                 b"program %s { version V { %s F(void) = 1; } = 1; } = 1;", b"struct %s { struct { int i; } %s; };",
-                 b"program P { version %s { void %s(void) = 1; } = 1; } = 1;", b"union u switch (int %s) { case 1: %s x; };"]
+        forms = [b"const %s = %s;", b"typedef %s %s;", b"struct %s { %s *a; };", b"enum %s { A = %s };",
+                 b"typedef int %s[%s];", b"struct s { %s %s; };", b"enum e { %s, B = %s };",
+                 b"union u switch (%s d) { case %s: void; };", b"struct %s { struct { int i; } %s; };",
+                 b"union u switch (int %s) { case 1: %s x; };",
+                 b"program %s { version V { %s F(void) = 1; } = 1; } = 1;",
+                 b"program P { version %s { void %s(void) = 1; } = 1; } = 1;"]
         return b"".join(self.chance.choice(forms) % self.pick((name, name), (name, name), (name, self.name()))
                         for _ in range(self.chance.randint(2, 7)))
 
@@ -103,12 +105,13 @@ class Nasty:
         """Lines that begin with % or #, or nearly."""
         starts = [b"%", b"#", b"# 1", b"#1", b"#\t", b" %", b" #", b"%%", b"#define ", b"%/*", b"#/*", b"%*/"]
         ends = [b"\n", b"\r\n", b"\r", b"\n\n", b"\n ", b""]
-        return b"\n" + b"".join(self.chance.choice(starts) + self.pick(b"", b"a", b"1;{") + self.chance.choice(ends)
-                                for _ in range(self.chance.randint(1, 6)))
+        return b"\n" + b"".join(self.some(1, 6, lambda k: (
+            self.chance.choice(starts) + self.pick(b"", b"a", b"1;{") + self.chance.choice(ends))))
 
     def odd_bytes(self):
         return b"".join(self.some(1, 6, lambda k: self.pick(
-            b"\xff", b"\x80", b"\0", b"\xc3\xa9", b"\xe2\x82\xac", b"\xef\xbb\xbf", b"\x1b", b"\x7f", b"a", b"1", b";", b"\x85")))
+            b"\xff", b"\x80", b"\0", b"\xc3\xa9", b"\xe2\x82\xac", b"\xef\xbb\xbf", b"\x1b", b"\x7f", b"\x85", b"a",
+            b"1", b";")))
 
     def limits(self):
         """Numbers at the limits of where they stand."""
@@ -122,20 +125,22 @@ class Nasty:
 
     def halves(self):
         """Words that are keywords but for an end, or for a blank."""
-        return b" ".join(self.some(1, 5, lambda k: self.pick(
-            self.chance.choice(HALVES), self.chance.choice(HALVES) + b";", self.chance.choice(sorted(rpclang.KEYWORDS)) + b"x",
-            b"typedef " + self.chance.choice(HALVES) + b" t;", b"un signed a;")))
+        def one(k):
+            half, keyword = self.chance.choice(HALVES), self.chance.choice(rpclang.KEYWORDS)
+            return self.pick(half, half + b";", keyword + b"x", b"typedef " + half + b" t;", b"un signed a;")
+        return b" ".join(self.some(1, 5, one))
 
     def unended(self):
         """Items of which some have no semicolon."""
         return b"".join(self.some(1, 5, lambda k: self.pick(
-            b"const A = 1", b"typedef int t", b"enum e { A }", b"struct s { int a }", b"struct s { int a; }", b"union u", b"")
-            + self.pick(b";", b";", b"", b";;", b" ", b"\n")))
+            b"const A = 1", b"typedef int t", b"enum e { A }", b"struct s { int a }", b"struct s { int a; }",
+            b"union u", b"") + self.pick(b";", b";", b"", b";;", b" ", b"\n")))
 
     def lifted(self):
         """Names of inline types that others have too."""
-        pieces = [b"struct s{struct{struct{int i;}b;}a;struct{int j;}a_b;};", b"struct s_a{int x;};", b"enum s_a{A};",
-                  b"const s_a_b=1;", b"typedef s_a *t;", b"typedef struct{int i;}t;", b"typedef t_t u;", b"typedef enum{t=1}t;",
+        pieces = [b"struct s{struct{struct{int i;}b;}a;struct{int j;}a_b;};", b"struct s_a{int x;};",
+                  b"enum s_a{A};", b"const s_a_b=1;", b"typedef s_a *t;", b"typedef struct{int i;}t;",
+                  b"typedef t_t u;", b"typedef enum{t=1}t;",
                   b"union u switch(enum{A,B}d){case A:struct{int i;}a;};", b"struct b{u_d x;u_a y;s_a_b z;};",
                   b"struct s{enum{A=3}a;int v[A];};", b"struct s{s_a *n;struct{s_a *m;}a;};",
                   b"struct a{struct{int b;}b;a_b *c;};"]
@@ -150,7 +155,8 @@ class Nasty:
         for name in self.pick([], [b"t"], [b"t", b"t2"]):
             text += b"typedef %s %s;" % (over, name)
             over = name
-        return text + b"".join(self.some(1, 3, lambda k: b"union u%s switch(%s d){case %s:int x;case %s:void;%s};" % (
+        form = b"union u%s switch(%s d){case %s:int x;case %s:void;%s};"
+        return text + b"".join(self.some(1, 3, lambda k: form % (
             self.pick(b"", b"%d" % k), self.pick(over, over, b"e", b"bool"), self.pick(b"A", b"B", b"0"),
             self.pick(b"B", b"C", b"1", b"4"), self.pick(b"", b"default:void;"))))
 
@@ -169,9 +175,9 @@ class Nasty:
     def programs(self):
         """Numbers and names of versions and procedures that come again."""
         def procedure(k):
+            arguments = self.pick(b"void", b"int", b"int,e", b"void,int", b"string,string", b"struct{int i;}", self.name())
             return b"%s F%s(%s)=%s;" % (self.pick(b"void", b"int", b"string", self.name()), self.pick(b"", b"%d" % k),
-                                        self.pick(b"void", b"int", b"int,e", b"void,int", b"string,string", b"struct{int i;}",
-                                                  self.name()), self.pick(b"1", b"%d" % k, self.number()))
+                                        arguments, self.pick(b"1", b"%d" % k, self.number()))
 
         def version(k):
             return b"version V%s{%s}=%s;" % (self.pick(b"", b"%d" % k), b"".join(self.some(1, 3, procedure)),
@@ -185,11 +191,12 @@ class Nasty:
             name = self.name()
             names = self.chance.sample(NAMES[:8], self.chance.randint(1, 3))
             fields = b"".join(self.declaration(field) + b";" for field in names)
-            return self.pick(b"const %s = %s;" % (name, self.value()), b"typedef %s;" % self.declaration(name),
-                             b"struct %s {%s};" % (name, fields), b"enum %s {%s, %s = %s};" % (
-                                 name, self.name(), self.name(), self.value()),
-                             b"union %s switch (%s d) {case %s: %s; default: %s;};" % (
-                                 name, self.type(), self.value(), self.declaration(b"x"), self.declaration(b"y")))
+            arms = self.declaration(b"x"), self.declaration(b"y")
+            return self.pick(
+                b"const %s = %s;" % (name, self.value()), b"typedef %s;" % self.declaration(name),
+                b"struct %s {%s};" % (name, fields),
+                b"enum %s {%s, %s = %s};" % (name, self.name(), self.name(), self.value()),
+                b"union %s switch (%s d) {case %s: %s; default: %s;};" % (name, self.type(), self.value(), *arms))
         return b"".join(self.some(1, 5, one))
 
     def piece(self):
@@ -247,7 +254,8 @@ class Editor:
 
     def at_word(self, tokens):
         """A keyword or name cut or lengthened, or a number changed."""
-        words = [token for token in tokens if token.kind in ("Keyword", "Name", "Number", "BadNumber")] or tokens
+        kinds = "Keyword", "Name", "Number", "BadNumber"
+        words = [token for token in tokens if token.kind in kinds] or tokens
         token = self.chance.choice(words)
         way = self.chance.random()
         if way < 0.25:
@@ -263,8 +271,9 @@ class Editor:
         """Much less, much more, or much otherwise."""
         start, end = sorted([self.chance.randrange(len(text) + 1), self.chance.randrange(len(text) + 1)])
         middle = (start + end) // 2
+        swapped = text[middle:end] + text[start:middle]
         return self.chance.choice([
-            (start, end, b""), (start, len(text), b""), (0, start, b""), (start, end, text[middle:end] + text[start:middle]),
+            (start, end, b""), (start, len(text), b""), (0, start, b""), (start, end, swapped),
             (start, start, self.nasty.piece()), (end, end, text[start:end][:400]), (0, len(text), text),
             (start, end, text[start:end])])
 
@@ -279,7 +288,8 @@ class Editor:
             return start, start, self.nasty.piece()
         if way < 0.02:
             size = len(text)
-            return self.chance.choice([(size, size + 1), (1, 0), (size + 1, size + 1), (0, 999999999), (999999999, 0)]) + (b"",)
+            outside = [(size, size + 1), (1, 0), (size + 1, size + 1), (0, 999999999), (999999999, 0)]
+            return self.chance.choice(outside) + (b"",)
         if way < 0.08:
             start = self.place(text, tokens)
             return start, start, b""

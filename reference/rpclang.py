@@ -1,7 +1,8 @@
 """The Sun RPC language read plainly: tokens, items, definitions, names and rules of one text, each time from scratch.
 
-The language is that of RFC 4506 section 6 and RFC 5531 section 12. Of one text nothing is kept for another one but what
-follows of the words of one item alone: how it parses, and what its definition declares and uses. That is worked out once.
+The language is that of RFC 4506 section 6 and RFC 5531 section 12. Of one text nothing is kept for another
+one but what follows of the words of one item alone: how it parses, and what its definition declares and uses.
+That is worked out once.
 """
 import functools
 import re
@@ -27,8 +28,9 @@ CONSTANTS = range(-2 ** 63, 2 ** 64)
 
 Token = namedtuple("Token", "kind start end text")
 
-# At each place the longest word that any class has there. Where words of several classes begin with one byte, the first
-# class that has a word there has the longest. ^ is a place where a line starts, \b one where letters, digits and _ end.
+# At each place the longest word that any class has there. Where words of several classes begin with one byte,
+# the first class that has a word there has the longest. ^ is a place where a line starts, \b one where
+# letters, digits and _ end.
 CLASSES = [
     ("Space", rb"[\t\n\v\f\r ]+"),
     ("Punct", rb"[{}()\[\]<>,;:=*]"),
@@ -43,13 +45,15 @@ CLASSES = [
     ("Directive", rb"^#[^\n]*"),
     ("BadByte", rb"(?s:.)"),
 ]
-ANY_TOKEN = re.compile(b"|".join(b"(?P<%s>%s)" % (kind.encode(), words) for kind, words in CLASSES), re.MULTILINE)
+ANY_TOKEN = re.compile(
+    b"|".join(b"(?P<%s>%s)" % (kind.encode(), words) for kind, words in CLASSES), re.MULTILINE)
 
 
 @functools.lru_cache(KEPT_TEXTS)
 def tokens_of(text):
     """The tokens, which follow one another from the first byte to the last."""
-    return [Token(match.lastgroup, match.start(), match.end(), match.group()) for match in ANY_TOKEN.finditer(text)]
+    return [Token(match.lastgroup, match.start(), match.end(), match.group())
+            for match in ANY_TOKEN.finditer(text)]
 
 
 def line_and_column(text, at):
@@ -822,7 +826,8 @@ class Compilation:
         self.text = text
         self.tokens = tokens_of(text)
         self.items = items_of(self.tokens)
-        self.lines = [b"".join([token.text[1:] + b"\n" for token in item if token.kind == "Percent"]) for item in self.items]
+        self.lines = [b"".join([token.text[1:] + b"\n" for token in item if token.kind == "Percent"])
+                      for item in self.items]
         parses = [parse(item) for item in self.items]
         self.definitions = [found if kind == "definition" else None for kind, found in parses]
         self.first = first_declarers(self.definitions)

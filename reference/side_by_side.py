@@ -13,10 +13,10 @@ def without_search():
 
 
 def first_found(compare, parts):
-    """What is found in the first part in which anything is, or None; and the sum of what was counted in the parts before
-    it. `compare` answers such a pair of one part."""
-    counts = None
-    with multiprocessing.Pool(len(os.sched_getaffinity(0)), without_search, maxtasksperchild=MOST_PARTS) as pool:
+    """What is found in the first part in which anything is, or None; and the sum of what was counted in the
+    parts before it. `compare` answers such a pair of one part."""
+    counts, processors = None, len(os.sched_getaffinity(0))
+    with multiprocessing.Pool(processors, without_search, maxtasksperchild=MOST_PARTS) as pool:
         for found, counted in pool.imap(compare, parts):
             if found is not None:
                 return found, counts

@@ -248,9 +248,9 @@ def reading_of(kind, data, label=b""):
 
 
 def refusal_of(front, data):
-    """What is wrong with the bytes that were read so: None for an encoding, else code and place. Three cases: an encoding
-    stands in front of more bytes; a unit was read to whose end the bytes begin no encoding, which is the first such,
-    since each is judged before the next one is read; they are short."""
+    """What is wrong with the bytes that were read so: None for an encoding, else code and place. Three cases:
+    an encoding stands in front of more bytes; a unit was read to whose end the bytes begin no encoding, which
+    is the first such, since each is judged before the next one is read; they are short."""
     if isinstance(front, Reading):
         return (57, front.at) if front.at < len(data) else None
     return (50, len(data)) if isinstance(front, Ended) else front.args

@@ -58,8 +58,8 @@ def before(edit, place):
 
 
 def agreeing(old, edit, new):
-    """The first place behind what was inserted where a token ends or the text starts in both texts, and a line starts in
-    both or in neither. None where there is no such place."""
+    """The first place behind what was inserted where a token ends or the text starts in both texts, and a
+    line starts in both or in neither. None where there is no such place."""
     for place in new.boundaries[bisect_left(new.boundaries, edit[0] + len(edit[2])):]:
         was = before(edit, place)
         if was in old.ends and new.is_line_start(place) == old.is_line_start(was):
@@ -68,7 +68,8 @@ def agreeing(old, edit, new):
 
 
 def agreeing_item(old, edit, new, rest):
-    """The first such place, from the first one on, where an item ends or the text starts in both texts too."""
+    """The first such place, from the first one on, where an item ends or the text starts in both texts
+    too."""
     if rest is None:
         return None
     for place in new.item_boundaries[bisect_left(new.item_boundaries, rest):]:
@@ -84,8 +85,8 @@ def ended(reading, place):
 
 
 def token_change(old, edit, new, rest):
-    """The old tokens that go, from the first to before the last, and how many tokens of the new text are fresh, where
-    those from `rest` on stay."""
+    """The old tokens that go, from the first to before the last, and how many tokens of the new text are
+    fresh, where those from `rest` on stay."""
     first, fresh = ended(old, edit[0]), ended(new, edit[0])
     if rest is None:
         return first, len(old.tokens), len(new.tokens) - fresh
