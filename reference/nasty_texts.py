@@ -66,9 +66,9 @@ class Nasty:
 
     def declaration(self, name):
         kind, value = self.type(), self.value()
-        form = self.pick(b"%(kind)s %(name)s", b"%(kind)s %(name)s", b"%(kind)s *%(name)s", b"%(kind)s %(name)s<%(value)s>",
-                         b"%(kind)s %(name)s<>", b"%(kind)s %(name)s[%(value)s]", b"opaque %(name)s[%(value)s]",
-                         b"opaque %(name)s<%(value)s>", b"string %(name)s<>", b"void")
+        form = self.pick(b"%(kind)s %(name)s", b"%(kind)s %(name)s", b"%(kind)s *%(name)s", b"void",
+                         b"%(kind)s %(name)s<%(value)s>", b"%(kind)s %(name)s<>", b"%(kind)s %(name)s[%(value)s]",
+                         b"opaque %(name)s[%(value)s]", b"opaque %(name)s<%(value)s>", b"string %(name)s<>")
         return form % {b"kind": kind, b"name": name, b"value": value}
 
     def some(self, least, most, make):
@@ -175,9 +175,9 @@ class Nasty:
     def programs(self):
         """Numbers and names of versions and procedures that come again."""
         def procedure(k):
-            arguments = self.pick(b"void", b"int", b"int,e", b"void,int", b"string,string", b"struct{int i;}", self.name())
-            return b"%s F%s(%s)=%s;" % (self.pick(b"void", b"int", b"string", self.name()), self.pick(b"", b"%d" % k),
-                                        arguments, self.pick(b"1", b"%d" % k, self.number()))
+            result, name = self.pick(b"void", b"int", b"string", self.name()), self.pick(b"F", b"F%d" % k)
+            arguments = self.pick(b"void", b"int", b"int,e", b"void,int", b"string,string", b"struct{int i;}", result)
+            return b"%s %s(%s)=%s;" % (result, name, arguments, self.pick(b"1", b"%d" % k, self.number()))
 
         def version(k):
             return b"version V%s{%s}=%s;" % (self.pick(b"", b"%d" % k), b"".join(self.some(1, 3, procedure)),
