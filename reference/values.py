@@ -244,7 +244,8 @@ def reading_of(kind, data, label=b""):
     try:
         return Reading(kind, data, label)
     except (Ended, Stuck) as end:
-        return end
+        # Without what it went through, which keeps all that the callers have.
+        return end.with_traceback(None)
 
 
 def refusal_of(front, data):
