@@ -1,4 +1,4 @@
-"""Comparisons in parts, on as many processors as there are."""
+"""Comparisons in parts, on as many processors as there are, and cases made small."""
 import gc
 import multiprocessing
 import os
@@ -22,3 +22,19 @@ def first_found(compare, parts):
                 return found, counts
             counts = counted if counts is None else counts + counted
     return None, counts
+
+
+def shorter(parts, differs):
+    """Without the pieces that a difference does not need: of each of the parts, long pieces first."""
+    for k in range(len(parts)):
+        length = len(parts[k])
+        while length:
+            at = 0
+            while at < len(parts[k]):
+                fewer = parts[:k] + [parts[k][:at] + parts[k][at + length:]] + parts[k + 1:]
+                if differs(fewer):
+                    parts = fewer
+                else:
+                    at += length
+            length //= 2
+    return parts
