@@ -38,14 +38,13 @@ SHORTEST = 50
 
 
 class Nasty:
-    """Makes pieces of text. Some texts have none that spells no definition whatever comes with it."""
+    """Makes pieces of text. Of most texts each piece is made of definitions, some of which may be broken off."""
 
     def __init__(self, chance):
         self.chance = chance
         self.pieces = [self.everywhere, self.limits, self.lifted, self.classes, self.definitions] * 2
         self.pieces += [self.tower, self.programs, self.braces]
-        self.is_wild = chance.random() < 0.4
-        if self.is_wild:
+        if chance.random() < 0.4:
             self.pieces += [self.comments, self.lines, self.odd_bytes, self.halves, self.unended] * 2
 
     def pick(self, *choices):
@@ -91,8 +90,6 @@ class Nasty:
         deep = self.pick(1, 2, 3, 8, 31, 32, 32, 33)
         opening, closing = self.pick((b"struct{", b"}b;"), (b"struct{", b"}*b;"), (b"struct{int b;", b"}a;"),
                                      (b"union switch(int d){case 1:", b"}a;"), (b"{", b"}"), (b"{", b"};"))
-        if len(opening) > 20:
-            deep = min(deep, 32)
         inside = self.pick(b"int i;", b"s *i;", b"enum{A}a;", b"")
         closers = self.pick(deep, deep, deep, deep - 1, deep + 1)
         return b"struct s{" + opening * deep + inside + closing * closers + b"};"
