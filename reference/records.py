@@ -110,4 +110,4 @@ def message_of(data):
     try:
         return Header(data).message()
     except Refused as refused:
-        return refused
+        return refused.with_traceback(None)

@@ -96,10 +96,10 @@ class Dump:
         """Arguments or results: as they stand where the type isn't known, or where it refuses them."""
         if kind is None:
             return raw(data)
-        refused = values.refusal(kind, data)
+        refused, lines = values.shown(kind, data, label)
         if refused:
             return self.refuse(fault(*refused) + raw(data))
-        return b"".join(values.reading_of(kind, data, label).lines)
+        return b"".join(lines)
 
     def stream(self, found, ended):
         """The texts of the records of a stream, one after the other, and of its fault where it has one."""
@@ -110,10 +110,10 @@ class Dump:
 
     def value(self, name, data):
         kind = self.schema.type_named(name)
-        refused = values.refusal(kind, data)
+        refused, lines = values.shown(kind, data, name)
         if refused:
             return self.refuse(fault(*refused))
-        return b"".join(values.reading_of(kind, data, name).lines)
+        return b"".join(lines)
 
 
 class Stop(Exception):

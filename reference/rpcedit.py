@@ -53,8 +53,8 @@ class Session:
             return self.edit(int(match[1]), int(match[2]), bytes.fromhex((match[3] or b"").decode()))
         if line == b"tokens":
             tokens = self.compiled().tokens
-            return b"tokens %d\n" % len(tokens) + b"".join(
-                b"%d %d %s\n" % (token.start, token.end, token.kind.encode()) for token in tokens)
+            return "".join([f"tokens {len(tokens)}\n"] + [
+                f"{token.start} {token.end} {token.kind}\n" for token in tokens]).encode()
         if line == b"definitions":
             lines = [rpclang.definition_line(item, definition)
                      for item, definition in enumerate(self.compiled().definitions) if definition is not None]

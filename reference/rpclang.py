@@ -1,10 +1,15 @@
 """The Sun RPC language read plainly: tokens, items, definitions, names and rules of one text, each time from scratch.
 
-The language is that of RFC 4506 section 6 and RFC 5531 section 12. Nothing here is kept from one text to the next.
+The language is that of RFC 4506 section 6 and RFC 5531 section 12. Of one text nothing is kept for another
+one but what follows of the words of one item alone: how it parses, and what its definition declares and uses.
+That is worked out once.
 """
+import functools
 import re
 from collections import namedtuple
 
+# Of how many questions about a text, and about words or a definition, the answers are kept.
+KEPT_TEXTS, KEPT = 256, 20_000
 KEYWORDS = (b"bool case const default double enum float hyper int long opaque program quadruple string struct switch "
             b"typedef union unsigned version void").split()
 CODE_NAMES = {
@@ -23,50 +28,32 @@ CONSTANTS = range(-2 ** 63, 2 ** 64)
 
 Token = namedtuple("Token", "kind start end text")
 
-SPACE = re.compile(rb"[\t\n\v\f\r ]+")
-COMMENT = re.compile(rb"/\*.*?\*/", re.DOTALL)
-PERCENT = re.compile(rb"%[^\n]*")
-MARKER = re.compile(rb"#[ \t]*[0-9][^\n]*")
-DIRECTIVE = re.compile(rb"#[^\n]*")
-LETTERS = re.compile(rb"[A-Za-z_][A-Za-z0-9_]*")
-RUN = re.compile(rb"-?[0-9][A-Za-z0-9_]*")
-NUMBER = re.compile(rb"-?[1-9][0-9]*|0[xX][0-9a-fA-F]+|0[0-7]*")
-PUNCT = re.compile(rb"[{}()\[\]<>,;:=*]")
+# At each place the longest word that any class has there. Where words of several classes begin with one byte,
+# the first class that has a word there has the longest. ^ is a place where a line starts, \b one where
+# letters, digits and _ end.
+CLASSES = [
+    ("Space", rb"[\t\n\v\f\r ]+"),
+    ("Punct", rb"[{}()\[\]<>,;:=*]"),
+    ("Keyword", rb"(?:" + b"|".join(KEYWORDS) + rb")\b"),
+    ("Name", rb"[A-Za-z_][A-Za-z0-9_]*"),
+    ("Number", rb"(?:-?[1-9][0-9]*|0[xX][0-9a-fA-F]+|0[0-7]*)\b"),
+    ("BadNumber", rb"-?[0-9][A-Za-z0-9_]*"),
+    ("Comment", rb"/\*(?s:.*?)\*/"),
+    ("OpenComment", rb"/\*(?s:.*)"),
+    ("Percent", rb"^%[^\n]*"),
+    ("Marker", rb"^#[ \t]*[0-9][^\n]*"),
+    ("Directive", rb"^#[^\n]*"),
+    ("BadByte", rb"(?s:.)"),
+]
+ANY_TOKEN = re.compile(
+    b"|".join(b"(?P<%s>%s)" % (kind.encode(), words) for kind, words in CLASSES), re.MULTILINE)
 
 
-def token_at(text, at):
-    """The longest word that any class has at this place. No two classes share the first byte of a word but those that
-    one branch decides between, so the branches may be tried in any order."""
-    line_start = at == 0 or text[at - 1:at] == b"\n"
-    if match := SPACE.match(text, at):
-        return "Space", match.end()
-    if text.startswith(b"/*", at):
-        match = COMMENT.match(text, at)
-        return ("Comment", match.end()) if match else ("OpenComment", len(text))
-    if line_start and (match := PERCENT.match(text, at)):
-        return "Percent", match.end()
-    if line_start and (match := MARKER.match(text, at)):
-        return "Marker", match.end()
-    if line_start and (match := DIRECTIVE.match(text, at)):
-        return "Directive", match.end()
-    if match := LETTERS.match(text, at):
-        return "Keyword" if match.group() in KEYWORDS else "Name", match.end()
-    if match := RUN.match(text, at):
-        return "Number" if NUMBER.fullmatch(match.group()) else "BadNumber", match.end()
-    if match := PUNCT.match(text, at):
-        return "Punct", match.end()
-    return "BadByte", at + 1
-
-
+@functools.lru_cache(KEPT_TEXTS)
 def tokens_of(text):
     """The tokens, which follow one another from the first byte to the last."""
-    tokens = []
-    at = 0
-    while at < len(text):
-        kind, end = token_at(text, at)
-        tokens.append(Token(kind, at, end, text[at:end]))
-        at = end
-    return tokens
+    return [Token(match.lastgroup, match.start(), match.end(), match.group())
+            for match in ANY_TOKEN.finditer(text)]
 
 
 def line_and_column(text, at):
@@ -99,28 +86,37 @@ def items_of(tokens):
 # A word is a token that counts for the grammar; its place is the token's index in the item.
 Word = namedtuple("Word", "place kind text")
 
-Const = namedtuple("Const", "name value")
-Typedef = namedtuple("Typedef", "declaration")
-Enum = namedtuple("Enum", "name body")
-Struct = namedtuple("Struct", "name body")
-Union = namedtuple("Union", "name body")
-Program = namedtuple("Program", "name versions number")
+def tree(name, parts):
+    """A named tuple that equals itself alone: what is kept of it is found without a look at its parts."""
+    alone = {"__slots__": (), "__eq__": object.__eq__, "__ne__": object.__ne__, "__hash__": object.__hash__}
+    return type(name, (namedtuple(name, parts),), alone)
+
+
+Const = tree("Const", "name value")
+Typedef = tree("Typedef", "declaration")
+Enum = tree("Enum", "name body")
+Struct = tree("Struct", "name body")
+Union = tree("Union", "name body")
+Program = tree("Program", "name versions number")
 Version = namedtuple("Version", "name procedures number")
 Procedure = namedtuple("Procedure", "result name arguments number")
 
-EnumBody = namedtuple("EnumBody", "enumerators")            # pairs of name and value or None
-StructBody = namedtuple("StructBody", "fields")
-UnionBody = namedtuple("UnionBody", "opening discriminant closing arms default")
+EnumBody = tree("EnumBody", "enumerators")                  # pairs of name and value or None
+StructBody = tree("StructBody", "fields")
+UnionBody = tree("UnionBody", "opening discriminant closing arms default")
 Arm = namedtuple("Arm", "values declaration")
 
 # Forms: plain, fixed, counted, pointer, opaque fixed, opaque counted, string, void.
-Declaration = namedtuple("Declaration", "form first type name size")
+Declaration = tree("Declaration", "form first type name size")
 
 # Of a type, exactly one is set but for the tag, which may stand before a name. Basic types are spelled whole
 # ("unsigned int" for "unsigned"); "void" and "string" are basic types of arguments and results alone.
 Type = namedtuple("Type", "first basic tag name body")
 
 KEYWORD_OF = {Const: "const", Typedef: "typedef", Enum: "enum", Struct: "struct", Union: "union", Program: "program"}
+
+
+PASSED_OVER = frozenset(["Space", "Comment", "Percent", "Marker"])
 
 
 class Wrong(Exception):
@@ -349,8 +345,12 @@ class Parser:
 
 def parse(item):
     """Of one item: ("nothing", None), ("definition", tree) or ("fault", (place, code))."""
-    words = [Word(place, token.kind, token.text) for place, token in enumerate(item)
-             if token.kind not in ("Space", "Comment", "Percent", "Marker")]
+    return parse_spelled(tuple([(token.kind, token.text) for token in item]))
+
+
+@functools.lru_cache(KEPT)
+def parse_spelled(tokens):
+    words = [Word(place, kind, text) for place, (kind, text) in enumerate(tokens) if kind not in PASSED_OVER]
     if not words:
         return "nothing", None
     try:
@@ -378,6 +378,7 @@ def own_name(definition):
     return definition.declaration.name if isinstance(definition, Typedef) else definition.name
 
 
+@functools.lru_cache(KEPT)
 def declarations_in(body):
     """The declarations that stand directly in a body, in order."""
     if isinstance(body, StructBody):
@@ -406,6 +407,7 @@ def lifted_parts(around, body):
     return parts
 
 
+@functools.lru_cache(KEPT)
 def parts_of(definition):
     """The types that an item defines: those lifted from it, in the order of their declarations, then its own. Constants
     and programs define none: an inline type of a procedure is not looked into."""
@@ -420,6 +422,7 @@ def shape_of(body):
     return {EnumBody: "enum", StructBody: "struct", UnionBody: "union", Declaration: "typedef"}[type(body)]
 
 
+@functools.lru_cache(KEPT)
 def declared(definition):
     """The names that an item declares, in the order of their words; at one word the own name comes first."""
     names = []
@@ -450,6 +453,7 @@ def use_of(declaration):
     return "by value" if declaration.form in ("plain", "fixed") else "link"
 
 
+@functools.lru_cache(KEPT)
 def mentioned(definition):
     """The names that an item uses, in the order of their words."""
     mentions = []
@@ -514,7 +518,8 @@ class Check:
         self.first = first
         self.meanings = meanings
         self.parts = parts_of(definition)
-        self.mentions = {mention.place: mention for mention in mentioned(definition)}
+        # The fault of each use of a name, by its place; None where it has none.
+        self.codes = {mention.place: self.mention_code(mention) for mention in mentioned(definition)}
         self.constants = {}         # by the place of the declaring name; None where it has no number
         self.late_ranges = set()    # names of enumerators without a value that are one over the greatest
         self.find_constants()
@@ -558,13 +563,11 @@ class Check:
         return None
 
     def mention_faults(self):
-        return {(place, self.mention_code(mention)) for place, mention in self.mentions.items()
-                if self.mention_code(mention) is not None}
+        return {(place, code) for place, code in self.codes.items() if code is not None}
 
     def code_at(self, word):
         """The fault of the name that stands at this word, or None."""
-        mention = self.mentions.get(word.place)
-        return self.mention_code(mention) if mention else None
+        return self.codes.get(word.place)
 
     # ------------------------------------------------------------ numbers
 
@@ -823,17 +826,20 @@ class Compilation:
         self.text = text
         self.tokens = tokens_of(text)
         self.items = items_of(self.tokens)
+        self.lines = [b"".join([token.text[1:] + b"\n" for token in item if token.kind == "Percent"])
+                      for item in self.items]
         parses = [parse(item) for item in self.items]
-        self.definitions = [tree if kind == "definition" else None for kind, tree in parses]
+        self.definitions = [found if kind == "definition" else None for kind, found in parses]
         self.first = first_declarers(self.definitions)
         self.meanings = dict(BEFOREHAND)
         self.faults = []
         self.faulty = set()
-        for item, (kind, tree) in enumerate(parses):
+        self.schema = None          # that of values.py, once it is asked for
+        for item, (kind, found) in enumerate(parses):
             if kind == "fault":
-                self.tell(item, [tree])
+                self.tell(item, [found])
             elif kind == "definition":
-                self.check(item, tree)
+                self.check(item, found)
 
     def tell(self, item, pairs):
         for place, code in pairs:

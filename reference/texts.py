@@ -1,4 +1,6 @@
 """The four generated texts of a compilation: header, routines, stubs and table."""
+import functools
+
 import rpclang
 from rpclang import Const, EnumBody, Program, StructBody, UnionBody
 
@@ -236,17 +238,24 @@ def joined(lines):
     return "".join(line + "\n" for line in lines).encode()
 
 
+WRITERS = {"forward": forward, "header": header, "routines": routines, "stubs": stubs, "table": table}
+
+
+@functools.lru_cache(5 * rpclang.KEPT)
+def piece(kind, definition):
+    return joined(WRITERS[kind](definition))
+
+
 def text_of(kind, base, compilation):
     """The prologue, the forward lines of a header, each item's own lines and its piece, and the epilogue. An item that
     has a fault or no definition has only its own lines."""
-    write = {"header": header, "routines": routines, "stubs": stubs, "table": table}[kind]
     sound = [definition if item not in compilation.faulty else None
              for item, definition in enumerate(compilation.definitions)]
     text = prologue(kind, base)
     if kind == "header":
-        text += b"".join(joined(forward(definition)) for definition in sound if definition)
-    for item, definition in zip(compilation.items, sound):
-        text += b"".join(token.text[1:] + b"\n" for token in item if token.kind == "Percent")
+        text += b"".join(piece("forward", definition) for definition in sound if definition)
+    for lines, definition in zip(compilation.lines, sound):
+        text += lines
         if definition:
-            text += joined(write(definition))
+            text += piece(kind, definition)
     return text + (b"#endif\n" if kind == "header" else b"")

@@ -1,4 +1,5 @@
 """Values of the types of a faultless text: their encodings (RFC 4506 section 4), lines, and why bytes are refused."""
+import functools
 import random
 from collections import namedtuple
 
@@ -79,6 +80,7 @@ class Schema:
             return element()
         return Type(form, size=size, element=element)
 
+    @functools.lru_cache(rpclang.KEPT)
     def procedure(self, program, version, number):
         """The procedure of these numbers, in the first program of the text that has it, or None."""
         for definition, part in ((item, part) for item in self.programs for part in item.versions):
@@ -242,42 +244,53 @@ def reading_of(kind, data, label=b""):
     try:
         return Reading(kind, data, label)
     except (Ended, Stuck) as end:
-        return end
+        # Without what it went through, which keeps all that the callers have.
+        return end.with_traceback(None)
+
+
+def refusal_of(front, data):
+    """What is wrong with the bytes that were read so: None for an encoding, else code and place. Three cases:
+    an encoding stands in front of more bytes; a unit was read to whose end the bytes begin no encoding, which
+    is the first such, since each is judged before the next one is read; they are short."""
+    if isinstance(front, Reading):
+        return (57, front.at) if front.at < len(data) else None
+    return (50, len(data)) if isinstance(front, Ended) else front.args
 
 
 def refusal(kind, data):
-    """None for an encoding of the type, else code and place. Three cases, the first that applies: an encoding stands
-    in front of more bytes; there is a first whole unit to whose end the bytes begin no encoding; they are short."""
-    front = reading_of(kind, data)
-    if isinstance(front, Reading):
-        return (57, front.at) if front.at < len(data) else None
-    low, high = 0, len(data) // 4
-    if isinstance(reading_of(kind, data[:4 * high]), Ended):
-        return 50, len(data)
-    # Every front of bytes that begin an encoding begins one too, so the first such unit is found by halving.
-    while high - low > 1:
-        middle = (low + high) // 2
-        if isinstance(reading_of(kind, data[:4 * middle]), Ended):
-            low = middle
-        else:
-            high = middle
-    code, at = reading_of(kind, data[:4 * high]).args
-    assert at == 4 * low
-    return code, at
+    return refusal_of(reading_of(kind, data), data)
+
+
+def shown(kind, data, label):
+    """The refusal, or None, and the lines where there is none."""
+    front = reading_of(kind, data, label)
+    refused = refusal_of(front, data)
+    return refused, None if refused else front.lines
+
+
+def schema_of(compilation):
+    """The schema of a faultless text, made once."""
+    if compilation.schema is None:
+        compilation.schema = Schema(compilation)
+    return compilation.schema
+
+
+def answer_of(kind, name, data):
+    """What a script's dump line of a type is answered."""
+    refused, lines = shown(kind, data, name)
+    if refused:
+        return b"fault %d %s at %d\n" % (refused[0], CODE_NAMES[refused[0]].encode(), refused[1])
+    return b"value %d\n" % len(lines) + b"".join(lines)
 
 
 def dump_answer(compilation, name, data):
     """A script's answer to a dump line."""
     if compilation.faults:
         return b"refused 40 Faulty\n"
-    kind = Schema(compilation).type_named(name)
+    kind = schema_of(compilation).type_named(name)
     if kind is None:
         return b"refused 42 NoType\n"
-    refused = refusal(kind, data)
-    if refused:
-        return b"fault %d %s at %d\n" % (refused[0], CODE_NAMES[refused[0]].encode(), refused[1])
-    lines = reading_of(kind, data, name).lines
-    return b"value %d\n" % len(lines) + b"".join(lines)
+    return answer_of(kind, name, data)
 
 
 # ---------------------------------------------------------------- random values
@@ -371,14 +384,13 @@ def dump_line(name, data):
     return b"dump " + name + (b" " + data.hex().encode() if data else b"")
 
 
-def random_dumps(text, seed):
+def random_dumps(compilation, seed):
     """Some dump lines for a text: encodings of its types, such that are spoiled, and names of no type."""
     chance = random.Random(f"dumps {seed}")
-    compilation = rpclang.Compilation(text)
     lines = [dump_line(chance.choice([b"a", b"s", b"TRUE", b"A", b"zz", b"P"]), chance.choice([b"", b"\0", bytes(4)]))]
     if compilation.faults:
         return lines
-    schema = Schema(compilation)
+    schema = schema_of(compilation)
     names = sorted(schema.bodies)
     for name in chance.sample(names, min(4, len(names))):
         data = b"".join(Writing(chance, schema.type_named(name)).units)

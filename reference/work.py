@@ -1,5 +1,7 @@
 """What work an edit takes: which tokens and items of a text are fresh, which items are stale, and how many entries
 move. Both texts are compiled from scratch, and compared."""
+import functools
+from bisect import bisect_left, bisect_right
 from collections import namedtuple
 
 import rpclang
@@ -19,7 +21,7 @@ class Reading:
     """A text, what it is compiled to, and where its tokens and items end. The last item has no end of its own."""
 
     def __init__(self, text):
-        compilation = rpclang.Compilation(text)
+        self.compilation = compilation = rpclang.Compilation(text)
         self.text = text
         self.tokens = compilation.tokens
         self.items = compilation.items
@@ -28,6 +30,8 @@ class Reading:
         self.meanings = compilation.meanings
         self.boundaries = [0] + [token.end for token in self.tokens]
         self.item_boundaries = [0] + [item[-1].end for item in self.items[:-1]]
+        self.ends = set(self.boundaries)
+        self.item_ends = set(self.item_boundaries)
 
     def is_line_start(self, place):
         return place == 0 or self.text[place - 1] == 10
@@ -47,40 +51,63 @@ def edited(text, edit):
     return text[:start] + insert + text[end:]
 
 
-def agreeing(old, edit, new):
-    """The places behind what was inserted, in order, where a token ends or the text starts in both texts, and a line
-    starts in both or in neither; each with its old place."""
+def before(edit, place):
+    """The old place of one behind what was inserted."""
     start, end, insert = edit
-    ends = set(old.boundaries)
-    pairs = [(place, place - len(insert) + end - start) for place in new.boundaries if place >= start + len(insert)]
-    return [(place, before) for place, before in pairs
-            if before in ends and new.is_line_start(place) == old.is_line_start(before)]
+    return place - len(insert) + end - start
 
 
-def token_change(old, edit, new):
-    """The old tokens that go, from the first to before the last, and how many tokens of the new text are fresh."""
-    agree = agreeing(old, edit, new)
-    # From here on tokens stay.
-    rest, old_rest = agree[0] if agree else (len(new.text), len(old.text))
-    first = sum(token.end < edit[0] for token in old.tokens)
-    last = sum(token.end <= old_rest for token in old.tokens) if agree else len(old.tokens)
-    return first, last, sum(token.end >= edit[0] and token.start < rest for token in new.tokens)
+def agreeing(old, edit, new):
+    """The first place behind what was inserted where a token ends or the text starts in both texts, and a
+    line starts in both or in neither. None where there is no such place."""
+    for place in new.boundaries[bisect_left(new.boundaries, edit[0] + len(edit[2])):]:
+        was = before(edit, place)
+        if was in old.ends and new.is_line_start(place) == old.is_line_start(was):
+            return place
+    return None
+
+
+def agreeing_item(old, edit, new, rest):
+    """The first such place, from the first one on, where an item ends or the text starts in both texts
+    too."""
+    if rest is None:
+        return None
+    for place in new.item_boundaries[bisect_left(new.item_boundaries, rest):]:
+        was = before(edit, place)
+        if was in old.item_ends and new.is_line_start(place) == old.is_line_start(was):
+            return place
+    return None
+
+
+def ended(reading, place):
+    """How many tokens end before this place."""
+    return bisect_left(reading.boundaries, place, 1) - 1
+
+
+def token_change(old, edit, new, rest):
+    """The old tokens that go, from the first to before the last, and how many tokens of the new text are
+    fresh, where those from `rest` on stay."""
+    first, fresh = ended(old, edit[0]), ended(new, edit[0])
+    if rest is None:
+        return first, len(old.tokens), len(new.tokens) - fresh
+    last = bisect_right(old.boundaries, before(edit, rest), 1) - 1
+    return first, last, max(0, bisect_right(new.boundaries, rest, 1) - 1 - fresh)
 
 
 def kept_items(old, edit, new):
     """The items that stay: for the number of each in the new text the one that it has in the old text. All others are
     fresh."""
-    ends, new_ends = set(old.item_boundaries), set(new.item_boundaries)
-    rests = [place for place, before in agreeing(old, edit, new) if place in new_ends and before in ends]
+    rest = agreeing_item(old, edit, new, agreeing(old, edit, new))
     kept = {}
     for item, begin in enumerate(new.item_boundaries):
         if item + 1 < len(new.items) and new.item_boundaries[item + 1] < edit[0]:
             kept[item] = item
-        elif rests and begin >= rests[0]:
+        elif rest is not None and begin >= rest:
             kept[item] = item - len(new.items) + len(old.items)
     return kept
 
 
+@functools.lru_cache(rpclang.KEPT)
 def names_seen(definition):
     """The names that an item declares or uses."""
     return {name.name for name in rpclang.declared(definition) + rpclang.mentioned(definition)}
@@ -143,7 +170,7 @@ def seats_of(reading):
 
 def work_of(old, edit, new, seats):
     """What work the edit takes by the two readings, from these seats."""
-    first, last, lexed = token_change(old, edit, new)
+    first, last, lexed = token_change(old, edit, new, agreeing(old, edit, new))
     kept = kept_items(old, edit, new)
     place, stale = recut_place(old, new, kept), stale_items(old, new, kept)
     moved, seat = moved_items(seats.items, changed_items(place, stale, kept))
