@@ -1,11 +1,12 @@
 /*
- * Refuses allocations of a program. To be loaded before the C library (LD_PRELOAD). `./test sweeps` builds it, and runs compiled tests
- * over it. Which allocations are refused is said by
+ * Refuses allocations of a program. To be loaded before the C library (LD_PRELOAD). `./test sweeps` builds
+ * it, and runs compiled tests over it. Which allocations are refused is said by
  *   - the variable REFUSE: that of this number, counting from 1, alone;
- *   - the program itself, between two marks: a mark is an allocation of a size that nothing else asks for, as the crate `refusals`
- *     makes them. The first says from which number on, and whether that one alone or all after it too. The second ends it, and is
- *     refused where one was refused in between.
- * When the program ends it says on standard error how many there were: the program itself may have gone on without the memory.
+ *   - the program itself, between two marks: a mark is an allocation of a size that nothing else asks for, as
+ *     the crate `refusals` makes them. The first says from which number on, and whether that one alone or all
+ *     after it too. The second ends it, and is refused where one was refused in between.
+ * When the program ends it says on standard error how many there were: the program itself may have gone on
+ * without the memory.
  */
 #define _GNU_SOURCE
 #include <dlfcn.h>

@@ -48,8 +48,8 @@ fn expect_items(rt: &impl Abort, items: &Items<u8>, counts: &[usize]) {
     }
 }
 
-/// Follows an edit of a text without a brace that puts it in: the one item, which no `;` ends, becomes three, the
-/// last of them empty. Checks after each refusal that the items are as before.
+/// Follows an edit of a text without a brace that puts it in: the one item, which no `;` ends, becomes three,
+/// the last of them empty. Checks after each refusal that the items are as before.
 fn follow_with_little_memory(rt: &impl Abort, alloc: Global) -> Result<(), TextFault> {
     let old = Source::from_bytes(alloc, b"struct s { int a; const B = 2;")?;
     let Ok(mut tokens) = lex(alloc, &old, &mut Meter::new()) else {

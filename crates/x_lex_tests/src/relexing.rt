@@ -78,8 +78,8 @@ fn follow(
     Ok(refused)
 }
 
-/// Each allocation of an edit refused in turn. Then the tokens are as before; and putting a patch in place, in the
-/// room that is there, takes no memory.
+/// Each allocation of an edit refused in turn. Then the tokens are as before; and putting a patch in place,
+/// in the room that is there, takes no memory.
 #[test]
 fn refused_edit(rt: HostRuntime) -> Result<(), Fail> {
     let old = Source::from_bytes(rt.alloc(), b"x;\n%y")?;

@@ -21,8 +21,8 @@ pub struct Line {
     answer: &'static [u8],
 }
 
-/// A text, a script in which the line of this number is an edit of it, the text then, and the work that the edit
-/// takes where the text was just opened.
+/// A text, a script in which the line of this number is an edit of it, the text then, and the work that the
+/// edit takes where the text was just opened.
 #[derive(Drop)]
 pub struct Row {
     pub text: &'static [u8],
@@ -311,8 +311,8 @@ fn open_with_little_memory(rt: &impl Abort, alloc: Global, text: &[u8]) -> Resul
     panic!(rt; "opening never ends")
 }
 
-/// Carries the edit out, and after a refusal once more: then all was as before, seats included, by the answers
-/// and by what the edit takes.
+/// Carries the edit out, and after a refusal once more: then all was as before, seats included, by the
+/// answers and by what the edit takes.
 fn apply_once(
     rt: &impl Abort,
     alloc: Global,
@@ -446,7 +446,8 @@ fn begins_and_ends(bytes: &[u8], (first, last): (&[u8], &[u8])) -> bool {
     bytes.get(..first.len()) == Some(first) && bytes.get(behind..) == Some(last)
 }
 
-/// Asks for a list of so many links, with one allocation refused after another, and after a refusal with memory.
+/// Asks for a list of so many links, with one allocation refused after another, and after a refusal with
+/// memory.
 fn show_with_little_memory(
     rt: &impl Abort,
     alloc: Global,

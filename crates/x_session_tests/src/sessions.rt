@@ -78,8 +78,8 @@ const OTHER: Edit<'static> = Edit {
     insert: b"3",
 };
 
-/// Checks that of two edits both are done, with the work of both: the first goes to its places from the ends of
-/// tokens and items, and the second finds all there.
+/// Checks that of two edits both are done, with the work of both: the first goes to its places from the ends
+/// of tokens and items, and the second finds all there.
 fn expect_both(rt: &impl Abort, session: &mut Session) {
     let both = Work {
         lexed: 2,
@@ -123,8 +123,8 @@ fn expect_types(rt: &impl Abort, schema: &Schema) {
     assert!(rt; matches!(schema.form(id), Form::FixedOpaque(5)));
 }
 
-/// Types and procedures, and the words of a line that asks for a value, with every allocation refused: to find them
-/// takes no memory.
+/// Types and procedures, and the words of a line that asks for a value, with every allocation refused: to
+/// find them takes no memory.
 #[test]
 fn bare_types(rt: HostRuntime) -> Result<(), Fail> {
     let text = b"typedef opaque T[5]; program P { version V { T F(int, string) = 1; } = 2; } = 3;";

@@ -22,8 +22,8 @@ impl Write for Stuck {
     }
 }
 
-/// Runs the script into a sink that takes a byte a call and fails behind so many. The session is as the line left
-/// it whose answer is not whole.
+/// Runs the script into a sink that takes a byte a call and fails behind so many. The session is as the line
+/// left it whose answer is not whole.
 fn stop_behind(
     rt: &impl Abort,
     alloc: Global,
@@ -71,8 +71,8 @@ fn whole_text(alloc: Global, session: &Session, which: Which) -> Result<Vec<u8>,
     Ok(Vec::from_slice(alloc, sink.bytes())?)
 }
 
-/// Writes a text into sinks that fail behind so many of its bytes: at each place of a short one, and at a thousand
-/// of a long one. The sink takes as many bytes a call as there are from one place to the next.
+/// Writes a text into sinks that fail behind so many of its bytes: at each place of a short one, and at a
+/// thousand of a long one. The sink takes as many bytes a call as there are from one place to the next.
 fn cut_text(rt: &impl Abort, alloc: Global, session: &Session, which: Which) -> Result<(), Fail> {
     let text = whole_text(alloc, session, which)?;
     let step = (text.len() / 1000).max(1);

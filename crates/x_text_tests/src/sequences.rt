@@ -69,8 +69,8 @@ fn carries_changes_out(rt: HostRuntime) -> Result<(), Fail> {
     Ok(())
 }
 
-/// Replaces two of ten entries by one in room that is there, with every allocation refused, and answers how many
-/// others that moved.
+/// Replaces two of ten entries by one in room that is there, with every allocation refused, and answers how
+/// many others that moved.
 fn replace_two_in_room<S: Seq<u32>>(
     rt: &impl Abort,
     alloc: Global,

@@ -24,7 +24,8 @@ fn definition_of(rt: &impl Abort, alloc: Global, text: &[u8]) -> Result<Definiti
     }
 }
 
-/// Follows an edit that takes out some definitions and puts in others. Who declares `A` first then is known before.
+/// Follows an edit that takes out some definitions and puts in others. Who declares `A` first then is known
+/// before.
 fn follow(
     rt: &impl Abort,
     alloc: Global,

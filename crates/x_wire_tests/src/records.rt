@@ -139,8 +139,8 @@ fn a_reason_has_its_text(rt: HostRuntime) -> Result<(), Fail> {
     Ok(())
 }
 
-/// Feeds what stands behind a cut with one allocation refused after another. After a refusal all is as before the
-/// call, and the same bytes then give the records.
+/// Feeds what stands behind a cut with one allocation refused after another. After a refusal all is as before
+/// the call, and the same bytes then give the records.
 fn feed_with_little_memory(
     rt: &impl Abort,
     alloc: Global,
@@ -181,8 +181,8 @@ fn feed_with_little_memory(
     panic!(rt; "feeding never ends")
 }
 
-/// Feeds a stream so, cut at each place. Its records are parts of it: from where, to where, and whether a record
-/// ends there.
+/// Feeds a stream so, cut at each place. Its records are parts of it: from where, to where, and whether a
+/// record ends there.
 fn feed_every_cut(
     rt: &impl Abort,
     alloc: Global,
@@ -218,8 +218,8 @@ fn refused_feeding(rt: HostRuntime) -> Result<(), Fail> {
     Ok(())
 }
 
-/// What takes no memory, with every allocation refused: to begin with records, to end with them, and to read a
-/// message.
+/// What takes no memory, with every allocation refused: to begin with records, to end with them, and to read
+/// a message.
 #[test]
 fn bare_records(rt: HostRuntime) -> Result<(), Fail> {
     begin(rt.alloc(), ALL)?;

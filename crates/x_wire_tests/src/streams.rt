@@ -281,8 +281,8 @@ fn expect_row(rt: &impl Abort, alloc: Global, schema: &Schema, stream: &[u8], te
     assert_eq!(rt; sink.bytes(), text);
 }
 
-/// Tells of a stream with one allocation refused after another: what was told before is told whole, and the same
-/// stream is then told with memory.
+/// Tells of a stream with one allocation refused after another: what was told before is told whole, and the
+/// same stream is then told with memory.
 fn tell_with_little_memory(
     rt: &impl Abort,
     alloc: Global,
@@ -351,7 +351,8 @@ fn open_with_little_memory(rt: &impl Abort, alloc: Global) -> Result<usize, Fail
     panic!(rt; "opening never ends")
 }
 
-/// Each allocation of opening the schema of NFS version 2 with its types, and of telling of two streams by it.
+/// Each allocation of opening the schema of NFS version 2 with its types, and of telling of two streams by
+/// it.
 #[test]
 fn refused_streams(rt: HostRuntime) -> Result<(), Fail> {
     let opening = open_with_little_memory(&rt, rt.alloc())?;
