@@ -1,5 +1,5 @@
 -- What a run of `rpcdump` does, put together.
-use Rattle.std.proofs.Common.{◌≡◌, ◌∙◌, ℕ, ◌+◌, ◌≤◌, ◌<◌, Bool, true, false, List, [], ◌++◌, length, Option, Some, None, Result, Ok, Err, Bor, ◌⊎◌, inl, inr, codes, refl, sym, subst, ap, append_assoc, append-nil, length-append, arith}
+use Rattle.std.proofs.Common.{◌≡◌, ◌∙◌, ℕ, ◌≤◌, ◌<◌, Bool, true, false, List, [], ◌++◌, length, Option, Some, None, Result, Ok, Err, Bor, ◌⊎◌, inl, inr, codes, refl, sym, subst, ap, append_assoc, append-nil, length-append, arith}
 use Rattle.std.specs.Prelude.{MatchOption, option_map, unwrap_or, IsErrAnd, IsErrOf}
 use Rattle.std.specs.Io.KnownBytes.{Consumes, IsAtEnd, Keeps}
 use Rattle.x_text.specs.Streams.{Stream}

@@ -1,4 +1,4 @@
-use Rattle.std.proofs.Common.{[], ap, sym, subst, ◌∙◌}
+use Rattle.std.proofs.Common.{[], sym, subst}
 use Rattle.x_text.specs.Writing.{Inked, Writes}
 use Rattle.x_text.proofs.Pens.{writes_none}
 use Rattle.rpcx.specs.Generate.{told_fault, told_faults}
