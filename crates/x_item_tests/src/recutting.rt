@@ -41,7 +41,7 @@ fn follow(
 }
 
 /// Checks how many tokens each item has.
-fn expect_items(rt: &impl Abort, items: &Items<u8>, counts: &[usize]) {
+fn expect_items(rt: &impl Abort, items: &Items<u8>, counts: &[u32]) {
     assert_eq!(rt; items.len(), counts.len());
     for (index, count) in counts.iter().enumerate() {
         assert_eq!(rt; items.get(index).map(|item| item.tokens), Some(*count));
