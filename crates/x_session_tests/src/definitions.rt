@@ -4,7 +4,7 @@ use refusals::{ALL, begin, end};
 use std::alloc::Global;
 use std::process::Abort;
 use std::test::Fail;
-use x_gen::render;
+use x_gen::{Pieces, render};
 use x_item::{Definition, NameKind};
 use x_sema::{Checked, Meaning, Names, RuleCode, View, WordFault, check_item};
 use x_session::{Session, Which};
@@ -17,10 +17,26 @@ const OWN: View<'static> = View::Own {
 
 /// Checks what is found of `const A = 12;`, and what is generated of it.
 fn expect_constant(rt: &impl Abort, alloc: Global, definition: &Definition) -> Result<(), Fail> {
-    let mut meter = Meter::new();
-    let checked = check_item(alloc, definition, &[OWN], &mut meter)?;
-    assert_eq!(rt; meter.checked(), 1);
-    let pieces = render(alloc, definition, &checked)?;
+    let checked = check_item(alloc, definition, &[OWN], &mut Meter::new())?;
+    expect_generated(rt, alloc, definition, &checked)
+}
+
+fn expect_generated(
+    rt: &impl Abort,
+    alloc: Global,
+    definition: &Definition,
+    checked: &Checked,
+) -> Result<(), Fail> {
+    let pieces = render(alloc, definition, checked)?;
+    expect_parts(rt, alloc, checked, &pieces)
+}
+
+fn expect_parts(
+    rt: &impl Abort,
+    alloc: Global,
+    checked: &Checked,
+    pieces: &Pieces,
+) -> Result<(), Fail> {
     begin(alloc, ALL)?;
     assert!(rt; checked.faults().is_empty());
     assert_eq!(rt; checked.meaning(0), Meaning::Constant(12));
@@ -31,13 +47,31 @@ fn expect_constant(rt: &impl Abort, alloc: Global, definition: &Definition) -> R
     Ok(())
 }
 
-/// Checks a fault that was found: the second word, and the code.
+const EARLIER: View<'static> = View::Earlier {
+    kind: NameKind::Constant,
+    lifted: false,
+    meaning: Meaning::Constant(1),
+};
+
+/// Checks that a name which is declared before is a fault at the second word, and means nothing.
+fn expect_duplicate(rt: &impl Abort, alloc: Global, definition: &Definition) -> Result<(), Fail> {
+    let checked = check_item(alloc, definition, &[EARLIER], &mut Meter::new())?;
+    expect_fault(rt, &checked, RuleCode::Duplicate);
+    Ok(())
+}
+
 fn expect_fault(rt: &impl Abort, checked: &Checked, code: RuleCode) {
     assert_eq!(rt; checked.faults(), [WordFault { word: 1, code }].as_slice());
     assert_eq!(rt; checked.meaning(0), Meaning::Bad);
 }
 
-/// Who declares a name first, found with every allocation refused.
+/// Checks who declares a name first.
+fn expect_names(rt: &impl Abort, alloc: Global, definition: &Definition) -> Result<(), Fail> {
+    let names = Names::of(alloc, &[None, Some(definition), Some(definition)])?;
+    expect_first(rt, alloc, &names)
+}
+
+/// It is found with every allocation refused.
 fn expect_first(rt: &impl Abort, alloc: Global, names: &Names) -> Result<(), Fail> {
     begin(alloc, ALL)?;
     let place = names.first(b"A").map(|first| (first.item, first.word));
@@ -50,17 +84,14 @@ fn expect_first(rt: &impl Abort, alloc: Global, names: &Names) -> Result<(), Fai
 #[test]
 fn bare_definitions(rt: HostRuntime) -> Result<(), Fail> {
     let session = Session::open(rt.alloc(), b"t", b"const A = 12;")?;
-    let Some(definition) = session.definition(0) else {
-        panic!(rt; "the text is a definition");
-    };
-    expect_constant(&rt, rt.alloc(), definition)?;
-    let earlier = View::Earlier {
-        kind: NameKind::Constant,
-        lifted: false,
-        meaning: Meaning::Constant(1),
-    };
-    let checked = check_item(rt.alloc(), definition, &[earlier], &mut Meter::new())?;
-    expect_fault(&rt, &checked, RuleCode::Duplicate);
-    let names = Names::of(rt.alloc(), &[None, Some(definition), Some(definition)])?;
-    expect_first(&rt, rt.alloc(), &names)
+    match session.definition(0) {
+        Some(definition) => expect_definition(&rt, rt.alloc(), definition),
+        None => panic!(rt; "the text is a definition"),
+    }
+}
+
+fn expect_definition(rt: &impl Abort, alloc: Global, definition: &Definition) -> Result<(), Fail> {
+    expect_constant(rt, alloc, definition)?;
+    expect_duplicate(rt, alloc, definition)?;
+    expect_names(rt, alloc, definition)
 }

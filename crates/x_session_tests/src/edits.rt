@@ -293,16 +293,11 @@ impl Row {
 fn open_with_little_memory(rt: &impl Abort, alloc: Global, text: &[u8]) -> Result<usize, Fail> {
     for turn in 0..MOST_TURNS {
         begin(alloc, turn)?;
-        let source = Source::from_bytes(alloc, text);
-        let opened = Session::open(alloc, b"t", text);
+        let source = Source::from_bytes(alloc, text).err();
+        let session = Session::open(alloc, b"t", text).err();
         let refused = end(alloc);
-        match source {
-            Ok(source) => assert_eq!(rt; source.bytes(), text),
-            Err(fault) => assert_eq!(rt; (refused, fault), (true, TextFault::NoMemory)),
-        }
-        match opened {
-            Ok(session) => assert_eq!(rt; session.bytes(), text),
-            Err(fault) => assert_eq!(rt; (refused, fault), (true, TextFault::NoMemory)),
+        for fault in [source, session] {
+            assert!(rt; fault.is_none() || (refused && fault == Some(TextFault::NoMemory)));
         }
         if !refused {
             return Ok(turn);
@@ -345,33 +340,69 @@ fn apply_once(
     Ok(refused)
 }
 
-/// The edit with one allocation refused after another, and then the lines behind it.
-fn apply_with_little_memory(rt: &impl Abort, alloc: Global, row: &Row) -> Result<usize, Fail> {
-    let script = row.script(alloc, EDIT_LINE + 1)?;
-    let answers = row.answers(alloc, EDIT_LINE + 1)?;
+/// Then the lines behind the edit.
+fn apply_and_ask(
+    rt: &impl Abort,
+    alloc: Global,
+    session: &mut Session,
+    (row, script, answers): (&Row, &[u8], &[u8]),
+    turn: usize,
+) -> Result<bool, Fail>
+    requires { turn ≤ 20000 }
+{
+    let refused = apply_once(rt, alloc, session, row, turn)?;
+    assert_eq!(rt; session.bytes(), row.edited);
+    expect_answers(rt, alloc, session, script, answers)?;
+    Ok(refused)
+}
+
+fn open_and_apply(
+    rt: &impl Abort,
+    alloc: Global,
+    (row, script, answers): (&Row, &[u8], &[u8]),
+    turn: usize,
+) -> Result<bool, Fail>
+    requires { turn ≤ 20000 }
+{
+    let mut session = Session::open(alloc, b"t", row.text)?;
+    apply_and_ask(rt, alloc, &mut session, (row, script, answers), turn)
+}
+
+fn apply_in_turns(
+    rt: &impl Abort,
+    alloc: Global,
+    (row, script, answers): (&Row, &[u8], &[u8]),
+) -> Result<usize, Fail> {
     for turn in 0..MOST_TURNS {
-        let mut session = Session::open(alloc, b"t", row.text)?;
-        let refused = apply_once(rt, alloc, &mut session, row, turn)?;
-        assert_eq!(rt; session.bytes(), row.edited);
-        expect_answers(rt, alloc, &mut session, &script, &answers)?;
-        if !refused {
+        if !open_and_apply(rt, alloc, (row, script, answers), turn)? {
             return Ok(turn);
         }
     }
     panic!(rt; "an edit never ends")
 }
 
+/// The edit with one allocation refused after another, and then the lines behind it.
+fn apply_with_little_memory(rt: &impl Abort, alloc: Global, row: &Row) -> Result<usize, Fail> {
+    let script = row.script(alloc, EDIT_LINE + 1)?;
+    let answers = row.answers(alloc, EDIT_LINE + 1)?;
+    apply_in_turns(rt, alloc, (row, &script, &answers))
+}
+
 /// The types of the text, which there are where it has no fault, with one allocation refused after another.
 fn make_schema(rt: &impl Abort, alloc: Global, text: &[u8]) -> Result<usize, Fail> {
     let session = Session::open(alloc, b"t", text)?;
+    make_in_turns(rt, alloc, &session)
+}
+
+fn make_in_turns(rt: &impl Abort, alloc: Global, session: &Session) -> Result<usize, Fail> {
     for turn in 0..MOST_TURNS {
         begin(alloc, turn)?;
-        let answer = session.schema();
+        let fault = session.schema().err();
         let refused = end(alloc);
-        match answer {
-            Ok(_) => assert_eq!(rt; session.fault_count(), 0),
-            Err(SchemaFault::NoMemory) => assert!(rt; refused && session.schema().is_ok()),
-            Err(SchemaFault::Faulty) => assert!(rt; !refused && session.fault_count() > 0),
+        match fault {
+            None => assert_eq!(rt; session.fault_count(), 0),
+            Some(SchemaFault::NoMemory) => assert!(rt; refused && session.schema().is_ok()),
+            Some(SchemaFault::Faulty) => assert!(rt; !refused && session.fault_count() > 0),
         }
         if !refused {
             return Ok(turn);
@@ -406,24 +437,52 @@ fn go_on(
 /// their lines left it, and the lines that are left are answered with memory.
 fn run_with_little_memory(rt: &impl Abort, alloc: Global, row: &Row) -> Result<usize, Fail> {
     let script = row.script(alloc, 0)?;
+    run_in_turns(rt, alloc, row, &script)
+}
+
+fn run_in_turns(rt: &impl Abort, alloc: Global, row: &Row, script: &[u8]) -> Result<usize, Fail> {
     for turn in 0..MOST_TURNS {
-        let mut session = Session::open(alloc, b"t", row.text)?;
-        let mut buffer = [0u8; 2048];
-        let mut sink = MemSink::new(&mut buffer, 64, 2048);
-        let mut tap = MemTap::new(&script, 64, usize::MAX);
-        begin(alloc, turn)?;
-        let outcome = run_script(alloc, &mut session, &mut tap, &mut sink);
-        let refused = end(alloc);
-        let written = go_on(rt, alloc, &mut session, &mut sink, row)? as u64;
-        match outcome {
-            Ok(_) => assert_eq!(rt; written, sink.bytes().len() as u64),
-            Err(fault) => assert!(rt; refused && fault == EngineFault::NoMemory { written }),
-        }
-        if !refused {
+        if !open_and_run(rt, alloc, row, script, turn)? {
             return Ok(turn);
         }
     }
     panic!(rt; "a script never ends")
+}
+
+fn open_and_run(
+    rt: &impl Abort,
+    alloc: Global,
+    row: &Row,
+    script: &[u8],
+    turn: usize,
+) -> Result<bool, Fail>
+    requires { turn ≤ 20000 }
+{
+    let mut session = Session::open(alloc, b"t", row.text)?;
+    run_once(rt, alloc, &mut session, (row, script), turn)
+}
+
+fn run_once(
+    rt: &impl Abort,
+    alloc: Global,
+    session: &mut Session,
+    (row, script): (&Row, &[u8]),
+    turn: usize,
+) -> Result<bool, Fail>
+    requires { turn ≤ 20000 }
+{
+    let mut buffer = [0u8; 2048];
+    let mut sink = MemSink::new(&mut buffer, 64, 2048);
+    let mut tap = MemTap::new(script, 64, usize::MAX);
+    begin(alloc, turn)?;
+    let outcome = run_script(alloc, session, &mut tap, &mut sink);
+    let refused = end(alloc);
+    let written = go_on(rt, alloc, session, &mut sink, row)? as u64;
+    match outcome {
+        Ok(_) => assert_eq!(rt; written, sink.bytes().len() as u64),
+        Err(fault) => assert!(rt; refused && fault == EngineFault::NoMemory { written }),
+    }
+    Ok(refused)
 }
 
 #[test]
@@ -446,6 +505,72 @@ fn begins_and_ends(bytes: &[u8], (first, last): (&[u8], &[u8])) -> bool {
     bytes.get(..first.len()) == Some(first) && bytes.get(behind..) == Some(last)
 }
 
+/// A line that asks to show a list of so many links.
+fn links_script(alloc: Global, count: u32) -> Result<Vec<u8>, Fail> {
+    let mut script = Vec::from_slice(alloc, b"dump l ")?;
+    for _ in 0..count {
+        script.extend_from_slice(b"00000001")?;
+    }
+    script.extend_from_slice(b"00000000\n")?;
+    Ok(script)
+}
+
+/// Runs the line, and after a refusal once more, with memory.
+fn show_once(
+    rt: &impl Abort,
+    alloc: Global,
+    session: &mut Session,
+    script: &[u8],
+    sink: &mut MemSink,
+    turn: usize,
+) -> Result<bool, Fail>
+    requires { turn ≤ 20000 }
+{
+    let mut tap = MemTap::new(script, 65_536, usize::MAX);
+    begin(alloc, turn)?;
+    let outcome = run_script(alloc, session, &mut tap, sink);
+    let refused = end(alloc);
+    if let Err(fault) = outcome {
+        let written = 0;
+        assert!(rt; refused && fault == EngineFault::NoMemory { written });
+        assert!(rt; sink.bytes().is_empty());
+        let mut again = MemTap::new(script, 65_536, usize::MAX);
+        run_script(alloc, session, &mut again, sink)?;
+    }
+    Ok(refused)
+}
+
+fn open_and_show(
+    rt: &impl Abort,
+    alloc: Global,
+    script: &[u8],
+    sink: &mut MemSink,
+    turn: usize,
+) -> Result<bool, Fail>
+    requires { turn ≤ 20000 }
+{
+    let mut session = Session::open(alloc, b"t", b"struct l { l *n; };")?;
+    show_once(rt, alloc, &mut session, script, sink, turn)
+}
+
+fn show_in_turns(
+    rt: &impl Abort,
+    alloc: Global,
+    script: &[u8],
+    room: &mut [u8],
+    answer: (&[u8], &[u8]),
+) -> Result<usize, Fail> {
+    for turn in 0..MOST_TURNS {
+        let mut sink = MemSink::new(room, 65_536, 4_000_000);
+        let refused = open_and_show(rt, alloc, script, &mut sink, turn)?;
+        assert!(rt; begins_and_ends(sink.bytes(), answer));
+        if !refused {
+            return Ok(turn);
+        }
+    }
+    panic!(rt; "a value never ends")
+}
+
 /// Asks for a list of so many links, with one allocation refused after another, and after a refusal with
 /// memory.
 fn show_with_little_memory(
@@ -454,32 +579,9 @@ fn show_with_little_memory(
     count: u32,
     answer: (&[u8], &[u8]),
 ) -> Result<usize, Fail> {
-    let mut session = Session::open(alloc, b"t", b"struct l { l *n; };")?;
-    let mut script = Vec::from_slice(alloc, b"dump l ")?;
-    for _ in 0..count {
-        script.extend_from_slice(b"00000001")?;
-    }
-    script.extend_from_slice(b"00000000\n")?;
+    let script = links_script(alloc, count)?;
     let mut room = vec![in alloc; 0u8; 4_000_000]?;
-    for turn in 0..MOST_TURNS {
-        let mut sink = MemSink::new(&mut room, 65_536, 4_000_000);
-        let mut tap = MemTap::new(&script, 65_536, usize::MAX);
-        begin(alloc, turn)?;
-        let outcome = run_script(alloc, &mut session, &mut tap, &mut sink);
-        let refused = end(alloc);
-        if let Err(fault) = outcome {
-            let written = 0;
-            assert!(rt; refused && fault == EngineFault::NoMemory { written });
-            assert!(rt; sink.bytes().is_empty());
-            let mut again = MemTap::new(&script, 65_536, usize::MAX);
-            run_script(alloc, &mut session, &mut again, &mut sink)?;
-        }
-        assert!(rt; begins_and_ends(sink.bytes(), answer));
-        if !refused {
-            return Ok(turn);
-        }
-    }
-    panic!(rt; "a value never ends")
+    show_in_turns(rt, alloc, &script, &mut room, answer)
 }
 
 /// A short list of links, one of as many as may be open at once, and one of one more.

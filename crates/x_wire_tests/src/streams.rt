@@ -108,17 +108,26 @@ fn the_schema_of_nfs_has_its_procedures(rt: HostRuntime) -> Result<(), Fail> {
     Ok(())
 }
 
+/// The types of NFS version 2.
+pub fn nfs2_schema(alloc: Global) -> Result<Schema, Fail> {
+    let session = Session::open(alloc, b"nfs2", NFS2_X)?;
+    Ok(session.schema()?)
+}
+
 /// Whole, byte by byte, and in pieces of every size between.
 #[test]
 fn a_stream_is_told_in_pieces_of_every_size(rt: HostRuntime) -> Result<(), Fail> {
-    let session = Session::open(rt.alloc(), b"nfs2", NFS2_X)?;
-    let schema = session.schema()?;
-    let text = ROWS[1].text(rt.alloc())?;
+    let schema = nfs2_schema(rt.alloc())?;
+    tell_in_pieces(&rt, rt.alloc(), &schema)
+}
+
+fn tell_in_pieces(rt: &impl Abort, alloc: Global, schema: &Schema) -> Result<(), Fail> {
+    let text = ROWS[1].text(alloc)?;
     for size in 1..=READDIR.len() {
         let mut told = [0u8; 1024];
         let mut sink = MemSink::new(&mut told, 1024, 1024);
         let mut tap = MemTap::new(READDIR, size, usize::MAX);
-        let result = dump_stream(rt.alloc(), &schema, &mut tap, &mut sink);
+        let result = dump_stream(alloc, schema, &mut tap, &mut sink);
         assert!(rt; result == Ok(Outcome::Clean) && sink.bytes() == text.as_slice());
     }
     Ok(())
@@ -166,22 +175,31 @@ fn expect_told(
 /// The stream cut to so many bytes, whole and byte by byte.
 #[test]
 fn a_stream_that_is_cut_is_told_as_far_as_it_goes(rt: HostRuntime) -> Result<(), Fail> {
-    let session = Session::open(rt.alloc(), b"nfs2", NFS2_X)?;
-    let schema = session.schema()?;
+    let schema = nfs2_schema(rt.alloc())?;
     for count in 0..=NULL_CALL.len() {
-        let mut wanted = ROWS[0].text(rt.alloc())?;
-        wanted.truncate(told_of(count));
-        let mut outcome = Outcome::Clean;
-        if count != 0 && count != CALL_END && count != NULL_CALL.len() {
-            outcome = Outcome::Refused;
-            let line = format!(in rt.alloc(); "fault 61 Truncated at {count}\n")?;
-            wanted.extend_from_slice(line.as_bytes())?;
-        }
-        let stream = NULL_CALL.get(..count).unwrap_or_default();
-        for most in [1, 100] {
-            let mut tap = MemTap::new(stream, most, usize::MAX);
-            expect_told(&rt, rt.alloc(), &schema, &mut tap, Ok(outcome), &wanted);
-        }
+        tell_cut(&rt, rt.alloc(), &schema, count)?;
+    }
+    Ok(())
+}
+
+/// What is told of the first bytes of the first stream, and how that ends.
+fn cut_text(alloc: Global, count: usize) -> Result<(Vec<u8>, Outcome), Fail> {
+    let mut wanted = ROWS[0].text(alloc)?;
+    wanted.truncate(told_of(count));
+    if count == 0 || count == CALL_END || count == NULL_CALL.len() {
+        return Ok((wanted, Outcome::Clean));
+    }
+    let line = format!(in alloc; "fault 61 Truncated at {count}\n")?;
+    wanted.extend_from_slice(line.as_bytes())?;
+    Ok((wanted, Outcome::Refused))
+}
+
+fn tell_cut(rt: &impl Abort, alloc: Global, schema: &Schema, count: usize) -> Result<(), Fail> {
+    let (wanted, outcome) = cut_text(alloc, count)?;
+    let stream = NULL_CALL.get(..count).unwrap_or_default();
+    for most in [1, 100] {
+        let mut tap = MemTap::new(stream, most, usize::MAX);
+        expect_told(rt, alloc, schema, &mut tap, Ok(outcome), &wanted);
     }
     Ok(())
 }
@@ -189,35 +207,46 @@ fn a_stream_that_is_cut_is_told_as_far_as_it_goes(rt: HostRuntime) -> Result<(),
 /// The stream as it comes, byte by byte, from a tap that fails after so many bytes.
 #[test]
 fn a_read_that_fails_comes_behind_all_whole_records(rt: HostRuntime) -> Result<(), Fail> {
-    let session = Session::open(rt.alloc(), b"nfs2", NFS2_X)?;
-    let schema = session.schema()?;
+    let schema = nfs2_schema(rt.alloc())?;
     for count in 0..=NULL_CALL.len() {
-        let mut wanted = ROWS[0].text(rt.alloc())?;
-        wanted.truncate(told_of(count));
-        let written = wanted.len() as u64;
-        let mut tap = MemTap::new(NULL_CALL, 1, count);
-        let fault = Err(EngineFault::Read { written });
-        expect_told(&rt, rt.alloc(), &schema, &mut tap, fault, &wanted);
+        fail_behind(&rt, rt.alloc(), &schema, count)?;
     }
+    Ok(())
+}
+
+fn fail_behind(rt: &impl Abort, alloc: Global, schema: &Schema, count: usize) -> Result<(), Fail> {
+    let mut wanted = ROWS[0].text(alloc)?;
+    wanted.truncate(told_of(count));
+    let written = wanted.len() as u64;
+    let mut tap = MemTap::new(NULL_CALL, 1, count);
+    let fault = Err(EngineFault::Read { written });
+    expect_told(rt, alloc, schema, &mut tap, fault, &wanted);
     Ok(())
 }
 
 /// Byte by byte into a sink that fails after so many bytes.
 #[test]
 fn a_write_that_fails_comes_behind_the_first_bytes(rt: HostRuntime) -> Result<(), Fail> {
-    let session = Session::open(rt.alloc(), b"nfs2", NFS2_X)?;
-    let schema = session.schema()?;
-    let text = ROWS[0].text(rt.alloc())?;
+    let schema = nfs2_schema(rt.alloc())?;
+    stop_at_each_byte(&rt, rt.alloc(), &schema)
+}
+
+fn stop_at_each_byte(rt: &impl Abort, alloc: Global, schema: &Schema) -> Result<(), Fail> {
+    let text = ROWS[0].text(alloc)?;
     for count in 0..text.len() {
-        let mut told = [0u8; 256];
-        let mut sink = MemSink::new(&mut told, 1, count);
-        let mut tap = MemTap::new(NULL_CALL, 7, usize::MAX);
-        let result = dump_stream(rt.alloc(), &schema, &mut tap, &mut sink);
-        let written = count as u64;
-        assert_eq!(rt; result, Err(EngineFault::Write { written }));
-        assert_eq!(rt; Some(sink.bytes()), text.get(..count));
+        stop_behind(rt, alloc, schema, &text, count);
     }
     Ok(())
+}
+
+fn stop_behind(rt: &impl Abort, alloc: Global, schema: &Schema, text: &[u8], count: usize) {
+    let mut told = [0u8; 256];
+    let mut sink = MemSink::new(&mut told, 1, count);
+    let mut tap = MemTap::new(NULL_CALL, 7, usize::MAX);
+    let result = dump_stream(alloc, schema, &mut tap, &mut sink);
+    let written = count as u64;
+    assert_eq!(rt; result, Err(EngineFault::Write { written }));
+    assert_eq!(rt; Some(sink.bytes()), text.get(..count));
 }
 
 /// A writer that takes nothing.
@@ -247,20 +276,16 @@ fn expect_stuck(rt: &impl Abort, alloc: Global, schema: &Schema) {
         dump_message(alloc, schema, call, &mut Out::new(Stuck)),
         stuck
     );
-    if let Some(id) = schema.type_named(b"ftype") {
-        let value = [0u8; 4];
-        assert_eq!(rt;
-            dump_value(alloc, schema, id, &value, &mut Out::new(Stuck)),
-            stuck
-        );
-    }
+    let value = match schema.type_named(b"ftype") {
+        Some(id) => dump_value(alloc, schema, id, &[0u8; 4], &mut Out::new(Stuck)),
+        None => Ok(Outcome::Clean),
+    };
+    assert_eq!(rt; value, stuck);
 }
 
 #[test]
 fn a_writer_that_takes_nothing_is_told(rt: HostRuntime) -> Result<(), Fail> {
-    let session = Session::open(rt.alloc(), b"nfs2", NFS2_X)?;
-    let schema = session.schema()?;
-    assert!(rt; schema.type_named(b"ftype").is_some());
+    let schema = nfs2_schema(rt.alloc())?;
     expect_stuck(&rt, rt.alloc(), &schema);
     Ok(())
 }
@@ -291,27 +316,39 @@ fn tell_with_little_memory(
 ) -> Result<usize, Fail> {
     let text = row.text(alloc)?;
     for turn in 0..MOST_TURNS {
-        let mut told = [0u8; 1024];
-        let mut sink = MemSink::new(&mut told, 1024, 1024);
-        let mut tap = MemTap::new(row.stream, 7, usize::MAX);
-        begin(alloc, turn)?;
-        let result = dump_stream(alloc, schema, &mut tap, &mut sink);
-        let refused = end(alloc);
-        let written = sink.bytes().len();
-        assert_eq!(rt; Some(sink.bytes()), text.get(..written));
-        match result {
-            Ok(outcome) => assert!(rt; outcome == Outcome::Clean && written == text.len()),
-            Err(fault) => {
-                assert!(rt; refused && fault == no_memory(written));
-                assert!(rt; written == 0 || written == row.call.len() || written == text.len());
-                expect_row(rt, alloc, schema, row.stream, &text);
-            }
-        }
-        if !refused {
+        if !tell_once(rt, alloc, schema, (row, &text), turn)? {
             return Ok(turn);
         }
     }
     panic!(rt; "telling never ends")
+}
+
+fn tell_once(
+    rt: &impl Abort,
+    alloc: Global,
+    schema: &Schema,
+    (row, text): (&Row, &[u8]),
+    turn: usize,
+) -> Result<bool, Fail>
+    requires { turn ≤ 20000 }
+{
+    let mut told = [0u8; 1024];
+    let mut sink = MemSink::new(&mut told, 1024, 1024);
+    let mut tap = MemTap::new(row.stream, 7, usize::MAX);
+    begin(alloc, turn)?;
+    let result = dump_stream(alloc, schema, &mut tap, &mut sink);
+    let refused = end(alloc);
+    let written = sink.bytes().len();
+    assert_eq!(rt; Some(sink.bytes()), text.get(..written));
+    match result {
+        Ok(outcome) => assert!(rt; outcome == Outcome::Clean && written == text.len()),
+        Err(fault) => {
+            assert!(rt; refused && fault == no_memory(written));
+            assert!(rt; written == 0 || written == row.call.len() || written == text.len());
+            expect_row(rt, alloc, schema, row.stream, text);
+        }
+    }
+    Ok(refused)
 }
 
 /// Why there are no types of a text.
@@ -355,12 +392,11 @@ fn open_with_little_memory(rt: &impl Abort, alloc: Global) -> Result<usize, Fail
 /// it.
 #[test]
 fn refused_streams(rt: HostRuntime) -> Result<(), Fail> {
-    let opening = open_with_little_memory(&rt, rt.alloc())?;
-    let session = Session::open(rt.alloc(), b"nfs2", NFS2_X)?;
-    let schema = session.schema()?;
-    let [first, second] = &ROWS;
-    let turns = tell_with_little_memory(&rt, rt.alloc(), &schema, first)?;
-    let others = tell_with_little_memory(&rt, rt.alloc(), &schema, second)?;
-    println!(rt; "turns: {opening} {turns} {others}")?;
+    let turns = open_with_little_memory(&rt, rt.alloc())?;
+    println!(rt; "turns: {turns}")?;
+    let schema = nfs2_schema(rt.alloc())?;
+    for row in &ROWS {
+        tell_with_little_memory(&rt, rt.alloc(), &schema, row)?;
+    }
     Ok(())
 }

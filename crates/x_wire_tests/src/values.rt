@@ -1,12 +1,12 @@
 //! Values that are read with every allocation refused in turn, and the text of a refusal.
 
-use crate::streams::READDIR;
+use crate::streams::{READDIR, nfs2_schema};
 use refusals::{MOST_TURNS, begin, end};
 use std::alloc::Global;
 use std::process::Abort;
 use std::test::Fail;
 use x_session::Session;
-use x_wire::{NFS2_X, ReadCode, ReadFault, Schema, dump};
+use x_wire::{ReadCode, ReadFault, Schema, dump};
 
 /// How many nodes a value of a type has, and the level of the last.
 fn count_nodes(
@@ -63,25 +63,41 @@ fn links(alloc: Global, count: u32) -> Result<Vec<u8>, Fail> {
 /// A short list of links, one of as many as may be open at once, and one of one more.
 #[test]
 fn refused_values(rt: HostRuntime) -> Result<(), Fail> {
-    let alloc = rt.alloc();
-    let session = Session::open(alloc, b"t", b"struct l { l *n; };")?;
-    let schema = session.schema()?;
     let rows = [
         (2, Ok((6, Some(5)))),
         (65_536, Ok((131_074, Some(131_073)))),
         (65_537, fault(262_144, ReadCode::TooDeep)),
     ];
     for (count, wanted) in rows {
-        let list = links(alloc, count)?;
-        let turns = read_with_little_memory(&rt, alloc, &schema, (b"l", &list), wanted)?;
+        let turns = read_links(&rt, rt.alloc(), count, wanted)?;
         println!(rt; "turns: {turns}")?;
     }
-    let session = Session::open(alloc, b"nfs2", NFS2_X)?;
-    let reply = (b"readdirres".as_slice(), &READDIR[120..]);
-    let wanted = Ok((15, Some(2)));
-    let turns = read_with_little_memory(&rt, alloc, &session.schema()?, reply, wanted)?;
+    let turns = read_reply(&rt, rt.alloc())?;
     println!(rt; "turns: {turns}")?;
     Ok(())
+}
+
+fn links_schema(alloc: Global) -> Result<Schema, Fail> {
+    let session = Session::open(alloc, b"t", b"struct l { l *n; };")?;
+    Ok(session.schema()?)
+}
+
+fn read_links(
+    rt: &impl Abort,
+    alloc: Global,
+    count: u32,
+    wanted: Result<(usize, Option<u32>), ReadFault>,
+) -> Result<usize, Fail> {
+    let schema = links_schema(alloc)?;
+    let list = links(alloc, count)?;
+    read_with_little_memory(rt, alloc, &schema, (b"l", &list), wanted)
+}
+
+/// The results of a call of READDIR.
+fn read_reply(rt: &impl Abort, alloc: Global) -> Result<usize, Fail> {
+    let schema = nfs2_schema(alloc)?;
+    let reply = (b"readdirres".as_slice(), &READDIR[120..]);
+    read_with_little_memory(rt, alloc, &schema, reply, Ok((15, Some(2))))
 }
 
 #[test]
