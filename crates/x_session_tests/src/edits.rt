@@ -319,25 +319,27 @@ fn apply_once(
 {
     let mut buffer = [0u8; 32768];
     let asked = write_answers(alloc, session, ASKED, &mut buffer)?;
+    let before = buffer.get(..asked).unwrap_or_default();
     begin(alloc, turn)?;
     let answer = session.apply(&row.edit);
     let refused = end(alloc);
     match answer {
-        Ok(work) => assert_eq!(rt; work, row.work),
-        Err(fault) => {
-            assert_eq!(rt; (refused, fault), (true, TextFault::NoMemory));
-            assert_eq!(rt; session.bytes(), row.text);
-            expect_answers(
-                rt,
-                alloc,
-                session,
-                ASKED,
-                buffer.get(..asked).unwrap_or_default(),
-            )?;
-            assert_eq!(rt; session.apply(&row.edit)?, row.work);
+        Ok(work) => {
+            assert_eq!(rt; work, row.work);
+            return Ok(refused);
         }
+        Err(fault) => assert!(rt; refused && fault == TextFault::NoMemory),
     }
+    expect_text(rt, session, row.text);
+    expect_answers(rt, alloc, session, ASKED, before)?;
+    let work = session.apply(&row.edit)?;
+    assert_eq!(rt; work, row.work);
     Ok(refused)
+}
+
+/// Checks the text that a session has.
+pub fn expect_text(rt: &impl Abort, session: &Session, text: &[u8]) {
+    assert_eq!(rt; session.bytes(), text);
 }
 
 /// Then the lines behind the edit.
@@ -345,13 +347,15 @@ fn apply_and_ask(
     rt: &impl Abort,
     alloc: Global,
     session: &mut Session,
-    (row, script, answers): (&Row, &[u8], &[u8]),
+    row: &Row,
+    script: &[u8],
+    answers: &[u8],
     turn: usize,
 ) -> Result<bool, Fail>
     requires { turn ≤ 20000 }
 {
     let refused = apply_once(rt, alloc, session, row, turn)?;
-    assert_eq!(rt; session.bytes(), row.edited);
+    expect_text(rt, session, row.edited);
     expect_answers(rt, alloc, session, script, answers)?;
     Ok(refused)
 }
@@ -359,22 +363,26 @@ fn apply_and_ask(
 fn open_and_apply(
     rt: &impl Abort,
     alloc: Global,
-    (row, script, answers): (&Row, &[u8], &[u8]),
+    row: &Row,
+    script: &[u8],
+    answers: &[u8],
     turn: usize,
 ) -> Result<bool, Fail>
     requires { turn ≤ 20000 }
 {
     let mut session = Session::open(alloc, b"t", row.text)?;
-    apply_and_ask(rt, alloc, &mut session, (row, script, answers), turn)
+    apply_and_ask(rt, alloc, &mut session, row, script, answers, turn)
 }
 
 fn apply_in_turns(
     rt: &impl Abort,
     alloc: Global,
-    (row, script, answers): (&Row, &[u8], &[u8]),
+    row: &Row,
+    script: &[u8],
+    answers: &[u8],
 ) -> Result<usize, Fail> {
     for turn in 0..MOST_TURNS {
-        if !open_and_apply(rt, alloc, (row, script, answers), turn)? {
+        if !open_and_apply(rt, alloc, row, script, answers, turn)? {
             return Ok(turn);
         }
     }
@@ -385,7 +393,7 @@ fn apply_in_turns(
 fn apply_with_little_memory(rt: &impl Abort, alloc: Global, row: &Row) -> Result<usize, Fail> {
     let script = row.script(alloc, EDIT_LINE + 1)?;
     let answers = row.answers(alloc, EDIT_LINE + 1)?;
-    apply_in_turns(rt, alloc, (row, &script, &answers))
+    apply_in_turns(rt, alloc, row, &script, &answers)
 }
 
 /// The types of the text, which there are where it has no fault, with one allocation refused after another.
@@ -423,13 +431,13 @@ fn go_on(
     let (lines, bytes) = row.whole_answers(written);
     let answers = row.answers(alloc, 0)?;
     assert_eq!(rt; bytes, written);
-    assert_eq!(rt; Some(sink.bytes()), answers.get(..written));
-    assert_eq!(rt; session.bytes(), row.text_behind(lines));
+    assert!(rt; answers.starts_with(sink.bytes()));
+    expect_text(rt, session, row.text_behind(lines));
     let rest = row.script(alloc, lines)?;
     let mut tap = MemTap::new(&rest, 64, usize::MAX);
     run_script(alloc, session, &mut tap, sink)?;
     assert_eq!(rt; sink.bytes(), answers.as_slice());
-    assert_eq!(rt; session.bytes(), row.edited);
+    expect_text(rt, session, row.edited);
     Ok(written)
 }
 
@@ -459,14 +467,15 @@ fn open_and_run(
     requires { turn ≤ 20000 }
 {
     let mut session = Session::open(alloc, b"t", row.text)?;
-    run_once(rt, alloc, &mut session, (row, script), turn)
+    run_once(rt, alloc, &mut session, row, script, turn)
 }
 
 fn run_once(
     rt: &impl Abort,
     alloc: Global,
     session: &mut Session,
-    (row, script): (&Row, &[u8]),
+    row: &Row,
+    script: &[u8],
     turn: usize,
 ) -> Result<bool, Fail>
     requires { turn ≤ 20000 }

@@ -1,6 +1,6 @@
 //! Writers that fail: what they took is the first bytes of what was to be written, and so many are told.
 
-use crate::edits::{ROWS, Row};
+use crate::edits::{ROWS, Row, expect_text};
 use std::alloc::Global;
 use std::io::{self, Write};
 use std::process::Abort;
@@ -28,37 +28,65 @@ fn stop_behind(
     rt: &impl Abort,
     alloc: Global,
     row: &Row,
-    (script, answers): (&[u8], &[u8]),
+    script: &[u8],
+    answers: &[u8],
     count: usize,
 ) -> Result<(), Fail> {
     let mut session = Session::open(alloc, b"t", row.text)?;
+    stop_at(rt, alloc, &mut session, row, script, answers, count);
+    Ok(())
+}
+
+fn stop_at(
+    rt: &impl Abort,
+    alloc: Global,
+    session: &mut Session,
+    row: &Row,
+    script: &[u8],
+    answers: &[u8],
+    count: usize,
+) {
     let mut buffer = [0u8; 2048];
     let mut sink = MemSink::new(&mut buffer, 1, count);
     let mut tap = MemTap::new(script, 64, usize::MAX);
-    let outcome = run_script(alloc, &mut session, &mut tap, &mut sink);
+    let outcome = run_script(alloc, session, &mut tap, &mut sink);
     let written = count as u64;
     assert_eq!(rt; outcome, Err(EngineFault::Write { written }));
-    assert_eq!(rt; Some(sink.bytes()), answers.get(..count));
+    assert_eq!(rt; sink.bytes().len(), count);
+    assert!(rt; answers.starts_with(sink.bytes()));
     let (lines, _) = row.whole_answers(count);
-    assert_eq!(rt; session.bytes(), row.text_behind(lines.saturating_add(1)));
-    Ok(())
+    expect_text(rt, session, row.text_behind(lines.saturating_add(1)));
 }
 
 #[test]
 fn a_script_stops_at_the_first_byte_that_is_not_taken(rt: HostRuntime) -> Result<(), Fail> {
     for row in &ROWS {
-        let script = row.script(rt.alloc(), 0)?;
-        let answers = row.answers(rt.alloc(), 0)?;
-        for count in 0..answers.len() {
-            stop_behind(&rt, rt.alloc(), row, (&script, &answers), count)?;
-        }
-        let mut session = Session::open(rt.alloc(), b"t", row.text)?;
-        let mut tap = MemTap::new(&script, 64, usize::MAX);
-        let outcome = run_script(rt.alloc(), &mut session, &mut tap, &mut Out::new(Stuck));
-        assert_eq!(rt; outcome, Err(EngineFault::Write { written: 0 }));
-        assert_eq!(rt; session.bytes(), row.text);
+        stop_everywhere(&rt, rt.alloc(), row)?;
     }
     Ok(())
+}
+
+fn stop_everywhere(rt: &impl Abort, alloc: Global, row: &Row) -> Result<(), Fail> {
+    let script = row.script(alloc, 0)?;
+    let answers = row.answers(alloc, 0)?;
+    for count in 0..answers.len() {
+        stop_behind(rt, alloc, row, &script, &answers, count)?;
+    }
+    open_and_stick(rt, alloc, row, &script)
+}
+
+fn open_and_stick(rt: &impl Abort, alloc: Global, row: &Row, script: &[u8]) -> Result<(), Fail> {
+    let mut session = Session::open(alloc, b"t", row.text)?;
+    stick(rt, alloc, &mut session, script);
+    expect_text(rt, &session, row.text);
+    Ok(())
+}
+
+/// Nothing of the first answer is taken.
+fn stick(rt: &impl Abort, alloc: Global, session: &mut Session, script: &[u8]) {
+    let mut tap = MemTap::new(script, 64, usize::MAX);
+    let outcome = run_script(alloc, session, &mut tap, &mut Out::new(Stuck));
+    assert_eq!(rt; outcome, Err(EngineFault::Write { written: 0 }));
 }
 
 const TEXTS: [Which; 4] = [Which::Header, Which::Routines, Which::Stubs, Which::Table];
@@ -114,15 +142,21 @@ fn long_text(alloc: Global) -> Result<Vec<u8>, Fail> {
 
 #[test]
 fn a_text_stops_at_the_first_byte_that_is_not_taken(rt: HostRuntime) -> Result<(), Fail> {
+    open_and_cut(&rt, rt.alloc(), ROWS[2].text)?;
     let long = long_text(rt.alloc())?;
     assert!(rt; long.len() > 1_000_000);
-    let texts = [ROWS[2].text, long.as_slice()];
-    for text in texts {
-        let session = Session::open(rt.alloc(), b"t", text)?;
-        assert_eq!(rt; session.fault_count(), 0);
-        for which in TEXTS {
-            cut_text(&rt, rt.alloc(), &session, which)?;
-        }
+    open_and_cut(&rt, rt.alloc(), &long)
+}
+
+fn open_and_cut(rt: &impl Abort, alloc: Global, text: &[u8]) -> Result<(), Fail> {
+    let session = Session::open(alloc, b"t", text)?;
+    cut_texts(rt, alloc, &session)
+}
+
+fn cut_texts(rt: &impl Abort, alloc: Global, session: &Session) -> Result<(), Fail> {
+    assert_eq!(rt; session.fault_count(), 0);
+    for which in TEXTS {
+        cut_text(rt, alloc, session, which)?;
     }
     Ok(())
 }

@@ -316,7 +316,7 @@ fn tell_with_little_memory(
 ) -> Result<usize, Fail> {
     let text = row.text(alloc)?;
     for turn in 0..MOST_TURNS {
-        if !tell_once(rt, alloc, schema, (row, &text), turn)? {
+        if !tell_once(rt, alloc, schema, row, &text, turn)? {
             return Ok(turn);
         }
     }
@@ -327,7 +327,8 @@ fn tell_once(
     rt: &impl Abort,
     alloc: Global,
     schema: &Schema,
-    (row, text): (&Row, &[u8]),
+    row: &Row,
+    text: &[u8],
     turn: usize,
 ) -> Result<bool, Fail>
     requires { turn ≤ 20000 }
