@@ -1,3 +1,5 @@
+ghost use Rattle.std.specs.Prelude.{◌≤◌};
+
 use crate::records::feed_cut;
 use refusals::{MOST_TURNS, begin, end};
 use std::alloc::Global;
