@@ -1,5 +1,5 @@
-//! The lines of a script, read from a tap that gives its bytes in any pieces: each at most as long as its limit, with what
-//! is too long passed over.
+//! The lines of a script, read from a tap that gives its bytes in any pieces: each at most as long as its
+//! limit, with what is too long passed over.
 #![tactic(auto)]
 
 mod byte_queue;
