@@ -5,7 +5,7 @@ use crate::kept::{Carried, Kept};
 use crate::refusal::Refusal;
 use std::alloc::{AllocError, Global};
 use std::fmt::Write;
-use x_item::Items;
+use x_cutting::Items;
 use x_text::NoMemory;
 
 /// The answer of a case: `bad case` where it can't be read, and `differs` where what should be the same is not.

@@ -3,15 +3,15 @@ ghost use Rattle.std.specs.Prelude.{◌≡◌, OnOk, OnErr};
 ghost use Rattle.x_text.specs.Edits.{change_of, edited_by, LiesWithin};
 ghost use Rattle.x_lex.specs.Tiling.{AreTokens};
 ghost use Rattle.x_lex.specs.Places.{lexemes};
-ghost use Rattle.x_item.specs.Items.{IsCut};
-ghost use Rattle.x_item.specs.ItemList.{counts};
+ghost use Rattle.x_cutting.specs.Items.{IsCut};
+ghost use Rattle.x_cutting.specs.ItemList.{counts};
 
 use crate::case::Change;
 use crate::refusal::{Refusal, expect_same};
 use std::alloc::Global;
 use std::fmt;
 use std::marker::Model;
-use x_item::{ItemPatch, Items, cut, recut};
+use x_cutting::{ItemPatch, Items, cut, recut};
 use x_lex::{Patch, Tokens, lex, relex};
 use x_text::{Edit, Meter, NoMemory, Source};
 
@@ -134,8 +134,8 @@ impl Model for Kept {
     ghost use Rattle.std.specs.Prelude.{ℕ, List};
     ghost use Rattle.x_lex.specs.Tiling.{AreTokens};
     ghost use Rattle.x_lex.specs.Places.{lexemes};
-    ghost use Rattle.x_item.specs.Items.{IsCut};
-    ghost use Rattle.x_item.specs.ItemList.{counts};
+    ghost use Rattle.x_cutting.specs.Items.{IsCut};
+    ghost use Rattle.x_cutting.specs.ItemList.{counts};
 
     ghost Value = { List ℕ };
 

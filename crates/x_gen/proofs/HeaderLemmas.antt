@@ -1,10 +1,10 @@
 -- The pieces of the header.
 use Rattle.std.proofs.Common.{◌≡◌, ℕ, List, ◌++◌, codes, refl, Vec, Global}
-use Rattle.x_item.specs.View.{view_body}
-use Rattle.x_item.specs.declared.trees.declaration.Body.{Body}
-use Rattle.x_item.specs.declared.trees.declaration.Enumerator.{Enumerator}
-use Rattle.x_item.specs.declared.trees.declaration.Body.TheVariants.{Enum, Struct', Union'}
-use Rattle.x_item.specs.declared.trees.declaration.UnionBody.{UnionBody'}
+use Rattle.x_trees.specs.View.{view_body}
+use Rattle.x_trees.specs.declared.trees.declaration.Body.{Body}
+use Rattle.x_trees.specs.declared.trees.declaration.Enumerator.{Enumerator}
+use Rattle.x_trees.specs.declared.trees.declaration.Body.TheVariants.{Enum, Struct', Union'}
+use Rattle.x_trees.specs.declared.trees.declaration.UnionBody.{UnionBody'}
 use Rattle.x_gen.specs.Header.{forward_of_body}
 
 -- what is no enum is named before it is declared

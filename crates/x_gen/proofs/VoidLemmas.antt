@@ -1,7 +1,7 @@
 -- What is generated of a declaration that is not `void`.
 use Rattle.std.proofs.Common.{◌≡◌, ℕ, List, ◌++◌, false, codes, refl}
-use Rattle.x_item.specs.Tree.{Declaration, Void, Of, Opaque, String}
-use Rattle.x_item.specs.Declarations.{name_of, is_void}
+use Rattle.x_trees.specs.Tree.{Declaration, Void, Of, Opaque, String}
+use Rattle.x_trees.specs.Declarations.{name_of, is_void}
 use Rattle.x_gen.specs.Declarations.{Place, Alone, c_declaration, call}
 use Rattle.x_gen.specs.Header.{routine_line, typedef_header}
 use Rattle.x_gen.specs.Routines.{routine_front, routine_end, checked_call, typedef_routine}

@@ -1,8 +1,8 @@
 -- The type of C and the XDR routine of each type of the language.
 use Rattle.std.specs.Prelude.{ℕ, List, [], codes, Option, Some, None}
-use Rattle.x_item.specs.Tree.{DataType, Simple, Name, Tagged, Inline, Argument, Text, Typed, Value, Number, Named}
-use Rattle.x_item.specs.declared.trees.declaration.Basic.{Basic}
-use Rattle.x_item.specs.declared.trees.declaration.Basic.TheVariants as basics
+use Rattle.x_trees.specs.Tree.{DataType, Simple, Name, Tagged, Inline, Argument, Text, Typed, Value, Number, Named}
+use Rattle.x_trees.specs.declared.trees.declaration.Basic.{Basic}
+use Rattle.x_trees.specs.declared.trees.declaration.Basic.TheVariants as basics
 
 -- a type as C has it, and its routine behind `xdr_`
 pub record CType : Type 0 where

@@ -1,9 +1,9 @@
 -- How C declares what a declaration declares, and how its XDR routine calls those of its parts: this project's profile of what rpcgen(1)
 -- writes. `around` is the name of the type that a declaration stands in, and for a `typedef` the name that it declares itself.
 use Rattle.std.specs.Prelude.{ℕ, List, [], ◌++◌, codes}
-use Rattle.x_item.specs.Tree.{Declaration, Void, Of, Opaque, String, Length, Fixed, Variable, Shape, Plain, Optional, Array}
-use Rattle.x_item.specs.Declarations.{name_of}
-use Rattle.x_item.specs.Gloss.{lifted_name}
+use Rattle.x_trees.specs.Tree.{Declaration, Void, Of, Opaque, String, Length, Fixed, Variable, Shape, Plain, Optional, Array}
+use Rattle.x_trees.specs.Declarations.{name_of}
+use Rattle.x_trees.specs.Gloss.{lifted_name}
 use Rattle.x_gen.specs.CTypes.{CType, c_type, spelled, most}
 
 -- elements of a type: so many, or at most so many

@@ -2,11 +2,11 @@
 use Rattle.std.specs.Prelude.{ℕ, Bool, true, false, List, [], ◌∷◌, ◌++◌, codes}
 use Rattle.std.specs.Prelude.{Option, Some, None, if◌then◌else◌}
 use Rattle.std.specs.List.{flat_map}
-use Rattle.x_item.specs.Tree.{Value, Enumerator, Body, Enum, Struct, Union}
-use Rattle.x_item.specs.Tree.{Declaration, Void, Procedure, Version}
-use Rattle.x_item.specs.Tree.{Declarations, none, more, Arms, no_arm, arm, Default, no_default, default}
+use Rattle.x_trees.specs.Tree.{Value, Enumerator, Body, Enum, Struct, Union}
+use Rattle.x_trees.specs.Tree.{Declaration, Void, Procedure, Version}
+use Rattle.x_trees.specs.Tree.{Declarations, none, more, Arms, no_arm, arm, Default, no_default, default}
 use Rattle.x_gen.specs.CTypes.{CType, spelled}
-use Rattle.x_item.specs.Declarations.{name_of, is_void}
+use Rattle.x_trees.specs.Declarations.{name_of, is_void}
 use Rattle.x_gen.specs.Declarations.{c_declaration}
 use Rattle.x_gen.specs.InlineTypes.{NamedBody}
 use Rattle.x_gen.specs.Procedures.{are_several, argument_in, argument_pieces, by_names, result_type}

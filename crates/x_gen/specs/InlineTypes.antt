@@ -1,11 +1,11 @@
 -- The types of a definition that have bodies, each with its name: inline types have lifted names, and each stands before the type
 -- that holds it.
 use Rattle.std.specs.Prelude.{ℕ, List, [], ◌∷◌, ◌++◌}
-use Rattle.x_item.specs.Tree.{DataType, Simple, Name, Tagged, Inline, Body, Enum, Struct, Union, Declaration, Void, Of, Opaque, String}
-use Rattle.x_item.specs.Tree.{Declarations, none, more, Arms, no_arm, arm, Default, no_default, default}
-use Rattle.x_item.specs.Tree.{Definition, Const, Typedef, NewType, Program}
-use Rattle.x_item.specs.Gloss.{lifted_name}
-use Rattle.x_item.specs.Declarations.{name_of}
+use Rattle.x_trees.specs.Tree.{DataType, Simple, Name, Tagged, Inline, Body, Enum, Struct, Union, Declaration, Void, Of, Opaque, String}
+use Rattle.x_trees.specs.Tree.{Declarations, none, more, Arms, no_arm, arm, Default, no_default, default}
+use Rattle.x_trees.specs.Tree.{Definition, Const, Typedef, NewType, Program}
+use Rattle.x_trees.specs.Gloss.{lifted_name}
+use Rattle.x_trees.specs.Declarations.{name_of}
 
 pub record NamedBody : Type 0 where
   pub name : List ℕ

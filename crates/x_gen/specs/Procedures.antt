@@ -3,7 +3,7 @@ use Rattle.std.specs.Prelude.{ℕ, suc, ◌+◌, Bool, true, false, List, [], �
 use Rattle.std.specs.Prelude.{codes, Option, Some, None, if◌then◌else◌}
 use Rattle.std.specs.List.{flat_map}
 use Rattle.std.specs.Fmt.{decimal, signed_decimal}
-use Rattle.x_item.specs.Tree.{Version, Procedure, Argument}
+use Rattle.x_trees.specs.Tree.{Version, Procedure, Argument}
 use Rattle.x_numbers.specs.Numbers.{in_range, value}
 use Rattle.x_gen.specs.CTypes.{CType, own, passed_type}
 use Rattle.x_gen.specs.Texts.{is_upper}

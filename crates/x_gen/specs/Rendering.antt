@@ -1,7 +1,7 @@
 -- Which pieces are generated of a definition.
 use Rattle.std.specs.Prelude.{ℕ, List, [], ◌++◌, codes}
 use Rattle.std.specs.List.{flat_map}
-use Rattle.x_item.specs.Tree.{Definition, Const, Typedef, NewType, Program}
+use Rattle.x_trees.specs.Tree.{Definition, Const, Typedef, NewType, Program}
 use Rattle.x_gen.specs.CTypes.{spelled}
 use Rattle.x_gen.specs.InlineTypes.{types_of}
 use Rattle.x_gen.specs.Header.{forward_line, type_header, constant_line, typedef_header, program_header}

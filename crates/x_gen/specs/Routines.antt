@@ -1,10 +1,10 @@
 -- The pieces of the XDR routines: this project's profile of what rpcgen(1) writes.
 use Rattle.std.specs.Prelude.{ℕ, List, [], ◌++◌, codes, if◌then◌else◌}
 use Rattle.std.specs.List.{flat_map}
-use Rattle.x_item.specs.Tree.{Value, Body, Enum, Struct, Union, Declaration, Void, Procedure, Version}
-use Rattle.x_item.specs.Tree.{Declarations, none, more, Arms, no_arm, arm, Default, no_default, default}
+use Rattle.x_trees.specs.Tree.{Value, Body, Enum, Struct, Union, Declaration, Void, Procedure, Version}
+use Rattle.x_trees.specs.Tree.{Declarations, none, more, Arms, no_arm, arm, Default, no_default, default}
 use Rattle.x_gen.specs.CTypes.{CType, spelled}
-use Rattle.x_item.specs.Declarations.{name_of}
+use Rattle.x_trees.specs.Declarations.{name_of}
 use Rattle.x_gen.specs.Declarations.{Place, InStruct, InUnion, Alone, call}
 use Rattle.x_gen.specs.InlineTypes.{NamedBody}
 use Rattle.x_gen.specs.Procedures.{are_several, argument_pieces, version_pieces}

@@ -1,6 +1,6 @@
 -- The pieces of the client's stubs: this project's profile of what rpcgen(1) writes.
 use Rattle.std.specs.Prelude.{ℕ, List, ◌++◌, codes, Option, Some, None}
-use Rattle.x_item.specs.Tree.{Argument, Procedure, Version}
+use Rattle.x_trees.specs.Tree.{Argument, Procedure, Version}
 use Rattle.x_gen.specs.CTypes.{CType, passed_type}
 use Rattle.x_gen.specs.Procedures.{argument_in, result_type, version_pieces}
 

@@ -1,7 +1,7 @@
 -- The pieces of the server's tables: this project's profile of what rpcgen(1) writes.
 use Rattle.std.specs.Prelude.{ℕ, List, ◌++◌, codes, if◌then◌else◌}
 use Rattle.std.specs.List.{flat_map}
-use Rattle.x_item.specs.Tree.{Procedure, Version}
+use Rattle.x_trees.specs.Tree.{Procedure, Version}
 use Rattle.x_gen.specs.CTypes.{CType, own}
 use Rattle.x_gen.specs.Procedures.{lower, in_decimal, are_several, argument_in, by_names}
 use Rattle.x_gen.specs.Procedures.{result_type, size_of, sized}

@@ -1,7 +1,7 @@
 -- What the program's values stand for.
 use Rattle.std.specs.Prelude.{List, map}
 use Rattle.std.specs.Cow.{cow_slice_items}
-use Rattle.x_item.specs.View.{view_body}
+use Rattle.x_trees.specs.View.{view_body}
 use Rattle.x_gen.specs.CTypes.{CType}
 use Rattle.x_gen.specs.Declarations.{Place, InStruct, InUnion, Alone}
 use Rattle.x_gen.specs.InlineTypes.{NamedBody}

@@ -1,13 +1,13 @@
 //! The type of C and the XDR routine of each type.
 
 ghost use Rattle.std.specs.Prelude.{◌≡◌, Some, IfOk};
-ghost use Rattle.x_item.specs.Gloss.{lifted_name};
-ghost use Rattle.x_item.specs.View.{view_type, view_argument, view_passed, view_value, view_most};
+ghost use Rattle.x_trees.specs.Gloss.{lifted_name};
+ghost use Rattle.x_trees.specs.View.{view_type, view_argument, view_passed, view_value, view_most};
 ghost use Rattle.x_gen.specs.CTypes.{own, basic_type, c_type, passed_type, spelled, most};
 ghost use Rattle.x_gen.specs.Views.{view_c};
 
 use std::alloc::Global;
-use x_item::{Argument, Basic, DataType, Value, lifted_name};
+use x_trees::{Argument, Basic, DataType, Value, lifted_name};
 use x_text::NoMemory;
 
 /// A type as C has it.

@@ -1,8 +1,8 @@
 //! How C declares what a declaration declares, and how its XDR routine calls those of its parts.
 
 ghost use Rattle.std.specs.Prelude.{◌≡◌, ◌++◌, OnOk, IfOk};
-ghost use Rattle.x_item.specs.Tree.{Array, String};
-ghost use Rattle.x_item.specs.View.{view_shape, view_length, view_most, view_declaration};
+ghost use Rattle.x_trees.specs.Tree.{Array, String};
+ghost use Rattle.x_trees.specs.View.{view_shape, view_length, view_most, view_declaration};
 ghost use Rattle.x_gen.specs.Declarations.{declared_array, declared_as, c_declaration, lies_at};
 ghost use Rattle.x_gen.specs.Declarations.{array_call, call_as, opaque_call, call_at, call};
 ghost use Rattle.x_gen.specs.Views.{view_c, view_place};
@@ -10,7 +10,7 @@ ghost use Rattle.x_gen.specs.Views.{view_c, view_place};
 use crate::add::{Made, add, made};
 use crate::c_types::{CType, c_type, lifted, most, spelled};
 use std::alloc::Global;
-use x_item::{Declaration, Length, Shape};
+use x_trees::{Declaration, Length, Shape};
 use x_text::NoMemory;
 
 /// Where a value lies that a routine reads or writes.

@@ -2,9 +2,9 @@
 
 ghost use Rattle.std.specs.Prelude.{◌≡◌, ◌++◌, map, codes, OnOk};
 ghost use Rattle.std.specs.List.{flat_map};
-ghost use Rattle.x_item.specs.View.{view_value, view_enumerator, view_body, view_union, view_declaration, view_declarations, view_arms};
-ghost use Rattle.x_item.specs.View.{view_default};
-ghost use Rattle.x_item.specs.Tree.{Enum, Struct};
+ghost use Rattle.x_trees.specs.View.{view_value, view_enumerator, view_body, view_union, view_declaration, view_declarations, view_arms};
+ghost use Rattle.x_trees.specs.View.{view_default};
+ghost use Rattle.x_trees.specs.Tree.{Enum, Struct};
 ghost use Rattle.x_gen.specs.Header.{forward_line, routine_line, constant_line, enumerator_text, enumerator_lines, member_line};
 ghost use Rattle.x_gen.specs.Header.{field_lines, are_void, arm_lines, union_lines, body_lines, type_header, typedef_header};
 ghost use Rattle.x_gen.specs.Views.{view_named, view_types};
@@ -14,7 +14,7 @@ use crate::c_types::spelled;
 use crate::declaration::add_declaration;
 use crate::types::NamedBody;
 use std::alloc::Global;
-use x_item::{Arm, Body, Declaration, Enumerator, UnionBody};
+use x_trees::{Arm, Body, Declaration, Enumerator, UnionBody};
 use x_text::NoMemory;
 
 /// Adds the line that names a struct or a union before it is declared.
@@ -218,7 +218,7 @@ fn add_union(
 }
 
 /// Adds the lines of a type's own.
-#[tactic(auto, using(x_item::proofs::Rows::struct_view))]
+#[tactic(auto, using(x_trees::proofs::Rows::struct_view))]
 fn add_body(alloc: Global, text: &mut Vec<u8>, name: &[u8], body: &Body) -> Result<(), NoMemory>
     ensures { OnOk result (text.new.items ≡ text.old.items ++ body_lines name.now (view_body body.now)) }
 {

@@ -3,8 +3,8 @@
 ghost use Rattle.std.specs.Prelude.{◌≡◌, ◌++◌, List, ℕ, map, OnOk, IfOk};
 ghost use Rattle.std.specs.Fmt.{decimal};
 ghost use Rattle.std.specs.List.{flat_map};
-ghost use Rattle.x_item.specs.Tree.{Procedure as ItsProcedure};
-ghost use Rattle.x_item.specs.View.{view_argument, view_passed, view_procedure, view_version};
+ghost use Rattle.x_trees.specs.Tree.{Procedure as ItsProcedure};
+ghost use Rattle.x_trees.specs.View.{view_argument, view_passed, view_procedure, view_version};
 ghost use Rattle.x_gen.specs.Procedures.{lower_byte, lower, in_decimal, function_name, group_name, argument_in, are_several};
 ghost use Rattle.x_gen.specs.Procedures.{by_names, version_pieces, by_number, argument_pieces};
 ghost use Rattle.x_gen.specs.CTypes.{CType as ItsType};
@@ -14,7 +14,7 @@ use crate::add::{Made, made};
 use crate::c_types::{CType, argument_type, own, passed_type};
 use itoa::Buffer;
 use std::alloc::Global;
-use x_item::{Argument, Procedure, Version};
+use x_trees::{Argument, Procedure, Version};
 use x_numbers::number_value;
 use x_text::NoMemory;
 

@@ -1,7 +1,7 @@
 //! The piece of the header that is of a program.
 
 ghost use Rattle.std.specs.Prelude.{◌≡◌, ◌++◌, map, OnOk};
-ghost use Rattle.x_item.specs.View.{view_procedure, view_version};
+ghost use Rattle.x_trees.specs.View.{view_procedure, view_version};
 ghost use Rattle.x_gen.specs.Header.{group_struct, group_lines, function_lines};
 ghost use Rattle.x_gen.specs.Header.{version_lines, program_header};
 
@@ -12,7 +12,7 @@ use crate::procedures::{
     ArgumentPiece, Call, ProcedurePiece, add_arguments, add_procedures, argument_in,
 };
 use std::alloc::Global;
-use x_item::{Procedure, Version};
+use x_trees::{Procedure, Version};
 use x_text::NoMemory;
 
 /// The field of one of several arguments.

@@ -2,7 +2,7 @@
 
 ghost use Rattle.std.specs.Prelude.{◌≡◌, ◌++◌, [], OnOk, IfOk};
 ghost use Rattle.std.specs.List.{flat_map};
-ghost use Rattle.x_item.specs.View.{view_definition};
+ghost use Rattle.x_trees.specs.View.{view_definition};
 ghost use Rattle.x_gen.specs.Header.{forward_line, type_header};
 ghost use Rattle.x_gen.specs.Routines.{type_routine};
 ghost use Rattle.x_gen.specs.Rendering.{own_header, own_routines, stubs_of, table_of, pieces_of};
@@ -16,7 +16,7 @@ use crate::stubs::Stub;
 use crate::types::{NamedBody, types_of};
 use crate::{header, program_header, routines, table};
 use std::alloc::Global;
-use x_item::Definition;
+use x_trees::Definition;
 use x_rules::Checked;
 use x_text::NoMemory;
 

@@ -2,10 +2,10 @@
 
 ghost use Rattle.std.specs.Prelude.{◌≡◌, ◌++◌, map, codes, OnOk};
 ghost use Rattle.std.specs.List.{flat_map};
-ghost use Rattle.x_item.specs.Tree.{Struct};
-ghost use Rattle.x_item.specs.View.{view_value, view_procedure, view_body, view_union};
-ghost use Rattle.x_item.specs.View.{view_declaration, view_declarations};
-ghost use Rattle.x_item.specs.View.{view_arms, view_default};
+ghost use Rattle.x_trees.specs.Tree.{Struct};
+ghost use Rattle.x_trees.specs.View.{view_value, view_procedure, view_body, view_union};
+ghost use Rattle.x_trees.specs.View.{view_declaration, view_declarations};
+ghost use Rattle.x_trees.specs.View.{view_arms, view_default};
 ghost use Rattle.x_gen.specs.Routines.{routine_front, routine_end, checked_call, field_calls, case_lines, arm_calls, arms_calls};
 ghost use Rattle.x_gen.specs.Routines.{default_calls, body_calls, type_routine};
 ghost use Rattle.x_gen.specs.Routines.{typedef_routine, struct_routine};
@@ -17,7 +17,7 @@ use crate::declaration::{Place, add_call};
 use crate::procedures::{ArgumentPiece, Call, ProcedurePiece, add_arguments};
 use crate::types::NamedBody;
 use std::alloc::Global;
-use x_item::{Arm, Body, Declaration, Procedure, UnionBody, Value};
+use x_trees::{Arm, Body, Declaration, Procedure, UnionBody, Value};
 use x_text::NoMemory;
 
 /// Adds what a routine begins with.
@@ -190,7 +190,7 @@ fn add_union(
 }
 
 /// Adds what the routine of a type does.
-#[tactic(auto, using(x_item::proofs::Rows::struct_view))]
+#[tactic(auto, using(x_trees::proofs::Rows::struct_view))]
 fn add_body(alloc: Global, text: &mut Vec<u8>, name: &[u8], body: &Body) -> Result<(), NoMemory>
     ensures { OnOk result (text.new.items ≡ text.old.items ++ body_calls name.now (view_body body.now)) }
 {

@@ -1,14 +1,14 @@
 //! The pieces of the client's stubs.
 
 ghost use Rattle.std.specs.Prelude.{◌≡◌, ◌++◌, OnOk};
-ghost use Rattle.x_item.specs.View.{view_passed};
+ghost use Rattle.x_trees.specs.View.{view_passed};
 ghost use Rattle.x_gen.specs.Stubs.{kept_type, kept_place, stub_head, stub_kept, stub_call, stub_end};
 ghost use Rattle.x_gen.specs.Views.{view_c};
 
 use crate::add::add;
 use crate::c_types::{CType, argument_type, passed_type};
 use crate::procedures::{Call, ProcedurePiece, argument_in};
-use x_item::{Argument, Procedure};
+use x_trees::{Argument, Procedure};
 use x_text::NoMemory;
 
 /// The type of what a stub keeps of the result: `void` is kept as a byte.

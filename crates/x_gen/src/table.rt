@@ -1,7 +1,7 @@
 //! The pieces of the server's tables.
 
 ghost use Rattle.std.specs.Prelude.{◌≡◌, ◌++◌, map, OnOk, IfOk};
-ghost use Rattle.x_item.specs.View.{view_passed, view_procedure, view_version};
+ghost use Rattle.x_trees.specs.View.{view_passed, view_procedure, view_version};
 ghost use Rattle.x_gen.specs.Procedures.{sized, size_of};
 ghost use Rattle.x_gen.specs.Table.{argument_size, table_name, count_line, version_table, program_table};
 ghost use Rattle.x_gen.specs.Views.{view_c};
@@ -12,7 +12,7 @@ use crate::procedures::{
     Call, ProcedurePiece, add_decimal, add_lower, add_procedures, argument_in,
 };
 use std::alloc::Global;
-use x_item::{Argument, Procedure, Version};
+use x_trees::{Argument, Procedure, Version};
 use x_text::NoMemory;
 
 /// Adds how large a value of the type is.

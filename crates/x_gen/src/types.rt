@@ -1,15 +1,15 @@
 //! The types of a definition that have bodies, each with its name.
 
 ghost use Rattle.std.specs.Prelude.{◌≡◌, ◌++◌, [], OnOk, IfOk};
-ghost use Rattle.x_item.specs.Gloss.{lifted_name};
-ghost use Rattle.x_item.specs.View.{view_type, view_body, view_declaration, view_declarations, view_arms, view_default, view_definition};
+ghost use Rattle.x_trees.specs.Gloss.{lifted_name};
+ghost use Rattle.x_trees.specs.View.{view_type, view_body, view_declaration, view_declarations, view_arms, view_default, view_definition};
 ghost use Rattle.x_gen.specs.InlineTypes.{types_of_type, types_inside, types_of_declaration, types_of_declarations, types_of_arms};
 ghost use Rattle.x_gen.specs.InlineTypes.{types_of_default, types_of};
 ghost use Rattle.x_gen.specs.Views.{view_types};
 
 use std::alloc::Global;
 use std::borrow::CowSlice;
-use x_item::{Arm, Body, DataType, Declaration, Definition, UnionBody, lifted_name};
+use x_trees::{Arm, Body, DataType, Declaration, Definition, UnionBody, lifted_name};
 use x_text::NoMemory;
 
 /// A type that has a body: its own name, or the lifted name of an inline type.

@@ -4,9 +4,9 @@ use Rattle.std.proofs.lemmas.List.{append-nil, append_cancel_right, nil_from_len
 use Rattle.std.specs.Result.{IsErrAnd, IfErr}
 use Rattle.std.proofs.lemmas.Result.{err_from_is_err_and}
 use Rattle.x_lex.specs.Places.{Lexeme}
-use Rattle.x_item.specs.Words.{Word, word_of, words_of, is_significant}
-use Rattle.x_item.specs.Tree as tree
-use Rattle.x_item.specs.Spell.{spell, KeepsLimits, Begins}
+use Rattle.x_trees.specs.Words.{Word, word_of, words_of, is_significant}
+use Rattle.x_trees.specs.Tree as tree
+use Rattle.x_trees.specs.Spell.{spell, KeepsLimits, Begins}
 use Rattle.x_item.specs.Parse.{code_of, IsStuck}
 use Rattle.x_item.specs.Symbols.{Symbol, Item, step, go}
 use Rattle.x_item.specs.Reading.{Place, place_of, places_of, words_at, read, IsAt, IsRefused}

@@ -2,18 +2,18 @@
 use Rattle.std.proofs.Common.{◌≡◌, ℕ, zero, suc, List, [], ◌∷◌, ◌++◌, ◌⊎◌, inl, inr, Option, Some, None, Bool, true, false, nat_eq, refl, ap, sym, ◌∙◌, subst, append_assoc, eq-eqb}
 use Rattle.std.specs.Prelude.{if◌then◌else◌}
 use Rattle.std.proofs.lemmas.List.{append-nil}
-use Rattle.x_item.specs.Words.{Word, Fixed, Name, Number}
+use Rattle.x_trees.specs.Words.{Word, Fixed, Name, Number}
 use Rattle.x_lex.specs.declared.mark.Mark.{Mark}
 use Rattle.x_lex.specs.declared.mark.Mark.TheVariants as marks
 use Rattle.x_item.specs.declared.parsing.ending.Ending.{Ending}
 use Rattle.x_item.specs.declared.parsing.ending.Ending.TheVariants as endings
-use Rattle.x_item.specs.declared.trees.declaration.Basic.{Basic}
-use Rattle.x_item.specs.declared.trees.declaration.Basic.TheVariants as basics
-use Rattle.x_item.specs.declared.trees.declaration.Tag.{Tag}
-use Rattle.x_item.specs.declared.trees.declaration.Tag.TheVariants as tags
-use Rattle.x_item.specs.Tree as tree
-use Rattle.x_item.specs.Gloss.{spell_value, tag_mark}
-use Rattle.x_item.specs.Spell.{spell, spell_most, spell_length, spell_named, spell_basic, spell_given, spell_other_enumerators, spell_enumerators, spell_cases, spell_type, spell_body, spell_declaration, spell_declarations, spell_arms, spell_default, spell_argument, spell_passed, spell_others, spell_procedures, spell_versions, HasOne, HasDeclaration, TypeFits, BodyFits, DeclarationFits, DeclarationsFit, ArmsFit, DefaultFits, ArgumentFits, PassedFits, OthersFit, ProcedureFits, ProceduresFit, VersionFits, VersionsFit, KeepsLimits}
+use Rattle.x_trees.specs.declared.trees.declaration.Basic.{Basic}
+use Rattle.x_trees.specs.declared.trees.declaration.Basic.TheVariants as basics
+use Rattle.x_trees.specs.declared.trees.declaration.Tag.{Tag}
+use Rattle.x_trees.specs.declared.trees.declaration.Tag.TheVariants as tags
+use Rattle.x_trees.specs.Tree as tree
+use Rattle.x_trees.specs.Gloss.{spell_value, tag_mark}
+use Rattle.x_trees.specs.Spell.{spell, spell_most, spell_length, spell_named, spell_basic, spell_given, spell_other_enumerators, spell_enumerators, spell_cases, spell_type, spell_body, spell_declaration, spell_declarations, spell_arms, spell_default, spell_argument, spell_passed, spell_others, spell_procedures, spell_versions, HasOne, HasDeclaration, TypeFits, BodyFits, DeclarationFits, DeclarationsFit, ArmsFit, DefaultFits, ArgumentFits, PassedFits, OthersFit, ProcedureFits, ProceduresFit, VersionFits, VersionsFit, KeepsLimits}
 use Rattle.x_lex.specs.Marks.{place_of}
 use Rattle.x_item.specs.Symbols.{Context, InDeclaration, InArguments, InResult, Symbol, Item, Token, AnyName, AnyNumber, AnyValue, AnyLength, AfterLess, AfterName, Typed, AfterUnsigned, AfterType, AfterTag, AnyBody, Enumerators, AfterEnumerator, MoreEnumerators, Declared, Declarations, MoreDeclarations, Arms, AfterCase, MoreArms, Parameters, Arguments, Result, Procedures, MoreProcedures, Versions, MoreVersions, ending_mark, followed, step, step_item, step_token, step_name, step_number, step_value, step_length, step_after_less, step_after_name, step_typed, step_named, step_more_arguments, step_after_type, step_after_unsigned, step_body, step_after_tag, step_enumerators, step_more_enumerators, step_after_enumerator, step_declared, step_declarations, step_more_declarations, step_arms, step_after_case, step_more_arms, step_arguments, step_parameters, step_result, step_procedures, step_more_procedures, step_versions, step_more_versions}
 use Rattle.x_item.proofs.Machine.{Vals, Kids, texts, kid_texts, join, front, back, texts_join, join_parts, front_join, back_join}

@@ -3,9 +3,9 @@ use Rattle.std.proofs.Common.{◌≡◌, List, [], ◌∷◌, ◌++◌, map, ap,
 use Rattle.std.proofs.lemmas.List.{append-nil}
 use Rattle.x_lex.specs.Places.{lexeme}
 use Rattle.x_lex.specs.declared.token.Token.{Token}
-use Rattle.x_item.specs.Words.{word_of, words_of}
-use Rattle.x_item.specs.Tree.{Definition}
-use Rattle.x_item.specs.Spell.{spell, KeepsLimits}
+use Rattle.x_trees.specs.Words.{word_of, words_of}
+use Rattle.x_trees.specs.Tree.{Definition}
+use Rattle.x_trees.specs.Spell.{spell, KeepsLimits}
 use Rattle.x_item.specs.Symbols.{Item}
 use Rattle.x_item.specs.Reading.{Place, ahead, words_at, left_in, code_in, read, Fails, IsPart, IsSplit, IsBefore, IsRefused}
 use Rattle.x_item.specs.declared.parsing.parse_error.ParseError.{ParseError}

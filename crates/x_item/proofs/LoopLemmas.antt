@@ -4,21 +4,21 @@ use Rattle.std.proofs.lemmas.List.{append-nil, map-append}
 use Rattle.std.specs.Result.{IfOk, IfErr}
 use Rattle.std.proofs.lemmas.Result.{IfOk-weaker, IfErr-weaker}
 use Rattle.x_lex.specs.declared.token.Token.{Token as LexToken}
-use Rattle.x_item.specs.Words.{Word, Fixed, Name}
-use Rattle.x_item.specs.Tree as tree
-use Rattle.x_item.specs.Gloss.{tag_mark, spell_value}
-use Rattle.x_item.specs.Spell.{spell_enumerator, spell_other_enumerators, spell_enumerators, spell_cases, spell_declaration, spell_declarations, spell_arms, HasOne, HasDeclaration, HasArm, DeclarationFits, DeclarationsFit, ArmsFit, BodyFits, TypeFits}
-use Rattle.x_item.specs.View.{view_value, view_enumerator, view_declaration, view_declarations, view_arms}
+use Rattle.x_trees.specs.Words.{Word, Fixed, Name}
+use Rattle.x_trees.specs.Tree as tree
+use Rattle.x_trees.specs.Gloss.{tag_mark, spell_value}
+use Rattle.x_trees.specs.Spell.{spell_enumerator, spell_other_enumerators, spell_enumerators, spell_cases, spell_declaration, spell_declarations, spell_arms, HasOne, HasDeclaration, HasArm, DeclarationFits, DeclarationsFit, ArmsFit, BodyFits, TypeFits}
+use Rattle.x_trees.specs.View.{view_value, view_enumerator, view_declaration, view_declarations, view_arms}
 use Rattle.x_lex.specs.declared.mark.Mark.{Mark}
 use Rattle.x_lex.specs.declared.mark.Mark.TheVariants as marks
 use Rattle.x_item.specs.declared.parsing.ending.Ending.{Ending}
 use Rattle.x_item.specs.declared.parsing.ending.Ending.TheVariants as endings
-use Rattle.x_item.specs.declared.trees.declaration.Enumerator.{Enumerator}
-use Rattle.x_item.specs.declared.trees.value.Value.{Value}
-use Rattle.x_item.specs.declared.trees.declaration.Tag.{Tag}
-use Rattle.x_item.specs.declared.trees.declaration.Tag.TheVariants as tags
-use Rattle.x_item.specs.declared.trees.declaration.Declaration.{Declaration}
-use Rattle.x_item.specs.declared.trees.declaration.Arm.{Arm}
+use Rattle.x_trees.specs.declared.trees.declaration.Enumerator.{Enumerator}
+use Rattle.x_trees.specs.declared.trees.value.Value.{Value}
+use Rattle.x_trees.specs.declared.trees.declaration.Tag.{Tag}
+use Rattle.x_trees.specs.declared.trees.declaration.Tag.TheVariants as tags
+use Rattle.x_trees.specs.declared.trees.declaration.Declaration.{Declaration}
+use Rattle.x_trees.specs.declared.trees.declaration.Arm.{Arm}
 use Rattle.x_item.specs.declared.parsing.fault_code.FaultCode.{FaultCode}
 use Rattle.x_item.specs.declared.parsing.words.Word as source
 use Rattle.x_item.specs.declared.parsing.words.Word.TheVariants as words

@@ -2,10 +2,10 @@
 use Rattle.std.proofs.Common.{◌≡◌, ◌≢◌, true, ℕ, List, [], ◌∷◌, ◌++◌, length, refl, ap, sym, ◌∙◌, subst, append_assoc, inl, inr}
 use Rattle.std.proofs.lemmas.List.{append-nil}
 use Rattle.x_lex.specs.Places.{Lexeme}
-use Rattle.x_item.specs.Words.{Word, word_of, words_of, is_significant}
-use Rattle.x_item.specs.Tree as tree
-use Rattle.x_item.specs.Tree.{Definition}
-use Rattle.x_item.specs.Spell.{spell, KeepsLimits, Begins}
+use Rattle.x_trees.specs.Words.{Word, word_of, words_of, is_significant}
+use Rattle.x_trees.specs.Tree as tree
+use Rattle.x_trees.specs.Tree.{Definition}
+use Rattle.x_trees.specs.Spell.{spell, KeepsLimits, Begins}
 use Rattle.x_item.specs.Parse.{Parse, Nothing, Def, Fault, IsParse, IsStuck, IsLastWord, code_of}
 use Rattle.x_item.specs.declared.parsing.fault_code.FaultCode.{FaultCode}
 use Rattle.x_item.proofs.WordLemmas.{words_of-append, words_of-word}

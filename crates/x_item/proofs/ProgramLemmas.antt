@@ -2,13 +2,13 @@
 use Rattle.std.proofs.Common.{◌≡◌, ◌≢◌, ℕ, Option, Some, None, Err, List, [], ◌∷◌, ◌++◌, map, refl, ap, sym, ◌∙◌, subst, append_assoc}
 use Rattle.std.proofs.lemmas.List.{append-nil, map-append}
 use Rattle.x_lex.specs.declared.token.Token.{Token as LexToken}
-use Rattle.x_item.specs.Words.{Word, Fixed}
-use Rattle.x_item.specs.Tree as tree
-use Rattle.x_item.specs.Spell.{spell_argument, spell_passed, spell_others, spell_procedure, spell_procedures, spell_version, spell_versions, ArgumentFits, OthersFit, ProcedureFits, ProceduresFit, VersionFits, VersionsFit}
+use Rattle.x_trees.specs.Words.{Word, Fixed}
+use Rattle.x_trees.specs.Tree as tree
+use Rattle.x_trees.specs.Spell.{spell_argument, spell_passed, spell_others, spell_procedure, spell_procedures, spell_version, spell_versions, ArgumentFits, OthersFit, ProcedureFits, ProceduresFit, VersionFits, VersionsFit}
 use Rattle.x_lex.specs.declared.mark.Mark.TheVariants as marks
-use Rattle.x_item.specs.View.{view_argument}
-use Rattle.x_item.specs.declared.trees.declaration.TheConstants.{MOST_INLINE}
-use Rattle.x_item.specs.declared.trees.program.Argument.{Argument}
+use Rattle.x_trees.specs.View.{view_argument}
+use Rattle.x_trees.specs.declared.trees.declaration.TheConstants.{MOST_INLINE}
+use Rattle.x_trees.specs.declared.trees.program.Argument.{Argument}
 use Rattle.x_item.specs.declared.parsing.fault_code.FaultCode.{FaultCode}
 use Rattle.x_item.specs.Symbols.{Symbol, Token, AnyName, Typed, InArguments, InResult, AfterType, Arguments, Parameters, Procedures, MoreProcedures, Versions, MoreVersions, go, followed, step_result, of_number, of_procedure, of_version}
 use Rattle.x_item.specs.Symbols.{Result as AnyResult}

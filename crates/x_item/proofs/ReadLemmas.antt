@@ -4,7 +4,7 @@ use Rattle.std.specs.Result.{IsErrAnd, IfOk, IfErr}
 use Rattle.std.proofs.lemmas.Bool.{eq-eqb, eqb-true}
 use Rattle.std.proofs.lemmas.Result.{err_from_is_err_and}
 use Rattle.x_lex.specs.declared.token.Token.{Token}
-use Rattle.x_item.specs.Words.{Word, Fixed, word_of}
+use Rattle.x_trees.specs.Words.{Word, Fixed, word_of}
 use Rattle.x_lex.specs.Places.{lexeme}
 use Rattle.x_lex.specs.declared.mark.Mark.{Mark}
 use Rattle.x_lex.specs.declared.mark.Mark.TheVariants as marks

@@ -1,7 +1,7 @@
 -- No two definitions have one spelling.
 use Rattle.std.proofs.Common.{◌≡◌, [], ◌∷◌, ◌++◌, refl, ap, sym}
-use Rattle.x_item.specs.Tree as tree
-use Rattle.x_item.specs.Spell.{spell, KeepsLimits}
+use Rattle.x_trees.specs.Tree as tree
+use Rattle.x_trees.specs.Spell.{spell, KeepsLimits}
 use Rattle.x_item.specs.Symbols.{Item, step}
 use Rattle.x_item.proofs.Machine.{Vals, one_text}
 use Rattle.x_item.proofs.Grammar.{Value, text, build, built, split, least}

@@ -3,10 +3,10 @@ use Rattle.std.specs.Prelude.{◌≡◌, ◌≢◌, ℕ, IsTrue, List, [], ◌�
 use Rattle.x_lex.specs.Places.{Lexeme}
 use Rattle.x_lex.specs.declared.kind.Kind.{Kind}
 use Rattle.x_lex.specs.declared.kind.Kind.TheVariants as kinds
-use Rattle.x_item.specs.Words.{word_of, words_of, is_significant}
-use Rattle.x_item.specs.Tree.{Definition}
-use Rattle.x_item.specs.Spell.{spell, KeepsLimits, Begins}
-use Rattle.x_item.specs.View.{view_definition}
+use Rattle.x_trees.specs.Words.{word_of, words_of, is_significant}
+use Rattle.x_trees.specs.Tree.{Definition}
+use Rattle.x_trees.specs.Spell.{spell, KeepsLimits, Begins}
+use Rattle.x_trees.specs.View.{view_definition}
 use Rattle.x_item.specs.declared.parsing.parse_item.Parsed.{Parsed}
 use Rattle.x_item.specs.declared.parsing.parse_item.Parsed.TheVariants as parsed
 use Rattle.x_item.specs.declared.parsing.fault_code.FaultCode.{FaultCode}

@@ -2,10 +2,10 @@
 use Rattle.std.specs.Prelude.{◌≡◌, ◌≢◌, ℕ, suc, ◌+◌, ◌-◌, ◌≤◌, ◌<◌, List, [], ◌∷◌, ◌++◌, Result, Ok, Err, map, length, if◌then◌else◌}
 use Rattle.x_lex.specs.Places.{Lexeme, lexeme}
 use Rattle.x_lex.specs.declared.token.Token.{Token}
-use Rattle.x_item.specs.Words.{Word, Fixed, Name, Number, Other, word_of, words_of, is_significant}
-use Rattle.x_item.specs.Tree as tree
-use Rattle.x_item.specs.Tree.{Definition}
-use Rattle.x_item.specs.Spell.{spell, spell_cases, spell_declaration, KeepsLimits, Begins}
+use Rattle.x_trees.specs.Words.{Word, Fixed, Name, Number, Other, word_of, words_of, is_significant}
+use Rattle.x_trees.specs.Tree as tree
+use Rattle.x_trees.specs.Tree.{Definition}
+use Rattle.x_trees.specs.Spell.{spell, spell_cases, spell_declaration, KeepsLimits, Begins}
 use Rattle.x_item.specs.Parse.{code_of, IsStuck}
 use Rattle.x_item.specs.Symbols.{Symbol, ending_mark, go, step}
 use Rattle.x_lex.specs.declared.mark.Mark.TheVariants as marks

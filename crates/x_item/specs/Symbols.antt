@@ -1,14 +1,14 @@
 -- The grammar as symbols, each of which takes one word and leaves symbols for what may follow it.
 use Rattle.std.specs.Prelude.{ℕ, zero, suc, List, [], ◌∷◌, ◌++◌, Option, Some, None, nat_eq, if◌then◌else◌}
-use Rattle.x_item.specs.Words.{Word, Fixed, Name, Number}
+use Rattle.x_trees.specs.Words.{Word, Fixed, Name, Number}
 use Rattle.x_lex.specs.Marks.{place_of}
 use Rattle.x_lex.specs.declared.mark.Mark.{Mark}
 use Rattle.x_lex.specs.declared.mark.Mark.TheVariants as marks
 use Rattle.x_item.specs.declared.parsing.ending.Ending.{Ending}
 use Rattle.x_item.specs.declared.parsing.ending.Ending.TheVariants as endings
-use Rattle.x_item.specs.declared.trees.declaration.TheConstants.{MOST_INLINE}
-use Rattle.x_item.specs.declared.trees.declaration.Tag.{Tag}
-use Rattle.x_item.specs.declared.trees.declaration.Tag.TheVariants as tags
+use Rattle.x_trees.specs.declared.trees.declaration.TheConstants.{MOST_INLINE}
+use Rattle.x_trees.specs.declared.trees.declaration.Tag.{Tag}
+use Rattle.x_trees.specs.declared.trees.declaration.Tag.TheVariants as tags
 
 -- where a type stands, and so what may stand after it
 pub data Context : Type 0 where

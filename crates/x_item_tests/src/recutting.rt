@@ -2,8 +2,8 @@ ghost use Rattle.std.specs.Prelude.{◌≡◌, length, OnOk, OnErr};
 ghost use Rattle.x_text.specs.Edits.{change_of, edited_by, LiesWithin};
 ghost use Rattle.x_lex.specs.Tiling.{AreTokens};
 ghost use Rattle.x_lex.specs.Places.{lexemes};
-ghost use Rattle.x_item.specs.Items.{IsCut};
-ghost use Rattle.x_item.specs.ItemList.{counts};
+ghost use Rattle.x_cutting.specs.Items.{IsCut};
+ghost use Rattle.x_cutting.specs.ItemList.{counts};
 
 use std::alloc::Global;
 use std::process::Abort;

@@ -2,12 +2,12 @@
 use Rattle.std.proofs.Common.{◌≡◌, ℕ, suc, Option, ◌+◌, ◌^◌, ◌<◌, ◌⊎◌, inl, inr, List, [], ◌∷◌, ◌++◌, length, map, ap, sym, refl, subst, ◌∙◌, append_assoc, append-nil, length-append, arith}
 use Rattle.std.specs.List.{IsAmong}
 use Rattle.std.specs.Borrow.{Bor}
-use Rattle.x_item.specs.Tree as tree
-use Rattle.x_item.specs.Named.{star}
-use Rattle.x_item.specs.Spell.{spell_type, spell_named, spell_length, spell_body, spell_cases, spell_enumerator, spell_other_enumerators, spell_enumerators, spell_declaration, spell_declarations, spell_arms, spell_default}
-use Rattle.x_item.specs.View.{view_body}
-use Rattle.x_item.specs.declared.trees.declaration.Body.{Body}
-use Rattle.x_item.proofs.CollectLemmas.{finds_none, finds_then, finds_as}
+use Rattle.x_trees.specs.Tree as tree
+use Rattle.x_trees.specs.Named.{star}
+use Rattle.x_trees.specs.Spell.{spell_type, spell_named, spell_length, spell_body, spell_cases, spell_enumerator, spell_other_enumerators, spell_enumerators, spell_declaration, spell_declarations, spell_arms, spell_default}
+use Rattle.x_trees.specs.View.{view_body}
+use Rattle.x_trees.specs.declared.trees.declaration.Body.{Body}
+use Rattle.x_trees.proofs.CollectLemmas.{finds_none, finds_then, finds_as}
 use Rattle.x_rules.specs.Bodies.{NameAt, ValueAt, bodies_inside, bodies_of_type, bodies_of_declaration, bodies_of_fields, bodies_of_arms, bodies_of_default, field_at, fields_from, arm_names_from, default_name, fields_of, cases_from, arm_cases_from, cases_of}
 use Rattle.x_rules.specs.Bodies as bodies
 use Rattle.x_rules.specs.Declarers.{IsShort}

@@ -6,10 +6,10 @@ use Rattle.std.proofs.lemmas.Cmp.{int_eq_equiv}
 use Rattle.std.proofs.lemmas.Option.{same_Some}
 use Rattle.std.specs.List.{IsAmong, flat_map, list_any}
 use Rattle.std.specs.Ordering.{int_eq}
-use Rattle.x_item.specs.Tree as tree
-use Rattle.x_item.specs.Tree.{Definition}
-use Rattle.x_item.specs.Spell.{spell_declaration}
-use Rattle.x_item.specs.View.{view_body}
+use Rattle.x_trees.specs.Tree as tree
+use Rattle.x_trees.specs.Tree.{Definition}
+use Rattle.x_trees.specs.Spell.{spell_declaration}
+use Rattle.x_trees.specs.View.{view_body}
 use Rattle.x_rules.specs.Bodies.{BodyAt, ValueAt, bodies, enumerators, cases_of}
 use Rattle.x_rules.specs.BodyWalks.{view_body_at, IsBehind, AreFilled}
 use Rattle.x_rules.specs.Cases.{is_outside, case_fault, has_fault, case_faults, class_faults, bad_cases_by, bad_cases_of}

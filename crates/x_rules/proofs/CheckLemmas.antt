@@ -1,9 +1,9 @@
 -- What all families of rules find of a definition is what breaks a rule, and all of it.
 use Rattle.std.proofs.Common.{◌≡◌, ℕ, ◌⊎◌, inl, inr, List, [], ◌∷◌, ◌++◌, map, refl, sym, ap, subst}
 use Rattle.std.specs.List.{IsAmong, flat_map}
-use Rattle.x_item.specs.Tree.{Definition}
-use Rattle.x_item.specs.Names.{declared}
-use Rattle.x_item.specs.Mentions.{mentioned}
+use Rattle.x_trees.specs.Tree.{Definition}
+use Rattle.x_trees.specs.Names.{declared}
+use Rattle.x_trees.specs.Mentions.{mentioned}
 use Rattle.x_rules.specs.Views.{View, names_of}
 use Rattle.x_rules.specs.Bodies.{BodyAt, NameAt, Members, bodies, enumerators, cases_of, fields_of, members, field_groups, member_names, name_groups}
 use Rattle.x_rules.specs.Constants.{knowns, limit_of, is_declared_before}

@@ -7,8 +7,8 @@ use Rattle.std.specs.Global.{Global}
 use Rattle.std.specs.Str.{bytes_eq}
 use Rattle.std.proofs.lemmas.Slice.Eq.{bytes_eq-Decides}
 use Rattle.std.proofs.lemmas.Option.{same_Some}
-use Rattle.x_item.specs.Tree.{Definition}
-use Rattle.x_item.specs.Names.{Declared, declared}
+use Rattle.x_trees.specs.Tree.{Definition}
+use Rattle.x_trees.specs.Names.{Declared, declared}
 use Rattle.x_rules.specs.Declarers.{is_beforehand, IsDeclarer, IsEarlier, IsFirstDeclarer, FirstIs, declarer_at, place_of_name, declarer_in, first_from, first_declarer}
 use Rattle.std.specs.Option.{option_or}
 use Rattle.x_rules.specs.DeclarerTable.{entry_in, first_in, names_in}

@@ -6,7 +6,7 @@ use Rattle.std.proofs.lemmas.Option.{same_Some}
 use Rattle.std.proofs.lemmas.Slice.Eq.{bytes_eq-Decides}
 use Rattle.std.specs.List.{IsAmong}
 use Rattle.std.specs.Str.{bytes_eq}
-use Rattle.x_item.specs.Names.{Declared}
+use Rattle.x_trees.specs.Names.{Declared}
 use Rattle.x_rules.specs.Views as views
 use Rattle.x_rules.specs.Views.{View}
 use Rattle.x_rules.specs.Tables.{first_place}

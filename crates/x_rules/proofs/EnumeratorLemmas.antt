@@ -4,12 +4,12 @@ use Rattle.std.proofs.lemmas.List.{take-append-drop}
 use Rattle.std.specs.Borrow.{Bor}
 use Rattle.std.specs.List.{IsAmong}
 use Rattle.std.specs.Option.{option_copied}
-use Rattle.x_item.specs.Tree as tree
-use Rattle.x_item.specs.Spell.{spell_body, spell_enumerator, spell_other_enumerators, spell_enumerators}
-use Rattle.x_item.specs.View.{view_most}
-use Rattle.x_item.specs.Collected.{Walked, Covers}
-use Rattle.x_item.specs.declared.trees.value.Value.{Value}
-use Rattle.x_item.proofs.CollectLemmas.{finds_then, finds_as}
+use Rattle.x_trees.specs.Tree as tree
+use Rattle.x_trees.specs.Spell.{spell_body, spell_enumerator, spell_other_enumerators, spell_enumerators}
+use Rattle.x_trees.specs.View.{view_most}
+use Rattle.x_trees.specs.Collected.{Walked, Covers}
+use Rattle.x_trees.specs.declared.trees.value.Value.{Value}
+use Rattle.x_trees.proofs.CollectLemmas.{finds_then, finds_as}
 use Rattle.x_rules.specs.Bodies.{BodyAt, EnumeratorAt, enumerators_from, enumerators_of, enumerators_in}
 use Rattle.x_rules.specs.Tables.{view_given}
 use Rattle.x_rules.proofs.AmongLemmas.{among_first, among_rear}

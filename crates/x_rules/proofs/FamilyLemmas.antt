@@ -4,9 +4,9 @@ use Rattle.std.proofs.Common.{◌≡◌, ℕ, ◌<◌, ◌⊎◌, inl, inr, Bool
 use Rattle.std.proofs.lemmas.Bool.Decides.{nat_tests}
 use Rattle.std.proofs.lemmas.Option.{same_Some}
 use Rattle.std.specs.List.{IsAmong, flat_map, list_any}
-use Rattle.x_item.specs.Tree.{Value}
-use Rattle.x_item.specs.Names.{Declared}
-use Rattle.x_item.specs.Mentions.{Mention}
+use Rattle.x_trees.specs.Tree.{Value}
+use Rattle.x_trees.specs.Names.{Declared}
+use Rattle.x_trees.specs.Mentions.{Mention}
 use Rattle.x_rules.specs.Views.{View}
 use Rattle.x_rules.specs.Bodies.{EnumeratorAt}
 use Rattle.x_rules.specs.Constants.{Known}

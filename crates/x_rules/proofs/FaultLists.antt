@@ -2,7 +2,7 @@
 use Rattle.std.proofs.Common.{◌≡◌, ◌<◌, ℕ, ◌-◌, ◌⊎◌, inl, inr, List, [], ◌∷◌, get_or, arith, refl, sym, ap, subst, ◌∙◌}
 use Rattle.std.proofs.lemmas.Bool.{cases_order}
 use Rattle.std.specs.List.{IsAmong}
-use Rattle.x_item.specs.Tree.{Definition}
+use Rattle.x_trees.specs.Tree.{Definition}
 use Rattle.x_rules.specs.Views.{View}
 use Rattle.x_rules.specs.Rules.{IsBefore, Ascends, AreFaults}
 use Rattle.x_rules.specs.RuleTexts.{rule_number}

@@ -6,10 +6,10 @@ use Rattle.std.proofs.Common.{◌≡◌, ℕ, suc, ◌<◌, ◌≤◌, Bool, tru
 use Rattle.std.proofs.lemmas.Bool.Decides.{nat_tests}
 use Rattle.std.proofs.lemmas.Cmp.{nat_eq_equiv}
 use Rattle.std.proofs.lemmas.Option.{slice_get_past, slice_get-get_or, slice_get-map}
-use Rattle.x_item.specs.Tree as tree
-use Rattle.x_item.specs.Tree.{Definition}
-use Rattle.x_item.specs.declared.names.declared_name.NameKind.{NameKind}
-use Rattle.x_item.specs.declared.names.declared_name.NameKind.TheVariants as kinds
+use Rattle.x_trees.specs.Tree as tree
+use Rattle.x_trees.specs.Tree.{Definition}
+use Rattle.x_trees.specs.declared.names.declared_name.NameKind.{NameKind}
+use Rattle.x_trees.specs.declared.names.declared_name.NameKind.TheVariants as kinds
 use Rattle.x_rules.specs.Bodies.{BodyAt, bodies, enumerators}
 use Rattle.x_rules.specs.Constants.{Known, knowns}
 use Rattle.std.specs.Option.{option_or}

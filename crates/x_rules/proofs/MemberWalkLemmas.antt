@@ -1,8 +1,8 @@
 -- What a walk over a program finds, part by part.
 use Rattle.std.proofs.Common.{◌≡◌, ℕ, suc, ◌+◌, ◌^◌, ◌<◌, List, [], ◌∷◌, ◌++◌, length, map, ap, sym, refl, subst, ◌∙◌, append-nil, length-append, arith}
-use Rattle.x_item.specs.Tree as tree
-use Rattle.x_item.specs.Spell.{spell_type, spell_body, spell_argument, spell_passed, spell_others, spell_procedure, spell_procedures, spell_version, spell_versions}
-use Rattle.x_item.proofs.CollectLemmas.{finds_none, finds_then, finds_as}
+use Rattle.x_trees.specs.Tree as tree
+use Rattle.x_trees.specs.Spell.{spell_type, spell_body, spell_argument, spell_passed, spell_others, spell_procedure, spell_procedures, spell_version, spell_versions}
+use Rattle.x_trees.proofs.CollectLemmas.{finds_none, finds_then, finds_as}
 use Rattle.x_rules.specs.Bodies.{Members, no_members, procedures_from, procedures_of, versions_from}
 use Rattle.x_rules.specs.Declarers.{IsShort}
 use Rattle.x_rules.specs.MemberWalks.{Skips, Place, Adds, AddsName, AddsNumber, AddsProcedure, AddsProcedures, AddsVersions, AddsVersion, place, start}

@@ -1,8 +1,8 @@
 -- The codes of faults of names that are used.
 use Rattle.std.proofs.Common.{◌≡◌, Bool, true, false, cond, Option, Some, None}
 use Rattle.std.proofs.lemmas.Option.{same_Some}
-use Rattle.x_item.specs.declared.trees.declaration.Tag.{Tag}
-use Rattle.x_item.specs.declared.names.mention.Use.{Use}
+use Rattle.x_trees.specs.declared.trees.declaration.Tag.{Tag}
+use Rattle.x_trees.specs.declared.names.mention.Use.{Use}
 use Rattle.x_rules.specs.Views.{View}
 use Rattle.x_rules.specs.Mentioned.{fault_of_use, is_unknown, is_no_type, is_no_constant, is_too_late, is_of_faulty}
 use Rattle.x_rules.specs.declared.fault.RuleCode.{RuleCode}

@@ -5,8 +5,8 @@ use Rattle.std.specs.Map.{lookup}
 use Rattle.std.specs.Str.{bytes_eq}
 use Rattle.std.proofs.lemmas.Slice.Eq.{bytes_eq-Decides}
 use Rattle.indexmap.specs.IndexMap.{insert_entry}
-use Rattle.x_item.specs.Tree.{Definition}
-use Rattle.x_item.specs.Names.{Declared}
+use Rattle.x_trees.specs.Tree.{Definition}
+use Rattle.x_trees.specs.Names.{Declared}
 use Rattle.std.specs.Option.{option_or}
 use Rattle.x_numbers.proofs.Lookups.{or_none}
 use Rattle.x_rules.specs.Declarers.{declarer_at, place_of_name, declarer_in, first_from}

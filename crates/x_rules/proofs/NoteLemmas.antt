@@ -3,9 +3,9 @@ use Rattle.std.specs.Prelude.{nat_lt, slice_get}
 use Rattle.std.proofs.Common.{◌≡◌, ℕ, zero, suc, ◌+◌, ◌⊎◌, inl, inr, Bool, true, false, List, [], ◌∷◌, ◌++◌, Option, None, Some, arith, refl, sym, ap, subst, ◌∙◌}
 use Rattle.std.proofs.lemmas.Option.{same_Some}
 use Rattle.std.specs.List.{IsAmong}
-use Rattle.x_item.specs.Tree as tree
-use Rattle.x_item.specs.Gloss as gloss
-use Rattle.x_item.specs.Gloss.{Gloss, Role, told_of}
+use Rattle.x_trees.specs.Tree as tree
+use Rattle.x_trees.specs.Gloss as gloss
+use Rattle.x_trees.specs.Gloss.{Gloss, Role, told_of}
 use Rattle.x_rules.specs.Notes.{Note, NoteAt, ValueNote, NumberNote, MisplacedNote, DiscriminantNote, InlineNote, void_note, note_of, note_list, noted_at, noted}
 use Rattle.x_rules.specs.Rules.{HasRole, number_role, is_misplaced}
 use Rattle.x_rules.specs.declared.outline.note.ValueRole.{ValueRole}

@@ -1,15 +1,15 @@
 -- The notes of a tree, from those of its parts.
 use Rattle.std.proofs.Common.{◌≡◌, ℕ, ◌+◌, ◌^◌, ◌<◌, List, [], ◌∷◌, ◌++◌, map, Option, Some, None, true, length, refl, ap, sym, subst, ◌∙◌, arith, append_assoc}
-use Rattle.x_item.specs.Tree as tree
-use Rattle.x_item.specs.Gloss.{Role, Place, InTypedef, Inside, AsField, AsDiscriminant, AsArm, InlineArgument, Gloss, glossed, body_mark, leading_roles, name_inside, name_roles, lifted_roles, value_roles, spell_value, use_by, named_by, type_by, body_by, declaration_by, argument_by, told_of, gloss}
-use Rattle.x_item.specs.Words.{Word, Fixed}
-use Rattle.x_item.specs.Spell.{spell}
-use Rattle.x_item.specs.Collected.{Walked, Covers, CoversAll, IsSilent}
-use Rattle.x_item.specs.declared.trees.declaration.Basic.TheVariants as basics
-use Rattle.x_item.specs.declared.names.mention.Use.{Use}
-use Rattle.x_item.specs.declared.names.mention.Use.TheVariants as uses
-use Rattle.x_item.proofs.CollectLemmas.{covers_words, covers_then, finds_then, finds_all, IsQuiet}
-use Rattle.x_item.proofs.GlossLemmas.{IsOutside, long_as, told_of_bare, bare_body, words_body, words_gloss}
+use Rattle.x_trees.specs.Tree as tree
+use Rattle.x_trees.specs.Gloss.{Role, Place, InTypedef, Inside, AsField, AsDiscriminant, AsArm, InlineArgument, Gloss, glossed, body_mark, leading_roles, name_inside, name_roles, lifted_roles, value_roles, spell_value, use_by, named_by, type_by, body_by, declaration_by, argument_by, told_of, gloss}
+use Rattle.x_trees.specs.Words.{Word, Fixed}
+use Rattle.x_trees.specs.Spell.{spell}
+use Rattle.x_trees.specs.Collected.{Walked, Covers, CoversAll, IsSilent}
+use Rattle.x_trees.specs.declared.trees.declaration.Basic.TheVariants as basics
+use Rattle.x_trees.specs.declared.names.mention.Use.{Use}
+use Rattle.x_trees.specs.declared.names.mention.Use.TheVariants as uses
+use Rattle.x_trees.proofs.CollectLemmas.{covers_words, covers_then, finds_then, finds_all, IsQuiet}
+use Rattle.x_trees.proofs.GlossLemmas.{IsOutside, long_as, told_of_bare, bare_body, words_body, words_gloss}
 use Rattle.x_rules.specs.Notes.{NoteAt, ValueNote, MisplacedNote, DiscriminantNote, InlineNote, noted_at, view_note_at}
 use Rattle.x_rules.specs.NoteWalks.{NotesIn, NotesAll, role_of, view_walk}
 use Rattle.x_rules.specs.declared.outline.note.ValueRole.{ValueRole}

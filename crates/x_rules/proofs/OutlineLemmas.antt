@@ -3,7 +3,7 @@ use Rattle.std.specs.Prelude.{option_map, ◌||◌}
 use Rattle.std.specs.Str.{bytes_eq}
 use Rattle.std.specs.List.{IsAmong, flat_map, list_any}
 use Rattle.std.proofs.Common.{◌≡◌, ◌<◌, ℕ, suc, length, arith, Bool, true, false, cond, List, [], ◌∷◌, ◌++◌, map, Option, None, Some, refl, ap, subst, ◌∙◌, append_assoc}
-use Rattle.x_item.specs.Tree.{Definition}
+use Rattle.x_trees.specs.Tree.{Definition}
 use Rattle.x_rules.specs.Bodies as spec
 use Rattle.x_rules.specs.Views as views
 use Rattle.x_rules.specs.Outlined.{GivesOutcome}

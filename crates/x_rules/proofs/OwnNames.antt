@@ -1,10 +1,10 @@
 -- A definition with a type that is too high declares a type.
 use Rattle.std.proofs.Common.{◌≡◌, ℕ, ◌+◌, Bool, true, false, List, [], ◌++◌, length, None, Some, refl, sym, subst}
 use Rattle.std.specs.List.{IsAmong}
-use Rattle.x_item.specs.Tree as tree
-use Rattle.x_item.specs.Gloss.{Gloss, InTypedef, body_kind, glossed, told_of, leading_roles, usage_at, name_inside, name_roles, lifted_roles, type_by, named_by}
-use Rattle.x_item.specs.Names.{Declared, declared_at, declared}
-use Rattle.x_item.proofs.CollectLemmas.{told_append}
+use Rattle.x_trees.specs.Tree as tree
+use Rattle.x_trees.specs.Gloss.{Gloss, InTypedef, body_kind, glossed, told_of, leading_roles, usage_at, name_inside, name_roles, lifted_roles, type_by, named_by}
+use Rattle.x_trees.specs.Names.{Declared, declared_at, declared}
+use Rattle.x_trees.proofs.CollectLemmas.{told_append}
 use Rattle.x_rules.specs.Views.{View}
 use Rattle.x_rules.specs.Mentioned.{suits}
 use Rattle.x_rules.specs.Types.{heights}

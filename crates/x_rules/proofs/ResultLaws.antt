@@ -3,8 +3,8 @@ use Rattle.std.specs.Prelude.{nat_lt, option_map, option_and_then}
 use Rattle.std.specs.Option.{unwrap_or}
 use Rattle.std.proofs.lemmas.Bool.Decides.{nat_tests}
 use Rattle.std.proofs.Common.{◌≡◌, ℕ, suc, ◌<◌, Bool, true, false, cond, List, [], ◌∷◌, Option, Some, None, map, drop, arith, refl, sym, ap, subst, ◌∙◌}
-use Rattle.x_item.specs.Tree.{Definition}
-use Rattle.x_item.specs.declared.names.declared_name.NameKind.TheVariants as kinds
+use Rattle.x_trees.specs.Tree.{Definition}
+use Rattle.x_trees.specs.declared.names.declared_name.NameKind.TheVariants as kinds
 use Rattle.x_rules.specs.Views.{View, Earlier, Own, Later, Bad, names_of, seen}
 use Rattle.x_rules.specs.Declarers.{is_beforehand, first_declarer}
 use Rattle.x_rules.specs.declared.names.Declarer.{Declarer}

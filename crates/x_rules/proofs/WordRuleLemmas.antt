@@ -4,9 +4,9 @@ use Rattle.std.proofs.Common.{◌≡◌, ℕ, zero, suc, ◌^◌, inl, inr, Bool
 use Rattle.std.proofs.lemmas.Bool.Decides.{nat_tests}
 use Rattle.std.proofs.lemmas.Option.{same_Some}
 use Rattle.std.specs.List.{IsAmong}
-use Rattle.x_item.specs.Tree as tree
-use Rattle.x_item.specs.Gloss as gloss
-use Rattle.x_item.specs.Gloss.{Role}
+use Rattle.x_trees.specs.Tree as tree
+use Rattle.x_trees.specs.Gloss as gloss
+use Rattle.x_trees.specs.Gloss.{Role}
 use Rattle.x_rules.specs.Views.{View, Class, NoClass, Signed, Unsigned, Boolean, Enumeration}
 use Rattle.x_rules.specs.Bodies.{enumerators}
 use Rattle.x_numbers.specs.Numbers.{magnitude, is_negative, in_range, value, is_word_number, is_enum_number, is_zero}

@@ -3,9 +3,9 @@
 --
 -- `at` is the number of the first word of the part that a function is about.
 use Rattle.std.specs.Prelude.{ℕ, ◌+◌, Bool, true, false, List, [], ◌∷◌, ◌++◌, length, Option}
-use Rattle.x_item.specs.Tree as tree
-use Rattle.x_item.specs.Named.{star}
-use Rattle.x_item.specs.Spell.{spell_type, spell_body, spell_declaration, spell_cases, spell_arms, spell_enumerator, spell_passed, spell_others, spell_procedure, spell_procedures}
+use Rattle.x_trees.specs.Tree as tree
+use Rattle.x_trees.specs.Named.{star}
+use Rattle.x_trees.specs.Spell.{spell_type, spell_body, spell_declaration, spell_cases, spell_arms, spell_enumerator, spell_passed, spell_others, spell_procedure, spell_procedures}
 
 -- a body, its first word (the one behind the keyword), and the word that declares the type's name
 pub record BodyAt : Type 0 where

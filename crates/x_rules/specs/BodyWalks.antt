@@ -1,10 +1,10 @@
 -- Where a walk over the bodies of a definition stands.
 use Rattle.std.specs.Prelude.{◌≡◌, ◌<◌, ℕ, ◌+◌, ◌^◌, List, [], ◌∷◌, ◌++◌, length, map}
 use Rattle.std.specs.List.{IsAmong}
-use Rattle.x_item.specs.Tree as tree
-use Rattle.x_item.specs.View.{view_body}
-use Rattle.x_item.specs.Spell.{spell_type, spell_body, spell_cases, spell_declaration, spell_declarations, spell_arms, spell_default}
-use Rattle.x_item.specs.Collected.{Walked, Covers}
+use Rattle.x_trees.specs.Tree as tree
+use Rattle.x_trees.specs.View.{view_body}
+use Rattle.x_trees.specs.Spell.{spell_type, spell_body, spell_cases, spell_declaration, spell_declarations, spell_arms, spell_default}
+use Rattle.x_trees.specs.Collected.{Walked, Covers}
 use Rattle.x_rules.specs.Bodies as bodies
 use Rattle.x_rules.specs.Declarers.{IsShort}
 use Rattle.x_rules.specs.Tables.{view_name_at, view_value_at}

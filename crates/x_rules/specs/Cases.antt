@@ -2,8 +2,8 @@
 use Rattle.std.specs.Prelude.{ℕ, ◌+◌, ℤ, pos, nat_lt, nat_le, Bool, false, not, ◌&&◌, List, [], Option, Some, None, map, if◌then◌else◌}
 use Rattle.std.specs.List.{flat_map, list_any}
 use Rattle.std.specs.Ordering.{int_eq}
-use Rattle.x_item.specs.Tree as tree
-use Rattle.x_item.specs.View.{view_body}
+use Rattle.x_trees.specs.Tree as tree
+use Rattle.x_trees.specs.View.{view_body}
 use Rattle.x_rules.specs.Views.{View, Class, NoClass, Signed, Unsigned, Boolean, Enumeration}
 use Rattle.x_rules.specs.Bodies.{ValueAt}
 use Rattle.x_rules.specs.Constants.{Known, limit_of, number_by}

@@ -2,8 +2,8 @@
 -- enumerators that stand in it, in the order of their words.
 use Rattle.std.specs.Prelude.{ℕ, ◌-◌, Bool, false, nat_lt, List, [], ◌∷◌, ◌++◌, Option, Some, None, ℤ, pos, ◌+ℤ◌, option_and_then, if◌then◌else◌}
 use Rattle.std.specs.Str.{bytes_eq}
-use Rattle.x_item.specs.Tree as tree
-use Rattle.x_item.specs.declared.names.declared_name.NameKind.TheVariants as kinds
+use Rattle.x_trees.specs.Tree as tree
+use Rattle.x_trees.specs.declared.names.declared_name.NameKind.TheVariants as kinds
 use Rattle.x_numbers.specs.Numbers.{next_number, number_spelled}
 use Rattle.x_rules.specs.Views as views
 use Rattle.x_rules.specs.Views.{View}

@@ -7,9 +7,9 @@ use Rattle.std.specs.Cow.{cow_slice_items}
 use Rattle.std.specs.declared.borrow.CowSlice.{CowSlice}
 use Rattle.std.specs.Str.{bytes_eq}
 use Rattle.std.specs.Global.{Global}
-use Rattle.x_item.specs.Tree as tree
-use Rattle.x_item.specs.View.{view_definition}
-use Rattle.x_item.specs.declared.trees.definition.Definition.{Definition}
+use Rattle.x_trees.specs.Tree as tree
+use Rattle.x_trees.specs.View.{view_definition}
+use Rattle.x_trees.specs.declared.trees.definition.Definition.{Definition}
 use Rattle.x_rules.specs.Declarers as names
 use Rattle.x_rules.specs.declared.names.Declarer.{Declarer}
 

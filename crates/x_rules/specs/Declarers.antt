@@ -2,9 +2,9 @@
 use Rattle.std.specs.Prelude.{◌≡◌, ◌<◌, ◌⊎◌, ℕ, suc, ◌^◌, length, Bool, false, ◌||◌, List, [], ◌∷◌, Option, Some, None, codes, slice_get, if◌then◌else◌}
 use Rattle.std.specs.Option.{option_or}
 use Rattle.std.specs.Str.{bytes_eq}
-use Rattle.x_item.specs.Tree.{Definition}
-use Rattle.x_item.specs.Spell.{spell}
-use Rattle.x_item.specs.Names.{Declared, declared}
+use Rattle.x_trees.specs.Tree.{Definition}
+use Rattle.x_trees.specs.Spell.{spell}
+use Rattle.x_trees.specs.Names.{Declared, declared}
 use Rattle.x_rules.specs.declared.names.Declarer.{Declarer}
 
 -- Of a definition of 2^64 words nothing is promised: none fits into memory.

@@ -2,9 +2,9 @@
 use Rattle.std.specs.Prelude.{ℕ, suc, ℤ, nat_lt, Bool, true, false, not, ◌&&◌, ◌||◌, List, [], ◌∷◌, ◌++◌, map, Option, Some, None, if◌then◌else◌}
 use Rattle.std.specs.List.{flat_map, list_any}
 use Rattle.std.specs.Ordering.{int_eq}
-use Rattle.x_item.specs.Tree.{Definition, Value, Number, Named}
-use Rattle.x_item.specs.Names.{Declared, declared}
-use Rattle.x_item.specs.Mentions.{Mention, mentioned}
+use Rattle.x_trees.specs.Tree.{Definition, Value, Number, Named}
+use Rattle.x_trees.specs.Names.{Declared, declared}
+use Rattle.x_trees.specs.Mentions.{Mention, mentioned}
 use Rattle.x_rules.specs.Views as views
 use Rattle.x_rules.specs.Views.{View, Class, NoClass, names_of}
 use Rattle.x_rules.specs.Bodies.{EnumeratorAt, NameAt, ValueAt, NumberAt, Members, bodies, enumerators, cases_of, fields_of, members}

@@ -1,8 +1,8 @@
 -- Where a walk over a program stands.
 use Rattle.std.specs.Prelude.{ℕ, List, [], ◌∷◌, length, map}
-use Rattle.x_item.specs.Tree as tree
-use Rattle.x_item.specs.Spell.{spell_procedure, spell_procedures, spell_versions}
-use Rattle.x_item.specs.Collected.{Covers}
+use Rattle.x_trees.specs.Tree as tree
+use Rattle.x_trees.specs.Spell.{spell_procedure, spell_procedures, spell_versions}
+use Rattle.x_trees.specs.Collected.{Covers}
 use Rattle.x_rules.specs.Bodies as bodies
 use Rattle.x_rules.specs.BodyWalks.{view_walk}
 use Rattle.x_rules.specs.Tables.{view_name_at, view_number_at, view_members}

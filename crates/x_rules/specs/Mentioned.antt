@@ -1,12 +1,12 @@
 -- What may be wrong with the use of a name.
 use Rattle.std.specs.Prelude.{ℕ, Bool, true, false, not, List, Option, Some, None, if◌then◌else◌}
-use Rattle.x_item.specs.Mentions.{Mention}
-use Rattle.x_item.specs.declared.trees.declaration.Tag.{Tag}
-use Rattle.x_item.specs.declared.trees.declaration.Tag.TheVariants as tags
-use Rattle.x_item.specs.declared.names.declared_name.NameKind.{NameKind}
-use Rattle.x_item.specs.declared.names.declared_name.NameKind.TheVariants as kinds
-use Rattle.x_item.specs.declared.names.mention.Use.{Use}
-use Rattle.x_item.specs.declared.names.mention.Use.TheVariants as uses
+use Rattle.x_trees.specs.Mentions.{Mention}
+use Rattle.x_trees.specs.declared.trees.declaration.Tag.{Tag}
+use Rattle.x_trees.specs.declared.trees.declaration.Tag.TheVariants as tags
+use Rattle.x_trees.specs.declared.names.declared_name.NameKind.{NameKind}
+use Rattle.x_trees.specs.declared.names.declared_name.NameKind.TheVariants as kinds
+use Rattle.x_trees.specs.declared.names.mention.Use.{Use}
+use Rattle.x_trees.specs.declared.names.mention.Use.TheVariants as uses
 use Rattle.x_rules.specs.Views as views
 use Rattle.x_rules.specs.Views.{View}
 use Rattle.x_rules.specs.Bodies.{EnumeratorAt}

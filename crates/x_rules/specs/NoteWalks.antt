@@ -1,10 +1,10 @@
 -- What a walk over a definition has noted.
 use Rattle.std.specs.Prelude.{◌≡◌, ℕ, ◌^◌, ◌<◌, List, [], length, map}
-use Rattle.x_item.specs.Tree as tree
-use Rattle.x_item.specs.Gloss as gloss
-use Rattle.x_item.specs.Gloss.{Gloss, Role}
-use Rattle.x_item.specs.Spell.{spell}
-use Rattle.x_item.specs.Collected.{Walked, Covers, CoversAll, CoversOn}
+use Rattle.x_trees.specs.Tree as tree
+use Rattle.x_trees.specs.Gloss as gloss
+use Rattle.x_trees.specs.Gloss.{Gloss, Role}
+use Rattle.x_trees.specs.Spell.{spell}
+use Rattle.x_trees.specs.Collected.{Walked, Covers, CoversAll, CoversOn}
 use Rattle.x_rules.specs.Notes.{NoteAt, noted_at, noted, view_note_at}
 use Rattle.x_rules.specs.declared.outline.note.ValueRole.{ValueRole}
 use Rattle.x_rules.specs.declared.outline.note.ValueRole.TheVariants as roles

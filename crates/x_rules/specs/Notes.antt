@@ -1,9 +1,9 @@
 -- What single words are to the rules, read off the roles of a definition's words.
 use Rattle.std.specs.Prelude.{ℕ, nat_lt, Bool, List, [], ◌∷◌, ◌++◌, Option, Some, None, if◌then◌else◌}
-use Rattle.x_item.specs.Tree as tree
-use Rattle.x_item.specs.View.{view_value, view_declaration}
-use Rattle.x_item.specs.Gloss as gloss
-use Rattle.x_item.specs.Gloss.{Role, told_of}
+use Rattle.x_trees.specs.Tree as tree
+use Rattle.x_trees.specs.View.{view_value, view_declaration}
+use Rattle.x_trees.specs.Gloss as gloss
+use Rattle.x_trees.specs.Gloss.{Role, told_of}
 use Rattle.x_rules.specs.declared.outline.note.ValueRole.{ValueRole}
 use Rattle.x_rules.specs.declared.outline.note.ValueRole.TheVariants as roles
 use Rattle.x_rules.specs.declared.outline.note.Note as rust

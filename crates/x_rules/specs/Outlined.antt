@@ -1,11 +1,11 @@
 -- What is known of a definition before its rules are tried, and what is found of it then.
 use Rattle.std.specs.Prelude.{◌≡◌, ℕ, List, map}
-use Rattle.x_item.specs.Tree as tree
-use Rattle.x_item.specs.View.{view_definition}
-use Rattle.x_item.specs.Named.{view_name}
-use Rattle.x_item.specs.Collected.{view_mention}
-use Rattle.x_item.specs.Names.{declared}
-use Rattle.x_item.specs.Mentions.{mentioned}
+use Rattle.x_trees.specs.Tree as tree
+use Rattle.x_trees.specs.View.{view_definition}
+use Rattle.x_trees.specs.Named.{view_name}
+use Rattle.x_trees.specs.Collected.{view_mention}
+use Rattle.x_trees.specs.Names.{declared}
+use Rattle.x_trees.specs.Mentions.{mentioned}
 use Rattle.x_rules.specs.Views.{View, names_of}
 use Rattle.x_rules.specs.Bodies.{bodies, enumerators}
 use Rattle.x_rules.specs.BodyWalks.{view_body_at, AreFilled}

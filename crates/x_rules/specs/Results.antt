@@ -2,11 +2,11 @@
 use Rattle.std.specs.Prelude.{◌≡◌, ℕ, suc, nat_eq, nat_lt, false, List, [], ◌∷◌, map, Option, Some, None, ℤ, pos, option_map, option_and_then, slice_get, codes, if◌then◌else◌}
 use Rattle.std.specs.Option.{unwrap_or}
 use Rattle.std.specs.Str.{bytes_eq}
-use Rattle.x_item.specs.Tree as tree
-use Rattle.x_item.specs.Tree.{Definition}
-use Rattle.x_item.specs.Names.{Declared, declared}
-use Rattle.x_item.specs.declared.names.declared_name.NameKind.{NameKind}
-use Rattle.x_item.specs.declared.names.declared_name.NameKind.TheVariants as kinds
+use Rattle.x_trees.specs.Tree as tree
+use Rattle.x_trees.specs.Tree.{Definition}
+use Rattle.x_trees.specs.Names.{Declared, declared}
+use Rattle.x_trees.specs.declared.names.declared_name.NameKind.{NameKind}
+use Rattle.x_trees.specs.declared.names.declared_name.NameKind.TheVariants as kinds
 use Rattle.x_rules.specs.Views.{View, Undeclared, Earlier, Own, Later, Meaning, Constant, OfType, Program, Bad, Class, names_of, seen}
 use Rattle.x_rules.specs.Bodies.{BodyAt, bodies, enumerators}
 use Rattle.x_rules.specs.Constants.{Known, knowns, number_named, number_at}

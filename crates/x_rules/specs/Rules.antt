@@ -3,13 +3,13 @@
 -- is none.
 use Rattle.std.specs.Prelude.{◌≡◌, ◌<◌, ◌≤◌, ◌⊎◌, ℕ, ◌+◌, Bool, true, false, nat_lt, List, [], ◌∷◌, ◌++◌, length, Option, Some, None, ℤ, pos, slice_get}
 use Rattle.std.specs.List.{IsAmong}
-use Rattle.x_item.specs.Tree as tree
-use Rattle.x_item.specs.Tree.{Definition, Declaration, Value}
-use Rattle.x_item.specs.Gloss as gloss
-use Rattle.x_item.specs.Gloss.{Gloss, Role}
-use Rattle.x_item.specs.Names.{Declared, declared}
-use Rattle.x_item.specs.Mentions.{Mention, mentioned}
-use Rattle.x_item.specs.Spell.{spell_declaration}
+use Rattle.x_trees.specs.Tree as tree
+use Rattle.x_trees.specs.Tree.{Definition, Declaration, Value}
+use Rattle.x_trees.specs.Gloss as gloss
+use Rattle.x_trees.specs.Gloss.{Gloss, Role}
+use Rattle.x_trees.specs.Names.{Declared, declared}
+use Rattle.x_trees.specs.Mentions.{Mention, mentioned}
+use Rattle.x_trees.specs.Spell.{spell_declaration}
 use Rattle.x_numbers.specs.Numbers.{in_range, value, is_word_number, is_enum_number, number_spelled}
 use Rattle.x_rules.specs.Views as views
 use Rattle.x_rules.specs.Views.{View, Class, NoClass, Signed, Unsigned, Boolean, Enumeration}

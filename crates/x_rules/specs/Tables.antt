@@ -6,13 +6,13 @@ use Rattle.std.specs.Cow.{cow_slice_items}
 use Rattle.std.specs.Map.{lookup}
 use Rattle.std.specs.Option.{option_map_or, option_or}
 use Rattle.std.specs.Str.{bytes_eq}
-use Rattle.x_item.specs.Tree as tree
-use Rattle.x_item.specs.View.{view_value}
-use Rattle.x_item.specs.declared.trees.value.Value.{Value}
-use Rattle.x_item.specs.declared.names.declared_name.DeclaredName.{DeclaredName}
-use Rattle.x_item.specs.declared.names.mention.Mention.{Mention}
-use Rattle.x_item.specs.declared.names.mention.Use.{Use}
-use Rattle.x_item.specs.declared.names.mention.Use.TheVariants as uses
+use Rattle.x_trees.specs.Tree as tree
+use Rattle.x_trees.specs.View.{view_value}
+use Rattle.x_trees.specs.declared.trees.value.Value.{Value}
+use Rattle.x_trees.specs.declared.names.declared_name.DeclaredName.{DeclaredName}
+use Rattle.x_trees.specs.declared.names.mention.Mention.{Mention}
+use Rattle.x_trees.specs.declared.names.mention.Use.{Use}
+use Rattle.x_trees.specs.declared.names.mention.Use.TheVariants as uses
 use Rattle.x_rules.specs.Views as views
 use Rattle.x_rules.specs.Bodies as bodies
 use Rattle.x_rules.specs.Constants.{Known}

@@ -2,13 +2,13 @@
 use Rattle.std.specs.Prelude.{ℕ, suc, max, List, [], ◌∷◌, ◌++◌, map, Option, Some, None, ℤ, option_map, option_and_then, if◌then◌else◌}
 use Rattle.std.specs.Option.{option_map_or}
 use lib.Signed.{lt_z}
-use Rattle.x_item.specs.Tree as tree
-use Rattle.x_item.specs.Gloss.{use_by}
-use Rattle.x_item.specs.declared.trees.declaration.Basic.{Basic}
-use Rattle.x_item.specs.declared.trees.declaration.Basic.TheVariants as basics
-use Rattle.x_item.specs.declared.trees.declaration.Tag.{Tag}
-use Rattle.x_item.specs.declared.names.mention.Use.{Use}
-use Rattle.x_item.specs.declared.names.mention.Use.TheVariants as uses
+use Rattle.x_trees.specs.Tree as tree
+use Rattle.x_trees.specs.Gloss.{use_by}
+use Rattle.x_trees.specs.declared.trees.declaration.Basic.{Basic}
+use Rattle.x_trees.specs.declared.trees.declaration.Basic.TheVariants as basics
+use Rattle.x_trees.specs.declared.trees.declaration.Tag.{Tag}
+use Rattle.x_trees.specs.declared.names.mention.Use.{Use}
+use Rattle.x_trees.specs.declared.names.mention.Use.TheVariants as uses
 use Rattle.x_rules.specs.Views as views
 use Rattle.x_rules.specs.Views.{View, Class, NoClass, Signed, Unsigned, Boolean, Enumeration}
 use Rattle.x_numbers.specs.Numbers.{is_enum_number}

@@ -1,10 +1,10 @@
 -- What an item sees of a name: who declares it first, as what, and what it means.
 use Rattle.std.specs.Prelude.{ℕ, Bool, List, [], ◌∷◌, ◌++◌, map, ℤ, if◌then◌else◌}
 use Rattle.std.specs.Str.{bytes_eq}
-use Rattle.x_item.specs.Tree.{Definition}
-use Rattle.x_item.specs.Names.{declared}
-use Rattle.x_item.specs.Mentions.{mentioned}
-use Rattle.x_item.specs.declared.names.declared_name.NameKind.{NameKind}
+use Rattle.x_trees.specs.Tree.{Definition}
+use Rattle.x_trees.specs.Names.{declared}
+use Rattle.x_trees.specs.Mentions.{mentioned}
+use Rattle.x_trees.specs.declared.names.declared_name.NameKind.{NameKind}
 
 -- what a type is as the discriminant of a union; an enum's numbers ascend, and each stands once
 pub data Class : Type 0 where

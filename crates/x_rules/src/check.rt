@@ -5,7 +5,7 @@ ghost use Rattle.x_text.specs.Counts.{raised};
 ghost use Rattle.std.specs.Cmp.{IsEquivalence, IsTotalOrder};
 ghost use Rattle.std.specs.Ordering.{eq_by_cmp};
 ghost use Rattle.std.specs.List.{IsAmong};
-ghost use Rattle.x_item.specs.View.{view_definition};
+ghost use Rattle.x_trees.specs.View.{view_definition};
 ghost use Rattle.x_rules.specs.Declarers.{IsShort};
 ghost use Rattle.x_rules.specs.Results.{IsOutcome, meanings_by};
 ghost use Rattle.x_rules.specs.Rules.{Ascends, AreFaults};
@@ -31,7 +31,7 @@ use crate::rules::words::{add_past_last, add_words};
 use crate::views::View;
 use smallvec::SmallVec;
 use std::alloc::Global;
-use x_item::Definition;
+use x_trees::Definition;
 use x_text::{Meter, NoMemory};
 
 /// The laws of an order, as the prover has them of any type.
@@ -150,7 +150,7 @@ fn outcome(alloc: Global, outline: &Outline, views: &[View]) -> Result<Checked, 
 }
 
 /// Checks the definition of an item by the rules beyond its spelling (RFC 4506, section 6.4). There is one view for each name that it
-/// declares, and then one for each that it uses, in the orders of [`x_item::declares`] and [`x_item::mentions`]. Counts one checked
+/// declares, and then one for each that it uses, in the orders of [`x_trees::declares`] and [`x_trees::mentions`]. Counts one checked
 /// item. It takes time in proportion to the definition, but for sorting faults and the numbers of an enum.
 ///
 /// # Errors

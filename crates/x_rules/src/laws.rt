@@ -1,7 +1,7 @@
 //! Laws of names, rules and results.
 
 ghost use Rattle.std.specs.Prelude.{◌≡◌, ℕ, List, Option};
-ghost use Rattle.x_item.specs.Tree.{Definition};
+ghost use Rattle.x_trees.specs.Tree.{Definition};
 ghost use Rattle.x_rules.specs.Declarers.{FirstIs};
 ghost use Rattle.x_rules.specs.Views.{View};
 ghost use Rattle.x_rules.specs.Rules.{AreFaults};

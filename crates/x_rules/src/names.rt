@@ -2,19 +2,19 @@
 ghost use Rattle.std.specs.Prelude.{◌≡◌, ℕ, List, map, IfOk, OnOk, Some, None, if◌then◌else◌};
 ghost use Rattle.std.specs.Cow.{cow_slice_items};
 ghost use Rattle.std.specs.Str.{bytes_eq};
-ghost use Rattle.x_item.specs.View.{view_definition};
-ghost use Rattle.x_item.specs.Names.{declared};
+ghost use Rattle.x_trees.specs.View.{view_definition};
+ghost use Rattle.x_trees.specs.Names.{declared};
 ghost use Rattle.x_rules.specs.Declarers.{AreShort, IsShort, is_beforehand, FirstIs, first_from};
 ghost use Rattle.std.specs.Option.{option_or};
 ghost use Rattle.x_rules.specs.Declarers.{place_of_name};
 ghost use Rattle.x_rules.specs.DeclarerTable.{entry_in, first_in};
-ghost use Rattle.x_item.specs.View.{tree_at};
+ghost use Rattle.x_trees.specs.View.{tree_at};
 
 use indexmap::IndexMap;
 use std::alloc::Global;
 use std::borrow::CowSlice;
 use std::marker::Model;
-use x_item::{DeclaredName, Definition, NameKind, declares_into};
+use x_trees::{DeclaredName, Definition, NameKind, declares_into};
 use x_text::NoMemory;
 
 /// Where a name is declared, and as what.

@@ -1,7 +1,7 @@
 //! What stands in a definition, by its words.
 
 ghost use Rattle.std.specs.Prelude.{◌≡◌, IfOk};
-ghost use Rattle.x_item.specs.View.{view_definition};
+ghost use Rattle.x_trees.specs.View.{view_definition};
 ghost use Rattle.x_rules.specs.Declarers.{IsShort};
 ghost use Rattle.x_rules.specs.Outlined.{IsOutline};
 
@@ -16,7 +16,7 @@ use note::NoteAt;
 use notes::notes_into;
 use parts::BodyAt;
 use std::alloc::Global;
-use x_item::{DeclaredName, Definition, Mention, declares_into, mentions_into};
+use x_trees::{DeclaredName, Definition, Mention, declares_into, mentions_into};
 use x_text::NoMemory;
 
 /// The names that stand in a definition, and its bodies: what is found of it once, both for its views and for its check.
@@ -79,14 +79,14 @@ impl<'d> Outline<'d> {
         })
     }
 
-    /// The names that the definition declares, in the order of [`x_item::declares`].
+    /// The names that the definition declares, in the order of [`x_trees::declares`].
     pub fn declared(&self) -> &[DeclaredName<'d>]
         ensures { result.now ≡ self.now.declared.items }
     {
         &self.declared
     }
 
-    /// The names that the definition uses, in the order of [`x_item::mentions`].
+    /// The names that the definition uses, in the order of [`x_trees::mentions`].
     pub fn mentioned(&self) -> &[Mention<'d>]
         ensures { result.now ≡ self.now.mentioned.items }
     {

@@ -3,7 +3,7 @@ use Rattle.std.proofs.Common.{◌≡◌, ℤ, Bool, true, false, cond, is_some, 
 use Rattle.std.specs.Borrow.{Bor}
 use Rattle.std.specs.Map.{lookup}
 use Rattle.std.specs.Option.{option_copied}
-use Rattle.x_item.specs.Tree.{Enumerator}
+use Rattle.x_trees.specs.Tree.{Enumerator}
 use Rattle.x_numbers.specs.Numbers.{next_number}
 use Rattle.x_numbers.proofs.Lookups.{none_is}
 use Rattle.x_schema.specs.SchemaOf.{Numbers, with_first, number_given, with_number, with_enumerators}

@@ -2,7 +2,7 @@
 use Rattle.std.proofs.Common.{◌≡◌, ℕ, ◌-◌, ◌<◌, ◌^◌, arith, nat_lt, nat_eq, Bool, true, false, cond, IsTrue, is_some, length, get_or, ℤ, pos, negsuc, List, [], ◌∷◌, ◌++◌, Option, None, Some, option_and_then, refl, sym, ap, subst, ◌∙◌, append_assoc, append-nil}
 use Rattle.std.proofs.lemmas.Bool.Decides.{nat_tests}
 use Rattle.std.specs.Map.{lookup}
-use Rattle.x_item.specs.Tree as tree
+use Rattle.x_trees.specs.Tree as tree
 use Rattle.x_schema.specs.Choices.{Choice, or_default}
 use Rattle.x_numbers.specs.Numbers.{next_number}
 use Rattle.x_schema.specs.Schema.{Schema, form_at, name_at}

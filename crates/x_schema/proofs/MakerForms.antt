@@ -5,13 +5,13 @@ use Rattle.std.specs.declared.vec.Vec.{Vec}
 use Rattle.std.specs.Map.{lookup}
 use Rattle.std.specs.Option.{option_map_or}
 use Rattle.std.specs.Str.{bytes_eq}
-use Rattle.x_item.specs.Tree as tree
-use Rattle.x_item.specs.declared.trees.declaration.Basic.{Basic}
-use Rattle.x_item.specs.declared.trees.declaration.Basic.TheVariants as basics
-use Rattle.x_item.specs.declared.names.mention.Use.TheVariants as uses
+use Rattle.x_trees.specs.Tree as tree
+use Rattle.x_trees.specs.declared.trees.declaration.Basic.{Basic}
+use Rattle.x_trees.specs.declared.trees.declaration.Basic.TheVariants as basics
+use Rattle.x_trees.specs.declared.names.mention.Use.TheVariants as uses
 use Rattle.x_schema.specs.Schema.{Schema, form_at, name_at, target_at}
 use Rattle.x_schema.specs.SchemaOf.{Known, Types, Numbers, AreFields, IsArmOf, IsBody, IsDeclared, IsType, as_typedef, limit_in, size_in, basic_form, opaque_form, place_in, place_named, typedefs_inside, typedefs_of, typedefs_of_fields}
-use Rattle.x_item.specs.Declarations.{is_void, name_of}
+use Rattle.x_trees.specs.Declarations.{is_void, name_of}
 use Rattle.x_schema.specs.SchemaMaking.{Completes, IsGood, Puts, PutsAll, PutsPlace, PutsLink, AddsName, AddsForm, AddsLink, AddsFound, names_made, place_linked}
 use Rattle.x_schema.specs.Sound.{IsSoundForm, IsSoundField, IsSoundArm, AreSoundFields}
 use Rattle.x_schema.specs.declared.form.Arm.{Arm}

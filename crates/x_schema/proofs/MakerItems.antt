@@ -2,14 +2,14 @@
 use Rattle.std.proofs.Common.{◌≡◌, ℕ, zero, suc, ◌<◌, ◌≤◌, arith, Bool, true, false, cond, is_some, map, length, get_or, List, [], ◌∷◌, ◌++◌, Option, None, Some, refl, sym, ap, subst, ◌∙◌, append_assoc, append-nil}
 use Rattle.std.specs.Map.{lookup}
 use Rattle.std.specs.Str.{bytes_eq}
-use Rattle.x_item.specs.Tree as tree
+use Rattle.x_trees.specs.Tree as tree
 use Rattle.std.specs.Option.{option_or}
 use Rattle.x_schema.specs.Schema.{Schema, IsKeptWithin, form_at, name_at, same_numbers}
 use Rattle.x_schema.specs.ProcedureMaking.{AreKeptWithin, PutsProcedures}
 use Rattle.x_schema.specs.ProceduresOf.{AreProceduresBehind, Numbered, Table, procedures_of}
 use Rattle.x_schema.specs.Schemas.{IsSchemaOf}
 use Rattle.x_schema.specs.SchemaOf.{Known, Types, AreTypesOf, IsBody, IsDeclared, as_typedef, place_named, typedefs, typedefs_inside, typedefs_of, with_first, with_types, numbers_of}
-use Rattle.x_item.specs.Declarations.{is_void, name_of}
+use Rattle.x_trees.specs.Declarations.{is_void, name_of}
 use Rattle.x_schema.specs.SchemaTables.{numbers_held}
 use Rattle.x_schema.specs.SchemaMaking.{Completes, Behind, IsGood, IsStart, PutsAll, PutsPlace, AddsFound, FindsItem, FindsItems, TakesFound, AreLinksWithin, AreWithin, IsWithin, names_made, place_linked, view_known, with_found}
 use Rattle.x_schema.specs.Sound.{IsSound, IsSoundForm}

@@ -2,10 +2,10 @@
 use Rattle.std.proofs.Common.{◌≡◌, ℕ, ◌+◌, ◌<◌, ◌≤◌, arith, nat_lt, Bool, true, false, map, length, get_or, List, [], ◌∷◌, ◌++◌, refl, sym, ap, subst, ◌∙◌, append_assoc, append-nil, length-append}
 use Rattle.std.proofs.lemmas.List.{length-map, get_or_at, get_or_append_left}
 use Rattle.std.proofs.lemmas.Bool.Decides.{nat_tests}
-use Rattle.x_item.specs.Tree as tree
+use Rattle.x_trees.specs.Tree as tree
 use Rattle.x_schema.specs.Schema.{Schema, form_at, name_at, target_at}
 use Rattle.x_schema.specs.SchemaOf.{Known, Types, AreNamed, IsDeclared}
-use Rattle.x_item.specs.Declarations.{name_of}
+use Rattle.x_trees.specs.Declarations.{name_of}
 use Rattle.x_schema.specs.SchemaMaking.{IsFront, Completes, Behind, IsGood, Puts, AddsName, AddsForm, AddsLink, AddsFound, AreLinksWithin, AreWithin, IsWithin, names_made, place_linked}
 use Rattle.x_schema.specs.Sound.{IsSoundForm}
 use Rattle.x_schema.specs.declared.form.Form.{Form}

@@ -6,10 +6,10 @@ use Rattle.std.proofs.lemmas.Bool.Decides.{nat_tests}
 use Rattle.std.specs.Bool.{◌==◌}
 use Rattle.std.specs.List.{flat_map}
 use Rattle.std.specs.Map.{lookup}
-use Rattle.x_item.specs.Tree as tree
-use Rattle.x_item.specs.View.{view_procedure}
-use Rattle.x_item.specs.declared.trees.program.Procedure as its
-use Rattle.x_item.specs.declared.trees.declaration.Basic.{Basic}
+use Rattle.x_trees.specs.Tree as tree
+use Rattle.x_trees.specs.View.{view_procedure}
+use Rattle.x_trees.specs.declared.trees.program.Procedure as its
+use Rattle.x_trees.specs.declared.trees.declaration.Basic.{Basic}
 use Rattle.x_schema.specs.ProcedureMaking.{AreAllFields, AreKeptWithin, Grows, PutsAs, PutsField, PutsFields, PutsProcedures, PutsWithin}
 use Rattle.x_schema.specs.ProceduresOf.{AreArgumentFields, AreArguments, AreProceduresBehind, IsArgument, IsArgumentField, IsPassed, IsPassedType, IsProcedure, Numbered, Table, argument_name, numbers_by, procedures_by, with_procedure}
 use Rattle.x_schema.specs.Schema.{Schema, IsKeptWithin, form_at, name_at, same_numbers}

@@ -1,6 +1,6 @@
 -- What the maker of a schema does for procedures, told of every schema that it may end with, where the types known are those of the schema.
 use Rattle.std.specs.Prelude.{◌≡◌, ℕ, List, [], ◌∷◌, ◌++◌, Option}
-use Rattle.x_item.specs.Tree as tree
+use Rattle.x_trees.specs.Tree as tree
 use Rattle.x_schema.specs.ProceduresOf.{AreArgumentFields, AreProceduresBehind}
 use Rattle.x_schema.specs.ProceduresOf.{IsArgumentField, Numbered, Table}
 use Rattle.x_schema.specs.Schema.{Schema, IsKeptWithin}

@@ -4,7 +4,7 @@ use Rattle.std.specs.Prelude.{◌≡◌, ℕ, ◌+◌, ◌^◌, ◌-◌, List, [
 use Rattle.std.specs.List.{flat_map}
 use Rattle.std.specs.Global.{Global}
 use Rattle.std.specs.declared.vec.Vec.{Vec}
-use Rattle.x_item.specs.Tree as tree
+use Rattle.x_trees.specs.Tree as tree
 use Rattle.x_numbers.specs.Numbers.{number_spelled}
 use Rattle.x_schema.specs.Schema.{Schema, form_at, name_at, same_numbers}
 use Rattle.x_schema.specs.SchemaOf.{basic_form, place_named, unsigned_word, with_first}

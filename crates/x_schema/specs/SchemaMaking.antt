@@ -4,7 +4,7 @@ use Rattle.std.specs.Map.{lookup}
 use Rattle.std.specs.Global.{Global}
 use Rattle.std.specs.Str.{bytes_eq}
 use Rattle.std.specs.declared.vec.Vec.{Vec}
-use Rattle.x_item.specs.Tree as tree
+use Rattle.x_trees.specs.Tree as tree
 use Rattle.std.proofs.Common.{get_or}
 use Rattle.x_schema.specs.Schema.{Schema, form_at, name_at, named_types}
 use Rattle.x_schema.specs.SchemaOf.{Known, Types, AreNamed, AreTypesOf, place_named, with_first}

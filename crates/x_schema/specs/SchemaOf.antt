@@ -6,13 +6,13 @@ use Rattle.std.specs.Option.{option_map_or}
 use Rattle.std.specs.Str.{bytes_eq}
 use Rattle.std.specs.Global.{Global}
 use Rattle.std.specs.declared.vec.Vec.{Vec}
-use Rattle.x_item.specs.Tree as tree
-use Rattle.x_item.specs.Declarations.{name_of}
-use Rattle.x_item.specs.Gloss.{lifted_name, use_by}
-use Rattle.x_item.specs.declared.names.mention.Use.{Use}
-use Rattle.x_item.specs.declared.names.mention.Use.TheVariants as uses
-use Rattle.x_item.specs.declared.trees.declaration.Basic.{Basic}
-use Rattle.x_item.specs.declared.trees.declaration.Basic.TheVariants as basics
+use Rattle.x_trees.specs.Tree as tree
+use Rattle.x_trees.specs.Declarations.{name_of}
+use Rattle.x_trees.specs.Gloss.{lifted_name, use_by}
+use Rattle.x_trees.specs.declared.names.mention.Use.{Use}
+use Rattle.x_trees.specs.declared.names.mention.Use.TheVariants as uses
+use Rattle.x_trees.specs.declared.trees.declaration.Basic.{Basic}
+use Rattle.x_trees.specs.declared.trees.declaration.Basic.TheVariants as basics
 use Rattle.x_numbers.specs.Numbers.{next_number, number_spelled}
 use Rattle.x_schema.specs.Choices.{Choice}
 use Rattle.x_schema.specs.Schema.{Schema, form_at, name_at, target_at}

@@ -1,6 +1,6 @@
 -- What a schema is of a text's items: the types that they declare, and their procedures.
 use Rattle.std.specs.Prelude.{◌≡◌, List, [], Option}
-use Rattle.x_item.specs.Tree as tree
+use Rattle.x_trees.specs.Tree as tree
 use Rattle.x_schema.specs.ProceduresOf.{AreProceduresBehind, procedures_of}
 use Rattle.x_schema.specs.Schema.{Schema, form_at}
 use Rattle.x_schema.specs.SchemaOf.{AreTypesOf, numbers_of}

@@ -3,9 +3,9 @@
 ghost use Rattle.std.specs.Prelude.{◌≡◌, map, pos, Some, option_and_then, IfOk, OnOk};
 ghost use Rattle.std.specs.Map.{lookup};
 ghost use Rattle.std.specs.Str.{bytes_eq};
-ghost use Rattle.x_item.specs.View.{view_value, view_most, view_enumerator, view_type, view_body, view_union};
-ghost use Rattle.x_item.specs.View.{view_declaration, view_declarations, view_arms, view_default, view_definition};
-ghost use Rattle.x_item.specs.View.{tree_at};
+ghost use Rattle.x_trees.specs.View.{view_value, view_most, view_enumerator, view_type, view_body, view_union};
+ghost use Rattle.x_trees.specs.View.{view_declaration, view_declarations, view_arms, view_default, view_definition};
+ghost use Rattle.x_trees.specs.View.{tree_at};
 ghost use Rattle.x_schema.specs.SchemaOf.{beforehand, number_in, number_given, numbers_of, size_in, limit_in};
 ghost use Rattle.x_schema.specs.SchemaOf.{with_number, with_enumerators, with_type};
 ghost use Rattle.x_schema.specs.SchemaOf.{with_body, with_declaration};
@@ -15,7 +15,7 @@ ghost use Rattle.x_schema.specs.SchemaTables.{numbers_held};
 
 use indexmap::IndexMap;
 use std::alloc::Global;
-use x_item::{Arm, Body, DataType, Declaration, Definition, Enumerator, UnionBody, Value};
+use x_trees::{Arm, Body, DataType, Declaration, Definition, Enumerator, UnionBody, Value};
 use x_numbers::{next_number, number_value};
 use x_text::NoMemory;
 

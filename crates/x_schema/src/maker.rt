@@ -1,11 +1,11 @@
 //! How the types of a text are found.
 ghost use Rattle.std.specs.Prelude.{◌≡◌, ◌<◌, ◌∷◌, ◌++◌, ℕ, [], get_or, length, map, pos, Some, IfOk, OnOk, option_and_then};
-ghost use Rattle.x_item.specs.Gloss.{lifted_name, use_by};
-ghost use Rattle.x_item.specs.Tree as tree;
-ghost use Rattle.x_item.specs.View.{view_value, view_enumerator, view_type, view_body, view_union, view_shape};
-ghost use Rattle.x_item.specs.View.{view_length, view_most, view_declaration, view_declarations, view_arms};
-ghost use Rattle.x_item.specs.View.{view_default, view_definition};
-ghost use Rattle.x_item.specs.declared.names.mention.Use.TheVariants as uses;
+ghost use Rattle.x_trees.specs.Gloss.{lifted_name, use_by};
+ghost use Rattle.x_trees.specs.Tree as tree;
+ghost use Rattle.x_trees.specs.View.{view_value, view_enumerator, view_type, view_body, view_union, view_shape};
+ghost use Rattle.x_trees.specs.View.{view_length, view_most, view_declaration, view_declarations, view_arms};
+ghost use Rattle.x_trees.specs.View.{view_default, view_definition};
+ghost use Rattle.x_trees.specs.declared.names.mention.Use.TheVariants as uses;
 ghost use Rattle.x_schema.specs.Schema.{form_at, named_types, name_at};
 ghost use Rattle.x_schema.specs.Schemas.{IsSchemaOf};
 ghost use Rattle.x_schema.specs.SchemaOf.{IsArmOf, IsBody, IsDeclared, IsDefault, IsEnum};
@@ -17,7 +17,7 @@ ghost use Rattle.x_schema.specs.SchemaOf.{word_by, words_from, as_typedef};
 ghost use Rattle.x_schema.specs.SchemaOf.{typedefs, typedefs_inside, typedefs_of};
 ghost use Rattle.x_schema.specs.SchemaOf.{typedefs_of_type, typedefs_of_fields};
 ghost use Rattle.x_schema.specs.SchemaOf.{typedefs_of_arms, typedefs_of_default, signed_word};
-ghost use Rattle.x_item.specs.Declarations.{is_void, name_of};
+ghost use Rattle.x_trees.specs.Declarations.{is_void, name_of};
 ghost use Rattle.x_schema.specs.SchemaOf as schema;
 ghost use Rattle.x_schema.specs.SchemaTables.{numbers_held};
 ghost use Rattle.x_schema.specs.SchemaMaking.{AddsName, AddsForm, AddsLink, AddsFound};
@@ -25,7 +25,7 @@ ghost use Rattle.x_schema.specs.SchemaMaking.{PutsAll, PutsPlace, PutsLink};
 ghost use Rattle.x_schema.specs.SchemaMaking.{AreSoundCases, AreSoundWords, IsSoundDefault, IsStart};
 ghost use Rattle.x_schema.specs.SchemaMaking.{FindsItem, FindsItems, TakesFound, with_found};
 ghost use Rattle.x_schema.specs.SchemaMaking.{names_made, place_linked, words_named, view_known};
-ghost use Rattle.x_item.specs.View.{tree_at};
+ghost use Rattle.x_trees.specs.View.{tree_at};
 ghost use Rattle.std.specs.Map.{lookup};
 ghost use Rattle.std.specs.Str.{bytes_eq};
 ghost use Rattle.x_schema.specs.declared.form.Form.TheVariants as forms;
@@ -36,7 +36,7 @@ use crate::form::{Arm, Arms, Enumerators, Field, Form, FormIndex, LinkIndex, Nam
 use crate::schema::{NamedType, Schema};
 use indexmap::IndexMap;
 use std::alloc::Global;
-use x_item::{
+use x_trees::{
     Arm as ArmTree, Basic, Body, DataType, Declaration, Definition, Enumerator, Length, Shape,
     UnionBody, Value, lifted_name,
 };

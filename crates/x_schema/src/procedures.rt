@@ -1,8 +1,8 @@
 //! How the procedures of a text are found.
 ghost use Rattle.std.specs.Prelude.{◌≡◌, ◌∷◌, [], Some, map, IfOk, OnOk};
 ghost use Rattle.std.specs.List.{flat_map};
-ghost use Rattle.x_item.specs.View.{view_argument, view_definition, view_passed, view_procedure, view_type, view_version};
-ghost use Rattle.x_item.specs.View.{tree_at};
+ghost use Rattle.x_trees.specs.View.{view_argument, view_definition, view_passed, view_procedure, view_type, view_version};
+ghost use Rattle.x_trees.specs.View.{tree_at};
 ghost use Rattle.x_schema.specs.ProceduresOf.{AreArguments, IsArgument, IsArgumentField};
 ghost use Rattle.x_schema.specs.ProceduresOf.{IsPassed, IsPassedType};
 ghost use Rattle.x_schema.specs.ProceduresOf.{IsProcedure, number_of, numbers_by, numbers_from};
@@ -19,7 +19,7 @@ use crate::procedure::{KeptProcedure, ProcedureNumbers};
 use indexmap::IndexMap;
 use itoa::Buffer;
 use std::alloc::Global;
-use x_item::{Argument, DataType, Definition, Procedure, Version};
+use x_trees::{Argument, DataType, Definition, Procedure, Version};
 use x_numbers::number_value;
 use x_text::NoMemory;
 

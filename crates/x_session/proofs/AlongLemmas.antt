@@ -6,9 +6,9 @@ use Rattle.x_text.proofs.LengthLemmas.{total-append}
 use Rattle.x_text.proofs.ListLemmas.{map_append}
 use Rattle.x_text.proofs.SeqLemmas.{drop_front}
 use Rattle.x_lex.specs.Places.{Lexeme}
-use Rattle.x_item.specs.ItemList.{counts, tokens_before, tokens_in, total}
-use Rattle.x_item.specs.Items.{IsCut, joined}
-use Rattle.x_item.specs.declared.cutting.entry.Entry.{Entry}
+use Rattle.x_cutting.specs.ItemList.{counts, tokens_before, tokens_in, total}
+use Rattle.x_cutting.specs.Items.{IsCut, joined}
+use Rattle.x_cutting.specs.declared.cutting.entry.Entry.{Entry}
 use Rattle.x_session.specs.KeptView.{AreAlong, AreEach, AreParsed, IsItem, kept_parse}
 use Rattle.x_session.specs.declared.compile.kept.Kept.{Kept}
 use Rattle.x_session.proofs.ItemLemmas.{take_part, drop_part}

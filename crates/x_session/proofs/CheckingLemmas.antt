@@ -3,14 +3,14 @@ use Rattle.std.proofs.Common.{◌≡◌, ℕ, suc, ◌+◌, ◌<◌, Bool, true,
 use Rattle.std.specs.Cow.{cow_slice_items}
 use Rattle.std.proofs.lemmas.List.{take_all, drop_all, length_push, length-map, length-take-le}
 use Rattle.x_text.specs.Counts.{Counts}
-use Rattle.x_item.specs.Tree.{Definition}
-use Rattle.x_item.specs.Names.{Declared}
-use Rattle.x_item.specs.Named.{view_name}
-use Rattle.x_item.specs.Mentions.{Mention}
-use Rattle.x_item.specs.Collected.{view_mention}
-use Rattle.x_item.specs.declared.names.declared_name.DeclaredName.{DeclaredName}
-use Rattle.x_item.specs.declared.names.mention.Mention as rust
-use Rattle.x_item.specs.declared.names.declared_name.NameKind.TheVariants as kinds
+use Rattle.x_trees.specs.Tree.{Definition}
+use Rattle.x_trees.specs.Names.{Declared}
+use Rattle.x_trees.specs.Named.{view_name}
+use Rattle.x_trees.specs.Mentions.{Mention}
+use Rattle.x_trees.specs.Collected.{view_mention}
+use Rattle.x_trees.specs.declared.names.declared_name.DeclaredName.{DeclaredName}
+use Rattle.x_trees.specs.declared.names.mention.Mention as rust
+use Rattle.x_trees.specs.declared.names.declared_name.NameKind.TheVariants as kinds
 use Rattle.x_rules.specs.Views.{View, Earlier, names_of}
 use Rattle.x_rules.specs.Declarers.{IsShort, AreShort, is_beforehand, FirstIs}
 use Rattle.x_rules.specs.declared.names.Declarer.{Declarer}

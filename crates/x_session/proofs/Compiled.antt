@@ -6,13 +6,13 @@ use Rattle.x_lex.specs.Places.{Lexeme, lexemes_from, lexemes}
 use Rattle.x_lex.specs.Tiling.{AreTokens}
 use Rattle.x_lex.proofs.TilingLemmas.{same_tiles}
 use Rattle.x_item.specs.Parse.{IsParse}
-use Rattle.x_item.specs.Items.{AreItems, joined, IsCut}
+use Rattle.x_cutting.specs.Items.{AreItems, joined, IsCut}
 use Rattle.x_item.proofs.ParseLaws.{one_parse}
-use Rattle.x_item.proofs.CuttingLemmas.{same_cut}
+use Rattle.x_cutting.proofs.CuttingLemmas.{same_cut}
 use Rattle.x_rules.specs.Results.{AreResults}
 use Rattle.x_uses.specs.Occurrences.{UseTable}
 use Rattle.x_rules.proofs.ResultLaws.{one_results}
-use Rattle.x_item.specs.declared.cutting.entry.Entry.{Entry}
+use Rattle.x_cutting.specs.declared.cutting.entry.Entry.{Entry}
 use Rattle.x_session.specs.KeptView.{AreEach, AreParsed, entry_definitions, entry_results, found_result, items_with}
 use Rattle.x_session.specs.KeptView.{kept_definition, kept_found, kept_parse}
 use Rattle.x_session.proofs.ItemLemmas.{take_part, drop_part}

@@ -3,11 +3,11 @@ use Rattle.std.proofs.Common.{◌≡◌, ℕ, zero, suc, ◌+◌, ◌<◌, ◌�
 use Rattle.std.specs.Prelude.{option_and_then, option_map, slice_get}
 use Rattle.std.proofs.lemmas.List.{drop-map, drop-drop, take-append-drop}
 use Rattle.x_text.proofs.ListLemmas.{map_append}
-use Rattle.x_item.specs.ItemList as items
-use Rattle.x_item.specs.ItemList.{ItemChange, LiesAmong, patched}
-use Rattle.x_item.specs.Tree.{Definition}
-use Rattle.x_item.specs.declared.cutting.entry.Entry.{Entry}
-use Rattle.x_item.proofs.PatchedLemmas.{get_drop}
+use Rattle.x_cutting.specs.ItemList as items
+use Rattle.x_cutting.specs.ItemList.{ItemChange, LiesAmong, patched}
+use Rattle.x_trees.specs.Tree.{Definition}
+use Rattle.x_cutting.specs.declared.cutting.entry.Entry.{Entry}
+use Rattle.x_text.proofs.ListLemmas.{get_drop}
 use Rattle.x_uses.specs.declared.uses.Place.{Place}
 use Rattle.x_uses.proofs.Numbering.{spliced_fresh, spliced_kept}
 use Rattle.x_session.specs.Counting.{entry_faults, own_faults}

@@ -4,12 +4,12 @@ use Rattle.x_text.specs.Streams.{Stream}
 use Rattle.std.specs.Borrow.{Bor}
 use Rattle.std.specs.Prelude.{slice_get, option_and_then}
 use Rattle.std.specs.Option.{is_some}
-use Rattle.x_item.specs.declared.trees.definition.Definition as rust
-use Rattle.x_item.specs.View.{tree_at}
+use Rattle.x_trees.specs.declared.trees.definition.Definition as rust
+use Rattle.x_trees.specs.View.{tree_at}
 use Rattle.std.specs.List.{flat_map}
 use Rattle.x_text.specs.Writing.{Inked, Adds}
 use Rattle.x_lex.specs.declared.kind.Kind.{Kind}
-use Rattle.x_item.specs.Tree.{Definition}
+use Rattle.x_trees.specs.Tree.{Definition}
 use Rattle.x_session.specs.Compile.{Item, IsCompilation, definitions_of, definition_at}
 use Rattle.x_session.specs.Definitions.{numbered}
 use Rattle.x_session.specs.Answers.{definition_line}

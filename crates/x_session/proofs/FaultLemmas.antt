@@ -3,9 +3,9 @@ use Rattle.std.proofs.Common.{◌≡◌, ℕ, zero, suc, ◌+◌, ◌-◌, ◌<�
 use Rattle.std.specs.Prelude.{◌&&◌, All}
 use Rattle.std.proofs.lemmas.Bool.Decides.{nat_tests}
 use Rattle.x_lex.specs.Places.{Lexeme}
-use Rattle.x_item.specs.Words.{is_significant}
+use Rattle.x_trees.specs.Words.{is_significant}
 use Rattle.x_item.specs.Parse.{Parse, Nothing, Def, Fault}
-use Rattle.x_item.specs.declared.cutting.entry.Entry.{Entry}
+use Rattle.x_cutting.specs.declared.cutting.entry.Entry.{Entry}
 use Rattle.x_rules.specs.Rules.{Ascends, IsBefore}
 use Rattle.x_rules.specs.declared.fault.WordFault.{WordFault}
 use Rattle.x_session.specs.Compile.{at_token, faults_at, faults_from, item_faults, placed, start_of, token_of_word}

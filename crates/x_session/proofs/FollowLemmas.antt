@@ -12,12 +12,12 @@ use Rattle.x_lex.specs.Tiling.{AreTokens, end_of, span}
 use Rattle.x_lex.specs.TokenList.{TokenPatch, LiesAmong, patched}
 use Rattle.x_lex.proofs.RelexRun.{IsEdit, drop_new, new_length}
 use Rattle.x_lex.proofs.SpanLemmas.{lexemes_drop, length-lexemes_from, span-drop, span_tiles}
-use Rattle.x_item.specs.ItemList.{ItemChange, counts, tokens_before, total}
-use Rattle.x_item.specs.ItemList as items
-use Rattle.x_item.specs.Recut.{IsItemPatch}
-use Rattle.x_item.proofs.CountLemmas.{counts-splice}
-use Rattle.x_item.specs.Items.{IsCut}
-use Rattle.x_item.specs.declared.cutting.entry.Entry.{Entry}
+use Rattle.x_cutting.specs.ItemList.{ItemChange, counts, tokens_before, total}
+use Rattle.x_cutting.specs.ItemList as items
+use Rattle.x_cutting.specs.Recut.{IsItemPatch}
+use Rattle.x_cutting.proofs.CountLemmas.{counts-splice}
+use Rattle.x_cutting.specs.Items.{IsCut}
+use Rattle.x_cutting.specs.declared.cutting.entry.Entry.{Entry}
 use Rattle.x_session.specs.Following.{AreFollowed}
 use Rattle.x_session.specs.KeptView.{AreAlong, AreParsed}
 use Rattle.x_session.specs.declared.compile.kept.Kept.{Kept}

@@ -6,10 +6,10 @@ use Rattle.std.proofs.lemmas.List.Elements.{All-nil, All-push}
 use Rattle.std.proofs.lemmas.Option.{same_Some}
 use Rattle.x_text.proofs.LengthLemmas.{before_le, before_read}
 use Rattle.x_lex.specs.Places.{Lexeme}
-use Rattle.x_item.specs.ItemList.{counts, tokens_before, tokens_in, total}
-use Rattle.x_item.specs.ItemList as items
+use Rattle.x_cutting.specs.ItemList.{counts, tokens_before, tokens_in, total}
+use Rattle.x_cutting.specs.ItemList as items
 use Rattle.x_item.specs.Parse.{IsParse}
-use Rattle.x_item.specs.declared.cutting.entry.Entry.{Entry}
+use Rattle.x_cutting.specs.declared.cutting.entry.Entry.{Entry}
 use Rattle.x_session.specs.Generated.{lines_of}
 use Rattle.x_session.specs.KeptView.{AreAlong, IsItem, kept_found, kept_lines, kept_parse}
 use Rattle.x_session.specs.declared.compile.kept.Kept.{Kept}

@@ -8,17 +8,17 @@ use Rattle.std.proofs.Math.Seq.{take-append_seam, drop-append_seam}
 use Rattle.x_text.specs.Counts.{Counts, raised}
 use Rattle.x_lex.specs.Places.{Lexeme}
 use Rattle.x_text.specs.declared.source.TheConstants.{MAX_TEXT}
-use Rattle.x_item.specs.Tree.{Definition}
-use Rattle.x_item.specs.Spell.{spell}
-use Rattle.x_item.specs.Words.{word_of, words_of, is_significant}
+use Rattle.x_trees.specs.Tree.{Definition}
+use Rattle.x_trees.specs.Spell.{spell}
+use Rattle.x_trees.specs.Words.{word_of, words_of, is_significant}
 use Rattle.x_item.specs.Parse.{Parse, Nothing, Def, Fault, IsParse}
-use Rattle.x_item.specs.Items.{joined, AreWhole, IsNext}
+use Rattle.x_cutting.specs.Items.{joined, AreWhole, IsNext}
 use Rattle.x_item.specs.declared.parsing.fault_code.FaultCode.{FaultCode}
-use Rattle.x_item.proofs.ItemListLemmas.{joined_push, whole_push}
+use Rattle.x_cutting.proofs.ItemListLemmas.{joined_push, whole_push}
 use Rattle.x_rules.specs.Declarers.{AreShort}
 use Rattle.x_session.specs.Compile.{parsed_definition}
-use Rattle.x_item.specs.ItemList.{AreOfText, counts, total}
-use Rattle.x_item.specs.declared.cutting.entry.Entry.{Entry}
+use Rattle.x_cutting.specs.ItemList.{AreOfText, counts, total}
+use Rattle.x_cutting.specs.declared.cutting.entry.Entry.{Entry}
 use Rattle.x_session.specs.KeptView.{IsItem, kept_parse, kept_definition, entry_definitions, AreEach, AreParsed}
 use Rattle.x_session.specs.declared.compile.kept.Kept.{Kept}
 

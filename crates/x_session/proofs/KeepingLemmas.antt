@@ -5,9 +5,9 @@ use Rattle.std.specs.Prelude.{Some, slice_get, slice_set}
 use Rattle.std.proofs.lemmas.Option.{same_Some}
 use Rattle.std.proofs.lemmas.List.{length_push, length-append, length-take-le, take-append-drop}
 use Rattle.x_text.proofs.ListLemmas.{drop_none, some_at}
-use Rattle.x_item.specs.ItemList.{counts}
-use Rattle.x_item.specs.ItemList as items
-use Rattle.x_item.specs.declared.cutting.entry.Entry.{Entry}
+use Rattle.x_cutting.specs.ItemList.{counts}
+use Rattle.x_cutting.specs.ItemList as items
+use Rattle.x_cutting.specs.declared.cutting.entry.Entry.{Entry}
 use Rattle.x_session.specs.Checking.{AreKnown, IsKnownAt}
 use Rattle.x_session.specs.KeptView.{AreWith, IsWith, IsWithAt, found_pieces, found_result, kept_definition, kept_found, kept_lines, kept_parse, renewed_pieces}
 use Rattle.x_session.specs.declared.compile.kept.Found.{Found}

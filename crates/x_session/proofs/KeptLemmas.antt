@@ -9,11 +9,11 @@ use Rattle.x_lex.specs.declared.kind.Kind.{Kind}
 use Rattle.x_lex.specs.Places.{Lexeme, lexemes}
 use Rattle.x_lex.specs.Tiling.{AreTokens}
 use Rattle.x_text.proofs.ListLemmas.{map_append}
-use Rattle.x_item.specs.ItemList.{AreOfText, ItemChange, counts}
-use Rattle.x_item.specs.ItemList as items
-use Rattle.x_item.specs.Tree.{Definition}
+use Rattle.x_cutting.specs.ItemList.{AreOfText, ItemChange, counts}
+use Rattle.x_cutting.specs.ItemList as items
+use Rattle.x_trees.specs.Tree.{Definition}
 use Rattle.x_item.specs.Parse.{Parse, Nothing, Def, Fault, IsParse}
-use Rattle.x_item.specs.declared.cutting.entry.Entry.{Entry}
+use Rattle.x_cutting.specs.declared.cutting.entry.Entry.{Entry}
 use Rattle.x_rules.specs.Results.{Outcome, AreResultsFrom, AreResults, IsResult, result_at}
 use Rattle.x_rules.specs.Declarers.{AreShort}
 use Rattle.x_rules.specs.Rules.{Ascends}

@@ -5,8 +5,8 @@ use Rattle.std.specs.List.{filter, flat_map}
 use Rattle.std.proofs.lemmas.List.{length-map}
 use Rattle.x_lex.specs.declared.kind.Kind.{Kind}
 use Rattle.x_lex.specs.Places.{Lexeme}
-use Rattle.x_item.specs.Spell.{Begins}
-use Rattle.x_item.specs.Words.{Word, is_significant, word_by, word_of, words_of}
+use Rattle.x_trees.specs.Spell.{Begins}
+use Rattle.x_trees.specs.Words.{Word, is_significant, word_by, word_of, words_of}
 use Rattle.x_item.specs.Parse.{Parse, Nothing, Def, Fault, IsParse, IsStuck, IsLastWord, IsUnfinished, code_of}
 use Rattle.x_item.specs.declared.parsing.fault_code.FaultCode.{FaultCode}
 use Rattle.x_session.specs.Generated.{is_percent, lines_of}

@@ -10,10 +10,10 @@ use Rattle.x_text.specs.Seqs.{Gapped, distance}
 use Rattle.x_text.specs.declared.source.TheConstants.{MAX_TEXT}
 use Rattle.x_text.proofs.PatchLemmas.{length-spliced}
 use Rattle.x_text.proofs.SeqLemmas.{set_front}
-use Rattle.x_item.specs.ItemList as items
-use Rattle.x_item.specs.ItemList.{AreOfText, ItemChange, counts, patched, tokens_in}
-use Rattle.x_item.specs.declared.cutting.entry.Entry.{Entry}
-use Rattle.x_item.proofs.CountLemmas.{counts-splice}
+use Rattle.x_cutting.specs.ItemList as items
+use Rattle.x_cutting.specs.ItemList.{AreOfText, ItemChange, counts, patched, tokens_in}
+use Rattle.x_cutting.specs.declared.cutting.entry.Entry.{Entry}
+use Rattle.x_cutting.proofs.CountLemmas.{counts-splice}
 use Rattle.x_uses.specs.Staleness.{Ascending}
 use Rattle.x_uses.proofs.Numbering.{get_front, get_rear}
 use Rattle.x_session.specs.Checking.{IsKnownAt}

@@ -7,8 +7,8 @@ use Rattle.std.proofs.lemmas.Bool.{eq-eqb, eqb-true, ne_eqb, true≢false}
 use Rattle.std.proofs.lemmas.Option.{same_Some, slice_get_within}
 use Rattle.std.proofs.lemmas.List.{length-map}
 use Rattle.x_text.proofs.ListLemmas.{drop_one}
-use Rattle.x_item.specs.ItemList as items
-use Rattle.x_item.specs.declared.cutting.entry.Entry.{Entry}
+use Rattle.x_cutting.specs.ItemList as items
+use Rattle.x_cutting.specs.declared.cutting.entry.Entry.{Entry}
 use Rattle.x_rules.specs.declared.fault.WordFault.{WordFault}
 use Rattle.x_gen.specs.Pieces.{Pieces}
 use Rattle.x_session.specs.Checking.{AreRendered, IsKnownAt, IsSound, sound_pieces}

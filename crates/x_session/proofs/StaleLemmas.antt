@@ -14,11 +14,11 @@ use Rattle.x_lex.specs.Places.{lexemes}
 use Rattle.x_lex.specs.TokenList as tokens
 use Rattle.x_lex.specs.TokenList.{IsOfText, TokenPatch}
 use Rattle.x_lex.proofs.SpanLemmas.{length-lexemes_from}
-use Rattle.x_item.specs.ItemList as items
-use Rattle.x_item.specs.ItemList.{AreOfText, ItemChange, LiesAmong, counts, patched}
-use Rattle.x_item.specs.Tree.{Definition}
-use Rattle.x_item.specs.declared.cutting.entry.Entry.{Entry}
-use Rattle.x_item.proofs.PatchedLemmas.{get_drop}
+use Rattle.x_cutting.specs.ItemList as items
+use Rattle.x_cutting.specs.ItemList.{AreOfText, ItemChange, LiesAmong, counts, patched}
+use Rattle.x_trees.specs.Tree.{Definition}
+use Rattle.x_cutting.specs.declared.cutting.entry.Entry.{Entry}
+use Rattle.x_text.proofs.ListLemmas.{get_drop}
 use Rattle.x_rules.specs.Declarers.{AreShort}
 use Rattle.x_rules.specs.Results.{AreResults, AreResultsFrom, Outcome, result_at}
 use Rattle.x_rules.specs.Views.{names_of}

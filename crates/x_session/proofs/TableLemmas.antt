@@ -3,8 +3,8 @@ use Rattle.std.proofs.Common.{◌≡◌, ℕ, List, [], Option, ap, subst, sym, 
 use Rattle.std.specs.Prelude.{All}
 use Rattle.x_lex.specs.declared.kind.Kind.{Kind}
 use Rattle.x_lex.specs.Places.{lexemes}
-use Rattle.x_item.specs.ItemList as items
-use Rattle.x_item.specs.declared.cutting.entry.Entry.{Entry}
+use Rattle.x_cutting.specs.ItemList as items
+use Rattle.x_cutting.specs.declared.cutting.entry.Entry.{Entry}
 use Rattle.x_rules.specs.Declarers.{AreShort}
 use Rattle.x_rules.specs.Results.{AreResults}
 use Rattle.x_uses.specs.Occurrences.{UseTable}

@@ -14,12 +14,12 @@ use Rattle.x_lex.specs.TokenList as tokens
 use Rattle.x_lex.specs.TokenList.{TokenPatch}
 use Rattle.x_lex.proofs.MeetingLemmas as meeting
 use Rattle.x_lex.proofs.TilingLemmas.{same_tiles}
-use Rattle.x_item.specs.ItemList.{ItemChange, counts, tokens_in}
-use Rattle.x_item.specs.Items.{IsCut}
-use Rattle.x_item.specs.Recut.{AreOne, IsItemPatch}
-use Rattle.x_item.specs.declared.cutting.entry.Entry.{Entry}
-use Rattle.x_item.proofs.CuttingLemmas.{same_cut}
-use Rattle.x_item.proofs.RecutLaws.{same_item_patch}
+use Rattle.x_cutting.specs.ItemList.{ItemChange, counts, tokens_in}
+use Rattle.x_cutting.specs.Items.{IsCut}
+use Rattle.x_cutting.specs.Recut.{AreOne, IsItemPatch}
+use Rattle.x_cutting.specs.declared.cutting.entry.Entry.{Entry}
+use Rattle.x_cutting.proofs.CuttingLemmas.{same_cut}
+use Rattle.x_cutting.proofs.RecutLaws.{same_item_patch}
 use Rattle.x_uses.specs.Staleness.{AreStale}
 use Rattle.x_uses.proofs.StaleLists.{one_stale_list}
 use Rattle.x_session.specs.Compile.{definitions_of}

@@ -18,12 +18,12 @@ use Rattle.x_lex.specs.Relex.{IsPatch, old_place}
 use Rattle.x_lex.specs.Tiling.{AreTokens}
 use Rattle.x_lex.specs.TokenList as tokens
 use Rattle.x_lex.specs.TokenList.{IsOfText, TokenPatch}
-use Rattle.x_item.specs.ItemList as items
-use Rattle.x_item.specs.ItemList.{AreOfText, ItemChange, counts, patched, tokens_before, tokens_in}
-use Rattle.x_item.specs.Items.{IsCut}
-use Rattle.x_item.specs.Recut.{EndsBefore, IsAmong, IsBehind, IsItemPatch, IsRecut, IsRejoining, start_of}
-use Rattle.x_item.specs.declared.cutting.entry.Entry.{Entry}
-use Rattle.x_item.proofs.CountLemmas.{counts-splice}
+use Rattle.x_cutting.specs.ItemList as items
+use Rattle.x_cutting.specs.ItemList.{AreOfText, ItemChange, counts, patched, tokens_before, tokens_in}
+use Rattle.x_cutting.specs.Items.{IsCut}
+use Rattle.x_cutting.specs.Recut.{EndsBefore, IsAmong, IsBehind, IsItemPatch, IsRecut, IsRejoining, start_of}
+use Rattle.x_cutting.specs.declared.cutting.entry.Entry.{Entry}
+use Rattle.x_cutting.proofs.CountLemmas.{counts-splice}
 use Rattle.x_rules.specs.Results.{Outcome}
 use Rattle.x_rules.proofs.AmongLemmas.{among_first, among_more}
 use Rattle.x_uses.specs.Editing.{TextEdit, definitions_after}

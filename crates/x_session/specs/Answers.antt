@@ -13,9 +13,9 @@ use Rattle.x_session.specs.declared.script.command.Command.{Command}
 use Rattle.x_session.specs.declared.script.command.Command.TheVariants as commands
 use Rattle.x_session.specs.Compile.{Item, tokens_of, definitions_of, faults_of}
 use Rattle.x_session.specs.Definitions.{numbered}
-use Rattle.x_item.specs.Declarations.{name_of, is_void}
-use Rattle.x_item.specs.Tree.{Body, Enum, Struct, Union, Declaration, Definition}
-use Rattle.x_item.specs.Tree.{Const, Typedef, NewType, Program}
+use Rattle.x_trees.specs.Declarations.{name_of, is_void}
+use Rattle.x_trees.specs.Tree.{Body, Enum, Struct, Union, Declaration, Definition}
+use Rattle.x_trees.specs.Tree.{Const, Typedef, NewType, Program}
 use Rattle.x_session.specs.Generated.{text_of}
 
 -- what a line is answered, whether that refuses it, and the text that it leaves

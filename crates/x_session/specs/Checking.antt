@@ -2,8 +2,8 @@
 use Rattle.std.specs.Prelude.{◌≡◌, ℕ, false, List, [], ◌∷◌, map, Option, None, Some, option_map, slice_get, if◌then◌else◌}
 use Rattle.std.specs.Global.{Box}
 use Rattle.x_text.specs.Counts.{Counts, raised}
-use Rattle.x_item.specs.Tree.{Definition}
-use Rattle.x_item.specs.declared.names.declared_name.NameKind.TheVariants as kinds
+use Rattle.x_trees.specs.Tree.{Definition}
+use Rattle.x_trees.specs.declared.names.declared_name.NameKind.TheVariants as kinds
 use Rattle.x_rules.specs.Views.{View, Earlier}
 use Rattle.x_rules.specs.Declarers.{IsShort, is_beforehand}
 use Rattle.x_rules.specs.Results.{AreResults, Outcome, beforehand_meaning, view_of}

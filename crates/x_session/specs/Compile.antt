@@ -5,10 +5,10 @@ use Rattle.x_text.specs.Text.{line_of, column_of}
 use Rattle.x_lex.specs.declared.kind.Kind.{Kind}
 use Rattle.x_lex.specs.Tiling.{AreTokens}
 use Rattle.x_lex.specs.Places.{Lexeme, lexemes}
-use Rattle.x_item.specs.Words.{is_significant}
-use Rattle.x_item.specs.Tree.{Definition}
+use Rattle.x_trees.specs.Words.{is_significant}
+use Rattle.x_trees.specs.Tree.{Definition}
 use Rattle.x_item.specs.Parse.{Parse, Nothing, Def, Fault, IsParse}
-use Rattle.x_item.specs.Items.{AreItems, joined}
+use Rattle.x_cutting.specs.Items.{AreItems, joined}
 use Rattle.x_rules.specs.Results.{Outcome, AreResults}
 use Rattle.x_rules.specs.declared.fault.WordFault.{WordFault}
 use Rattle.x_session.specs.declared.compile.fault.FaultCode.TheVariants as codes

@@ -3,7 +3,7 @@ use Rattle.std.specs.Prelude.{ℕ, ◌+◌, List, [], ◌∷◌, length, None, O
 use Rattle.std.specs.Global.{Box}
 use Rattle.x_session.specs.Compile.{faults_at, rule_faults}
 use Rattle.x_session.specs.KeptView.{found_result, kept_found, kept_parse}
-use Rattle.x_item.specs.declared.cutting.entry.Entry.{Entry}
+use Rattle.x_cutting.specs.declared.cutting.entry.Entry.{Entry}
 use Rattle.x_session.specs.declared.compile.kept.Found.{Found}
 use Rattle.x_session.specs.declared.compile.kept.Kept.{Kept}
 

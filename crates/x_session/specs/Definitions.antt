@@ -1,6 +1,6 @@
 -- The definitions of a text, with the numbers of their items.
 use Rattle.std.specs.Prelude.{ℕ, suc, List, [], ◌∷◌, Option, Some, None}
-use Rattle.x_item.specs.Tree.{Definition}
+use Rattle.x_trees.specs.Tree.{Definition}
 
 -- the definitions of items of which the first has this number, each with the number of its item
 abbrev pub numbered : ℕ → List (Option Definition) → List (ℕ × Definition)

@@ -1,7 +1,7 @@
 -- A walk over the faults of the items of a text.
 use Rattle.std.specs.Prelude.{◌≡◌, ℕ, ◌+◌, ◌≤◌, List, [], ◌∷◌, ◌++◌, map, All}
 use Rattle.x_text.specs.Text.{line_of, column_of}
-use Rattle.x_item.specs.declared.cutting.entry.Entry.{Entry}
+use Rattle.x_cutting.specs.declared.cutting.entry.Entry.{Entry}
 use Rattle.x_item.specs.Parse as parse
 use Rattle.x_item.specs.Parse.{Parse}
 use Rattle.x_rules.specs.Rules.{Ascends}

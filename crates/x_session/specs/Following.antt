@@ -10,10 +10,10 @@ use Rattle.x_lex.specs.Relex.{IsPatch}
 use Rattle.x_lex.specs.Tiling.{AreTokens, end_of}
 use Rattle.x_lex.specs.TokenList.{TokenList, TokenPatch}
 use Rattle.x_lex.specs.TokenList as tokens
-use Rattle.x_item.specs.ItemList as items
-use Rattle.x_item.specs.ItemList.{AreOfText, ItemChange, counts}
-use Rattle.x_item.specs.Recut.{IsRelexed, IsItemPatch}
-use Rattle.x_item.specs.declared.cutting.entry.Entry.{Entry}
+use Rattle.x_cutting.specs.ItemList as items
+use Rattle.x_cutting.specs.ItemList.{AreOfText, ItemChange, counts}
+use Rattle.x_cutting.specs.Recut.{IsRelexed, IsItemPatch}
+use Rattle.x_cutting.specs.declared.cutting.entry.Entry.{Entry}
 use Rattle.x_rules.specs.Declarers.{AreShort}
 use Rattle.x_rules.specs.Results.{AreResults}
 use Rattle.x_uses.specs.Editing.{TextEdit}

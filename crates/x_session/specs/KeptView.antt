@@ -2,12 +2,12 @@
 use Rattle.std.specs.Prelude.{◌≡◌, ℕ, List, [], ◌∷◌, length, map, take, drop, Option, None, Some, slice_get, slice_set}
 use Rattle.std.specs.Global.{Box}
 use Rattle.x_lex.specs.Places.{Lexeme}
-use Rattle.x_item.specs.Items.{AreItems}
-use Rattle.x_item.specs.Tree as tree
+use Rattle.x_cutting.specs.Items.{AreItems}
+use Rattle.x_trees.specs.Tree as tree
 use Rattle.x_item.specs.Parse.{IsParse}
 use Rattle.x_item.specs.Parse as parse
-use Rattle.x_item.specs.View.{view_definition}
-use Rattle.x_item.specs.declared.cutting.entry.Entry.{Entry}
+use Rattle.x_trees.specs.View.{view_definition}
+use Rattle.x_cutting.specs.declared.cutting.entry.Entry.{Entry}
 use Rattle.x_rules.specs.Results.{Outcome}
 use Rattle.x_rules.specs.declared.fault.WordFault.{WordFault}
 use Rattle.x_gen.specs.Pieces as pieces

@@ -4,7 +4,7 @@ use Rattle.std.specs.Prelude.{Option, None, Some, if◌then◌else◌}
 use Rattle.std.specs.List.{filter}
 use Rattle.x_text.specs.Counts.{raised}
 use Rattle.x_text.specs.Seqs.{distance}
-use Rattle.x_item.specs.ItemList.{ItemChange}
+use Rattle.x_cutting.specs.ItemList.{ItemChange}
 use Rattle.x_uses.specs.declared.uses.Place.{Place}
 
 -- ---- what changes

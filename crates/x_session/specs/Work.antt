@@ -9,11 +9,11 @@ use Rattle.x_lex.specs.Places.{lexemes}
 use Rattle.x_lex.specs.Relex.{IsPatch}
 use Rattle.x_lex.specs.Tiling.{AreTokens}
 use Rattle.x_lex.specs.TokenList.{TokenPatch, patched}
-use Rattle.x_item.specs.ItemList.{ItemChange, counts}
-use Rattle.x_item.specs.Items.{IsCut}
-use Rattle.x_item.specs.Recut.{IsItemPatch}
-use Rattle.x_item.specs.Tree.{Definition}
-use Rattle.x_item.specs.declared.cutting.entry.Entry.{Entry}
+use Rattle.x_cutting.specs.ItemList.{ItemChange, counts}
+use Rattle.x_cutting.specs.Items.{IsCut}
+use Rattle.x_cutting.specs.Recut.{IsItemPatch}
+use Rattle.x_trees.specs.Tree.{Definition}
+use Rattle.x_cutting.specs.declared.cutting.entry.Entry.{Entry}
 use Rattle.x_uses.specs.Editing.{TextEdit, definitions_after}
 use Rattle.x_uses.specs.Staleness.{AreStale}
 use Rattle.x_session.specs.Compile.{Item, IsCompilation, definitions_of}

@@ -5,7 +5,7 @@ ghost use Rattle.std.specs.Prelude.{OnOk, OnErr, IfErr, IsErrOf, take};
 ghost use Rattle.x_text.specs.Edits.{change_of, edited_by, Judges};
 ghost use Rattle.x_text.specs.declared.source.TheConstants.{MAX_TEXT};
 ghost use Rattle.x_lex.specs.Places.{lexeme};
-ghost use Rattle.x_item.specs.View.{tree_at};
+ghost use Rattle.x_trees.specs.View.{tree_at};
 ghost use Rattle.x_session.specs.Session.{Document, Compiles, edited_by_all, TakesAll, StopsAt};
 ghost use Rattle.x_session.specs.Compile.{tokens_of, definitions_of, definition_at, faults_of};
 ghost use Rattle.x_session.specs.Definitions.{numbered};

@@ -74,3 +74,8 @@ before_last (y ∷ ys) (f ∷ front) x h =
     let rest : front ++ x ∷ [] ≡ take (length (front ++ x ∷ [])) ys = cc in
     let more = before_last ys front x rest in
     (ap (λ z. z ∷ front) same ∙ ap (λ l. y ∷ l) more.0, more.1)
+
+pub get_drop : {X : Type 0} (n : ℕ) (xs : List X) (i : ℕ) → slice_get (drop n xs) i ≡ slice_get xs (n + i)
+get_drop zero xs i = let e : i ≡ 0 + i = omega arith in ap (λ n. slice_get xs n) e
+get_drop (suc n) [] i = refl
+get_drop (suc n) (x ∷ xs) i = let e : suc (n + i) ≡ suc n + i = omega arith in get_drop n xs i ∙ ap (λ k. slice_get (x ∷ xs) k) e

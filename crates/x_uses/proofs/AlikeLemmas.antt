@@ -3,9 +3,9 @@ use Rattle.std.specs.Prelude.{option_and_then, nat_lt}
 use Rattle.std.specs.List.{IsAmong}
 use Rattle.std.proofs.Common.{◌≡◌, ◌<◌, ℕ, zero, suc, ◌+◌, Bool, true, false, cond, List, [], ◌∷◌, map, Option, Some, None, refl, sym, ap, subst, ◌∙◌, arith}
 use Rattle.std.proofs.lemmas.Bool.{ltb-true, ltb-false}
-use Rattle.x_item.specs.Tree.{Definition}
-use Rattle.x_item.specs.declared.names.declared_name.NameKind.{NameKind}
-use Rattle.x_item.specs.declared.names.declared_name.NameKind.TheVariants as kinds
+use Rattle.x_trees.specs.Tree.{Definition}
+use Rattle.x_trees.specs.declared.names.declared_name.NameKind.{NameKind}
+use Rattle.x_trees.specs.declared.names.declared_name.NameKind.TheVariants as kinds
 use Rattle.x_rules.specs.Declarers.{is_beforehand, first_declarer}
 use Rattle.x_rules.specs.declared.names.Declarer.{Declarer}
 use Rattle.x_rules.specs.Results.{Outcome, IsOutcome, IsResult, AreResults, AreResultsFrom, result_at, view_of, view_by, meaning_at, beforehand_meaning}

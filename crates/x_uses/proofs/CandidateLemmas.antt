@@ -1,10 +1,10 @@
 -- Which items wait before any is checked.
 use Rattle.std.proofs.Common.{◌≡◌, ◌<◌, ◌≤◌, ◌⊎◌, inl, inr, ℕ, ◌+◌, Bool, true, false, List, [], map, length, Option, Some, None, refl, sym, ap, subst, ◌∙◌, arith}
 use Rattle.std.proofs.lemmas.Bool.{cases_lt, true≢false}
-use Rattle.x_item.specs.Tree.{Definition}
-use Rattle.x_item.specs.Names.{declared}
-use Rattle.x_item.specs.Named.{view_name}
-use Rattle.x_item.specs.declared.names.declared_name.DeclaredName.{DeclaredName}
+use Rattle.x_trees.specs.Tree.{Definition}
+use Rattle.x_trees.specs.Names.{declared}
+use Rattle.x_trees.specs.Named.{view_name}
+use Rattle.x_trees.specs.declared.names.declared_name.DeclaredName.{DeclaredName}
 use Rattle.x_rules.specs.Declarers.{IsShort, AreShort, first_declarer}
 use Rattle.x_rules.specs.declared.names.Declarer.{Declarer}
 use Rattle.x_uses.specs.Editing.{TextEdit, definitions_after, IsEdit, definition_at, old_number}

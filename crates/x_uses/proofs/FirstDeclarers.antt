@@ -5,10 +5,10 @@ use Rattle.std.specs.Str.{bytes_eq}
 use Rattle.std.proofs.Common.{◌≡◌, ◌<◌, ◌≤◌, inr, ℕ, zero, suc, ◌+◌, Bool, true, false, cond, List, [], ◌∷◌, ◌++◌, map, take, drop, length, Option, Some, None, refl, sym, ap, subst, ◌∙◌, arith, length-drop}
 use Rattle.std.proofs.lemmas.List.{length-take-le, take-append-drop, drop-drop}
 use Rattle.std.proofs.lemmas.Option.{same_Some, slice_get_within}
-use Rattle.x_item.specs.Tree.{Definition}
-use Rattle.x_item.specs.Named.{view_name}
-use Rattle.x_item.specs.Names.{Declared, declared}
-use Rattle.x_item.specs.declared.names.declared_name.DeclaredName.{DeclaredName}
+use Rattle.x_trees.specs.Tree.{Definition}
+use Rattle.x_trees.specs.Named.{view_name}
+use Rattle.x_trees.specs.Names.{Declared, declared}
+use Rattle.x_trees.specs.declared.names.declared_name.DeclaredName.{DeclaredName}
 use Rattle.x_rules.specs.Declarers.{is_beforehand, IsDeclarer, IsFirstDeclarer, FirstIs, declarer_at, place_of_name, declarer_in, first_from, first_declarer}
 use Rattle.x_rules.specs.declared.names.Declarer.{Declarer}
 use Rattle.x_rules.proofs.DeclarerLaws.{first_is}

@@ -6,8 +6,8 @@ use Rattle.std.specs.Option.{option_or}
 use Rattle.std.specs.Str.{bytes_eq}
 use Rattle.std.proofs.lemmas.Bool.{cases_eq}
 use Rattle.std.proofs.lemmas.List.{map-append, length-map}
-use Rattle.x_item.specs.Tree.{Definition}
-use Rattle.x_item.specs.Names.{Declared, declared}
+use Rattle.x_trees.specs.Tree.{Definition}
+use Rattle.x_trees.specs.Names.{Declared, declared}
 use Rattle.x_rules.specs.Declarers.{declarer_at, place_of_name, declarer_in, first_from}
 use Rattle.x_rules.specs.declared.names.Declarer.{Declarer}
 use Rattle.x_uses.specs.Occurrences.{Definitions, UseTable, declarers_in, sees, put_before, declarers_of, users_of, declarer_of, declarers_at, users_at, HasRoom, IsUsesOf, slot_in}

@@ -3,7 +3,7 @@ use Rattle.std.specs.List.{IsAmong}
 use Rattle.std.proofs.Common.{◌≡◌, ◌<◌, ℕ, ◌+◌, ◌^◌, List, [], ◌∷◌, map, Option, Some, None, sym, ap, subst, ◌∙◌, arith}
 use Rattle.std.proofs.lemmas.Option.{same_Some}
 use Rattle.x_text.specs.Counts.{Counts, raised}
-use Rattle.x_item.specs.Tree.{Definition}
+use Rattle.x_trees.specs.Tree.{Definition}
 use Rattle.x_rules.specs.Results.{Outcome, IsOutcome, IsResult, AreResults, result_at, view_by}
 use Rattle.x_rules.specs.Views.{View, names_of}
 use Rattle.x_rules.proofs.ResultLaws.{AgreeBefore, one_outcome, same_views}

@@ -3,10 +3,10 @@ use Rattle.std.specs.Prelude.{option_map}
 use Rattle.std.specs.Option.{unwrap_or}
 use Rattle.std.proofs.Common.{◌≡◌, ◌<◌, ◌≤◌, ◌⊎◌, inl, inr, ℕ, ◌+◌, Bool, true, false, List, [], ◌∷◌, ◌++◌, map, length, Option, Some, None, refl, sym, ap, subst, ◌∙◌, arith, add-one}
 use Rattle.std.proofs.lemmas.Bool.{cases_lt, true≢false}
-use Rattle.x_item.specs.Tree.{Definition}
-use Rattle.x_item.specs.Named.{view_name}
-use Rattle.x_item.specs.Names.{declared}
-use Rattle.x_item.specs.declared.names.declared_name.DeclaredName.{DeclaredName}
+use Rattle.x_trees.specs.Tree.{Definition}
+use Rattle.x_trees.specs.Named.{view_name}
+use Rattle.x_trees.specs.Names.{declared}
+use Rattle.x_trees.specs.declared.names.declared_name.DeclaredName.{DeclaredName}
 use Rattle.x_rules.specs.Declarers.{first_declarer}
 use Rattle.x_rules.specs.declared.names.Declarer.{Declarer}
 use Rattle.x_rules.specs.Results.{Outcome, AreResults, result_at, meaning_in}

@@ -8,13 +8,13 @@ use Rattle.std.proofs.lemmas.List.Folds.{list_any-append}
 use Rattle.std.proofs.lemmas.Bool.Decides.{nat_tests}
 use Rattle.std.specs.Cow.{cow_slice_items}
 use Rattle.std.proofs.lemmas.List.{take_more, length-take-le, length-map, map-append}
-use Rattle.x_item.specs.Tree.{Definition}
-use Rattle.x_item.specs.Names.{Declared, declared}
-use Rattle.x_item.specs.Mentions.{mentioned}
-use Rattle.x_item.specs.Named.{view_name}
-use Rattle.x_item.specs.Collected.{view_mention}
-use Rattle.x_item.specs.declared.names.declared_name.DeclaredName.{DeclaredName}
-use Rattle.x_item.specs.declared.names.mention.Mention.{Mention}
+use Rattle.x_trees.specs.Tree.{Definition}
+use Rattle.x_trees.specs.Names.{Declared, declared}
+use Rattle.x_trees.specs.Mentions.{mentioned}
+use Rattle.x_trees.specs.Named.{view_name}
+use Rattle.x_trees.specs.Collected.{view_mention}
+use Rattle.x_trees.specs.declared.names.declared_name.DeclaredName.{DeclaredName}
+use Rattle.x_trees.specs.declared.names.mention.Mention.{Mention}
 use Rattle.x_rules.specs.Declarers.{declarer_at, place_of_name, declarer_in}
 use Rattle.x_rules.specs.declared.names.Declarer.{Declarer}
 use Rattle.x_uses.specs.Occurrences.{put_before, declarers_at, users_at, declarer_of, sees}

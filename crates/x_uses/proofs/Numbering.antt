@@ -5,8 +5,8 @@ use Rattle.std.proofs.Common.{◌≡◌, ◌<◌, ◌≤◌, ◌⊎◌, inl, inr
 use Rattle.std.proofs.lemmas.Bool.{ltb-true, ltb-false, lt-ltb, le-ltb}
 use Rattle.std.proofs.lemmas.List.{length-take-le}
 use Rattle.std.proofs.lemmas.Option.{same_Some, slice_get_within}
-use Rattle.x_item.specs.Tree.{Definition}
-use Rattle.x_item.proofs.PatchedLemmas.{get_drop}
+use Rattle.x_trees.specs.Tree.{Definition}
+use Rattle.x_text.proofs.ListLemmas.{get_drop}
 use Rattle.x_uses.specs.declared.uses.Place.{Place}
 use Rattle.x_uses.specs.Editing.{TextEdit, definitions_after, IsEdit, definition_at, old_number}
 use Rattle.x_rules.specs.Declarers.{AreShort, IsShort}

@@ -3,14 +3,14 @@ use Rattle.std.specs.Cow.{cow_slice_items}
 use Rattle.std.specs.List.{IsAmong}
 use Rattle.std.proofs.Common.{◌≡◌, ◌≤◌, ◌⊎◌, inl, inr, ℕ, List, [], ◌++◌, map, take, length, None, sym, ap, subst, ◌∙◌, append-nil}
 use Rattle.std.proofs.lemmas.List.{take_all}
-use Rattle.x_item.specs.Names.{Declared, declared}
-use Rattle.x_item.specs.Mentions as tree
-use Rattle.x_item.specs.Mentions.{mentioned}
-use Rattle.x_item.specs.Named.{view_name}
-use Rattle.x_item.specs.Collected.{view_mention}
-use Rattle.x_item.specs.declared.names.declared_name.DeclaredName.{DeclaredName}
-use Rattle.x_item.specs.declared.names.mention.Mention.{Mention}
-use Rattle.x_item.specs.declared.names.mention.Use.TheVariants.{Value}
+use Rattle.x_trees.specs.Names.{Declared, declared}
+use Rattle.x_trees.specs.Mentions as tree
+use Rattle.x_trees.specs.Mentions.{mentioned}
+use Rattle.x_trees.specs.Named.{view_name}
+use Rattle.x_trees.specs.Collected.{view_mention}
+use Rattle.x_trees.specs.declared.names.declared_name.DeclaredName.{DeclaredName}
+use Rattle.x_trees.specs.declared.names.mention.Mention.{Mention}
+use Rattle.x_trees.specs.declared.names.mention.Use.TheVariants.{Value}
 use Rattle.x_rules.specs.Views.{View, names_of}
 use Rattle.x_rules.specs.Outlined.{IsOutline, outlined}
 use Rattle.x_rules.specs.declared.outline.Outline.{Outline}

@@ -5,7 +5,7 @@ use Rattle.std.proofs.lemmas.Bool.Decides.{Decides-int_eq}
 use Rattle.std.specs.Cmp.{booleans_Decides}
 use Rattle.std.specs.Cmp.Rules.{signed_items}
 use denote.Enum.Bare.{sameb, same_true, true_same}
-use Rattle.x_item.specs.contracts.names.declared_name.NameKind.{the_type}
+use Rattle.x_trees.specs.contracts.names.declared_name.NameKind.{the_type}
 use Rattle.x_rules.specs.Views as views
 use Rattle.x_rules.specs.RustViews.{view_class, view_meaning, view_view}
 use Rattle.x_rules.specs.declared.views.Class.{Class}

@@ -4,7 +4,7 @@ use Rattle.std.specs.List.{IsAmong, list_any}
 use Rattle.std.specs.Str.{bytes_eq}
 use Rattle.std.proofs.Common.{◌≡◌, ◌<◌, ◌⊎◌, inl, inr, ℕ, zero, suc, ◌+◌, Bool, true, false, cond, List, [], ◌∷◌, length, Option, Some, refl, sym, ap, subst, ◌∙◌, arith}
 use Rattle.std.proofs.lemmas.Slice.Eq.{bytes_eq-Decides}
-use Rattle.x_item.specs.Tree.{Definition}
+use Rattle.x_trees.specs.Tree.{Definition}
 use Rattle.x_rules.specs.Views.{names_of}
 use Rattle.x_rules.proofs.AmongLemmas.{among_cases, among_none, among_first, among_more}
 use Rattle.x_uses.specs.Editing.{TextEdit, IsEdit, definition_at}

@@ -2,7 +2,7 @@
 use Rattle.std.specs.Prelude.{◌≡◌, ◌<◌, ◌≤◌, ℕ, ◌+◌, ◌-◌, ◌^◌, nat_lt, List, length, Option, Some, None}
 use Rattle.std.specs.Prelude.{slice_get, option_and_then, if◌then◌else◌}
 use Rattle.std.specs.List.{splice}
-use Rattle.x_item.specs.Tree.{Definition}
+use Rattle.x_trees.specs.Tree.{Definition}
 use Rattle.x_rules.specs.Declarers.{AreShort}
 use Rattle.x_rules.specs.Results.{Outcome, AreResults, result_at}
 use Rattle.x_uses.specs.declared.uses.Place.{Place}

@@ -4,7 +4,7 @@ use Rattle.std.specs.Prelude.{Option, None, Some, if◌then◌else◌}
 use Rattle.std.specs.List.{list_any}
 use Rattle.std.specs.Map.{lookup}
 use Rattle.std.specs.Str.{bytes_eq}
-use Rattle.x_item.specs.Tree.{Definition}
+use Rattle.x_trees.specs.Tree.{Definition}
 use Rattle.x_rules.specs.Declarers.{declarer_in}
 use Rattle.x_rules.specs.Views.{names_of}
 use Rattle.x_rules.specs.declared.names.Declarer.{Declarer}

@@ -6,9 +6,9 @@ use Rattle.std.specs.Cow.{cow_slice_items}
 use Rattle.std.specs.List.{IsAmong}
 use Rattle.std.specs.Ordering.{nat_cmp}
 use Rattle.x_text.specs.Counts.{Counts}
-use Rattle.x_item.specs.Tree.{Definition}
-use Rattle.x_item.specs.declared.names.declared_name.DeclaredName.{DeclaredName}
-use Rattle.x_item.specs.View.{tree_at}
+use Rattle.x_trees.specs.Tree.{Definition}
+use Rattle.x_trees.specs.declared.names.declared_name.DeclaredName.{DeclaredName}
+use Rattle.x_trees.specs.View.{tree_at}
 use Rattle.x_rules.specs.Declarers.{first_declarer}
 use Rattle.x_rules.specs.declared.names.Declarer.{Declarer}
 use Rattle.x_rules.specs.Results.{Outcome, AreResults, result_at, meaning_at, meaning_in, view_by}

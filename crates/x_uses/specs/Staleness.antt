@@ -4,7 +4,7 @@ use Rattle.std.specs.Prelude.{None, if◌then◌else◌}
 use Rattle.std.specs.List.{IsAmong}
 use Rattle.std.specs.Option.{option_or}
 use Rattle.x_text.specs.Counts.{Counts, raised}
-use Rattle.x_item.specs.Tree.{Definition}
+use Rattle.x_trees.specs.Tree.{Definition}
 use Rattle.x_rules.specs.Results.{Outcome, AreResults, result_at, view_by}
 use Rattle.x_rules.specs.Views.{names_of}
 use Rattle.x_uses.specs.Editing.{TextEdit, count_after, definition_at, definitions_after}

@@ -1,7 +1,7 @@
 //! The check of the items that an edit makes stale.
 
 ghost use Rattle.std.specs.Prelude.{◌≡◌, ◌+◌, length, map, IfOk};
-ghost use Rattle.x_item.specs.View.{tree_at};
+ghost use Rattle.x_trees.specs.View.{tree_at};
 ghost use Rattle.x_rules.specs.KeptViews.{lent_outcome};
 ghost use Rattle.x_rules.specs.Results.{result_at};
 ghost use Rattle.x_uses.specs.Editing.{CheckedText, IsEdit, definition_at, edit_at};
@@ -20,7 +20,7 @@ use candidates::first_candidates;
 use checking::check_next;
 use edited_items::EditedItems;
 use std::alloc::Global;
-use x_item::Definition;
+use x_trees::Definition;
 use x_rules::Checked;
 use x_text::{Meter, NoMemory};
 

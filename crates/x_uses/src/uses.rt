@@ -1,7 +1,7 @@
 //! The table of the names of a text: who declares each, and who sees it. It follows the edits of the text.
 ghost use Rattle.std.specs.Prelude.{◌≡◌, ◌<◌, ◌≤◌, ◌+◌, ◌^◌, length, take, drop, map, IfOk, OnOk};
 ghost use Rattle.std.specs.List.{splice};
-ghost use Rattle.x_item.specs.View.{tree_at};
+ghost use Rattle.x_trees.specs.View.{tree_at};
 ghost use Rattle.x_rules.specs.Declarers.{AreShort, first_declarer};
 ghost use Rattle.x_uses.specs.Occurrences.{Definitions, IsUsesOf, IsSameTable, HasRoomFor, users_in};
 
@@ -18,7 +18,7 @@ use room::make_room_in;
 use std::alloc::Global;
 use std::marker::Model;
 use table::{Table, first_after_in, first_in, users_in};
-use x_item::Definition;
+use x_trees::Definition;
 use x_rules::{Declarer, is_beforehand};
 use x_text::NoMemory;
 

@@ -1,17 +1,17 @@
 //! Reading of the cases of an arm. Each function takes the tokens that are ahead, of which some may be no words, and
 //! gives back those after what it read.
 ghost use Rattle.std.specs.Prelude.{ℕ, [], ◌∷◌, map, IfOk, IfErr};
-ghost use Rattle.x_item.specs.Words.{Fixed};
-ghost use Rattle.x_item.specs.View.{view_value};
-ghost use Rattle.x_item.specs.Gloss.{spell_value};
-ghost use Rattle.x_item.specs.Spell.{spell_cases, HasOne};
+ghost use Rattle.x_trees.specs.Words.{Fixed};
+ghost use Rattle.x_trees.specs.View.{view_value};
+ghost use Rattle.x_trees.specs.Gloss.{spell_value};
+ghost use Rattle.x_trees.specs.Spell.{spell_cases, HasOne};
 ghost use Rattle.x_item.specs.Symbols.{Token as OfMark, AnyValue, Declared, AfterCase};
 ghost use Rattle.x_item.specs.Reading.{IsRead, Fails};
 
 use super::ParseError;
 use super::ending::Ending;
 use super::words::{after, expect, value};
-use crate::trees::{Value, fitted};
+use x_trees::{Value, fitted};
 use std::alloc::Global;
 use x_lex::{Mark, Token};
 

@@ -2,14 +2,14 @@
 //! ahead, of which some may be no words, and gives back those after what it read; `depth` is how many inline bodies
 //! may stand inside one another.
 ghost use Rattle.std.specs.Prelude.{◌≡◌, ◌≢◌, ℕ, [], ◌∷◌, ◌++◌, ◌+◌, map, IfOk, IfErr};
-ghost use Rattle.x_item.specs.Words.{Fixed, Name};
-ghost use Rattle.x_item.specs.Tree.{default as one_default};
-ghost use Rattle.x_item.specs.View.{view_value, view_type, view_body, view_declaration};
-ghost use Rattle.x_item.specs.View.{view_arms, view_default};
-ghost use Rattle.x_item.specs.Gloss.{tag_mark, body_mark};
-ghost use Rattle.x_item.specs.Spell.{spell_type, spell_body};
-ghost use Rattle.x_item.specs.Spell.{spell_arms, spell_default, HasOne, HasArm, TypeFits};
-ghost use Rattle.x_item.specs.Spell.{BodyFits, DeclarationFits, ArmsFit, DefaultFits};
+ghost use Rattle.x_trees.specs.Words.{Fixed, Name};
+ghost use Rattle.x_trees.specs.Tree.{default as one_default};
+ghost use Rattle.x_trees.specs.View.{view_value, view_type, view_body, view_declaration};
+ghost use Rattle.x_trees.specs.View.{view_arms, view_default};
+ghost use Rattle.x_trees.specs.Gloss.{tag_mark, body_mark};
+ghost use Rattle.x_trees.specs.Spell.{spell_type, spell_body};
+ghost use Rattle.x_trees.specs.Spell.{spell_arms, spell_default, HasOne, HasArm, TypeFits};
+ghost use Rattle.x_trees.specs.Spell.{BodyFits, DeclarationFits, ArmsFit, DefaultFits};
 ghost use Rattle.x_item.specs.Symbols.{Context, InDeclaration, Token as OfMark, AnyName, AnyValue, AnyLength};
 ghost use Rattle.x_item.specs.Symbols.{AfterLess, Typed, AfterType, AfterTag, AnyBody, Declared};
 ghost use Rattle.x_item.specs.Symbols.{Arms, AfterCase, ending_mark, AfterUnsigned};
@@ -21,7 +21,7 @@ use super::declarator::{array_length, most, named};
 use super::ending::Ending;
 use super::enumerators::enumerators;
 use super::words::{Word, after, closed, expect, first, name, stuck_at};
-use crate::trees::{
+use x_trees::{
     Arm, Basic, Body, DataType, Declaration, Spelling, Tag, fitted, inline, struct_body, union_body,
 };
 use std::alloc::Global;

@@ -1,9 +1,9 @@
 //! Reading of declarators: the name of a declaration, what stands around it, and sizes. Each function takes the
 //! tokens that are ahead, of which some may be no words, and gives back those after what it read.
 ghost use Rattle.std.specs.Prelude.{ℕ, List, [], ◌∷◌, ◌++◌, IfOk, IfErr};
-ghost use Rattle.x_item.specs.Words.{Fixed, Name};
-ghost use Rattle.x_item.specs.View.{view_most, view_length, view_shape};
-ghost use Rattle.x_item.specs.Spell.{spell_most, spell_length, spell_named};
+ghost use Rattle.x_trees.specs.Words.{Fixed, Name};
+ghost use Rattle.x_trees.specs.View.{view_most, view_length, view_shape};
+ghost use Rattle.x_trees.specs.Spell.{spell_most, spell_length, spell_named};
 ghost use Rattle.x_item.specs.Symbols.{InDeclaration, AnyLength, AfterLess, AfterName, AfterType};
 ghost use Rattle.x_item.specs.Symbols.{ending_mark};
 ghost use Rattle.x_item.specs.Reading.{IsRead, IsPart, Fails};
@@ -11,7 +11,7 @@ ghost use Rattle.x_item.specs.Reading.{IsRead, IsPart, Fails};
 use super::ParseError;
 use super::ending::Ending;
 use super::words::{after, expect, name, value};
-use crate::trees::{Length, Shape, Spelling, Value};
+use x_trees::{Length, Shape, Spelling, Value};
 use std::alloc::Global;
 use x_lex::{Mark, Token};
 

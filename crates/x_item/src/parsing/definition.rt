@@ -1,10 +1,10 @@
 //! Reading of definitions. Each function takes the tokens that are ahead, of which some may be no words, and gives
 //! back those after what it read.
 ghost use Rattle.std.specs.Prelude.{[], ◌∷◌, IfOk, IfErr};
-ghost use Rattle.x_item.specs.Words.{Fixed};
-ghost use Rattle.x_item.specs.View.{view_definition};
-ghost use Rattle.x_item.specs.Gloss.{tag_mark};
-ghost use Rattle.x_item.specs.Spell.{spell, KeepsLimits};
+ghost use Rattle.x_trees.specs.Words.{Fixed};
+ghost use Rattle.x_trees.specs.View.{view_definition};
+ghost use Rattle.x_trees.specs.Gloss.{tag_mark};
+ghost use Rattle.x_trees.specs.Spell.{spell, KeepsLimits};
 ghost use Rattle.x_item.specs.Symbols.{Item, of_constant, of_new_type, of_program};
 ghost use Rattle.x_item.specs.Reading.{IsRead, Fails};
 
@@ -13,7 +13,7 @@ use super::declaration::{body, declared};
 use super::ending::Ending;
 use super::program::{numbered, versions};
 use super::words::{Word, closed, expect, first, name, stuck_at, value};
-use crate::trees::{Definition, MOST_INLINE, Tag, fitted};
+use x_trees::{Definition, MOST_INLINE, Tag, fitted};
 use std::alloc::Global;
 use x_lex::{Mark, Token};
 

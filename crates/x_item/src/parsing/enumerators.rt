@@ -1,15 +1,15 @@
 //! Reading of enumerators. Each function takes the tokens that are ahead, of which some may be no words, and gives
 //! back those after what it read.
 ghost use Rattle.std.specs.Prelude.{ℕ, List, [], ◌∷◌, ◌++◌, map, IfOk, IfErr};
-ghost use Rattle.x_item.specs.Words.{Fixed, Name};
-ghost use Rattle.x_item.specs.View.{view_most, view_enumerator};
-ghost use Rattle.x_item.specs.Spell.{spell_given, spell_enumerator, spell_enumerators, HasOne};
+ghost use Rattle.x_trees.specs.Words.{Fixed, Name};
+ghost use Rattle.x_trees.specs.View.{view_most, view_enumerator};
+ghost use Rattle.x_trees.specs.Spell.{spell_given, spell_enumerator, spell_enumerators, HasOne};
 ghost use Rattle.x_item.specs.Symbols.{Enumerators, AfterEnumerator, MoreEnumerators};
 ghost use Rattle.x_item.specs.Reading.{IsRead, IsPart, Fails};
 
 use super::ParseError;
 use super::words::{after, expect, name, value};
-use crate::trees::{Enumerator, Value};
+use x_trees::{Enumerator, Value};
 use std::alloc::Global;
 use x_lex::{Mark, Token};
 

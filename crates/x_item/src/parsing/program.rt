@@ -1,12 +1,12 @@
 //! Reading of programs: RFC 5531, section 12. Each function takes the tokens that are ahead, of which some
 //! may be no words, and gives back those after what it read.
 ghost use Rattle.std.specs.Prelude.{[], ◌∷◌, ◌++◌, map, IfOk, IfErr};
-ghost use Rattle.x_item.specs.Words.{Fixed, Number};
-ghost use Rattle.x_item.specs.View.{view_argument, view_passed, view_procedure, view_version};
-ghost use Rattle.x_item.specs.Spell.{spell_argument, spell_passed, spell_others, spell_procedure};
-ghost use Rattle.x_item.specs.Spell.{spell_procedures, spell_version, spell_versions, HasOne, ArgumentFits};
-ghost use Rattle.x_item.specs.Spell.{PassedFits, OthersFit, ProcedureFits, ProceduresFit, VersionFits};
-ghost use Rattle.x_item.specs.Spell.{VersionsFit};
+ghost use Rattle.x_trees.specs.Words.{Fixed, Number};
+ghost use Rattle.x_trees.specs.View.{view_argument, view_passed, view_procedure, view_version};
+ghost use Rattle.x_trees.specs.Spell.{spell_argument, spell_passed, spell_others, spell_procedure};
+ghost use Rattle.x_trees.specs.Spell.{spell_procedures, spell_version, spell_versions, HasOne, ArgumentFits};
+ghost use Rattle.x_trees.specs.Spell.{PassedFits, OthersFit, ProcedureFits, ProceduresFit, VersionFits};
+ghost use Rattle.x_trees.specs.Spell.{VersionsFit};
 ghost use Rattle.x_item.specs.Symbols.{InArguments, AnyName, AfterType, Parameters, Arguments};
 ghost use Rattle.x_item.specs.Symbols.{Result as AnyResult, of_number, of_arguments, of_procedure};
 ghost use Rattle.x_item.specs.Symbols.{of_procedures, of_version, of_versions};
@@ -15,7 +15,7 @@ ghost use Rattle.x_item.specs.Reading.{IsRead, Fails};
 use super::ParseError;
 use super::declaration::data_type;
 use super::words::{after, expect, name, number};
-use crate::trees::{Argument, MOST_INLINE, Procedure, Spelling, Version, fitted};
+use x_trees::{Argument, MOST_INLINE, Procedure, Spelling, Version, fitted};
 use std::alloc::Global;
 use x_lex::{Mark, Token};
 

@@ -2,15 +2,15 @@
 //! and gives back those after what it read.
 ghost use Rattle.std.specs.Prelude.{◌≡◌, ◌∷◌, [], Ok, Err, IfOk, IfErr, IfSome, IfNone, ◌+◌, IsTrue, ◌↔◌};
 ghost use Rattle.x_lex.specs.Places.{lexeme};
-ghost use Rattle.x_item.specs.Gloss.{spell_value};
-ghost use Rattle.x_item.specs.Words.{Fixed, Name, Number, word_of, is_significant};
-ghost use Rattle.x_item.specs.View.{view_value};
+ghost use Rattle.x_trees.specs.Gloss.{spell_value};
+ghost use Rattle.x_trees.specs.Words.{Fixed, Name, Number, word_of, is_significant};
+ghost use Rattle.x_trees.specs.View.{view_value};
 ghost use Rattle.x_item.specs.Symbols.{Symbol, Token as OfMark, AnyName, AnyNumber, AnyValue};
 ghost use Rattle.x_item.specs.Reading.{view_word, ahead, left_in, code_in, IsSplit, HasFirst, IsBefore, Fails};
 ghost use Rattle.x_item.specs.Reading.{IsPart, LacksFirst};
 
 use super::{FaultCode, ParseError};
-use crate::trees::{Spelling, Value};
+use x_trees::{Spelling, Value};
 use std::alloc::Global;
 use x_lex::{Kind, Mark, Token};
 
@@ -25,7 +25,7 @@ pub enum Word<'t> {
 
 impl<'t> Word<'t> {
     /// The word that the token is.
-    #[tactic(auto, unfolding(crate::specs::Words::word_by))]
+    #[tactic(auto, unfolding(x_trees::specs::Words::word_by))]
     fn of(token: &Token<'t>) -> Word<'t>
         ensures { view_word result ≡ word_of (lexeme token.now) }
     {
@@ -40,7 +40,7 @@ impl<'t> Word<'t> {
 
 /// The word of a mark that was looked for.
 fn marked<'t>(mark: Option<Mark>) -> Word<'t>
-    ensures { view_word result ≡ Rattle.x_item.specs.Words.marked mark }
+    ensures { view_word result ≡ Rattle.x_trees.specs.Words.marked mark }
 {
     match mark {
         Some(mark) => Word::Mark(mark),

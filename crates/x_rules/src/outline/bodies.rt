@@ -1,14 +1,14 @@
 //! The bodies that stand in a definition, with the names of their fields and their cases.
 
 ghost use Rattle.std.specs.Prelude.{◌≡◌, ◌+◌, ℕ, List, [], length, map, OnOk, IfOk};
-ghost use Rattle.x_item.specs.Collected.{Covers};
-ghost use Rattle.x_item.specs.Named.{star};
-ghost use Rattle.x_item.specs.Spell.{spell_length, spell_named, spell_enumerator, spell_other_enumerators};
-ghost use Rattle.x_item.specs.Spell.{spell_enumerators, spell_body};
-ghost use Rattle.x_item.specs.Tree.{Variable};
-ghost use Rattle.x_item.specs.View.{view_value, view_most, view_shape, view_length, view_enumerator, view_type, view_body};
-ghost use Rattle.x_item.specs.View.{view_union, view_declaration, view_declarations, view_arms, view_default};
-ghost use Rattle.x_item.specs.View.{view_definition};
+ghost use Rattle.x_trees.specs.Collected.{Covers};
+ghost use Rattle.x_trees.specs.Named.{star};
+ghost use Rattle.x_trees.specs.Spell.{spell_length, spell_named, spell_enumerator, spell_other_enumerators};
+ghost use Rattle.x_trees.specs.Spell.{spell_enumerators, spell_body};
+ghost use Rattle.x_trees.specs.Tree.{Variable};
+ghost use Rattle.x_trees.specs.View.{view_value, view_most, view_shape, view_length, view_enumerator, view_type, view_body};
+ghost use Rattle.x_trees.specs.View.{view_union, view_declaration, view_declarations, view_arms, view_default};
+ghost use Rattle.x_trees.specs.View.{view_definition};
 ghost use Rattle.x_rules.specs.Bodies.{bodies};
 ghost use Rattle.x_rules.specs.BodyWalks.{view_walk, view_body_at, stand, Passes, FindsType, FindsBody, FindsOwn};
 ghost use Rattle.x_rules.specs.BodyWalks.{GoesName, GoesDeclaration, GoesFields, GoesCases, GoesArms, GoesDefault};
@@ -18,7 +18,7 @@ ghost use Rattle.x_rules.specs.Declarers.{IsShort};
 use super::parts::{BodyAt, NameAt, ValueAt};
 use std::alloc::Global;
 use std::mem;
-use x_item::{
+use x_trees::{
     Arm, Body, DataType, Declaration, Definition, Enumerator, Length, Shape, UnionBody, Value,
 };
 use x_text::NoMemory;

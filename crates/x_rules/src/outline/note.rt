@@ -1,6 +1,6 @@
 //! What words are to the rules.
 
-use x_item::{Declaration, Value};
+use x_trees::{Declaration, Value};
 
 /// What a value is the value of.
 #[derive(Clone, Copy, Debug, PartialEq, Eq)]

@@ -2,28 +2,28 @@
 
 ghost use Rattle.std.specs.Prelude.{◌≡◌, ◌<◌, ◌^◌, ℕ, List, [], ◌∷◌, length, map, Option, Some, None, true};
 ghost use Rattle.std.specs.Prelude.{OnOk, IfOk};
-ghost use Rattle.x_item.specs.Tree.{Void, Inline, Typed};
-ghost use Rattle.x_item.specs.View.{view_value, view_most, view_length, view_shape, view_enumerator};
-ghost use Rattle.x_item.specs.View.{view_type, view_body, view_declaration, view_declarations, view_arms};
-ghost use Rattle.x_item.specs.View.{view_default, view_argument, view_passed, view_procedure, view_version};
-ghost use Rattle.x_item.specs.View.{view_definition};
-ghost use Rattle.x_item.specs.Gloss.{Role, InlineArgument as InlineRole, VoidResult, VoidArgument, glossed};
-ghost use Rattle.x_item.specs.Gloss.{value_roles, leading_roles, spell_value, most_by, length_by, named_by};
-ghost use Rattle.x_item.specs.Gloss.{enumerator_by, other_enumerators_by, enumerators_by, cases_by, type_by};
-ghost use Rattle.x_item.specs.Gloss.{body_by, declaration_by, declarations_by, arms_by, default_by};
-ghost use Rattle.x_item.specs.Gloss.{argument_by, passed_by, others_by, procedure_by, procedures_by};
-ghost use Rattle.x_item.specs.Gloss.{versions_by};
-ghost use Rattle.x_item.specs.Spell.{spell};
-ghost use Rattle.x_item.specs.Collected.{IsSilent};
-ghost use Rattle.x_item.specs.declared.names.mention.Use.{Use};
-ghost use Rattle.x_item.specs.declared.names.mention.Use.TheVariants as uses;
+ghost use Rattle.x_trees.specs.Tree.{Void, Inline, Typed};
+ghost use Rattle.x_trees.specs.View.{view_value, view_most, view_length, view_shape, view_enumerator};
+ghost use Rattle.x_trees.specs.View.{view_type, view_body, view_declaration, view_declarations, view_arms};
+ghost use Rattle.x_trees.specs.View.{view_default, view_argument, view_passed, view_procedure, view_version};
+ghost use Rattle.x_trees.specs.View.{view_definition};
+ghost use Rattle.x_trees.specs.Gloss.{Role, InlineArgument as InlineRole, VoidResult, VoidArgument, glossed};
+ghost use Rattle.x_trees.specs.Gloss.{value_roles, leading_roles, spell_value, most_by, length_by, named_by};
+ghost use Rattle.x_trees.specs.Gloss.{enumerator_by, other_enumerators_by, enumerators_by, cases_by, type_by};
+ghost use Rattle.x_trees.specs.Gloss.{body_by, declaration_by, declarations_by, arms_by, default_by};
+ghost use Rattle.x_trees.specs.Gloss.{argument_by, passed_by, others_by, procedure_by, procedures_by};
+ghost use Rattle.x_trees.specs.Gloss.{versions_by};
+ghost use Rattle.x_trees.specs.Spell.{spell};
+ghost use Rattle.x_trees.specs.Collected.{IsSilent};
+ghost use Rattle.x_trees.specs.declared.names.mention.Use.{Use};
+ghost use Rattle.x_trees.specs.declared.names.mention.Use.TheVariants as uses;
 ghost use Rattle.x_rules.specs.Notes.{noted, noted_at, view_note, view_note_at};
 ghost use Rattle.x_rules.specs.NoteWalks.{Notes, NotesIn, NotesAll, role_of, place_in};
 
 use super::note::{Note, NoteAt, ValueRole};
 use std::alloc::Global;
 use std::mem;
-use x_item::{
+use x_trees::{
     Argument, Arm, Body, DataType, Declaration, Definition, Enumerator, Length, Procedure, Shape,
     UnionBody, Value, Version,
 };

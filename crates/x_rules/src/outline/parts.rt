@@ -1,6 +1,6 @@
 //! Parts of a definition, each with the number of its word.
 
-use x_item::{Body, Value};
+use x_trees::{Body, Value};
 
 /// A name.
 #[derive(Clone, Copy, Debug)]

@@ -1,9 +1,9 @@
 //! The versions of a program and the procedures of each.
 
 ghost use Rattle.std.specs.Prelude.{◌≡◌, ◌<◌, ◌+◌, ◌^◌, [], ◌∷◌, ◌++◌, length, map, OnOk, IfOk};
-ghost use Rattle.x_item.specs.Spell.{spell_type, spell_argument, spell_passed, spell_others, spell_versions};
-ghost use Rattle.x_item.specs.View.{view_type, view_argument, view_passed, view_procedure, view_version};
-ghost use Rattle.x_item.specs.View.{view_definition};
+ghost use Rattle.x_trees.specs.Spell.{spell_type, spell_argument, spell_passed, spell_others, spell_versions};
+ghost use Rattle.x_trees.specs.View.{view_type, view_argument, view_passed, view_procedure, view_version};
+ghost use Rattle.x_trees.specs.View.{view_definition};
 ghost use Rattle.x_rules.specs.Bodies.{members, procedures_of, versions_from};
 ghost use Rattle.x_rules.specs.Declarers.{IsShort};
 ghost use Rattle.x_rules.specs.MemberWalks.{Skips, AddsName, AddsNumber, AddsProcedure, AddsProcedures, AddsVersion};
@@ -13,7 +13,7 @@ ghost use Rattle.x_rules.specs.Tables.{view_members};
 use super::bodies::BodyWalk;
 use super::parts::{Members, NameAt, NumberAt};
 use std::alloc::Global;
-use x_item::{Argument, DataType, Definition, Procedure, Version};
+use x_trees::{Argument, DataType, Definition, Procedure, Version};
 use x_text::NoMemory;
 
 impl<'d> Members<'d> {

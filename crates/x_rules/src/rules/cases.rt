@@ -19,7 +19,7 @@ use crate::checked::KeptClass;
 use crate::fault::{RuleCode, WordFault};
 use crate::outline::parts::{BodyAt, ValueAt};
 use std::alloc::Global;
-use x_item::{Body, UnionBody};
+use x_trees::{Body, UnionBody};
 use x_numbers::{is_enum_number, is_word_number};
 use x_text::NoMemory;
 

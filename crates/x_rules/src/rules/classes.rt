@@ -1,7 +1,7 @@
 //! What types are as discriminants.
 
 ghost use Rattle.std.specs.Prelude.{◌≡◌, List, map, Some, option_map, IfOk};
-ghost use Rattle.x_item.specs.View.{view_type, view_body, view_declaration, view_enumerator};
+ghost use Rattle.x_trees.specs.View.{view_type, view_body, view_declaration, view_enumerator};
 ghost use Rattle.x_rules.specs.Bodies.{EnumeratorAt};
 ghost use Rattle.x_rules.specs.Constants.{Known, number_named};
 ghost use Rattle.x_rules.specs.Found.{has_no_class};
@@ -18,7 +18,7 @@ use crate::checked::KeptClass;
 use crate::numbers::Numbers;
 use crate::views::{Class, Meaning, View};
 use std::alloc::Global;
-use x_item::{Basic, Body, DataType, Declaration, Enumerator, Shape, Tag};
+use x_trees::{Basic, Body, DataType, Declaration, Enumerator, Shape, Tag};
 use x_text::NoMemory;
 
 /// What a use by value sees of a type.

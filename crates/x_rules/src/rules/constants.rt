@@ -3,8 +3,8 @@
 ghost use Rattle.std.specs.Prelude.{◌≡◌, ◌<◌, ◌+◌, ◌^◌, ◌++◌, nat_lt, [], List, length, map, Some, true, false};
 ghost use Rattle.std.specs.Prelude.{OnOk, IfOk};
 ghost use Rattle.std.specs.Prelude.{slice_get, option_and_then};
-ghost use Rattle.x_item.specs.Spell.{spell_other_enumerators};
-ghost use Rattle.x_item.specs.View.{view_value, view_enumerator};
+ghost use Rattle.x_trees.specs.Spell.{spell_other_enumerators};
+ghost use Rattle.x_trees.specs.View.{view_value, view_enumerator};
 ghost use Rattle.x_rules.specs.Bodies as bodies;
 ghost use Rattle.x_rules.specs.Bodies.{enumerators_from, enumerators_of, enumerators_in};
 ghost use Rattle.x_rules.specs.BodyWalks.{view_body_at, IsFilled, AreFilled};
@@ -21,7 +21,7 @@ use crate::outline::bodies::words_of_enumerator;
 use crate::outline::parts::{BodyAt, EnumeratorAt};
 use crate::views::{Meaning, View};
 use std::alloc::Global;
-use x_item::{Body, Enumerator, NameKind, Value};
+use x_trees::{Body, Enumerator, NameKind, Value};
 use x_numbers::{next_number, number_value};
 use x_text::NoMemory;
 

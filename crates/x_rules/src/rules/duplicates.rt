@@ -1,6 +1,6 @@
 //! Names that are declared twice.
 ghost use Rattle.std.specs.Prelude.{◌≡◌, ◌++◌, map, OnOk};
-ghost use Rattle.x_item.specs.Named.{view_name};
+ghost use Rattle.x_trees.specs.Named.{view_name};
 ghost use Rattle.x_rules.specs.Found.{is_earlier_name, is_behind, is_taken_at, duplicate_code};
 ghost use Rattle.x_rules.specs.Found.{duplicates_from};
 ghost use Rattle.x_rules.specs.RustViews.{view_view};
@@ -10,7 +10,7 @@ use super::found::add_fault;
 use super::sights::Sights;
 use crate::fault::{RuleCode, WordFault};
 use crate::views::View;
-use x_item::DeclaredName;
+use x_trees::DeclaredName;
 use x_text::NoMemory;
 
 /// Whether a name is declared at an earlier place or beforehand.

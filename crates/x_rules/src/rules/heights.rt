@@ -2,13 +2,13 @@
 
 ghost use Rattle.std.specs.Prelude.{◌≡◌, ◌++◌, ◌||◌, map, OnOk};
 ghost use Rattle.std.specs.List.{list_any};
-ghost use Rattle.x_item.specs.Named.{view_name};
-ghost use Rattle.x_item.specs.View.{view_definition};
+ghost use Rattle.x_trees.specs.Named.{view_name};
+ghost use Rattle.x_trees.specs.View.{view_definition};
 ghost use Rattle.x_rules.specs.Found.{too_high, too_high_faults};
 ghost use Rattle.x_rules.specs.Types.{defined_heights};
-ghost use Rattle.x_item.specs.Gloss.{use_by};
-ghost use Rattle.x_item.specs.View.{view_shape, view_type, view_body, view_declaration, view_declarations};
-ghost use Rattle.x_item.specs.View.{view_arms, view_default};
+ghost use Rattle.x_trees.specs.Gloss.{use_by};
+ghost use Rattle.x_trees.specs.View.{view_shape, view_type, view_body, view_declaration, view_declarations};
+ghost use Rattle.x_trees.specs.View.{view_arms, view_default};
 ghost use Rattle.x_rules.specs.Types.{seen_height, type_height, body_height, held_height};
 ghost use Rattle.x_rules.specs.Types.{fields_height, arms_height, default_height};
 ghost use Rattle.x_rules.specs.Tables.{seen_by, capped, is_by_value, is_too_high};
@@ -20,7 +20,7 @@ use super::sights::Sights;
 use crate::fault::{RuleCode, WordFault};
 use crate::outline::parts::BodyAt;
 use crate::views::MOST_HEIGHT;
-use x_item::{
+use x_trees::{
     Arm, Body, DataType, Declaration, DeclaredName, Definition, Length, Shape, Tag, UnionBody,
 };
 use x_text::NoMemory;

@@ -2,8 +2,8 @@
 
 ghost use Rattle.std.specs.Prelude.{◌≡◌, ℕ, List, false, map, option_map, IfOk, OnOk};
 ghost use Rattle.std.specs.List.{list_any};
-ghost use Rattle.x_item.specs.Named.{view_name};
-ghost use Rattle.x_item.specs.View.{view_definition};
+ghost use Rattle.x_trees.specs.Named.{view_name};
+ghost use Rattle.x_trees.specs.View.{view_definition};
 ghost use Rattle.x_rules.specs.Bodies as outline;
 ghost use Rattle.x_rules.specs.BodyWalks.{view_body_at};
 ghost use Rattle.x_rules.specs.Constants.{Known, knowns};
@@ -22,7 +22,7 @@ use crate::checked::{KeptClass, KeptMeaning, KeptMeanings};
 use crate::outline::parts::BodyAt;
 use smallvec::SmallVec;
 use std::alloc::Global;
-use x_item::{DeclaredName, Definition, NameKind};
+use x_trees::{DeclaredName, Definition, NameKind};
 use x_text::NoMemory;
 
 /// What a type means whose class is known.

@@ -1,6 +1,6 @@
 //! Names that are used.
 ghost use Rattle.std.specs.Prelude.{◌≡◌, ◌++◌, List, map, OnOk};
-ghost use Rattle.x_item.specs.Collected.{view_mention};
+ghost use Rattle.x_trees.specs.Collected.{view_mention};
 ghost use Rattle.x_rules.specs.Bodies.{EnumeratorAt};
 ghost use Rattle.x_rules.specs.Constants.{Known};
 ghost use Rattle.x_rules.specs.Mentioned.{suits, may_be_linked, is_declared_as, is_constant, is_no_type};
@@ -15,7 +15,7 @@ use super::found::add_fault;
 use super::sights::Sights;
 use crate::fault::{RuleCode, WordFault};
 use crate::views::{Meaning, View};
-use x_item::{Mention, NameKind, Tag, Use};
+use x_trees::{Mention, NameKind, Tag, Use};
 use x_text::NoMemory;
 
 /// Whether a name that is declared so is the type that is needed.

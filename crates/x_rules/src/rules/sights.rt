@@ -9,7 +9,7 @@ ghost use Rattle.x_rules.specs.Tables.{view_at, seen_by};
 use super::places::{MOST_FEW, NameTable, Named, place_among, place_tabled, table_of};
 use crate::views::View;
 use std::alloc::Global;
-use x_item::{DeclaredName, Mention};
+use x_trees::{DeclaredName, Mention};
 use x_text::NoMemory;
 
 impl Named for DeclaredName<'_> {

@@ -1,7 +1,7 @@
 //! What single words are.
 
 ghost use Rattle.std.specs.Prelude.{◌≡◌, ◌++◌, List, map, OnOk};
-ghost use Rattle.x_item.specs.View.{view_value, view_declaration};
+ghost use Rattle.x_trees.specs.View.{view_value, view_declaration};
 ghost use Rattle.x_rules.specs.Bodies as bodies;
 ghost use Rattle.x_rules.specs.Constants.{Known};
 ghost use Rattle.x_numbers.specs.Numbers.{number_spelled, is_zero};
@@ -19,7 +19,7 @@ use super::sights::Sights;
 use crate::fault::{RuleCode, WordFault};
 use crate::outline::note::{Note, NoteAt, ValueRole};
 use crate::outline::parts::EnumeratorAt;
-use x_item::{Declaration, Value};
+use x_trees::{Declaration, Value};
 use x_numbers::{is_enum_number, is_word_number, number_value};
 use x_text::NoMemory;
 

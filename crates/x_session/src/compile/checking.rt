@@ -2,11 +2,11 @@
 
 ghost use Rattle.std.specs.Prelude.{◌≡◌, ◌+◌, ℕ, List, [], ◌∷◌, All, Option, None, Some, map, length, IfOk};
 ghost use Rattle.std.specs.Prelude.{if◌then◌else◌};
-ghost use Rattle.x_item.specs.Tree as tree;
-ghost use Rattle.x_item.specs.View.{view_definition};
+ghost use Rattle.x_trees.specs.Tree as tree;
+ghost use Rattle.x_trees.specs.View.{view_definition};
 ghost use Rattle.x_rules.specs.Declarers.{AreShort, IsShort, FirstIs};
 ghost use Rattle.x_rules.specs.DeclarerTable.{first_in};
-ghost use Rattle.x_item.specs.View.{tree_at};
+ghost use Rattle.x_trees.specs.View.{tree_at};
 ghost use Rattle.x_rules.specs.KeptViews.{lent_outcome};
 ghost use Rattle.x_rules.specs.Outlined.{IsOutline, outlined};
 ghost use Rattle.x_rules.specs.Results.{IsResult, result_at};

@@ -2,8 +2,8 @@
 
 ghost use Rattle.std.specs.Prelude.{◌≡◌, ◌≤◌, ◌+◌, length, map, IfOk, None, option_and_then, slice_get};
 ghost use Rattle.x_text.specs.declared.source.TheConstants.{MAX_TEXT};
-ghost use Rattle.x_item.specs.ItemList.{AreOfText, counts};
-ghost use Rattle.x_item.specs.View.{tree_at};
+ghost use Rattle.x_cutting.specs.ItemList.{AreOfText, counts};
+ghost use Rattle.x_trees.specs.View.{tree_at};
 ghost use Rattle.x_schema.specs.Schemas.{IsSchemaOf};
 ghost use Rattle.x_session.specs.Definitions.{numbered};
 ghost use Rattle.x_session.specs.KeptView.{entry_definitions, kept_part};

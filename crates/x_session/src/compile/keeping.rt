@@ -1,6 +1,6 @@
 //! What is kept of the items once they are checked.
 
-ghost use Rattle.x_item.specs.ItemList.{kept};
+ghost use Rattle.x_cutting.specs.ItemList.{kept};
 ghost use Rattle.x_session.specs.Checking.{AreKnown};
 ghost use Rattle.x_session.specs.KeptView.{AreWith};
 

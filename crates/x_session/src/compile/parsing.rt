@@ -4,7 +4,7 @@ ghost use Rattle.std.specs.Prelude.{◌≡◌, length, All, IfOk, None};
 ghost use Rattle.x_text.specs.Counts.{raised};
 ghost use Rattle.x_lex.specs.Tiling.{AreTokens};
 ghost use Rattle.x_lex.specs.Places.{lexemes};
-ghost use Rattle.x_item.specs.ItemList.{AreOfText, counts};
+ghost use Rattle.x_cutting.specs.ItemList.{AreOfText, counts};
 ghost use Rattle.x_rules.specs.Declarers.{AreShort};
 ghost use Rattle.x_session.specs.KeptView.{AreParsed, entry_definitions, kept_found};
 

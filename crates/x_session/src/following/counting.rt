@@ -1,7 +1,7 @@
 //! How many faults items have behind an edit.
 
 ghost use Rattle.std.specs.Prelude.{◌≡◌, ◌<◌, IfOk, drop, length, option_copied, option_map, slice_get, take};
-ghost use Rattle.x_item.specs.ItemList.{LiesAmong, kept, patched};
+ghost use Rattle.x_cutting.specs.ItemList.{LiesAmong, kept, patched};
 ghost use Rattle.x_session.specs.Counting.{entry_faults, faults_found, own_faults};
 ghost use Rattle.x_session.specs.Planned.{ArePlanned, overlaid};
 

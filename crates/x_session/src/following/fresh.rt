@@ -5,7 +5,7 @@ ghost use Rattle.x_text.specs.Counts.{raised};
 ghost use Rattle.x_lex.specs.Places.{lexeme, lexemes};
 ghost use Rattle.x_lex.specs.Tiling.{AreTokens};
 ghost use Rattle.x_lex.specs.TokenList.{LiesAmong, patched};
-ghost use Rattle.x_item.specs.ItemList.{counts, total};
+ghost use Rattle.x_cutting.specs.ItemList.{counts, total};
 ghost use Rattle.x_session.specs.KeptView.{AreAlong, kept_found};
 
 use crate::compile::Kept;

@@ -3,9 +3,9 @@
 ghost use Rattle.std.specs.Prelude.{◌≡◌, ◌+◌, ◌≤◌, IfOk, List, None, drop, length, map, option_and_then};
 ghost use Rattle.std.specs.Prelude.{option_copied, take};
 ghost use Rattle.x_text.specs.declared.source.TheConstants.{MAX_TEXT};
-ghost use Rattle.x_item.specs.ItemList.{AreOfText, ItemChange, LiesAmong, counts, patched};
-ghost use Rattle.x_item.specs.declared.cutting.entry.Entry as entries;
-ghost use Rattle.x_item.specs.View.{tree_at};
+ghost use Rattle.x_cutting.specs.ItemList.{AreOfText, ItemChange, LiesAmong, counts, patched};
+ghost use Rattle.x_cutting.specs.declared.cutting.entry.Entry as entries;
+ghost use Rattle.x_trees.specs.View.{tree_at};
 ghost use Rattle.x_rules.specs.Declarers.{AreShort};
 ghost use Rattle.x_uses.specs.Occurrences.{IsUsesOf};
 ghost use Rattle.x_session.specs.Following.{AreUsed, HasRoomForNames, IsNameChange};

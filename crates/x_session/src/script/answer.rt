@@ -4,7 +4,7 @@ ghost use Rattle.std.specs.Prelude.{◌≡◌, option_map};
 ghost use Rattle.x_text.specs.Writing.{Adds};
 ghost use Rattle.x_lex.specs.Places.{lexeme};
 ghost use Rattle.x_session.specs.Session.{Compiles};
-ghost use Rattle.x_item.specs.View.{view_body, view_declaration, view_definition};
+ghost use Rattle.x_trees.specs.View.{view_body, view_declaration, view_definition};
 ghost use Rattle.x_session.specs.Compile.{tokens_of, definitions_of, faults_of};
 ghost use Rattle.x_session.specs.Generated.{text_of};
 ghost use Rattle.x_session.specs.Answers.{counted_by, body_keyword, keyword_of, given_name, own_name, shown_name, definition_line, token_line, fault_line, tokens_answer, definitions_answer, fault_place, faults_answer, text_answer};

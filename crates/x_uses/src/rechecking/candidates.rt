@@ -2,7 +2,7 @@
 
 ghost use Rattle.std.specs.Prelude.{◌≡◌, ◌<◌, ◌≤◌, ◌+◌, ℕ, List, [], length, Option, Some, IfOk, OnOk};
 ghost use Rattle.std.specs.Prelude.{IsTrue, true, false};
-ghost use Rattle.x_item.specs.Tree.{Definition as Tree};
+ghost use Rattle.x_trees.specs.Tree.{Definition as Tree};
 ghost use Rattle.x_rules.specs.declared.names.Declarer.{Declarer as First};
 ghost use Rattle.x_uses.specs.Editing.{count_after, definition_at, definitions_after, old_number};
 ghost use Rattle.x_uses.specs.Rechecking.{AddsItemsFrom, AreCovered, AreCoveredAt, AreEditedItems, IsAlike};
@@ -13,7 +13,7 @@ use super::CheckedItems;
 use super::edited_items::EditedItems;
 use super::queue::Queue;
 use std::alloc::Global;
-use x_item::{DeclaredName, declares_into};
+use x_trees::{DeclaredName, declares_into};
 use x_rules::Declarer;
 use x_text::NoMemory;
 

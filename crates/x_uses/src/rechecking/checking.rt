@@ -20,7 +20,7 @@ use super::queue::Queue;
 use super::sights::{sees_same, views_of};
 use super::{CheckedItems, Rechecked};
 use std::alloc::Global;
-use x_item::DeclaredName;
+use x_trees::DeclaredName;
 use x_rules::{Checked, Declarer, Meaning, Outline, check_outline};
 use x_text::{Meter, NoMemory};
 

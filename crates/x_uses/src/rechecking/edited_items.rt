@@ -1,7 +1,7 @@
 //! The items of a text before an edit and after it.
 
 ghost use Rattle.std.specs.Prelude.{◌≡◌, ◌<◌, length, map, Option};
-ghost use Rattle.x_item.specs.View.{tree_at};
+ghost use Rattle.x_trees.specs.View.{tree_at};
 ghost use Rattle.x_rules.specs.Declarers.{first_declarer};
 ghost use Rattle.x_rules.specs.KeptViews.{lent_outcome};
 ghost use Rattle.x_rules.specs.Results.{result_at};
@@ -12,7 +12,7 @@ ghost use Rattle.x_uses.specs.Staleness.{Ascending, new_result, result_after, it
 
 use super::{CheckedItems, Rechecked};
 use crate::uses::{Place, Uses};
-use x_item::Definition;
+use x_trees::Definition;
 use x_rules::{Checked, Declarer};
 
 /// An edit of a text, with who declares and who uses each name.

@@ -3,9 +3,9 @@ ghost use Rattle.std.specs.Prelude.{◌≡◌, ℕ, List, map, None, Some, OnOk,
 ghost use Rattle.std.specs.List.{list_any};
 ghost use Rattle.std.specs.Cow.{cow_slice_items};
 ghost use Rattle.std.specs.Str.{bytes_eq};
-ghost use Rattle.x_item.specs.View.{view_definition};
-ghost use Rattle.x_item.specs.Named.{view_name};
-ghost use Rattle.x_item.specs.View.{tree_at};
+ghost use Rattle.x_trees.specs.View.{view_definition};
+ghost use Rattle.x_trees.specs.Named.{view_name};
+ghost use Rattle.x_trees.specs.View.{tree_at};
 ghost use Rattle.x_rules.specs.Declarers.{AreShort, IsShort, place_of_name, declarer_in};
 ghost use Rattle.x_uses.specs.Occurrences.{declarer_of, declarers_at, users_at, declarers_of, users_of, sees};
 ghost use Rattle.x_uses.specs.Slots.{slot_at, Changes, HasSameSlots, Notes, IsShortItem};
@@ -14,7 +14,7 @@ use super::slot::{CompactDeclarer, Slot};
 use super::table::Table;
 use indexmap::IndexMap;
 use std::alloc::Global;
-use x_item::{DeclaredName, Definition, Mention, declares_into, mentions_into};
+use x_trees::{DeclaredName, Definition, Mention, declares_into, mentions_into};
 use x_text::NoMemory;
 
 /// Gives a slot to a name that has none.

@@ -2,9 +2,9 @@ use Rattle.std.proofs.Common.{◌≡◌, sym, ap, subst, ◌∙◌}
 use Rattle.x_text.specs.Edits.{change_of}
 use Rattle.x_lex.specs.TokenList as tokens
 use Rattle.x_lex.specs.Places.{lexemes}
-use Rattle.x_item.specs.Items.{IsCut}
-use Rattle.x_item.specs.ItemList.{counts, patched, LiesAmong}
-use Rattle.x_item.specs.Recut.{IsRelexed}
+use Rattle.x_cutting.specs.Items.{IsCut}
+use Rattle.x_cutting.specs.ItemList.{counts, patched, LiesAmong}
+use Rattle.x_cutting.specs.Recut.{IsRelexed}
 use Rattle.rows.proofs.kept.follow.Goals as goal
 
 pub recut-requires : goal.recut-requires

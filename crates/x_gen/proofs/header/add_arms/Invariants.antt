@@ -1,5 +1,5 @@
 use Rattle.std.proofs.Common.{◌≡◌, ◌++◌, drop}
-use Rattle.x_item.specs.View.{view_arms, view_default}
+use Rattle.x_trees.specs.View.{view_arms, view_default}
 use Rattle.x_gen.specs.Header.{arm_lines}
 use Rattle.x_gen.proofs.header.add_arms.Given as goal
 

@@ -1,5 +1,5 @@
 use Rattle.std.proofs.Common.{◌≡◌, ◌++◌, drop}
-use Rattle.x_item.specs.View.{view_declarations}
+use Rattle.x_trees.specs.View.{view_declarations}
 use Rattle.x_gen.specs.Header.{field_lines}
 use Rattle.x_gen.proofs.header.add_fields.Given as goal
 

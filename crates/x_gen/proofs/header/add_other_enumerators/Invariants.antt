@@ -1,6 +1,6 @@
 use Rattle.std.proofs.Common.{◌≡◌, ◌++◌, drop, map, codes}
 use Rattle.std.specs.List.{flat_map}
-use Rattle.x_item.specs.View.{view_enumerator}
+use Rattle.x_trees.specs.View.{view_enumerator}
 use Rattle.x_gen.specs.Header.{enumerator_text}
 use Rattle.x_gen.proofs.header.add_other_enumerators.Given as goal
 

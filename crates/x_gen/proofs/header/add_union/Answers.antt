@@ -1,5 +1,5 @@
 use Rattle.std.proofs.Common.{◌++◌, sym, ap, ◌∙◌}
-use Rattle.x_item.proofs.Rows.{union_parts}
+use Rattle.x_trees.proofs.Rows.{union_parts}
 use Rattle.x_gen.specs.Header.{body_lines}
 use Rattle.x_gen.proofs.PartLemmas.{then_three}
 use Rattle.x_gen.proofs.header.add_union.Goals as goal

@@ -1,5 +1,5 @@
 use Rattle.std.proofs.Common.{◌≡◌, drop}
-use Rattle.x_item.specs.View.{view_arms, view_default}
+use Rattle.x_trees.specs.View.{view_arms, view_default}
 use Rattle.x_gen.specs.Header.{are_void}
 use Rattle.x_gen.proofs.header.are_void.Given as goal
 

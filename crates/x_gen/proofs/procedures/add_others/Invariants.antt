@@ -1,5 +1,5 @@
 use Rattle.std.proofs.Common.{◌≡◌, ◌++◌, drop, map, ◌+◌}
-use Rattle.x_item.specs.View.{view_argument}
+use Rattle.x_trees.specs.View.{view_argument}
 use Rattle.x_gen.specs.Procedures.{by_number}
 use Rattle.x_gen.proofs.procedures.add_others.Given as goal
 

@@ -1,6 +1,6 @@
 use Rattle.std.proofs.Common.{◌≡◌, ◌++◌, drop, map}
 use Rattle.std.specs.List.{flat_map}
-use Rattle.x_item.specs.View.{view_procedure, view_version}
+use Rattle.x_trees.specs.View.{view_procedure, view_version}
 use Rattle.x_gen.specs.Procedures.{by_names}
 use Rattle.x_gen.proofs.procedures.add_procedures.Given as goal
 

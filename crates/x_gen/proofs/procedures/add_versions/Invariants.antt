@@ -1,5 +1,5 @@
 use Rattle.std.proofs.Common.{◌≡◌, ◌++◌, drop, map}
-use Rattle.x_item.specs.View.{view_version}
+use Rattle.x_trees.specs.View.{view_version}
 use Rattle.x_gen.specs.Procedures.{version_pieces}
 use Rattle.x_gen.proofs.procedures.add_versions.Given as goal
 

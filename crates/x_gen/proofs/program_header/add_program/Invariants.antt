@@ -1,6 +1,6 @@
 use Rattle.std.proofs.Common.{◌≡◌, ◌++◌, drop, map}
 use Rattle.std.specs.List.{flat_map}
-use Rattle.x_item.specs.View.{view_version}
+use Rattle.x_trees.specs.View.{view_version}
 use Rattle.x_gen.specs.Header.{version_lines, constant_line}
 use Rattle.x_gen.proofs.program_header.add_program.Given as goal
 

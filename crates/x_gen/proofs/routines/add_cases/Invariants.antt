@@ -1,5 +1,5 @@
 use Rattle.std.proofs.Common.{◌≡◌, ◌++◌, drop, map}
-use Rattle.x_item.specs.View.{view_value}
+use Rattle.x_trees.specs.View.{view_value}
 use Rattle.x_gen.specs.Routines.{case_lines}
 use Rattle.x_gen.proofs.routines.add_cases.Given as goal
 

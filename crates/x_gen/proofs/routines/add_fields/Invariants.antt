@@ -1,5 +1,5 @@
 use Rattle.std.proofs.Common.{◌≡◌, ◌++◌, drop}
-use Rattle.x_item.specs.View.{view_declarations}
+use Rattle.x_trees.specs.View.{view_declarations}
 use Rattle.x_gen.specs.Routines.{field_calls}
 use Rattle.x_gen.proofs.routines.add_fields.Given as goal
 

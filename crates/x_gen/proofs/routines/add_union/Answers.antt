@@ -1,6 +1,6 @@
 use Rattle.std.proofs.Common.{◌++◌, sym, ap, ◌∙◌}
 use Rattle.std.proofs.lemmas.Result.{on_ok_weaker}
-use Rattle.x_item.proofs.Rows.{union_parts}
+use Rattle.x_trees.proofs.Rows.{union_parts}
 use Rattle.x_gen.specs.Routines.{body_calls}
 use Rattle.x_gen.proofs.PartLemmas.{then, then_four}
 use Rattle.x_gen.proofs.routines.add_union.Goals as goal

@@ -1,6 +1,6 @@
 use Rattle.std.proofs.Common.{◌+◌, ◌∷◌, drop, map, refl, sym, ap, ◌∙◌}
 use Rattle.std.proofs.lemmas.List.{drop_more}
-use Rattle.x_item.specs.View.{view_version}
+use Rattle.x_trees.specs.View.{view_version}
 use Rattle.x_gen.specs.Table.{version_table, program_table}
 use Rattle.x_gen.proofs.PartLemmas.{next}
 use Rattle.x_gen.proofs.table.add_program.Goals as goal

@@ -1,9 +1,9 @@
 use Rattle.std.proofs.Common.{◌≡◌, ◌++◌, sym, ap, ◌∙◌}
 use Rattle.std.proofs.lemmas.Result.{on_ok_weaker}
-use Rattle.x_item.specs.Tree.{Struct, Union}
-use Rattle.x_item.specs.View.{view_body, view_union, view_declaration, view_declarations, view_arms, view_default}
-use Rattle.x_item.specs.declared.trees.declaration.UnionBody.{out-UnionBody}
-use Rattle.x_item.proofs.Rows.{struct_view, union_parts}
+use Rattle.x_trees.specs.Tree.{Struct, Union}
+use Rattle.x_trees.specs.View.{view_body, view_union, view_declaration, view_declarations, view_arms, view_default}
+use Rattle.x_trees.specs.declared.trees.declaration.UnionBody.{out-UnionBody}
+use Rattle.x_trees.proofs.Rows.{struct_view, union_parts}
 use Rattle.x_gen.specs.InlineTypes.{types_inside}
 use Rattle.x_gen.specs.Views.{view_types}
 use Rattle.x_gen.proofs.PartLemmas.{then_two}

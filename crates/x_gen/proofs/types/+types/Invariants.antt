@@ -1,5 +1,5 @@
 use Rattle.std.proofs.Common.{◌≡◌, ◌++◌, drop}
-use Rattle.x_item.specs.View.{view_declarations, view_arms}
+use Rattle.x_trees.specs.View.{view_declarations, view_arms}
 use Rattle.x_gen.specs.InlineTypes.{types_of_declarations, types_of_arms}
 use Rattle.x_gen.specs.Views.{view_types}
 use Rattle.x_gen.proofs.types.+types.Given as goal

@@ -2,7 +2,7 @@ use Rattle.std.proofs.Common.{◌≡◌, suc, Some, None, cond, [], ◌∷◌, �
 use Rattle.std.specs.Cow.{cow_slice_items}
 use Rattle.std.specs.Str.{bytes_eq}
 use Rattle.std.proofs.lemmas.List.{length_push}
-use Rattle.x_item.specs.Named.{view_name}
+use Rattle.x_trees.specs.Named.{view_name}
 use Rattle.std.specs.Option.{option_or}
 use Rattle.x_rules.specs.Declarers.{declarer_at, place_of_name}
 use Rattle.x_rules.specs.DeclarerTable.{entry_in}

@@ -1,5 +1,5 @@
 use Rattle.std.proofs.Common.{◌≡◌, ℕ, List, length, map, take, drop}
-use Rattle.x_item.specs.Named.{view_name}
+use Rattle.x_trees.specs.Named.{view_name}
 use Rattle.std.specs.Option.{option_or}
 use Rattle.x_rules.specs.Declarers.{place_of_name}
 use Rattle.x_rules.specs.DeclarerTable.{entry_in}

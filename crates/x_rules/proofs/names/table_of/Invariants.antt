@@ -1,7 +1,7 @@
 use Rattle.std.proofs.Common.{◌≡◌, ℕ, List, map, drop}
 use Rattle.x_rules.specs.Declarers.{AreShort, first_from}
 use Rattle.x_rules.specs.DeclarerTable.{entry_in}
-use Rattle.x_item.specs.View.{tree_at}
+use Rattle.x_trees.specs.View.{tree_at}
 use Rattle.x_rules.proofs.names.table_of.Given as goal
 
 -- the table has what the items from this one on declare

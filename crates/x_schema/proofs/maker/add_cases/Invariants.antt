@@ -1,5 +1,5 @@
 use Rattle.std.proofs.Common.{◌≡◌, drop, map}
-use Rattle.x_item.specs.View.{view_value}
+use Rattle.x_trees.specs.View.{view_value}
 use Rattle.x_schema.specs.SchemaOf.{with_cases}
 use Rattle.x_schema.specs.SchemaTables.{numbers_held}
 use Rattle.x_schema.proofs.maker.add_cases.Given as goal

@@ -1,5 +1,5 @@
 use Rattle.std.proofs.Common.{refl, sym, ap}
-use Rattle.x_item.specs.ItemList.{ItemChange}
+use Rattle.x_cutting.specs.ItemList.{ItemChange}
 use Rattle.x_lex.specs.TokenList.{patched}
 use Rattle.x_session.specs.declared.compile.kept.Kept.{Kept}
 use Rattle.x_session.proofs.FollowLemmas.{fresh_within, items_followed}

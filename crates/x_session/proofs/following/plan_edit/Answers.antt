@@ -3,10 +3,10 @@ use Rattle.x_text.specs.Edits.{change_of}
 use Rattle.x_text.specs.Seqs.{Gapped}
 use Rattle.x_lex.specs.Places.{lexemes}
 use Rattle.x_lex.specs.TokenList as tokens
-use Rattle.x_item.specs.ItemList.{AreOfText, counts}
-use Rattle.x_item.specs.ItemList as items
-use Rattle.x_item.specs.Recut.{IsItemPatch, IsRelexed}
-use Rattle.x_item.specs.declared.cutting.entry.Entry.{Entry}
+use Rattle.x_cutting.specs.ItemList.{AreOfText, counts}
+use Rattle.x_cutting.specs.ItemList as items
+use Rattle.x_cutting.specs.Recut.{IsItemPatch, IsRelexed}
+use Rattle.x_cutting.specs.declared.cutting.entry.Entry.{Entry}
 use Rattle.x_session.specs.Counting.{faults_found}
 use Rattle.x_session.specs.Following.{AreFollowed, AreStaleChecked, AreUsed, IsNameChange, behind}
 use Rattle.x_session.specs.KeptView.{AreParsed}

@@ -1,5 +1,5 @@
 use Rattle.std.proofs.Common.{◌<◌, ◌^◌, arith, map, subst}
-use Rattle.x_item.specs.View.{tree_at}
+use Rattle.x_trees.specs.View.{tree_at}
 use Rattle.x_uses.specs.Editing.{edit_at}
 use Rattle.x_uses.specs.Rechecking.{HasAdvanced}
 use Rattle.x_uses.proofs.FoundLemmas.{counted_none}

@@ -1,9 +1,9 @@
 use Rattle.std.proofs.Common.{ℕ, [], ◌∷◌, ap, map, refl}
-use Rattle.x_item.specs.Words.{Fixed}
+use Rattle.x_trees.specs.Words.{Fixed}
 use Rattle.x_lex.specs.declared.mark.Mark.TheVariants as marks
 use Rattle.x_item.specs.Symbols.{AnyValue, Token, AfterCase}
-use Rattle.x_item.specs.View.{view_value}
-use Rattle.x_item.specs.Spell.{spell_cases}
+use Rattle.x_trees.specs.View.{view_value}
+use Rattle.x_trees.specs.Spell.{spell_cases}
 use Rattle.x_item.specs.Reading.{Fails}
 use Rattle.x_item.proofs.ReadLemmas.{exit_at, fails_more, fails_then, read_as, read_on, read_then, read_more, read_after_word, read_first}
 use Rattle.x_item.proofs.LoopLemmas.{one_only, has_pushed, cases_one, cases_more, no_case}

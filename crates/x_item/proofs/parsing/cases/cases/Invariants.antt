@@ -1,7 +1,7 @@
 use Rattle.std.proofs.Common.{ℕ, [], ◌∷◌, length, map}
-use Rattle.x_item.specs.Words.{Fixed}
-use Rattle.x_item.specs.Spell.{spell_cases, HasOne}
-use Rattle.x_item.specs.View.{view_value}
+use Rattle.x_trees.specs.Words.{Fixed}
+use Rattle.x_trees.specs.Spell.{spell_cases, HasOne}
+use Rattle.x_trees.specs.View.{view_value}
 use Rattle.x_lex.specs.declared.mark.Mark.TheVariants as marks
 use Rattle.x_item.specs.Symbols.{AnyValue, Token, AfterCase}
 use Rattle.x_item.specs.Reading.{IsRead}

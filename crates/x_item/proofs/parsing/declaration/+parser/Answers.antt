@@ -1,14 +1,14 @@
 use Rattle.std.proofs.Common.{ℕ, ◌-◌, [], ◌∷◌, ◌++◌, ap, sym, ◌∙◌, subst, append_assoc, refl}
 use Rattle.std.proofs.lemmas.Result.{IfOk-weaker, IfErr-weaker}
-use Rattle.x_item.specs.Words.{Fixed}
-use Rattle.x_item.specs.Gloss.{tag_mark}
-use Rattle.x_item.specs.Spell.{spell_body, spell_type, spell_named, spell_declaration, spell_declarations, spell_arms, spell_default, TypeFits, BodyFits, ArmsFit, DeclarationsFit}
-use Rattle.x_item.specs.Tree.{default}
-use Rattle.x_item.specs.View.{view_type, view_body, view_shape, view_declaration, view_declarations, view_arms}
+use Rattle.x_trees.specs.Words.{Fixed}
+use Rattle.x_trees.specs.Gloss.{tag_mark}
+use Rattle.x_trees.specs.Spell.{spell_body, spell_type, spell_named, spell_declaration, spell_declarations, spell_arms, spell_default, TypeFits, BodyFits, ArmsFit, DeclarationsFit}
+use Rattle.x_trees.specs.Tree.{default}
+use Rattle.x_trees.specs.View.{view_type, view_body, view_shape, view_declaration, view_declarations, view_arms}
 use Rattle.x_lex.specs.declared.mark.Mark.TheVariants as marks
 use Rattle.x_item.specs.declared.parsing.ending.Ending.TheVariants as endings
 use Rattle.x_item.specs.Symbols.{Context, AnyValue, Token, AfterCase, MoreArms, Declared, Declarations, MoreDeclarations, Arms, InDeclaration, AfterType, Typed, ending_mark}
-use Rattle.x_item.specs.declared.trees.declaration.Tag.TheVariants as tags
+use Rattle.x_trees.specs.declared.trees.declaration.Tag.TheVariants as tags
 use Rattle.x_item.specs.Reading.{view_word, IsRead, Fails}
 use Rattle.x_item.proofs.ReadLemmas.{exit, read_first, fails_alike, fails_more, fails_then, read_alike, read_as, read_more, read_on, read_then, read_after, read_after_word}
 use Rattle.x_item.proofs.LoopLemmas.{of_struct, of_union, union_words, of_declarations, more_declarations, default_symbols, struct_read, arms_read, has_declaration, fits_declaration, of_arms, more_arms, has_arm, fits_arm, no_keyword, no_tag_name, read_tagged, stuck_tagged, fits_one_more, fits_inline}

@@ -1,10 +1,10 @@
 use Rattle.std.proofs.Common.{◌+◌, ◌*◌, [], ◌∷◌, ◌++◌, length}
 use Rattle.x_lex.specs.declared.mark.Mark.TheVariants as marks
-use Rattle.x_item.specs.Words.{Fixed}
-use Rattle.x_item.specs.Spell.{spell_declarations, spell_arms, ArmsFit, DeclarationsFit}
-use Rattle.x_item.specs.View.{view_declarations, view_arms}
+use Rattle.x_trees.specs.Words.{Fixed}
+use Rattle.x_trees.specs.Spell.{spell_declarations, spell_arms, ArmsFit, DeclarationsFit}
+use Rattle.x_trees.specs.View.{view_declarations, view_arms}
 use Rattle.x_item.specs.declared.parsing.ending.Ending.TheVariants as endings
-use Rattle.x_item.specs.declared.trees.declaration.Tag.TheVariants as tags
+use Rattle.x_trees.specs.declared.trees.declaration.Tag.TheVariants as tags
 use Rattle.x_item.specs.Symbols.{AnyBody, AnyValue, Token, AfterCase, Arms, MoreArms, Declared, MoreDeclarations}
 use Rattle.x_item.specs.Reading.{IsRead}
 use Rattle.x_item.proofs.parsing.declaration.+parser.Given as goal

@@ -1,7 +1,7 @@
 use Rattle.std.proofs.Common.{ap}
-use Rattle.x_item.specs.Words.{Fixed}
-use Rattle.x_item.specs.View.{view_type}
-use Rattle.x_item.specs.Spell.{spell_type}
+use Rattle.x_trees.specs.Words.{Fixed}
+use Rattle.x_trees.specs.View.{view_type}
+use Rattle.x_trees.specs.Spell.{spell_type}
 use Rattle.x_item.proofs.LoopLemmas.{read_unsigned, stuck_unsigned}
 use Rattle.x_item.proofs.parsing.declaration.basic.Goals as goal
 

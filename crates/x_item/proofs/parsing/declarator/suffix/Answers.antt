@@ -1,5 +1,5 @@
 use Rattle.std.proofs.Common.{[], ◌∷◌}
-use Rattle.x_item.specs.Words.{Name}
+use Rattle.x_trees.specs.Words.{Name}
 use Rattle.x_item.specs.Symbols.{AnyLength, Token, ending_mark}
 use Rattle.x_item.proofs.ReadLemmas.{exit, fails_alike, fails_more, fails_then, fails_along, part_along, read_alike, read_more, read_then, read_after_word}
 use Rattle.x_item.proofs.LoopLemmas.{ended_name, after_name}

@@ -1,11 +1,11 @@
 use Rattle.std.proofs.Common.{[], ◌∷◌, ◌++◌, ap, sym, ◌∙◌}
 use Rattle.x_lex.specs.declared.mark.Mark.TheVariants as marks
-use Rattle.x_item.specs.Words.{Fixed, Name}
-use Rattle.x_item.specs.Tree.{NewType}
-use Rattle.x_item.specs.Gloss.{tag_mark}
-use Rattle.x_item.specs.Spell.{spell, spell_body}
-use Rattle.x_item.specs.View.{view_body}
-use Rattle.x_item.specs.declared.trees.declaration.TheConstants.{MOST_INLINE}
+use Rattle.x_trees.specs.Words.{Fixed, Name}
+use Rattle.x_trees.specs.Tree.{NewType}
+use Rattle.x_trees.specs.Gloss.{tag_mark}
+use Rattle.x_trees.specs.Spell.{spell, spell_body}
+use Rattle.x_trees.specs.View.{view_body}
+use Rattle.x_trees.specs.declared.trees.declaration.TheConstants.{MOST_INLINE}
 use Rattle.x_item.specs.Symbols.{AnyName, AnyBody, Token}
 use Rattle.x_item.proofs.ReadLemmas.{read_after_word, read_as, read_more, read_then}
 use Rattle.x_item.proofs.parsing.definition.new_type.Goals as goal

@@ -1,6 +1,6 @@
 use Rattle.std.proofs.Common.{[], ◌∷◌, ◌++◌, append_assoc}
 use Rattle.x_lex.specs.declared.mark.Mark.TheVariants as marks
-use Rattle.x_item.specs.Words.{Fixed}
+use Rattle.x_trees.specs.Words.{Fixed}
 use Rattle.x_item.specs.Symbols.{AnyName, of_number, of_versions}
 use Rattle.x_item.proofs.ReadLemmas.{read_after_word, read_as, read_more, read_then}
 use Rattle.x_item.proofs.parsing.definition.program.Goals as goal

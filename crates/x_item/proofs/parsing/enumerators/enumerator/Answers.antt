@@ -1,6 +1,6 @@
 use Rattle.std.proofs.Common.{[], ◌∷◌}
 use Rattle.x_item.specs.Symbols.{AnyName, AfterEnumerator}
-use Rattle.x_item.specs.Words.{Name}
+use Rattle.x_trees.specs.Words.{Name}
 use Rattle.x_item.proofs.ReadLemmas.{exit, fails_alike, fails_more, fails_then, read_alike, read_more, read_after}
 use Rattle.x_item.proofs.LoopLemmas.{of_enumerator}
 use Rattle.x_item.proofs.parsing.enumerators.enumerator.Goals as goal

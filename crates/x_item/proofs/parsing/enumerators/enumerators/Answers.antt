@@ -1,8 +1,8 @@
 use Rattle.std.proofs.Common.{[], ◌∷◌, refl}
-use Rattle.x_item.specs.Words.{Fixed}
+use Rattle.x_trees.specs.Words.{Fixed}
 use Rattle.x_lex.specs.declared.mark.Mark.TheVariants as marks
 use Rattle.x_item.specs.Symbols.{Enumerators, MoreEnumerators, Token}
-use Rattle.x_item.specs.View.{view_enumerator}
+use Rattle.x_trees.specs.View.{view_enumerator}
 use Rattle.x_item.proofs.ReadLemmas.{exit, fails_then, read_as, read_first, read_on, read_then}
 use Rattle.x_item.proofs.LoopLemmas.{one_only, has_pushed, enumerators_one, enumerators_more, more_enumerators}
 use Rattle.x_item.proofs.parsing.enumerators.enumerators.Goals as goal

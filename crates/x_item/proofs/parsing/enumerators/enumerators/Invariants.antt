@@ -1,6 +1,6 @@
 use Rattle.std.proofs.Common.{[], ◌∷◌, length, map}
-use Rattle.x_item.specs.Spell.{spell_enumerators, HasOne}
-use Rattle.x_item.specs.View.{view_enumerator}
+use Rattle.x_trees.specs.Spell.{spell_enumerators, HasOne}
+use Rattle.x_trees.specs.View.{view_enumerator}
 use Rattle.x_item.specs.Symbols.{Enumerators, MoreEnumerators}
 use Rattle.x_item.specs.Reading.{IsRead}
 use Rattle.x_item.proofs.parsing.enumerators.enumerators.Given as goal

@@ -1,10 +1,10 @@
 use Rattle.std.proofs.Common.{◌≡◌, map}
 use Rattle.std.proofs.lemmas.Result.{IfErr-weaker}
 use Rattle.x_lex.specs.Places.{lexeme}
-use Rattle.x_item.specs.Words.{words_of}
-use Rattle.x_item.specs.Spell.{spell, KeepsLimits}
+use Rattle.x_trees.specs.Words.{words_of}
+use Rattle.x_trees.specs.Spell.{spell, KeepsLimits}
 use Rattle.x_item.specs.Reading.{IsBefore, IsRefused}
-use Rattle.x_item.specs.View.{view_definition}
+use Rattle.x_trees.specs.View.{view_definition}
 use Rattle.x_item.proofs.FaultLemmas.{exit_refused}
 use Rattle.x_item.proofs.ReadLemmas.{ok_of}
 use Rattle.x_item.proofs.ItemLemmas.{found_whole, refused_at, refused_before}

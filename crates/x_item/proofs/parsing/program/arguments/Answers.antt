@@ -1,7 +1,7 @@
 use Rattle.std.proofs.Common.{[], ◌∷◌, ap, map, refl, subst, sym}
-use Rattle.x_item.specs.Words.{Fixed}
-use Rattle.x_item.specs.Spell.{ArgumentFits, OthersFit}
-use Rattle.x_item.specs.View.{view_argument}
+use Rattle.x_trees.specs.Words.{Fixed}
+use Rattle.x_trees.specs.Spell.{ArgumentFits, OthersFit}
+use Rattle.x_trees.specs.View.{view_argument}
 use Rattle.x_lex.specs.declared.mark.Mark.TheVariants as marks
 use Rattle.x_item.specs.Symbols.{Token, InArguments, AfterType, Arguments, Parameters}
 use Rattle.x_item.proofs.ReadLemmas.{exit, fails_more, fails_then, read_as, read_first, read_more, read_on, read_then}

@@ -1,8 +1,8 @@
 use Rattle.std.proofs.Common.{[], ◌++◌, ◌∷◌, length, map}
 use Rattle.x_lex.specs.declared.mark.Mark.TheVariants as marks
-use Rattle.x_item.specs.Words.{Fixed}
-use Rattle.x_item.specs.Spell.{spell_passed, spell_others, PassedFits, OthersFit}
-use Rattle.x_item.specs.View.{view_passed, view_argument}
+use Rattle.x_trees.specs.Words.{Fixed}
+use Rattle.x_trees.specs.Spell.{spell_passed, spell_others, PassedFits, OthersFit}
+use Rattle.x_trees.specs.View.{view_passed, view_argument}
 use Rattle.x_item.specs.Symbols.{InArguments, AfterType, of_arguments}
 use Rattle.x_item.specs.Reading.{IsRead}
 use Rattle.x_item.proofs.parsing.program.arguments.Given as goal

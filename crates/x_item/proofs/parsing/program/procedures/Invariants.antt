@@ -1,8 +1,8 @@
 use Rattle.std.proofs.Common.{[], ◌++◌, ◌∷◌, length, map}
 use Rattle.x_lex.specs.declared.mark.Mark.TheVariants as marks
-use Rattle.x_item.specs.Words.{Fixed}
-use Rattle.x_item.specs.Spell.{spell_procedures, ProceduresFit}
-use Rattle.x_item.specs.View.{view_procedure}
+use Rattle.x_trees.specs.Words.{Fixed}
+use Rattle.x_trees.specs.Spell.{spell_procedures, ProceduresFit}
+use Rattle.x_trees.specs.View.{view_procedure}
 use Rattle.x_item.specs.Symbols.{MoreProcedures, of_procedure, of_procedures}
 use Rattle.x_item.specs.Reading.{IsRead}
 use Rattle.x_item.proofs.parsing.program.procedures.Given as goal

@@ -1,8 +1,8 @@
 use Rattle.std.proofs.Common.{[], ◌∷◌, ap, map, refl, subst, sym}
 use Rattle.x_lex.specs.declared.mark.Mark.TheVariants as marks
-use Rattle.x_item.specs.Words.{Fixed}
-use Rattle.x_item.specs.Spell.{spell_version, spell_versions, VersionFits, VersionsFit}
-use Rattle.x_item.specs.View.{view_version}
+use Rattle.x_trees.specs.Words.{Fixed}
+use Rattle.x_trees.specs.Spell.{spell_version, spell_versions, VersionFits, VersionsFit}
+use Rattle.x_trees.specs.View.{view_version}
 use Rattle.x_item.specs.Symbols.{Token, Versions, MoreVersions, of_version}
 use Rattle.x_item.proofs.ReadLemmas.{exit, fails_more, fails_then, read_as, read_first, read_more, read_on, read_then}
 use Rattle.x_item.proofs.LoopLemmas.{has_pushed}

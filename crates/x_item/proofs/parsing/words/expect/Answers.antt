@@ -1,4 +1,4 @@
-use Rattle.x_item.specs.Words.{Fixed}
+use Rattle.x_trees.specs.Words.{Fixed}
 use Rattle.x_item.proofs.ReadLemmas.{not_mark, read_first, takes_mark, stuck_other}
 use Rattle.x_item.proofs.parsing.words.expect.Goals as goal
 

@@ -1,5 +1,5 @@
 use Rattle.std.proofs.Common.{map}
-use Rattle.x_item.specs.View.{tree_at}
+use Rattle.x_trees.specs.View.{tree_at}
 use Rattle.x_rules.proofs.DeclarerLaws.{first_by_search}
 use Rattle.x_rules.proofs.names.Names.of.Goals as goal
 

@@ -1,7 +1,7 @@
 use Rattle.std.proofs.Common.{[], map, length}
-use Rattle.x_item.specs.Spell.{spell_others}
-use Rattle.x_item.specs.View.{view_argument, view_procedure}
-use Rattle.x_item.proofs.CollectLemmas.{finds_then}
+use Rattle.x_trees.specs.Spell.{spell_others}
+use Rattle.x_trees.specs.View.{view_argument, view_procedure}
+use Rattle.x_trees.proofs.CollectLemmas.{finds_then}
 use Rattle.x_rules.specs.MemberWalks.{Skips, AddsName, AddsNumber}
 use Rattle.x_rules.proofs.MemberWalkLemmas.{adds_procedure}
 use Rattle.x_rules.proofs.outline.programs.add_procedure.Goals as goal

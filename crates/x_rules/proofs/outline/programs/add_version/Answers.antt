@@ -1,5 +1,5 @@
 use Rattle.std.proofs.Common.{[], map}
-use Rattle.x_item.specs.View.{view_procedure, view_version}
+use Rattle.x_trees.specs.View.{view_procedure, view_version}
 use Rattle.x_rules.specs.MemberWalks.{AddsName, AddsNumber, AddsProcedures, place, start}
 use Rattle.x_rules.proofs.MemberWalkLemmas.{adds_version}
 use Rattle.x_rules.proofs.outline.programs.add_version.Goals as goal

@@ -1,6 +1,6 @@
 use Rattle.std.proofs.Common.{◌≡◌, map, IfOk, sym, subst}
 use Rattle.std.proofs.lemmas.Result.{IfOk-weaker}
-use Rattle.x_item.specs.View.{view_version, view_definition}
+use Rattle.x_trees.specs.View.{view_version, view_definition}
 use Rattle.x_rules.specs.Bodies.{members}
 use Rattle.x_rules.specs.Declarers.{IsShort}
 use Rattle.x_rules.specs.Tables.{view_members}

@@ -1,6 +1,6 @@
 use Rattle.std.proofs.Common.{[], length, sym, subst}
-use Rattle.x_item.specs.Spell.{spell_passed}
-use Rattle.x_item.specs.View.{view_passed}
+use Rattle.x_trees.specs.Spell.{spell_passed}
+use Rattle.x_trees.specs.View.{view_passed}
 use Rattle.x_rules.specs.MemberWalks.{Skips}
 use Rattle.x_rules.proofs.outline.programs.pass.Goals as goal
 

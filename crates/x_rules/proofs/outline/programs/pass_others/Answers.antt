@@ -1,8 +1,8 @@
 use Rattle.std.proofs.Common.{◌≡◌, ◌+◌, ◌∷◌, [], drop, map, length, ap, sym, subst, ◌∙◌}
 use Rattle.std.proofs.lemmas.List.{drop_all, drop_more}
-use Rattle.x_item.specs.View.{view_argument}
-use Rattle.x_item.specs.Spell.{spell_others}
-use Rattle.x_item.proofs.CollectLemmas.{finds_none}
+use Rattle.x_trees.specs.View.{view_argument}
+use Rattle.x_trees.specs.Spell.{spell_others}
+use Rattle.x_trees.proofs.CollectLemmas.{finds_none}
 use Rattle.x_rules.specs.MemberWalks.{Skips}
 use Rattle.x_rules.proofs.MemberWalkLemmas.{skips_other}
 use Rattle.x_rules.proofs.outline.programs.pass_others.Goals as goal

@@ -1,6 +1,6 @@
 use Rattle.std.proofs.Common.{drop, map, length}
-use Rattle.x_item.specs.View.{view_argument}
-use Rattle.x_item.specs.Spell.{spell_others}
+use Rattle.x_trees.specs.View.{view_argument}
+use Rattle.x_trees.specs.Spell.{spell_others}
 use Rattle.x_rules.specs.MemberWalks.{Skips}
 use Rattle.x_rules.specs.declared.outline.bodies.BodyWalk.{BodyWalk}
 use Rattle.x_rules.proofs.outline.programs.pass_others.Given as goal

@@ -1,7 +1,7 @@
 use Rattle.std.proofs.Common.{[], length, OnOk, sym, subst}
 use Rattle.std.proofs.lemmas.Result.{on_ok_weaker}
-use Rattle.x_item.specs.Spell.{spell_basic, spell_type, spell_body}
-use Rattle.x_item.specs.View.{view_type, view_body}
+use Rattle.x_trees.specs.Spell.{spell_basic, spell_type, spell_body}
+use Rattle.x_trees.specs.View.{view_type, view_body}
 use Rattle.x_rules.specs.BodyWalks.{Passes}
 use Rattle.x_rules.specs.MemberWalks.{Skips}
 use Rattle.x_rules.proofs.MemberWalkLemmas.{skips_inline}

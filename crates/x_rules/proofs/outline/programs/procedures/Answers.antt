@@ -1,6 +1,6 @@
 use Rattle.std.proofs.Common.{◌≡◌, ◌+◌, ◌∷◌, [], drop, map, ap, sym, subst, ◌∙◌}
 use Rattle.std.proofs.lemmas.List.{drop_all, drop_more}
-use Rattle.x_item.specs.View.{view_procedure}
+use Rattle.x_trees.specs.View.{view_procedure}
 use Rattle.x_rules.specs.MemberWalks.{AddsProcedures, place}
 use Rattle.x_rules.proofs.MemberWalkLemmas.{adds_none, adds_procedures, procedures_start}
 use Rattle.x_rules.proofs.outline.programs.procedures.Goals as goal

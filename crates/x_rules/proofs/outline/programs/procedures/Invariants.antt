@@ -1,5 +1,5 @@
 use Rattle.std.proofs.Common.{[], drop, map}
-use Rattle.x_item.specs.View.{view_procedure}
+use Rattle.x_trees.specs.View.{view_procedure}
 use Rattle.x_rules.specs.MemberWalks.{Place, AddsProcedures, place, start}
 use Rattle.x_rules.proofs.outline.programs.procedures.Given as goal
 

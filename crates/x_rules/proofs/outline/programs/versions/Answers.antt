@@ -1,6 +1,6 @@
 use Rattle.std.proofs.Common.{◌≡◌, ◌+◌, ◌∷◌, drop, map, ap, sym, subst, ◌∙◌}
 use Rattle.std.proofs.lemmas.List.{drop_all, drop_more}
-use Rattle.x_item.specs.View.{view_version}
+use Rattle.x_trees.specs.View.{view_version}
 use Rattle.x_rules.specs.MemberWalks.{AddsVersions, place}
 use Rattle.x_rules.proofs.MemberWalkLemmas.{adds_none, versions_start, versions_all}
 use Rattle.x_rules.proofs.outline.programs.versions.Goals as goal

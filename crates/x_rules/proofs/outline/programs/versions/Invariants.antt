@@ -1,5 +1,5 @@
 use Rattle.std.proofs.Common.{drop, map}
-use Rattle.x_item.specs.View.{view_version}
+use Rattle.x_trees.specs.View.{view_version}
 use Rattle.x_rules.specs.MemberWalks.{Place, AddsVersions, place, start}
 use Rattle.x_rules.proofs.outline.programs.versions.Given as goal
 

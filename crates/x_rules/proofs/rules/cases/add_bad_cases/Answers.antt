@@ -1,10 +1,10 @@
 use Rattle.std.proofs.Common.{◌≡◌, ◌++◌, map, Fits, w64, true, false, Some, None, ap, sym, ◌∙◌, append-nil, rules}
 use Rattle.std.specs.Prelude.{option_map}
 use Rattle.std.proofs.lemmas.Result.{on_ok_weaker}
-use Rattle.x_item.specs.Tree.{Union}
-use Rattle.x_item.specs.View.{view_union, view_body, view_declaration, view_arms, view_default}
-use Rattle.x_item.specs.declared.trees.declaration.Body.TheViews.{out-UnionBody}
-use Rattle.x_item.proofs.Rows.{union_parts}
+use Rattle.x_trees.specs.Tree.{Union}
+use Rattle.x_trees.specs.View.{view_union, view_body, view_declaration, view_arms, view_default}
+use Rattle.x_trees.specs.declared.trees.declaration.Body.TheViews.{out-UnionBody}
+use Rattle.x_trees.proofs.Rows.{union_parts}
 use Rattle.x_rules.specs.Cases.{case_faults}
 use Rattle.x_rules.specs.KeptViews.{kept_class}
 use Rattle.x_rules.specs.Tables.{seen_by, view_value_at}

@@ -1,6 +1,6 @@
 use Rattle.std.proofs.Common.{ap, sym, ◌∙◌}
-use Rattle.x_item.specs.View.{view_body}
-use Rattle.x_item.proofs.Rows.{union_parts}
+use Rattle.x_trees.specs.View.{view_body}
+use Rattle.x_trees.proofs.Rows.{union_parts}
 use Rattle.x_rules.specs.Types.{body_class}
 use Rattle.x_rules.proofs.rules.classes.body_class.Goals as goal
 

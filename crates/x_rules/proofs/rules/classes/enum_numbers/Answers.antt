@@ -3,7 +3,7 @@ use Rattle.std.proofs.lemmas.Int.{to_z-of_z}
 use Rattle.std.proofs.lemmas.List.{drop_more}
 use mir.Syntax.{w32}
 use mir.Val.{SFits}
-use Rattle.x_item.specs.View.{view_enumerator}
+use Rattle.x_trees.specs.View.{view_enumerator}
 use Rattle.x_rules.specs.Constants.{number_named}
 use Rattle.x_rules.specs.Types.{enum_number}
 use Rattle.x_rules.proofs.ClassLemmas.{with_all_start, with_all, with_all_more, with_all_none, with_all_end}

@@ -1,8 +1,8 @@
 use Rattle.std.proofs.Common.{◌≡◌, ◌<◌, ◌+◌, ◌^◌, ◌++◌, true, length, map, ap, sym, subst, append-nil, ◌∙◌}
 use Rattle.std.proofs.lemmas.Result.{on_ok_weaker}
-use Rattle.x_item.specs.Spell.{spell_body, spell_other_enumerators}
-use Rattle.x_item.specs.View.{view_enumerator, view_body}
-use Rattle.x_item.proofs.Rows.{struct_view, union_parts}
+use Rattle.x_trees.specs.Spell.{spell_body, spell_other_enumerators}
+use Rattle.x_trees.specs.View.{view_enumerator, view_body}
+use Rattle.x_trees.proofs.Rows.{struct_view, union_parts}
 use Rattle.x_rules.specs.Bodies.{enumerators_of, enumerators_from}
 use Rattle.x_rules.specs.BodyWalks.{body_at}
 use Rattle.x_rules.specs.Tables.{view_enumerator_at}

@@ -1,8 +1,8 @@
 use Rattle.std.proofs.Common.{◌≡◌, ◌+◌, ◌∷◌, drop, map, ap, sym, subst, ◌∙◌}
 use Rattle.std.proofs.lemmas.List.{drop_all, drop_more}
-use Rattle.x_item.specs.View.{view_enumerator}
-use Rattle.x_item.specs.Collected.{Walked}
-use Rattle.x_item.proofs.CollectLemmas.{finds_none}
+use Rattle.x_trees.specs.View.{view_enumerator}
+use Rattle.x_trees.specs.Collected.{Walked}
+use Rattle.x_trees.proofs.CollectLemmas.{finds_none}
 use Rattle.x_rules.specs.Bodies.{EnumeratorAt}
 use Rattle.x_rules.specs.Tables.{view_enumerator_at, view_given}
 use Rattle.x_text.proofs.ListLemmas.{map_append}

@@ -1,8 +1,8 @@
 use Rattle.std.proofs.Common.{◌≡◌, ◌+◌, ◌∷◌, drop, max, ap, sym, ◌∙◌}
-use Rattle.x_item.specs.Tree.{Struct, Union}
-use Rattle.x_item.specs.View.{view_union, view_body, view_declaration, view_declarations, view_arms, view_default}
-use Rattle.x_item.specs.declared.trees.declaration.Body.TheViews.{out-UnionBody}
-use Rattle.x_item.proofs.Rows.{struct_view, union_parts}
+use Rattle.x_trees.specs.Tree.{Struct, Union}
+use Rattle.x_trees.specs.View.{view_union, view_body, view_declaration, view_declarations, view_arms, view_default}
+use Rattle.x_trees.specs.declared.trees.declaration.Body.TheViews.{out-UnionBody}
+use Rattle.x_trees.proofs.Rows.{struct_view, union_parts}
 use Rattle.x_rules.specs.Types.{body_height, held_height, fields_height, arms_height, default_height}
 use Rattle.x_rules.specs.Tables.{seen_by, capped}
 use Rattle.x_rules.proofs.HeightLemmas.{higher, highest, around, higher_two}

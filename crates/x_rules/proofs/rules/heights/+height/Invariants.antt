@@ -1,5 +1,5 @@
 use Rattle.std.proofs.Common.{◌≡◌, max, drop}
-use Rattle.x_item.specs.View.{view_declarations, view_arms}
+use Rattle.x_trees.specs.View.{view_declarations, view_arms}
 use Rattle.x_rules.specs.Types.{fields_height, arms_height}
 use Rattle.x_rules.specs.Tables.{seen_by, capped}
 use Rattle.x_rules.proofs.rules.heights.+height.Given as goal

@@ -1,6 +1,6 @@
 use Rattle.std.proofs.Common.{◌≡◌, drop}
 use Rattle.std.specs.List.{list_any}
-use Rattle.x_item.specs.View.{view_body}
+use Rattle.x_trees.specs.View.{view_body}
 use Rattle.x_rules.specs.Types.{body_height}
 use Rattle.x_rules.specs.Tables.{seen_by, is_too_high}
 use Rattle.x_rules.proofs.rules.heights.has_too_high_body.Given as goal

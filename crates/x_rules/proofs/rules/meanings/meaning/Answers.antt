@@ -1,7 +1,7 @@
 use Rattle.std.proofs.Common.{ap, sym, ◌∙◌}
 use Rattle.std.proofs.lemmas.Result.{IfOk-weaker}
 use Rattle.std.specs.Cow.{cow_slice_items}
-use Rattle.x_item.specs.View.{view_definition}
+use Rattle.x_trees.specs.View.{view_definition}
 use Rattle.x_rules.specs.Bodies as outline
 use Rattle.x_rules.specs.Constants.{knowns}
 use Rattle.x_rules.specs.Meanings.{counted_type}

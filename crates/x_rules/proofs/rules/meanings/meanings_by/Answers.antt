@@ -1,7 +1,7 @@
 use Rattle.std.proofs.Common.{◌≡◌, ◌+◌, ◌∷◌, ◌++◌, [], map, drop, ap, sym, ◌∙◌}
 use Rattle.std.proofs.lemmas.List.{drop_more}
-use Rattle.x_item.specs.Named.{view_name}
-use Rattle.x_item.specs.View.{view_definition}
+use Rattle.x_trees.specs.Named.{view_name}
+use Rattle.x_trees.specs.View.{view_definition}
 use Rattle.x_rules.specs.KeptViews.{kept_meaning}
 use Rattle.x_rules.specs.Results.{meaning_of}
 use Rattle.x_rules.specs.Tables.{seen_by}

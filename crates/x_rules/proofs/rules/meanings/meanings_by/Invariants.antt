@@ -1,7 +1,7 @@
 use Rattle.std.proofs.Common.{◌≡◌, ◌++◌, false, map, drop}
 use Rattle.std.specs.List.{list_any}
-use Rattle.x_item.specs.Named.{view_name}
-use Rattle.x_item.specs.View.{view_definition}
+use Rattle.x_trees.specs.Named.{view_name}
+use Rattle.x_trees.specs.View.{view_definition}
 use Rattle.x_rules.specs.Bodies as outline
 use Rattle.x_rules.specs.Constants.{knowns}
 use Rattle.x_rules.specs.KeptViews.{kept_meaning}

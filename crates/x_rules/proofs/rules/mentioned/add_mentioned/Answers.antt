@@ -1,7 +1,7 @@
 use Rattle.std.proofs.Common.{◌+◌, [], ◌++◌, None, map, drop, get_or, ap, ◌∙◌}
-use Rattle.x_item.specs.declared.names.mention.Mention.{Mention}
-use Rattle.x_item.specs.declared.names.mention.Use.TheVariants as uses
-use Rattle.x_item.specs.Collected.{view_mention}
+use Rattle.x_trees.specs.declared.names.mention.Mention.{Mention}
+use Rattle.x_trees.specs.declared.names.mention.Use.TheVariants as uses
+use Rattle.x_trees.specs.Collected.{view_mention}
 use Rattle.x_rules.specs.Mentioned.{mention_fault}
 use Rattle.x_rules.specs.Tables.{seen_by}
 use Rattle.x_rules.specs.Found.{fault_at}

@@ -1,8 +1,8 @@
 use Rattle.std.proofs.Common.{ℕ, List, map, length, None, Some, sym, refl, ◌∙◌}
 use Rattle.std.proofs.lemmas.List.{length-map}
 use Rattle.std.specs.Cow.{cow_slice_items}
-use Rattle.x_item.specs.declared.names.declared_name.DeclaredName.{DeclaredName}
-use Rattle.x_item.specs.declared.names.mention.Mention.{Mention}
+use Rattle.x_trees.specs.declared.names.declared_name.DeclaredName.{DeclaredName}
+use Rattle.x_trees.specs.declared.names.mention.Mention.{Mention}
 use Rattle.x_rules.proofs.PlaceLemmas.{found_of_two}
 use Rattle.x_rules.proofs.rules.sights.place_among_few.Goals as goal
 

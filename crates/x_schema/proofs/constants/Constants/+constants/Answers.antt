@@ -1,9 +1,9 @@
 use Rattle.std.proofs.Common.{◌≡◌, ◌∷◌, ◌+◌, drop, ap, sym, ◌∙◌}
 use Rattle.std.proofs.lemmas.Result.{on_ok_weaker}
-use Rattle.x_item.specs.Tree.{Struct}
-use Rattle.x_item.specs.View.{view_body, view_declarations, view_arms, view_default}
-use Rattle.x_item.specs.declared.trees.declaration.Body.TheViews.{out-UnionBody}
-use Rattle.x_item.proofs.Rows.{struct_view, union_parts}
+use Rattle.x_trees.specs.Tree.{Struct}
+use Rattle.x_trees.specs.View.{view_body, view_declarations, view_arms, view_default}
+use Rattle.x_trees.specs.declared.trees.declaration.Body.TheViews.{out-UnionBody}
+use Rattle.x_trees.proofs.Rows.{struct_view, union_parts}
 use Rattle.x_schema.specs.SchemaOf.{with_body, with_declarations, with_arms, with_default}
 use Rattle.x_schema.specs.SchemaTables.{numbers_held}
 use Rattle.x_text.proofs.ListLemmas.{drop_one, drop_none}

@@ -1,5 +1,5 @@
 use Rattle.std.proofs.Common.{◌≡◌, drop}
-use Rattle.x_item.specs.View.{view_declarations, view_arms}
+use Rattle.x_trees.specs.View.{view_declarations, view_arms}
 use Rattle.x_schema.specs.SchemaOf.{with_declarations, with_arms}
 use Rattle.x_schema.specs.SchemaTables.{numbers_held}
 use Rattle.x_schema.proofs.constants.Constants.+constants.Given as goal

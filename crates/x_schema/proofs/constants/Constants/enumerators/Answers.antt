@@ -1,5 +1,5 @@
 use Rattle.std.proofs.Common.{◌≡◌, ◌∷◌, ◌+◌, drop, map, ap, sym, ◌∙◌}
-use Rattle.x_item.specs.View.{view_enumerator}
+use Rattle.x_trees.specs.View.{view_enumerator}
 use Rattle.x_schema.specs.SchemaOf.{with_enumerators}
 use Rattle.x_schema.specs.SchemaTables.{numbers_held}
 use Rattle.x_text.proofs.ListLemmas.{drop_one, drop_none}

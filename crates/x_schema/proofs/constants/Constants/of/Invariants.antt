@@ -1,5 +1,5 @@
 use Rattle.std.proofs.Common.{◌≡◌, drop, map}
-use Rattle.x_item.specs.View.{tree_at}
+use Rattle.x_trees.specs.View.{tree_at}
 use Rattle.x_schema.specs.SchemaOf.{with_definitions, numbers_of}
 use Rattle.x_schema.specs.SchemaTables.{numbers_held}
 use Rattle.x_schema.proofs.constants.Constants.of.Given as goal

@@ -1,11 +1,11 @@
 use Rattle.std.proofs.Common.{◌≡◌, ◌+◌, ◌<◌, ◌∷◌, ◌++◌, [], Some, drop, length, map, ap, sym, subst, ◌∙◌}
 use Rattle.std.proofs.lemmas.Result.{IfOk-weaker}
-use Rattle.x_item.specs.Tree as tree
-use Rattle.x_item.specs.Gloss.{lifted_name}
-use Rattle.x_item.specs.View.{view_type, view_shape, view_length, view_most, view_value, view_body, view_union, view_declaration, view_declarations, view_arms, view_default, view_enumerator}
-use Rattle.x_item.specs.declared.names.mention.Use.TheVariants as uses
-use Rattle.x_item.specs.declared.trees.declaration.Body.TheViews.{out-UnionBody}
-use Rattle.x_item.proofs.Rows.{struct_view, union_parts}
+use Rattle.x_trees.specs.Tree as tree
+use Rattle.x_trees.specs.Gloss.{lifted_name}
+use Rattle.x_trees.specs.View.{view_type, view_shape, view_length, view_most, view_value, view_body, view_union, view_declaration, view_declarations, view_arms, view_default, view_enumerator}
+use Rattle.x_trees.specs.declared.names.mention.Use.TheVariants as uses
+use Rattle.x_trees.specs.declared.trees.declaration.Body.TheViews.{out-UnionBody}
+use Rattle.x_trees.proofs.Rows.{struct_view, union_parts}
 use Rattle.x_schema.specs.Schema.{form_at}
 use Rattle.x_schema.specs.SchemaOf.{AreArms, AreFields, IsBody, IsDeclared, IsDefault, IsEnum, IsType, as_typedef, basic_form, opaque_form, limit_in, place_named, typedefs_inside, typedefs_of, typedefs_of_arms, typedefs_of_default, typedefs_of_fields, typedefs_of_type, union_form}
 use Rattle.x_schema.specs.SchemaMaking.{PutsAll, PutsPlace, PutsLink, AddsForm, AreSoundCases, IsSoundDefault, view_known}

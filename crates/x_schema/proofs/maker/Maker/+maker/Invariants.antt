@@ -1,5 +1,5 @@
 use Rattle.std.proofs.Common.{◌<◌, length, drop}
-use Rattle.x_item.specs.View.{view_declarations, view_arms}
+use Rattle.x_trees.specs.View.{view_declarations, view_arms}
 use Rattle.x_schema.specs.SchemaMaking.{IsGood, view_known}
 use Rattle.x_schema.proofs.MakerForms.{FieldsSoFar}
 use Rattle.x_schema.proofs.MakerArms.{ArmsSoFar}

@@ -1,7 +1,7 @@
 use Rattle.std.proofs.Common.{Some, map, sym, subst}
 use Rattle.std.proofs.lemmas.Result.{on_ok_weaker}
 use Rattle.std.specs.List.{flat_map}
-use Rattle.x_item.specs.View.{view_definition, view_version}
+use Rattle.x_trees.specs.View.{view_definition, view_version}
 use Rattle.x_schema.specs.ProcedureMaking.{PutsProcedures}
 use Rattle.x_schema.specs.ProceduresOf.{procedures_declared, procedures_in}
 use Rattle.x_schema.specs.SchemaMaking.{view_known}

@@ -1,6 +1,6 @@
 use Rattle.std.proofs.Common.{ap, ◌∙◌}
 use Rattle.std.proofs.lemmas.Result.{on_ok_weaker}
-use Rattle.x_item.specs.View.{view_procedure}
+use Rattle.x_trees.specs.View.{view_procedure}
 use Rattle.x_schema.specs.ProceduresOf.{Numbered, with_procedure}
 use Rattle.x_schema.specs.SchemaMaking.{view_known}
 use Rattle.x_schema.proofs.ProcedureLemmas.{grows_one}

@@ -1,6 +1,6 @@
 use Rattle.std.proofs.Common.{◌≡◌, ◌+◌, ◌++◌, ◌∷◌, [], map, take, ap, sym, subst, ◌∙◌}
 use Rattle.std.proofs.lemmas.List.{take_all, take_more}
-use Rattle.x_item.specs.View.{view_procedure}
+use Rattle.x_trees.specs.View.{view_procedure}
 use Rattle.x_schema.specs.ProcedureMaking.{PutsProcedures}
 use Rattle.x_schema.specs.ProceduresOf.{procedures_by}
 use Rattle.x_schema.specs.SchemaMaking.{view_known}

@@ -1,6 +1,6 @@
 use Rattle.std.proofs.Common.{map, take}
 use Rattle.std.specs.List.{flat_map}
-use Rattle.x_item.specs.View.{view_version}
+use Rattle.x_trees.specs.View.{view_version}
 use Rattle.x_schema.specs.ProcedureMaking.{PutsProcedures}
 use Rattle.x_schema.specs.ProceduresOf.{procedures_in}
 use Rattle.x_schema.specs.SchemaMaking.{view_known}

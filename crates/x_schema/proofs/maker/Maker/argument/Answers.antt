@@ -1,6 +1,6 @@
 use Rattle.std.proofs.Common.{sym, subst}
 use Rattle.std.proofs.lemmas.Result.{IfOk-weaker}
-use Rattle.x_item.specs.View.{view_argument}
+use Rattle.x_trees.specs.View.{view_argument}
 use Rattle.x_schema.specs.ProcedureMaking.{PutsAs}
 use Rattle.x_schema.specs.ProceduresOf.{IsArgument}
 use Rattle.x_schema.specs.SchemaMaking.{view_known}

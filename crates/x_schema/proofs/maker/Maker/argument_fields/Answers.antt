@@ -1,5 +1,5 @@
 use Rattle.std.proofs.Common.{◌≡◌, length, Some, ◌+◌, ◌∷◌, drop, map, ap, sym, subst, ◌∙◌}
-use Rattle.x_item.specs.View.{view_argument, view_passed}
+use Rattle.x_trees.specs.View.{view_argument, view_passed}
 use Rattle.x_schema.specs.ProcedureMaking.{PutsField}
 use Rattle.x_schema.specs.ProceduresOf.{IsArgumentField}
 use Rattle.x_schema.specs.SchemaMaking.{view_known}

@@ -1,5 +1,5 @@
 use Rattle.std.proofs.Common.{drop, map}
-use Rattle.x_item.specs.View.{view_argument, view_passed}
+use Rattle.x_trees.specs.View.{view_argument, view_passed}
 use Rattle.x_schema.specs.SchemaMaking.{view_known}
 use Rattle.x_schema.proofs.ProcedureLemmas.{FieldsPut}
 use Rattle.x_schema.proofs.maker.Maker.argument_fields.Given as goal

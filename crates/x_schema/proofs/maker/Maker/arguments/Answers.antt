@@ -1,7 +1,7 @@
 use Rattle.std.proofs.Common.{map, sym, ◌∙◌}
 use Rattle.std.proofs.lemmas.List.{length-map}
 use Rattle.std.proofs.lemmas.Result.{IfOk-weaker}
-use Rattle.x_item.specs.View.{view_argument, view_passed}
+use Rattle.x_trees.specs.View.{view_argument, view_passed}
 use Rattle.x_schema.specs.ProcedureMaking.{PutsFields}
 use Rattle.x_schema.specs.SchemaMaking.{view_known}
 use Rattle.x_schema.proofs.ProcedureLemmas.{arguments_one, arguments_several}

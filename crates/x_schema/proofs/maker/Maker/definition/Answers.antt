@@ -1,7 +1,7 @@
 use Rattle.std.proofs.Common.{◌++◌, ◌∷◌, [], Some, sym, subst}
 use Rattle.std.proofs.lemmas.Result.{on_ok_weaker}
-use Rattle.x_item.specs.Tree as tree
-use Rattle.x_item.specs.View.{view_body, view_declaration, view_definition}
+use Rattle.x_trees.specs.Tree as tree
+use Rattle.x_trees.specs.View.{view_body, view_declaration, view_definition}
 use Rattle.x_schema.specs.SchemaOf.{IsBody, as_typedef, typedefs, typedefs_inside}
 use Rattle.x_schema.specs.SchemaMaking.{PutsAll, PutsPlace, view_known}
 use Rattle.x_schema.proofs.MakerItems.{type_put, nothing_put}

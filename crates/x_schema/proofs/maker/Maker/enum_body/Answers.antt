@@ -1,6 +1,6 @@
 use Rattle.std.proofs.Common.{map}
 use Rattle.std.proofs.lemmas.Result.{IfOk-weaker}
-use Rattle.x_item.specs.View.{view_enumerator}
+use Rattle.x_trees.specs.View.{view_enumerator}
 use Rattle.x_schema.specs.SchemaOf.{enum_form}
 use Rattle.x_schema.specs.SchemaMaking.{AddsForm, view_known}
 use Rattle.x_schema.proofs.MakerArms.{enum_put}

@@ -1,5 +1,5 @@
 use Rattle.std.proofs.Common.{◌≡◌, ◌+◌, ◌∷◌, [], drop, map, pos, Some, ap, sym, subst, ◌∙◌}
-use Rattle.x_item.specs.View.{view_enumerator}
+use Rattle.x_trees.specs.View.{view_enumerator}
 use Rattle.x_schema.specs.SchemaOf.{with_word}
 use Rattle.x_schema.specs.SchemaTables.{numbers_held}
 use Rattle.x_schema.specs.SchemaMaking.{PutsAll, AreSoundWords, words_named}

@@ -1,6 +1,6 @@
 use Rattle.std.proofs.Common.{sym, subst}
 use Rattle.std.proofs.lemmas.Result.{on_ok_weaker}
-use Rattle.x_item.specs.View.{tree_at}
+use Rattle.x_trees.specs.View.{tree_at}
 use Rattle.x_schema.specs.SchemaOf.{typedefs}
 use Rattle.x_schema.specs.SchemaMaking.{PutsAll, view_known}
 use Rattle.x_schema.proofs.MakerItems.{nothing_put}

@@ -1,5 +1,5 @@
 use Rattle.std.proofs.lemmas.Result.{IfOk-weaker}
-use Rattle.x_item.specs.View.{view_passed}
+use Rattle.x_trees.specs.View.{view_passed}
 use Rattle.x_schema.specs.SchemaMaking.{view_known}
 use Rattle.x_schema.proofs.ProcedureLemmas.{field_put}
 use Rattle.x_schema.proofs.maker.Maker.first_field.Goals as goal

@@ -1,6 +1,6 @@
 use Rattle.std.proofs.Common.{refl}
 use Rattle.std.proofs.lemmas.Result.{on_ok_weaker}
-use Rattle.x_item.specs.View.{tree_at}
+use Rattle.x_trees.specs.View.{tree_at}
 use Rattle.x_schema.specs.declared.maker.Known as held
 use Rattle.x_schema.proofs.MakerItems.{item_found}
 use Rattle.x_schema.proofs.maker.Maker.item.Goals as goal

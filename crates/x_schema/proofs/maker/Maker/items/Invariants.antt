@@ -1,5 +1,5 @@
 use Rattle.std.proofs.Common.{take, map}
-use Rattle.x_item.specs.View.{tree_at}
+use Rattle.x_trees.specs.View.{tree_at}
 use Rattle.x_schema.specs.SchemaMaking.{FindsItems}
 use Rattle.x_schema.proofs.maker.Maker.items.Given as goal
 

@@ -1,6 +1,6 @@
 use Rattle.std.proofs.Common.{Some}
 use Rattle.std.proofs.lemmas.Result.{IfOk-weaker}
-use Rattle.x_item.specs.View.{view_argument}
+use Rattle.x_trees.specs.View.{view_argument}
 use Rattle.x_schema.specs.SchemaMaking.{view_known}
 use Rattle.x_schema.proofs.ProcedureLemmas.{field_put}
 use Rattle.x_schema.proofs.maker.Maker.other_field.Goals as goal

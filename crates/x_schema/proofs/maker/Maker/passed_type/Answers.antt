@@ -1,6 +1,6 @@
 use Rattle.std.proofs.Common.{◌≡◌, sym, subst}
 use Rattle.std.proofs.lemmas.Result.{IfOk-weaker}
-use Rattle.x_item.specs.View.{view_type}
+use Rattle.x_trees.specs.View.{view_type}
 use Rattle.x_schema.specs.ProcedureMaking.{PutsAs}
 use Rattle.x_schema.specs.ProceduresOf.{IsPassedType}
 use Rattle.x_schema.specs.SchemaMaking.{AddsForm, view_known}

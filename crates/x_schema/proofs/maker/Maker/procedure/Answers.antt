@@ -1,4 +1,4 @@
-use Rattle.x_item.specs.View.{view_procedure}
+use Rattle.x_trees.specs.View.{view_procedure}
 use Rattle.x_schema.specs.declared.procedure.KeptProcedure.{KeptProcedure}
 use Rattle.x_schema.specs.SchemaMaking.{view_known}
 use Rattle.x_schema.proofs.ProcedureLemmas.{procedure_put}

@@ -1,6 +1,6 @@
 use Rattle.std.proofs.Common.{◌≡◌, ◌+◌, ◌++◌, ◌∷◌, [], map, take, ap, sym, subst, ◌∙◌}
 use Rattle.std.proofs.lemmas.List.{take_all, take_more}
-use Rattle.x_item.specs.View.{tree_at}
+use Rattle.x_trees.specs.View.{tree_at}
 use Rattle.x_schema.specs.ProcedureMaking.{PutsProcedures}
 use Rattle.x_schema.specs.ProceduresOf.{procedures_declared, procedures_of}
 use Rattle.x_schema.specs.SchemaMaking.{view_known}

@@ -1,6 +1,6 @@
 use Rattle.std.proofs.Common.{sym, ◌∙◌}
 use Rattle.std.proofs.lemmas.Result.{on_ok_weaker}
-use Rattle.x_item.specs.View.{view_declaration}
+use Rattle.x_trees.specs.View.{view_declaration}
 use Rattle.x_schema.specs.SchemaMaking.{view_known}
 use Rattle.x_schema.proofs.MakerItems.{typedef_void, typedef_put}
 use Rattle.x_schema.proofs.maker.Maker.typedef.Goals as goal

@@ -1,5 +1,5 @@
 use Rattle.std.proofs.Common.{◌≡◌, [], map, refl, ap}
-use Rattle.x_item.specs.View.{tree_at}
+use Rattle.x_trees.specs.View.{tree_at}
 use Rattle.x_schema.specs.ProceduresOf.{procedures_of}
 use Rattle.x_schema.specs.Schema.{Schema, named_types}
 use Rattle.x_schema.specs.SchemaMaking.{names_made, place_linked, view_known}

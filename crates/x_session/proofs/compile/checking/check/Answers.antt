@@ -1,5 +1,5 @@
 use Rattle.std.proofs.Common.{◌≡◌, length, map, Some, ap, sym, subst, ◌∙◌}
-use Rattle.x_item.specs.View.{view_definition}
+use Rattle.x_trees.specs.View.{view_definition}
 use Rattle.x_rules.specs.Declarers.{IsShort}
 use Rattle.x_rules.specs.DeclarerTable.{first_in}
 use Rattle.x_rules.specs.Outlined.{outlined}

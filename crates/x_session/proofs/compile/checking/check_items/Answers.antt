@@ -1,7 +1,7 @@
 use Rattle.std.proofs.Common.{◌+◌, ◌∷◌, [], map, length, Option, ap, sym, subst, ◌∙◌}
 use Rattle.std.specs.Borrow.{Bor}
 use Rattle.std.proofs.lemmas.List.{length-map, map-append}
-use Rattle.x_item.specs.Tree.{Definition}
+use Rattle.x_trees.specs.Tree.{Definition}
 use Rattle.x_rules.proofs.OutlineLemmas.{map_map}
 use Rattle.x_rules.specs.Declarers.{AreShort, FirstIs}
 use Rattle.x_rules.specs.DeclarerTable.{first_in}

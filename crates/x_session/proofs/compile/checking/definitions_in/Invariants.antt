@@ -1,5 +1,5 @@
 use Rattle.std.proofs.Common.{◌≡◌, map, take}
-use Rattle.x_item.specs.View.{tree_at}
+use Rattle.x_trees.specs.View.{tree_at}
 use Rattle.x_session.specs.KeptView.{kept_definition}
 use Rattle.x_session.proofs.compile.checking.definitions_in.Given as goal
 

@@ -1,6 +1,6 @@
 use Rattle.std.proofs.Common.{map}
-use Rattle.x_item.specs.Names.{declared}
-use Rattle.x_item.specs.Mentions.{mentioned}
+use Rattle.x_trees.specs.Names.{declared}
+use Rattle.x_trees.specs.Mentions.{mentioned}
 use Rattle.x_rules.specs.DeclarerTable.{first_in}
 use Rattle.x_rules.specs.Outlined.{outlined}
 use Rattle.x_rules.specs.Results.{result_at}

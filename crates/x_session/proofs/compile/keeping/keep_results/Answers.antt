@@ -1,6 +1,6 @@
 use Rattle.std.proofs.Common.{◌≡◌, length, refl, sym, ap, subst, ◌∙◌}
 use Rattle.x_session.specs.KeptView.{IsWith, kept_definition}
-use Rattle.x_item.specs.declared.cutting.entry.Entry.{Entry}
+use Rattle.x_cutting.specs.declared.cutting.entry.Entry.{Entry}
 use Rattle.x_session.specs.declared.compile.kept.Kept.{Kept}
 use Rattle.x_session.proofs.KeepingLemmas.{kept_none, kept_more, last_item, last_known, last_is}
 use Rattle.x_session.proofs.compile.keeping.keep_results.Goals as goal

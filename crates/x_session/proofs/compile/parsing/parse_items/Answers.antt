@@ -4,8 +4,8 @@ use Rattle.std.proofs.lemmas.List.{length-map}
 use Rattle.std.proofs.lemmas.List.Elements.{All-nil, All-push}
 use Rattle.x_text.specs.declared.source.TheConstants.{MAX_TEXT}
 use Rattle.x_lex.specs.Places.{lexeme, lexemes}
-use Rattle.x_item.specs.Items.{IsNext}
-use Rattle.x_item.specs.declared.cutting.entry.Entry.{Entry}
+use Rattle.x_cutting.specs.Items.{IsNext}
+use Rattle.x_cutting.specs.declared.cutting.entry.Entry.{Entry}
 use Rattle.x_session.specs.KeptView.{IsItem, kept_found}
 use Rattle.x_session.specs.declared.compile.kept.Kept.{Kept}
 use Rattle.x_session.proofs.ItemLemmas.{Parsing, HasCounted, steps_left, parsing_none, parsing_more, part_short, rest_short, fewer_steps, items_of_text, short_items, some_items, counted_push, counted_all}

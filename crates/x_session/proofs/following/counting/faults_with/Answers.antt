@@ -1,8 +1,8 @@
 use Rattle.std.proofs.Common.{◌≡◌, ◌-◌, ◌+◌, [], length, Some, drop, ap, sym, ◌∙◌, arith}
 use Rattle.std.specs.Prelude.{option_copied, slice_get}
 use Rattle.std.proofs.lemmas.List.{drop_all, length-map}
-use Rattle.x_item.specs.ItemList as items
-use Rattle.x_item.specs.declared.cutting.entry.Entry.{Entry}
+use Rattle.x_cutting.specs.ItemList as items
+use Rattle.x_cutting.specs.declared.cutting.entry.Entry.{Entry}
 use Rattle.x_session.specs.Compile.{faults_at}
 use Rattle.x_session.specs.Counting.{faults_found, faults_with}
 use Rattle.x_session.specs.KeptView.{kept_parse}

@@ -1,5 +1,5 @@
 use Rattle.std.proofs.Common.{◌≡◌, ◌-◌, take, drop}
-use Rattle.x_item.specs.ItemList as items
+use Rattle.x_cutting.specs.ItemList as items
 use Rattle.x_session.specs.Counting.{own_faults}
 use Rattle.x_session.proofs.following.counting.removed_faults.Given as goal
 

@@ -3,7 +3,7 @@ use Rattle.x_text.specs.Counts.{Counts}
 use Rattle.x_lex.specs.Places.{lexeme, lexemes}
 use Rattle.x_lex.specs.TokenList.{patched}
 use Rattle.x_lex.proofs.SpanLemmas.{length-lexemes_from}
-use Rattle.x_item.specs.ItemList.{counts, total}
+use Rattle.x_cutting.specs.ItemList.{counts, total}
 use Rattle.x_item.specs.Parse.{IsParse}
 use Rattle.x_session.specs.Generated.{lines_of}
 use Rattle.x_session.specs.KeptView.{kept_parse}

@@ -1,5 +1,5 @@
 use Rattle.std.proofs.Common.{map, drop, take, ap, ◌∙◌}
-use Rattle.x_item.specs.View.{tree_at}
+use Rattle.x_trees.specs.View.{tree_at}
 use Rattle.x_session.specs.KeptView.{entry_definitions}
 use Rattle.x_session.proofs.StaleLemmas.{same_uses, short_removed, uses_of}
 use Rattle.x_session.proofs.following.naming.change_names.Goals as goal

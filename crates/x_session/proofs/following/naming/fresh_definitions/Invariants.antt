@@ -1,5 +1,5 @@
 use Rattle.std.proofs.Common.{◌≡◌, map, take}
-use Rattle.x_item.specs.View.{tree_at}
+use Rattle.x_trees.specs.View.{tree_at}
 use Rattle.x_session.specs.KeptView.{entry_definitions}
 use Rattle.x_session.proofs.following.naming.fresh_definitions.Given as goal
 

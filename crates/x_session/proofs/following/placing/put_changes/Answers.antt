@@ -2,7 +2,7 @@ use Rattle.std.proofs.Common.{◌≡◌, ◌≤◌, ◌+◌, ◌*◌, ◌∷◌,
 use Rattle.std.specs.Vec.Iter.{into_iter_items}
 use Rattle.x_text.specs.declared.source.TheConstants.{MAX_TEXT}
 use Rattle.x_uses.specs.Staleness.{Ascending}
-use Rattle.x_item.specs.ItemList as items
+use Rattle.x_cutting.specs.ItemList as items
 use Rattle.x_session.specs.Following.{whole}
 use Rattle.x_session.specs.KeptView.{AreWith}
 use Rattle.x_session.specs.Moves.{HasMoved, changed_items, moves, place_of}

@@ -1,6 +1,6 @@
 use Rattle.std.proofs.Common.{◌≡◌, ◌≤◌, ◌∷◌, ◌+◌, ◌-◌, Some, length, sym, subst, ◌∙◌, arith}
 use Rattle.std.specs.Prelude.{IfSome}
-use Rattle.x_item.specs.ItemList as items
+use Rattle.x_cutting.specs.ItemList as items
 use Rattle.x_session.specs.Checking.{IsKnownAt}
 use Rattle.x_session.specs.Following.{CanPut, whole}
 use Rattle.x_session.specs.KeptView.{IsWithAt}

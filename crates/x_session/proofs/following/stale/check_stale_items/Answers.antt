@@ -1,7 +1,7 @@
 use Rattle.std.proofs.Common.{◌≡◌, length, map, ap, subst, sym, ◌∙◌, arith}
 use Rattle.x_text.specs.Counts.{raised}
-use Rattle.x_item.specs.View.{tree_at}
-use Rattle.x_item.specs.ItemList as items
+use Rattle.x_trees.specs.View.{tree_at}
+use Rattle.x_cutting.specs.ItemList as items
 use Rattle.x_uses.specs.Editing.{IsEdit}
 use Rattle.x_uses.specs.Occurrences.{IsUsesOf}
 use Rattle.x_uses.specs.Staleness.{IsRecheck}

@@ -1,6 +1,6 @@
 use Rattle.std.proofs.Common.{◌≡◌, ◌∷◌, [], ◌++◌, length, sym, ap, subst, ◌∙◌, append_assoc, append-nil, arith}
 use Rattle.std.specs.Vec.Iter.{into_iter_items}
-use Rattle.x_item.specs.ItemList as items
+use Rattle.x_cutting.specs.ItemList as items
 use Rattle.x_session.specs.Rendered.{AreRenderings, HaveDefinitions}
 use Rattle.x_session.proofs.StaleLemmas.{defined_among, nothing_left, rendered_more}
 use Rattle.x_session.proofs.following.stale.render_all.Goals as goal

@@ -1,6 +1,6 @@
 use Rattle.std.proofs.Common.{◌≡◌, ◌++◌, length}
 use Rattle.std.specs.Vec.Iter.{into_iter_items, into_iter_len}
-use Rattle.x_item.specs.ItemList as items
+use Rattle.x_cutting.specs.ItemList as items
 use Rattle.x_session.specs.Rendered.{AreRenderings}
 use Rattle.x_session.proofs.following.stale.render_all.Given as goal
 

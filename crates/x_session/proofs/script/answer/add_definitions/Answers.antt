@@ -2,8 +2,8 @@ use Rattle.std.proofs.Common.{◌≡◌, ◌++◌, ◌+◌, length, codes, refl,
 use Rattle.std.specs.List.{flat_map}
 use Rattle.x_text.specs.Writing.{Adds}
 use Rattle.x_text.proofs.Pens.{adds_trans}
-use Rattle.x_item.specs.View.{view_definition}
-use Rattle.x_item.specs.View.{tree_at}
+use Rattle.x_trees.specs.View.{view_definition}
+use Rattle.x_trees.specs.View.{tree_at}
 use Rattle.x_session.specs.Compile.{definitions_of}
 use Rattle.x_session.specs.Definitions.{numbered}
 use Rattle.x_session.specs.Answers.{definition_line}

@@ -1,6 +1,6 @@
 use Rattle.std.proofs.Common.{◌≡◌, codes, refl, ap, sym, ◌∙◌}
-use Rattle.x_item.specs.View.{view_body, view_union}
-use Rattle.x_item.specs.declared.trees.declaration.UnionBody.{UnionBody, UnionBody'}
+use Rattle.x_trees.specs.View.{view_body, view_union}
+use Rattle.x_trees.specs.declared.trees.declaration.UnionBody.{UnionBody, UnionBody'}
 use Rattle.x_session.specs.Answers.{body_keyword}
 use Rattle.x_session.proofs.script.answer.body_keyword.Goals as goal
 

@@ -3,8 +3,8 @@ use Rattle.x_text.specs.Counts.{Counts, raised}
 use Rattle.x_text.specs.Edits.{change_of, edited_by}
 use Rattle.x_text.specs.Seqs.{distance}
 use Rattle.x_lex.specs.TokenList as tokens
-use Rattle.x_item.specs.ItemList as items
-use Rattle.x_item.specs.ItemList.{AreOfText, counts}
+use Rattle.x_cutting.specs.ItemList as items
+use Rattle.x_cutting.specs.ItemList.{AreOfText, counts}
 use Rattle.x_session.specs.Following.{AreUsed, IsPlan, IsToFollow, behind}
 use Rattle.x_session.specs.KeptView.{AreWith}
 use Rattle.x_session.specs.Moves.{changed_items, moves, place_of, seat_behind}

@@ -1,6 +1,6 @@
 use Rattle.std.proofs.Common.{◌≡◌, subst, ◌∙◌}
 use Rattle.x_lex.specs.Places.{lexemes}
-use Rattle.x_item.specs.View.{tree_at}
+use Rattle.x_trees.specs.View.{tree_at}
 use Rattle.x_session.specs.Compile.{definition_at}
 use Rattle.x_session.specs.Session.{Compiles}
 use Rattle.x_session.specs.SessionState.{items_of}

@@ -1,6 +1,6 @@
 use Rattle.std.proofs.Common.{inr}
 use Rattle.std.proofs.lemmas.Result.{on_ok_weaker}
-use Rattle.x_item.specs.View.{view_definition}
+use Rattle.x_trees.specs.View.{view_definition}
 use Rattle.x_uses.specs.Editing.{definitions_after}
 use Rattle.x_uses.specs.Rechecking.{IsCovered, edit_of, is_waiting}
 use Rattle.x_uses.proofs.CandidateLemmas.{listed_first, short_at}

@@ -1,6 +1,6 @@
 use Rattle.std.proofs.Common.{inl}
 use Rattle.std.proofs.lemmas.Result.{on_ok_weaker}
-use Rattle.x_item.specs.View.{view_definition}
+use Rattle.x_trees.specs.View.{view_definition}
 use Rattle.x_uses.specs.Rechecking.{IsCovered, edit_of, is_waiting}
 use Rattle.x_uses.proofs.CandidateLemmas.{listed_first, short_at}
 use Rattle.x_uses.proofs.rechecking.candidates.add_gone.Goals as goal

@@ -1,7 +1,7 @@
 use Rattle.std.proofs.Common.{◌≡◌, ◌<◌, ℕ, None, Some, length, map, ap, refl, sym, subst, ◌∙◌}
-use Rattle.x_item.specs.Named.{view_name}
-use Rattle.x_item.specs.View.{view_definition}
-use Rattle.x_item.specs.View.{tree_at}
+use Rattle.x_trees.specs.Named.{view_name}
+use Rattle.x_trees.specs.View.{view_definition}
+use Rattle.x_trees.specs.View.{tree_at}
 use Rattle.x_rules.specs.Outlined.{IsOutline, outlined}
 use Rattle.x_rules.specs.Results.{result_at}
 use Rattle.x_uses.specs.Editing.{definition_at, definitions_after}

@@ -1,5 +1,5 @@
 use Rattle.std.proofs.Common.{◌≡◌, ◌<◌, ◌+◌, ℕ, Some, length, slice_get}
-use Rattle.x_item.specs.declared.names.declared_name.DeclaredName.{DeclaredName}
+use Rattle.x_trees.specs.declared.names.declared_name.DeclaredName.{DeclaredName}
 use Rattle.x_uses.specs.Editing.{definitions_after}
 use Rattle.x_uses.specs.Rechecking.{AddsItems, IsTold, edit_of, is_waiting}
 use Rattle.x_uses.proofs.OutlineNames.{declared_name}

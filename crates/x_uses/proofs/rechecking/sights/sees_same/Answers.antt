@@ -1,8 +1,8 @@
 use Rattle.std.proofs.Common.{◌≡◌, get_or, true, sym, subst, ◌∙◌}
 use Rattle.std.proofs.lemmas.Bool.{true≢false}
 use Rattle.std.specs.List.{IsAmong}
-use Rattle.x_item.specs.declared.names.declared_name.DeclaredName.{DeclaredName}
-use Rattle.x_item.specs.declared.names.mention.Mention.{Mention}
+use Rattle.x_trees.specs.declared.names.declared_name.DeclaredName.{DeclaredName}
+use Rattle.x_trees.specs.declared.names.mention.Mention.{Mention}
 use Rattle.x_rules.proofs.AmongLemmas.{among_none}
 use Rattle.x_uses.specs.Rechecking.{SeesSame, edit_of}
 use Rattle.x_uses.specs.Staleness.{result_after}

@@ -1,6 +1,6 @@
 use Rattle.std.proofs.Common.{◌≡◌, ◌++◌, map, take}
 use Rattle.std.specs.Cow.{cow_slice_items}
-use Rattle.x_item.specs.Names.{declared}
+use Rattle.x_trees.specs.Names.{declared}
 use Rattle.x_rules.specs.Outlined.{outlined, IsOutline}
 use Rattle.x_rules.specs.Results.{view_by}
 use Rattle.x_rules.specs.RustViews.{view_view}

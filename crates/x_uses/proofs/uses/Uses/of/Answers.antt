@@ -1,5 +1,5 @@
 use Rattle.std.proofs.Common.{map}
-use Rattle.x_item.specs.View.{tree_at}
+use Rattle.x_trees.specs.View.{tree_at}
 use Rattle.x_uses.proofs.TableOf.{table_seen}
 use Rattle.x_uses.proofs.uses.Uses.of.Goals as goal
 

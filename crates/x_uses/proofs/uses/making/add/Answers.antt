@@ -1,8 +1,8 @@
 use Rattle.std.proofs.Common.{map, ap, ◌∙◌}
 use Rattle.std.proofs.lemmas.Result.{on_ok_weaker}
-use Rattle.x_item.specs.View.{view_definition}
-use Rattle.x_item.specs.Named.{view_name}
-use Rattle.x_item.specs.Collected.{view_mention}
+use Rattle.x_trees.specs.View.{view_definition}
+use Rattle.x_trees.specs.Named.{view_name}
+use Rattle.x_trees.specs.Collected.{view_mention}
 use Rattle.x_uses.proofs.NotedLaws.{item_noted}
 use Rattle.x_uses.proofs.uses.making.add.Goals as goal
 

@@ -1,8 +1,8 @@
 use Rattle.std.proofs.Common.{[], None, map, take, get_or, subst, sym}
 use Rattle.std.specs.List.{list_any}
 use Rattle.std.specs.Str.{bytes_eq}
-use Rattle.x_item.specs.declared.names.mention.Mention.{Mention}
-use Rattle.x_item.specs.declared.names.mention.Use.TheVariants as uses
+use Rattle.x_trees.specs.declared.names.mention.Mention.{Mention}
+use Rattle.x_trees.specs.declared.names.mention.Use.TheVariants as uses
 use Rattle.x_uses.specs.Slots.{Notes}
 use Rattle.x_uses.proofs.NotedLaws.{mentioned_more, map_more}
 use Rattle.x_uses.proofs.uses.making.add_mentioned.Goals as goal

@@ -1,5 +1,5 @@
 use Rattle.std.proofs.Common.{◌≡◌, ℕ, List, map, take}
-use Rattle.x_item.specs.View.{tree_at}
+use Rattle.x_trees.specs.View.{tree_at}
 use Rattle.x_rules.specs.Declarers.{AreShort}
 use Rattle.x_uses.specs.Occurrences.{declarers_at, users_at, declarers_of, users_of}
 use Rattle.x_uses.specs.Slots.{slot_at}

@@ -1,5 +1,5 @@
 use Rattle.std.proofs.Common.{drop}
-use Rattle.x_item.specs.View.{view_declarations, view_arms}
+use Rattle.x_trees.specs.View.{view_declarations, view_arms}
 use Rattle.x_rules.specs.BodyWalks.{Stand, GoesFields, GoesArms, stand}
 use Rattle.x_rules.proofs.outline.bodies.BodyWalk.+bodies.Given as goal
 

@@ -1,6 +1,6 @@
 use Rattle.std.proofs.Common.{◌≡◌, ◌+◌, ◌∷◌, drop, map, refl, ap, sym, subst, ◌∙◌}
 use Rattle.std.proofs.lemmas.List.{drop_all, drop_more}
-use Rattle.x_item.specs.View.{view_value}
+use Rattle.x_trees.specs.View.{view_value}
 use Rattle.x_rules.specs.Tables.{view_value_at}
 use Rattle.x_rules.specs.BodyWalks.{GoesCases, stand}
 use Rattle.x_rules.specs.declared.outline.bodies.Contents.{Contents}

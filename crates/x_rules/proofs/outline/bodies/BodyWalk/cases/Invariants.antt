@@ -1,5 +1,5 @@
 use Rattle.std.proofs.Common.{drop, map}
-use Rattle.x_item.specs.View.{view_value}
+use Rattle.x_trees.specs.View.{view_value}
 use Rattle.x_rules.specs.BodyWalks.{Stand, GoesCases, stand}
 use Rattle.x_rules.proofs.outline.bodies.BodyWalk.cases.Given as goal
 

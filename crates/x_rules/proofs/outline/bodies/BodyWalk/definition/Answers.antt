@@ -1,6 +1,6 @@
 use Rattle.std.proofs.Common.{OnOk, sym, subst}
 use Rattle.std.proofs.lemmas.Result.{on_ok_weaker}
-use Rattle.x_item.specs.View.{view_declaration, view_body, view_definition}
+use Rattle.x_trees.specs.View.{view_declaration, view_body, view_definition}
 use Rattle.x_rules.specs.BodyWalks.{GoesDeclaration, FindsAll, stand}
 use Rattle.x_rules.proofs.BodyWalkLemmas.{finds_typedef, finds_new_type}
 use Rattle.x_rules.proofs.outline.bodies.BodyWalk.definition.Goals as goal

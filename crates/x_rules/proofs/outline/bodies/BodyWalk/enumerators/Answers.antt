@@ -1,6 +1,6 @@
 use Rattle.std.proofs.Common.{map, length, sym, subst}
-use Rattle.x_item.specs.View.{view_enumerator}
-use Rattle.x_item.specs.Spell.{spell_enumerators}
+use Rattle.x_trees.specs.View.{view_enumerator}
+use Rattle.x_trees.specs.Spell.{spell_enumerators}
 use Rattle.x_rules.specs.BodyWalks.{Passes}
 use Rattle.x_rules.proofs.BodyWalkLemmas.{passes_enumerators}
 use Rattle.x_rules.proofs.outline.bodies.BodyWalk.enumerators.Goals as goal

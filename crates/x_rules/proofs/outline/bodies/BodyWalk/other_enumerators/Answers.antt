@@ -1,7 +1,7 @@
 use Rattle.std.proofs.Common.{◌≡◌, ◌+◌, ◌∷◌, drop, map, length, ap, sym, subst, ◌∙◌}
 use Rattle.std.proofs.lemmas.List.{drop_all, drop_more}
-use Rattle.x_item.specs.View.{view_enumerator}
-use Rattle.x_item.specs.Spell.{spell_other_enumerators}
+use Rattle.x_trees.specs.View.{view_enumerator}
+use Rattle.x_trees.specs.Spell.{spell_other_enumerators}
 use Rattle.x_rules.specs.BodyWalks.{Passes}
 use Rattle.x_rules.proofs.BodyWalkLemmas.{goes_none, passes_enumerator}
 use Rattle.x_rules.proofs.outline.bodies.BodyWalk.other_enumerators.Goals as goal

@@ -1,6 +1,6 @@
 use Rattle.std.proofs.Common.{drop, map, length}
-use Rattle.x_item.specs.View.{view_enumerator}
-use Rattle.x_item.specs.Spell.{spell_other_enumerators}
+use Rattle.x_trees.specs.View.{view_enumerator}
+use Rattle.x_trees.specs.Spell.{spell_other_enumerators}
 use Rattle.x_rules.specs.BodyWalks.{Passes}
 use Rattle.x_rules.specs.declared.outline.bodies.BodyWalk.{BodyWalk}
 use Rattle.x_rules.proofs.outline.bodies.BodyWalk.other_enumerators.Given as goal

@@ -1,7 +1,7 @@
 use Rattle.std.proofs.Common.{◌≡◌, List, map, sym, length, refl, ap, ◌∙◌, take}
 use Rattle.std.proofs.lemmas.List.{take-map, length-map}
 use Rattle.x_rules.specs.BodyWalks.{view_walk, view_body_at}
-use Rattle.x_item.proofs.CollectLemmas.{finds_less}
+use Rattle.x_trees.proofs.CollectLemmas.{finds_less}
 use Rattle.x_rules.proofs.outline.bodies.BodyWalk.pass.Goals as goal
 
 pub returns : goal.returns

@@ -1,14 +1,14 @@
 use Rattle.std.proofs.Common.{◌≡◌, ℕ, List, ◌+◌, ◌∷◌, [], ◌++◌, drop, map, Some, true, refl, ap, sym, ◌∙◌, append_assoc}
 use Rattle.std.proofs.lemmas.List.{drop_all, drop_more}
 use Rattle.std.proofs.lemmas.Result.{on_ok_weaker}
-use Rattle.x_item.specs.Tree.{Opaque, String, Struct, Union}
-use Rattle.x_item.specs.View.{view_union, view_type, view_length, view_most, view_shape, view_body, view_enumerator, view_value, view_declaration, view_declarations, view_arms, view_default}
-use Rattle.x_item.specs.Gloss.{AsField, AsArm, Inside, glossed, enumerators_by, cases_by, body_by, declaration_by, declarations_by, arms_by, default_by}
+use Rattle.x_trees.specs.Tree.{Opaque, String, Struct, Union}
+use Rattle.x_trees.specs.View.{view_union, view_type, view_length, view_most, view_shape, view_body, view_enumerator, view_value, view_declaration, view_declarations, view_arms, view_default}
+use Rattle.x_trees.specs.Gloss.{AsField, AsArm, Inside, glossed, enumerators_by, cases_by, body_by, declaration_by, declarations_by, arms_by, default_by}
 use Rattle.x_rules.specs.NoteWalks.{NotesIn, place_in, view_walk}
-use Rattle.x_item.specs.declared.trees.declaration.Body.TheViews.{out-UnionBody}
-use Rattle.x_item.proofs.CollectLemmas.{covers_then, covers_next, covers_two, covers_as, goes_start, goes_over, goes_end}
+use Rattle.x_trees.specs.declared.trees.declaration.Body.TheViews.{out-UnionBody}
+use Rattle.x_trees.proofs.CollectLemmas.{covers_then, covers_next, covers_two, covers_as, goes_start, goes_over, goes_end}
 use Rattle.x_rules.proofs.NoteWalkLemmas.{covers_declared, covers_head, covers_string, covers_typed}
-use Rattle.x_item.proofs.Rows.{struct_view, union_parts}
+use Rattle.x_trees.proofs.Rows.{struct_view, union_parts}
 use Rattle.x_rules.proofs.outline.notes.NoteWalk.+notes.Goals as goal
 
 pub declarations-loop-declaration-init : goal.declarations-loop-declaration-init

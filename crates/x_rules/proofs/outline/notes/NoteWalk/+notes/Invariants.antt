@@ -1,6 +1,6 @@
 use Rattle.std.proofs.Common.{ℕ, List, drop, Some}
-use Rattle.x_item.specs.Gloss.{glossed, declarations_by, arms_by}
-use Rattle.x_item.specs.View.{view_declarations, view_arms}
+use Rattle.x_trees.specs.Gloss.{glossed, declarations_by, arms_by}
+use Rattle.x_trees.specs.View.{view_declarations, view_arms}
 use Rattle.x_rules.specs.NoteWalks.{NotesOn}
 use Rattle.x_rules.proofs.outline.notes.NoteWalk.+notes.Given as goal
 

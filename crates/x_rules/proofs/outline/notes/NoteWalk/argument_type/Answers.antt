@@ -1,7 +1,7 @@
 use Rattle.std.proofs.Common.{ap, sym, subst}
 use Rattle.std.proofs.lemmas.Result.{on_ok_weaker}
-use Rattle.x_item.specs.View.{view_type}
-use Rattle.x_item.proofs.GlossLemmas.{IsOutside}
+use Rattle.x_trees.specs.View.{view_type}
+use Rattle.x_trees.proofs.GlossLemmas.{IsOutside}
 use Rattle.x_rules.proofs.NoteWalkLemmas.{covers_argument}
 use Rattle.x_rules.proofs.outline.notes.NoteWalk.argument_type.Goals as goal
 

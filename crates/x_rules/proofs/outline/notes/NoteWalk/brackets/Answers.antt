@@ -1,7 +1,7 @@
 use Rattle.std.proofs.Common.{true, ap, sym}
-use Rattle.x_item.specs.View.{view_length}
-use Rattle.x_item.specs.Gloss.{glossed, length_by}
-use Rattle.x_item.proofs.CollectLemmas.{covers_next, covers_as}
+use Rattle.x_trees.specs.View.{view_length}
+use Rattle.x_trees.specs.Gloss.{glossed, length_by}
+use Rattle.x_trees.proofs.CollectLemmas.{covers_next, covers_as}
 use Rattle.x_rules.proofs.outline.notes.NoteWalk.brackets.Goals as goal
 
 pub returns-in_ok-value-in-Fixed : goal.returns-in_ok-value-in-Fixed

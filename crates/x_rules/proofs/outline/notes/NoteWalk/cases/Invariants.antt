@@ -1,6 +1,6 @@
 use Rattle.std.proofs.Common.{drop, map, true}
-use Rattle.x_item.specs.Gloss.{glossed, cases_by}
-use Rattle.x_item.specs.View.{view_value}
+use Rattle.x_trees.specs.Gloss.{glossed, cases_by}
+use Rattle.x_trees.specs.View.{view_value}
 use Rattle.x_rules.specs.NoteWalks.{NotesOn}
 use Rattle.x_rules.proofs.outline.notes.NoteWalk.cases.Given as goal
 

@@ -1,11 +1,11 @@
 use Rattle.std.proofs.Common.{◌∷◌, [], map, OnOk, Some, true, refl, sym, subst}
 use Rattle.std.proofs.lemmas.Result.{on_ok_weaker}
-use Rattle.x_item.specs.Tree.{Const, Typedef, NewType, Program}
-use Rattle.x_item.specs.View.{view_value, view_declaration, view_body, view_version, view_definition}
-use Rattle.x_item.specs.Words.{Number}
-use Rattle.x_item.specs.Gloss.{InTypedef, ProgramNumber, glossed, body_by, declaration_by, versions_by}
+use Rattle.x_trees.specs.Tree.{Const, Typedef, NewType, Program}
+use Rattle.x_trees.specs.View.{view_value, view_declaration, view_body, view_version, view_definition}
+use Rattle.x_trees.specs.Words.{Number}
+use Rattle.x_trees.specs.Gloss.{InTypedef, ProgramNumber, glossed, body_by, declaration_by, versions_by}
 use Rattle.x_rules.specs.NoteWalks.{NotesIn, NotesAll}
-use Rattle.x_item.proofs.CollectLemmas.{covers_next, covers_two, covers_three}
+use Rattle.x_trees.proofs.CollectLemmas.{covers_next, covers_two, covers_three}
 use Rattle.x_rules.proofs.NoteWalkLemmas.{notes_all, notes_program}
 use Rattle.x_rules.proofs.outline.notes.NoteWalk.definition.Goals as goal
 

@@ -1,8 +1,8 @@
 use Rattle.std.proofs.Common.{true, ap, sym}
 use Rattle.std.proofs.lemmas.Result.{on_ok_weaker}
-use Rattle.x_item.specs.View.{view_enumerator}
-use Rattle.x_item.specs.Gloss.{glossed, enumerator_by}
-use Rattle.x_item.proofs.CollectLemmas.{covers_next, covers_as}
+use Rattle.x_trees.specs.View.{view_enumerator}
+use Rattle.x_trees.specs.Gloss.{glossed, enumerator_by}
+use Rattle.x_trees.proofs.CollectLemmas.{covers_next, covers_as}
 use Rattle.x_rules.proofs.outline.notes.NoteWalk.enumerator.Goals as goal
 
 pub returns-in-Some : goal.returns-in-Some

@@ -1,9 +1,9 @@
 use Rattle.std.proofs.Common.{◌≡◌, List, [], map, sym, length, refl, ap, ◌∙◌, take}
 use Rattle.std.proofs.lemmas.List.{take-map, length-map}
-use Rattle.x_item.specs.View.{view_body}
+use Rattle.x_trees.specs.View.{view_body}
 use Rattle.x_rules.specs.Notes.{view_note_at}
 use Rattle.x_rules.specs.NoteWalks.{view_walk}
-use Rattle.x_item.proofs.CollectLemmas.{finds_less}
+use Rattle.x_trees.proofs.CollectLemmas.{finds_less}
 use Rattle.x_rules.proofs.NoteWalkLemmas.{covers_inline}
 use Rattle.x_rules.proofs.outline.notes.NoteWalk.inline_argument.Goals as goal
 

@@ -1,9 +1,9 @@
 use Rattle.std.proofs.Common.{◌≡◌, ◌+◌, ◌∷◌, drop, map, true, refl, ap, sym, ◌∙◌}
 use Rattle.std.proofs.lemmas.List.{drop_all, drop_more}
-use Rattle.x_item.specs.View.{view_enumerator}
-use Rattle.x_item.specs.Gloss.{glossed, other_enumerators_by}
+use Rattle.x_trees.specs.View.{view_enumerator}
+use Rattle.x_trees.specs.Gloss.{glossed, other_enumerators_by}
 use Rattle.x_rules.specs.NoteWalks.{view_walk}
-use Rattle.x_item.proofs.CollectLemmas.{covers_next, goes_start, goes_over, goes_end}
+use Rattle.x_trees.proofs.CollectLemmas.{covers_next, goes_start, goes_over, goes_end}
 use Rattle.x_rules.proofs.outline.notes.NoteWalk.other_enumerators.Goals as goal
 
 pub loop-enumerator-init : goal.loop-enumerator-init

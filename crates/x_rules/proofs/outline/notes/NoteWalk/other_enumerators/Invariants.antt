@@ -1,6 +1,6 @@
 use Rattle.std.proofs.Common.{drop, map, true}
-use Rattle.x_item.specs.Gloss.{glossed, other_enumerators_by}
-use Rattle.x_item.specs.View.{view_enumerator}
+use Rattle.x_trees.specs.Gloss.{glossed, other_enumerators_by}
+use Rattle.x_trees.specs.View.{view_enumerator}
 use Rattle.x_rules.specs.NoteWalks.{NotesOn}
 use Rattle.x_rules.proofs.outline.notes.NoteWalk.other_enumerators.Given as goal
 

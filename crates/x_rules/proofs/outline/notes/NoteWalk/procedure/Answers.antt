@@ -1,9 +1,9 @@
 use Rattle.std.proofs.Common.{◌≡◌, ◌∷◌, [], map, length, true, sym, subst, ◌∙◌}
 use Rattle.std.proofs.lemmas.List.{length-map}
-use Rattle.x_item.specs.View.{view_argument, view_passed}
-use Rattle.x_item.specs.Gloss.{VoidArgument, ProcedureNumber, glossed, passed_by, others_by}
-use Rattle.x_item.specs.Words.{Number}
-use Rattle.x_item.proofs.CollectLemmas.{covers_next, covers_then, covers_two}
+use Rattle.x_trees.specs.View.{view_argument, view_passed}
+use Rattle.x_trees.specs.Gloss.{VoidArgument, ProcedureNumber, glossed, passed_by, others_by}
+use Rattle.x_trees.specs.Words.{Number}
+use Rattle.x_trees.proofs.CollectLemmas.{covers_next, covers_then, covers_two}
 use Rattle.x_rules.specs.NoteWalks.{NotesIn}
 use Rattle.x_rules.proofs.outline.notes.NoteWalk.procedure.Goals as goal
 

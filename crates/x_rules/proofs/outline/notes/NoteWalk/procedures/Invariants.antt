@@ -1,6 +1,6 @@
 use Rattle.std.proofs.Common.{drop, map, true}
-use Rattle.x_item.specs.Gloss.{glossed, procedures_by}
-use Rattle.x_item.specs.View.{view_procedure}
+use Rattle.x_trees.specs.Gloss.{glossed, procedures_by}
+use Rattle.x_trees.specs.View.{view_procedure}
 use Rattle.x_rules.specs.NoteWalks.{NotesOn}
 use Rattle.x_rules.proofs.outline.notes.NoteWalk.procedures.Given as goal
 

@@ -1,5 +1,5 @@
 use Rattle.std.proofs.lemmas.Result.{on_ok_weaker}
-use Rattle.x_item.specs.View.{view_value}
+use Rattle.x_trees.specs.View.{view_value}
 use Rattle.x_rules.proofs.NoteWalkLemmas.{covers_value}
 use Rattle.x_rules.proofs.outline.notes.NoteWalk.value.Goals as goal
 

@@ -1,10 +1,10 @@
 use Rattle.std.proofs.Common.{◌≡◌, ◌+◌, ◌∷◌, [], drop, map, true, refl, ap, sym, ◌∙◌}
 use Rattle.std.proofs.lemmas.List.{drop_all, drop_more}
-use Rattle.x_item.specs.View.{view_version}
-use Rattle.x_item.specs.Gloss.{VersionNumber, glossed, versions_by}
-use Rattle.x_item.specs.Words.{Number}
+use Rattle.x_trees.specs.View.{view_version}
+use Rattle.x_trees.specs.Gloss.{VersionNumber, glossed, versions_by}
+use Rattle.x_trees.specs.Words.{Number}
 use Rattle.x_rules.specs.NoteWalks.{NotesIn, view_walk}
-use Rattle.x_item.proofs.CollectLemmas.{covers_next, covers_two, covers_three, covers_then, goes_start, goes_over, goes_end}
+use Rattle.x_trees.proofs.CollectLemmas.{covers_next, covers_two, covers_three, covers_then, goes_start, goes_over, goes_end}
 use Rattle.x_rules.proofs.outline.notes.NoteWalk.versions.Goals as goal
 
 pub loop-version-init : goal.loop-version-init

@@ -1,6 +1,6 @@
 use Rattle.std.proofs.Common.{drop, map, true}
-use Rattle.x_item.specs.Gloss.{glossed, versions_by}
-use Rattle.x_item.specs.View.{view_version}
+use Rattle.x_trees.specs.Gloss.{glossed, versions_by}
+use Rattle.x_trees.specs.View.{view_version}
 use Rattle.x_rules.specs.NoteWalks.{NotesOn}
 use Rattle.x_rules.proofs.outline.notes.NoteWalk.versions.Given as goal
 

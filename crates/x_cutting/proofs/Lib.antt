@@ -1,0 +1,14 @@
+pub mod CountLemmas
+pub mod CutRun
+pub mod CuttingLemmas
+pub mod FirstLemmas
+pub mod ItemListLemmas
+pub mod NextLemmas
+pub mod PatchEnds
+pub mod PatchedLemmas
+pub mod RecutEnds
+pub mod RecutLaws
+pub mod RecutPlaces
+pub mod RecutRun
+pub mod RoleLemmas
+pub mod TextLemmas

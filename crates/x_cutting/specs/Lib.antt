@@ -1,0 +1,4 @@
+pub mod Cutting
+pub mod ItemList
+pub mod Items
+pub mod Recut

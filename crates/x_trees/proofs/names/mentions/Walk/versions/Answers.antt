@@ -1,0 +1,22 @@
+use Rattle.std.proofs.Common.{◌≡◌, ◌+◌, ◌∷◌, drop, map, true, refl, ap, sym, ◌∙◌}
+use Rattle.std.proofs.lemmas.List.{drop_all, drop_more}
+use Rattle.x_trees.specs.View.{view_version}
+use Rattle.x_trees.specs.Gloss.{glossed, versions_by}
+use Rattle.x_trees.specs.Collected.{view_walk}
+use Rattle.x_trees.proofs.CollectLemmas.{covers_three, covers_then, goes_start, goes_over, goes_end}
+use Rattle.x_trees.proofs.names.mentions.Walk.versions.Goals as goal
+
+pub loop-version-init : goal.loop-version-init
+loop-version-init c = goes_start (view_walk c.args.self.now) _
+
+pub loop-version-preserved : goal.loop-version-preserved
+loop-version-preserved c =
+    let item = c.version-item.result in
+    let rest = drop (c.loop-version.version-index + 1) c.args.versions.now in
+    let front : drop c.loop-version.version-index c.args.versions.now ≡ item ∷ rest =
+    drop_more c.args.versions.now c.loop-version.version-index _ c.loop-version-test.true ∙ ap (λ x. x ∷ rest) (sym c.version-item.is) in
+    goes_over (λ xs. versions_by glossed true (map view_version xs)) item _ rest front refl c.loop-version.invariant
+    (covers_three record { all = c.skip.ensures } (covers_then (rw c.deref.ensures.value at c.in_ok-procedures.ensures) record { all = c.skip-in-loop-version.ensures }))
+
+pub returns : goal.returns
+returns c = goes_end (λ xs. versions_by glossed true (map view_version xs)) _ (drop_all _ _ c.loop-version-test.false) refl c.loop-version.invariant

@@ -1,0 +1,10 @@
+pub mod Collected
+pub mod Declarations
+pub mod Gloss
+pub mod Mentions
+pub mod Named
+pub mod Names
+pub mod Spell
+pub mod Tree
+pub mod View
+pub mod Words

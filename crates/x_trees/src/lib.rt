@@ -1,0 +1,16 @@
+//! The trees of the definitions of a `.x` file, how they are spelled, and the names that a definition declares and uses.
+#![tactic(auto)]
+
+mod laws;
+mod names;
+mod trees;
+
+pub use laws::gloss_law;
+pub use names::declares::{declares, declares_into, lifted_name};
+pub use names::mentions::{mentions, mentions_into};
+pub use names::{DeclaredName, Mention, NameKind, Use};
+pub use trees::{
+    Argument, Arm, BASIC_MARKS, Basic, Body, DataType, Declaration, Definition, Enumerator, Length,
+    MOST_INLINE, Procedure, Shape, Spelling, Tag, UnionBody, Value, Version, fitted, inline,
+    struct_body, union_body,
+};

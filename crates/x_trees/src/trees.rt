@@ -1,0 +1,18 @@
+//! The trees of definitions. Each name and number is kept as it is spelled.
+
+mod declaration;
+mod definition;
+mod fitted;
+mod program;
+mod spelling;
+mod value;
+
+pub use declaration::{
+    Arm, BASIC_MARKS, Basic, Body, DataType, Declaration, Enumerator, Length, MOST_INLINE, Shape,
+    Tag, UnionBody, inline, struct_body, union_body,
+};
+pub use definition::Definition;
+pub use fitted::fitted;
+pub use program::{Argument, Procedure, Version};
+pub use spelling::Spelling;
+pub use value::Value;
