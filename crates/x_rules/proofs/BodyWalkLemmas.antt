@@ -10,7 +10,7 @@ use Rattle.x_trees.specs.declared.trees.declaration.Body.{Body}
 use Rattle.x_trees.proofs.CollectLemmas.{finds_none, finds_then, finds_as}
 use Rattle.x_rules.specs.Bodies.{NameAt, ValueAt, bodies_inside, bodies_of_type, bodies_of_declaration, bodies_of_fields, bodies_of_arms, bodies_of_default, field_at, fields_from, arm_names_from, default_name, fields_of, cases_from, arm_cases_from, cases_of}
 use Rattle.x_rules.specs.Bodies as bodies
-use Rattle.x_rules.specs.Declarers.{IsShort}
+use Rattle.x_names.specs.Declarers.{IsShort}
 use Rattle.x_rules.specs.BodyWalks.{Stand, Goes, GoesName, GoesDeclaration, GoesFields, GoesCases, GoesArms, GoesDefault, GoesInside, Passes, FindsBody, FindsOwn, FindsAll, AreBodies, IsBehind, IsFilled, AreFilled, view_body_at, body_at, within, stand}
 use Rattle.x_rules.specs.Tables.{view_name_at, view_value_at}
 use Rattle.x_rules.specs.declared.outline.parts.BodyAt.{BodyAt}

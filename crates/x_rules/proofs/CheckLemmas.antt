@@ -4,7 +4,8 @@ use Rattle.std.specs.List.{IsAmong, flat_map}
 use Rattle.x_trees.specs.Tree.{Definition}
 use Rattle.x_trees.specs.Names.{declared}
 use Rattle.x_trees.specs.Mentions.{mentioned}
-use Rattle.x_rules.specs.Views.{View, names_of}
+use Rattle.x_rules.specs.Views.{View}
+use Rattle.x_trees.specs.Seen.{names_of}
 use Rattle.x_rules.specs.Bodies.{BodyAt, NameAt, Members, bodies, enumerators, cases_of, fields_of, members, field_groups, member_names, name_groups}
 use Rattle.x_rules.specs.Constants.{knowns, limit_of, is_declared_before}
 use Rattle.x_rules.specs.Tables.{first_place}

@@ -9,7 +9,8 @@ use Rattle.x_rules.specs.Constants.{knowns}
 use Rattle.x_rules.specs.Found.{found_faults}
 use Rattle.x_rules.specs.Results.{Outcome, IsOutcome, IsResult, AreResultsFrom, AreResults, result_at, view_by, meanings_by}
 use Rattle.x_rules.specs.Rules.{AreFaults}
-use Rattle.x_rules.specs.Views.{View, names_of, seen}
+use Rattle.x_rules.specs.Views.{View, seen}
+use Rattle.x_trees.specs.Seen.{names_of}
 use Rattle.x_rules.specs.declared.fault.WordFault.{WordFault}
 use Rattle.x_rules.proofs.CaseLemmas.{bad_cases_in, found_bad_case, bad_case_found}
 use Rattle.x_rules.proofs.CheckLemmas.{found_breaks, breaks_found, are_faults}

@@ -3,7 +3,6 @@ pub mod BodyWalkLemmas
 pub mod CaseLemmas
 pub mod CheckLemmas
 pub mod ClassLemmas
-pub mod DeclarerLaws
 pub mod DuplicateLemmas
 pub mod EnumeratorLemmas
 pub mod FamilyLemmas
@@ -15,7 +14,6 @@ pub mod InOrder
 pub mod MeaningLemmas
 pub mod MemberWalkLemmas
 pub mod MentionLemmas
-pub mod NameLemmas
 pub mod NoteLemmas
 pub mod NoteWalkLemmas
 pub mod NumberLemmas

@@ -18,7 +18,7 @@ use Rattle.x_rules.specs.Results.{type_of, type_named, type_defined, meaning_as}
 use Rattle.x_rules.specs.Tables.{capped, is_too_high}
 use Rattle.x_rules.specs.Types.{body_class, declaration_class, body_height, held_height, defined_heights, heights}
 use Rattle.x_rules.specs.Views.{View}
-use Rattle.x_rules.proofs.NameLemmas.{option_or_after}
+use Rattle.x_names.proofs.NameLemmas.{option_or_after}
 use Rattle.x_numbers.proofs.Lookups.{or_none}
 
 -- ---- bodies by the words that name their types

@@ -4,7 +4,7 @@ use Rattle.x_trees.specs.Tree as tree
 use Rattle.x_trees.specs.Spell.{spell_type, spell_body, spell_argument, spell_passed, spell_others, spell_procedure, spell_procedures, spell_version, spell_versions}
 use Rattle.x_trees.proofs.CollectLemmas.{finds_none, finds_then, finds_as}
 use Rattle.x_rules.specs.Bodies.{Members, no_members, procedures_from, procedures_of, versions_from}
-use Rattle.x_rules.specs.Declarers.{IsShort}
+use Rattle.x_names.specs.Declarers.{IsShort}
 use Rattle.x_rules.specs.MemberWalks.{Skips, Place, Adds, AddsName, AddsNumber, AddsProcedure, AddsProcedures, AddsVersions, AddsVersion, place, start}
 use Rattle.x_rules.specs.Tables.{view_name_at, view_number_at, view_members}
 use Rattle.x_rules.specs.declared.outline.bodies.BodyWalk.{BodyWalk}

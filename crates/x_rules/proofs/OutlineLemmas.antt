@@ -8,7 +8,8 @@ use Rattle.x_rules.specs.Bodies as spec
 use Rattle.x_rules.specs.Views as views
 use Rattle.x_rules.specs.Outlined.{GivesOutcome}
 use Rattle.x_rules.specs.Results.{Outcome, IsOutcome}
-use Rattle.x_rules.specs.Views.{view_in, names_of}
+use Rattle.x_rules.specs.Views.{view_in}
+use Rattle.x_trees.specs.Seen.{names_of}
 use Rattle.x_rules.specs.BodyWalks.{view_body_at}
 use Rattle.x_rules.specs.RustViews.{view_view}
 use Rattle.x_rules.specs.Tables.{ArePlaces, first_place, view_at}

@@ -5,9 +5,10 @@ use Rattle.std.proofs.lemmas.Bool.Decides.{nat_tests}
 use Rattle.std.proofs.Common.{◌≡◌, ℕ, suc, ◌<◌, Bool, true, false, cond, List, [], ◌∷◌, Option, Some, None, map, drop, arith, refl, sym, ap, subst, ◌∙◌}
 use Rattle.x_trees.specs.Tree.{Definition}
 use Rattle.x_trees.specs.declared.names.declared_name.NameKind.TheVariants as kinds
-use Rattle.x_rules.specs.Views.{View, Earlier, Own, Later, Bad, names_of, seen}
-use Rattle.x_rules.specs.Declarers.{is_beforehand, first_declarer}
-use Rattle.x_rules.specs.declared.names.Declarer.{Declarer}
+use Rattle.x_rules.specs.Views.{View, Earlier, Own, Later, Bad, seen}
+use Rattle.x_trees.specs.Seen.{names_of}
+use Rattle.x_names.specs.Declarers.{is_beforehand, first_declarer}
+use Rattle.x_names.specs.declared.names.Declarer.{Declarer}
 use Rattle.x_rules.specs.Results.{Outcome, IsOutcome, IsResult, AreResultsFrom, AreResults, result_at, view_of, view_by, meaning_in, meaning_at, beforehand_meaning, meanings_by}
 use Rattle.x_rules.proofs.FaultLists.{one_faults}
 use Rattle.x_text.proofs.ListLemmas.{get_at, drop_next}

@@ -6,7 +6,7 @@ use Rattle.x_trees.specs.View.{view_body}
 use Rattle.x_trees.specs.Spell.{spell_type, spell_body, spell_cases, spell_declaration, spell_declarations, spell_arms, spell_default}
 use Rattle.x_trees.specs.Collected.{Walked, Covers}
 use Rattle.x_rules.specs.Bodies as bodies
-use Rattle.x_rules.specs.Declarers.{IsShort}
+use Rattle.x_names.specs.Declarers.{IsShort}
 use Rattle.x_rules.specs.Tables.{view_name_at, view_value_at}
 use Rattle.x_rules.specs.declared.outline.parts.BodyAt.{BodyAt}
 use Rattle.x_rules.specs.declared.outline.bodies.BodyWalk.{BodyWalk}

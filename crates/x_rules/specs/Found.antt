@@ -6,7 +6,8 @@ use Rattle.x_trees.specs.Tree.{Definition, Value, Number, Named}
 use Rattle.x_trees.specs.Names.{Declared, declared}
 use Rattle.x_trees.specs.Mentions.{Mention, mentioned}
 use Rattle.x_rules.specs.Views as views
-use Rattle.x_rules.specs.Views.{View, Class, NoClass, names_of}
+use Rattle.x_rules.specs.Views.{View, Class, NoClass}
+use Rattle.x_trees.specs.Seen.{names_of}
 use Rattle.x_rules.specs.Bodies.{EnumeratorAt, NameAt, ValueAt, NumberAt, Members, bodies, enumerators, cases_of, fields_of, members}
 use Rattle.x_rules.specs.Tables.{first_place, is_too_high}
 use Rattle.x_rules.specs.Constants.{Known, knowns, limit_of, number_by}

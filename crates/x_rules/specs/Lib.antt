@@ -2,8 +2,6 @@ pub mod Bodies
 pub mod BodyWalks
 pub mod Cases
 pub mod Constants
-pub mod DeclarerTable
-pub mod Declarers
 pub mod Found
 pub mod KeptViews
 pub mod Meanings

@@ -6,11 +6,12 @@ use Rattle.x_trees.specs.Named.{view_name}
 use Rattle.x_trees.specs.Collected.{view_mention}
 use Rattle.x_trees.specs.Names.{declared}
 use Rattle.x_trees.specs.Mentions.{mentioned}
-use Rattle.x_rules.specs.Views.{View, names_of}
+use Rattle.x_rules.specs.Views.{View}
+use Rattle.x_trees.specs.Seen.{names_of}
 use Rattle.x_rules.specs.Bodies.{bodies, enumerators}
 use Rattle.x_rules.specs.BodyWalks.{view_body_at, AreFilled}
 use Rattle.x_rules.specs.Constants.{knowns}
-use Rattle.x_rules.specs.Declarers.{IsShort}
+use Rattle.x_names.specs.Declarers.{IsShort}
 use Rattle.x_rules.specs.Notes.{view_note_at, noted}
 use Rattle.x_rules.specs.Results.{Outcome, meanings_by}
 use Rattle.x_rules.specs.Rules.{AreFaults}

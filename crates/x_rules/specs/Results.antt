@@ -7,14 +7,15 @@ use Rattle.x_trees.specs.Tree.{Definition}
 use Rattle.x_trees.specs.Names.{Declared, declared}
 use Rattle.x_trees.specs.declared.names.declared_name.NameKind.{NameKind}
 use Rattle.x_trees.specs.declared.names.declared_name.NameKind.TheVariants as kinds
-use Rattle.x_rules.specs.Views.{View, Undeclared, Earlier, Own, Later, Meaning, Constant, OfType, Program, Bad, Class, names_of, seen}
+use Rattle.x_rules.specs.Views.{View, Undeclared, Earlier, Own, Later, Meaning, Constant, OfType, Program, Bad, Class, seen}
+use Rattle.x_trees.specs.Seen.{names_of}
 use Rattle.x_rules.specs.Bodies.{BodyAt, bodies, enumerators}
 use Rattle.x_rules.specs.Constants.{Known, knowns, number_named, number_at}
 use Rattle.x_rules.specs.Types.{body_class, declaration_class, body_height, held_height}
 use Rattle.x_rules.specs.Rules.{AreFaults}
-use Rattle.x_rules.specs.Declarers.{is_beforehand, first_declarer}
+use Rattle.x_names.specs.Declarers.{is_beforehand, first_declarer}
 use Rattle.x_rules.specs.declared.fault.WordFault.{WordFault}
-use Rattle.x_rules.specs.declared.names.Declarer.{Declarer}
+use Rattle.x_names.specs.declared.names.Declarer.{Declarer}
 
 -- ---- what a declared name means, where its item has no fault
 

@@ -1,9 +1,8 @@
 -- What an item sees of a name: who declares it first, as what, and what it means.
-use Rattle.std.specs.Prelude.{ℕ, Bool, List, [], ◌∷◌, ◌++◌, map, ℤ, if◌then◌else◌}
+use Rattle.std.specs.Prelude.{ℕ, Bool, List, [], ◌∷◌, ℤ, if◌then◌else◌}
 use Rattle.std.specs.Str.{bytes_eq}
 use Rattle.x_trees.specs.Tree.{Definition}
-use Rattle.x_trees.specs.Names.{declared}
-use Rattle.x_trees.specs.Mentions.{mentioned}
+use Rattle.x_trees.specs.Seen.{names_of}
 use Rattle.x_trees.specs.declared.names.declared_name.NameKind.{NameKind}
 
 -- what a type is as the discriminant of a union; an enum's numbers ascend, and each stands once
@@ -28,10 +27,6 @@ pub data View : Type 0 where
   Earlier : (kind : NameKind) (lifted : Bool) (meaning : Meaning) → View
   Own : (kind : NameKind) (lifted : Bool) → View
   Later : (kind : NameKind) (lifted : Bool) → View
-
--- the names that an item sees: those that it declares, then those that it uses, in their orders
-abbrev pub names_of : Definition → List (List ℕ)
-names_of d = map (λ x. x.name) (declared d) ++ map (λ m. m.name) (mentioned d)
 
 -- the view of a name among the views of names
 abbrev pub view_in : List (List ℕ) → List View → List ℕ → View

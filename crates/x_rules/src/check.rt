@@ -6,7 +6,7 @@ ghost use Rattle.std.specs.Cmp.{IsEquivalence, IsTotalOrder};
 ghost use Rattle.std.specs.Ordering.{eq_by_cmp};
 ghost use Rattle.std.specs.List.{IsAmong};
 ghost use Rattle.x_trees.specs.View.{view_definition};
-ghost use Rattle.x_rules.specs.Declarers.{IsShort};
+ghost use Rattle.x_names.specs.Declarers.{IsShort};
 ghost use Rattle.x_rules.specs.Results.{IsOutcome, meanings_by};
 ghost use Rattle.x_rules.specs.Rules.{Ascends, AreFaults};
 ghost use Rattle.x_rules.specs.Found.{found_faults};

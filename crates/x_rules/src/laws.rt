@@ -1,19 +1,11 @@
-//! Laws of names, rules and results.
+//! Laws of rules and results.
 
 ghost use Rattle.std.specs.Prelude.{◌≡◌, ℕ, List, Option};
 ghost use Rattle.x_trees.specs.Tree.{Definition};
-ghost use Rattle.x_rules.specs.Declarers.{FirstIs};
 ghost use Rattle.x_rules.specs.Views.{View};
 ghost use Rattle.x_rules.specs.Rules.{AreFaults};
 ghost use Rattle.x_rules.specs.Results.{Outcome, IsOutcome, AreResults};
 ghost use Rattle.x_rules.specs.declared.fault.WordFault.{WordFault};
-ghost use Rattle.x_rules.specs.declared.names.Declarer.{Declarer};
-
-/// A name has one first declarer, or none.
-pub fn one_first_declarer()
-    ensures { (definitions : List (Option Definition)) (name : List ℕ) (a b : Option Declarer)
-        → FirstIs definitions name a → FirstIs definitions name b → a ≡ b }
-{}
 
 /// The rules and the views determine the faults of a definition.
 pub fn one_list_of_faults()

@@ -2,7 +2,7 @@
 
 ghost use Rattle.std.specs.Prelude.{◌≡◌, IfOk};
 ghost use Rattle.x_trees.specs.View.{view_definition};
-ghost use Rattle.x_rules.specs.Declarers.{IsShort};
+ghost use Rattle.x_names.specs.Declarers.{IsShort};
 ghost use Rattle.x_rules.specs.Outlined.{IsOutline};
 
 pub mod bodies;

@@ -6,8 +6,8 @@ ghost use Rattle.x_rules.specs.KeptViews.{lent_outcome};
 ghost use Rattle.x_rules.specs.Results.{beforehand_meaning, view_named};
 
 use crate::checked::Checked;
-use crate::names::{Declarer, is_beforehand};
 use crate::numbers::Numbers;
+use x_names::{Declarer, is_beforehand};
 use x_trees::NameKind;
 
 /// The greatest height of a type. One that holds no other has the height 1, and any other 1 more than the highest that it holds.

@@ -11,14 +11,15 @@ use Rattle.x_trees.specs.Collected.{view_mention}
 use Rattle.x_trees.specs.declared.names.declared_name.DeclaredName.{DeclaredName}
 use Rattle.x_trees.specs.declared.names.mention.Mention as rust
 use Rattle.x_trees.specs.declared.names.declared_name.NameKind.TheVariants as kinds
-use Rattle.x_rules.specs.Views.{View, Earlier, names_of}
-use Rattle.x_rules.specs.Declarers.{IsShort, AreShort, is_beforehand, FirstIs}
-use Rattle.x_rules.specs.declared.names.Declarer.{Declarer}
+use Rattle.x_rules.specs.Views.{View, Earlier}
+use Rattle.x_trees.specs.Seen.{names_of}
+use Rattle.x_names.specs.Declarers.{IsShort, AreShort, is_beforehand, FirstIs}
+use Rattle.x_names.specs.declared.names.Declarer.{Declarer}
 use Rattle.x_rules.specs.Results.{Outcome, IsOutcome, IsResult, AreResults, AreResultsFrom, result_at, view_of, view_by, beforehand_meaning}
 use Rattle.x_rules.specs.declared.fault.WordFault.{WordFault}
 use Rattle.x_gen.specs.Pieces.{Pieces}
 use Rattle.x_gen.specs.Rendering.{pieces_of}
-use Rattle.x_rules.proofs.DeclarerLaws.{as_found}
+use Rattle.x_names.proofs.DeclarerLaws.{as_found}
 use Rattle.x_rules.proofs.HasResults.{stays_result, agree_front}
 use Rattle.x_text.proofs.ListLemmas.{drop_one, get_at, take_next}
 use Rattle.x_rules.proofs.OutlineLemmas.{map_map}

@@ -9,7 +9,7 @@ use Rattle.x_trees.specs.Tree.{Definition}
 use Rattle.x_cutting.specs.declared.cutting.entry.Entry.{Entry}
 use Rattle.x_text.proofs.ListLemmas.{get_drop}
 use Rattle.x_uses.specs.declared.uses.Place.{Place}
-use Rattle.x_uses.proofs.Numbering.{spliced_fresh, spliced_kept}
+use Rattle.x_recheck.proofs.Numbering.{spliced_fresh, spliced_kept}
 use Rattle.x_session.specs.Counting.{entry_faults, own_faults}
 use Rattle.x_session.specs.KeptView.{entry_definitions, kept_definition}
 use Rattle.x_session.specs.declared.compile.kept.Kept.{Kept}

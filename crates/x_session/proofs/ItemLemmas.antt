@@ -15,7 +15,7 @@ use Rattle.x_item.specs.Parse.{Parse, Nothing, Def, Fault, IsParse}
 use Rattle.x_cutting.specs.Items.{joined, AreWhole, IsNext}
 use Rattle.x_item.specs.declared.parsing.fault_code.FaultCode.{FaultCode}
 use Rattle.x_cutting.proofs.ItemListLemmas.{joined_push, whole_push}
-use Rattle.x_rules.specs.Declarers.{AreShort}
+use Rattle.x_names.specs.Declarers.{AreShort}
 use Rattle.x_session.specs.Compile.{parsed_definition}
 use Rattle.x_cutting.specs.ItemList.{AreOfText, counts, total}
 use Rattle.x_cutting.specs.declared.cutting.entry.Entry.{Entry}

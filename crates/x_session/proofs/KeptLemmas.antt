@@ -15,7 +15,7 @@ use Rattle.x_trees.specs.Tree.{Definition}
 use Rattle.x_item.specs.Parse.{Parse, Nothing, Def, Fault, IsParse}
 use Rattle.x_cutting.specs.declared.cutting.entry.Entry.{Entry}
 use Rattle.x_rules.specs.Results.{Outcome, AreResultsFrom, AreResults, IsResult, result_at}
-use Rattle.x_rules.specs.Declarers.{AreShort}
+use Rattle.x_names.specs.Declarers.{AreShort}
 use Rattle.x_rules.specs.Rules.{Ascends}
 use Rattle.x_rules.specs.declared.fault.WordFault.{WordFault}
 use Rattle.x_gen.specs.Pieces.{Pieces}

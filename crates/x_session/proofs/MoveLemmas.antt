@@ -4,7 +4,7 @@ use Rattle.std.specs.List.{filter}
 use Rattle.std.proofs.lemmas.Bool.{lt-ltb, le-ltb, cases_lt}
 use Rattle.x_text.specs.Counts.{raised}
 use Rattle.x_text.specs.Seqs.{distance}
-use Rattle.x_uses.specs.Staleness.{Ascending}
+use Rattle.x_recheck.specs.Staleness.{Ascending}
 use Rattle.x_uses.specs.declared.uses.Place.{Place}
 use Rattle.x_session.specs.Moves.{Changed, HasMoved, changed_before, changed_behind, changed_entry, changed_items, changed_place, moves, seat_behind, unchanged_between}
 

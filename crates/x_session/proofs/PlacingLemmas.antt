@@ -14,8 +14,8 @@ use Rattle.x_cutting.specs.ItemList as items
 use Rattle.x_cutting.specs.ItemList.{AreOfText, ItemChange, counts, patched, tokens_in}
 use Rattle.x_cutting.specs.declared.cutting.entry.Entry.{Entry}
 use Rattle.x_cutting.proofs.CountLemmas.{counts-splice}
-use Rattle.x_uses.specs.Staleness.{Ascending}
-use Rattle.x_uses.proofs.Numbering.{get_front, get_rear}
+use Rattle.x_recheck.specs.Staleness.{Ascending}
+use Rattle.x_recheck.proofs.Numbering.{get_front, get_rear}
 use Rattle.x_session.specs.Checking.{IsKnownAt}
 use Rattle.x_session.specs.Following.{CanPut}
 use Rattle.x_session.specs.KeptView.{IsWithAt}

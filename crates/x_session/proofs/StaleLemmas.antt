@@ -19,16 +19,16 @@ use Rattle.x_cutting.specs.ItemList.{AreOfText, ItemChange, LiesAmong, counts, p
 use Rattle.x_trees.specs.Tree.{Definition}
 use Rattle.x_cutting.specs.declared.cutting.entry.Entry.{Entry}
 use Rattle.x_text.proofs.ListLemmas.{get_drop}
-use Rattle.x_rules.specs.Declarers.{AreShort}
+use Rattle.x_names.specs.Declarers.{AreShort}
 use Rattle.x_rules.specs.Results.{AreResults, AreResultsFrom, Outcome, result_at}
-use Rattle.x_rules.specs.Views.{names_of}
+use Rattle.x_trees.specs.Seen.{names_of}
 use Rattle.x_rules.proofs.AmongLemmas.{among_first, among_more}
-use Rattle.x_uses.specs.Editing.{IsEdit, definition_at, definitions_after, edit_at, old_number, old_result}
+use Rattle.x_recheck.specs.Editing.{IsEdit, definition_at, definitions_after, edit_at, old_number, old_result}
 use Rattle.x_uses.specs.Occurrences.{IsSameTable, IsUsesOf, UseTable}
-use Rattle.x_uses.specs.Staleness.{AreStale, Ascending, IsOutdated, IsRecheck, new_result}
-use Rattle.x_uses.specs.declared.rechecking.Rechecked.{Rechecked}
+use Rattle.x_recheck.specs.Staleness.{AreStale, Ascending, IsOutdated, IsRecheck, new_result}
+use Rattle.x_recheck.specs.declared.rechecking.Rechecked.{Rechecked}
 use Rattle.x_uses.specs.declared.uses.Place.{Place}
-use Rattle.x_uses.proofs.Numbering.{fresh_cases, kept_cases, spliced_fresh, spliced_kept}
+use Rattle.x_recheck.proofs.Numbering.{fresh_cases, kept_cases, spliced_fresh, spliced_kept}
 use Rattle.x_session.specs.Checking.{IsSound, kept_definitions, sound_pieces}
 use Rattle.x_session.specs.Following.{AreStaleChecked, IsNameChange, behind, edit_of}
 use Rattle.x_session.specs.KeptView.{AreParsed, entry_definitions, entry_results, found_pieces, found_result, kept_definition, kept_found}

@@ -5,7 +5,7 @@ use Rattle.x_lex.specs.declared.kind.Kind.{Kind}
 use Rattle.x_lex.specs.Places.{lexemes}
 use Rattle.x_cutting.specs.ItemList as items
 use Rattle.x_cutting.specs.declared.cutting.entry.Entry.{Entry}
-use Rattle.x_rules.specs.Declarers.{AreShort}
+use Rattle.x_names.specs.Declarers.{AreShort}
 use Rattle.x_rules.specs.Results.{AreResults}
 use Rattle.x_uses.specs.Occurrences.{UseTable}
 use Rattle.x_session.specs.Checking.{IsSound}

@@ -20,8 +20,8 @@ use Rattle.x_cutting.specs.Recut.{AreOne, IsItemPatch}
 use Rattle.x_cutting.specs.declared.cutting.entry.Entry.{Entry}
 use Rattle.x_cutting.proofs.CuttingLemmas.{same_cut}
 use Rattle.x_cutting.proofs.RecutLaws.{same_item_patch}
-use Rattle.x_uses.specs.Staleness.{AreStale}
-use Rattle.x_uses.proofs.StaleLists.{one_stale_list}
+use Rattle.x_recheck.specs.Staleness.{AreStale}
+use Rattle.x_recheck.proofs.StaleLists.{one_stale_list}
 use Rattle.x_session.specs.Compile.{definitions_of}
 use Rattle.x_session.specs.Moves.{AreNear, Changed, changed_items, moves, place_of, seat_behind}
 use Rattle.x_session.specs.Session.{Document}

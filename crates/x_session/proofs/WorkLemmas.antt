@@ -26,9 +26,9 @@ use Rattle.x_cutting.specs.declared.cutting.entry.Entry.{Entry}
 use Rattle.x_cutting.proofs.CountLemmas.{counts-splice}
 use Rattle.x_rules.specs.Results.{Outcome}
 use Rattle.x_rules.proofs.AmongLemmas.{among_first, among_more}
-use Rattle.x_uses.specs.Editing.{TextEdit, definitions_after}
+use Rattle.x_recheck.specs.Editing.{TextEdit, definitions_after}
 use Rattle.x_uses.specs.Occurrences.{UseTable}
-use Rattle.x_uses.specs.Staleness.{AreStale, Ascending}
+use Rattle.x_recheck.specs.Staleness.{AreStale, Ascending}
 use Rattle.x_session.specs.Checking.{AreChecked}
 use Rattle.x_session.specs.Following.{AreUsed, IsPlan, behind, edit_of}
 use Rattle.x_session.specs.KeptView.{AreWith, entry_definitions, found_result, kept_definition}

@@ -5,10 +5,10 @@ use Rattle.x_text.specs.Counts.{Counts, raised}
 use Rattle.x_trees.specs.Tree.{Definition}
 use Rattle.x_trees.specs.declared.names.declared_name.NameKind.TheVariants as kinds
 use Rattle.x_rules.specs.Views.{View, Earlier}
-use Rattle.x_rules.specs.Declarers.{IsShort, is_beforehand}
+use Rattle.x_names.specs.Declarers.{IsShort, is_beforehand}
 use Rattle.x_rules.specs.Results.{AreResults, Outcome, beforehand_meaning, view_of}
 use Rattle.x_rules.specs.declared.fault.WordFault.{WordFault}
-use Rattle.x_rules.specs.declared.names.Declarer.{Declarer}
+use Rattle.x_names.specs.declared.names.Declarer.{Declarer}
 use Rattle.x_gen.specs.Pieces.{Pieces}
 use Rattle.x_gen.specs.Rendering.{pieces_of}
 use Rattle.x_session.specs.Compile.{rule_faults}

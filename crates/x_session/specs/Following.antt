@@ -14,11 +14,11 @@ use Rattle.x_cutting.specs.ItemList as items
 use Rattle.x_cutting.specs.ItemList.{AreOfText, ItemChange, counts}
 use Rattle.x_cutting.specs.Recut.{IsRelexed, IsItemPatch}
 use Rattle.x_cutting.specs.declared.cutting.entry.Entry.{Entry}
-use Rattle.x_rules.specs.Declarers.{AreShort}
+use Rattle.x_names.specs.Declarers.{AreShort}
 use Rattle.x_rules.specs.Results.{AreResults}
-use Rattle.x_uses.specs.Editing.{TextEdit}
+use Rattle.x_recheck.specs.Editing.{TextEdit}
 use Rattle.x_uses.specs.Occurrences.{HasRoomFor, IsUsesOf, UseTable}
-use Rattle.x_uses.specs.Staleness.{AreStale, Ascending}
+use Rattle.x_recheck.specs.Staleness.{AreStale, Ascending}
 use Rattle.x_session.specs.Checking.{AreRendered, IsSound, kept_definitions}
 use Rattle.x_session.specs.Counting.{faults_found, own_faults}
 use Rattle.x_session.specs.KeptView.{AreParsed, entry_definitions, entry_results, found_result}

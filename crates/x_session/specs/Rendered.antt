@@ -1,7 +1,7 @@
 -- What is to be kept of items that were checked.
 use Rattle.std.specs.Prelude.{◌≡◌, ℕ, List, [], ◌∷◌, Some, slice_get}
 use Rattle.x_trees.specs.Tree.{Definition}
-use Rattle.x_uses.specs.declared.rechecking.Rechecked.{Rechecked}
+use Rattle.x_recheck.specs.declared.rechecking.Rechecked.{Rechecked}
 use Rattle.x_session.specs.KeptView.{kept_definition}
 use Rattle.x_session.specs.Planned.{IsPlannedOf}
 use Rattle.x_session.specs.declared.compile.kept.Kept.{Kept}

@@ -14,8 +14,8 @@ use Rattle.x_cutting.specs.Items.{IsCut}
 use Rattle.x_cutting.specs.Recut.{IsItemPatch}
 use Rattle.x_trees.specs.Tree.{Definition}
 use Rattle.x_cutting.specs.declared.cutting.entry.Entry.{Entry}
-use Rattle.x_uses.specs.Editing.{TextEdit, definitions_after}
-use Rattle.x_uses.specs.Staleness.{AreStale}
+use Rattle.x_recheck.specs.Editing.{TextEdit, definitions_after}
+use Rattle.x_recheck.specs.Staleness.{AreStale}
 use Rattle.x_session.specs.Compile.{Item, IsCompilation, definitions_of}
 use Rattle.x_session.specs.Moves.{AreNear, changed_items, moves, place_of, seat_behind}
 use Rattle.x_session.specs.Session.{Document, LeavesText}

@@ -4,6 +4,7 @@ pub mod Gloss
 pub mod Mentions
 pub mod Named
 pub mod Names
+pub mod Seen
 pub mod Spell
 pub mod Tree
 pub mod View

@@ -8,8 +8,8 @@ use Rattle.std.proofs.lemmas.Bool.{cases_eq}
 use Rattle.std.proofs.lemmas.List.{map-append, length-map}
 use Rattle.x_trees.specs.Tree.{Definition}
 use Rattle.x_trees.specs.Names.{Declared, declared}
-use Rattle.x_rules.specs.Declarers.{declarer_at, place_of_name, declarer_in, first_from}
-use Rattle.x_rules.specs.declared.names.Declarer.{Declarer}
+use Rattle.x_names.specs.Declarers.{declarer_at, place_of_name, declarer_in, first_from}
+use Rattle.x_names.specs.declared.names.Declarer.{Declarer}
 use Rattle.x_uses.specs.Occurrences.{Definitions, UseTable, declarers_in, sees, put_before, declarers_of, users_of, declarer_of, declarers_at, users_at, HasRoom, IsUsesOf, slot_in}
 use Rattle.x_uses.specs.Slots.{front_of, rear_of, sum_of, number_after, stays, renumbered, filled, declarer_item, put_declarer, user_item, put_user, slot_stays, slot_renumbered, slot_filled, Entries, slot_at, by_slot, going, coming, ChangesEach, HasSameSlots, HasSameLists, RoomFor, item_of_declarer, with_item, first_of, first_after, names_of_entries}
 use Rattle.x_uses.specs.declared.uses.Place.{Place}

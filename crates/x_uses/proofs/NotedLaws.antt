@@ -15,8 +15,8 @@ use Rattle.x_trees.specs.Named.{view_name}
 use Rattle.x_trees.specs.Collected.{view_mention}
 use Rattle.x_trees.specs.declared.names.declared_name.DeclaredName.{DeclaredName}
 use Rattle.x_trees.specs.declared.names.mention.Mention.{Mention}
-use Rattle.x_rules.specs.Declarers.{declarer_at, place_of_name, declarer_in}
-use Rattle.x_rules.specs.declared.names.Declarer.{Declarer}
+use Rattle.x_names.specs.Declarers.{declarer_at, place_of_name, declarer_in}
+use Rattle.x_names.specs.declared.names.Declarer.{Declarer}
 use Rattle.x_uses.specs.Occurrences.{put_before, declarers_at, users_at, declarer_of, sees}
 use Rattle.x_uses.specs.declared.uses.slot.CompactDeclarer.{CompactDeclarer}
 use Rattle.x_uses.specs.Slots.{Entries, slot_at, ends_at, noted, noted_some, Notes, item_of_declarer, user_item}

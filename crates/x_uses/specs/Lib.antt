@@ -1,5 +1,2 @@
-pub mod Editing
 pub mod Occurrences
-pub mod Rechecking
 pub mod Slots
-pub mod Staleness

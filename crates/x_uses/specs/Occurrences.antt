@@ -5,9 +5,9 @@ use Rattle.std.specs.List.{list_any}
 use Rattle.std.specs.Map.{lookup}
 use Rattle.std.specs.Str.{bytes_eq}
 use Rattle.x_trees.specs.Tree.{Definition}
-use Rattle.x_rules.specs.Declarers.{declarer_in}
-use Rattle.x_rules.specs.Views.{names_of}
-use Rattle.x_rules.specs.declared.names.Declarer.{Declarer}
+use Rattle.x_names.specs.Declarers.{declarer_in}
+use Rattle.x_trees.specs.Seen.{names_of}
+use Rattle.x_names.specs.declared.names.Declarer.{Declarer}
 use Rattle.x_uses.specs.declared.uses.slot.CompactDeclarer.{CompactDeclarer}
 use Rattle.x_uses.specs.declared.uses.slot.Slot.{Slot}
 

@@ -2,7 +2,7 @@
 ghost use Rattle.std.specs.Prelude.{◌≡◌, ◌<◌, ◌≤◌, ◌+◌, ◌^◌, length, take, drop, map, IfOk, OnOk};
 ghost use Rattle.std.specs.List.{splice};
 ghost use Rattle.x_trees.specs.View.{tree_at};
-ghost use Rattle.x_rules.specs.Declarers.{AreShort, first_declarer};
+ghost use Rattle.x_names.specs.Declarers.{AreShort, first_declarer};
 ghost use Rattle.x_uses.specs.Occurrences.{Definitions, IsUsesOf, IsSameTable, HasRoomFor, users_in};
 
 mod making;
@@ -19,7 +19,7 @@ use std::alloc::Global;
 use std::marker::Model;
 use table::{Table, first_after_in, first_in, users_in};
 use x_trees::Definition;
-use x_rules::{Declarer, is_beforehand};
+use x_names::{Declarer, is_beforehand};
 use x_text::NoMemory;
 
 /// The items that an edit takes out, from one on, and how many it puts in there.

@@ -13,7 +13,7 @@ ghost use Rattle.x_rules.specs.Bodies.{bodies};
 ghost use Rattle.x_rules.specs.BodyWalks.{view_walk, view_body_at, stand, Passes, FindsType, FindsBody, FindsOwn};
 ghost use Rattle.x_rules.specs.BodyWalks.{GoesName, GoesDeclaration, GoesFields, GoesCases, GoesArms, GoesDefault};
 ghost use Rattle.x_rules.specs.BodyWalks.{GoesInside, FindsAll, AreFilled};
-ghost use Rattle.x_rules.specs.Declarers.{IsShort};
+ghost use Rattle.x_names.specs.Declarers.{IsShort};
 
 use super::parts::{BodyAt, NameAt, ValueAt};
 use std::alloc::Global;

@@ -5,7 +5,7 @@ ghost use Rattle.x_trees.specs.Spell.{spell_type, spell_argument, spell_passed, 
 ghost use Rattle.x_trees.specs.View.{view_type, view_argument, view_passed, view_procedure, view_version};
 ghost use Rattle.x_trees.specs.View.{view_definition};
 ghost use Rattle.x_rules.specs.Bodies.{members, procedures_of, versions_from};
-ghost use Rattle.x_rules.specs.Declarers.{IsShort};
+ghost use Rattle.x_names.specs.Declarers.{IsShort};
 ghost use Rattle.x_rules.specs.MemberWalks.{Skips, AddsName, AddsNumber, AddsProcedure, AddsProcedures, AddsVersion};
 ghost use Rattle.x_rules.specs.MemberWalks.{place, start};
 ghost use Rattle.x_rules.specs.Tables.{view_members};

@@ -4,14 +4,14 @@ ghost use Rattle.std.specs.Prelude.{◌≡◌, ◌+◌, ℕ, List, [], ◌∷◌
 ghost use Rattle.std.specs.Prelude.{if◌then◌else◌};
 ghost use Rattle.x_trees.specs.Tree as tree;
 ghost use Rattle.x_trees.specs.View.{view_definition};
-ghost use Rattle.x_rules.specs.Declarers.{AreShort, IsShort, FirstIs};
-ghost use Rattle.x_rules.specs.DeclarerTable.{first_in};
+ghost use Rattle.x_names.specs.Declarers.{AreShort, IsShort, FirstIs};
+ghost use Rattle.x_names.specs.DeclarerTable.{first_in};
 ghost use Rattle.x_trees.specs.View.{tree_at};
 ghost use Rattle.x_rules.specs.KeptViews.{lent_outcome};
 ghost use Rattle.x_rules.specs.Outlined.{IsOutline, outlined};
 ghost use Rattle.x_rules.specs.Results.{IsResult, result_at};
 ghost use Rattle.x_rules.specs.RustViews.{view_view};
-ghost use Rattle.x_rules.specs.Views.{names_of};
+ghost use Rattle.x_trees.specs.Seen.{names_of};
 ghost use Rattle.x_session.specs.Checking.{AreChecked, IsShortAt, counted, kept_definitions};
 ghost use Rattle.x_session.specs.Checking.{sound_pieces, view_by_first};
 ghost use Rattle.x_session.specs.KeptView.{found_pieces, found_result};

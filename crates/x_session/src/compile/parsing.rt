@@ -5,7 +5,7 @@ ghost use Rattle.x_text.specs.Counts.{raised};
 ghost use Rattle.x_lex.specs.Tiling.{AreTokens};
 ghost use Rattle.x_lex.specs.Places.{lexemes};
 ghost use Rattle.x_cutting.specs.ItemList.{AreOfText, counts};
-ghost use Rattle.x_rules.specs.Declarers.{AreShort};
+ghost use Rattle.x_names.specs.Declarers.{AreShort};
 ghost use Rattle.x_session.specs.KeptView.{AreParsed, entry_definitions, kept_found};
 
 use crate::compile::kept::{Kept, entry_of};

@@ -6,7 +6,7 @@ ghost use Rattle.x_text.specs.declared.source.TheConstants.{MAX_TEXT};
 ghost use Rattle.x_cutting.specs.ItemList.{AreOfText, ItemChange, LiesAmong, counts, patched};
 ghost use Rattle.x_cutting.specs.declared.cutting.entry.Entry as entries;
 ghost use Rattle.x_trees.specs.View.{tree_at};
-ghost use Rattle.x_rules.specs.Declarers.{AreShort};
+ghost use Rattle.x_names.specs.Declarers.{AreShort};
 ghost use Rattle.x_uses.specs.Occurrences.{IsUsesOf};
 ghost use Rattle.x_session.specs.Following.{AreUsed, HasRoomForNames, IsNameChange};
 ghost use Rattle.x_session.specs.KeptView.{entry_definitions, kept_definition};

@@ -4,7 +4,7 @@ ghost use Rattle.std.specs.Prelude.{◌≡◌, ◌+◌, ◌*◌, ◌<◌, ◌≤
 ghost use Rattle.x_text.specs.declared.source.TheConstants.{MAX_TEXT};
 ghost use Rattle.x_text.specs.Seqs.{distance};
 ghost use Rattle.x_cutting.specs.ItemList.{counts, kept, patched};
-ghost use Rattle.x_uses.specs.Staleness.{Ascending};
+ghost use Rattle.x_recheck.specs.Staleness.{Ascending};
 ghost use Rattle.x_session.specs.Checking.{IsKnownAt};
 ghost use Rattle.x_session.specs.Following.{CanPut, behind, kept_behind, whole};
 ghost use Rattle.x_session.specs.KeptView.{AreWith, IsWithAt};

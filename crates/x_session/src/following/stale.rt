@@ -4,7 +4,7 @@ ghost use Rattle.std.specs.Prelude.{◌≡◌, All, IfOk, None, length, map};
 ghost use Rattle.x_text.specs.Counts.{raised};
 ghost use Rattle.x_cutting.specs.ItemList.{AreOfText, LiesAmong, counts, kept, patched};
 ghost use Rattle.x_trees.specs.View.{tree_at};
-ghost use Rattle.x_rules.specs.Declarers.{AreShort};
+ghost use Rattle.x_names.specs.Declarers.{AreShort};
 ghost use Rattle.x_session.specs.Checking.{IsMade};
 ghost use Rattle.x_session.specs.Following.{AreStaleChecked, HasRoomForNames, IsCheckedTable, IsNameChange};
 ghost use Rattle.x_session.specs.KeptView.{entry_definitions, kept_found};

@@ -1,7 +1,7 @@
 //! What the table of uses has of one name.
 ghost use Rattle.std.specs.Prelude.{◌≡◌, true, [], Some, IfOk, OnOk};
 ghost use Rattle.x_trees.specs.Named.{view_name};
-ghost use Rattle.x_rules.specs.Declarers.{declarer_at};
+ghost use Rattle.x_names.specs.Declarers.{declarer_at};
 ghost use Rattle.x_uses.specs.Occurrences.{declarer_of, HasRoom};
 ghost use Rattle.x_uses.specs.Slots.{slot_stays, slot_renumbered, slot_filled, empty_slot, Widens};
 ghost use Rattle.x_uses.specs.Slots.{declarer_item, put_declarer, user_item, noted};
@@ -11,7 +11,7 @@ use super::places::{Placed, note, put_in, renumber_all, take_out};
 use smallvec::SmallVec;
 use std::alloc::Global;
 use x_trees::{DeclaredName, NameKind};
-use x_rules::Declarer;
+use x_names::Declarer;
 use x_text::NoMemory;
 
 /// A [`Declarer`] in half the memory.

@@ -8,7 +8,7 @@ use super::Place;
 use super::places::count_below;
 use super::slot::{CompactDeclarer, Slot};
 use indexmap::IndexMap;
-use x_rules::Declarer;
+use x_names::Declarer;
 
 /// The names of a text with their slots.
 pub type Table = IndexMap<Vec<u8>, Slot>;

@@ -4,7 +4,7 @@ use Rattle.std.specs.List.{flat_map, list_any}
 use Rattle.x_trees.specs.Collected.{view_mention}
 use Rattle.x_trees.specs.View.{view_body}
 use Rattle.x_trees.specs.Named.{view_name}
-use Rattle.x_rules.specs.Views.{names_of}
+use Rattle.x_trees.specs.Seen.{names_of}
 use Rattle.x_rules.specs.Bodies.{enumerators, bodies, cases_of, fields_of}
 use Rattle.x_rules.specs.BodyWalks.{view_body_at}
 use Rattle.x_rules.specs.Constants.{knowns}

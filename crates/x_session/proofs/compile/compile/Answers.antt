@@ -2,7 +2,7 @@ use Rattle.std.proofs.Common.{◌≡◌, None, map, ap, sym, subst, ◌∙◌}
 use Rattle.std.specs.Borrow.{Bor}
 use Rattle.x_cutting.specs.ItemList.{AreOfText}
 use Rattle.x_cutting.specs.ItemList as items
-use Rattle.x_rules.specs.Declarers.{AreShort}
+use Rattle.x_names.specs.Declarers.{AreShort}
 use Rattle.x_session.specs.Checking.{AreChecked, kept_definitions}
 use Rattle.x_session.specs.KeptView.{kept_found}
 use Rattle.x_session.specs.SessionState.{IsKept}

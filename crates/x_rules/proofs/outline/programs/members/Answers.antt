@@ -2,7 +2,7 @@ use Rattle.std.proofs.Common.{◌≡◌, map, IfOk, sym, subst}
 use Rattle.std.proofs.lemmas.Result.{IfOk-weaker}
 use Rattle.x_trees.specs.View.{view_version, view_definition}
 use Rattle.x_rules.specs.Bodies.{members}
-use Rattle.x_rules.specs.Declarers.{IsShort}
+use Rattle.x_names.specs.Declarers.{IsShort}
 use Rattle.x_rules.specs.Tables.{view_members}
 use Rattle.x_rules.proofs.MemberWalkLemmas.{versions_fit}
 use Rattle.x_rules.proofs.outline.programs.members.Goals as goal

@@ -3,8 +3,8 @@ use Rattle.std.specs.Borrow.{Bor}
 use Rattle.std.proofs.lemmas.List.{length-map, map-append}
 use Rattle.x_trees.specs.Tree.{Definition}
 use Rattle.x_rules.proofs.OutlineLemmas.{map_map}
-use Rattle.x_rules.specs.Declarers.{AreShort, FirstIs}
-use Rattle.x_rules.specs.DeclarerTable.{first_in}
+use Rattle.x_names.specs.Declarers.{AreShort, FirstIs}
+use Rattle.x_names.specs.DeclarerTable.{first_in}
 use Rattle.x_rules.specs.Results.{IsResult, result_at}
 use Rattle.x_session.specs.Checking.{counted}
 use Rattle.x_session.specs.Compile.{faults_at}

@@ -1,8 +1,8 @@
 use Rattle.std.proofs.Common.{List, ℕ, map, ap, subst, ◌∙◌}
 use Rattle.std.specs.Prelude.{IfOk}
 use Rattle.x_trees.specs.View.{tree_at}
-use Rattle.x_rules.specs.DeclarerTable.{first_in}
-use Rattle.x_rules.specs.Declarers.{AreShort, FirstIs}
+use Rattle.x_names.specs.DeclarerTable.{first_in}
+use Rattle.x_names.specs.Declarers.{AreShort, FirstIs}
 use Rattle.x_session.proofs.compile.checking.names_of.Goals as goal
 
 pub returns : goal.returns

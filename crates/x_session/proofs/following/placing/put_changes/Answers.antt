@@ -1,7 +1,7 @@
 use Rattle.std.proofs.Common.{◌≡◌, ◌≤◌, ◌+◌, ◌*◌, ◌∷◌, [], length, refl, sym, ap, subst, ◌∙◌, arith}
 use Rattle.std.specs.Vec.Iter.{into_iter_items}
 use Rattle.x_text.specs.declared.source.TheConstants.{MAX_TEXT}
-use Rattle.x_uses.specs.Staleness.{Ascending}
+use Rattle.x_recheck.specs.Staleness.{Ascending}
 use Rattle.x_cutting.specs.ItemList as items
 use Rattle.x_session.specs.Following.{whole}
 use Rattle.x_session.specs.KeptView.{AreWith}

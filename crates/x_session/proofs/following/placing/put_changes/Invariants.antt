@@ -2,7 +2,7 @@ use Rattle.std.proofs.Common.{◌≡◌, ℕ, length}
 use Rattle.std.specs.Prelude.{IfSome}
 use Rattle.std.specs.Vec.Iter.{into_iter_items, into_iter_len}
 use Rattle.x_cutting.specs.ItemList as items
-use Rattle.x_uses.specs.Staleness.{Ascending}
+use Rattle.x_recheck.specs.Staleness.{Ascending}
 use Rattle.x_session.specs.Following.{CanPut, whole}
 use Rattle.x_session.specs.Moves.{HasMoved, changed_items, left_changes, place_of}
 use Rattle.x_session.specs.Planned.{numbers_of}

@@ -2,9 +2,9 @@ use Rattle.std.proofs.Common.{◌≡◌, length, map, ap, subst, sym, ◌∙◌,
 use Rattle.x_text.specs.Counts.{raised}
 use Rattle.x_trees.specs.View.{tree_at}
 use Rattle.x_cutting.specs.ItemList as items
-use Rattle.x_uses.specs.Editing.{IsEdit}
+use Rattle.x_recheck.specs.Editing.{IsEdit}
 use Rattle.x_uses.specs.Occurrences.{IsUsesOf}
-use Rattle.x_uses.specs.Staleness.{IsRecheck}
+use Rattle.x_recheck.specs.Staleness.{IsRecheck}
 use Rattle.x_session.specs.Following.{AreStaleChecked, AreUsed, edit_of}
 use Rattle.x_session.specs.Rendered.{AreRenderings}
 use Rattle.x_session.proofs.KeptLemmas.{made_patched}

@@ -1,5 +1,5 @@
 use Rattle.std.proofs.Common.{None, cond, ap, sym, ◌∙◌}
-use Rattle.x_rules.specs.Declarers.{first_from}
+use Rattle.x_names.specs.Declarers.{first_from}
 use Rattle.x_uses.specs.Occurrences.{declarers_at, declarers_in}
 use Rattle.x_uses.specs.Slots.{first_of}
 use Rattle.x_uses.proofs.TableLemmas.{slot_seen}

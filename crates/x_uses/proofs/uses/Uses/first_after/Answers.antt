@@ -1,6 +1,6 @@
 use Rattle.std.proofs.Common.{◌+◌, None, cond, ap, sym, ◌∙◌}
 use Rattle.std.specs.List.{splice}
-use Rattle.x_rules.specs.Declarers.{first_from}
+use Rattle.x_names.specs.Declarers.{first_from}
 use Rattle.x_uses.proofs.Follows.{first_follows}
 use Rattle.x_uses.proofs.uses.Uses.first_after.Goals as goal
 

@@ -1,6 +1,6 @@
 use Rattle.std.proofs.Common.{◌≡◌, ℕ, List, map, take}
 use Rattle.x_trees.specs.View.{tree_at}
-use Rattle.x_rules.specs.Declarers.{AreShort}
+use Rattle.x_names.specs.Declarers.{AreShort}
 use Rattle.x_uses.specs.Occurrences.{declarers_at, users_at, declarers_of, users_of}
 use Rattle.x_uses.specs.Slots.{slot_at}
 use Rattle.x_uses.proofs.uses.making.table_of.Given as goal

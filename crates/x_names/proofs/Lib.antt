@@ -1,0 +1,2 @@
+pub mod DeclarerLaws
+pub mod NameLemmas

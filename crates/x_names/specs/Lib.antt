@@ -1,0 +1,2 @@
+pub mod DeclarerTable
+pub mod Declarers

@@ -1,0 +1,13 @@
+pub mod AlikeLemmas
+pub mod CandidateLemmas
+pub mod DecidedLemmas
+pub mod FirstDeclarers
+pub mod FoundLemmas
+pub mod NextLemmas
+pub mod Numbering
+pub mod OutlineNames
+pub mod SameSights
+pub mod StaleLists
+pub mod UserLemmas
+pub mod WaitingLemmas
+pub mod WalkLemmas

@@ -1,0 +1,55 @@
+-- The users of a name.
+use Rattle.std.specs.Prelude.{◌||◌}
+use Rattle.std.specs.List.{IsAmong, list_any}
+use Rattle.std.specs.Str.{bytes_eq}
+use Rattle.std.proofs.Common.{◌≡◌, ◌<◌, ◌⊎◌, inl, inr, ℕ, zero, suc, ◌+◌, Bool, true, false, cond, List, [], ◌∷◌, length, Option, Some, refl, sym, ap, subst, ◌∙◌, arith}
+use Rattle.std.proofs.lemmas.Slice.Eq.{bytes_eq-Decides}
+use Rattle.x_trees.specs.Tree.{Definition}
+use Rattle.x_trees.specs.Seen.{names_of}
+use Rattle.x_rules.proofs.AmongLemmas.{among_cases, among_none, among_first, among_more}
+use Rattle.x_recheck.specs.Editing.{TextEdit, IsEdit, definition_at}
+use Rattle.x_uses.specs.Occurrences.{sees, users_of}
+use Rattle.x_recheck.specs.Rechecking.{IsKeptUser}
+use Rattle.x_recheck.proofs.Numbering.{definition_kept}
+
+among_passes : (names : List (List ℕ)) (name : List ℕ) → IsAmong names name → list_any (bytes_eq name) names ≡ true
+among_passes [] name h = absurd (among_none name h)
+among_passes (n ∷ ns) name h = by (among_cases n name ns h) (λ k. among_passes ns name k) (bytes_eq name n) refl
+  where
+    by : (name ≡ n) ⊎ IsAmong ns name → (IsAmong ns name → list_any (bytes_eq name) ns ≡ true) → (b : Bool) → bytes_eq name n ≡ b → list_any (bytes_eq name) (n ∷ ns) ≡ true
+    by k more true e = ap (λ b. b || list_any (bytes_eq name) ns) e
+    by (inl same) more false e = let there : bytes_eq name n ≡ true = (bytes_eq-Decides name n).1 same in absurd (cc)
+    by (inr k) more false e = ap (λ b. b || list_any (bytes_eq name) ns) e ∙ more k
+
+-- users have the numbers of items of the list
+pub user_within : (n : ℕ) (ds : List (Option Definition)) (name : List ℕ) (j : ℕ) → IsAmong (users_of n ds name) j → j < n + length ds
+user_within n [] name j h = absurd (among_none j h)
+user_within n (d ∷ ds) name j h = by (sees d name) h (λ k. user_within (suc n) ds name j k)
+  where
+    first : (j ≡ n) ⊎ IsAmong (users_of (suc n) ds name) j → (IsAmong (users_of (suc n) ds name) j → j < suc n + length ds) → j < n + suc (length ds)
+    first (inl e) more = omega (arith, e)
+    first (inr k) more = let lt = more k in omega (arith, lt)
+
+    by : (b : Bool) → IsAmong (cond b (n ∷ users_of (suc n) ds name) (users_of (suc n) ds name)) j → (IsAmong (users_of (suc n) ds name) j → j < suc n + length ds) → j < n + suc (length ds)
+    by true h more = first (among_cases n j (users_of (suc n) ds name) h) more
+    by false h more = let lt = more h in omega (arith, lt)
+
+-- an item that sees the name is a user
+user_there : (n : ℕ) (ds : List (Option Definition)) (name : List ℕ) (i : ℕ) (d : Definition) → definition_at ds i ≡ Some d → IsAmong (names_of d) name → IsAmong (users_of n ds name) (n + i)
+user_there n [] name i d h among = absurd (cc)
+user_there n (x ∷ ds) name zero d h among =
+    let passes : sees x name ≡ true = ap (λ o. sees o name) h ∙ among_passes (names_of d) name among in
+    let here : n ≡ n + 0 = omega arith in
+    subst (λ b. IsAmong (cond b (n ∷ users_of (suc n) ds name) (users_of (suc n) ds name)) (n + 0)) (sym passes) (subst (IsAmong (n ∷ users_of (suc n) ds name)) here (among_first n (users_of (suc n) ds name)))
+user_there n (x ∷ ds) name (suc i) d h among = by (sees x name) (user_there (suc n) ds name i d h among)
+  where
+    by : (b : Bool) → IsAmong (users_of (suc n) ds name) (suc n + i) → IsAmong (cond b (n ∷ users_of (suc n) ds name) (users_of (suc n) ds name)) (n + suc i)
+    by true there = let same : suc n + i ≡ n + suc i = omega arith in among_more n (n + suc i) (users_of (suc n) ds name) (subst (IsAmong (users_of (suc n) ds name)) same there)
+    by false there = let same : suc n + i ≡ n + suc i = omega arith in subst (IsAmong (users_of (suc n) ds name)) same there
+
+-- a kept user was a user
+pub kept_user : (e : TextEdit) (k : ℕ) (name : List ℕ) → IsEdit e → (u : IsKeptUser e k name) → IsAmong (users_of 0 e.old name) u.was
+kept_user e k name is u =
+    let same : 0 + u.was ≡ u.was = omega arith in
+    subst (IsAmong (users_of 0 e.old name)) same
+    (user_there 0 e.old name u.was u.definition (sym (definition_kept e k u.was is u.kept) ∙ u.has) u.sees)

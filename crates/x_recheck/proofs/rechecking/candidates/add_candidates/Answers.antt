@@ -1,0 +1,9 @@
+use Rattle.std.proofs.Common.{sym, ◌∙◌}
+use Rattle.x_recheck.specs.Editing.{definitions_after}
+use Rattle.x_recheck.specs.Rechecking.{edit_of}
+use Rattle.x_recheck.proofs.FirstDeclarers.{first_within}
+use Rattle.x_recheck.proofs.rechecking.candidates.add_candidates.Goals as goal
+
+pub is_alike-requires-clause-after : goal.is_alike-requires-clause-after
+is_alike-requires-clause-after g c f is =
+    first_within (definitions_after (edit_of g.L.CheckedItems.text c.args.items.now)) c.args.name.now f (sym c.first_after-after.ensures ∙ is)

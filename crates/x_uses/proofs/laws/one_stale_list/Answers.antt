@@ -1,5 +1,0 @@
-use Rattle.x_uses.proofs.StaleLists as lists
-use Rattle.x_uses.proofs.laws.one_stale_list.Goals as goal
-
-pub returns : goal.returns
-returns c = lists.one_stale_list

@@ -1,8 +1,0 @@
-use Rattle.std.proofs.Common.{sym, ◌∙◌}
-use Rattle.x_uses.proofs.SameSights.{same_view}
-use Rattle.x_uses.proofs.rechecking.sights.is_same_view.Goals as goal
-
-pub returns : goal.returns
-returns c =
-    let decides = same_view c.args.one.now c.args.other.now in
-    (λ h. decides.0 (sym c.eq.ensures ∙ h), λ p. c.eq.ensures ∙ decides.1 p)

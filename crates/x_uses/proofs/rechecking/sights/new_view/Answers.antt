@@ -1,9 +1,0 @@
-use Rattle.std.proofs.Common.{sym, ◌∙◌}
-use Rattle.x_uses.specs.Editing.{definitions_after}
-use Rattle.x_uses.specs.Rechecking.{edit_of}
-use Rattle.x_uses.proofs.FirstDeclarers.{first_within}
-use Rattle.x_uses.proofs.rechecking.sights.new_view.Goals as goal
-
-pub checked-declaring-requires-clause-item : goal.checked-declaring-requires-clause-item
-checked-declaring-requires-clause-item g c =
-    first_within (definitions_after (edit_of g.L.CheckedItems.text c.args.items.now)) c.args.name.now c.in-Some.declarer (sym c.first_after-first.ensures ∙ c.in-Some.is)
