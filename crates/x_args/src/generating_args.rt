@@ -10,7 +10,7 @@ use crate::complaint::complain;
 use clap::{Command, Error};
 use std::alloc::{AllocError, Global};
 use std::convert::AsStr;
-use x_gen::Which;
+use x_pieces::Which;
 use x_text::Sink;
 
 /// What a command line of `rpcgen` asks for.

@@ -1,25 +1,8 @@
-//! What is generated of a definition, in C ([`render`]), and the four texts of a whole `.x` file ([`write_text`]).
+//! What is generated of a definition that has no fault, in C ([`render`]). The four texts of a whole `.x` file ([`write_text`]) and what
+//! they are made of (`x_pieces`) are offered here too.
 #![tactic(auto)]
 
-mod add;
-mod c_types;
-mod declaration;
-mod header;
-mod piece_list;
-mod pieces;
-mod procedures;
-mod program_header;
-mod prologue;
 mod rendering;
-mod routines;
-mod stubs;
-mod table;
-mod text;
-mod types;
-mod which;
 
-pub use piece_list::PieceList;
-pub use pieces::Pieces;
 pub use rendering::{Renderer, render};
-pub use text::{add_text, text_length, write_text};
-pub use which::Which;
+pub use x_pieces::{PieceList, Pieces, Which, add_text, text_length, write_text};

@@ -14,8 +14,8 @@ use indexmap::IndexMap;
 use std::alloc::Global;
 use std::borrow::CowSlice;
 use std::marker::Model;
-use x_trees::{DeclaredName, Definition, NameKind, declares_into};
 use x_text::NoMemory;
+use x_trees::{DeclaredName, Definition, NameKind, declares_into};
 
 /// Where a name is declared, and as what.
 #[derive(Clone, Copy, Debug, PartialEq, Eq)]

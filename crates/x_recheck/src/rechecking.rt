@@ -15,14 +15,14 @@ mod numbers;
 mod queue;
 mod sights;
 
-use x_uses::{Place, Uses};
 use candidates::first_candidates;
 use checking::check_next;
 use edited_items::EditedItems;
 use std::alloc::Global;
-use x_trees::Definition;
 use x_rules::Checked;
 use x_text::{Meter, NoMemory};
+use x_trees::Definition;
+use x_uses::{Place, Uses};
 
 /// The items of a text, with what checking them found.
 pub trait CheckedItems {

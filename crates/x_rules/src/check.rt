@@ -31,8 +31,8 @@ use crate::rules::words::{add_past_last, add_words};
 use crate::views::View;
 use smallvec::SmallVec;
 use std::alloc::Global;
-use x_trees::Definition;
 use x_text::{Meter, NoMemory};
+use x_trees::Definition;
 
 /// The laws of an order, as the prover has them of any type.
 fn order_laws<T: Ord>()

@@ -16,8 +16,8 @@ use note::NoteAt;
 use notes::notes_into;
 use parts::BodyAt;
 use std::alloc::Global;
-use x_trees::{DeclaredName, Definition, Mention, declares_into, mentions_into};
 use x_text::NoMemory;
+use x_trees::{DeclaredName, Definition, Mention, declares_into, mentions_into};
 
 /// The names that stand in a definition, and its bodies: what is found of it once, both for its views and for its check.
 #[derive(Drop)]

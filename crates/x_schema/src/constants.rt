@@ -15,9 +15,9 @@ ghost use Rattle.x_schema.specs.SchemaTables.{numbers_held};
 
 use indexmap::IndexMap;
 use std::alloc::Global;
-use x_trees::{Arm, Body, DataType, Declaration, Definition, Enumerator, UnionBody, Value};
 use x_numbers::{next_number, number_value};
 use x_text::NoMemory;
+use x_trees::{Arm, Body, DataType, Declaration, Definition, Enumerator, UnionBody, Value};
 
 /// The word of four bytes that is the number, if it is one from 0 to 2^32-1.
 pub fn unsigned_word(number: i128) -> Option<u32>

@@ -36,12 +36,12 @@ use crate::form::{Arm, Arms, Enumerators, Field, Form, FormIndex, LinkIndex, Nam
 use crate::schema::{NamedType, Schema};
 use indexmap::IndexMap;
 use std::alloc::Global;
+use x_numbers::next_number;
+use x_text::NoMemory;
 use x_trees::{
     Arm as ArmTree, Basic, Body, DataType, Declaration, Definition, Enumerator, Length, Shape,
     UnionBody, Value, lifted_name,
 };
-use x_numbers::next_number;
-use x_text::NoMemory;
 
 /// The types of names.
 pub type TypeTable = IndexMap<Vec<u8>, NamedType>;

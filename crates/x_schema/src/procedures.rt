@@ -19,9 +19,9 @@ use crate::procedure::{KeptProcedure, ProcedureNumbers};
 use indexmap::IndexMap;
 use itoa::Buffer;
 use std::alloc::Global;
-use x_trees::{Argument, DataType, Definition, Procedure, Version};
 use x_numbers::number_value;
 use x_text::NoMemory;
+use x_trees::{Argument, DataType, Definition, Procedure, Version};
 
 /// Procedures by their numbers.
 pub type ProcedureTable = IndexMap<ProcedureNumbers, KeptProcedure>;

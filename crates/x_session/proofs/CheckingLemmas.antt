@@ -17,8 +17,8 @@ use Rattle.x_names.specs.Declarers.{IsShort, AreShort, is_beforehand, FirstIs}
 use Rattle.x_names.specs.declared.names.Declarer.{Declarer}
 use Rattle.x_rules.specs.Results.{Outcome, IsOutcome, IsResult, AreResults, AreResultsFrom, result_at, view_of, view_by, beforehand_meaning}
 use Rattle.x_rules.specs.declared.fault.WordFault.{WordFault}
-use Rattle.x_gen.specs.Pieces.{Pieces}
-use Rattle.x_gen.specs.Rendering.{pieces_of}
+use Rattle.x_pieces.specs.Pieces.{Pieces}
+use Rattle.x_pieces.specs.Rendering.{pieces_of}
 use Rattle.x_names.proofs.DeclarerLaws.{as_found}
 use Rattle.x_rules.proofs.HasResults.{stays_result, agree_front}
 use Rattle.x_text.proofs.ListLemmas.{drop_one, get_at, take_next}

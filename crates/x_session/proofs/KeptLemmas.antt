@@ -18,8 +18,8 @@ use Rattle.x_rules.specs.Results.{Outcome, AreResultsFrom, AreResults, IsResult,
 use Rattle.x_names.specs.Declarers.{AreShort}
 use Rattle.x_rules.specs.Rules.{Ascends}
 use Rattle.x_rules.specs.declared.fault.WordFault.{WordFault}
-use Rattle.x_gen.specs.Pieces.{Pieces}
-use Rattle.x_gen.specs.Rendering.{pieces_of}
+use Rattle.x_pieces.specs.Pieces.{Pieces}
+use Rattle.x_pieces.specs.Rendering.{pieces_of}
 use Rattle.x_uses.specs.Occurrences.{IsUsesOf, UseTable}
 use Rattle.x_session.specs.Checking.{AreChecked, AreKnown, AreRendered, IsMade, IsSound, kept_definitions, sound, sound_pieces}
 use Rattle.x_session.specs.Compile.{IsCompilation, definitions_of, faults_at, faults_from, item_faults, parsed_definition, placed, rule_faults, token_faults}

@@ -10,7 +10,7 @@ use Rattle.x_text.proofs.ListLemmas.{drop_one}
 use Rattle.x_cutting.specs.ItemList as items
 use Rattle.x_cutting.specs.declared.cutting.entry.Entry.{Entry}
 use Rattle.x_rules.specs.declared.fault.WordFault.{WordFault}
-use Rattle.x_gen.specs.Pieces.{Pieces}
+use Rattle.x_pieces.specs.Pieces.{Pieces}
 use Rattle.x_session.specs.Checking.{AreRendered, IsKnownAt, IsSound, sound_pieces}
 use Rattle.x_session.specs.Compile.{parsed_definition}
 use Rattle.x_session.specs.Counting.{faults_found, faults_with, own_faults}

@@ -9,8 +9,8 @@ use Rattle.x_names.specs.Declarers.{IsShort, is_beforehand}
 use Rattle.x_rules.specs.Results.{AreResults, Outcome, beforehand_meaning, view_of}
 use Rattle.x_rules.specs.declared.fault.WordFault.{WordFault}
 use Rattle.x_names.specs.declared.names.Declarer.{Declarer}
-use Rattle.x_gen.specs.Pieces.{Pieces}
-use Rattle.x_gen.specs.Rendering.{pieces_of}
+use Rattle.x_pieces.specs.Pieces.{Pieces}
+use Rattle.x_pieces.specs.Rendering.{pieces_of}
 use Rattle.x_session.specs.Compile.{rule_faults}
 use Rattle.x_session.specs.Counting.{faults_found}
 use Rattle.x_session.specs.KeptView.{found_pieces, found_result, kept_definition, kept_found, renewed_pieces}

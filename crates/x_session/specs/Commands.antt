@@ -5,7 +5,7 @@ use Rattle.std.specs.Char.{is_ascii_digit, is_ascii_hexdigit, digit_value}
 use Rattle.std.specs.Str.Parse.{digits_value}
 use Rattle.x_session.specs.declared.script.command.Command.{Command}
 use Rattle.x_session.specs.declared.script.command.Command.TheVariants.{Edit, Tokens, Definitions, Faults, Text, Bad}
-use Rattle.x_gen.specs.declared.which.Which.TheVariants.{Header, Routines, Stubs, Table}
+use Rattle.x_pieces.specs.declared.which.Which.TheVariants.{Header, Routines, Stubs, Table}
 
 -- the words of a line; each space parts two, so that one of them may be empty
 abbrev pub words_of : List ℕ → List (List ℕ)

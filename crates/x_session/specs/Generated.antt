@@ -6,10 +6,10 @@ use Rattle.x_lex.specs.declared.kind.Kind.TheVariants as kinds
 use Rattle.x_lex.specs.Places.{Lexeme}
 use Rattle.x_trees.specs.Tree.{Definition}
 use Rattle.x_item.specs.Parse.{Parse}
-use Rattle.x_gen.specs.Pieces.{Part}
-use Rattle.x_gen.specs.Rendering.{pieces_of}
-use Rattle.x_gen.specs.Texts.{text}
-use Rattle.x_gen.specs.declared.which.Which.{Which}
+use Rattle.x_pieces.specs.Pieces.{Part}
+use Rattle.x_pieces.specs.Rendering.{pieces_of}
+use Rattle.x_pieces.specs.Texts.{text}
+use Rattle.x_pieces.specs.declared.which.Which.{Which}
 use Rattle.x_session.specs.Compile.{Item, parsed_definition, token_faults}
 use Rattle.x_session.specs.declared.compile.fault.TokenFault.{TokenFault}
 

@@ -10,7 +10,7 @@ use Rattle.x_trees.specs.View.{view_definition}
 use Rattle.x_cutting.specs.declared.cutting.entry.Entry.{Entry}
 use Rattle.x_rules.specs.Results.{Outcome}
 use Rattle.x_rules.specs.declared.fault.WordFault.{WordFault}
-use Rattle.x_gen.specs.Pieces as pieces
+use Rattle.x_pieces.specs.Pieces as pieces
 use Rattle.x_session.specs.Compile as compile
 use Rattle.x_session.specs.Compile.{parsed_definition}
 use Rattle.x_session.specs.Generated.{lines_of}

@@ -2,7 +2,7 @@
 
 mod declaration;
 mod definition;
-mod fitted;
+mod lists;
 mod program;
 mod spelling;
 mod value;
@@ -12,7 +12,7 @@ pub use declaration::{
     Tag, UnionBody, inline, struct_body, union_body,
 };
 pub use definition::Definition;
-pub use fitted::fitted;
+pub use lists::fitted;
 pub use program::{Argument, Procedure, Version};
 pub use spelling::Spelling;
 pub use value::Value;

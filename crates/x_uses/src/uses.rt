@@ -18,9 +18,9 @@ use room::make_room_in;
 use std::alloc::Global;
 use std::marker::Model;
 use table::{Table, first_after_in, first_in, users_in};
-use x_trees::Definition;
 use x_names::{Declarer, is_beforehand};
 use x_text::NoMemory;
+use x_trees::Definition;
 
 /// The items that an edit takes out, from one on, and how many it puts in there.
 #[derive(Clone, Copy, Debug)]

@@ -11,9 +11,9 @@ ghost use Rattle.x_item.specs.Reading.{IsRead, Fails};
 use super::ParseError;
 use super::ending::Ending;
 use super::words::{after, expect, value};
-use x_trees::{Value, fitted};
 use std::alloc::Global;
 use x_lex::{Mark, Token};
+use x_trees::{Value, fitted};
 
 /// Reads the values of an arm after its first `case`, each with its `:`.
 pub fn cases<'w, 't>(

@@ -21,11 +21,11 @@ use super::declarator::{array_length, most, named};
 use super::ending::Ending;
 use super::enumerators::enumerators;
 use super::words::{Word, after, closed, expect, first, name, stuck_at};
+use std::alloc::Global;
+use x_lex::{Mark, Token};
 use x_trees::{
     Arm, Basic, Body, DataType, Declaration, Spelling, Tag, fitted, inline, struct_body, union_body,
 };
-use std::alloc::Global;
-use x_lex::{Mark, Token};
 
 /// Reads a type.
 #[cycle(parser)]

@@ -11,9 +11,9 @@ ghost use Rattle.x_item.specs.Reading.{IsRead, IsPart, Fails};
 use super::ParseError;
 use super::ending::Ending;
 use super::words::{after, expect, name, value};
-use x_trees::{Length, Shape, Spelling, Value};
 use std::alloc::Global;
 use x_lex::{Mark, Token};
+use x_trees::{Length, Shape, Spelling, Value};
 
 /// Reads what stands between `<` and `>`, and the `>`.
 pub fn most<'w, 't>(

@@ -13,9 +13,9 @@ use super::declaration::{body, declared};
 use super::ending::Ending;
 use super::program::{numbered, versions};
 use super::words::{Word, closed, expect, first, name, stuck_at, value};
-use x_trees::{Definition, MOST_INLINE, Tag, fitted};
 use std::alloc::Global;
 use x_lex::{Mark, Token};
+use x_trees::{Definition, MOST_INLINE, Tag, fitted};
 
 /// Reads a definition.
 pub fn definition<'w, 't>(

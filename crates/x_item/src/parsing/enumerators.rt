@@ -9,9 +9,9 @@ ghost use Rattle.x_item.specs.Reading.{IsRead, IsPart, Fails};
 
 use super::ParseError;
 use super::words::{after, expect, name, value};
-use x_trees::{Enumerator, Value};
 use std::alloc::Global;
 use x_lex::{Mark, Token};
+use x_trees::{Enumerator, Value};
 
 /// Reads the enumerators of an enum, and its `}`.
 pub fn enumerators<'w, 't>(

@@ -13,10 +13,10 @@ ghost use Rattle.x_item.specs.Reading.{IsRefused};
 use super::definition::definition;
 use super::words::{is_significant, only};
 use super::{FaultCode, ParseError};
-use x_trees::Definition;
 use std::alloc::Global;
 use x_lex::Token;
 use x_text::{Meter, NoMemory};
+use x_trees::Definition;
 
 /// What an item is.
 #[derive(Drop)]

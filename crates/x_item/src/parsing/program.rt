@@ -15,9 +15,9 @@ ghost use Rattle.x_item.specs.Reading.{IsRead, Fails};
 use super::ParseError;
 use super::declaration::data_type;
 use super::words::{after, expect, name, number};
-use x_trees::{Argument, MOST_INLINE, Procedure, Spelling, Version, fitted};
 use std::alloc::Global;
 use x_lex::{Mark, Token};
+use x_trees::{Argument, MOST_INLINE, Procedure, Spelling, Version, fitted};
 
 /// Reads an argument: `string` or a type.
 fn argument<'w, 't>(

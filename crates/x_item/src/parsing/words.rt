@@ -10,9 +10,9 @@ ghost use Rattle.x_item.specs.Reading.{view_word, ahead, left_in, code_in, IsSpl
 ghost use Rattle.x_item.specs.Reading.{IsPart, LacksFirst};
 
 use super::{FaultCode, ParseError};
-use x_trees::{Spelling, Value};
 use std::alloc::Global;
 use x_lex::{Kind, Mark, Token};
+use x_trees::{Spelling, Value};
 
 /// What a token is to the parser.
 #[derive(Clone, Copy)]

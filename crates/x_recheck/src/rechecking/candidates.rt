@@ -13,9 +13,9 @@ use super::CheckedItems;
 use super::edited_items::EditedItems;
 use super::queue::Queue;
 use std::alloc::Global;
-use x_trees::{DeclaredName, declares_into};
 use x_names::Declarer;
 use x_text::NoMemory;
+use x_trees::{DeclaredName, declares_into};
 
 /// Queues an item before the edit, if it is kept and its number is `low` or more.
 fn add_user<L: CheckedItems>(

@@ -20,10 +20,10 @@ use super::queue::Queue;
 use super::sights::{sees_same, views_of};
 use super::{CheckedItems, Rechecked};
 use std::alloc::Global;
-use x_trees::DeclaredName;
 use x_names::Declarer;
 use x_rules::{Checked, Meaning, Outline, check_outline};
 use x_text::{Meter, NoMemory};
+use x_trees::DeclaredName;
 
 /// What checking an item finds, or `None` where it sees its names as before.
 fn find_result<L: CheckedItems>(

@@ -10,11 +10,12 @@ ghost use Rattle.x_uses.specs.Occurrences.{users_of};
 ghost use Rattle.x_recheck.specs.Rechecking.{AreEditedItems, edit_of};
 ghost use Rattle.x_recheck.specs.Staleness.{Ascending, new_result, result_after, items_of};
 
+use super::numbers::{new_number, old_number};
 use super::{CheckedItems, Rechecked};
-use x_uses::{Place, Uses};
-use x_trees::Definition;
 use x_names::Declarer;
 use x_rules::Checked;
+use x_trees::Definition;
+use x_uses::{Place, Uses};
 
 /// An edit of a text, with who declares and who uses each name.
 #[derive(Drop)]
@@ -33,7 +34,7 @@ impl<'s, L: CheckedItems> EditedItems<'s, L> {
         requires item { item < count_after (edit_of L.text self.now) }
         ensures { result ≡ old_number self.now.place item }
     {
-        self.place.old_number(item)
+        old_number(self.place, item)
     }
 
     /// The number that an item has after the edit, unless it goes.
@@ -42,7 +43,7 @@ impl<'s, L: CheckedItems> EditedItems<'s, L> {
         requires item { item < length (edit_of L.text self.now).old }
         ensures { result ≡ new_number self.now.place item }
     {
-        self.place.new_number(item)
+        new_number(self.place, item)
     }
 
     /// The definition of an item before the edit.
@@ -58,7 +59,7 @@ impl<'s, L: CheckedItems> EditedItems<'s, L> {
         requires item { item < count_after (edit_of L.text self.now) }
         ensures { tree_at result ≡ definition_at (definitions_after (edit_of L.text self.now)) item }
     {
-        match self.place.old_number(item) {
+        match old_number(self.place, item) {
             Some(old) => self.old.definition(old),
             None => definition_in(self.put, item - self.place.at),
         }
@@ -104,7 +105,7 @@ impl<'s, L: CheckedItems> EditedItems<'s, L> {
     {
         match find_checked(rechecked, item) {
             Some(checked) => Some(checked),
-            None => self.old.checked(self.place.old_number(item)?),
+            None => self.old.checked(old_number(self.place, item)?),
         }
     }
 }

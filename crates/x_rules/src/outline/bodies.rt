@@ -18,10 +18,10 @@ ghost use Rattle.x_names.specs.Declarers.{IsShort};
 use super::parts::{BodyAt, NameAt, ValueAt};
 use std::alloc::Global;
 use std::mem;
+use x_text::NoMemory;
 use x_trees::{
     Arm, Body, DataType, Declaration, Definition, Enumerator, Length, Shape, UnionBody, Value,
 };
-use x_text::NoMemory;
 
 /// The names of fields and the cases of a body.
 #[derive(Drop)]

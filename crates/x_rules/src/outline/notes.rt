@@ -23,11 +23,11 @@ ghost use Rattle.x_rules.specs.NoteWalks.{Notes, NotesIn, NotesAll, role_of, pla
 use super::note::{Note, NoteAt, ValueRole};
 use std::alloc::Global;
 use std::mem;
+use x_text::NoMemory;
 use x_trees::{
     Argument, Arm, Body, DataType, Declaration, Definition, Enumerator, Length, Procedure, Shape,
     UnionBody, Value, Version,
 };
-use x_text::NoMemory;
 
 /// Where a declaration stands.
 #[derive(Clone, Copy, Debug, PartialEq, Eq)]

@@ -13,8 +13,8 @@ ghost use Rattle.x_rules.specs.Tables.{view_members};
 use super::bodies::BodyWalk;
 use super::parts::{Members, NameAt, NumberAt};
 use std::alloc::Global;
-use x_trees::{Argument, DataType, Definition, Procedure, Version};
 use x_text::NoMemory;
+use x_trees::{Argument, DataType, Definition, Procedure, Version};
 
 impl<'d> Members<'d> {
     fn new(alloc: Global) -> Members<'d>

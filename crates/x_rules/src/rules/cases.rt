@@ -19,9 +19,9 @@ use crate::checked::KeptClass;
 use crate::fault::{RuleCode, WordFault};
 use crate::outline::parts::{BodyAt, ValueAt};
 use std::alloc::Global;
-use x_trees::{Body, UnionBody};
 use x_numbers::{is_enum_number, is_word_number};
 use x_text::NoMemory;
+use x_trees::{Body, UnionBody};
 
 /// The cases that have a number.
 fn case_numbers(

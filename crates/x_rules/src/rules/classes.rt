@@ -18,8 +18,8 @@ use crate::checked::KeptClass;
 use crate::numbers::Numbers;
 use crate::views::{Class, Meaning, View};
 use std::alloc::Global;
-use x_trees::{Basic, Body, DataType, Declaration, Enumerator, Shape, Tag};
 use x_text::NoMemory;
+use x_trees::{Basic, Body, DataType, Declaration, Enumerator, Shape, Tag};
 
 /// What a use by value sees of a type.
 #[derive(Clone, Copy, Debug)]

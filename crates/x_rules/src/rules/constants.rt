@@ -21,9 +21,9 @@ use crate::outline::bodies::words_of_enumerator;
 use crate::outline::parts::{BodyAt, EnumeratorAt};
 use crate::views::{Meaning, View};
 use std::alloc::Global;
-use x_trees::{Body, Enumerator, NameKind, Value};
 use x_numbers::{next_number, number_value};
 use x_text::NoMemory;
+use x_trees::{Body, Enumerator, NameKind, Value};
 
 /// The word before which names stand that a value at the word may use: two words in front of it stands its own name, where it is the
 /// value of an enumerator.

@@ -10,8 +10,8 @@ use super::found::add_fault;
 use super::sights::Sights;
 use crate::fault::{RuleCode, WordFault};
 use crate::views::View;
-use x_trees::DeclaredName;
 use x_text::NoMemory;
+use x_trees::DeclaredName;
 
 /// Whether a name is declared at an earlier place or beforehand.
 fn is_earlier_name(view: View) -> bool

@@ -20,10 +20,10 @@ use super::sights::Sights;
 use crate::fault::{RuleCode, WordFault};
 use crate::outline::parts::BodyAt;
 use crate::views::MOST_HEIGHT;
+use x_text::NoMemory;
 use x_trees::{
     Arm, Body, DataType, Declaration, DeclaredName, Definition, Length, Shape, Tag, UnionBody,
 };
-use x_text::NoMemory;
 
 /// The height of a type that a name is seen to be; 0 where its use has a fault.
 fn seen_height(sights: &Sights, name: &[u8], tag: Option<Tag>) -> u32

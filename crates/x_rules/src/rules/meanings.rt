@@ -22,8 +22,8 @@ use crate::checked::{KeptClass, KeptMeaning, KeptMeanings};
 use crate::outline::parts::BodyAt;
 use smallvec::SmallVec;
 use std::alloc::Global;
-use x_trees::{DeclaredName, Definition, NameKind};
 use x_text::NoMemory;
+use x_trees::{DeclaredName, Definition, NameKind};
 
 /// What a type means whose class is known.
 fn type_meaning(class: Option<KeptClass>, height: u32) -> KeptMeaning

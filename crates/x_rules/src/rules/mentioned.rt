@@ -15,8 +15,8 @@ use super::found::add_fault;
 use super::sights::Sights;
 use crate::fault::{RuleCode, WordFault};
 use crate::views::{Meaning, View};
-use x_trees::{Mention, NameKind, Tag, Use};
 use x_text::NoMemory;
+use x_trees::{Mention, NameKind, Tag, Use};
 
 /// Whether a name that is declared so is the type that is needed.
 pub fn suits(tag: Option<Tag>, kind: NameKind) -> bool

@@ -9,8 +9,8 @@ ghost use Rattle.x_rules.specs.Tables.{view_at, seen_by};
 use super::places::{MOST_FEW, NameTable, Named, place_among, place_tabled, table_of};
 use crate::views::View;
 use std::alloc::Global;
-use x_trees::{DeclaredName, Mention};
 use x_text::NoMemory;
+use x_trees::{DeclaredName, Mention};
 
 impl Named for DeclaredName<'_> {
     ghost name_of = { λ declared. cow_slice_items declared.name };

@@ -19,9 +19,9 @@ use super::sights::Sights;
 use crate::fault::{RuleCode, WordFault};
 use crate::outline::note::{Note, NoteAt, ValueRole};
 use crate::outline::parts::EnumeratorAt;
-use x_trees::{Declaration, Value};
 use x_numbers::{is_enum_number, is_word_number, number_value};
 use x_text::NoMemory;
+use x_trees::{Declaration, Value};
 
 /// Whether the number is 0.
 fn is_zero(number: i128) -> bool

@@ -12,9 +12,10 @@ use crate::compile::kept::Kept;
 use std::alloc::Global;
 use x_gen::{PieceList, Pieces};
 use x_item::{Definition, Entry, Items};
+use x_recheck::CheckedItems;
 use x_sema::{Checked, Schema};
 use x_text::{GapIter, NoMemory};
-use x_uses::{CheckedItems, Uses};
+use x_uses::Uses;
 
 /// The items of a text, in order, each with what is kept with it.
 #[derive(Drop)]

@@ -16,8 +16,8 @@ use crate::following::naming::NameChange;
 use std::alloc::Global;
 use x_gen::Renderer;
 use x_item::{Definition, ItemPatch, Items};
+use x_recheck::{Rechecked, recheck};
 use x_text::{Meter, NoMemory};
-use x_uses::{Rechecked, recheck};
 
 /// Checks the items that the patch makes stale, where `put` are the definitions of its fresh ones, and makes
 /// what is generated of those that have no fault and no pieces yet. Counts each of them as checked.

@@ -14,8 +14,8 @@ use super::slot::{CompactDeclarer, Slot};
 use super::table::Table;
 use indexmap::IndexMap;
 use std::alloc::Global;
-use x_trees::{DeclaredName, Definition, Mention, declares_into, mentions_into};
 use x_text::NoMemory;
+use x_trees::{DeclaredName, Definition, Mention, declares_into, mentions_into};
 
 /// Gives a slot to a name that has none.
 pub fn insert_slot(

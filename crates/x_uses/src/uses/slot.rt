@@ -10,9 +10,9 @@ use super::Place;
 use super::places::{Placed, note, put_in, renumber_all, take_out};
 use smallvec::SmallVec;
 use std::alloc::Global;
-use x_trees::{DeclaredName, NameKind};
 use x_names::Declarer;
 use x_text::NoMemory;
+use x_trees::{DeclaredName, NameKind};
 
 /// A [`Declarer`] in half the memory.
 #[derive(Clone, Copy)]

@@ -1,5 +1,5 @@
 use Rattle.std.proofs.Common.{◌≡◌, length, subst, ◌∙◌}
-use Rattle.x_gen.specs.Texts.{text}
+use Rattle.x_pieces.specs.Texts.{text}
 use Rattle.x_session.specs.Session.{Compiles}
 use Rattle.x_session.specs.SessionState.{items_of}
 use Rattle.x_session.specs.Generated.{text_of}

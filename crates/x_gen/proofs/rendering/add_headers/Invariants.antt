@@ -1,9 +1,0 @@
-use Rattle.std.proofs.Common.{◌≡◌, ◌++◌, drop}
-use Rattle.std.specs.List.{flat_map}
-use Rattle.x_gen.specs.Header.{type_header}
-use Rattle.x_gen.specs.Views.{view_types}
-use Rattle.x_gen.proofs.rendering.add_headers.Given as goal
-
--- those so far and those that are left
-abbrev pub invariant-loop-named : goal.invariant-loop-named
-invariant-loop-named l = l.text.items ++ flat_map type_header (view_types (drop l.named-index l.types)) ≡ l.fn.text.items ++ flat_map type_header (view_types l.types)
