@@ -2,7 +2,7 @@
 use Rattle.std.specs.Prelude.{◌≡◌, ◌≢◌, ◌⊎◌, ◌<◌, ◌≤◌, ℕ, Bool, true, false, List, [], ◌++◌, length, Option, Some, None, MatchOption, Result, Ok, Err, codes, option_map, unwrap_or}
 use Rattle.std.specs.Io.KnownBytes.{Consumes, IsAtEnd}
 use Rattle.x_text.specs.Streams.{Stream}
-use Rattle.x_text.specs.declared.source.TheConstants.{MAX_TEXT}
+use Rattle.x_text.specs.Limits.{most_text}
 use Rattle.x_schema.specs.Schema.{Schema, id_named}
 use Rattle.x_schema.specs.Schemas.{IsSchemaOf}
 use Rattle.x_schema.specs.declared.schema.TypeId.{TypeId}
@@ -43,16 +43,16 @@ type_asked args = unwrap_or (option_map (λ s. s.now) args.type_name) []
 
 -- the text is one that can be compiled, and has no fault
 pub record IsFaultless (text : List ℕ) : Type 0 where
-  pub fits : length text ≤ MAX_TEXT
+  pub fits : length text ≤ most_text
   pub clean : Compiles text (λ items. faults_of text items ≡ [])
 
 -- the text is one that can be compiled, and has faults of which this holds
 abbrev pub HasFaults : List ℕ → (List Fault → Type 0) → Type 0
-HasFaults text P = (length text ≤ MAX_TEXT) × Compiles text (λ items. (0 < length (faults_of text items)) × P (faults_of text items))
+HasFaults text P = (length text ≤ most_text) × Compiles text (λ items. (0 < length (faults_of text items)) × P (faults_of text items))
 
 -- the text has no fault, and these are its types
 abbrev pub HasTypes : List ℕ → Schema → Type 0
-HasTypes text s = (length text ≤ MAX_TEXT) × Compiles text (λ items. (faults_of text items ≡ []) × IsSchemaOf (definitions_of items) s)
+HasTypes text s = (length text ≤ most_text) × Compiles text (λ items. (faults_of text items ≡ []) × IsSchemaOf (definitions_of items) s)
 
 -- What opening the types of a text comes to: there are such; or its faults were told, or why it is not opened.
 abbrev pub Opens : (file text : List ℕ) → (before after : Stream) → Result Schema Status → Type 0
@@ -66,7 +66,7 @@ Opens file text before after (Err Done) = ⊥
 
 -- all bytes were read, which are not too many
 pub record IsRead (bytes : List ℕ) (left : Option (List ℕ)) : Type 0 where
-  pub fits : length bytes ≤ MAX_TEXT
+  pub fits : length bytes ≤ most_text
   pub none_left : left ≡ Some []
 
 -- the text of a value of the named type was written
@@ -95,7 +95,7 @@ HasRead file file' P = (read : List ℕ) × Consumes file file' read × P read
 -- why a file is not read as a whole
 abbrev pub StopsAt : (file file' : Stream) → Halt → Type 0
 StopsAt file file' Unread = HasRead file.bytes file'.bytes (λ read. Unit {0}) × (file'.failed ≡ true)
-StopsAt file file' TooLarge = HasRead file.bytes file'.bytes (λ read. MAX_TEXT < length read)
+StopsAt file file' TooLarge = HasRead file.bytes file'.bytes (λ read. most_text < length read)
 StopsAt file file' NoRoom = HasRead file.bytes file'.bytes (λ read. Unit {0})
 StopsAt file file' _ = ⊥
 
@@ -103,7 +103,7 @@ StopsAt file file' _ = ⊥
 pub record ReadsAll (bytes : List ℕ) (file file' : Stream) : Type 0 where
   pub read : Consumes file.bytes file'.bytes bytes
   pub all : IsAtEnd file'.bytes
-  pub fits : length bytes ≤ MAX_TEXT
+  pub fits : length bytes ≤ most_text
   pub working : file'.failed ≡ file.failed
 
 -- a file is read on: some bytes came behind those that were there, or none is left

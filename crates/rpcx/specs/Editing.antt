@@ -2,7 +2,7 @@
 use Rattle.std.specs.Prelude.{◌≡◌, ◌≤◌, ℕ, Bool, List, length, Option, MatchOption, Err, codes, if◌then◌else◌}
 use Rattle.x_text.specs.Streams.{Stream}
 use Rattle.x_text.specs.Engines.{NamesCause}
-use Rattle.x_text.specs.declared.source.TheConstants.{MAX_TEXT}
+use Rattle.x_text.specs.Limits.{most_text}
 use Rattle.x_text.specs.declared.outcome.EngineFault.{EngineFault}
 use Rattle.x_session.specs.Session.{Document, IsOpenOf}
 use Rattle.x_lines.specs.Lines.{script_lines}
@@ -47,5 +47,5 @@ IsStopped base text c before after =
 -- not opened, and then nothing is read and nothing is written; or a fault ends the run.
 pub data NotRun (file text : List ℕ) (c : Course) (before after : Stream) : Type 0 where
   unopened : NotOpened (codes "rpcedit") file text before after → IsIdle c → NotRun file text c before after
-  stopped : length text ≤ MAX_TEXT → IsStopped (base_of file) text c before after
+  stopped : length text ≤ most_text → IsStopped (base_of file) text c before after
       → NotRun file text c before after

@@ -14,7 +14,7 @@ use Rattle.x_text.specs.declared.outcome.EngineFault.TheVariants.{Read, Write, N
 use Rattle.x_session.specs.Answers.{fault_place}
 use Rattle.x_text.specs.declared.fault.TextFault.{TextFault}
 use Rattle.x_text.specs.declared.fault.TextFault.TheVariants as faults
-use Rattle.x_text.specs.declared.source.TheConstants.{MAX_TEXT}
+use Rattle.x_text.specs.Limits.{most_text}
 use Rattle.x_args.specs.Telling.{IsTold, told_of}
 use Rattle.x_args.specs.declared.status.Status.{Status}
 use Rattle.x_args.specs.declared.status.Status.TheVariants.{Faulty, Failed}
@@ -43,8 +43,8 @@ unopened_told program file fault = told_of program (codes "out of memory")
 -- Why a program opens no session of a file's text that it can read, as it tells it: the text is too large, or memory ran out. A text
 -- with faults has them told.
 pub data NotOpened (program file text : List ℕ) (before after : Stream) : Type 0 where
-  TooLarge : MAX_TEXT < length text → IsTold before after (program ++ codes ": " ++ file ++ codes ": 2 TooLarge\n") → NotOpened program file text before after
-  NoRoom : length text ≤ MAX_TEXT → IsTold before after (told_of program (codes "out of memory")) → NotOpened program file text before after
+  TooLarge : most_text < length text → IsTold before after (program ++ codes ": " ++ file ++ codes ": 2 TooLarge\n") → NotOpened program file text before after
+  NoRoom : length text ≤ most_text → IsTold before after (told_of program (codes "out of memory")) → NotOpened program file text before after
 
 -- What opening the text of a file for a run of a program comes to: a session of a text without faults, or the
 -- status of a run that does not go on, which was told why.
@@ -56,7 +56,7 @@ pub record IsOpened (program file bytes : List ℕ) (before after : Stream) (res
   pub faulty : IsErrOf result Faulty
       → Compiles bytes (λ items. (0 < length (faults_of bytes items))
       × IsTold before after (told_faults file (faults_of bytes items)))
-  pub too_large : MAX_TEXT < length bytes → IsErrOf result Failed
+  pub too_large : most_text < length bytes → IsErrOf result Failed
   pub failed : IsErrOf result Failed → NotOpened program file bytes before after
   pub others : IfErr result (λ status. (status ≡ Faulty) ⊎ (status ≡ Failed))
 

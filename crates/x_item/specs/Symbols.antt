@@ -6,7 +6,7 @@ use Rattle.x_lex.specs.declared.mark.Mark.{Mark}
 use Rattle.x_lex.specs.declared.mark.Mark.TheVariants as marks
 use Rattle.x_item.specs.declared.parsing.ending.Ending.{Ending}
 use Rattle.x_item.specs.declared.parsing.ending.Ending.TheVariants as endings
-use Rattle.x_trees.specs.declared.trees.declaration.TheConstants.{MOST_INLINE}
+use Rattle.x_trees.specs.Limits.{most_inline}
 use Rattle.x_trees.specs.declared.trees.declaration.Tag.{Tag}
 use Rattle.x_trees.specs.declared.trees.declaration.Tag.TheVariants as tags
 
@@ -75,10 +75,10 @@ followed after (Some symbols) = Some (symbols ++ after)
 
 abbrev pub step_item : Word → Option (List Symbol)
 step_item (Fixed marks.Const) = Some (AnyName ∷ Token marks.Equals ∷ AnyValue ∷ Token marks.Semicolon ∷ [])
-step_item (Fixed marks.Typedef) = Some (Declared MOST_INLINE endings.Semicolon ∷ [])
-step_item (Fixed marks.Enum) = Some (AnyName ∷ AnyBody tags.Enum MOST_INLINE ∷ Token marks.Semicolon ∷ [])
-step_item (Fixed marks.Struct) = Some (AnyName ∷ AnyBody tags.Struct MOST_INLINE ∷ Token marks.Semicolon ∷ [])
-step_item (Fixed marks.Union) = Some (AnyName ∷ AnyBody tags.Union MOST_INLINE ∷ Token marks.Semicolon ∷ [])
+step_item (Fixed marks.Typedef) = Some (Declared most_inline endings.Semicolon ∷ [])
+step_item (Fixed marks.Enum) = Some (AnyName ∷ AnyBody tags.Enum most_inline ∷ Token marks.Semicolon ∷ [])
+step_item (Fixed marks.Struct) = Some (AnyName ∷ AnyBody tags.Struct most_inline ∷ Token marks.Semicolon ∷ [])
+step_item (Fixed marks.Union) = Some (AnyName ∷ AnyBody tags.Union most_inline ∷ Token marks.Semicolon ∷ [])
 step_item (Fixed marks.Program) =
     Some (AnyName ∷ Token marks.OpenBrace ∷ Versions ∷ Token marks.Equals ∷ AnyNumber ∷ Token marks.Semicolon ∷ [])
 step_item w = None
@@ -206,7 +206,7 @@ step_more_arms n w = step_arms n w
 
 abbrev pub step_arguments : Word → Option (List Symbol)
 step_arguments (Fixed marks.String) = Some (AfterType InArguments ∷ [])
-step_arguments w = step_typed MOST_INLINE InArguments w
+step_arguments w = step_typed most_inline InArguments w
 
 abbrev pub step_parameters : Word → Option (List Symbol)
 step_parameters (Fixed marks.Void) = Some (AfterType InArguments ∷ [])
@@ -215,7 +215,7 @@ step_parameters w = step_arguments w
 abbrev pub step_result : Word → Option (List Symbol)
 step_result (Fixed marks.Void) = Some (AnyName ∷ [])
 step_result (Fixed marks.String) = Some (AnyName ∷ [])
-step_result w = step_typed MOST_INLINE InResult w
+step_result w = step_typed most_inline InResult w
 
 abbrev pub step_procedures : Word → Option (List Symbol)
 step_procedures w =
@@ -293,7 +293,7 @@ abbrev pub of_constant : List Symbol
 of_constant = AnyName ∷ Token marks.Equals ∷ AnyValue ∷ Token marks.Semicolon ∷ []
 
 abbrev pub of_new_type : Tag → List Symbol
-of_new_type tag = AnyName ∷ AnyBody tag MOST_INLINE ∷ Token marks.Semicolon ∷ []
+of_new_type tag = AnyName ∷ AnyBody tag most_inline ∷ Token marks.Semicolon ∷ []
 
 abbrev pub of_program : List Symbol
 of_program = AnyName ∷ Token marks.OpenBrace ∷ Versions ∷ of_number

@@ -1,8 +1,9 @@
-use x_item::{one_cut, one_parse, one_recut, spell_law};
+use x_item::{gloss_law, one_cut, one_parse, one_recut, spell_law};
 
 #[test]
 fn laws_do_nothing(_rt: HostRuntime) {
     spell_law();
+    gloss_law();
     one_parse();
     one_cut();
     one_recut::<u8>();

@@ -6,7 +6,7 @@ use Rattle.x_lines.specs.declared.lines.LineFault.TheVariants.{Read, NoMemory}
 use Rattle.x_lines.specs.declared.lines.LineEnd.{LineEnd}
 use Rattle.x_lines.specs.declared.lines.LineEnd.TheVariants.{Feed, Text, Far}
 use Rattle.x_lines.specs.declared.lines.State.{State}
-use Rattle.x_lines.specs.declared.lines.TheConstants.{LONGEST}
+use Rattle.x_lines.specs.Limits.{most_line}
 use Rattle.x_lines.specs.declared.lines.State.TheVariants.{Between, WithinLong, Ended}
 use Rattle.x_lines.specs.declared.lines.Found.{Found}
 use Rattle.x_lines.specs.declared.lines.Found.TheVariants.{Line, TooLong, End}
@@ -78,9 +78,9 @@ pub record HasSearched (old new : List ℕ) (left left' : Option (List ℕ)) : T
 
 -- where the first line of these bytes ends, of a tap that has `left`: within its most bytes at a line feed or at the tap's end, or behind them
 abbrev pub EndIs : LineEnd → List ℕ → Option (List ℕ) → Type 0
-EndIs (Feed len) bytes left = EndsAt bytes len × (len ≤ LONGEST)
-EndIs (Text len) bytes left = HasNoFeed bytes × (len ≡ length bytes) × (len ≤ LONGEST) × IsAtEnd left
-EndIs Far bytes left = HasNoFeed (take (LONGEST + 1) bytes) × (LONGEST < length bytes)
+EndIs (Feed len) bytes left = EndsAt bytes len × (len ≤ most_line)
+EndIs (Text len) bytes left = HasNoFeed bytes × (len ≡ length bytes) × (len ≤ most_line) × IsAtEnd left
+EndIs Far bytes left = HasNoFeed (take (most_line + 1) bytes) × (most_line < length bytes)
 
 -- Bytes came to a queue from a tap and went again: with a line feed all up to the first, without one all.
 pub record HasPassed (old new : List ℕ) (left left' : Option (List ℕ)) (result : Result Bool LineFault) : Type 0 where
@@ -99,7 +99,7 @@ pub record Reading : Type 0 where
 -- What was read and not given is the bytes; within a line that is too long it was more, of which the reader keeps none; at the end it is nothing.
 abbrev pub InState : State → List ℕ → Option (List ℕ) → List ℕ → Type 0
 InState Between bytes left text = text ≡ bytes
-InState WithinLong bytes left text = (part : List ℕ) × (LONGEST < length part) × HasNoFeed part × (text ≡ part ++ bytes)
+InState WithinLong bytes left text = (part : List ℕ) × (most_line < length part) × HasNoFeed part × (text ≡ part ++ bytes)
 InState Ended bytes left text = (text ≡ []) × IsAtEnd left
 
 -- the reader stands before this text that was read and not given, over a tap that has `left`
@@ -116,8 +116,8 @@ pub record IsNextLine (text line rest : List ℕ) (state : State) (left : Option
 
 -- what is told of the text, of which `rest` stays unread: its first line, that this is too long, or that there is none
 abbrev pub Tells : Found → Reading → List ℕ → List ℕ → Option (List ℕ) → Type 0
-Tells Line new text rest left = (length new.line ≤ LONGEST) × IsNextLine text new.line rest new.state left
-Tells TooLong new text rest left = (line : List ℕ) × (LONGEST < length line) × IsNextLine text line rest new.state left
+Tells Line new text rest left = (length new.line ≤ most_line) × IsNextLine text new.line rest new.state left
+Tells TooLong new text rest left = (line : List ℕ) × (most_line < length line) × IsNextLine text line rest new.state left
 Tells End new text rest left = AreFeeds text × (rest ≡ []) × (new.state ≡ Ended) × IsAtEnd left
 
 -- the text holds no line that a line feed ends

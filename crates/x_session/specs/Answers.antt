@@ -4,7 +4,7 @@ use Rattle.std.specs.Prelude.{None, length, codes, if◌then◌else◌}
 use Rattle.std.specs.List.{flat_map}
 use Rattle.std.specs.Fmt.{decimal}
 use Rattle.x_text.specs.Edits.{Change, edited_by}
-use Rattle.x_text.specs.declared.source.TheConstants.{MAX_TEXT}
+use Rattle.x_text.specs.Limits.{most_text}
 use Rattle.x_lex.specs.Places.{Lexeme}
 use Rattle.x_lex.specs.Names.{kind_name}
 use Rattle.x_session.specs.declared.compile.fault.Fault.{Fault}
@@ -99,7 +99,7 @@ refused text told = record { told = told; refused = true; text = text }
 abbrev pub edit_answer : Change → Answer
 edit_answer change =
     if nat_le change.start change.end && nat_le change.end (length change.old)
-    then (if nat_le (length (edited_by change)) MAX_TEXT
+    then (if nat_le (length (edited_by change)) most_text
     then answered (edited_by change) (counted_line (codes "ok") (length (edited_by change)))
     else refused change.old (codes "refused 2 TooLarge\n"))
     else refused change.old (codes "refused 1 BadRange\n")

@@ -3,7 +3,7 @@
 ghost use Rattle.std.specs.Prelude.{◌≡◌, ◌↔◌, ◌<◌, length, option_map, slice_get, IfOk};
 ghost use Rattle.std.specs.Prelude.{OnOk, OnErr, IfErr, IsErrOf, take};
 ghost use Rattle.x_text.specs.Edits.{change_of, edited_by, Judges};
-ghost use Rattle.x_text.specs.declared.source.TheConstants.{MAX_TEXT};
+ghost use Rattle.x_text.specs.Limits.{most_text};
 ghost use Rattle.x_lex.specs.Places.{lexeme};
 ghost use Rattle.x_trees.specs.View.{tree_at};
 ghost use Rattle.x_session.specs.Session.{Document, Compiles, edited_by_all, TakesAll, StopsAt};
@@ -65,7 +65,7 @@ impl Session {
     pub fn open(alloc: Global, base: &[u8], bytes: &[u8]) -> Result<Session, TextFault>
         ensures base { IfOk result (λ s. s.base ≡ base.now) }
         ensures text { IfOk result (λ s. s.text ≡ bytes.now) }
-        ensures too_large { IsErrOf result TextFault.TooLarge ↔ (MAX_TEXT < length bytes.now) }
+        ensures too_large { IsErrOf result TextFault.TooLarge ↔ (most_text < length bytes.now) }
         ensures in_range { IsErrOf result TextFault.BadRange → ⊥ }
         ensures token_seat { IfOk result
             (λ s. Compiles s.text (λ items. s.token_seat ≡ length (tokens_of items))) }

@@ -3,7 +3,7 @@ use Rattle.std.specs.Prelude.{◌↔◌, ℕ, ◌<◌, ◌≤◌, List, ◌++◌
 use Rattle.x_text.specs.declared.edit.Edit.{Edit}
 use Rattle.x_text.specs.declared.fault.TextFault.{TextFault}
 use Rattle.x_text.specs.declared.fault.TextFault.TheVariants.{BadRange, TooLarge, NoMemory}
-use Rattle.x_text.specs.declared.source.TheConstants.{MAX_TEXT}
+use Rattle.x_text.specs.Limits.{most_text}
 
 -- the bytes from `start` to before `end` of the text `old` go, and those of `insert` come in their place
 pub record Change : Type 0 where
@@ -28,12 +28,12 @@ pub record LiesWithin (change : Change) : Type 0 where
 -- its range lies within the text, and the text that it leaves isn't too large
 pub record Fits (change : Change) : Type 0 where
   pub lies_within : LiesWithin change
-  pub small : length (edited_by change) ≤ MAX_TEXT
+  pub small : length (edited_by change) ≤ most_text
 
 -- why a change is refused; that memory ran out can be so of any
 abbrev pub Refuses : Change → TextFault → Type 0
 Refuses change BadRange = ¬ (LiesWithin change)
-Refuses change TooLarge = LiesWithin change × (MAX_TEXT < length (edited_by change))
+Refuses change TooLarge = LiesWithin change × (most_text < length (edited_by change))
 Refuses change NoMemory = Unit {0}
 
 -- the result is `Ok` only of a change that fits, and where it doesn't, an error says why

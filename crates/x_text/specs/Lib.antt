@@ -3,6 +3,7 @@ pub mod Counts
 pub mod Edits
 pub mod Engines
 pub mod Lengths
+pub mod Limits
 pub mod Memory
 pub mod Seqs
 pub mod Streams

@@ -142,13 +142,14 @@ impl Pen {
         self.written
     }
 
-    /// Writes what was held back.
+    /// Writes what was held back, and has the sink pass it on.
     pub fn finish<S: Sink>(self, sink: &mut S) -> Result<(), WriteFault>
-        ensures { (start : Stream) (text : List ℕ) → Writes start text self (S.state sink.old)
+        ensures written { (start : Stream) (text : List ℕ) → Writes start text self (S.state sink.old)
             → IsWritten result start (S.state sink.new) text }
+        ensures working { OnOk result ((S.state sink.new).failed ≡ false) }
     {
         let mut pen = self;
-        pen.pass_on(sink);
+        pen.flush(sink);
         if pen.stopped {
             Err(WriteFault {
                 written: pen.written,

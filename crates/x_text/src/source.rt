@@ -1,5 +1,6 @@
 ghost use Rattle.std.specs.Prelude.{◌≡◌, ◌↔◌, ◌<◌, ◌≤◌, [], length, take, IfOk, OnOk, OnErr, IsErrOf};
 ghost use Rattle.x_text.specs.Edits.{change_of, edited_by, Fits, Judges};
+ghost use Rattle.x_text.specs.Limits.{most_text};
 ghost use Rattle.x_text.specs.Text.{line_of, column_of};
 
 use crate::edit::{edit_in_room, edited, write_edited};
@@ -40,7 +41,7 @@ impl Source {
     /// A copy of the bytes: [`TextFault::TooLarge`] for more than [`MAX_TEXT`] of them.
     pub fn from_bytes(alloc: Global, bytes: &[u8]) -> Result<Source, TextFault>
         ensures text { IfOk result (λ s. s ≡ bytes.now) }
-        ensures too_large { IsErrOf result TextFault.TooLarge ↔ (MAX_TEXT < length bytes.now) }
+        ensures too_large { IsErrOf result TextFault.TooLarge ↔ (most_text < length bytes.now) }
         ensures in_range { IsErrOf result TextFault.BadRange → ⊥ }
     {
         if bytes.len() > MAX_TEXT {
@@ -55,7 +56,7 @@ impl Source {
     /// The bytes of the text.
     pub fn bytes(&self) -> &[u8]
         ensures text { result.now ≡ self.now }
-        ensures small { length self.now ≤ MAX_TEXT }
+        ensures small { length self.now ≤ most_text }
     {
         &self.bytes
     }

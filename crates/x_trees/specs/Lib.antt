@@ -1,6 +1,7 @@
 pub mod Collected
 pub mod Declarations
 pub mod Gloss
+pub mod Limits
 pub mod Mentions
 pub mod Named
 pub mod Names

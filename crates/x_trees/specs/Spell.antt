@@ -3,7 +3,7 @@ use Rattle.std.specs.Prelude.{◌≡◌, ℕ, zero, suc, List, [], ◌∷◌, �
 use Rattle.x_trees.specs.Tree as tree
 use Rattle.x_trees.specs.Words.{Word}
 use Rattle.x_trees.specs.Gloss as by
-use Rattle.x_trees.specs.declared.trees.declaration.TheConstants.{MOST_INLINE}
+use Rattle.x_trees.specs.Limits.{most_inline}
 use Rattle.x_trees.specs.declared.trees.declaration.Basic.{Basic}
 
 -- the words of a definition
@@ -126,7 +126,7 @@ abbrev mutual
 
 abbrev pub ArgumentFits : tree.Argument → Type 0
 ArgumentFits tree.Text = Unit {0}
-ArgumentFits (tree.Typed type) = TypeFits type MOST_INLINE
+ArgumentFits (tree.Typed type) = TypeFits type most_inline
 
 abbrev pub PassedFits : Option tree.Argument → Type 0
 PassedFits None = Unit {0}
@@ -150,11 +150,11 @@ abbrev pub VersionsFit : List tree.Version → Type 0
 VersionsFit [] = Unit {0}
 VersionsFit (v ∷ vs) = VersionFits v × VersionsFit vs
 
--- at most MOST_INLINE inline bodies inside one another, and no body and no list of cases is empty
+-- at most most_inline inline bodies inside one another, and no body and no list of cases is empty
 abbrev pub KeepsLimits : tree.Definition → Type 0
 KeepsLimits (tree.Const name value) = Unit {0}
-KeepsLimits (tree.Typedef d) = DeclarationFits d MOST_INLINE
-KeepsLimits (tree.NewType name body) = BodyFits body MOST_INLINE
+KeepsLimits (tree.Typedef d) = DeclarationFits d most_inline
+KeepsLimits (tree.NewType name body) = BodyFits body most_inline
 KeepsLimits (tree.Program name versions number) = HasOne versions × VersionsFit versions
 
 -- some definition's spelling begins with these words

@@ -1,6 +1,6 @@
 //! One value of a type, as text.
 
-ghost use Rattle.std.specs.Prelude.{◌≡◌, ℕ, List, IfOk, OnErr};
+ghost use Rattle.std.specs.Prelude.{◌≡◌, false, ℕ, List, IfOk, OnOk, OnErr};
 ghost use Rattle.x_text.specs.Writing.{Adds};
 ghost use Rattle.x_schema.specs.Schema.{IsTypeId};
 ghost use Rattle.x_value.specs.ValueTexts.{IsValueText, WritesValue};
@@ -24,7 +24,8 @@ pub fn dump_value<S: Sink>(
     sink: &mut S,
 ) -> Result<Outcome, EngineFault>
     requires { IsTypeId schema.now id }
-    ensures { WritesValue schema.now id bytes.now (S.state sink.old) (S.state sink.new) result }
+    ensures written { WritesValue schema.now id bytes.now (S.state sink.old) (S.state sink.new) result }
+    ensures working { OnOk result ((S.state sink.new).failed ≡ false) }
 {
     let mut pen = Pen::new();
     let outcome = match add_text(alloc, schema, id, bytes, &mut pen, sink) {

@@ -2,7 +2,7 @@
 
 ghost use Rattle.std.specs.Prelude.{◌≡◌, ◌≢◌, ◌<◌, MatchOption, length};
 ghost use Rattle.x_text.specs.Engines.{WorksOn};
-ghost use Rattle.x_text.specs.declared.source.TheConstants.{MAX_TEXT};
+ghost use Rattle.x_text.specs.Limits.{most_text};
 ghost use Rattle.rpcx.specs.Course.{course};
 ghost use Rattle.rpcx.specs.Editing.{Answers, IsStopped, NotRun};
 ghost use Rattle.rpcx.specs.Generate.{base_of};
@@ -25,7 +25,7 @@ pub fn edit_run<I: Tap, O: Sink, E: Sink>(
     out: &mut O,
     err: &mut E,
 ) -> Status
-    ensures too_large { MAX_TEXT < length bytes.now → result ≡ Status.Failed }
+    ensures too_large { most_text < length bytes.now → result ≡ Status.Failed }
     ensures failed { result ≡ Status.Failed
         → NotRun args.now.file.now bytes.now
         (course (I.state input.old) (I.state input.new) (O.state out.old) (O.state out.new))

@@ -1,4 +1,5 @@
 //! What is printed of one message.
+ghost use Rattle.std.specs.Prelude.{◌≡◌, false, OnOk};
 ghost use Rattle.x_wire.specs.StreamTexts.{DumpsMessage};
 
 use super::teller::Teller;
@@ -16,7 +17,8 @@ pub fn dump_message<S: Sink>(
     bytes: &[u8],
     sink: &mut S,
 ) -> Result<Outcome, EngineFault>
-    ensures { DumpsMessage schema.now bytes.now (S.state sink.old) (S.state sink.new) result }
+    ensures dumps { DumpsMessage schema.now bytes.now (S.state sink.old) (S.state sink.new) result }
+    ensures working { OnOk result ((S.state sink.new).failed ≡ false) }
 {
     let mut pen = Pen::new();
     let mut teller = Teller::new(alloc);

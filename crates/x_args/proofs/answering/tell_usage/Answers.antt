@@ -21,4 +21,4 @@ returns g c =
     let is : whole ≡ refused_told c.args.manual.now c.args.why.now = λ i. c.as_bytes.ensures.value i ++ codes ": " ++ c.args.why.now ++ codes "\nusage: " ++ c.as_bytes-2.ensures.value i ++ codes "\ntry '" ++ c.as_bytes-3.ensures.value i ++ codes " --help'\n" in
     let now = g.E.Sink.state c.finish.new.sink in
     told c.finish.result start now (refused_told c.args.manual.now c.args.why.now)
-    (subst (λ t. IsWritten c.finish.result start now t) is (c.finish.ensures start whole eight))
+    (subst (λ t. IsWritten c.finish.result start now t) is (c.finish.ensures.written start whole eight))

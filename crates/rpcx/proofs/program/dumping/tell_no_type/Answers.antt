@@ -13,6 +13,6 @@ returns g c =
     let why = c.add.ensures.goes_on start [] none in
     let name = c.add-2.ensures.goes_on start front why in
     let whole = c.add-3.ensures.goes_on start (front ++ c.as_bytes.result.now) name in
-    let whole_told = c.finish.ensures start (front ++ c.as_bytes.result.now ++ codes "\n") whole in
+    let whole_told = c.finish.ensures.written start (front ++ c.as_bytes.result.now ++ codes "\n") whole in
     let text : front ++ c.as_bytes.result.now ++ codes "\n" ≡ front ++ c.args.name.now ++ codes "\n" = λ i. front ++ c.as_bytes.ensures.value i ++ codes "\n" in
     told c.finish.result start now (front ++ c.args.name.now ++ codes "\n") (subst (λ t. IsWritten c.finish.result start now t) text whole_told)

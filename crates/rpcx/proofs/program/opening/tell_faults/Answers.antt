@@ -33,4 +33,4 @@ returns g c =
     c.in-None.ensures.steps.0 c.loop-fault.invariant in
     let none : Writes start [] c.new-pen.result start = subst (λ (p : Inked). Writes start [] p start) (sym c.new-pen.ensures) (writes_none start) in
     subst (λ fs. IsTold start now (told_faults c.args.file.now fs)) same
-    (told c.finish.result start now text (c.finish.ensures start text (listed.goes_on start [] none)))
+    (told c.finish.result start now text (c.finish.ensures.written start text (listed.goes_on start [] none)))

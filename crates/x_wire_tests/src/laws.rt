@@ -1,0 +1,11 @@
+use x_wire::{enc_law, one_answer, one_fault, one_message, one_text, records_law};
+
+#[test]
+fn laws_do_nothing(_rt: HostRuntime) {
+    enc_law();
+    records_law();
+    one_message();
+    one_fault();
+    one_answer();
+    one_text();
+}
