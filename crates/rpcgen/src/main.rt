@@ -2,8 +2,8 @@
 #![tactic(auto)]
 
 use rpcx::{
-    RPCGEN, Status, answer_words, gen_args, gen_mode, gen_open, gen_write, read_text, read_words,
-    tell_of_file,
+    GenArgs, RPCGEN, Status, answer_words, gen_args, gen_mode, gen_open, gen_write, read_text,
+    read_words, tell_of_file,
 };
 use std::process::ExitCode;
 use std::{fs, mem};
@@ -30,6 +30,21 @@ fn write<E: Sink>(
     }
 }
 
+/// Opens the text and writes what is asked for.
+fn generate(
+    rt: &HostRuntime,
+    which: Which,
+    args: &GenArgs,
+    bytes: &[u8],
+) -> Result<Status, Status> {
+    let mut err = Out::new(rt.stderr());
+    let session = gen_open(rt.alloc(), args.file, bytes, &mut err)?;
+    let status = write(rt, which, &session, args.output, &mut err);
+    // The process ends next, and gives all memory back at once.
+    mem::forget(session);
+    Ok(status)
+}
+
 /// Carries out the command line. Where that stops early, it answers the status as an error.
 fn run(rt: &HostRuntime) -> Result<Status, Status> {
     let mut err = Out::new(rt.stderr());
@@ -45,11 +60,7 @@ fn run(rt: &HostRuntime) -> Result<Status, Status> {
         return Err(Status::Failed);
     };
     let bytes = read_text(rt, "rpcgen", args.file, &mut err)?;
-    let session = gen_open(rt.alloc(), args.file, &bytes, &mut err)?;
-    let status = write(rt, which, &session, args.output, &mut err);
-    // The process ends next, and gives all memory back at once.
-    mem::forget(session);
-    Ok(status)
+    generate(rt, which, &args, &bytes)
 }
 
 fn main(rt: HostRuntime) -> ExitCode {

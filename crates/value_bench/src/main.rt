@@ -47,20 +47,35 @@ fn time(rt: &HostRuntime, schema: &Schema, id: TypeId, message: &[u8]) -> io::Re
     println!(rt; "{bytes} bytes, {nodes} nodes: {least} ns")
 }
 
-/// Times the message.
+/// Times the message as a value of the type of this name.
+fn time_named(rt: &HostRuntime, schema: &Schema, name: &str, message: &[u8]) -> io::Result<()> {
+    match schema.type_named(name.as_bytes()) {
+        Some(id) => time(rt, schema, id, message),
+        None => println!(rt; "no such type"),
+    }
+}
+
+/// Times the message by the types of the session's text.
+fn time_typed(rt: &HostRuntime, session: &Session, name: &str, message: &[u8]) -> io::Result<()> {
+    match session.schema() {
+        Ok(schema) => time_named(rt, &schema, name, message),
+        Err(_) => println!(rt; "the schema has faults"),
+    }
+}
+
+/// Times the message by the types of a text.
+fn time_by(rt: &HostRuntime, text: &[u8], name: &str, message: &[u8]) -> io::Result<()> {
+    match Session::open(rt.alloc(), b"t", text) {
+        Ok(session) => time_typed(rt, &session, name, message),
+        Err(_) => println!(rt; "the schema can't be opened"),
+    }
+}
+
+/// Times the message of a file.
 fn measure(rt: &HostRuntime, schema: &str, name: &str, message: &str) -> io::Result<()> {
     let text = read(rt, schema)?;
     let message = read(rt, message)?;
-    let Ok(session) = Session::open(rt.alloc(), b"t", &text) else {
-        return println!(rt; "the schema can't be opened");
-    };
-    let Ok(schema) = session.schema() else {
-        return println!(rt; "the schema has faults");
-    };
-    match schema.type_named(name.as_bytes()) {
-        Some(id) => time(rt, &schema, id, &message),
-        None => println!(rt; "no such type"),
-    }
+    time_by(rt, &text, name, &message)
 }
 
 fn main(rt: HostRuntime) -> ExitCode {
