@@ -11,6 +11,6 @@ pub use parsing::{FaultCode, is_significant};
 pub use x_cutting::{Entry, ItemPatch, Items, cut, next_item, one_cut, one_recut, recut};
 pub use x_trees::{
     Argument, Arm, BASIC_MARKS, Basic, Body, DataType, Declaration, DeclaredName, Definition,
-    Enumerator, Length, MOST_INLINE, Mention, NameKind, Procedure, Shape, Spelling, Tag, UnionBody,
-    Use, Value, Version, declares, declares_into, gloss_law, lifted_name, mentions, mentions_into,
+    Enumerator, Glossary, Length, MOST_INLINE, Mention, NameKind, Procedure, Shape, Spelling, Tag,
+    UnionBody, Use, Value, Version, declares, gloss_law, lifted_name, mentions,
 };

@@ -1,15 +1,11 @@
 -- What a table of names holds.
-use Rattle.std.specs.Prelude.{ℕ, not, List, Option, map, option_map}
+use Rattle.std.specs.Prelude.{ℕ, not, List, Option, map}
 use Rattle.std.specs.List.{filter}
 use Rattle.std.specs.Map.{lookup}
-use Rattle.std.specs.Borrow.{Bor}
 use Rattle.std.specs.Cow.{cow_slice_items}
 use Rattle.std.specs.declared.borrow.CowSlice.{CowSlice}
 use Rattle.std.specs.Str.{bytes_eq}
 use Rattle.std.specs.Global.{Global}
-use Rattle.x_trees.specs.Tree as tree
-use Rattle.x_trees.specs.View.{view_definition}
-use Rattle.x_trees.specs.declared.trees.definition.Definition.{Definition}
 use Rattle.x_names.specs.Declarers as names
 use Rattle.x_names.specs.declared.names.Declarer.{Declarer}
 

@@ -15,7 +15,7 @@ use std::alloc::Global;
 use std::borrow::CowSlice;
 use std::marker::Model;
 use x_text::NoMemory;
-use x_trees::{DeclaredName, Definition, NameKind, declares_into};
+use x_trees::{Definition, Glossary, NameKind};
 
 /// Where a name is declared, and as what.
 #[derive(Clone, Copy, Debug, PartialEq, Eq)]
@@ -99,10 +99,10 @@ fn table_of<'d>(
         → (name : List ℕ) → entry_in table.entries name ≡ first_from 0 (map tree_at definitions.now) name) }
 {
     let mut table = IndexMap::with_capacity(alloc, definition_count(definitions))?;
-    let mut names = Vec::new(alloc);
+    let mut glossary = Glossary::new(alloc);
     for item in (0..definitions.len()).rev() {
         if let Some(definition) = definitions[item] {
-            add(alloc, &mut table, &mut names, item, definition)?;
+            add(alloc, &mut table, &mut glossary, item, definition)?;
         }
     }
     Ok(table)
@@ -146,7 +146,7 @@ fn entry_near(
 fn add<'d>(
     alloc: Global,
     table: &mut IndexMap<CowSlice<'d, u8>, Declarer>,
-    left: &mut Vec<DeclaredName<'d>>,
+    glossary: &mut Glossary<'d>,
     item: usize,
     definition: &'d Definition,
 ) -> Result<(), NoMemory>
@@ -155,12 +155,12 @@ fn add<'d>(
         ≡ option_or (place_of_name item 0 name (declared (view_definition definition.now)))
         (entry_in table.old.entries name)) }
 {
-    declares_into(alloc, left, definition)?;
-    while let Some(declared) = left.pop() {
+    glossary.read(alloc, definition)?;
+    while let Some(declared) = glossary.declared.pop() {
         let declarer = Declarer {
             item,
             word: declared.word,
-            place: left.as_slice().len(),
+            place: glossary.declared.as_slice().len(),
             kind: declared.kind,
             lifted: declared.lifted,
         };

@@ -6,7 +6,7 @@ use Rattle.std.proofs.Common.{◌≡◌, ◌<◌, ◌≤◌, inr, ℕ, zero, suc
 use Rattle.std.proofs.lemmas.List.{length-take-le, take-append-drop, drop-drop}
 use Rattle.std.proofs.lemmas.Option.{same_Some, slice_get_within}
 use Rattle.x_trees.specs.Tree.{Definition}
-use Rattle.x_trees.specs.Named.{view_name}
+use Rattle.x_trees.specs.Collected.{view_name}
 use Rattle.x_trees.specs.Names.{Declared, declared}
 use Rattle.x_trees.specs.declared.names.declared_name.DeclaredName.{DeclaredName}
 use Rattle.x_names.specs.Declarers.{is_beforehand, IsDeclarer, IsFirstDeclarer, FirstIs, declarer_at, place_of_name, declarer_in, first_from, first_declarer}

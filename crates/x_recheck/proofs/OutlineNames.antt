@@ -6,7 +6,7 @@ use Rattle.std.proofs.lemmas.List.{take_all}
 use Rattle.x_trees.specs.Names.{Declared, declared}
 use Rattle.x_trees.specs.Mentions as tree
 use Rattle.x_trees.specs.Mentions.{mentioned}
-use Rattle.x_trees.specs.Named.{view_name}
+use Rattle.x_trees.specs.Collected.{view_name}
 use Rattle.x_trees.specs.Collected.{view_mention}
 use Rattle.x_trees.specs.declared.names.declared_name.DeclaredName.{DeclaredName}
 use Rattle.x_trees.specs.declared.names.mention.Mention.{Mention}

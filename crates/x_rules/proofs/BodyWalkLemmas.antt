@@ -3,7 +3,7 @@ use Rattle.std.proofs.Common.{◌≡◌, ℕ, suc, Option, ◌+◌, ◌^◌, ◌
 use Rattle.std.specs.List.{IsAmong}
 use Rattle.std.specs.Borrow.{Bor}
 use Rattle.x_trees.specs.Tree as tree
-use Rattle.x_trees.specs.Named.{star}
+use Rattle.x_rules.specs.Bodies.{star}
 use Rattle.x_trees.specs.Spell.{spell_type, spell_named, spell_length, spell_body, spell_cases, spell_enumerator, spell_other_enumerators, spell_enumerators, spell_declaration, spell_declarations, spell_arms, spell_default}
 use Rattle.x_trees.specs.View.{view_body}
 use Rattle.x_trees.specs.declared.trees.declaration.Body.{Body}

@@ -10,7 +10,7 @@ use Rattle.x_rules.specs.Bodies.{BodyAt, NameAt, Members, bodies, enumerators, c
 use Rattle.x_rules.specs.Constants.{knowns, limit_of, is_declared_before}
 use Rattle.x_rules.specs.Tables.{first_place}
 use Rattle.x_rules.specs.Types.{heights}
-use Rattle.x_rules.specs.Notes.{noted}
+use Rattle.x_trees.specs.Notes.{noted}
 use Rattle.x_rules.specs.Found.{duplicates_from, mention_faults, note_faults, past_last_faults, repeated_cases, repeated_names, repeated_numbers, repeated_members, spelled_numbers, too_high_faults, has_too_high, found_faults}
 use Rattle.x_rules.specs.Rules.{Breaks, IsFault, IsBadCase, AreFaults, Ascends, HasMentionFault, IsOutOfRange, IsRepeatedField, IsRepeatedNumber}
 use Rattle.x_rules.specs.declared.fault.RuleCode.{RuleCode}

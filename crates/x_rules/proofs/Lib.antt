@@ -15,7 +15,6 @@ pub mod MeaningLemmas
 pub mod MemberWalkLemmas
 pub mod MentionLemmas
 pub mod NoteLemmas
-pub mod NoteWalkLemmas
 pub mod NumberLemmas
 pub mod NumberSetLemmas
 pub mod OrderLemmas

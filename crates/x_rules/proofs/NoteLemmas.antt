@@ -6,10 +6,10 @@ use Rattle.std.specs.List.{IsAmong}
 use Rattle.x_trees.specs.Tree as tree
 use Rattle.x_trees.specs.Gloss as gloss
 use Rattle.x_trees.specs.Gloss.{Gloss, Role, told_of}
-use Rattle.x_rules.specs.Notes.{Note, NoteAt, ValueNote, NumberNote, MisplacedNote, DiscriminantNote, InlineNote, void_note, note_of, note_list, noted_at, noted}
+use Rattle.x_trees.specs.Notes.{Note, NoteAt, ValueNote, NumberNote, MisplacedNote, DiscriminantNote, InlineNote, void_note, note_of, note_list, noted_at, noted}
 use Rattle.x_rules.specs.Rules.{HasRole, number_role, is_misplaced}
-use Rattle.x_rules.specs.declared.outline.note.ValueRole.{ValueRole}
-use Rattle.x_rules.specs.declared.outline.note.ValueRole.TheVariants as roles
+use Rattle.x_trees.specs.declared.names.note.ValueRole.{ValueRole}
+use Rattle.x_trees.specs.declared.names.note.ValueRole.TheVariants as roles
 use Rattle.x_rules.proofs.AmongLemmas.{among_first, among_more, among_cases, among_none, among_front, among_rear, among_parts}
 
 -- ---- the roles of a word

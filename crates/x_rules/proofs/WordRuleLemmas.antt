@@ -13,11 +13,11 @@ use Rattle.x_numbers.specs.Numbers.{magnitude, is_negative, in_range, value, is_
 use Rattle.x_rules.specs.Constants.{knowns, limit_of, number_by}
 use Rattle.x_numbers.specs.Numbers.{number_spelled}
 use Rattle.x_rules.specs.Types.{declaration_class}
-use Rattle.x_rules.specs.Notes.{Note, ValueNote, NumberNote, MisplacedNote, DiscriminantNote, InlineNote, void_note, note_of, noted}
+use Rattle.x_trees.specs.Notes.{Note, ValueNote, NumberNote, MisplacedNote, DiscriminantNote, InlineNote, void_note, note_of, noted}
 use Rattle.x_rules.specs.Found.{fault_at, number_fault, value_fault, spelled_fault, has_no_class, discriminant_fault, note_fault, note_faults}
 use Rattle.x_rules.specs.Rules.{HasRole, Breaks, IsNoConstant, IsNoEnumValue, IsNoNumber, IsBadSize, IsEmptyArray, IsVoidPlace, IsBadDiscriminant, value_role, number_role, size_role, is_misplaced}
-use Rattle.x_rules.specs.declared.outline.note.ValueRole.{ValueRole}
-use Rattle.x_rules.specs.declared.outline.note.ValueRole.TheVariants as roles
+use Rattle.x_trees.specs.declared.names.note.ValueRole.{ValueRole}
+use Rattle.x_trees.specs.declared.names.note.ValueRole.TheVariants as roles
 use Rattle.x_rules.specs.declared.fault.RuleCode.{RuleCode}
 use Rattle.x_rules.specs.declared.fault.RuleCode.TheVariants as codes
 use Rattle.x_rules.specs.declared.fault.WordFault.{WordFault}

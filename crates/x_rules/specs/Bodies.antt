@@ -4,7 +4,6 @@
 -- `at` is the number of the first word of the part that a function is about.
 use Rattle.std.specs.Prelude.{ℕ, ◌+◌, Bool, true, false, List, [], ◌∷◌, ◌++◌, length, Option}
 use Rattle.x_trees.specs.Tree as tree
-use Rattle.x_trees.specs.Named.{star}
 use Rattle.x_trees.specs.Spell.{spell_type, spell_body, spell_declaration, spell_cases, spell_arms, spell_enumerator, spell_passed, spell_others, spell_procedure, spell_procedures}
 
 -- a body, its first word (the one behind the keyword), and the word that declares the type's name
@@ -12,6 +11,11 @@ pub record BodyAt : Type 0 where
   pub named : ℕ
   pub at : ℕ
   pub body : tree.Body
+
+-- the words between the type of a declaration and its name
+abbrev pub star : tree.Shape → ℕ
+star tree.Optional = 1
+star shape = 0
 
 -- the word of the name of a declaration
 abbrev pub name_word : ℕ → tree.Declaration → ℕ

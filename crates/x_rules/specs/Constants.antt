@@ -1,6 +1,6 @@
 -- The numbers that values stand for, and those of enumerators. `see` tells what the item sees of each name, and `es` are the
 -- enumerators that stand in it, in the order of their words.
-use Rattle.std.specs.Prelude.{ℕ, ◌-◌, Bool, false, nat_lt, List, [], ◌∷◌, ◌++◌, Option, Some, None, ℤ, pos, ◌+ℤ◌, option_and_then, if◌then◌else◌}
+use Rattle.std.specs.Prelude.{ℕ, ◌-◌, Bool, false, nat_lt, List, [], ◌∷◌, ◌++◌, Option, Some, None, ℤ, pos, if◌then◌else◌}
 use Rattle.std.specs.Str.{bytes_eq}
 use Rattle.x_trees.specs.Tree as tree
 use Rattle.x_trees.specs.declared.names.declared_name.NameKind.TheVariants as kinds

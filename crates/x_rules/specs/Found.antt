@@ -14,9 +14,9 @@ use Rattle.x_rules.specs.Constants.{Known, knowns, limit_of, number_by}
 use Rattle.x_numbers.specs.Numbers.{number_spelled, is_enum_number, is_word_number, is_zero}
 use Rattle.x_rules.specs.Mentioned.{mention_fault, suits}
 use Rattle.x_rules.specs.Types.{declaration_class, heights}
-use Rattle.x_rules.specs.Notes.{Note, NoteAt, ValueNote, NumberNote, MisplacedNote, DiscriminantNote, InlineNote, noted}
-use Rattle.x_rules.specs.declared.outline.note.ValueRole.{ValueRole}
-use Rattle.x_rules.specs.declared.outline.note.ValueRole.TheVariants as roles
+use Rattle.x_trees.specs.Notes.{Note, NoteAt, ValueNote, NumberNote, MisplacedNote, DiscriminantNote, InlineNote, noted}
+use Rattle.x_trees.specs.declared.names.note.ValueRole.{ValueRole}
+use Rattle.x_trees.specs.declared.names.note.ValueRole.TheVariants as roles
 use Rattle.x_rules.specs.declared.fault.RuleCode.{RuleCode}
 use Rattle.x_rules.specs.declared.fault.RuleCode.TheVariants as codes
 use Rattle.x_rules.specs.declared.fault.WordFault.{WordFault}

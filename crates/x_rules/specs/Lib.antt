@@ -8,8 +8,6 @@ pub mod Meanings
 pub mod MemberWalks
 pub mod Limits
 pub mod Mentioned
-pub mod NoteWalks
-pub mod Notes
 pub mod NumberSets
 pub mod Outlined
 pub mod Results

@@ -2,7 +2,7 @@
 use Rattle.std.specs.Prelude.{◌≡◌, ℕ, List, map}
 use Rattle.x_trees.specs.Tree as tree
 use Rattle.x_trees.specs.View.{view_definition}
-use Rattle.x_trees.specs.Named.{view_name}
+use Rattle.x_trees.specs.Collected.{view_name}
 use Rattle.x_trees.specs.Collected.{view_mention}
 use Rattle.x_trees.specs.Names.{declared}
 use Rattle.x_trees.specs.Mentions.{mentioned}
@@ -12,7 +12,7 @@ use Rattle.x_rules.specs.Bodies.{bodies, enumerators}
 use Rattle.x_rules.specs.BodyWalks.{view_body_at, AreFilled}
 use Rattle.x_rules.specs.Constants.{knowns}
 use Rattle.x_names.specs.Declarers.{IsShort}
-use Rattle.x_rules.specs.Notes.{view_note_at, noted}
+use Rattle.x_trees.specs.Notes.{view_note_at, noted}
 use Rattle.x_rules.specs.Results.{Outcome, meanings_by}
 use Rattle.x_rules.specs.Rules.{AreFaults}
 use Rattle.x_rules.specs.Tables.{ArePlaces, HasNumbers, place_seen, seen_by}

@@ -6,18 +6,14 @@ ghost use Rattle.x_names.specs.Declarers.{IsShort};
 ghost use Rattle.x_rules.specs.Outlined.{IsOutline};
 
 pub mod bodies;
-pub mod note;
-pub mod notes;
 pub mod parts;
 pub mod programs;
 
 use bodies::bodies_into;
-use note::NoteAt;
-use notes::notes_into;
 use parts::BodyAt;
 use std::alloc::Global;
 use x_text::NoMemory;
-use x_trees::{DeclaredName, Definition, Mention, declares_into, mentions_into};
+use x_trees::{DeclaredName, Definition, Glossary, Mention, NoteAt};
 
 /// The names that stand in a definition, and its bodies: what is found of it once, both for its views and for its check.
 #[derive(Drop)]
@@ -59,23 +55,20 @@ impl<'d> Outline<'d> {
         ensures definition { IfOk result (λ outline. outline.definition ≡ definition.entry) }
         ensures outline { IfOk result (λ outline. IsShort (view_definition definition.now) → IsOutline outline) }
     {
-        let Outline {
-            mut declared,
-            mut mentioned,
-            mut bodies,
-            mut notes,
-            ..
-        } = self;
-        declares_into(alloc, &mut declared, definition)?;
-        mentions_into(alloc, &mut mentioned, definition)?;
+        let mut glossary = Glossary {
+            declared: self.declared,
+            mentioned: self.mentioned,
+            notes: self.notes,
+        };
+        let mut bodies = self.bodies;
+        glossary.read(alloc, definition)?;
         bodies_into(alloc, &mut bodies, definition)?;
-        notes_into(alloc, &mut notes, definition)?;
         Ok(Outline {
             definition,
-            declared,
-            mentioned,
+            declared: glossary.declared,
+            mentioned: glossary.mentioned,
             bodies,
-            notes,
+            notes: glossary.notes,
         })
     }
 

@@ -5,7 +5,7 @@ use Rattle.std.proofs.lemmas.List.{take_all, drop_all, length_push, length-map, 
 use Rattle.x_text.specs.Counts.{Counts}
 use Rattle.x_trees.specs.Tree.{Definition}
 use Rattle.x_trees.specs.Names.{Declared}
-use Rattle.x_trees.specs.Named.{view_name}
+use Rattle.x_trees.specs.Collected.{view_name}
 use Rattle.x_trees.specs.Mentions.{Mention}
 use Rattle.x_trees.specs.Collected.{view_mention}
 use Rattle.x_trees.specs.declared.names.declared_name.DeclaredName.{DeclaredName}

@@ -3,7 +3,7 @@ use Rattle.std.proofs.Common.{◌≡◌, ℕ, ◌+◌, ◌^◌, ◌<◌, List, [
 use Rattle.std.proofs.lemmas.List.{append-nil}
 use Rattle.std.proofs.Math.Seq.{take-append_seam}
 use Rattle.x_trees.specs.Gloss.{Role, Gloss, told_of}
-use Rattle.x_trees.specs.Collected.{Walked, Covers, CoversAll, CoversOn, IsSilent}
+use Rattle.x_trees.specs.Collected.{Walked, Covers, CoversAll}
 
 pub finds_none : {A : Type 0} (a : Walked A) → Covers a a 0 (λ k. [])
 finds_none a = record {
@@ -34,6 +34,11 @@ finds_as {a = a} {b} {n} {f} m g x same alike = record {
   word = λ fits. x.word (subst (λ j. a.word + j < 2 ^ 64) (sym same) fits) ∙ ap (λ j. a.word + j) same;
   list = λ fits. x.list (subst (λ j. a.word + j < 2 ^ 64) (sym same) fits) ∙ ap (λ l. a.list ++ l) (alike a.word);
 }
+
+-- found at a word, and from that word on
+pub finds_here : {A : Type 0} {a b c : Walked A} {n : ℕ} {f g : ℕ → List A} → Covers a b 0 f → Covers b c n g → Covers a c n (λ k. f k ++ g k)
+finds_here {n = n} {f} {g} x y =
+    finds_as n (λ k. f k ++ g k) (finds_then x y) (omega arith) (λ k. let here : k + 0 ≡ k = omega arith in ap (λ j. f k ++ g j) here)
 
 -- what was found is taken away
 pub finds_less : {A : Type 0} (a b c : Walked A) (n : ℕ) (f : ℕ → List A) → Covers a b n f → c.word ≡ b.word → c.list ≡ take (length a.list) b.list → Covers a c n (λ k. [])
@@ -72,28 +77,10 @@ covers_three x y = covers_then x y
 pub covers_as : {A : Type 0} {tell : ℕ → List Role → List A} {a b : Walked A} {xs ys : List Gloss} → CoversAll tell a b xs → xs ≡ ys → CoversAll tell a b ys
 covers_as {tell = tell} {a} {b} x same = subst (CoversAll tell a b) same x
 
-pub goes_start : {A : Type 0} {tell : ℕ → List Role → List A} (a : Walked A) (all : List Gloss) → CoversOn tell a a all all
-goes_start a all = record { by = λ to h. h }
-
--- one of the elements of a list that the walk goes over
-pub goes_over : {A X : Type 0} {tell : ℕ → List Role → List A} {from at next : Walked A} {whole : List Gloss} (words : List X → List Gloss) {first : List Gloss} (x : X) (all rest : List X) → all ≡ x ∷ rest → words (x ∷ rest) ≡ first ++ words rest → CoversOn tell from at whole (words all) → CoversAll tell at next first → CoversOn tell from next whole (words rest)
-goes_over words x all rest is parts on step = record {
-  by = λ to h. on.by to (covers_as (covers_then step h) (sym parts ∙ ap words (sym is)));
-}
-
-pub goes_end : {A X : Type 0} {tell : ℕ → List Role → List A} {from at : Walked A} {whole : List Gloss} (words : List X → List Gloss) (rest : List X) → rest ≡ [] → [] ≡ words [] → CoversOn tell from at whole (words rest) → CoversAll tell from at whole
-goes_end {at = at} words rest is none on = on.by at (covers_as record { all = finds_none at } (none ∙ ap words (sym is)))
-
 -- ---- words of which nothing is told
 
 abbrev pub IsQuiet : {A : Type 0} → (ℕ → List Role → List A) → List Gloss → Type 0
 IsQuiet tell words = (k : ℕ) → told_of tell k words ≡ []
-
-pub quiet_then : {A : Type 0} (tell : ℕ → List Role → List A) (xs ys : List Gloss) → IsQuiet tell xs → IsQuiet tell ys → IsQuiet tell (xs ++ ys)
-quiet_then tell xs ys x y k = told_append tell k xs ys ∙ ap (λ l. l ++ told_of tell (k + length xs) ys) (x k) ∙ y (k + length xs)
-
-pub quiet_next : {A : Type 0} (tell : ℕ → List Role → List A) (g : Gloss) (ys : List Gloss) → IsSilent tell g.roles → IsQuiet tell ys → IsQuiet tell (g ∷ ys)
-quiet_next tell g ys x y k = ap (λ l. l ++ told_of tell (k + 1) ys) (x k) ∙ y (k + 1)
 
 -- what a walk from the first word on has found, if nothing is told of the words behind those that it has gone over
 pub finds_all : {A : Type 0} {tell : ℕ → List Role → List A} {a b : Walked A} (front rest : List Gloss) → a.word ≡ 0 → a.list ≡ [] → CoversAll tell a b front → IsQuiet tell rest → length (front ++ rest) < 2 ^ 64 → b.list ≡ told_of tell 0 (front ++ rest)

@@ -163,7 +163,7 @@ bare_rest : (ms : List Mark) → AreBare (map (λ m. glossed (Fixed m) []) ms)
 bare_rest [] = tt
 bare_rest (m ∷ ms) = (refl, bare_rest ms)
 
-bare_marks : (ms : List Mark) → AreBare (marks_by glossed [] ms)
+pub bare_marks : (ms : List Mark) → AreBare (marks_by glossed [] ms)
 bare_marks [] = tt
 bare_marks (m ∷ ms) = (refl, bare_rest ms)
 
@@ -234,8 +234,3 @@ mutual
   bare_default : (other : tree.Default) → AreBare (default_by glossed None other)
   bare_default tree.no_default = (refl, tt)
   bare_default (tree.default d) = (refl, (refl, with_bare (declaration_by glossed None d) _ (bare_declaration d) (refl, (refl, tt))))
-
--- a type that is no inline one
-abbrev pub IsOutside : tree.DataType → Type 0
-IsOutside (tree.Inline body) = ⊥
-IsOutside type = Unit {0}

@@ -1,5 +1,4 @@
 pub mod CollectLemmas
 pub mod GlossLemmas
-pub mod MentionLemmas
-pub mod NameLemmas
+pub mod GlossaryLemmas
 pub mod Rows

@@ -3,8 +3,8 @@ pub mod Declarations
 pub mod Gloss
 pub mod Limits
 pub mod Mentions
-pub mod Named
 pub mod Names
+pub mod Notes
 pub mod Seen
 pub mod Spell
 pub mod Tree

@@ -6,9 +6,10 @@ mod names;
 mod trees;
 
 pub use laws::gloss_law;
-pub use names::declares::{declares, declares_into, lifted_name};
-pub use names::mentions::{mentions, mentions_into};
-pub use names::{DeclaredName, Mention, NameKind, Use};
+pub use names::{
+    DeclaredName, Glossary, Mention, NameKind, Note, NoteAt, Use, ValueRole, declares, lifted_name,
+    mentions,
+};
 pub use trees::{
     Argument, Arm, BASIC_MARKS, Basic, Body, DataType, Declaration, Definition, Enumerator, Length,
     MOST_INLINE, Procedure, Shape, Spelling, Tag, UnionBody, Value, Version, fitted, inline,

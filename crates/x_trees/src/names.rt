@@ -1,9 +1,11 @@
-//! The names that a definition declares, and those that it uses.
+//! The names that a definition declares, those that it uses, and what its words are beside them.
 
 mod declared_name;
-pub mod declares;
+mod glossary;
 mod mention;
-pub mod mentions;
+mod note;
 
-pub use declared_name::{DeclaredName, NameKind};
+pub use declared_name::{DeclaredName, NameKind, lifted_name};
+pub use glossary::{Glossary, declares, mentions};
 pub use mention::{Mention, Use};
+pub use note::{Note, NoteAt, ValueRole};

@@ -15,7 +15,7 @@ use super::queue::Queue;
 use std::alloc::Global;
 use x_names::Declarer;
 use x_text::NoMemory;
-use x_trees::{DeclaredName, declares_into};
+use x_trees::{DeclaredName, Glossary};
 
 /// Queues an item before the edit, if it is kept and its number is `low` or more.
 fn add_user<L: CheckedItems>(
@@ -148,7 +148,7 @@ fn add_candidates_of<L: CheckedItems>(
 fn add_gone<'i, L: CheckedItems>(
     alloc: Global,
     items: &'i EditedItems<L>,
-    names: &mut Vec<DeclaredName<'i>>,
+    glossary: &mut Glossary<'i>,
     item: usize,
     queue: &mut Queue,
 ) -> Result<(), NoMemory>
@@ -160,15 +160,15 @@ fn add_gone<'i, L: CheckedItems>(
     let Some(definition) = items.old_definition(item) else {
         return Ok(());
     };
-    declares_into(alloc, names, definition)?;
-    add_candidates_of(items, item, names, queue)
+    glossary.read(alloc, definition)?;
+    add_candidates_of(items, item, &glossary.declared, queue)
 }
 
 /// Queues a fresh item, if it has a definition, and those that see a name otherwise because of it.
 fn add_fresh<'i, L: CheckedItems>(
     alloc: Global,
     items: &'i EditedItems<L>,
-    names: &mut Vec<DeclaredName<'i>>,
+    glossary: &mut Glossary<'i>,
     item: usize,
     queue: &mut Queue,
 ) -> Result<(), NoMemory>
@@ -184,9 +184,9 @@ fn add_fresh<'i, L: CheckedItems>(
     let Some(definition) = items.definition(item) else {
         return Ok(());
     };
-    declares_into(alloc, names, definition)?;
+    glossary.read(alloc, definition)?;
     queue.insert(item)?;
-    add_candidates_of(items, item, names, queue)
+    add_candidates_of(items, item, &glossary.declared, queue)
 }
 
 /// Queues those that see a name otherwise because of the items that go.
@@ -202,9 +202,9 @@ fn add_all_gone<L: CheckedItems>(
         (items.now.place.at + items.now.place.removed)) }
 {
     let place = items.place;
-    let mut names = Vec::new(alloc);
+    let mut glossary = Glossary::new(alloc);
     for item in place.at..place.at + place.removed {
-        add_gone(alloc, items, &mut names, item, queue)?;
+        add_gone(alloc, items, &mut glossary, item, queue)?;
     }
     Ok(())
 }
@@ -224,9 +224,9 @@ fn add_all_fresh<L: CheckedItems>(
         (items.now.place.at + items.now.place.added)) }
 {
     let place = items.place;
-    let mut names = Vec::new(alloc);
+    let mut glossary = Glossary::new(alloc);
     for item in place.at..place.at + place.added {
-        add_fresh(alloc, items, &mut names, item, queue)?;
+        add_fresh(alloc, items, &mut glossary, item, queue)?;
     }
     Ok(())
 }

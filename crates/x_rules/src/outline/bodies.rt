@@ -2,7 +2,7 @@
 
 ghost use Rattle.std.specs.Prelude.{◌≡◌, ◌+◌, ℕ, List, [], length, map, OnOk, IfOk};
 ghost use Rattle.x_trees.specs.Collected.{Covers};
-ghost use Rattle.x_trees.specs.Named.{star};
+ghost use Rattle.x_rules.specs.Bodies.{star};
 ghost use Rattle.x_trees.specs.Spell.{spell_length, spell_named, spell_enumerator, spell_other_enumerators};
 ghost use Rattle.x_trees.specs.Spell.{spell_enumerators, spell_body};
 ghost use Rattle.x_trees.specs.Tree.{Variable};

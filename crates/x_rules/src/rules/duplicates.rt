@@ -1,6 +1,6 @@
 //! Names that are declared twice.
 ghost use Rattle.std.specs.Prelude.{◌≡◌, ◌++◌, map, OnOk};
-ghost use Rattle.x_trees.specs.Named.{view_name};
+ghost use Rattle.x_trees.specs.Collected.{view_name};
 ghost use Rattle.x_rules.specs.Found.{is_earlier_name, is_behind, is_taken_at, duplicate_code};
 ghost use Rattle.x_rules.specs.Found.{duplicates_from};
 ghost use Rattle.x_rules.specs.RustViews.{view_view};

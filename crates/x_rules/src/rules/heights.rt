@@ -2,7 +2,7 @@
 
 ghost use Rattle.std.specs.Prelude.{◌≡◌, ◌++◌, ◌||◌, map, OnOk};
 ghost use Rattle.std.specs.List.{list_any};
-ghost use Rattle.x_trees.specs.Named.{view_name};
+ghost use Rattle.x_trees.specs.Collected.{view_name};
 ghost use Rattle.x_trees.specs.View.{view_definition};
 ghost use Rattle.x_rules.specs.Found.{too_high, too_high_faults};
 ghost use Rattle.x_rules.specs.Types.{defined_heights};

@@ -5,7 +5,7 @@ ghost use Rattle.x_trees.specs.View.{view_value, view_declaration};
 ghost use Rattle.x_rules.specs.Bodies as bodies;
 ghost use Rattle.x_rules.specs.Constants.{Known};
 ghost use Rattle.x_numbers.specs.Numbers.{number_spelled, is_zero};
-ghost use Rattle.x_rules.specs.Notes.{view_note, view_note_at};
+ghost use Rattle.x_trees.specs.Notes.{view_note, view_note_at};
 ghost use Rattle.x_rules.specs.Types.{declaration_class};
 ghost use Rattle.x_rules.specs.Found.{number_fault, value_fault, spelled_fault, discriminant_fault};
 ghost use Rattle.x_rules.specs.Found.{note_fault};
@@ -17,11 +17,10 @@ use super::constants::Constants;
 use super::found::add_fault;
 use super::sights::Sights;
 use crate::fault::{RuleCode, WordFault};
-use crate::outline::note::{Note, NoteAt, ValueRole};
 use crate::outline::parts::EnumeratorAt;
 use x_numbers::{is_enum_number, is_word_number, number_value};
 use x_text::NoMemory;
-use x_trees::{Declaration, Value};
+use x_trees::{Declaration, Note, NoteAt, Value, ValueRole};
 
 /// Whether the number is 0.
 fn is_zero(number: i128) -> bool

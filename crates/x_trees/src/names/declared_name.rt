@@ -1,9 +1,11 @@
-ghost use Rattle.std.specs.Prelude.{◌≡◌};
+ghost use Rattle.std.specs.Prelude.{◌≡◌, IfOk};
 ghost use Rattle.x_trees.specs.View.{view_body};
-ghost use Rattle.x_trees.specs.Gloss.{body_kind};
+ghost use Rattle.x_trees.specs.Gloss.{body_kind, lifted_name};
 
 use crate::trees::Body;
+use std::alloc::Global;
 use std::borrow::CowSlice;
+use x_text::NoMemory;
 
 /// What a name is declared as.
 #[derive(Clone, Copy, Debug, PartialEq, Eq)]
@@ -46,4 +48,20 @@ pub struct DeclaredName<'d> {
     pub kind: NameKind,
     /// Whether it is the name of an inline type: that of the type around it, `_`, and that of the declaration where it stands.
     pub lifted: bool,
+}
+
+/// The name of an inline type: that of the type around it, `_`, and that of the declaration where it stands.
+///
+/// # Errors
+///
+/// [`NoMemory`] where the name has no room.
+pub fn lifted_name(alloc: Global, around: &[u8], name: &[u8]) -> Result<Vec<u8>, NoMemory>
+    ensures { IfOk result (λ lifted. lifted.items ≡ lifted_name around.now name.now) }
+{
+    let length = around.len().saturating_add(1).saturating_add(name.len());
+    let mut lifted = Vec::with_capacity(alloc, length)?;
+    lifted.extend_from_slice(around)?;
+    lifted.push(b'_')?;
+    lifted.extend_from_slice(name)?;
+    Ok(lifted)
 }

@@ -4,7 +4,7 @@ ghost use Rattle.std.specs.List.{list_any};
 ghost use Rattle.std.specs.Cow.{cow_slice_items};
 ghost use Rattle.std.specs.Str.{bytes_eq};
 ghost use Rattle.x_trees.specs.View.{view_definition};
-ghost use Rattle.x_trees.specs.Named.{view_name};
+ghost use Rattle.x_trees.specs.Collected.{view_name};
 ghost use Rattle.x_trees.specs.View.{tree_at};
 ghost use Rattle.x_names.specs.Declarers.{AreShort, IsShort, place_of_name, declarer_in};
 ghost use Rattle.x_uses.specs.Occurrences.{declarer_of, declarers_at, users_at, declarers_of, users_of, sees};
@@ -15,7 +15,7 @@ use super::table::Table;
 use indexmap::IndexMap;
 use std::alloc::Global;
 use x_text::NoMemory;
-use x_trees::{DeclaredName, Definition, Mention, declares_into, mentions_into};
+use x_trees::{DeclaredName, Definition, Glossary, Mention};
 
 /// Gives a slot to a name that has none.
 pub fn insert_slot(
@@ -99,18 +99,11 @@ fn add_mentioned(
     Ok(())
 }
 
-/// The names of an item, in memory that is used again.
-#[derive(Drop)]
-struct ItemNames<'d> {
-    declared: Vec<DeclaredName<'d>>,
-    mentioned: Vec<Mention<'d>>,
-}
-
 /// Takes in the names that an item declares or mentions.
 fn add<'d>(
     alloc: Global,
     table: &mut Table,
-    names: &mut ItemNames<'d>,
+    glossary: &mut Glossary<'d>,
     item: u32,
     definition: &'d Definition,
 ) -> Result<(), NoMemory>
@@ -119,17 +112,16 @@ fn add<'d>(
         (λ name. declarer_in item name (Some (view_definition definition.now)))
         (sees (Some (view_definition definition.now))) item) }
 {
-    declares_into(alloc, &mut names.declared, definition)?;
-    mentions_into(alloc, &mut names.mentioned, definition)?;
-    add_declared(alloc, table, item, &names.declared)?;
-    add_mentioned(alloc, table, item, &names.mentioned)
+    glossary.read(alloc, definition)?;
+    add_declared(alloc, table, item, &glossary.declared)?;
+    add_mentioned(alloc, table, item, &glossary.mentioned)
 }
 
 /// The same of an item that may have no definition.
 fn add_item<'d>(
     alloc: Global,
     table: &mut Table,
-    names: &mut ItemNames<'d>,
+    glossary: &mut Glossary<'d>,
     item: u32,
     definition: Option<&'d Definition>,
 ) -> Result<(), NoMemory>
@@ -138,7 +130,7 @@ fn add_item<'d>(
         (λ name. declarer_in item name (tree_at definition.entry)) (sees (tree_at definition.entry)) item) }
 {
     match definition {
-        Some(definition) => add(alloc, table, names, item, definition),
+        Some(definition) => add(alloc, table, glossary, item, definition),
         None => Ok(()),
     }
 }
@@ -153,15 +145,12 @@ pub fn table_of(alloc: Global, definitions: &[Option<&Definition>]) -> Result<Ta
         ≡ users_of 0 (map tree_at definitions.now) name) }
 {
     let mut table = IndexMap::new(alloc);
-    let mut names = ItemNames {
-        declared: Vec::new(alloc),
-        mentioned: Vec::new(alloc),
-    };
+    let mut glossary = Glossary::new(alloc);
     for index in 0..definitions.len() {
         let Ok(item) = u32::try_from(index) else {
             return Err(NoMemory);
         };
-        add_item(alloc, &mut table, &mut names, item, definitions[index])?;
+        add_item(alloc, &mut table, &mut glossary, item, definitions[index])?;
     }
     Ok(table)
 }

@@ -1,6 +1,6 @@
 //! What the table of uses has of one name.
 ghost use Rattle.std.specs.Prelude.{◌≡◌, true, [], Some, IfOk, OnOk};
-ghost use Rattle.x_trees.specs.Named.{view_name};
+ghost use Rattle.x_trees.specs.Collected.{view_name};
 ghost use Rattle.x_names.specs.Declarers.{declarer_at};
 ghost use Rattle.x_uses.specs.Occurrences.{declarer_of, HasRoom};
 ghost use Rattle.x_uses.specs.Slots.{slot_stays, slot_renumbered, slot_filled, empty_slot, Widens};

@@ -2,7 +2,7 @@ use Rattle.std.proofs.Common.{◌≡◌, suc, Some, None, cond, [], ◌∷◌, �
 use Rattle.std.specs.Cow.{cow_slice_items}
 use Rattle.std.specs.Str.{bytes_eq}
 use Rattle.std.proofs.lemmas.List.{length_push}
-use Rattle.x_trees.specs.Named.{view_name}
+use Rattle.x_trees.specs.Collected.{view_name}
 use Rattle.std.specs.Option.{option_or}
 use Rattle.x_names.specs.Declarers.{declarer_at, place_of_name}
 use Rattle.x_names.specs.DeclarerTable.{entry_in}
@@ -12,10 +12,10 @@ use Rattle.x_names.proofs.names.add.Goals as goal
 
 pub loop-declared-preserved : goal.loop-declared-preserved
 loop-declared-preserved c =
-    let all = c.declares_into.new.list.items in
+    let all = c.read.new.self.declared.items in
     let left = c.pop.new.self.items in
     let here = c.in-Some.declared in
-    let popped : c.loop-declared.left.items ≡ left ++ here ∷ [] = c.in-Some.ensures.items in
+    let popped : c.loop-declared.glossary.declared.items ≡ left ++ here ∷ [] = c.in-Some.ensures.items in
     let split = before_last all left here (subst (λ l. l ≡ take (length l) all) popped c.loop-declared.invariant.left) in
     let more = length_push left here in
     let next : length (left ++ here ∷ []) ≡ suc (length left) = omega (arith, more) in

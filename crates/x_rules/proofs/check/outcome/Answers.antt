@@ -2,7 +2,7 @@ use Rattle.std.proofs.Common.{List, ℕ, ◌++◌, map, refl, sym, ap, subst, �
 use Rattle.std.proofs.lemmas.Result.{IfOk-weaker}
 use Rattle.std.specs.Cow.{cow_slice_items}
 use Rattle.x_trees.specs.Collected.{view_mention}
-use Rattle.x_trees.specs.Named.{view_name}
+use Rattle.x_trees.specs.Collected.{view_name}
 use Rattle.x_trees.specs.Names.{Declared, declared}
 use Rattle.x_rules.specs.Bodies.{enumerators_in}
 use Rattle.x_rules.specs.BodyWalks.{view_body_at, AreFilled}

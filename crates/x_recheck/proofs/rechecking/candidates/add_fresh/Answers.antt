@@ -12,6 +12,6 @@ returns-clause-covered g c =
     let e = edit_of g.L.CheckedItems.text c.args.items.now in
     let view = view_definition c.in-Some.definition.now in
     on_ok_weaker c.add_candidates_of.result
-    (λ each. listed_first (IsCovered e (is_waiting c.add_candidates_of.new.queue)) (definitions_after e) c.args.item view c.deref.result.now c.declares_into.new.list.items
-    c.in-Some.ensures (short_at (definitions_after e) c.args.item view (short_after e c.requires.items.edit)) c.in_ok-declares_into.ensures c.deref.ensures.value (λ name f first here named. each name f (inr first) here named))
+    (λ each. listed_first (IsCovered e (is_waiting c.add_candidates_of.new.queue)) (definitions_after e) c.args.item view c.deref.result.now c.read.new.self.declared.items
+    c.in-Some.ensures (short_at (definitions_after e) c.args.item view (short_after e c.requires.items.edit)) c.in_ok-read.ensures.declared c.deref.ensures.value (λ name f first here named. each name f (inr first) here named))
     c.add_candidates_of.ensures.covered

@@ -10,6 +10,6 @@ returns-clause-covered g c =
     let e = edit_of g.L.CheckedItems.text c.args.items.now in
     let view = view_definition c.in-Some.definition.now in
     on_ok_weaker c.add_candidates_of.result
-    (λ each. listed_first (IsCovered e (is_waiting c.add_candidates_of.new.queue)) e.old c.args.item view c.deref.result.now c.declares_into.new.list.items
-    c.in-Some.ensures (short_at e.old c.args.item view c.requires.edit.short) c.in_ok-declares_into.ensures c.deref.ensures.value (λ name f first here named. each name f (inl first) here named))
+    (λ each. listed_first (IsCovered e (is_waiting c.add_candidates_of.new.queue)) e.old c.args.item view c.deref.result.now c.read.new.self.declared.items
+    c.in-Some.ensures (short_at e.old c.args.item view c.requires.edit.short) c.in_ok-read.ensures.declared c.deref.ensures.value (λ name f first here named. each name f (inl first) here named))
     c.add_candidates_of.ensures.covered

@@ -1,5 +1,5 @@
 use Rattle.std.proofs.Common.{◌≡◌, ◌<◌, ℕ, None, Some, length, map, ap, refl, sym, subst, ◌∙◌}
-use Rattle.x_trees.specs.Named.{view_name}
+use Rattle.x_trees.specs.Collected.{view_name}
 use Rattle.x_trees.specs.View.{view_definition}
 use Rattle.x_trees.specs.View.{tree_at}
 use Rattle.x_rules.specs.Outlined.{IsOutline, outlined}

@@ -1,5 +1,5 @@
 use Rattle.std.proofs.Common.{◌≡◌, ◌++◌, map, drop}
-use Rattle.x_trees.specs.Named.{view_name}
+use Rattle.x_trees.specs.Collected.{view_name}
 use Rattle.x_rules.specs.Found.{duplicates_from}
 use Rattle.x_rules.specs.Tables.{place_seen, seen_by}
 use Rattle.x_rules.proofs.rules.duplicates.add_duplicates.Given as goal

@@ -1,5 +1,5 @@
 use Rattle.std.proofs.Common.{◌≡◌, ◌++◌, map, drop}
-use Rattle.x_trees.specs.Named.{view_name}
+use Rattle.x_trees.specs.Collected.{view_name}
 use Rattle.x_rules.specs.Found.{too_high_faults}
 use Rattle.x_rules.proofs.rules.heights.add_too_high_names.Given as goal
 

@@ -1,6 +1,6 @@
 use Rattle.std.proofs.Common.{◌≡◌, ◌++◌, false, map, drop}
 use Rattle.std.specs.List.{list_any}
-use Rattle.x_trees.specs.Named.{view_name}
+use Rattle.x_trees.specs.Collected.{view_name}
 use Rattle.x_trees.specs.View.{view_definition}
 use Rattle.x_rules.specs.Bodies as outline
 use Rattle.x_rules.specs.Constants.{knowns}

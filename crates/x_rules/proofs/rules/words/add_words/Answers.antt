@@ -1,5 +1,5 @@
 use Rattle.std.proofs.Common.{◌≡◌, ◌+◌, ◌∷◌, ◌++◌, map, drop, ap, sym, ◌∙◌}
-use Rattle.x_rules.specs.Notes.{view_note_at}
+use Rattle.x_trees.specs.Notes.{view_note_at}
 use Rattle.x_rules.specs.Tables.{seen_by}
 use Rattle.x_rules.specs.Found.{fault_at, note_fault}
 use Rattle.x_text.proofs.ListLemmas.{drop_one, drop_none, listed_more, listed_all}

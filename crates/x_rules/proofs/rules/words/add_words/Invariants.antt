@@ -1,7 +1,7 @@
 use Rattle.std.proofs.Common.{◌≡◌, List, ◌++◌, map, drop}
 use Rattle.x_rules.specs.Bodies.{EnumeratorAt}
 use Rattle.x_rules.specs.Constants.{Known}
-use Rattle.x_rules.specs.Notes.{view_note_at}
+use Rattle.x_trees.specs.Notes.{view_note_at}
 use Rattle.x_rules.specs.Tables.{HasNumbers, seen_by}
 use Rattle.x_rules.specs.Found.{note_faults}
 use Rattle.x_rules.proofs.rules.words.add_words.Given as goal

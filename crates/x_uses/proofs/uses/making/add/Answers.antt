@@ -1,7 +1,7 @@
 use Rattle.std.proofs.Common.{map, ap, ◌∙◌}
 use Rattle.std.proofs.lemmas.Result.{on_ok_weaker}
 use Rattle.x_trees.specs.View.{view_definition}
-use Rattle.x_trees.specs.Named.{view_name}
+use Rattle.x_trees.specs.Collected.{view_name}
 use Rattle.x_trees.specs.Collected.{view_mention}
 use Rattle.x_uses.proofs.NotedLaws.{item_noted}
 use Rattle.x_uses.proofs.uses.making.add.Goals as goal
@@ -10,5 +10,5 @@ pub returns : goal.returns
 returns c =
     on_ok_weaker c.add_mentioned.result
     (λ more short. item_noted c.args.table.now.entries c.add_declared.new.table.entries c.add_mentioned.new.table.entries c.args.item (view_definition c.args.definition.now) c.deref.result.now c.deref-2.result.now
-    (ap (map view_name) c.deref.ensures.value ∙ c.in_ok-declares_into.ensures short) (ap (map view_mention) c.deref-2.ensures.value ∙ c.in_ok-mentions_into.ensures short) c.in_ok-add_declared.ensures more)
+    (ap (map view_name) c.deref.ensures.value ∙ c.in_ok-read.ensures.declared short) (ap (map view_mention) c.deref-2.ensures.value ∙ c.in_ok-read.ensures.mentioned short) c.in_ok-add_declared.ensures more)
     c.add_mentioned.ensures

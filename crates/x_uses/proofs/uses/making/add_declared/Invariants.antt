@@ -2,7 +2,7 @@ use Rattle.std.proofs.Common.{map, take}
 use Rattle.std.specs.List.{list_any}
 use Rattle.std.specs.Cow.{cow_slice_items}
 use Rattle.std.specs.Str.{bytes_eq}
-use Rattle.x_trees.specs.Named.{view_name}
+use Rattle.x_trees.specs.Collected.{view_name}
 use Rattle.x_names.specs.Declarers.{place_of_name}
 use Rattle.x_uses.specs.Slots.{Notes}
 use Rattle.x_uses.proofs.uses.making.add_declared.Given as goal

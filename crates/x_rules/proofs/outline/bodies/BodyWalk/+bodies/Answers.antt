@@ -2,7 +2,7 @@ use Rattle.std.proofs.Common.{◌≡◌, ◌+◌, ◌∷◌, drop, map, length, 
 use Rattle.std.proofs.lemmas.List.{drop_all, drop_more}
 use Rattle.std.proofs.lemmas.Result.{on_ok_weaker}
 use Rattle.x_trees.specs.Tree.{Variable, Enum, Struct, Union}
-use Rattle.x_trees.specs.Named.{star}
+use Rattle.x_rules.specs.Bodies.{star}
 use Rattle.x_trees.specs.Spell.{spell_basic, spell_length, spell_enumerators}
 use Rattle.x_trees.specs.View.{view_type, view_length, view_most, view_shape, view_body, view_enumerator, view_value, view_declaration, view_declarations, view_arms, view_default}
 use Rattle.x_trees.specs.declared.trees.declaration.Body.TheViews.{out-UnionBody}
