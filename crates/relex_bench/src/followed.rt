@@ -40,7 +40,8 @@ impl Followed {
         Followed { text, tokens }
     }
 
-    /// Types another digit over the byte at the place. `None` where the text has no such place or memory ran out.
+    /// Types another digit over the byte at the place. `None` where the text has no such place or memory ran
+    /// out.
     pub(crate) fn type_over(&mut self, rt: &HostRuntime, at: usize) -> io::Result<Option<Step>> {
         let bytes = self.text.bytes();
         if at >= bytes.len() {

@@ -1,5 +1,5 @@
-//! `relex_bench FILE` times the lexing of a file, and then the relexing of one byte typed at several places of it. Without
-//! arguments it does nothing.
+//! `relex_bench FILE` times the lexing of a file, and then the relexing of one byte typed at several places
+//! of it. Without arguments it does nothing.
 #![tactic(auto)]
 
 mod followed;
@@ -15,7 +15,8 @@ use x_text::{MAX_TEXT, Meter, Source};
 /// How often a byte is typed at one place to find the time of one.
 const ROUNDS: u64 = 1000;
 
-/// The bytes of a line of the files that `bench/relex` makes, and the place of the digit in it that is typed over.
+/// The bytes of a line of the files that `bench/relex` makes, and the place of the digit in it that is typed
+/// over.
 const LINE: usize = 26;
 
 const DIGIT: usize = 17;

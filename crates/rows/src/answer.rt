@@ -8,7 +8,8 @@ use std::fmt::Write;
 use x_cutting::Items;
 use x_text::NoMemory;
 
-/// The answer of a case: `bad case` where it can't be read, and `differs` where what should be the same is not.
+/// The answer of a case: `bad case` where it can't be read, and `differs` where what should be the same is
+/// not.
 pub(crate) fn answer(alloc: Global, case: &str) -> Result<String, NoMemory> {
     match answer_case(alloc, case) {
         Ok(answer) => Ok(answer),

@@ -1,8 +1,8 @@
-//! `rows`: reads a table, a case a line, and prints each line with the answer of its case: a table that holds the right answers is
-//! printed as it is.
+//! `rows`: reads a table, a case a line, and prints each line with the answer of its case: a table that holds
+//! the right answers is printed as it is.
 //!
-//! An empty line, and one that begins with `#`, is printed as it is. Of any other the part before the last ` => ` is the case, or all
-//! of it where there is none.
+//! An empty line, and one that begins with `#`, is printed as it is. Of any other the part before the last `
+//! => ` is the case, or all of it where there is none.
 #![tactic(auto)]
 
 mod answer;

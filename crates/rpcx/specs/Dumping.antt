@@ -1,5 +1,6 @@
 -- What a run of `rpcdump` does with the bytes of its file.
-use Rattle.std.specs.Prelude.{◌≡◌, ◌≢◌, ◌⊎◌, ◌<◌, ◌≤◌, ℕ, Bool, true, false, List, [], ◌++◌, length, Option, Some, None, MatchOption, Result, Ok, Err, codes, option_map, unwrap_or}
+use Rattle.std.specs.Prelude.{◌≡◌, ◌≢◌, ◌⊎◌, ◌<◌, ◌≤◌, ℕ, Bool, true, false, List, [], ◌++◌, length, Option}
+use Rattle.std.specs.Prelude.{Some, None, MatchOption, Result, Ok, Err, codes, option_map, unwrap_or}
 use Rattle.std.specs.Io.KnownBytes.{Consumes, IsAtEnd}
 use Rattle.x_text.specs.Streams.{Stream}
 use Rattle.x_text.specs.Limits.{most_text}
@@ -20,7 +21,8 @@ use Rattle.rpcx.specs.Course.{Course, IsIdle}
 use Rattle.rpcx.specs.Generate.{NotOpened, stop_told, told_faults}
 use Rattle.x_args.specs.Telling.{IsTold}
 use Rattle.rpcx.specs.declared.program.dumping.Halt.{Halt}
-use Rattle.rpcx.specs.declared.program.dumping.Halt.TheVariants.{NoType, Unread, TooLarge, NoRoom, Ended, Unwritten}
+use Rattle.rpcx.specs.declared.program.dumping.Halt.TheVariants.{NoType, Unread, TooLarge, NoRoom, Ended}
+use Rattle.rpcx.specs.declared.program.dumping.Halt.TheVariants.{Unwritten}
 use Rattle.x_args.specs.declared.dumping_args.DumpArgs.{DumpArgs}
 use Rattle.x_args.specs.declared.dumping_args.Mode.{Mode}
 use Rattle.x_args.specs.declared.dumping_args.Mode.TheVariants as modes
@@ -48,13 +50,18 @@ pub record IsFaultless (text : List ℕ) : Type 0 where
 
 -- the text is one that can be compiled, and has faults of which this holds
 abbrev pub HasFaults : List ℕ → (List Fault → Type 0) → Type 0
-HasFaults text P = (length text ≤ most_text) × Compiles text (λ items. (0 < length (faults_of text items)) × P (faults_of text items))
+HasFaults text P =
+    (length text ≤ most_text)
+    × Compiles text (λ items. (0 < length (faults_of text items)) × P (faults_of text items))
 
 -- the text has no fault, and these are its types
 abbrev pub HasTypes : List ℕ → Schema → Type 0
-HasTypes text s = (length text ≤ most_text) × Compiles text (λ items. (faults_of text items ≡ []) × IsSchemaOf (definitions_of items) s)
+HasTypes text s =
+    (length text ≤ most_text)
+    × Compiles text (λ items. (faults_of text items ≡ []) × IsSchemaOf (definitions_of items) s)
 
--- What opening the types of a text comes to: there are such; or its faults were told, or why it is not opened.
+-- What opening the types of a text comes to: there are such; or its faults were told, or why it is not
+-- opened.
 abbrev pub Opens : (file text : List ℕ) → (before after : Stream) → Result Schema Status → Type 0
 Opens file text before after (Ok s) = HasTypes text s
 Opens file text before after (Err Faulty) = HasFaults text (λ all. IsTold before after (told_faults file all))
@@ -70,16 +77,21 @@ pub record IsRead (bytes : List ℕ) (left : Option (List ℕ)) : Type 0 where
   pub none_left : left ≡ Some []
 
 -- the text of a value of the named type was written
-abbrev pub WritesNamed : Schema → (type bytes : List ℕ) → (before after : Stream) → Result Outcome EngineFault → Type 0
-WritesNamed s type bytes before after result = (id : TypeId) × (id_named s type ≡ Some id) × WritesValue s id bytes before after result
+abbrev pub WritesNamed : Schema → (type bytes : List ℕ) → (before after : Stream)
+    → Result Outcome EngineFault → Type 0
+WritesNamed s type bytes before after result =
+    (id : TypeId) × (id_named s type ≡ Some id) × WritesValue s id bytes before after result
 
--- What is written of these bytes, of which the file has `left` then: as a stream; or whole, as one message or as one
--- value of the named type.
-abbrev pub Shows : Mode → (type : List ℕ) → Schema → (bytes : List ℕ) → (left : Option (List ℕ)) → (before after : Stream)
+-- What is written of these bytes, of which the file has `left` then: as a stream; or whole, as one message or
+-- as one value of the named type.
+abbrev pub Shows : Mode → (type : List ℕ) → Schema → (bytes : List ℕ) → (left : Option (List ℕ))
+    → (before after : Stream)
     → Result Outcome EngineFault → Type 0
 Shows modes.Stream type s bytes left before after result = DumpsStream s bytes left before after result
-Shows modes.Message type s bytes left before after result = IsRead bytes left × DumpsMessage s bytes before after result
-Shows modes.Value type s bytes left before after result = IsRead bytes left × WritesNamed s type bytes before after result
+Shows modes.Message type s bytes left before after result =
+    IsRead bytes left × DumpsMessage s bytes before after result
+Shows modes.Value type s bytes left before after result =
+    IsRead bytes left × WritesNamed s type bytes before after result
 
 -- the same of a file, where it tells its bytes
 abbrev pub ShowsFile : Mode → (type : List ℕ) → Schema → Course → Result Outcome EngineFault → Type 0
@@ -108,9 +120,11 @@ pub record ReadsAll (bytes : List ℕ) (file file' : Stream) : Type 0 where
 
 -- a file is read on: some bytes came behind those that were there, or none is left
 abbrev pub ReadsOn : (old new : List ℕ) → (file file' : Stream) → Result Bool Halt → Type 0
-ReadsOn old new file file' (Ok true) = (more : List ℕ) × (new ≡ old ++ more) × (0 < length more) × Consumes file.bytes file'.bytes more
+ReadsOn old new file file' (Ok true) =
+    (more : List ℕ) × (new ≡ old ++ more) × (0 < length more) × Consumes file.bytes file'.bytes more
     × (file'.failed ≡ file.failed)
-ReadsOn old new file file' (Ok false) = (new ≡ old) × Consumes file.bytes file'.bytes [] × IsAtEnd file'.bytes × (file'.failed ≡ file.failed)
+ReadsOn old new file file' (Ok false) =
+    (new ≡ old) × Consumes file.bytes file'.bytes [] × IsAtEnd file'.bytes × (file'.failed ≡ file.failed)
 ReadsOn old new file file' (Err halt) = StopsAt file file' halt
 
 -- the reading of a file as a whole stopped, and nothing of it was shown
@@ -123,8 +137,10 @@ pub record StopsReading (mode : Mode) (c : Course) (halt : Halt) : Type 0 where
 abbrev pub Halts : Mode → (type : List ℕ) → Schema → Course → Halt → Type 0
 Halts mode type s c NoType = (mode ≡ modes.Value) × (id_named s type ≡ None) × IsIdle c
 Halts mode type s c (Ended fault) =
-    ShowsFile mode type s c (Err fault) × NamesCause (Err fault) c.file.failed c.file'.failed c.out.failed c.out'.failed
-Halts mode type s c Unwritten = ((outcome : Outcome) × ShowsFile mode type s c (Ok outcome)) × (c.out'.failed ≡ true)
+    ShowsFile mode type s c (Err fault)
+    × NamesCause (Err fault) c.file.failed c.file'.failed c.out.failed c.out'.failed
+Halts mode type s c Unwritten =
+    ((outcome : Outcome) × ShowsFile mode type s c (Ok outcome)) × (c.out'.failed ≡ true)
 Halts mode type s c halt = StopsReading mode c halt
 
 -- and what is told of it
@@ -143,7 +159,8 @@ Goes mode type s c (Err halt) = Halts mode type s c halt
 
 -- A file is shown to its end, and the output works, or it is not.
 abbrev pub Ends : Mode → (type : List ℕ) → Schema → Course → Result Outcome Halt → Type 0
-Ends mode type s c (Ok outcome) = ShowsFile mode type s c (Ok outcome) × (c.file'.failed ≡ c.file.failed) × (c.out'.failed ≡ false)
+Ends mode type s c (Ok outcome) =
+    ShowsFile mode type s c (Ok outcome) × (c.file'.failed ≡ c.file.failed) × (c.out'.failed ≡ false)
 Ends mode type s c (Err halt) = Halts mode type s c halt
 
 -- ---- a run
@@ -152,16 +169,20 @@ Ends mode type s c (Err halt) = Halts mode type s c halt
 abbrev pub HasShown : Mode → (type text : List ℕ) → Course → Outcome → Type 0
 HasShown mode type text c outcome = (s : Schema) × HasTypes text s × Ends mode type s c (Ok outcome)
 
--- Why a run is not carried out, as it is told: the schema's text is not opened, or memory ran out over its types; or
--- the file is not shown to its end.
-pub data NotDumped (args : DumpArgs) (mode : Mode) (text : List ℕ) (c : Course) (before after : Stream) : Type 0 where
-  unopened : NotOpened (codes "rpcdump") (schema_name args) text before after → IsIdle c → NotDumped args mode text c before after
-  untyped : IsFaultless text → IsTold before after (codes "rpcdump: out of memory\n") → IsIdle c → NotDumped args mode text c before after
+-- Why a run is not carried out, as it is told: the schema's text is not opened, or memory ran out over its
+-- types; or the file is not shown to its end.
+pub data NotDumped (args : DumpArgs) (mode : Mode) (text : List ℕ) (c : Course)
+    (before after : Stream) : Type 0 where
+  unopened : NotOpened (codes "rpcdump") (schema_name args) text before after → IsIdle c
+      → NotDumped args mode text c before after
+  untyped : IsFaultless text → IsTold before after (codes "rpcdump: out of memory\n") → IsIdle c
+      → NotDumped args mode text c before after
   halted : (s : Schema) → HasTypes text s → (halt : Halt) → Halts mode (type_asked args) s c halt
-      → IsTold before after (halt_told (type_asked args) args.file.now halt) → NotDumped args mode text c before after
+      → IsTold before after (halt_told (type_asked args) args.file.now halt)
+      → NotDumped args mode text c before after
 
--- A run that ends with this status: the file was shown to its end without a fault; or the schema's text has faults,
--- which were told, or what was shown has one; or the run was not carried out.
+-- A run that ends with this status: the file was shown to its end without a fault; or the schema's text has
+-- faults, which were told, or what was shown has one; or the run was not carried out.
 abbrev pub HasDumped : DumpArgs → Mode → (text : List ℕ) → Course → (before after : Stream) → Status → Type 0
 HasDumped args mode text c before after Done = HasShown mode (type_asked args) text c Clean × (after ≡ before)
 HasDumped args mode text c before after Faulty =

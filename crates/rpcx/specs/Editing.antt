@@ -17,8 +17,8 @@ use Rattle.rpcx.specs.Generate.{base_of, stop_told, NotOpened}
 abbrev pub status_of : Bool → Status
 status_of refused = if refused then Faulty else Done
 
--- A run over a text answers the script: where its status tells of no fault, the sink has the answers of all lines, and the status says
--- whether one was refused.
+-- A run over a text answers the script: where its status tells of no fault, the sink has the answers of all
+-- lines, and the status says whether one was refused.
 abbrev pub Answers : (script base text : List ℕ) (before after : Stream) (status : Status) → Type 0
 Answers script base text before after status =
     (refused : Bool) → status ≡ status_of refused → (old new : Document) × IsOpenOf old base text
@@ -30,8 +30,8 @@ abbrev pub EndsEarly : (script : List ℕ) (left : Option (List ℕ)) (base text
 EndsEarly script left base text before after fault =
     (old new : Document) × IsOpenOf old base text × Runs script left old new before after (Err fault)
 
--- This fault ends the run of a script over a text: it names what has failed, and where the script is known the sink
--- has what its run says of the fault.
+-- This fault ends the run of a script over a text: it names what has failed, and where the script is known
+-- the sink has what its run says of the fault.
 pub record EndsBy (fault : EngineFault) (base text : List ℕ) (c : Course) : Type 0 where
   pub cause : NamesCause (Err fault) c.file.failed c.file'.failed c.out.failed c.out'.failed
   pub run : MatchOption c.file.bytes (Unit {0})
@@ -43,8 +43,8 @@ IsStopped base text c before after =
     (fault : EngineFault) × EndsBy fault base text c
     × IsTold before after (stop_told (codes "rpcedit") (codes "-") fault)
 
--- Why `rpcedit` does not carry a script out to its end on a file's text that it can read, as it tells it: the text is
--- not opened, and then nothing is read and nothing is written; or a fault ends the run.
+-- Why `rpcedit` does not carry a script out to its end on a file's text that it can read, as it tells it: the
+-- text is not opened, and then nothing is read and nothing is written; or a fault ends the run.
 pub data NotRun (file text : List ℕ) (c : Course) (before after : Stream) : Type 0 where
   unopened : NotOpened (codes "rpcedit") file text before after → IsIdle c → NotRun file text c before after
   stopped : length text ≤ most_text → IsStopped (base_of file) text c before after

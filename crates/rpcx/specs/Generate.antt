@@ -21,7 +21,8 @@ use Rattle.x_args.specs.declared.status.Status.TheVariants.{Faulty, Failed}
 
 -- a name without a final `.x`
 abbrev pub without_x : List ℕ → List ℕ
-without_x name = if bytes_eq (drop (length name - 2) name) (codes ".x") then take (length name - 2) name else name
+without_x name =
+    if bytes_eq (drop (length name - 2) name) (codes ".x") then take (length name - 2) name else name
 
 -- the name that generated texts use: that of the file, behind its last `/`
 abbrev pub base_of : List ℕ → List ℕ
@@ -40,11 +41,14 @@ abbrev pub unopened_told : List ℕ → List ℕ → TextFault → List ℕ
 unopened_told program file faults.TooLarge = program ++ codes ": " ++ file ++ codes ": 2 TooLarge\n"
 unopened_told program file fault = told_of program (codes "out of memory")
 
--- Why a program opens no session of a file's text that it can read, as it tells it: the text is too large, or memory ran out. A text
--- with faults has them told.
+-- Why a program opens no session of a file's text that it can read, as it tells it: the text is too large, or
+-- memory ran out. A text with faults has them told.
 pub data NotOpened (program file text : List ℕ) (before after : Stream) : Type 0 where
-  TooLarge : most_text < length text → IsTold before after (program ++ codes ": " ++ file ++ codes ": 2 TooLarge\n") → NotOpened program file text before after
-  NoRoom : length text ≤ most_text → IsTold before after (told_of program (codes "out of memory")) → NotOpened program file text before after
+  TooLarge : most_text < length text
+      → IsTold before after (program ++ codes ": " ++ file ++ codes ": 2 TooLarge\n")
+      → NotOpened program file text before after
+  NoRoom : length text ≤ most_text → IsTold before after (told_of program (codes "out of memory"))
+      → NotOpened program file text before after
 
 -- What opening the text of a file for a run of a program comes to: a session of a text without faults, or the
 -- status of a run that does not go on, which was told why.

@@ -1,5 +1,5 @@
-//! `value_bench SCHEMA TYPE MESSAGE` times the reading of a message as a value of a type of a `.x` file. Without arguments it does
-//! nothing.
+//! `value_bench SCHEMA TYPE MESSAGE` times the reading of a message as a value of a type of a `.x` file.
+//! Without arguments it does nothing.
 #![tactic(auto)]
 
 ghost use Rattle.x_schema.specs.Schema.{IsTypeId};
@@ -25,7 +25,8 @@ fn read(rt: &HostRuntime, file: &str) -> io::Result<Vec<u8>> {
     Ok(bytes)
 }
 
-/// Reads the message again and again, and prints the least time and how many nodes there are. The id is one of the schema's.
+/// Reads the message again and again, and prints the least time and how many nodes there are. The id is one
+/// of the schema's.
 fn time(rt: &HostRuntime, schema: &Schema, id: TypeId, message: &[u8]) -> io::Result<()>
     requires { IsTypeId schema.now id }
 {

@@ -88,7 +88,8 @@ plain_app name = with_rule (with_rule (bare_app name) help_rule) version_rule
 
 -- the four letters of `rpcgen` behind what a command knows
 abbrev pub with_letters : App → App
-with_letters app = with_rule (with_rule (with_rule (with_rule app routines_rule) header_rule) stubs_rule) table_rule
+with_letters app =
+    with_rule (with_rule (with_rule (with_rule app routines_rule) header_rule) stubs_rule) table_rule
 
 -- `rpcgen [--help] [--version] [-c] [-h] [-l] [-t] [-o OUT] FILE`
 unfoldable pub gen_app : App
@@ -108,7 +109,9 @@ type_rule = valued_rule (codes "type") (slice_get (codes "t") 0)
 
 -- `rpcdump [--help] [--version] [-x SCHEMA] [-b] [-t TYPE] FILE`
 unfoldable pub dump_app : App
-dump_app = with_rule (with_rule (with_rule (with_rule (plain_app (codes "rpcdump")) schema_rule) bare_rule) type_rule) file_rule
+dump_app = with_rule
+    (with_rule (with_rule
+    (with_rule (plain_app (codes "rpcdump")) schema_rule) bare_rule) type_rule) file_rule
 
 -- `rpcedit [--help] [--version] FILE`
 unfoldable pub edit_app : App
@@ -181,7 +184,8 @@ if_asked false which = []
 -- the texts that the letters ask for
 abbrev pub asked_by : GenArgs → List Which
 asked_by args =
-    if_asked args.routines Routines ++ if_asked args.header Header ++ if_asked args.stubs Stubs ++ if_asked args.table Table
+    if_asked args.routines Routines ++ if_asked args.header Header ++ if_asked args.stubs Stubs
+    ++ if_asked args.table Table
 
 -- the text of a list that has one
 abbrev pub only_of : List Which → Option Which

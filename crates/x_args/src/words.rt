@@ -9,8 +9,8 @@ use std::env;
 use std::io::ErrorKind;
 use x_text::Sink;
 
-/// The words of the command line. Where there are none to be had it tells why, behind the name of the program,
-/// and answers `Failed`.
+/// The words of the command line. Where there are none to be had it tells why, behind the name of the
+/// program, and answers `Failed`.
 pub fn read_words<E: Sink>(
     rt: &HostRuntime,
     program: &str,

@@ -1,5 +1,5 @@
--- Cutting as a function of a running depth, which the program computes. That it gives the items that the definition speaks of is
--- proved; nothing but private functions cites it.
+-- Cutting as a function of a running depth, which the program computes. That it gives the items that the
+-- definition speaks of is proved; nothing but private functions cites it.
 use Rattle.std.specs.Prelude.{ℕ, ◌+◌, ◌-◌, Bool, false, List, [], ◌∷◌, map, cond, ◌==◌}
 use Rattle.x_lex.specs.declared.kind.Kind.{Kind}
 use Rattle.x_lex.specs.Places.{Lexeme, lexemes}
@@ -45,4 +45,5 @@ ends_at d role = false
 -- how many tokens each item has, where at this depth n tokens of the first have gone by
 abbrev pub counts_from : ℕ → ℕ → List DepthRole → List ℕ
 counts_from d n [] = n ∷ []
-counts_from d n (r ∷ rs) = cond (ends_at d r) ((n + 1) ∷ counts_from 0 0 rs) (counts_from (depth_after d r) (n + 1) rs)
+counts_from d n (r ∷ rs) =
+    cond (ends_at d r) ((n + 1) ∷ counts_from 0 0 rs) (counts_from (depth_after d r) (n + 1) rs)

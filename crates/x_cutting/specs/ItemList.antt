@@ -31,6 +31,7 @@ pub record AreOfText (cs : List ℕ) : Type 0 where
   pub few : length cs ≤ MAX_TEXT + 1
   pub short : total cs ≤ MAX_TEXT
 
--- fresh items in place of `removed` old ones from index `at` on; `start` is the index of the first token of the first of them
+-- fresh items in place of `removed` old ones from index `at` on; `start` is the index of the first token of
+-- the first of them
 abbrev pub ItemChange : Type 0 → Type 0
 ItemChange K = Patch (Entry K)

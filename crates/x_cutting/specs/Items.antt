@@ -1,5 +1,6 @@
 -- How the tokens of a text are written as items.
-use Rattle.std.specs.Prelude.{◌≡◌, ℕ, ◌-◌, max, Bool, true, false, IsTrue, List, [], ◌∷◌, ◌++◌, count_by, length, map}
+use Rattle.std.specs.Prelude.{◌≡◌, ℕ, ◌-◌, max, Bool, true, false, IsTrue, List, [], ◌∷◌, ◌++◌, count_by}
+use Rattle.std.specs.Prelude.{length, map}
 use Rattle.std.specs.List.{flat_map}
 use Rattle.std.specs.Str.{bytes_eq}
 use Rattle.x_lex.specs.declared.kind.Kind.{Kind}
@@ -39,7 +40,8 @@ pub record Ends (front : List Lexeme) (t : Lexeme) : Type 0 where
 
 -- no token ends an item
 pub record HasNoEnd (part : List Lexeme) : Type 0 where
-  pub never : (front : List Lexeme) (t : Lexeme) (rear : List Lexeme) → part ≡ front ++ t ∷ rear → Ends front t → ⊥
+  pub never : (front : List Lexeme) (t : Lexeme) (rear : List Lexeme) → part ≡ front ++ t ∷ rear
+      → Ends front t → ⊥
 
 -- the last token ends the item, and none before it does
 pub record IsWhole (item : List Lexeme) : Type 0 where

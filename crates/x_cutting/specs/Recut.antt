@@ -1,5 +1,6 @@
--- What a change of a text leaves of its items. It compares the items of two texts, each cut from its start: `ts` are the tokens of
--- the old text and `cs` says how many of them each item has; `us` and `ds` are those of the text that the change leaves.
+-- What a change of a text leaves of its items. It compares the items of two texts, each cut from its start:
+-- `ts` are the tokens of the old text and `cs` says how many of them each item has; `us` and `ds` are those
+-- of the text that the change leaves.
 use Rattle.std.specs.Prelude.{◌≡◌, ℕ, ◌+◌, ◌<◌, ◌≤◌, ◌↔◌, List, length, Option, None, Some, option_map}
 use Rattle.x_text.specs.Edits.{Change, edited_by, LiesWithin}
 use Rattle.x_lex.specs.declared.kind.Kind.{Kind}
@@ -11,8 +12,10 @@ use Rattle.x_cutting.specs.Items.{IsCut}
 use Rattle.x_cutting.specs.ItemList.{ItemChange, patched, LiesAmong, tokens_before, counts}
 use Rattle.x_cutting.specs.declared.cutting.entry.Entry.{Entry}
 
--- the old text has these tokens, they are cut so, and the patch is what the change, which makes `new` of it, does to them
-pub record IsRelexed (change : Change) (new : List ℕ) (ts : List (Kind × ℕ)) (cs : List ℕ) (fresh : TokenPatch) : Type 0 where
+-- the old text has these tokens, they are cut so, and the patch is what the change, which makes `new` of it,
+-- does to them
+pub record IsRelexed (change : Change) (new : List ℕ) (ts : List (Kind × ℕ)) (cs : List ℕ)
+    (fresh : TokenPatch) : Type 0 where
   pub within : LiesWithin change
   pub edited : new ≡ edited_by change
   pub tokens : AreTokens change.old ts
@@ -49,7 +52,8 @@ pub record Rejoins (change : Change) (ts us : List (Kind × ℕ)) (cs ds : List 
 -- the least place that rejoins, if there is one
 abbrev pub IsRejoining : Change → (ts us : List (Kind × ℕ)) (cs ds : List ℕ) (q : ℕ) → Option ℕ → Type 0
 IsRejoining change ts us cs ds q None = (other : ℕ) → Rejoins change ts us cs ds q other → ⊥
-IsRejoining change ts us cs ds q (Some z) = Rejoins change ts us cs ds q z × ((other : ℕ) → other < z → Rejoins change ts us cs ds q other → ⊥)
+IsRejoining change ts us cs ds q (Some z) =
+    Rejoins change ts us cs ds q z × ((other : ℕ) → other < z → Rejoins change ts us cs ds q other → ⊥)
 
 -- the place is z or behind it, where there is a z
 abbrev pub IsBehind : Option ℕ → ℕ → Type 0
@@ -66,9 +70,10 @@ pub record IsAmong (i at end : ℕ) : Type 0 where
   pub from : at ≤ i
   pub to : i < end
 
--- the patch leaves the items of the new text; its fresh items are those that are recut; and of the old items it leaves those
--- that end before a, in front, and those that start at the old place of z or behind it
-pub record IsItemPatch {K : Type 0} (change : Change) (ts us : List (Kind × ℕ)) (items : List (Entry K)) (patch : ItemChange K) : Type 0 where
+-- the patch leaves the items of the new text; its fresh items are those that are recut; and of the old items
+-- it leaves those that end before a, in front, and those that start at the old place of z or behind it
+pub record IsItemPatch {K : Type 0} (change : Change) (ts us : List (Kind × ℕ)) (items : List (Entry K))
+    (patch : ItemChange K) : Type 0 where
   pub among : LiesAmong items patch
   pub start : patch.start ≡ tokens_before (counts items) patch.at
   pub cut : IsCut (lexemes (edited_by change) us) (counts (patched items patch))
@@ -76,9 +81,13 @@ pub record IsItemPatch {K : Type 0} (change : Change) (ts us : List (Kind × ℕ
   pub meeting : IsMeeting change ts us place
   pub join : Option ℕ
   pub rejoining : IsRejoining change ts us (counts items) (counts (patched items patch)) place join
-  pub fresh : (i : ℕ) → i < length (patched items patch) → IsAmong i patch.at (patch.at + length patch.fresh) ↔ IsRecut us (counts (patched items patch)) change.start join i
+  pub fresh : (i : ℕ) → i < length (patched items patch)
+      → IsAmong i patch.at (patch.at + length patch.fresh) ↔ IsRecut us
+      (counts (patched items patch)) change.start join i
   pub front : (i : ℕ) → i < length items → (i < patch.at) ↔ EndsBefore ts (counts items) change.start i
-  pub rear : (i : ℕ) → i < length items → (patch.at + patch.removed ≤ i) ↔ IsBehind (option_map (old_place change) join) (start_of ts (counts items) i)
+  pub rear : (i : ℕ) → i < length items
+      → (patch.at + patch.removed ≤ i) ↔ IsBehind (option_map (old_place change) join)
+      (start_of ts (counts items) i)
 
 -- the two patches take out and put in the same items, whatever is kept with them
 pub record AreOne {K : Type 0} (p q : ItemChange K) : Type 0 where

@@ -1,4 +1,5 @@
-//! How the tokens of a `.x` file are cut into items ([`cut`]), and what an edit does to the items ([`recut`]).
+//! How the tokens of a `.x` file are cut into items ([`cut`]), and what an edit does to the items
+//! ([`recut`]).
 #![tactic(auto)]
 
 mod cutting;

@@ -1,5 +1,5 @@
-//! What is generated of a definition that has no fault, in C ([`render`]). The four texts of a whole `.x` file ([`write_text`]) and what
-//! they are made of (`x_pieces`) are offered here too.
+//! What is generated of a definition that has no fault, in C ([`render`]). The four texts of a whole `.x`
+//! file ([`write_text`]) and what they are made of (`x_pieces`) are offered here too.
 #![tactic(auto)]
 
 mod rendering;

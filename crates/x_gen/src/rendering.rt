@@ -36,7 +36,8 @@ impl Renderer {
     }
 }
 
-/// What is generated of a definition, which checking found without a fault. Who has many takes a [`Renderer`].
+/// What is generated of a definition, which checking found without a fault. Who has many takes a
+/// [`Renderer`].
 pub fn render(alloc: Global, definition: &Definition, checked: &Checked) -> Result<Pieces, NoMemory>
     ensures { IfOk result (λ pieces. pieces ≡ pieces_of (view_definition definition.now)) }
 {

@@ -1,5 +1,6 @@
 -- What the functions of the parser say.
-use Rattle.std.specs.Prelude.{◌≡◌, ◌≢◌, ℕ, suc, ◌+◌, ◌-◌, ◌≤◌, ◌<◌, List, [], ◌∷◌, ◌++◌, Result, Ok, Err, map, length, if◌then◌else◌}
+use Rattle.std.specs.Prelude.{◌≡◌, ◌≢◌, ℕ, suc, ◌+◌, ◌-◌, ◌≤◌, ◌<◌, List, [], ◌∷◌, ◌++◌, Result, Ok, Err, map}
+use Rattle.std.specs.Prelude.{length, if◌then◌else◌}
 use Rattle.x_lex.specs.Places.{Lexeme, lexeme}
 use Rattle.x_lex.specs.declared.token.Token.{Token}
 use Rattle.x_trees.specs.Words.{Word, Fixed, Name, Number, Other, word_of, words_of, is_significant}
@@ -67,7 +68,8 @@ words_at ps = map (λ p. p.word) ps
 abbrev pub read : List Symbol → List Place → Result (List Place) ParseError
 read [] ps = Ok ps
 read (s ∷ ss) [] = Err errors.AtEnd
-read (s ∷ ss) (p ∷ ps) = go (step s p.word) (λ symbols. read (symbols ++ ss) ps) (Err (errors.Stuck p.left p.code))
+read (s ∷ ss) (p ∷ ps) =
+    go (step s p.word) (λ symbols. read (symbols ++ ss) ps) (Err (errors.Stuck p.left p.code))
 
 -- reading stops where the error says
 abbrev pub IsAt : ParseError → Result (List Place) ParseError → Type 0
@@ -79,9 +81,10 @@ IsAt (errors.Stuck left code) r = r ≡ Err (errors.Stuck left code)
 pub record Fails (from : List Symbol) (tokens : List Token) (e : ParseError) : Type 0 where
   pub by : (ss : List Symbol) → IsAt e (read (from ++ ss) (ahead tokens))
 
--- A part was read after the words `before`: with them it is spelled by `words`, reading by the symbols `from` comes to the symbols
--- `to` at the rest, whatever symbols follow, and the rest is shorter.
-pub record IsRead (before : List Word) (from : List Symbol) (tokens : List Token) (words : List Word) (to : List Symbol)
+-- A part was read after the words `before`: with them it is spelled by `words`, reading by the symbols `from`
+-- comes to the symbols `to` at the rest, whatever symbols follow, and the rest is shorter.
+pub record IsRead (before : List Word) (from : List Symbol) (tokens : List Token) (words : List Word)
+    (to : List Symbol)
     (rest : List Token) : Type 0 where
   pub found : before ++ words_at (ahead tokens) ≡ words ++ words_at (ahead rest)
   pub leads : (ss : List Symbol) → read (from ++ ss) (ahead tokens) ≡ read (to ++ ss) (ahead rest)
@@ -93,7 +96,8 @@ IsPart symbol tokens words rest = IsRead [] (symbol ∷ []) tokens words [] rest
 
 -- a word, and what stands after it
 pub record IsSplit (tokens : List Token) (token : Token) (rest : List Token) : Type 0 where
-  pub all : ahead tokens ≡ record { word = word_of (lexeme token); left = left_in tokens; code = code_in tokens } ∷ ahead rest
+  pub all : ahead tokens
+      ≡ record { word = word_of (lexeme token); left = left_in tokens; code = code_in tokens } ∷ ahead rest
   pub left : left_in tokens ≡ length rest + 1
   pub code : code_in tokens ≡ code_of token.kind
   pub shorter : length rest < length tokens
@@ -125,5 +129,6 @@ spell_arm cases d = spell_cases cases ++ (spell_declaration d ++ Fixed marks.Sem
 -- the item spells no definition, and the error says where it is stuck
 abbrev pub IsRefused : List Lexeme → ParseError → Type 0
 IsRefused item errors.Memory = Unit {0}
-IsRefused item errors.AtEnd = Begins (words_of item) × ((d : Definition) → KeepsLimits d → spell d ≢ words_of item)
+IsRefused item errors.AtEnd =
+    Begins (words_of item) × ((d : Definition) → KeepsLimits d → spell d ≢ words_of item)
 IsRefused item (errors.Stuck left code) = (left ≤ length item) × IsStuck item (length item - left) code

@@ -80,7 +80,8 @@ step_item (Fixed marks.Enum) = Some (AnyName ∷ AnyBody tags.Enum most_inline �
 step_item (Fixed marks.Struct) = Some (AnyName ∷ AnyBody tags.Struct most_inline ∷ Token marks.Semicolon ∷ [])
 step_item (Fixed marks.Union) = Some (AnyName ∷ AnyBody tags.Union most_inline ∷ Token marks.Semicolon ∷ [])
 step_item (Fixed marks.Program) =
-    Some (AnyName ∷ Token marks.OpenBrace ∷ Versions ∷ Token marks.Equals ∷ AnyNumber ∷ Token marks.Semicolon ∷ [])
+    Some (AnyName ∷ Token marks.OpenBrace ∷ Versions ∷ Token marks.Equals ∷ AnyNumber ∷ Token marks.Semicolon
+    ∷ [])
 step_item w = None
 
 abbrev pub step_token : Mark → Word → Option (List Symbol)
@@ -112,7 +113,8 @@ step_after_less (Number t) = Some (Token marks.Greater ∷ [])
 step_after_less w = None
 
 abbrev pub step_after_name : Ending → Word → Option (List Symbol)
-step_after_name e (Fixed marks.OpenBracket) = Some (AnyValue ∷ Token marks.CloseBracket ∷ Token (ending_mark e) ∷ [])
+step_after_name e (Fixed marks.OpenBracket) =
+    Some (AnyValue ∷ Token marks.CloseBracket ∷ Token (ending_mark e) ∷ [])
 step_after_name e (Fixed marks.Less) = Some (AfterLess ∷ Token (ending_mark e) ∷ [])
 step_after_name e w = step_token (ending_mark e) w
 
@@ -181,7 +183,8 @@ step_after_enumerator w = step_more_enumerators w
 abbrev pub step_declared : ℕ → Ending → Word → Option (List Symbol)
 step_declared n e (Fixed marks.Void) = Some (Token (ending_mark e) ∷ [])
 step_declared n e (Fixed marks.Opaque) = Some (AnyName ∷ AnyLength ∷ Token (ending_mark e) ∷ [])
-step_declared n e (Fixed marks.String) = Some (AnyName ∷ Token marks.Less ∷ AfterLess ∷ Token (ending_mark e) ∷ [])
+step_declared n e (Fixed marks.String) =
+    Some (AnyName ∷ Token marks.Less ∷ AfterLess ∷ Token (ending_mark e) ∷ [])
 step_declared n e w = step_typed n (InDeclaration e) w
 
 abbrev pub step_declarations : ℕ → Word → Option (List Symbol)
@@ -200,7 +203,8 @@ step_after_case n (Fixed marks.Case) = Some (AnyValue ∷ Token marks.Colon ∷ 
 step_after_case n w = step_declared n endings.Semicolon w
 
 abbrev pub step_more_arms : ℕ → Word → Option (List Symbol)
-step_more_arms n (Fixed marks.Default) = Some (Token marks.Colon ∷ Declared n endings.Semicolon ∷ Token marks.CloseBrace ∷ [])
+step_more_arms n (Fixed marks.Default) =
+    Some (Token marks.Colon ∷ Declared n endings.Semicolon ∷ Token marks.CloseBrace ∷ [])
 step_more_arms n (Fixed marks.CloseBrace) = Some []
 step_more_arms n w = step_arms n w
 
@@ -219,7 +223,8 @@ step_result w = step_typed most_inline InResult w
 
 abbrev pub step_procedures : Word → Option (List Symbol)
 step_procedures w =
-    followed (Token marks.OpenParenthesis ∷ Parameters ∷ Token marks.Equals ∷ AnyNumber ∷ Token marks.Semicolon ∷ MoreProcedures ∷ []) (step_result w)
+    followed (Token marks.OpenParenthesis ∷ Parameters ∷ Token marks.Equals ∷ AnyNumber
+    ∷ Token marks.Semicolon ∷ MoreProcedures ∷ []) (step_result w)
 
 abbrev pub step_more_procedures : Word → Option (List Symbol)
 step_more_procedures (Fixed marks.CloseBrace) = Some []
@@ -227,7 +232,8 @@ step_more_procedures w = step_procedures w
 
 abbrev pub step_versions : Word → Option (List Symbol)
 step_versions (Fixed marks.Version) =
-    Some (AnyName ∷ Token marks.OpenBrace ∷ Procedures ∷ Token marks.Equals ∷ AnyNumber ∷ Token marks.Semicolon ∷ MoreVersions ∷ [])
+    Some (AnyName ∷ Token marks.OpenBrace ∷ Procedures ∷ Token marks.Equals ∷ AnyNumber
+    ∷ Token marks.Semicolon ∷ MoreVersions ∷ [])
 step_versions w = None
 
 abbrev pub step_more_versions : Word → Option (List Symbol)

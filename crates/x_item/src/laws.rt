@@ -4,8 +4,8 @@ ghost use Rattle.x_trees.specs.Tree.{Definition};
 ghost use Rattle.x_trees.specs.Spell.{spell, KeepsLimits};
 ghost use Rattle.x_item.specs.Parse.{Parse, IsParse};
 
-/// No two definitions that keep the limits have one spelling: none of their bodies and lists of cases is empty, and at most
-/// [`x_trees::MOST_INLINE`] inline bodies stand inside one another.
+/// No two definitions that keep the limits have one spelling: none of their bodies and lists of cases is
+/// empty, and at most [`x_trees::MOST_INLINE`] inline bodies stand inside one another.
 pub fn spell_law()
     ensures { (d e : Definition) → KeepsLimits d → KeepsLimits e → spell d ≡ spell e → d ≡ e }
 {}

@@ -1,5 +1,6 @@
-//! The items of a `.x` file: how an item is parsed ([`parse_item`]). The trees of definitions, their spelling and the names in them
-//! (`x_trees`), and how tokens are cut into items and what an edit does to these (`x_cutting`), are offered here too.
+//! The items of a `.x` file: how an item is parsed ([`parse_item`]). The trees of definitions, their spelling
+//! and the names in them (`x_trees`), and how tokens are cut into items and what an edit does to these
+//! (`x_cutting`), are offered here too.
 #![tactic(auto)]
 
 mod laws;

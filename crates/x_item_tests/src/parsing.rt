@@ -54,7 +54,8 @@ fn text_has_names(
     }
 }
 
-/// Run by itself with each allocation refused in turn: an answer is the wanted one, or tells that memory ran out.
+/// Run by itself with each allocation refused in turn: an answer is the wanted one, or tells that memory ran
+/// out.
 #[test]
 fn sweep_parse_item(rt: HostRuntime) -> Result<(), Fail> {
     let text = b"union u switch (enum { A } d) { case A: struct { int b; } c<2>; default: void; };";

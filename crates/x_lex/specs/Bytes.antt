@@ -1,5 +1,6 @@
 -- The classes of bytes, and what the spelling of a word says of its kind (RFC 4506, section 6.2).
-use Rattle.std.specs.Prelude.{ℕ, Bool, ◌||◌, ◌&&◌, ◌==◌, nat_le, nat_lt, List, [], ◌∷◌, codes, length, drop, slice_index, is_some}
+use Rattle.std.specs.Prelude.{ℕ, Bool, ◌||◌, ◌&&◌, ◌==◌, nat_le, nat_lt, List, [], ◌∷◌, codes, length, drop}
+use Rattle.std.specs.Prelude.{slice_index, is_some}
 use Rattle.std.specs.List.{list_all, prefix_len}
 use Rattle.x_lex.specs.Marks.{mark_of}
 
@@ -57,7 +58,8 @@ is_octal w = slice_index w 0 == 48 && list_all is_octal_digit (drop 1 w)
 
 -- `0x` or `0X`, then one or more hexadecimal digits
 abbrev pub is_hex : List ℕ → Bool
-is_hex w = slice_index w 0 == 48 && (slice_index w 1 == 120 || slice_index w 1 == 88) && nat_lt 2 (length w) && list_all is_hex_digit (drop 2 w)
+is_hex w = slice_index w 0 == 48 && (slice_index w 1 == 120 || slice_index w 1 == 88) && nat_lt 2 (length w)
+    && list_all is_hex_digit (drop 2 w)
 
 -- a number in decimal, octal or hexadecimal form
 unfoldable pub is_number : List ℕ → Bool

@@ -1,5 +1,6 @@
 -- The marks: the words with one spelling each.
-use Rattle.std.specs.Prelude.{ℕ, ◌==◌, List, [], ◌∷◌, Option, Some, None, option_map, map, slice_index, slice_index_or, if◌then◌else◌}
+use Rattle.std.specs.Prelude.{ℕ, ◌==◌, List, [], ◌∷◌, Option, Some, None, option_map, map, slice_index}
+use Rattle.std.specs.Prelude.{slice_index_or, if◌then◌else◌}
 use Rattle.std.specs.List.{find}
 use Rattle.std.specs.Str.{bytes_eq}
 use denote.Enum.Declared.{tag_of}
@@ -55,7 +56,8 @@ keyword (b ∷ bs) =
     if b == 111 then Some marks.Opaque else (
     if b == 112 then Some marks.Program else (
     if b == 113 then Some marks.Quadruple else (
-    if b == 115 then (if slice_index bs 0 == 119 then Some marks.Switch else (if slice_index bs 2 == 105 then Some marks.String else Some marks.Struct)) else (
+    if b == 115 then (if slice_index bs 0 == 119 then Some marks.Switch
+    else (if slice_index bs 2 == 105 then Some marks.String else Some marks.Struct)) else (
     if b == 116 then Some marks.Typedef else (
     if b == 117 then (if slice_index bs 1 == 105 then Some marks.Union else Some marks.Unsigned) else (
     if b == 118 then (if slice_index bs 0 == 101 then Some marks.Version else Some marks.Void) else (

@@ -1,7 +1,9 @@
 -- The names of the kinds of tokens.
 use Rattle.std.specs.Prelude.{ℕ, List, codes}
 use Rattle.x_lex.specs.declared.kind.Kind.{Kind}
-use Rattle.x_lex.specs.declared.kind.Kind.TheVariants.{Space, Comment, OpenComment, Percent, Marker, Directive, Keyword, Name, Number, BadNumber, Punct, BadByte}
+use Rattle.x_lex.specs.declared.kind.Kind.TheVariants.{Space, Comment, OpenComment, Percent, Marker}
+use Rattle.x_lex.specs.declared.kind.Kind.TheVariants.{Directive, Keyword, Name, Number, BadNumber, Punct}
+use Rattle.x_lex.specs.declared.kind.Kind.TheVariants.{BadByte}
 
 -- the name that is printed for the kind
 abbrev pub kind_name : Kind → List ℕ

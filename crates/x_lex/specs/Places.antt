@@ -1,5 +1,6 @@
 -- Tokens at their places in the whole text.
-use Rattle.std.specs.Prelude.{◌≡◌, ℕ, ◌+◌, ◌-◌, ◌<◌, ◌≤◌, ◌==◌, ◌||◌, Bool, List, [], ◌∷◌, All, length, drop, slice_index, slice_range}
+use Rattle.std.specs.Prelude.{◌≡◌, ℕ, ◌+◌, ◌-◌, ◌<◌, ◌≤◌, ◌==◌, ◌||◌, Bool, List, [], ◌∷◌, All, length, drop}
+use Rattle.std.specs.Prelude.{slice_index, slice_range}
 use Rattle.x_lex.specs.declared.kind.Kind.{Kind}
 use Rattle.x_lex.specs.declared.token.Token.{Token}
 use Rattle.x_lex.specs.Word.{IsWord}
@@ -26,7 +27,8 @@ places ts = places_from 0 ts
 
 -- the token at a place of a text
 abbrev pub lexeme_at : List ℕ → Kind × ℕ × ℕ → Lexeme
-lexeme_at text place = record { kind = place.0; start = place.1; end = place.2; text = slice_range text place.1 place.2 }
+lexeme_at text place =
+    record { kind = place.0; start = place.1; end = place.2; text = slice_range text place.1 place.2 }
 
 -- the tokens of a text where they stand, the first of them at `at`
 abbrev pub lexemes_from : List ℕ → ℕ → List (Kind × ℕ) → List Lexeme

@@ -1,10 +1,15 @@
--- The token at a place as a function, which the lexer computes: its class from the first two bytes, and then how far it goes.
--- That it is the token which the words define is proved; nothing but private functions cites it.
-use Rattle.std.specs.Prelude.{ℕ, suc, ◌+◌, ◌==◌, ◌&&◌, Bool, List, [], ◌∷◌, length, take, drop, slice_index, Option, Some, None, if◌then◌else◌}
+-- The token at a place as a function, which the lexer computes: its class from the first two bytes, and then
+-- how far it goes. That it is the token which the words define is proved; nothing but private functions cites
+-- it.
+use Rattle.std.specs.Prelude.{ℕ, suc, ◌+◌, ◌==◌, ◌&&◌, Bool, List, [], ◌∷◌, length, take, drop, slice_index}
+use Rattle.std.specs.Prelude.{Option, Some, None, if◌then◌else◌}
 use Rattle.std.specs.List.{prefix_len}
 use Rattle.x_lex.specs.declared.kind.Kind.{Kind}
-use Rattle.x_lex.specs.declared.kind.Kind.TheVariants.{Space, Comment, OpenComment, Percent, Marker, Directive, Keyword, Name, Number, BadNumber, Punct, BadByte}
-use Rattle.x_lex.specs.Bytes.{is_space, is_digit, is_letter, is_word_byte, is_punct, is_in_line, is_number, is_marker, is_keyword}
+use Rattle.x_lex.specs.declared.kind.Kind.TheVariants.{Space, Comment, OpenComment, Percent, Marker}
+use Rattle.x_lex.specs.declared.kind.Kind.TheVariants.{Directive, Keyword, Name, Number, BadNumber, Punct}
+use Rattle.x_lex.specs.declared.kind.Kind.TheVariants.{BadByte}
+use Rattle.x_lex.specs.Bytes.{is_space, is_digit, is_letter, is_word_byte, is_punct, is_in_line, is_number}
+use Rattle.x_lex.specs.Bytes.{is_marker, is_keyword}
 
 -- what the first two bytes of a place tell of the token there
 pub data Class : Type 0 where
@@ -21,12 +26,17 @@ pub data Class : Type 0 where
 -- the class of the first test that passes
 abbrev pub chosen : Bool → Bool → Bool → Bool → Bool → Bool → Bool → Bool → Class
 chosen p q r s t u v w =
-    if p then blank else (if q then letters else (if r then digits else (if s then signed else (if t then mark else (if u then remark else (if v then percent else (if w then hash else other)))))))
+    if p then blank else
+    (if q then letters else
+    (if r then digits else
+    (if s then signed else
+    (if t then mark else (if u then remark else (if v then percent else (if w then hash else other)))))))
 
 -- the class of a place with these two bytes, the second of them 0 where there is none
 unfoldable pub class_of : Bool → ℕ → ℕ → Class
 class_of start b c =
-    chosen (is_space b) (is_letter b) (is_digit b) (b == 45 && is_digit c) (is_punct b) (b == 47 && c == 42) (start && b == 37) (start && b == 35)
+    chosen (is_space b) (is_letter b) (is_digit b) (b == 45 && is_digit c) (is_punct b) (b == 47 && c == 42)
+    (start && b == 37) (start && b == 35)
 
 -- one place later
 abbrev pub later : Option ℕ → Option ℕ

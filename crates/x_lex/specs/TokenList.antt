@@ -7,11 +7,13 @@ use Rattle.x_lex.specs.declared.kind.Kind.{Kind}
 use Rattle.x_lex.specs.Tiling.{span}
 pub use Rattle.x_text.specs.Lengths.{patched, LiesAmong, HasRoom}
 
--- tokens in order, each with its kind and length; the index behind those that were put in last; and how many more there is room for
+-- tokens in order, each with its kind and length; the index behind those that were put in last; and how many
+-- more there is room for
 abbrev pub TokenList : Type 0
 TokenList = Gapped (Kind × ℕ)
 
--- fresh tokens in place of `removed` old ones from index `at` on; `start` is the place of the first of them in its text
+-- fresh tokens in place of `removed` old ones from index `at` on; `start` is the place of the first of them
+-- in its text
 abbrev pub TokenPatch : Type 0
 TokenPatch = Patch (Kind × ℕ)
 

@@ -1,10 +1,15 @@
--- The words of each kind, and the token at a place (RFC 4506, section 6.2, for comments, white space, identifiers and constants).
--- `rest` is the text from the place on, `start` says that the place is a line start, and n is how many bytes a word has.
-use Rattle.std.specs.Prelude.{◌≡◌, ℕ, ◌+◌, ◌<◌, ◌≤◌, ◌⊎◌, Bool, true, false, List, length, take, drop, slice_index}
+-- The words of each kind, and the token at a place (RFC 4506, section 6.2, for comments, white space,
+-- identifiers and constants). `rest` is the text from the place on, `start` says that the place is a line
+-- start, and n is how many bytes a word has.
+use Rattle.std.specs.Prelude.{◌≡◌, ℕ, ◌+◌, ◌<◌, ◌≤◌, ◌⊎◌, Bool, true, false, List, length, take, drop}
+use Rattle.std.specs.Prelude.{slice_index}
 use Rattle.memchr.specs.Find.{OccursAt}
 use Rattle.x_lex.specs.declared.kind.Kind.{Kind}
-use Rattle.x_lex.specs.declared.kind.Kind.TheVariants.{Space, Comment, OpenComment, Percent, Marker, Directive, Keyword, Name, Number, BadNumber, Punct, BadByte}
-use Rattle.x_lex.specs.Bytes.{is_space, is_digit, is_letter, is_word_byte, is_punct, is_in_line, is_number, is_marker, is_keyword, close}
+use Rattle.x_lex.specs.declared.kind.Kind.TheVariants.{Space, Comment, OpenComment, Percent, Marker}
+use Rattle.x_lex.specs.declared.kind.Kind.TheVariants.{Directive, Keyword, Name, Number, BadNumber, Punct}
+use Rattle.x_lex.specs.declared.kind.Kind.TheVariants.{BadByte}
+use Rattle.x_lex.specs.Bytes.{is_space, is_digit, is_letter, is_word_byte, is_punct, is_in_line, is_number}
+use Rattle.x_lex.specs.Bytes.{is_marker, is_keyword, close}
 
 -- the bytes from place i to before n pass the test
 abbrev pub Each : (ℕ → Bool) → List ℕ → ℕ → ℕ → Type 0
@@ -61,8 +66,10 @@ HasForm Space start rest n = Each is_space rest 0 n
 HasForm Comment start rest n = IsComment rest n
 HasForm OpenComment start rest n = IsOpenComment rest n
 HasForm Percent start rest n = (start ≡ true) × (slice_index rest 0 ≡ 37) × IsLine rest n
-HasForm Marker start rest n = (start ≡ true) × (slice_index rest 0 ≡ 35) × IsLine rest n × (is_marker (take n rest) ≡ true)
-HasForm Directive start rest n = (start ≡ true) × (slice_index rest 0 ≡ 35) × IsLine rest n × (is_marker (take n rest) ≡ false)
+HasForm Marker start rest n =
+    (start ≡ true) × (slice_index rest 0 ≡ 35) × IsLine rest n × (is_marker (take n rest) ≡ true)
+HasForm Directive start rest n =
+    (start ≡ true) × (slice_index rest 0 ≡ 35) × IsLine rest n × (is_marker (take n rest) ≡ false)
 HasForm Keyword start rest n = IsIdentifier rest n × (is_keyword (take n rest) ≡ true)
 HasForm Name start rest n = IsIdentifier rest n × (is_keyword (take n rest) ≡ false)
 HasForm Number start rest n = IsRun rest n × (is_number (take n rest) ≡ true)

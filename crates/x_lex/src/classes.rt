@@ -1,7 +1,8 @@
 //! The classes of bytes, and how far a run of one class goes.
 ghost use Rattle.std.specs.Prelude.{◌≡◌, ◌==◌, ◌<◌, ◌≤◌, length, not, slice_index};
 ghost use Rattle.std.specs.List.{prefix_len};
-ghost use Rattle.x_lex.specs.Bytes.{is_space, is_digit, is_letter, is_word_byte, is_punct, is_in_line, is_blank};
+ghost use Rattle.x_lex.specs.Bytes.{is_space, is_digit, is_letter, is_word_byte, is_punct, is_in_line};
+ghost use Rattle.x_lex.specs.Bytes.{is_blank};
 
 use crate::Mark;
 use memchr::memchr;
@@ -24,7 +25,8 @@ pub(crate) fn is_letter(byte: u8) -> bool
     byte.is_ascii_alphabetic() || byte == b'_'
 }
 
-/// The bytes of words, each at its own place, among dots: one look at a table takes less than four comparisons.
+/// The bytes of words, each at its own place, among dots: one look at a table takes less than four
+/// comparisons.
 const WORD_BYTES: &[u8] = b"................................................0123456789......\
 .ABCDEFGHIJKLMNOPQRSTUVWXYZ...._.abcdefghijklmnopqrstuvwxyz.....\
 ................................................................\

@@ -1,4 +1,5 @@
-//! Laws of the definitions that the contracts of this crate speak of, each a function that does nothing and ensures the law.
+//! Laws of the definitions that the contracts of this crate speak of, each a function that does nothing and
+//! ensures the law.
 ghost use Rattle.std.specs.Prelude.{◌≡◌, ℕ, List, ◌↔◌};
 ghost use Rattle.x_text.specs.Edits.{Change, edited_by};
 ghost use Rattle.x_lex.specs.declared.kind.Kind.{Kind};
@@ -17,8 +18,8 @@ pub fn has_tokens()
     ensures { (text : List ℕ) → (ts : List (Kind × ℕ)) × AreTokens text ts }
 {}
 
-/// The tokens of a text are those that follow one another from its start to its end, none of them empty, each the word with the
-/// greatest end of those that begin at its place.
+/// The tokens of a text are those that follow one another from its start to its end, none of them empty, each
+/// the word with the greatest end of those that begin at its place.
 pub fn tokens_by_place()
     ensures same { (text : List ℕ) (ts : List (Kind × ℕ))
         → AreTokens text ts ↔ TilesByPlace text (lexemes text ts) }

@@ -9,8 +9,8 @@ use crate::tokens::Tokens;
 use std::alloc::Global;
 use x_text::{Meter, NoMemory, Source};
 
-/// The tokens of the text, each of which is counted, with the seat behind the last of them. [`NoMemory`] where memory ran out;
-/// an empty text needs none.
+/// The tokens of the text, each of which is counted, with the seat behind the last of them. [`NoMemory`]
+/// where memory ran out; an empty text needs none.
 #[tactic(auto, using(crate::proofs::LexedLemmas::lexed_none))]
 pub fn lex(alloc: Global, source: &Source, meter: &mut Meter) -> Result<Tokens, NoMemory>
     ensures tokens { IfOk result (λ tokens. AreTokens source.now tokens.list) }

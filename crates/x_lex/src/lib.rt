@@ -1,5 +1,6 @@
-//! The tokens of the text of a `.x` file: [`lex`] cuts a text into tokens that follow one another without a gap, comments and
-//! white space among them, [`lex_one`] finds the one token at a place, and [`relex`] finds what an edit does to the tokens.
+//! The tokens of the text of a `.x` file: [`lex`] cuts a text into tokens that follow one another without a
+//! gap, comments and white space among them, [`lex_one`] finds the one token at a place, and [`relex`] finds
+//! what an edit does to the tokens.
 #![tactic(auto)]
 
 mod classes;

@@ -2,8 +2,8 @@
 ghost use Rattle.std.specs.Prelude.{◌≡◌, ◌≢◌, ◌<◌, [], ◌∷◌, map, length, slice_index, slice_index_or};
 ghost use Rattle.x_lex.specs.Marks.{mark_of, text_of, place_of, punctuation, keyword};
 
-/// A word with one spelling: a keyword (RFC 4506, section 6.2, and RFC 5531, section 12; `long` is one of this project) or a
-/// punctuation mark of the grammar.
+/// A word with one spelling: a keyword (RFC 4506, section 6.2, and RFC 5531, section 12; `long` is one of
+/// this project) or a punctuation mark of the grammar.
 #[derive(Clone, Copy, Debug, PartialEq, Eq)]
 pub enum Mark {
     Bool,
@@ -42,7 +42,8 @@ pub enum Mark {
     Star,
 }
 
-/// How each mark is written, in the order of [`Mark`]: which words are keywords, and which bytes punctuation, follows from it.
+/// How each mark is written, in the order of [`Mark`]: which words are keywords, and which bytes punctuation,
+/// follows from it.
 pub const MARKS: [(&[u8], Mark); 34] = [
     (b"bool", Mark::Bool),
     (b"case", Mark::Case),

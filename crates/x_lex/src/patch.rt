@@ -42,7 +42,8 @@ impl Patch {
         self.entries.removed()
     }
 
-    /// The place in the new text where the first fresh token starts, each of the others starting where the one before it ends.
+    /// The place in the new text where the first fresh token starts, each of the others starting where the
+    /// one before it ends.
     pub fn start(&self) -> usize
         ensures { result ≡ self.now.start }
     {

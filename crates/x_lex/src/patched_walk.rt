@@ -9,7 +9,8 @@ use crate::entry::Entry;
 use std::marker::Model;
 use x_text::PatchedIter;
 
-/// Goes over the tokens that a patch will leave: the result of [`crate::Tokens::iter_patched`], seen as the list of those that are left.
+/// Goes over the tokens that a patch will leave: the result of [`crate::Tokens::iter_patched`], seen as the
+/// list of those that are left.
 #[derive(Debug, Drop)]
 pub struct PatchedWalk<'a> {
     entries: PatchedIter<'a, Entry>,

@@ -14,8 +14,9 @@ use crate::{Patch, Tokens};
 use std::alloc::Global;
 use x_text::{Edit, Meter, NoMemory, SeqPatch, Source};
 
-/// What the edit, which makes `new` of the text `old`, does to the tokens of `old`: those that end before it stay, then come
-/// fresh ones, each of which is counted, up to the first place from which the old ones hold again.
+/// What the edit, which makes `new` of the text `old`, does to the tokens of `old`: those that end before it
+/// stay, then come fresh ones, each of which is counted, up to the first place from which the old ones hold
+/// again.
 ///
 /// [`NoMemory`] where memory ran out; an empty text needs none.
 pub fn relex(
@@ -87,7 +88,8 @@ fn relex_bytes(
     }
 }
 
-/// The patch that puts fresh tokens, the first of which starts at `start`, in the place of those from index `at` to before `end`.
+/// The patch that puts fresh tokens, the first of which starts at `start`, in the place of those from index
+/// `at` to before `end`.
 fn patch(at: usize, end: usize, start: usize, fresh: Vec<Entry>) -> Patch
     requires { at ≤ end }
     ensures { result ≡ record { at = at; removed = end - at; start = start; fresh = fresh.items } }

@@ -103,7 +103,8 @@ fn first_token(rest: &[u8], line_start: bool) -> (Kind, usize)
     }
 }
 
-/// The kind and the end of the token that begins at `at`, where `line_start` says whether `at` is 0 or stands behind a line feed.
+/// The kind and the end of the token that begins at `at`, where `line_start` says whether `at` is 0 or stands
+/// behind a line feed.
 ///
 /// Counts one token.
 #[inline(always)]

@@ -1,5 +1,6 @@
 //! The tokens of a text as one value.
-ghost use Rattle.std.specs.Prelude.{◌≡◌, ◌+◌, ◌<◌, ◌≤◌, ◌↔◌, ℕ, [], IsTrue, IfOk, IsOk, OnOk, OnErr, length, drop, option_map, slice_get};
+ghost use Rattle.std.specs.Prelude.{◌≡◌, ◌+◌, ◌<◌, ◌≤◌, ◌↔◌, ℕ, [], IsTrue, IfOk, IsOk, OnOk, OnErr, length};
+ghost use Rattle.std.specs.Prelude.{drop, option_map, slice_get};
 ghost use Rattle.std.specs.Iterator.{YieldsFirstBy, item_count};
 ghost use Rattle.x_text.specs.declared.source.TheConstants.{MAX_TEXT};
 ghost use Rattle.x_text.specs.Seqs.{distance};
@@ -16,7 +17,8 @@ use x_text::{GapIter, MeasuredSeq, NoMemory, Source};
 
 /// The tokens of a text, in order, each with its kind and length.
 ///
-/// They have a seat, the index behind those that were put in last: what is done near it takes few steps, however long the text is.
+/// They have a seat, the index behind those that were put in last: what is done near it takes few steps,
+/// however long the text is.
 #[derive(Debug, Drop)]
 pub struct Tokens {
     entries: MeasuredSeq<Entry>,
@@ -77,7 +79,8 @@ impl Tokens {
         Some((kind, start, start + length))
     }
 
-    /// The kind of the token at `index`, and how many bytes it has. Unlike [`Tokens::get`] it looks at no other token.
+    /// The kind of the token at `index`, and how many bytes it has. Unlike [`Tokens::get`] it looks at no
+    /// other token.
     pub fn kind_and_length(&self, index: usize) -> Option<(Kind, usize)>
         ensures { result ≡ slice_get self.now.list index }
     {
@@ -146,7 +149,8 @@ impl Tokens {
         PatchedWalk::new(entries, text, start)
     }
 
-    /// Makes room for the fresh tokens of the patch. After [`NoMemory`], too, all is as before but the room, which never shrinks.
+    /// Makes room for the fresh tokens of the patch. After [`NoMemory`], too, all is as before but the room,
+    /// which never shrinks.
     pub fn reserve(&mut self, patch: &Patch) -> Result<(), NoMemory>
         ensures list { self.new.list ≡ self.old.list }
         ensures seat { self.new.seat ≡ self.old.seat }
@@ -170,7 +174,8 @@ impl Tokens {
         self.entries.put(patch.into_entries())
     }
 
-    /// How many of the tokens, which end at the place `end`, end before `limit`, and where the last of them ends.
+    /// How many of the tokens, which end at the place `end`, end before `limit`, and where the last of them
+    /// ends.
     pub(crate) fn front_before(&self, end: usize, limit: usize) -> (usize, usize)
         requires { end ≡ span self.now.list }
         ensures front { IsFront self.now.list limit result.0 }
@@ -179,7 +184,8 @@ impl Tokens {
         self.entries.count_before(self.entries.len(), limit, end)
     }
 
-    /// Goes on from the boundary behind `from` tokens, which is `place`, to the first that is `target` or behind it.
+    /// Goes on from the boundary behind `from` tokens, which is `place`, to the first that is `target` or
+    /// behind it.
     pub(crate) fn advance(&self, from: usize, place: usize, target: usize) -> (usize, usize)
         requires within { from ≤ length self.now.list }
         requires place { place ≡ end_of self.now.list from }
@@ -230,7 +236,8 @@ impl<'a> Model for Walk<'a> {
 }
 
 impl<'a> Walk<'a> {
-    /// Passes over the next tokens, or over all that are left where there are fewer. It looks at their lengths alone.
+    /// Passes over the next tokens, or over all that are left where there are fewer. It looks at their
+    /// lengths alone.
     pub fn pass(&mut self, count: usize)
         ensures { self.new ≡ drop count self.old }
     {

@@ -1,7 +1,8 @@
 //! What the spelling of a word says of its kind.
 ghost use Rattle.std.specs.Prelude.{◌≡◌, ◌<◌, length};
 ghost use Rattle.std.specs.List.{list_all};
-ghost use Rattle.x_lex.specs.Bytes.{is_digit, is_octal_digit, is_hex_digit, is_decimal, is_negative, is_octal, is_hex, is_number, is_marker, is_keyword};
+ghost use Rattle.x_lex.specs.Bytes.{is_digit, is_octal_digit, is_hex_digit, is_decimal, is_negative};
+ghost use Rattle.x_lex.specs.Bytes.{is_octal, is_hex, is_number, is_marker, is_keyword};
 
 use crate::Mark;
 use crate::classes::{blank_len, is_digit};

@@ -1,5 +1,7 @@
 -- The lines of a script, and what a reader of them has read and not given.
-use Rattle.std.specs.Prelude.{◌≡◌, ℕ, ◌+◌, ◌<◌, ◌≤◌, ◌⊎◌, Bool, true, false, nat_lt, ◌==◌, List, [], ◌∷◌, ◌++◌, length, take, drop, filter, Option, Some, Result, Ok, Err, MatchResult, MatchBool}
+use Rattle.std.specs.Prelude.{◌≡◌, ℕ, ◌+◌, ◌<◌, ◌≤◌, ◌⊎◌, Bool, true, false, nat_lt, ◌==◌, List, [], ◌∷◌}
+use Rattle.std.specs.Prelude.{◌++◌, length, take, drop, filter, Option, Some, Result, Ok, Err, MatchResult}
+use Rattle.std.specs.Prelude.{MatchBool}
 use Rattle.std.specs.List.{slice_split, All}
 use Rattle.x_lines.specs.declared.lines.LineFault.{LineFault}
 use Rattle.x_lines.specs.declared.lines.LineFault.TheVariants.{Read, NoMemory}
@@ -76,48 +78,58 @@ pub record HasSearched (old new : List ℕ) (left left' : Option (List ℕ)) : T
   pub from_tap : Consumes left left' come
   pub trimmed : IsTrimmed (old ++ come) new
 
--- where the first line of these bytes ends, of a tap that has `left`: within its most bytes at a line feed or at the tap's end, or behind them
+-- where the first line of these bytes ends, of a tap that has `left`: within its most bytes at a line feed or
+-- at the tap's end, or behind them
 abbrev pub EndIs : LineEnd → List ℕ → Option (List ℕ) → Type 0
 EndIs (Feed len) bytes left = EndsAt bytes len × (len ≤ most_line)
 EndIs (Text len) bytes left = HasNoFeed bytes × (len ≡ length bytes) × (len ≤ most_line) × IsAtEnd left
 EndIs Far bytes left = HasNoFeed (take (most_line + 1) bytes) × (most_line < length bytes)
 
 -- Bytes came to a queue from a tap and went again: with a line feed all up to the first, without one all.
-pub record HasPassed (old new : List ℕ) (left left' : Option (List ℕ)) (result : Result Bool LineFault) : Type 0 where
+pub record HasPassed (old new : List ℕ) (left left' : Option (List ℕ))
+    (result : Result Bool LineFault) : Type 0 where
   pub come : List ℕ
   pub from_tap : Consumes left left' come
   pub passed : MatchResult result
-      (λ found. MatchBool found (IsBehindFeed (old ++ come) new) (HasNoFeed (old ++ come) × (new ≡ []) × IsAtEnd left'))
+      (λ found. MatchBool found (IsBehindFeed (old ++ come) new)
+      (HasNoFeed (old ++ come) × (new ≡ []) × IsAtEnd left'))
       (λ _. HasNoFeed (old ++ come) × (new ≡ []))
 
--- A reader of lines: the line that it found last, the bytes that it read and did not give, and where it stands.
+-- A reader of lines: the line that it found last, the bytes that it read and did not give, and where it
+-- stands.
 pub record Reading : Type 0 where
   pub line : List ℕ
   pub bytes : List ℕ
   pub state : State
 
--- What was read and not given is the bytes; within a line that is too long it was more, of which the reader keeps none; at the end it is nothing.
+-- What was read and not given is the bytes; within a line that is too long it was more, of which the reader
+-- keeps none; at the end it is nothing.
 abbrev pub InState : State → List ℕ → Option (List ℕ) → List ℕ → Type 0
 InState Between bytes left text = text ≡ bytes
-InState WithinLong bytes left text = (part : List ℕ) × (most_line < length part) × HasNoFeed part × (text ≡ part ++ bytes)
+InState WithinLong bytes left text =
+    (part : List ℕ) × (most_line < length part) × HasNoFeed part × (text ≡ part ++ bytes)
 InState Ended bytes left text = (text ≡ []) × IsAtEnd left
 
 -- the reader stands before this text that was read and not given, over a tap that has `left`
 abbrev pub IsUnread : Reading → Option (List ℕ) → List ℕ → Type 0
 IsUnread reader left text = InState reader.state reader.bytes left text
 
--- The text is line feeds alone, the line, and a line feed and the rest; or the line is the last one, no line feed ends it, and the reader is at the end.
+-- The text is line feeds alone, the line, and a line feed and the rest; or the line is the last one, no line
+-- feed ends it, and the reader is at the end.
 pub record IsNextLine (text line rest : List ℕ) (state : State) (left : Option (List ℕ)) : Type 0 where
   pub feeds : List ℕ
   pub are_feeds : AreFeeds feeds
   pub some : 0 < length line
   pub no_feed : HasNoFeed line
-  pub text_is : (text ≡ feeds ++ line ++ 10 ∷ rest) ⊎ ((text ≡ feeds ++ line) × (rest ≡ []) × (state ≡ Ended) × IsAtEnd left)
+  pub text_is : (text ≡ feeds ++ line ++ 10 ∷ rest)
+      ⊎ ((text ≡ feeds ++ line) × (rest ≡ []) × (state ≡ Ended) × IsAtEnd left)
 
--- what is told of the text, of which `rest` stays unread: its first line, that this is too long, or that there is none
+-- what is told of the text, of which `rest` stays unread: its first line, that this is too long, or that
+-- there is none
 abbrev pub Tells : Found → Reading → List ℕ → List ℕ → Option (List ℕ) → Type 0
 Tells Line new text rest left = (length new.line ≤ most_line) × IsNextLine text new.line rest new.state left
-Tells TooLong new text rest left = (line : List ℕ) × (most_line < length line) × IsNextLine text line rest new.state left
+Tells TooLong new text rest left =
+    (line : List ℕ) × (most_line < length line) × IsNextLine text line rest new.state left
 Tells End new text rest left = AreFeeds text × (rest ≡ []) × (new.state ≡ Ended) × IsAtEnd left
 
 -- the text holds no line that a line feed ends
@@ -125,19 +137,26 @@ pub record HasNoLine (text rest : List ℕ) : Type 0 where
   pub trimmed : IsTrimmed text rest
   pub no_feed : HasNoFeed rest
 
--- A call read on from this unread text: what came from the tap, what stays unread, and what it answers of all that.
-pub record ReadsOn (unread : List ℕ) (new : Reading) (left left' : Option (List ℕ)) (result : Result Found LineFault) : Type 0 where
+-- A call read on from this unread text: what came from the tap, what stays unread, and what it answers of all
+-- that.
+pub record ReadsOn (unread : List ℕ) (new : Reading) (left left' : Option (List ℕ))
+    (result : Result Found LineFault) : Type 0 where
   pub come : List ℕ
   pub from_tap : Consumes left left' come
   pub rest : List ℕ
   pub unread_is : IsUnread new left' rest
-  pub told : MatchResult result (λ found. Tells found new (unread ++ come) rest left') (λ _. HasNoLine (unread ++ come) rest)
+  pub told : MatchResult result (λ found. Tells found new (unread ++ come) rest left')
+      (λ _. HasNoLine (unread ++ come) rest)
 
 -- the same of every text that the reader may stand before
 abbrev pub Advances : Reading → Reading → Option (List ℕ) → Option (List ℕ) → Result Found LineFault → Type 0
-Advances old new left left' result = (unread : List ℕ) → IsUnread old left unread → ReadsOn unread new left left' result
+Advances old new left left' result =
+    (unread : List ℕ) → IsUnread old left unread → ReadsOn unread new left left' result
 
--- Where a fault leaves a script: in reading, the lines given are all that a line feed ends in what was read; for want of memory they are some, from the first on.
-abbrev pub StopsBehind : LineFault → (script : List ℕ) (left : Option (List ℕ)) (given : List (List ℕ)) → Type 0
-StopsBehind Read script left given = (read : List ℕ) × Consumes (Some script) left read × (whole_lines read ≡ given)
+-- Where a fault leaves a script: in reading, the lines given are all that a line feed ends in what was read;
+-- for want of memory they are some, from the first on.
+abbrev pub StopsBehind : LineFault → (script : List ℕ) (left : Option (List ℕ)) (given : List (List ℕ))
+    → Type 0
+StopsBehind Read script left given =
+    (read : List ℕ) × Consumes (Some script) left read × (whole_lines read ≡ given)
 StopsBehind NoMemory script left given = (rest : List (List ℕ)) × (script_lines script ≡ given ++ rest)

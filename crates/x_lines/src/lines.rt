@@ -1,6 +1,8 @@
-ghost use Rattle.std.specs.Prelude.{◌≡◌, ◌≤◌, [], ℕ, List, Option, length, take, MatchBool, MatchOption, MatchResult, Ok};
+ghost use Rattle.std.specs.Prelude.{◌≡◌, ◌≤◌, [], ℕ, List, Option, length, take, MatchBool, MatchOption};
+ghost use Rattle.std.specs.Prelude.{MatchResult, Ok};
 ghost use Rattle.std.specs.List.{prefix_len};
-ghost use Rattle.x_lines.specs.Lines.{Advances, EndIs, EndsAt, FailsBy, HasNoFeed, HasPassed, HasSearched, IsBehindFeed, IsTrimmed, is_feed};
+ghost use Rattle.x_lines.specs.Lines.{Advances, EndIs, EndsAt, FailsBy, HasNoFeed, HasPassed, HasSearched};
+ghost use Rattle.x_lines.specs.Lines.{IsBehindFeed, IsTrimmed, is_feed};
 ghost use Rattle.x_lines.specs.declared.lines.Found.TheVariants.{End};
 ghost use Rattle.x_lines.specs.declared.lines.TheConstants.{LONGEST};
 ghost use Rattle.x_lines.specs.declared.lines.State.TheVariants.{Between, WithinLong, Ended};
@@ -171,7 +173,8 @@ pub(crate) enum LineEnd {
     Far,
 }
 
-/// Drops line feeds at the front, and finds where the line behind them ends; more bytes are read as they are needed.
+/// Drops line feeds at the front, and finds where the line behind them ends; more bytes are read as they are
+/// needed.
 fn find_end<R: Tap>(queue: &mut ByteQueue, tap: &mut R) -> Result<LineEnd, LineFault>
     ensures come { HasSearched queue.old queue.new (R.state tap.old).bytes (R.state tap.new).bytes }
     ensures found { MatchResult result (λ end. EndIs end queue.new (R.state tap.new).bytes)
@@ -208,7 +211,8 @@ fn line_end(len: usize) -> LineEnd
     }
 }
 
-/// Drops line feeds at the front, and finds the first one behind other bytes. The first `searched` bytes hold none.
+/// Drops line feeds at the front, and finds the first one behind other bytes. The first `searched` bytes hold
+/// none.
 fn search(queue: &mut ByteQueue, searched: usize) -> Option<usize>
     requires within { searched ≤ length queue.old }
     requires no_feed { HasNoFeed (take searched queue.old) }
@@ -247,7 +251,8 @@ fn pass_feed<R: Tap>(queue: &mut ByteQueue, tap: &mut R) -> Result<bool, LineFau
     Err(LineFault::NoMemory)
 }
 
-/// Drops all bytes up to the first line feed and it, or all where there is none, and answers whether there was one.
+/// Drops all bytes up to the first line feed and it, or all where there is none, and answers whether there
+/// was one.
 fn drop_feed(queue: &mut ByteQueue) -> bool
     ensures { MatchBool result (IsBehindFeed queue.old queue.new) (HasNoFeed queue.old × (queue.new ≡ [])) }
 {

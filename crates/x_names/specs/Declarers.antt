@@ -1,5 +1,6 @@
 -- Who declares each name first (RFC 4506, section 6.4).
-use Rattle.std.specs.Prelude.{◌≡◌, ◌<◌, ◌⊎◌, ℕ, suc, ◌^◌, length, Bool, false, ◌||◌, List, [], ◌∷◌, Option, Some, None, codes, slice_get, if◌then◌else◌}
+use Rattle.std.specs.Prelude.{◌≡◌, ◌<◌, ◌⊎◌, ℕ, suc, ◌^◌, length, Bool, false, ◌||◌, List, [], ◌∷◌, Option}
+use Rattle.std.specs.Prelude.{Some, None, codes, slice_get, if◌then◌else◌}
 use Rattle.std.specs.Option.{option_or}
 use Rattle.std.specs.Str.{bytes_eq}
 use Rattle.x_trees.specs.Tree.{Definition}
@@ -19,18 +20,22 @@ AreShort definitions = (item : ℕ) (d : Definition) → slice_get definitions i
 abbrev pub is_beforehand : List ℕ → Bool
 is_beforehand name = bytes_eq name (codes "TRUE") || bytes_eq name (codes "FALSE")
 
--- the name is the one that the item declares in this place of those that it declares; an item without a definition declares none
+-- the name is the one that the item declares in this place of those that it declares; an item without a
+-- definition declares none
 pub record IsDeclarer (definitions : List (Option Definition)) (name : List ℕ) (at : Declarer) : Type 0 where
   pub definition : Definition
   pub item_is : slice_get definitions at.item ≡ Some (Some definition)
-  pub declares : slice_get (declared definition) at.place ≡ Some (record { name = name; word = at.word; kind = at.kind; lifted = at.lifted })
+  pub declares : slice_get (declared definition) at.place
+      ≡ Some (record { name = name; word = at.word; kind = at.kind; lifted = at.lifted })
 
--- in an item before, or before in the same item: names are declared in the order of their words, at one word the own name first
+-- in an item before, or before in the same item: names are declared in the order of their words, at one word
+-- the own name first
 abbrev pub IsEarlier : Declarer → Declarer → Type 0
 IsEarlier a b = (a.item < b.item) ⊎ ((a.item ≡ b.item) × (a.place < b.place))
 
 -- the name is declared there, was not declared beforehand, and is declared nowhere earlier
-pub record IsFirstDeclarer (definitions : List (Option Definition)) (name : List ℕ) (at : Declarer) : Type 0 where
+pub record IsFirstDeclarer (definitions : List (Option Definition)) (name : List ℕ)
+    (at : Declarer) : Type 0 where
   pub not_beforehand : is_beforehand name ≡ false
   pub declares : IsDeclarer definitions name at
   pub none_earlier : (other : Declarer) → IsDeclarer definitions name other → IsEarlier other at → ⊥
@@ -42,7 +47,8 @@ FirstIs definitions name None = (at : Declarer) → IsFirstDeclarer definitions 
 
 -- a declared name as a declarer: the item, and the place among the names that it declares
 abbrev pub declarer_at : ℕ → ℕ → Declared → Declarer
-declarer_at item place d = record { item = item; word = d.word; place = place; kind = d.kind; lifted = d.lifted }
+declarer_at item place d =
+    record { item = item; word = d.word; place = place; kind = d.kind; lifted = d.lifted }
 
 -- the first of an item's declared names that is this one, where the first of them has this place
 abbrev pub place_of_name : ℕ → ℕ → List ℕ → List Declared → Option Declarer

@@ -32,8 +32,8 @@ pub struct Declarer {
     pub lifted: bool,
 }
 
-/// The table of the names that the items of a text declare. It is seen as the list of the names with their first
-/// declarers, without those that were declared beforehand.
+/// The table of the names that the items of a text declare. It is seen as the list of the names with their
+/// first declarers, without those that were declared beforehand.
 #[derive(Drop)]
 pub struct Names<'d> {
     /// A name lies in the definition that declares it first, but for that of an inline type.
@@ -51,7 +51,8 @@ impl<'d> Model for Names<'d> {
 }
 
 impl<'d> Names<'d> {
-    /// The table of the items' definitions; an item without one declares nothing. It takes time in proportion to the definitions.
+    /// The table of the items' definitions; an item without one declares nothing. It takes time in proportion
+    /// to the definitions.
     ///
     /// # Errors
     ///
@@ -65,7 +66,8 @@ impl<'d> Names<'d> {
         })
     }
 
-    /// The first declarer of the name (RFC 4506, section 6.4). A name that was declared beforehand has none: `TRUE` and `FALSE`.
+    /// The first declarer of the name (RFC 4506, section 6.4). A name that was declared beforehand has none:
+    /// `TRUE` and `FALSE`.
     pub fn first(&self, name: &[u8]) -> Option<Declarer>
         ensures { result ≡ first_in self.now name.now }
     {
@@ -76,8 +78,8 @@ impl<'d> Names<'d> {
         }
     }
 
-    /// As [`Names::first`], of a name that stands in this place among all that the items declare. It is quick where each name so far is
-    /// declared once, and right for any place.
+    /// As [`Names::first`], of a name that stands in this place among all that the items declare. It is quick
+    /// where each name so far is declared once, and right for any place.
     pub fn first_at(&self, place: usize, name: &[u8]) -> Option<Declarer>
         ensures { result ≡ first_in self.now name.now }
     {
@@ -89,8 +91,8 @@ impl<'d> Names<'d> {
     }
 }
 
-/// The table of the items' definitions, also of names that were declared beforehand. It is made from the last item to the first, so
-/// that the first declarer of a name is what it is left with.
+/// The table of the items' definitions, also of names that were declared beforehand. It is made from the last
+/// item to the first, so that the first declarer of a name is what it is left with.
 fn table_of<'d>(
     alloc: Global,
     definitions: &[Option<&'d Definition>],
@@ -126,8 +128,8 @@ fn entry(table: &IndexMap<CowSlice<u8>, Declarer>, name: &[u8]) -> Option<Declar
     table.get(name).copied()
 }
 
-/// What the table has for the name, which is tried first at the entry where it stands if each name is declared once: the last name was
-/// put in first.
+/// What the table has for the name, which is tried first at the entry where it stands if each name is
+/// declared once: the last name was put in first.
 fn entry_near(
     table: &IndexMap<CowSlice<u8>, Declarer>,
     place: usize,
@@ -142,7 +144,8 @@ fn entry_near(
     }
 }
 
-/// Takes in the names that an item declares, in place of those that later items declare. They are listed in memory that is used again.
+/// Takes in the names that an item declares, in place of those that later items declare. They are listed in
+/// memory that is used again.
 fn add<'d>(
     alloc: Global,
     table: &mut IndexMap<CowSlice<'d, u8>, Declarer>,

@@ -32,7 +32,8 @@ magnitude text =
 
 -- whether the number is one that a constant may have: from -2^63 to 2^64-1
 unfoldable pub in_range : List ℕ → Bool
-in_range text = if is_negative text then nat_le (magnitude text) (2 ^ 63) else nat_lt (magnitude text) (2 ^ 64)
+in_range text =
+    if is_negative text then nat_le (magnitude text) (2 ^ 63) else nat_lt (magnitude text) (2 ^ 64)
 
 -- the number that the text stands for
 unfoldable pub value : List ℕ → ℤ

@@ -1,5 +1,5 @@
-//! The numbers that the spellings of the language stand for (RFC 4506, section 6.2), and which of them an enum,
-//! a size or a program may have.
+//! The numbers that the spellings of the language stand for (RFC 4506, section 6.2), and which of them an
+//! enum, a size or a program may have.
 #![tactic(auto)]
 
 ghost use Rattle.std.specs.Prelude.{◌≡◌, ◌<◌, ◌≤◌, ◌^◌, SomeIff, IsTrue};

@@ -1,6 +1,7 @@
 -- The type of C and the XDR routine of each type of the language.
 use Rattle.std.specs.Prelude.{ℕ, List, [], codes, Option, Some, None}
-use Rattle.x_trees.specs.Tree.{DataType, Simple, Name, Tagged, Inline, Argument, Text, Typed, Value, Number, Named}
+use Rattle.x_trees.specs.Tree.{DataType, Simple, Name, Tagged, Inline, Argument, Text, Typed, Value, Number}
+use Rattle.x_trees.specs.Tree.{Named}
 use Rattle.x_trees.specs.declared.trees.declaration.Basic.{Basic}
 use Rattle.x_trees.specs.declared.trees.declaration.Basic.TheVariants as basics
 

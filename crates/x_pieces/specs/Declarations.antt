@@ -1,7 +1,9 @@
--- How C declares what a declaration declares, and how its XDR routine calls those of its parts: this project's profile of what rpcgen(1)
--- writes. `around` is the name of the type that a declaration stands in, and for a `typedef` the name that it declares itself.
+-- How C declares what a declaration declares, and how its XDR routine calls those of its parts: this
+-- project's profile of what rpcgen(1) writes. `around` is the name of the type that a declaration stands in,
+-- and for a `typedef` the name that it declares itself.
 use Rattle.std.specs.Prelude.{ℕ, List, [], ◌++◌, codes}
-use Rattle.x_trees.specs.Tree.{Declaration, Void, Of, Opaque, String, Length, Fixed, Variable, Shape, Plain, Optional, Array}
+use Rattle.x_trees.specs.Tree.{Declaration, Void, Of, Opaque, String, Length, Fixed, Variable, Shape, Plain}
+use Rattle.x_trees.specs.Tree.{Optional, Array}
 use Rattle.x_trees.specs.Declarations.{name_of}
 use Rattle.x_trees.specs.Gloss.{lifted_name}
 use Rattle.x_pieces.specs.CTypes.{CType, c_type, spelled, most}
@@ -25,8 +27,8 @@ c_declaration around (Of type x shape) = declared_as (c_type (lifted_name around
 c_declaration around (Opaque x length) = declared_array (codes "char") x length
 c_declaration around (String x m) = codes "char *" ++ x
 
--- where a value lies that a routine reads or writes: in a field of a struct or in a union's discriminant, in an arm of the union of a
--- name, or by itself, as that of a `typedef`
+-- where a value lies that a routine reads or writes: in a field of a struct or in a union's discriminant, in
+-- an arm of the union of a name, or by itself, as that of a `typedef`
 pub data Place : Type 0 where
   InStruct : Place
   InUnion : (union : List ℕ) → Place
@@ -45,7 +47,8 @@ array_call c e x (Fixed v) =
     codes "xdr_vector(xdrs, (char *)" ++ e ++ codes ", " ++ spelled v
     ++ codes ", sizeof (" ++ c.name ++ codes "), (xdrproc_t)xdr_" ++ c.routine ++ codes ")"
 array_call c e x (Variable m) =
-    codes "xdr_array(xdrs, (char **)&" ++ e ++ codes "." ++ x ++ codes "_val, &" ++ e ++ codes "." ++ x ++ codes "_len, " ++ most m
+    codes "xdr_array(xdrs, (char **)&" ++ e ++ codes "." ++ x ++ codes "_val, &" ++ e ++ codes "." ++ x
+    ++ codes "_len, " ++ most m
     ++ codes ", sizeof (" ++ c.name ++ codes "), (xdrproc_t)xdr_" ++ c.routine ++ codes ")"
 
 abbrev pub call_as : CType → List ℕ → List ℕ → Shape → List ℕ
@@ -58,7 +61,8 @@ call_as c e x (Array length) = array_call c e x length
 abbrev pub opaque_call : List ℕ → List ℕ → Length → List ℕ
 opaque_call e x (Fixed v) = codes "xdr_opaque(xdrs, " ++ e ++ codes ", " ++ spelled v ++ codes ")"
 opaque_call e x (Variable m) =
-    codes "xdr_bytes(xdrs, &" ++ e ++ codes "." ++ x ++ codes "_val, &" ++ e ++ codes "." ++ x ++ codes "_len, " ++ most m ++ codes ")"
+    codes "xdr_bytes(xdrs, &" ++ e ++ codes "." ++ x ++ codes "_val, &" ++ e ++ codes "." ++ x
+    ++ codes "_len, " ++ most m ++ codes ")"
 
 abbrev pub call_at : List ℕ → List ℕ → Declaration → List ℕ
 call_at around e Void = []

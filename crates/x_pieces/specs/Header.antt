@@ -37,7 +37,8 @@ enumerator_text e = named_value e.name e.value
 -- a line each, with a comma behind each but the last
 abbrev pub enumerator_lines : List Enumerator → List ℕ
 enumerator_lines [] = []
-enumerator_lines (e ∷ es) = enumerator_text e ++ flat_map (λ other. codes ",\n" ++ enumerator_text other) es ++ codes "\n"
+enumerator_lines (e ∷ es) =
+    enumerator_text e ++ flat_map (λ other. codes ",\n" ++ enumerator_text other) es ++ codes "\n"
 
 -- the line of a declaration, behind its indent: `void` has none
 abbrev pub member_line : List ℕ → List ℕ → Declaration → List ℕ
@@ -60,7 +61,8 @@ are_void (arm cases d rest) other = if is_void d then are_void rest other else f
 abbrev pub arm_lines : List ℕ → Arms → Default → List ℕ
 arm_lines around no_arm no_default = []
 arm_lines around no_arm (default d) = member_line (codes "        ") around d
-arm_lines around (arm cases d rest) other = member_line (codes "        ") around d ++ arm_lines around rest other
+arm_lines around (arm cases d rest) other =
+    member_line (codes "        ") around d ++ arm_lines around rest other
 
 -- the values of the arms, one of which is there
 abbrev pub union_lines : List ℕ → Arms → Default → List ℕ
@@ -75,7 +77,8 @@ body_lines name (Enum es) =
     ++ (codes "};\ntypedef enum " ++ name ++ codes " " ++ name ++ codes ";\n")
 body_lines name (Struct ds) = (codes "struct " ++ name ++ codes " {\n") ++ field_lines name ds ++ codes "};\n"
 body_lines name (Union d arms other) =
-    (codes "struct " ++ name ++ codes " {\n") ++ member_line (codes "    ") name d ++ union_lines name arms other ++ codes "};\n"
+    (codes "struct " ++ name ++ codes " {\n") ++ member_line (codes "    ") name d
+    ++ union_lines name arms other ++ codes "};\n"
 
 -- the piece of a type
 abbrev pub type_header : NamedBody → List ℕ
@@ -84,7 +87,8 @@ type_header t = body_lines t.name t.body ++ routine_line t.name ++ codes "\n"
 -- the piece of a `typedef`
 abbrev pub typedef_header : Declaration → List ℕ
 typedef_header Void = []
-typedef_header d = codes "typedef " ++ c_declaration (name_of d) d ++ codes ";\n" ++ routine_line (name_of d) ++ codes "\n"
+typedef_header d =
+    codes "typedef " ++ c_declaration (name_of d) d ++ codes ";\n" ++ routine_line (name_of d) ++ codes "\n"
 
 -- the field of an argument of this number
 abbrev pub argument_line : List ℕ → CType → List ℕ
@@ -104,8 +108,10 @@ group_lines group p = if are_several p.others then group_struct group p else []
 -- the functions of a procedure, for the client and for the server
 abbrev pub function_lines : List ℕ → List ℕ → Procedure → List ℕ
 function_lines function group p =
-    codes "extern " ++ (result_type p).name ++ codes " *" ++ function ++ codes "(" ++ (argument_in group p).name ++ codes " *, CLIENT *);\n"
-    ++ codes "extern " ++ (result_type p).name ++ codes " *" ++ function ++ codes "_svc(" ++ (argument_in group p).name ++ codes " *, struct svc_req *);\n"
+    codes "extern " ++ (result_type p).name ++ codes " *" ++ function ++ codes "("
+    ++ (argument_in group p).name ++ codes " *, CLIENT *);\n"
+    ++ codes "extern " ++ (result_type p).name ++ codes " *" ++ function ++ codes "_svc("
+    ++ (argument_in group p).name ++ codes " *, struct svc_req *);\n"
 
 -- those of a procedure whose function and struct of arguments have these names
 abbrev pub procedure_lines : List ℕ → List ℕ → Procedure → List ℕ
@@ -117,4 +123,5 @@ version_lines v = constant_line v.name v.number ++ flat_map (by_names procedure_
 
 -- the piece of a program
 abbrev pub program_header : List ℕ → List Version → List ℕ → List ℕ
-program_header name versions number = constant_line name number ++ flat_map version_lines versions ++ codes "\n"
+program_header name versions number =
+    constant_line name number ++ flat_map version_lines versions ++ codes "\n"

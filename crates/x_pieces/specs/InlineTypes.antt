@@ -1,7 +1,8 @@
--- The types of a definition that have bodies, each with its name: inline types have lifted names, and each stands before the type
--- that holds it.
+-- The types of a definition that have bodies, each with its name: inline types have lifted names, and each
+-- stands before the type that holds it.
 use Rattle.std.specs.Prelude.{ℕ, List, [], ◌∷◌, ◌++◌}
-use Rattle.x_trees.specs.Tree.{DataType, Simple, Name, Tagged, Inline, Body, Enum, Struct, Union, Declaration, Void, Of, Opaque, String}
+use Rattle.x_trees.specs.Tree.{DataType, Simple, Name, Tagged, Inline, Body, Enum, Struct, Union, Declaration}
+use Rattle.x_trees.specs.Tree.{Void, Of, Opaque, String}
 use Rattle.x_trees.specs.Tree.{Declarations, none, more, Arms, no_arm, arm, Default, no_default, default}
 use Rattle.x_trees.specs.Tree.{Definition, Const, Typedef, NewType, Program}
 use Rattle.x_trees.specs.Gloss.{lifted_name}
@@ -23,7 +24,8 @@ abbrev mutual
   pub types_inside : List ℕ → Body → List NamedBody
   types_inside name (Enum es) = []
   types_inside name (Struct ds) = types_of_declarations name ds
-  types_inside name (Union d arms other) = types_of_declaration name d ++ types_of_arms name arms ++ types_of_default name other
+  types_inside name (Union d arms other) =
+      types_of_declaration name d ++ types_of_arms name arms ++ types_of_default name other
 
   pub types_of_declaration : List ℕ → Declaration → List NamedBody
   types_of_declaration around Void = []
@@ -43,7 +45,8 @@ abbrev mutual
   types_of_default around no_default = []
   types_of_default around (default d) = types_of_declaration around d
 
--- the types that a definition writes: an inline type as an argument or a result is a fault, so a program writes none
+-- the types that a definition writes: an inline type as an argument or a result is a fault, so a program
+-- writes none
 abbrev pub types_of : Definition → List NamedBody
 types_of (Const name value) = []
 types_of (Typedef d) = types_of_declaration (name_of d) d

@@ -19,8 +19,8 @@ piece texts.Routines p = p.routines
 piece texts.Stubs p = p.stubs
 piece texts.Table p = p.table
 
--- An item: its lines that pass through, without their `%`, each with a line feed; and its pieces, where it has a definition and
--- no fault.
+-- An item: its lines that pass through, without their `%`, each with a line feed; and its pieces, where it
+-- has a definition and no fault.
 pub record Part : Type 0 where
   pub lines : List ℕ
   pub pieces : Option Pieces

@@ -21,7 +21,8 @@ routine_end = codes "    return (TRUE);\n}\n\n"
 abbrev pub checked_call : List ℕ → List ℕ → Place → Declaration → List ℕ
 checked_call indent around place Void = []
 checked_call indent around place d =
-    (indent ++ codes "if (!") ++ call around place d ++ (codes ")\n" ++ indent ++ codes "    return (FALSE);\n")
+    (indent ++ codes "if (!") ++ call around place d
+    ++ (codes ")\n" ++ indent ++ codes "    return (FALSE);\n")
 
 abbrev pub field_calls : List ℕ → Declarations → List ℕ
 field_calls around none = []
@@ -57,7 +58,8 @@ type_routine t = routine_front t.name ++ body_calls t.name t.body
 -- the routine of a `typedef`
 abbrev pub typedef_routine : Declaration → List ℕ
 typedef_routine Void = []
-typedef_routine d = routine_front (name_of d) ++ checked_call (codes "    ") (name_of d) Alone d ++ routine_end
+typedef_routine d =
+    routine_front (name_of d) ++ checked_call (codes "    ") (name_of d) Alone d ++ routine_end
 
 -- the call for an argument of this number
 abbrev pub argument_call : List ℕ → CType → List ℕ

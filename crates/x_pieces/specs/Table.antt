@@ -14,7 +14,8 @@ argument_size group p = if are_several p.others then sized (own group) else size
 abbrev pub row_of : List ℕ → List ℕ → CType → List ℕ → CType → List ℕ → List ℕ
 row_of number function argument size result result_size =
     codes "    { " ++ in_decimal number
-    ++ (codes ", (char *(*)())" ++ function ++ codes "_svc, (xdrproc_t)xdr_" ++ argument.routine ++ codes ", ") ++ size
+    ++ (codes ", (char *(*)())" ++ function ++ codes "_svc, (xdrproc_t)xdr_" ++ argument.routine
+    ++ codes ", ") ++ size
     ++ (codes ", (xdrproc_t)xdr_" ++ result.routine ++ codes ", ") ++ result_size
     ++ codes " },\n"
 
@@ -30,7 +31,8 @@ table_name program v = lower program ++ codes "_" ++ in_decimal v.number
 -- how many rows the table of this name has
 abbrev pub count_line : List ℕ → List ℕ
 count_line table =
-    codes "int " ++ table ++ codes "_nproc = sizeof (" ++ table ++ codes "_table) / sizeof (" ++ table ++ codes "_table[0]);\n\n"
+    codes "int " ++ table ++ codes "_nproc = sizeof (" ++ table ++ codes "_table) / sizeof (" ++ table
+    ++ codes "_table[0]);\n\n"
 
 abbrev pub version_table : List ℕ → Version → List ℕ
 version_table program v =

@@ -62,8 +62,8 @@ pub fn c_type<'d>(lifted: &'d [u8], typed: &'d DataType) -> CType<'d>
     }
 }
 
-/// The lifted name of a type that stands in the declaration of `name`, inside the type that `around` names: nothing, where the type
-/// is no inline one.
+/// The lifted name of a type that stands in the declaration of `name`, inside the type that `around` names:
+/// nothing, where the type is no inline one.
 pub fn lifted(
     alloc: Global,
     around: &[u8],

@@ -49,7 +49,8 @@ fn add_array(text: &mut Vec<u8>, c: &[u8], name: &[u8], length: &Length) -> Resu
 
 /// Adds the name with what stands around it.
 fn add_shaped(text: &mut Vec<u8>, c: &[u8], name: &[u8], shape: &Shape) -> Result<(), NoMemory>
-    ensures { OnOk result (text.new.items ≡ text.old.items ++ declared_as c.now name.now (view_shape shape.now)) }
+    ensures { OnOk result
+        (text.new.items ≡ text.old.items ++ declared_as c.now name.now (view_shape shape.now)) }
 {
     match shape {
         Shape::Plain => add(text, &[c, b" ", name]),

@@ -2,11 +2,14 @@
 
 ghost use Rattle.std.specs.Prelude.{◌≡◌, ◌++◌, map, codes, OnOk};
 ghost use Rattle.std.specs.List.{flat_map};
-ghost use Rattle.x_trees.specs.View.{view_value, view_enumerator, view_body, view_union, view_declaration, view_declarations, view_arms};
+ghost use Rattle.x_trees.specs.View.{view_value, view_enumerator, view_body, view_union, view_declaration};
+ghost use Rattle.x_trees.specs.View.{view_declarations, view_arms};
 ghost use Rattle.x_trees.specs.View.{view_default};
 ghost use Rattle.x_trees.specs.Tree.{Enum, Struct};
-ghost use Rattle.x_pieces.specs.Header.{forward_line, routine_line, constant_line, enumerator_text, enumerator_lines, member_line};
-ghost use Rattle.x_pieces.specs.Header.{field_lines, are_void, arm_lines, union_lines, body_lines, type_header, typedef_header};
+ghost use Rattle.x_pieces.specs.Header.{forward_line, routine_line, constant_line, enumerator_text};
+ghost use Rattle.x_pieces.specs.Header.{enumerator_lines, member_line};
+ghost use Rattle.x_pieces.specs.Header.{field_lines, are_void, arm_lines, union_lines, body_lines};
+ghost use Rattle.x_pieces.specs.Header.{type_header, typedef_header};
 ghost use Rattle.x_pieces.specs.Views.{view_named, view_types};
 
 use crate::add::add;
@@ -49,7 +52,8 @@ pub fn add_constant(text: &mut Vec<u8>, name: &[u8], number: &[u8]) -> Result<()
 
 /// Adds an enumerator, with its value where it is given.
 fn add_enumerator(text: &mut Vec<u8>, enumerator: &Enumerator) -> Result<(), NoMemory>
-    ensures { OnOk result (text.new.items ≡ text.old.items ++ enumerator_text (view_enumerator enumerator.now)) }
+    ensures { OnOk result
+        (text.new.items ≡ text.old.items ++ enumerator_text (view_enumerator enumerator.now)) }
 {
     match &enumerator.value {
         Some(value) => add(text, &[b"    ", &enumerator.name, b" = ", spelled(value)]),
@@ -245,7 +249,8 @@ pub fn add_typedef(
     text: &mut Vec<u8>,
     declaration: &Declaration,
 ) -> Result<(), NoMemory>
-    ensures { OnOk result (text.new.items ≡ text.old.items ++ typedef_header (view_declaration declaration.now)) }
+    ensures { OnOk result
+        (text.new.items ≡ text.old.items ++ typedef_header (view_declaration declaration.now)) }
 {
     if declaration.is_void() {
         return Ok(());

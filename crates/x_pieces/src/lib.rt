@@ -1,4 +1,5 @@
-//! What is generated of a definition, in C ([`PieceMaker`]), and the four texts of a whole `.x` file ([`write_text`]).
+//! What is generated of a definition, in C ([`PieceMaker`]), and the four texts of a whole `.x` file
+//! ([`write_text`]).
 #![tactic(auto)]
 
 mod add;

@@ -9,14 +9,16 @@ use std::alloc::Global;
 use std::marker::Model;
 use x_text::NoMemory;
 
-/// What is generated of a definition: its forward lines and its piece of each of the four texts, in one buffer.
+/// What is generated of a definition: its forward lines and its piece of each of the four texts, in one
+/// buffer.
 #[derive(Drop)]
 pub struct Pieces {
     text: Vec<u8>,
     ends: Ends,
 }
 
-/// Where parts of a text end that stand one behind another. The last one, of the table, ends where the text does.
+/// Where parts of a text end that stand one behind another. The last one, of the table, ends where the text
+/// does.
 #[derive(Clone, Copy, Debug, Default, PartialEq, Eq)]
 pub struct Ends {
     pub forward: usize,

@@ -9,8 +9,8 @@ use crate::prologue::{add_prologue, prologue_length};
 use crate::{PieceList, Which};
 use x_text::{Pen, Sink, WriteFault};
 
-/// Writes a text, and takes no memory. `base` is the name that the text uses. After a fault the sink has exactly its first `written`
-/// bytes.
+/// Writes a text, and takes no memory. `base` is the name that the text uses. After a fault the sink has
+/// exactly its first `written` bytes.
 pub fn write_text<L: PieceList, S: Sink>(
     which: Which,
     base: &[u8],

@@ -2,8 +2,10 @@
 
 ghost use Rattle.std.specs.Prelude.{◌≡◌, ◌++◌, [], OnOk, IfOk};
 ghost use Rattle.x_trees.specs.Gloss.{lifted_name};
-ghost use Rattle.x_trees.specs.View.{view_type, view_body, view_declaration, view_declarations, view_arms, view_default, view_definition};
-ghost use Rattle.x_pieces.specs.InlineTypes.{types_of_type, types_inside, types_of_declaration, types_of_declarations, types_of_arms};
+ghost use Rattle.x_trees.specs.View.{view_type, view_body, view_declaration, view_declarations, view_arms};
+ghost use Rattle.x_trees.specs.View.{view_default, view_definition};
+ghost use Rattle.x_pieces.specs.InlineTypes.{types_of_type, types_inside, types_of_declaration};
+ghost use Rattle.x_pieces.specs.InlineTypes.{types_of_declarations, types_of_arms};
 ghost use Rattle.x_pieces.specs.InlineTypes.{types_of_default, types_of};
 ghost use Rattle.x_pieces.specs.Views.{view_types};
 

@@ -1,10 +1,13 @@
--- The bodies that stand in a definition, and what stands in each: enumerators, names of fields, cases; and the versions and
--- procedures of a program. Each has the number of its word, counted from 0 among the words of the definition.
+-- The bodies that stand in a definition, and what stands in each: enumerators, names of fields, cases; and
+-- the versions and procedures of a program. Each has the number of its word, counted from 0 among the words
+-- of the definition.
 --
 -- `at` is the number of the first word of the part that a function is about.
 use Rattle.std.specs.Prelude.{ℕ, ◌+◌, Bool, true, false, List, [], ◌∷◌, ◌++◌, length, Option}
 use Rattle.x_trees.specs.Tree as tree
-use Rattle.x_trees.specs.Spell.{spell_type, spell_body, spell_declaration, spell_cases, spell_arms, spell_enumerator, spell_passed, spell_others, spell_procedure, spell_procedures}
+use Rattle.x_trees.specs.Spell.{spell_type, spell_body, spell_declaration, spell_cases, spell_arms}
+use Rattle.x_trees.specs.Spell.{spell_enumerator, spell_passed, spell_others, spell_procedure}
+use Rattle.x_trees.specs.Spell.{spell_procedures}
 
 -- a body, its first word (the one behind the keyword), and the word that declares the type's name
 pub record BodyAt : Type 0 where
@@ -24,7 +27,8 @@ name_word at (tree.Of type name shape) = at + length (spell_type type) + star sh
 name_word at (tree.Opaque name size) = at + 1
 name_word at (tree.String name most) = at + 1
 
--- Behind the discriminant of a union, whose body begins at the word, stand `)`, `{` and the arms; behind those the default.
+-- Behind the discriminant of a union, whose body begins at the word, stand `)`, `{` and the arms; behind
+-- those the default.
 
 abbrev pub arms_at : ℕ → tree.Declaration → ℕ
 arms_at at d = at + 2 + length (spell_declaration d) + 2
@@ -38,7 +42,8 @@ abbrev mutual
   bodies_inside at (tree.Enum es) = []
   bodies_inside at (tree.Struct ds) = bodies_of_fields (at + 1) ds
   bodies_inside at (tree.Union d arms other) =
-      bodies_of_declaration (at + 2) d ++ (bodies_of_arms (arms_at at d) arms ++ bodies_of_default (default_at at d arms) other)
+      bodies_of_declaration (at + 2) d
+      ++ (bodies_of_arms (arms_at at d) arms ++ bodies_of_default (default_at at d arms) other)
 
   -- of a type, behind which so many words stand in front of the name of its declaration
   pub bodies_of_type : ℕ → ℕ → tree.DataType → List BodyAt
@@ -70,7 +75,8 @@ abbrev mutual
   bodies_of_default at tree.no_default = []
   bodies_of_default at (tree.default d) = bodies_of_declaration (at + 2) d
 
--- the bodies of a definition: its own first; nothing inside an inline type that is an argument or a result counts
+-- the bodies of a definition: its own first; nothing inside an inline type that is an argument or a result
+-- counts
 abbrev pub bodies : tree.Definition → List BodyAt
 bodies (tree.Const name value) = []
 bodies (tree.Typedef d) = bodies_of_declaration 1 d
@@ -128,7 +134,8 @@ pub record NumberAt : Type 0 where
 -- the name of a declaration, if it has one
 abbrev pub field_at : ℕ → tree.Declaration → List NameAt
 field_at at tree.Void = []
-field_at at (tree.Of type name shape) = record { word = name_word at (tree.Of type name shape); name = name } ∷ []
+field_at at (tree.Of type name shape) =
+    record { word = name_word at (tree.Of type name shape); name = name } ∷ []
 field_at at (tree.Opaque name size) = record { word = at + 1; name = name } ∷ []
 field_at at (tree.String name most) = record { word = at + 1; name = name } ∷ []
 
@@ -154,7 +161,8 @@ fields_of b = of b.body
     of (tree.Enum es) = []
     of (tree.Struct ds) = fields_from (b.at + 1) ds
     of (tree.Union d arms other) =
-        field_at (b.at + 2) d ++ (arm_names_from (arms_at b.at d) arms ++ default_name (default_at b.at d arms) other)
+        field_at (b.at + 2) d
+        ++ (arm_names_from (arms_at b.at d) arms ++ default_name (default_at b.at d arms) other)
 
 abbrev pub cases_from : ℕ → List tree.Value → List ValueAt
 cases_from at [] = []
@@ -163,7 +171,8 @@ cases_from at (v ∷ vs) = record { word = at + 1; value = v } ∷ cases_from (a
 abbrev pub arm_cases_from : ℕ → tree.Arms → List ValueAt
 arm_cases_from at tree.no_arm = []
 arm_cases_from at (tree.arm cases d rest) =
-    cases_from at cases ++ arm_cases_from (at + length (spell_cases cases) + length (spell_declaration d) + 1) rest
+    cases_from at cases ++ arm_cases_from
+    (at + length (spell_cases cases) + length (spell_declaration d) + 1) rest
 
 -- the values of the cases of a union
 abbrev pub cases_of : BodyAt → List ValueAt
@@ -193,15 +202,18 @@ procedure_name at p = at + length (spell_passed p.result)
 
 -- the word of a procedure's number: between its name and that stand `(`, the arguments, `)` and `=`
 abbrev pub procedure_number : ℕ → tree.Procedure → ℕ
-procedure_number at p = procedure_name at p + 2 + (length (spell_passed p.first) + length (spell_others p.others)) + 2
+procedure_number at p =
+    procedure_name at p + 2 + (length (spell_passed p.first) + length (spell_others p.others)) + 2
 
 abbrev pub procedures_from : ℕ → List tree.Procedure → Members
 procedures_from at [] = no_members
 procedures_from at (p ∷ ps) =
-    member (record { word = procedure_name at p; name = p.name }) (record { word = procedure_number at p; text = p.number })
+    member (record { word = procedure_name at p; name = p.name })
+    (record { word = procedure_number at p; text = p.number })
     (procedures_from (at + length (spell_procedure p)) ps)
 
--- the word of a version's number: behind the procedures, which begin three words behind the version, stand `}` and `=`
+-- the word of a version's number: behind the procedures, which begin three words behind the version, stand
+-- `}` and `=`
 abbrev pub version_number : ℕ → tree.Version → ℕ
 version_number at v = at + 3 + length (spell_procedures v.procedures) + 2
 
@@ -235,6 +247,7 @@ abbrev pub member_names : List Members → List (List NameAt)
 member_names [] = []
 member_names (m ∷ ms) = m.names ∷ member_names ms
 
--- the names that are held against one another: the fields of each body, the versions of a program, the procedures of each version
+-- the names that are held against one another: the fields of each body, the versions of a program, the
+-- procedures of each version
 abbrev pub name_groups : tree.Definition → List (List NameAt)
 name_groups d = field_groups (bodies d) ++ member_names (members d)

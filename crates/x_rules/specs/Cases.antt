@@ -1,5 +1,6 @@
 -- The faults of cases that no discriminant has, in the order in which the program finds them.
-use Rattle.std.specs.Prelude.{ℕ, ◌+◌, ℤ, pos, nat_lt, nat_le, Bool, false, not, ◌&&◌, List, [], Option, Some, None, map, if◌then◌else◌}
+use Rattle.std.specs.Prelude.{ℕ, ◌+◌, ℤ, pos, nat_lt, nat_le, Bool, false, not, ◌&&◌, List, [], Option, Some}
+use Rattle.std.specs.Prelude.{None, map, if◌then◌else◌}
 use Rattle.std.specs.List.{flat_map, list_any}
 use Rattle.std.specs.Ordering.{int_eq}
 use Rattle.x_trees.specs.Tree as tree
@@ -34,7 +35,8 @@ has_fault faults from to = list_any (λ f. nat_le from f.word && nat_lt f.word t
 
 -- the faults of cases of a discriminant of the class
 abbrev pub case_faults : (List ℕ → View) → List Known → Class → List ValueAt → List WordFault
-case_faults see known class vs = flat_map (λ v. fault_at v.word (case_fault class (number_by see known (limit_of v.word) v.value))) vs
+case_faults see known class vs =
+    flat_map (λ v. fault_at v.word (case_fault class (number_by see known (limit_of v.word) v.value))) vs
 
 -- the same, of a class that may not be known
 abbrev pub class_faults : (List ℕ → View) → List Known → Option Class → List ValueAt → List WordFault
@@ -42,11 +44,13 @@ class_faults see known None vs = []
 class_faults see known (Some class) vs = case_faults see known class vs
 
 -- the faults of the cases of a body, if it is a union in whose brackets no fault was found
-abbrev pub bad_cases_by : (List ℕ → View) → List Known → List WordFault → tree.Body → ℕ → ℕ → List ValueAt → List WordFault
+abbrev pub bad_cases_by : (List ℕ → View) → List Known → List WordFault → tree.Body → ℕ → ℕ → List ValueAt
+    → List WordFault
 bad_cases_by see known found (tree.Union d arms other) at behind vs =
     if has_fault found (at + 2) behind then [] else class_faults see known (declaration_class see known d) vs
 bad_cases_by see known found body at behind vs = []
 
 abbrev pub bad_cases_of : (List ℕ → View) → List Known → List WordFault → BodyAt → List WordFault
 bad_cases_of see known found b =
-    bad_cases_by see known found (view_body b.body.now) b.at b.behind_discriminant (map view_value_at b.cases.items)
+    bad_cases_by see known found (view_body b.body.now) b.at b.behind_discriminant
+    (map view_value_at b.cases.items)

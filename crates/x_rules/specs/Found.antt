@@ -1,5 +1,6 @@
 -- The faults that each family of rules finds, in the order in which the program finds them.
-use Rattle.std.specs.Prelude.{ℕ, suc, ℤ, nat_lt, Bool, true, false, not, ◌&&◌, ◌||◌, List, [], ◌∷◌, ◌++◌, map, Option, Some, None, if◌then◌else◌}
+use Rattle.std.specs.Prelude.{ℕ, suc, ℤ, nat_lt, Bool, true, false, not, ◌&&◌, ◌||◌, List, [], ◌∷◌, ◌++◌, map}
+use Rattle.std.specs.Prelude.{Option, Some, None, if◌then◌else◌}
 use Rattle.std.specs.List.{flat_map, list_any}
 use Rattle.std.specs.Ordering.{int_eq}
 use Rattle.x_trees.specs.Tree.{Definition, Value, Number, Named}
@@ -8,13 +9,15 @@ use Rattle.x_trees.specs.Mentions.{Mention, mentioned}
 use Rattle.x_rules.specs.Views as views
 use Rattle.x_rules.specs.Views.{View, Class, NoClass}
 use Rattle.x_trees.specs.Seen.{names_of}
-use Rattle.x_rules.specs.Bodies.{EnumeratorAt, NameAt, ValueAt, NumberAt, Members, bodies, enumerators, cases_of, fields_of, members}
+use Rattle.x_rules.specs.Bodies.{EnumeratorAt, NameAt, ValueAt, NumberAt, Members, bodies, enumerators}
+use Rattle.x_rules.specs.Bodies.{cases_of, fields_of, members}
 use Rattle.x_rules.specs.Tables.{first_place, is_too_high}
 use Rattle.x_rules.specs.Constants.{Known, knowns, limit_of, number_by}
 use Rattle.x_numbers.specs.Numbers.{number_spelled, is_enum_number, is_word_number, is_zero}
 use Rattle.x_rules.specs.Mentioned.{mention_fault, suits}
 use Rattle.x_rules.specs.Types.{declaration_class, heights}
-use Rattle.x_trees.specs.Notes.{Note, NoteAt, ValueNote, NumberNote, MisplacedNote, DiscriminantNote, InlineNote, noted}
+use Rattle.x_trees.specs.Notes.{Note, NoteAt, ValueNote, NumberNote, MisplacedNote, DiscriminantNote}
+use Rattle.x_trees.specs.Notes.{InlineNote, noted}
 use Rattle.x_trees.specs.declared.names.note.ValueRole.{ValueRole}
 use Rattle.x_trees.specs.declared.names.note.ValueRole.TheVariants as roles
 use Rattle.x_rules.specs.declared.fault.RuleCode.{RuleCode}
@@ -51,7 +54,8 @@ duplicate_code taken = if taken then Some codes.Duplicate else None
 abbrev pub duplicates_from : (List ℕ → View) → (List ℕ → Option ℕ) → ℕ → List Declared → List WordFault
 duplicates_from see first place [] = []
 duplicates_from see first place (x ∷ xs) =
-    fault_at x.word (duplicate_code (is_taken_at see first place x.name)) ++ duplicates_from see first (suc place) xs
+    fault_at x.word (duplicate_code (is_taken_at see first place x.name))
+    ++ duplicates_from see first (suc place) xs
 
 -- ---- enumerators without a value
 
@@ -61,7 +65,8 @@ past_last given number = None
 
 -- the faults of enumerators without a value
 abbrev pub past_last_faults : List Known → List WordFault
-past_last_faults known = flat_map (λ k. fault_at k.enumerator.word (past_last k.enumerator.given k.number)) known
+past_last_faults known =
+    flat_map (λ k. fault_at k.enumerator.word (past_last k.enumerator.given k.number)) known
 
 -- ---- types that are too high
 
@@ -120,7 +125,8 @@ repeat_code behind = if behind then Some codes.RepeatedField else None
 -- the faults of names of which the first has this place, by the first place of each
 abbrev pub repeats_from : (List ℕ → Option ℕ) → ℕ → List NameAt → List WordFault
 repeats_from first place [] = []
-repeats_from first place (x ∷ xs) = fault_at x.word (repeat_code (is_behind (first x.name) place)) ++ repeats_from first (suc place) xs
+repeats_from first place (x ∷ xs) =
+    fault_at x.word (repeat_code (is_behind (first x.name) place)) ++ repeats_from first (suc place) xs
 
 -- the faults of the names of a group
 abbrev pub repeated_names : List NameAt → List WordFault
@@ -148,7 +154,8 @@ repeated_code code is_new = if is_new then None else Some code
 abbrev pub numbers_behind : RuleCode → List ℤ → List Numbered → List WordFault
 numbers_behind code before [] = []
 numbers_behind code before (n ∷ ns) =
-    fault_at n.word (repeated_code code (not (list_any (int_eq n.number) before))) ++ numbers_behind code (n.number ∷ before) ns
+    fault_at n.word (repeated_code code (not (list_any (int_eq n.number) before)))
+    ++ numbers_behind code (n.number ∷ before) ns
 
 -- the faults of numbers that an earlier word has too
 abbrev pub repeated_numbers : RuleCode → List Numbered → List WordFault
@@ -160,7 +167,8 @@ repeated_cases see known vs = repeated_numbers codes.RepeatedCase (case_numbers 
 
 -- the faults of the versions of a program, or of the procedures of a version
 abbrev pub repeated_members : Members → List WordFault
-repeated_members m = repeated_names m.names ++ repeated_numbers codes.RepeatedNumber (spelled_numbers m.numbers)
+repeated_members m =
+    repeated_names m.names ++ repeated_numbers codes.RepeatedNumber (spelled_numbers m.numbers)
 
 -- ---- all
 
@@ -168,8 +176,8 @@ repeated_members m = repeated_names m.names ++ repeated_numbers codes.RepeatedNu
 abbrev pub has_too_high : Definition → (List ℕ → View) → Bool
 has_too_high d see = list_any is_too_high (heights d see)
 
--- what is found of a definition by all rules but that for cases, in the order in which the rules are tried; `known` are its enumerators
--- with their numbers
+-- what is found of a definition by all rules but that for cases, in the order in which the rules are tried;
+-- `known` are its enumerators with their numbers
 abbrev pub found_by : Definition → (List ℕ → View) → List Known → List WordFault
 found_by d see known =
     duplicates_from see (first_place 0 (names_of d)) 0 (declared d)

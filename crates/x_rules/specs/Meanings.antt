@@ -48,5 +48,6 @@ counted_type see known None = Bad
 counted_type see known (Some b) = type_of (body_class known b.body) (capped (body_height see b.body))
 
 abbrev pub counted_definition : (List ℕ → View) → List Known → tree.Definition → Meaning
-counted_definition see known (tree.Typedef d) = type_of (declaration_class see known d) (capped (suc (held_height see d)))
+counted_definition see known (tree.Typedef d) =
+    type_of (declaration_class see known d) (capped (suc (held_height see d)))
 counted_definition see known d = Bad

@@ -13,8 +13,8 @@ use Rattle.x_rules.specs.declared.outline.parts.Members.{Members}
 abbrev pub Skips : BodyWalk → BodyWalk → ℕ → Type 0
 Skips from to n = Covers (view_walk from) (view_walk to) n (λ k. [])
 
--- the word to which a walk has come; the members of the versions that it has gone over; the names and the numbers that it has found
--- of those that it is among
+-- the word to which a walk has come; the members of the versions that it has gone over; the names and the
+-- numbers that it has found of those that it is among
 pub record Place : Type 0 where
   pub word : ℕ
   pub groups : List bodies.Members
@@ -30,10 +30,14 @@ place word groups m = record {
 }
 
 -- the walk has gone over n words more, and found these from the word on where it was
-pub record Adds (a b : Place) (n : ℕ) (more : ℕ → List bodies.Members) (found : ℕ → bodies.Members) : Type 0 where
-  pub groups : Covers (record { word = a.word; list = a.groups }) (record { word = b.word; list = b.groups }) n more
-  pub names : Covers (record { word = a.word; list = a.names }) (record { word = b.word; list = b.names }) n (λ k. (found k).names)
-  pub numbers : Covers (record { word = a.word; list = a.numbers }) (record { word = b.word; list = b.numbers }) n (λ k. (found k).numbers)
+pub record Adds (a b : Place) (n : ℕ) (more : ℕ → List bodies.Members)
+    (found : ℕ → bodies.Members) : Type 0 where
+  pub groups : Covers (record { word = a.word; list = a.groups })
+      (record { word = b.word; list = b.groups }) n more
+  pub names : Covers (record { word = a.word; list = a.names }) (record { word = b.word; list = b.names }) n
+      (λ k. (found k).names)
+  pub numbers : Covers (record { word = a.word; list = a.numbers })
+      (record { word = b.word; list = b.numbers }) n (λ k. (found k).numbers)
 
 -- a name, or a number, that stands at the word
 
@@ -64,7 +68,8 @@ abbrev pub AddsProcedures : Place → Place → List tree.Procedure → Type 0
 AddsProcedures a b ps = Adds a b (length (spell_procedures ps)) (λ k. []) (λ k. bodies.procedures_from k ps)
 
 abbrev pub AddsVersions : Place → Place → List tree.Version → Type 0
-AddsVersions a b vs = Adds a b (length (spell_versions vs)) (λ k. bodies.procedures_of k vs) (λ k. bodies.versions_from k vs)
+AddsVersions a b vs =
+    Adds a b (length (spell_versions vs)) (λ k. bodies.procedures_of k vs) (λ k. bodies.versions_from k vs)
 
 -- a version, whatever is found of those behind it
 abbrev pub AddsVersion : Place → Place → tree.Version → Type 0

@@ -35,8 +35,8 @@ may_be_linked kinds.Struct lifted = not lifted
 may_be_linked kinds.Union lifted = not lifted
 may_be_linked kind lifted = false
 
--- a use of a name: what as, and behind which keyword; `before` tells whether the item declares it at an earlier word, and not by the
--- very constant whose value this is
+-- a use of a name: what as, and behind which keyword; `before` tells whether the item declares it at an
+-- earlier word, and not by the very constant whose value this is
 
 -- nobody declares it
 abbrev pub is_unknown : View → Bool
@@ -60,8 +60,9 @@ abbrev pub is_no_constant : View → Use → Bool
 is_no_constant view uses.Value = not (is_declared_as is_constant view)
 is_no_constant view usage = false
 
--- a value whose first declarer is at no earlier word, or is what it is the value of; a type that is held and that is declared by the
--- item itself or later; a link to such a type, unless it is a struct or a union that isn't lifted
+-- a value whose first declarer is at no earlier word, or is what it is the value of; a type that is held and
+-- that is declared by the item itself or later; a link to such a type, unless it is a struct or a union that
+-- isn't lifted
 abbrev pub is_too_late : View → Bool → Use → Bool
 is_too_late (views.Own kind lifted) before uses.Value = not before
 is_too_late (views.Later kind lifted) before uses.Value = true
@@ -88,4 +89,5 @@ fault_of_use view before usage tag =
 
 -- the fault of a name that an item with these enumerators uses
 abbrev pub mention_fault : (List ℕ → View) → List EnumeratorAt → Mention → Option RuleCode
-mention_fault see es m = fault_of_use (see m.name) (is_declared_before es (limit_of m.word) m.name) m.usage m.tag
+mention_fault see es m =
+    fault_of_use (see m.name) (is_declared_before es (limit_of m.word) m.name) m.usage m.tag

@@ -24,7 +24,8 @@ use Rattle.x_rules.specs.declared.rules.sights.Sights.{Sights}
 abbrev pub outlined : Outline → tree.Definition
 outlined o = view_definition o.definition.now
 
--- An outline has the names that the definition declares and uses, its bodies, and what its words are to the rules.
+-- An outline has the names that the definition declares and uses, its bodies, and what its words are to the
+-- rules.
 pub record IsOutline (o : Outline) : Type 0 where
   pub short : IsShort (outlined o)
   pub names_are : map view_name o.declared.items ≡ declared (outlined o)
@@ -33,10 +34,12 @@ pub record IsOutline (o : Outline) : Type 0 where
   pub filled : AreFilled o.bodies.items
   pub notes_are : map view_note_at o.notes.items ≡ noted (outlined o)
 
--- The table of places is that of all these names, and that of constants has the enumerators with their numbers.
+-- The table of places is that of all these names, and that of constants has the enumerators with their
+-- numbers.
 pub record AreTables (o : Outline) (sights : Sights) (constants : Constants) : Type 0 where
   pub places : ArePlaces (place_seen sights) (names_of (outlined o))
-  pub numbers : HasNumbers constants (enumerators (outlined o)) (knowns (seen_by sights) (enumerators (outlined o)))
+  pub numbers : HasNumbers constants (enumerators (outlined o))
+      (knowns (seen_by sights) (enumerators (outlined o)))
 
 -- what checking a definition gives, by what its item sees of each name
 pub record GivesOutcome (d : tree.Definition) (see : List ℕ → View) (o : Outcome) : Type 0 where

@@ -1,5 +1,6 @@
 -- What checking an item gives, and the results of all items of a text.
-use Rattle.std.specs.Prelude.{◌≡◌, ℕ, suc, nat_eq, nat_lt, false, List, [], ◌∷◌, map, Option, Some, None, ℤ, pos, option_map, option_and_then, slice_get, codes, if◌then◌else◌}
+use Rattle.std.specs.Prelude.{◌≡◌, ℕ, suc, nat_eq, nat_lt, false, List, [], ◌∷◌, map, Option, Some, None, ℤ}
+use Rattle.std.specs.Prelude.{pos, option_map, option_and_then, slice_get, codes, if◌then◌else◌}
 use Rattle.std.specs.Option.{unwrap_or}
 use Rattle.std.specs.Str.{bytes_eq}
 use Rattle.x_trees.specs.Tree as tree
@@ -7,7 +8,8 @@ use Rattle.x_trees.specs.Tree.{Definition}
 use Rattle.x_trees.specs.Names.{Declared, declared}
 use Rattle.x_trees.specs.declared.names.declared_name.NameKind.{NameKind}
 use Rattle.x_trees.specs.declared.names.declared_name.NameKind.TheVariants as kinds
-use Rattle.x_rules.specs.Views.{View, Undeclared, Earlier, Own, Later, Meaning, Constant, OfType, Program, Bad, Class, seen}
+use Rattle.x_rules.specs.Views.{View, Undeclared, Earlier, Own, Later, Meaning, Constant, OfType, Program}
+use Rattle.x_rules.specs.Views.{Bad, Class, seen}
 use Rattle.x_trees.specs.Seen.{names_of}
 use Rattle.x_rules.specs.Bodies.{BodyAt, bodies, enumerators}
 use Rattle.x_rules.specs.Constants.{Known, knowns, number_named, number_at}
@@ -37,7 +39,8 @@ type_of (Some class) height = OfType class height
 abbrev pub type_named : (List ℕ → View) → List Known → List BodyAt → ℕ → Meaning
 type_named see known [] word = Bad
 type_named see known (b ∷ bs) word =
-    if nat_eq b.named word then type_of (body_class known b.body) (body_height see b.body) else type_named see known bs word
+    if nat_eq b.named word then type_of (body_class known b.body) (body_height see b.body)
+    else type_named see known bs word
 
 -- the type that a typedef declares
 abbrev pub type_defined : (List ℕ → View) → List Known → Definition → Meaning
@@ -56,8 +59,8 @@ meaning_of d see x = meaning_as d see x.kind x.name x.word
 
 -- ---- what checking an item gives
 
--- The faults of an item; and what the names mean that it declares, in their order. Those of an item with a fault are all bad, and none
--- is kept.
+-- The faults of an item; and what the names mean that it declares, in their order. Those of an item with a
+-- fault are all bad, and none is kept.
 pub record Outcome : Type 0 where
   pub faults : List WordFault
   pub meanings : List Meaning
@@ -96,27 +99,33 @@ view_of results item (Some at) =
 -- what an item sees of a name, by the name's first declarer and what checking that item gives
 abbrev pub view_named : ℕ → List ℕ → Option Declarer → Option Outcome → View
 view_named item name first declaring =
-    if is_beforehand name then Earlier kinds.Constant false (beforehand_meaning name) else view_of (λ k. declaring) item first
+    if is_beforehand name then Earlier kinds.Constant false (beforehand_meaning name)
+    else view_of (λ k. declaring) item first
 
--- what an item of a text with these definitions sees of a name; of the results only those of earlier items are read
+-- what an item of a text with these definitions sees of a name; of the results only those of earlier items
+-- are read
 abbrev pub view_by : List (Option Definition) → (ℕ → Option Outcome) → ℕ → List ℕ → View
 view_by definitions results item name =
     if is_beforehand name then Earlier kinds.Constant false (beforehand_meaning name)
     else view_of results item (first_declarer definitions name)
 
--- what checking the definition of an item gives, by the results of the items before it; an item without one gives nothing
-abbrev pub IsResult : List (Option Definition) → (ℕ → Option Outcome) → ℕ → Option Definition → Option Outcome → Type 0
+-- what checking the definition of an item gives, by the results of the items before it; an item without one
+-- gives nothing
+abbrev pub IsResult : List (Option Definition) → (ℕ → Option Outcome) → ℕ → Option Definition
+    → Option Outcome → Type 0
 IsResult definitions results item None None = Unit {0}
 IsResult definitions results item None (Some o) = ⊥
 IsResult definitions results item (Some d) None = ⊥
-IsResult definitions results item (Some d) (Some o) = IsOutcome d (map (view_by definitions results item) (names_of d)) o
+IsResult definitions results item (Some d) (Some o) =
+    IsOutcome d (map (view_by definitions results item) (names_of d)) o
 
 -- what a list of results has for an item
 abbrev pub result_at : List (Option Outcome) → ℕ → Option Outcome
 result_at results item = option_and_then (λ o. o) (slice_get results item)
 
 -- the results of these items, of which the first has the number `item`
-abbrev pub AreResultsFrom : List (Option Definition) → (ℕ → Option Outcome) → ℕ → List (Option Definition) → List (Option Outcome) → Type 0
+abbrev pub AreResultsFrom : List (Option Definition) → (ℕ → Option Outcome) → ℕ → List (Option Definition)
+    → List (Option Outcome) → Type 0
 AreResultsFrom definitions results item [] [] = Unit {0}
 AreResultsFrom definitions results item [] (o ∷ os) = ⊥
 AreResultsFrom definitions results item (d ∷ ds) [] = ⊥

@@ -1,7 +1,8 @@
--- The rules that a definition keeps beyond its spelling (RFC 4506, section 6.4; RFC 5531, section 12.3): which of them a word
--- breaks. `see` tells what the definition's item sees of each name. A rule that needs a number or a class is not applied where there
--- is none.
-use Rattle.std.specs.Prelude.{◌≡◌, ◌<◌, ◌≤◌, ◌⊎◌, ℕ, ◌+◌, Bool, true, false, nat_lt, List, [], ◌∷◌, ◌++◌, length, Option, Some, None, ℤ, pos, slice_get}
+-- The rules that a definition keeps beyond its spelling (RFC 4506, section 6.4; RFC 5531, section 12.3):
+-- which of them a word breaks. `see` tells what the definition's item sees of each name. A rule that needs a
+-- number or a class is not applied where there is none.
+use Rattle.std.specs.Prelude.{◌≡◌, ◌<◌, ◌≤◌, ◌⊎◌, ℕ, ◌+◌, Bool, true, false, nat_lt, List, [], ◌∷◌, ◌++◌}
+use Rattle.std.specs.Prelude.{length, Option, Some, None, ℤ, pos, slice_get}
 use Rattle.std.specs.List.{IsAmong}
 use Rattle.x_trees.specs.Tree as tree
 use Rattle.x_trees.specs.Tree.{Definition, Declaration, Value}
@@ -13,7 +14,8 @@ use Rattle.x_trees.specs.Spell.{spell_declaration}
 use Rattle.x_numbers.specs.Numbers.{in_range, value, is_word_number, is_enum_number, number_spelled}
 use Rattle.x_rules.specs.Views as views
 use Rattle.x_rules.specs.Views.{View, Class, NoClass, Signed, Unsigned, Boolean, Enumeration}
-use Rattle.x_rules.specs.Bodies.{BodyAt, EnumeratorAt, NameAt, ValueAt, NumberAt, Members, bodies, enumerators, cases_of, members, name_groups}
+use Rattle.x_rules.specs.Bodies.{BodyAt, EnumeratorAt, NameAt, ValueAt, NumberAt, Members, bodies}
+use Rattle.x_rules.specs.Bodies.{enumerators, cases_of, members, name_groups}
 use Rattle.x_rules.specs.Constants.{Known, knowns, number_at}
 use Rattle.x_rules.specs.Limits.{most_height}
 use Rattle.x_rules.specs.Mentioned.{mention_fault, suits}
@@ -42,7 +44,8 @@ pub record HasName {X : Type 0} (name_of : X → List ℕ) (xs : List X) (name :
   pub among : IsAmong xs other
   pub same : name_of other ≡ name
 
--- The word declares a name that an earlier place declares: an earlier item, the same item before, or that is declared beforehand.
+-- The word declares a name that an earlier place declares: an earlier item, the same item before, or that is
+-- declared beforehand.
 pub record IsDuplicate (names : List Declared) (see : List ℕ → View) (word : ℕ) : Type 0 where
   pub front : List Declared
   pub here : Declared
@@ -54,7 +57,8 @@ pub record IsDuplicate (names : List Declared) (see : List ℕ → View) (word :
 -- ---- 21 to 24, 37
 
 -- The word uses a name, with this fault.
-pub record HasMentionFault (mentions : List Mention) (see : List ℕ → View) (es : List EnumeratorAt) (code : RuleCode) (word : ℕ) : Type 0 where
+pub record HasMentionFault (mentions : List Mention) (see : List ℕ → View) (es : List EnumeratorAt)
+    (code : RuleCode) (word : ℕ) : Type 0 where
   pub mention : Mention
   pub among : IsAmong mentions mention
   pub word_is : word ≡ mention.word
@@ -102,7 +106,8 @@ pub record IsNoNumber (d : Definition) (word : ℕ) : Type 0 where
   pub is_number : number_role role ≡ Some text
   pub outside : is_word_number (value text) ≡ false
 
--- The word is the name of an enumerator without a value, and its number is outside 32 bits with a sign: it is 2147483648.
+-- The word is the name of an enumerator without a value, and its number is outside 32 bits with a sign: it is
+-- 2147483648.
 pub record IsPastLast (known : List Known) (word : ℕ) : Type 0 where
   pub here : Known
   pub among : IsAmong known here
@@ -113,7 +118,9 @@ pub record IsPastLast (known : List Known) (word : ℕ) : Type 0 where
   pub outside : is_enum_number number ≡ false
 
 abbrev pub IsOutOfRange : Definition → (List ℕ → View) → ℕ → Type 0
-IsOutOfRange d see word = IsNoConstant d word ⊎ (IsNoEnumValue d see word ⊎ (IsNoNumber d word ⊎ IsPastLast (knowns see (enumerators d)) word))
+IsOutOfRange d see word =
+    IsNoConstant d word
+    ⊎ (IsNoEnumValue d see word ⊎ (IsNoNumber d word ⊎ IsPastLast (knowns see (enumerators d)) word))
 
 -- ---- 26, 28
 
@@ -185,7 +192,8 @@ pub record IsRepeatedCase (number_of : ℕ → Value → Option ℤ) (bodies : L
 
 -- ---- 32
 
--- The word names a field, an arm, a version or a procedure as an earlier one of the same body, program or version is named.
+-- The word names a field, an arm, a version or a procedure as an earlier one of the same body, program or
+-- version is named.
 pub record IsRepeatedField (groups : List (List NameAt)) (word : ℕ) : Type 0 where
   pub group : List NameAt
   pub is_group : IsAmong groups group
@@ -198,7 +206,8 @@ pub record IsRepeatedField (groups : List (List NameAt)) (word : ℕ) : Type 0 w
 
 -- ---- 33
 
--- The word is the number of a version or a procedure, which an earlier one of the same program or version has.
+-- The word is the number of a version or a procedure, which an earlier one of the same program or version
+-- has.
 pub record IsRepeatedNumber (groups : List Members) (word : ℕ) : Type 0 where
   pub group : Members
   pub is_group : IsAmong groups group
@@ -263,13 +272,15 @@ pub record IsSwitch (union : BodyAt) (at : ℕ) (discriminant : Declaration) : T
   pub body_is : union.body ≡ tree.Union discriminant arms other
   pub at_is : at ≡ union.at + 2
 
--- No fault stands in the words of a declaration. A union inside the brackets of a `switch` is no discriminant, which is a fault there,
--- so the rule for cases adds none.
+-- No fault stands in the words of a declaration. A union inside the brackets of a `switch` is no
+-- discriminant, which is a fault there, so the rule for cases adds none.
 abbrev pub HasNoFault : Definition → (List ℕ → View) → ℕ → Declaration → Type 0
 HasNoFault d see at declaration =
-    (word : ℕ) (code : RuleCode) → at ≤ word → word < at + length (spell_declaration declaration) → Breaks d see word code → ⊥
+    (word : ℕ) (code : RuleCode) → at ≤ word → word < at + length (spell_declaration declaration)
+    → Breaks d see word code → ⊥
 
--- The word is the value of a case, and its number is outside the discriminant's class; no fault stands in the brackets of `switch`.
+-- The word is the value of a case, and its number is outside the discriminant's class; no fault stands in the
+-- brackets of `switch`.
 pub record IsBadCase (d : Definition) (see : List ℕ → View) (word : ℕ) : Type 0 where
   pub union : BodyAt
   pub is_body : IsAmong (bodies d) union
@@ -307,4 +318,5 @@ Ascends (f ∷ g ∷ rest) = IsBefore f g × Ascends (g ∷ rest)
 pub record AreFaults (d : Definition) (see : List ℕ → View) (faults : List WordFault) : Type 0 where
   pub ascend : Ascends faults
   pub are_faults : (f : WordFault) → IsAmong faults f → IsFault d see f.word f.code
-  pub are_all : (word : ℕ) (code : RuleCode) → IsFault d see word code → IsAmong faults (record { word = word; code = code })
+  pub are_all : (word : ℕ) (code : RuleCode) → IsFault d see word code
+      → IsAmong faults (record { word = word; code = code })

@@ -1,5 +1,6 @@
 -- What the program keeps of an item while it is checked, as the definitions have it.
-use Rattle.std.specs.Prelude.{◌≡◌, ℕ, suc, ◌-◌, ◌^◌, min, nat_lt, true, false, Bool, List, [], ◌∷◌, ◌++◌, length, map, take, Option, Some, None, option_map, slice_get, if◌then◌else◌}
+use Rattle.std.specs.Prelude.{◌≡◌, ℕ, suc, ◌-◌, ◌^◌, min, nat_lt, true, false, Bool, List, [], ◌∷◌, ◌++◌}
+use Rattle.std.specs.Prelude.{length, map, take, Option, Some, None, option_map, slice_get, if◌then◌else◌}
 use Rattle.indexmap.specs.IndexMap.{IndexMap}
 use Rattle.std.specs.Borrow.{Bor}
 use Rattle.std.specs.Cow.{cow_slice_items}
@@ -110,7 +111,8 @@ abbrev pub view_given : Option (Bor Value) → Option tree.Value
 view_given given = option_map (λ v. view_value v.now) given
 
 abbrev pub view_enumerator_at : EnumeratorAt → bodies.EnumeratorAt
-view_enumerator_at e = record { word = e.word; name = e.name.now; given = view_given e.given; is_first = e.is_first }
+view_enumerator_at e =
+    record { word = e.word; name = e.name.now; given = view_given e.given; is_first = e.is_first }
 
 abbrev pub view_name_at : NameAt → bodies.NameAt
 view_name_at x = record { word = x.word; name = x.name.now }
@@ -122,7 +124,8 @@ abbrev pub view_number_at : NumberAt → bodies.NumberAt
 view_number_at x = record { word = x.word; text = x.text.now }
 
 abbrev pub view_members : Members → bodies.Members
-view_members m = record { names = map view_name_at m.names.items; numbers = map view_number_at m.numbers.items }
+view_members m =
+    record { names = map view_name_at m.names.items; numbers = map view_number_at m.numbers.items }
 
 -- ---- enumerators
 
@@ -131,7 +134,8 @@ abbrev pub place_listed : Constants → List ℕ → Option ℕ
 place_listed constants name = place_by constants.table (map (λ e. e.name.now) constants.list.items) name
 
 -- the table of enumerators has these, and numbers of the first of them
-pub record HasNumbers (constants : Constants) (all : List bodies.EnumeratorAt) (known : List Known) : Type 0 where
+pub record HasNumbers (constants : Constants) (all : List bodies.EnumeratorAt)
+    (known : List Known) : Type 0 where
   pub places : ArePlaces (place_listed constants) (map (λ e. e.name) all)
   pub list : map view_enumerator_at constants.list.items ≡ all
   pub numbers : constants.numbers.items ≡ map (λ k. k.number) known

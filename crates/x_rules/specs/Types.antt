@@ -1,5 +1,6 @@
 -- What types are as discriminants, and how high they are.
-use Rattle.std.specs.Prelude.{ℕ, suc, max, List, [], ◌∷◌, ◌++◌, map, Option, Some, None, ℤ, option_map, option_and_then, if◌then◌else◌}
+use Rattle.std.specs.Prelude.{ℕ, suc, max, List, [], ◌∷◌, ◌++◌, map, Option, Some, None, ℤ, option_map}
+use Rattle.std.specs.Prelude.{option_and_then, if◌then◌else◌}
 use Rattle.std.specs.Option.{option_map_or}
 use lib.Signed.{lt_z}
 use Rattle.x_trees.specs.Tree as tree
@@ -59,9 +60,12 @@ basic_class basic = NoClass
 abbrev pub enum_number : Option ℤ → Option ℤ
 enum_number number = option_and_then (λ z. if is_enum_number z then Some z else None) number
 
--- the class of an enum: its numbers; there is none that is known where an enumerator has none that an enum may have
+-- the class of an enum: its numbers; there is none that is known where an enumerator has none that an enum
+-- may have
 abbrev pub enum_class : List Known → List tree.Enumerator → Option Class
-enum_class known es = option_map (λ zs. Enumeration (number_set zs)) (if_all (map (λ e. enum_number (number_named known e.name)) es))
+enum_class known es =
+    option_map (λ zs. Enumeration (number_set zs))
+    (if_all (map (λ e. enum_number (number_named known e.name)) es))
 
 abbrev pub body_class : List Known → tree.Body → Option Class
 body_class known (tree.Enum es) = enum_class known es
@@ -102,7 +106,8 @@ abbrev mutual
   pub body_height : (List ℕ → View) → tree.Body → ℕ
   body_height see (tree.Enum es) = 1
   body_height see (tree.Struct ds) = suc (fields_height see ds)
-  body_height see (tree.Union d arms other) = suc (max (held_height see d) (max (arms_height see arms) (default_height see other)))
+  body_height see (tree.Union d arms other) =
+      suc (max (held_height see d) (max (arms_height see arms) (default_height see other)))
 
   -- the height of what a declaration holds
   pub held_height : (List ℕ → View) → tree.Declaration → ℕ

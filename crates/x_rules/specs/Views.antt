@@ -20,8 +20,8 @@ pub data Meaning : Type 0 where
   Program : Meaning
   Bad : Meaning
 
--- whether the first declarer is none, an earlier item or beforehand, the item itself or a later one; what the name is declared as
--- there, and whether it is lifted; and what it means, where that is earlier
+-- whether the first declarer is none, an earlier item or beforehand, the item itself or a later one; what the
+-- name is declared as there, and whether it is lifted; and what it means, where that is earlier
 pub data View : Type 0 where
   Undeclared : View
   Earlier : (kind : NameKind) (lifted : Bool) (meaning : Meaning) → View

@@ -149,9 +149,10 @@ fn outcome(alloc: Global, outline: &Outline, views: &[View]) -> Result<Checked, 
     checked(alloc, outline, &sights, &constants)
 }
 
-/// Checks the definition of an item by the rules beyond its spelling (RFC 4506, section 6.4). There is one view for each name that it
-/// declares, and then one for each that it uses, in the orders of [`x_trees::declares`] and [`x_trees::mentions`]. Counts one checked
-/// item. It takes time in proportion to the definition, but for sorting faults and the numbers of an enum.
+/// Checks the definition of an item by the rules beyond its spelling (RFC 4506, section 6.4). There is one
+/// view for each name that it declares, and then one for each that it uses, in the orders of
+/// [`x_trees::declares`] and [`x_trees::mentions`]. Counts one checked item. It takes time in proportion to
+/// the definition, but for sorting faults and the numbers of an enum.
 ///
 /// # Errors
 ///

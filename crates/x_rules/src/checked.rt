@@ -109,8 +109,8 @@ impl Checked {
         &self.faults
     }
 
-    /// What the name means that stands at the place, from 0, among those that the item declares. Those of an item with a fault are all
-    /// bad.
+    /// What the name means that stands at the place, from 0, among those that the item declares. Those of an
+    /// item with a fault are all bad.
     pub fn meaning(&self, place: usize) -> Meaning<'_>
         ensures { view_meaning result ≡ meaning_in self.now place }
     {

@@ -27,5 +27,6 @@ pub fn one_list_of_results()
 
 /// A text has results of all items.
 pub fn has_results()
-    ensures { (definitions : List (Option Definition)) → (rs : List (Option Outcome)) × AreResults definitions rs }
+    ensures { (definitions : List (Option Definition))
+        → (rs : List (Option Outcome)) × AreResults definitions rs }
 {}

@@ -1,5 +1,5 @@
-//! What an item sees of a name ([`View`]), and what is wrong with a definition beyond its spelling, and what its names mean
-//! ([`check_item`]).
+//! What an item sees of a name ([`View`]), and what is wrong with a definition beyond its spelling, and what
+//! its names mean ([`check_item`]).
 #![tactic(auto)]
 
 mod check;

@@ -15,7 +15,8 @@ use std::alloc::Global;
 use x_text::NoMemory;
 use x_trees::{DeclaredName, Definition, Glossary, Mention, NoteAt};
 
-/// The names that stand in a definition, and its bodies: what is found of it once, both for its views and for its check.
+/// The names that stand in a definition, and its bodies: what is found of it once, both for its views and for
+/// its check.
 #[derive(Drop)]
 pub struct Outline<'d> {
     pub(crate) definition: &'d Definition,
@@ -34,7 +35,8 @@ impl<'d> Outline<'d> {
     /// [`NoMemory`] where a list could not grow.
     pub fn of(alloc: Global, definition: &'d Definition) -> Result<Outline<'d>, NoMemory>
         ensures definition { IfOk result (λ outline. outline.definition ≡ definition.entry) }
-        ensures outline { IfOk result (λ outline. IsShort (view_definition definition.now) → IsOutline outline) }
+        ensures outline { IfOk result
+            (λ outline. IsShort (view_definition definition.now) → IsOutline outline) }
     {
         let empty = Outline {
             definition,
@@ -53,7 +55,8 @@ impl<'d> Outline<'d> {
     /// As [`Outline::of`].
     pub fn again(self, alloc: Global, definition: &'d Definition) -> Result<Outline<'d>, NoMemory>
         ensures definition { IfOk result (λ outline. outline.definition ≡ definition.entry) }
-        ensures outline { IfOk result (λ outline. IsShort (view_definition definition.now) → IsOutline outline) }
+        ensures outline { IfOk result
+            (λ outline. IsShort (view_definition definition.now) → IsOutline outline) }
     {
         let mut glossary = Glossary {
             declared: self.declared,

@@ -10,7 +10,8 @@ use crate::numbers::Numbers;
 use x_names::{Declarer, is_beforehand};
 use x_trees::NameKind;
 
-/// The greatest height of a type. One that holds no other has the height 1, and any other 1 more than the highest that it holds.
+/// The greatest height of a type. One that holds no other has the height 1, and any other 1 more than the
+/// highest that it holds.
 pub const MOST_HEIGHT: u32 = 32;
 
 /// What a type is as the discriminant of a union.
@@ -37,7 +38,8 @@ pub enum Meaning<'v> {
     Type {
         /// What it is as the discriminant of a union.
         class: Class<'v>,
-        /// 1 more than the greatest height of the named and inline types that it holds, at most [`MOST_HEIGHT`].
+        /// 1 more than the greatest height of the named and inline types that it holds, at most
+        /// [`MOST_HEIGHT`].
         height: u32,
     },
     /// A program.
@@ -89,8 +91,8 @@ fn beforehand_meaning(name: &[u8]) -> Meaning<'static>
 }
 
 impl<'v> View<'v> {
-    /// What an item sees of a name. `first` is the name's first declarer, and `declaring` what checking that item found, which is read
-    /// where the item stands earlier; without it the name is bad.
+    /// What an item sees of a name. `first` is the name's first declarer, and `declaring` what checking that
+    /// item found, which is read where the item stands earlier; without it the name is bad.
     pub fn of(
         item: usize,
         name: &[u8],

@@ -1,4 +1,5 @@
--- What a number chooses: the name of an enumerator, the arm of a union. Numbers stand as the words of four bytes that encode them.
+-- What a number chooses: the name of an enumerator, the arm of a union. Numbers stand as the words of four
+-- bytes that encode them.
 use Rattle.std.specs.Prelude.{ℕ, nat_eq, List, Option, Some}
 use Rattle.std.specs.Map.{lookup}
 use Rattle.x_schema.specs.declared.form.Arm.{Arm}

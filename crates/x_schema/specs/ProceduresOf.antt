@@ -1,6 +1,8 @@
--- What the procedures of a text are (RFC 5531, section 12): what each is called with and what it answers, by its numbers. As the types, they are
--- told of any text: an inline type, which may not be passed, counts as `void`, and so does a name that is no type.
-use Rattle.std.specs.Prelude.{◌≡◌, ℕ, ◌+◌, ◌^◌, ◌-◌, List, [], ◌∷◌, ◌++◌, map, Option, Some, None, option_and_then, codes, decimal}
+-- What the procedures of a text are (RFC 5531, section 12): what each is called with and what it answers, by
+-- its numbers. As the types, they are told of any text: an inline type, which may not be passed, counts as
+-- `void`, and so does a name that is no type.
+use Rattle.std.specs.Prelude.{◌≡◌, ℕ, ◌+◌, ◌^◌, ◌-◌, List, [], ◌∷◌, ◌++◌, map, Option, Some, None}
+use Rattle.std.specs.Prelude.{option_and_then, codes, decimal}
 use Rattle.std.specs.List.{flat_map}
 use Rattle.std.specs.Global.{Global}
 use Rattle.std.specs.declared.vec.Vec.{Vec}
@@ -44,15 +46,18 @@ pub record IsArgumentField (s : Schema) (number : ℕ) (a : Option tree.Argument
 abbrev pub AreArgumentFields : Schema → ℕ → List tree.Argument → List Field → Type 0
 AreArgumentFields s number [] fields = fields ≡ []
 AreArgumentFields s number (a ∷ rest) fields =
-    (field : Field) × (others : List Field) × (fields ≡ field ∷ others) × IsArgumentField s number (Some a) field
+    (field : Field) × (others : List Field) × (fields ≡ field ∷ others)
+    × IsArgumentField s number (Some a) field
     × AreArgumentFields s (number + 1) rest others
 
 -- one argument alone is itself, and several are a struct of them
 abbrev pub AreArguments : Schema → Option tree.Argument → List tree.Argument → ℕ → Type 0
 AreArguments s first [] place = IsPassed s first place
 AreArguments s first (a ∷ rest) place =
-    (fields : Vec Field Global) × (field : Field) × (others : List Field) × (form_at s place ≡ forms.Struct fields)
-    × (fields.items ≡ field ∷ others) × IsArgumentField s 1 first field × AreArgumentFields s 2 (a ∷ rest) others
+    (fields : Vec Field Global) × (field : Field) × (others : List Field)
+    × (form_at s place ≡ forms.Struct fields)
+    × (fields.items ≡ field ∷ others) × IsArgumentField s 1 first field
+    × AreArgumentFields s 2 (a ∷ rest) others
 
 pub record IsProcedure (s : Schema) (p : tree.Procedure) (kept : KeptProcedure) : Type 0 where
   pub name : name_at s kept.name ≡ p.name
@@ -68,7 +73,8 @@ pub record Numbered : Type 0 where
   pub procedure : tree.Procedure
 
 abbrev pub procedures_by : List ℕ → List ℕ → List tree.Procedure → List Numbered
-procedures_by program version procedures = map (λ p. record { program = program; version = version; procedure = p }) procedures
+procedures_by program version procedures =
+    map (λ p. record { program = program; version = version; procedure = p }) procedures
 
 abbrev pub procedures_in : List ℕ → tree.Version → List Numbered
 procedures_in program v = procedures_by program v.number v.procedures
@@ -90,7 +96,8 @@ number_of text = option_and_then unsigned_word (number_spelled text)
 
 -- the numbers of a procedure, where each is one of 32 bits
 abbrev pub numbers_from : Option ℕ → Option ℕ → Option ℕ → Option ProcedureNumbers
-numbers_from (Some program) (Some version) (Some procedure) = Some (record { program = program; version = version; procedure = procedure })
+numbers_from (Some program) (Some version) (Some procedure) =
+    Some (record { program = program; version = version; procedure = procedure })
 numbers_from _ _ _ = None
 
 abbrev pub numbers_by : Numbered → Option ProcedureNumbers
@@ -109,4 +116,5 @@ with_procedure table (Some numbers) kept = with_first same_numbers table numbers
 abbrev pub AreProceduresBehind : Schema → Table → List Numbered → Type 0
 AreProceduresBehind s table [] = s.procedures ≡ table
 AreProceduresBehind s table (p ∷ ps) =
-    (kept : KeptProcedure) × IsProcedure s p.procedure kept × AreProceduresBehind s (with_procedure table (numbers_by p) kept) ps
+    (kept : KeptProcedure) × IsProcedure s p.procedure kept
+    × AreProceduresBehind s (with_procedure table (numbers_by p) kept) ps

@@ -1,5 +1,6 @@
 -- The types of a text: forms by their places, and the names that lead to them.
-use Rattle.std.specs.Prelude.{ℕ, ◌≡◌, ◌<◌, nat_eq, Bool, ◌&&◌, List, [], Option, Some, map, option_map, length}
+use Rattle.std.specs.Prelude.{ℕ, ◌≡◌, ◌<◌, nat_eq, Bool, ◌&&◌, List, [], Option, Some, map, option_map}
+use Rattle.std.specs.Prelude.{length}
 use Rattle.std.specs.Map.{lookup}
 use Rattle.std.specs.Str.{bytes_eq}
 use Rattle.std.specs.Global.{Global}
@@ -60,7 +61,8 @@ pub record IsTypeId (s : Schema) (id : TypeId) : Type 0 where
 -- ---- procedures
 
 abbrev pub same_numbers : ProcedureNumbers → ProcedureNumbers → Bool
-same_numbers a b = nat_eq a.program b.program && (nat_eq a.version b.version && nat_eq a.procedure b.procedure)
+same_numbers a b =
+    nat_eq a.program b.program && (nat_eq a.version b.version && nat_eq a.procedure b.procedure)
 
 -- the procedure of these numbers
 abbrev pub procedure_at : Schema → ProcedureNumbers → Option KeptProcedure
@@ -74,7 +76,8 @@ abbrev pub results_id : KeptProcedure → TypeId
 results_id kept = record { root = roots.Results; form = kept.results }
 
 -- the schema has the procedure, of this name, with these arguments and results
-pub record IsProcedureAt (s : Schema) (numbers : ProcedureNumbers) (name : List ℕ) (arg res : TypeId) : Type 0 where
+pub record IsProcedureAt (s : Schema) (numbers : ProcedureNumbers) (name : List ℕ)
+    (arg res : TypeId) : Type 0 where
   pub kept : KeptProcedure
   pub found : procedure_at s numbers ≡ Some kept
   pub name_is : name ≡ name_at s kept.name

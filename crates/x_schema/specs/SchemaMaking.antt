@@ -1,5 +1,7 @@
--- What the maker of a schema does, told of every schema that it may end with: what it has put stays where it is.
-use Rattle.std.specs.Prelude.{◌≡◌, ℕ, ◌<◌, ◌≤◌, ◌^◌, IsTrue, List, [], ◌∷◌, ◌++◌, map, length, Option, Some, None}
+-- What the maker of a schema does, told of every schema that it may end with: what it has put stays where it
+-- is.
+use Rattle.std.specs.Prelude.{◌≡◌, ℕ, ◌<◌, ◌≤◌, ◌^◌, IsTrue, List, [], ◌∷◌, ◌++◌, map, length, Option, Some}
+use Rattle.std.specs.Prelude.{None}
 use Rattle.std.specs.Map.{lookup}
 use Rattle.std.specs.Global.{Global}
 use Rattle.std.specs.Str.{bytes_eq}
@@ -61,19 +63,23 @@ AreWithin n i (t ∷ ts) = IsWithin n i t × AreWithin n i ts
 -- what was put is sound
 pub record IsGood (types : Types) (m : Maker) : Type 0 where
   pub void : IsFront (forms.Void ∷ []) m.forms.items
-  pub sound : (s : Schema) → Completes m s → (i : ℕ) → i < length m.forms.items → IsSoundForm s i (form_at s i)
+  pub sound : (s : Schema) → Completes m s → (i : ℕ) → i < length m.forms.items
+      → IsSoundForm s i (form_at s i)
   pub links : AreLinksWithin (length m.forms.items) m.links.items
   pub within : (name : List ℕ) (t : NamedType) → lookup (bytes_eq name) types ≡ Some t
       → IsWithin (length m.names.items) (length m.forms.items) t
 
--- The maker has put something: what is told of it, and of the types that these typedefs stand for, holds of every schema behind.
-pub record Puts (known : Known) (old new : Maker) (typedefs : List tree.Declaration) (Is : ℕ → ℕ → Schema → Type 0) : Type 0 where
+-- The maker has put something: what is told of it, and of the types that these typedefs stand for, holds of
+-- every schema behind.
+pub record Puts (known : Known) (old new : Maker) (typedefs : List tree.Declaration)
+    (Is : ℕ → ℕ → Schema → Type 0) : Type 0 where
   pub behind : (n i : ℕ) (s : Schema) → Behind new n i s → Behind old n i s
   pub longer : length old.forms.items ≤ length new.forms.items
   pub good : IsGood known.types new
   pub found : List NamedType
   pub adds : new.found.items ≡ old.found.items ++ found
-  pub named : (n i : ℕ) (s : Schema) → Behind new n i s → AreNamed s known typedefs found × AreWithin n i found
+  pub named : (n i : ℕ) (s : Schema) → Behind new n i s
+      → AreNamed s known typedefs found × AreWithin n i found
   pub is : (n i : ℕ) (s : Schema) → Behind new n i s → Is n i s
 
 -- ---- single steps
@@ -121,7 +127,8 @@ abbrev pub PutsPlace : Known → Maker → Maker → List tree.Declaration → �
 PutsPlace known old new typedefs place Is = PutsAll known old new typedefs (λ n i s. Is s place × (place < i))
 
 abbrev pub PutsLink : Known → Maker → Maker → List tree.Declaration → ℕ → (Schema → ℕ → Type 0) → Type 0
-PutsLink known old new typedefs link Is = PutsAll known old new typedefs (λ n i s. Is s link × (link < length s.links))
+PutsLink known old new typedefs link Is =
+    PutsAll known old new typedefs (λ n i s. Is s link × (link < length s.links))
 
 -- the words of an enum with their names
 abbrev pub words_named : Schema → List (ℕ × ℕ) → List (ℕ × List ℕ)
@@ -134,7 +141,8 @@ AreSoundWords n (e ∷ es) = (e.0 < 2 ^ 32) × (e.1 < n) × AreSoundWords n es
 -- the cases of a discriminant of the form
 abbrev pub AreSoundCases : ℕ → ℕ → Form → List (ℕ × Arm) → Type 0
 AreSoundCases n i form [] = Unit {0}
-AreSoundCases n i form (e ∷ es) = (e.0 < 2 ^ 32) × IsTrue (is_legal form e.0) × IsSoundArm n i e.1 × AreSoundCases n i form es
+AreSoundCases n i form (e ∷ es) =
+    (e.0 < 2 ^ 32) × IsTrue (is_legal form e.0) × IsSoundArm n i e.1 × AreSoundCases n i form es
 
 abbrev pub IsSoundDefault : ℕ → ℕ → Option Arm → Type 0
 IsSoundDefault n i None = Unit {0}
@@ -145,13 +153,19 @@ abbrev pub with_found : List (List ℕ) → Types → List NamedType → Types
 with_found names types [] = types
 with_found names types (t ∷ ts) = with_found names (with_first bytes_eq types (get_or names t.name []) t) ts
 
--- The types that the items declare stand behind those before them, in every schema that the maker may end with.
-pub record FindsItems (old new : Maker) (before after : held.Known) (definitions : List (Option tree.Definition)) : Type 0 where
+-- The types that the items declare stand behind those before them, in every schema that the maker may end
+-- with.
+pub record FindsItems (old new : Maker) (before after : held.Known)
+    (definitions : List (Option tree.Definition)) : Type 0 where
   pub constants : numbers_held after.constants ≡ numbers_held before.constants
-  pub good : old.found.items ≡ [] → IsGood (view_known before).types old → IsGood (view_known after).types new × (new.found.items ≡ [])
-  pub behind : old.found.items ≡ [] → IsGood (view_known before).types old → (n i : ℕ) (s : Schema) → Behind new n i s → Behind old n i s
-  pub types : old.found.items ≡ [] → IsGood (view_known before).types old → (n i : ℕ) (s : Schema) → Behind new n i s
-      → (rest : List (Option tree.Definition)) → AreTypesOf s (view_known before).numbers (view_known after).types rest
+  pub good : old.found.items ≡ [] → IsGood (view_known before).types old
+      → IsGood (view_known after).types new × (new.found.items ≡ [])
+  pub behind : old.found.items ≡ [] → IsGood (view_known before).types old → (n i : ℕ) (s : Schema)
+      → Behind new n i s → Behind old n i s
+  pub types : old.found.items ≡ [] → IsGood (view_known before).types old → (n i : ℕ) (s : Schema)
+      → Behind new n i s
+      → (rest : List (Option tree.Definition))
+      → AreTypesOf s (view_known before).numbers (view_known after).types rest
       → AreTypesOf s (view_known before).numbers (view_known before).types (definitions ++ rest)
 
 abbrev pub FindsItem : Maker → Maker → held.Known → held.Known → Option tree.Definition → Type 0

@@ -1,6 +1,8 @@
--- What the types of a text are: the form of each type that an item declares, as RFC 4506, section 4, gives it to the words of the item.
--- They are told of any text. What is a fault counts as something: a name that is no type is `void`, a number that is not known is none.
-use Rattle.std.specs.Prelude.{◌≡◌, ℕ, ◌-◌, ◌^◌, ℤ, pos, negsuc, nat_lt, nat_eq, Bool, is_some, List, [], ◌∷◌, ◌++◌, map, Option, Some, None, option_and_then, codes, if◌then◌else◌}
+-- What the types of a text are: the form of each type that an item declares, as RFC 4506, section 4, gives it
+-- to the words of the item. They are told of any text. What is a fault counts as something: a name that is no
+-- type is `void`, a number that is not known is none.
+use Rattle.std.specs.Prelude.{◌≡◌, ℕ, ◌-◌, ◌^◌, ℤ, pos, negsuc, nat_lt, nat_eq, Bool, is_some, List, [], ◌∷◌}
+use Rattle.std.specs.Prelude.{◌++◌, map, Option, Some, None, option_and_then, codes, if◌then◌else◌}
 use Rattle.std.specs.Map.{lookup}
 use Rattle.std.specs.Option.{option_map_or}
 use Rattle.std.specs.Str.{bytes_eq}
@@ -63,7 +65,8 @@ abbrev mutual
   pub with_body : Numbers → tree.Body → Numbers
   with_body numbers (tree.Enum es) = with_enumerators numbers (Some (pos 0)) es
   with_body numbers (tree.Struct ds) = with_declarations numbers ds
-  with_body numbers (tree.Union d arms other) = with_default (with_arms (with_declaration numbers d) arms) other
+  with_body numbers (tree.Union d arms other) =
+      with_default (with_arms (with_declaration numbers d) arms) other
 
   pub with_type : Numbers → tree.DataType → Numbers
   with_type numbers (tree.Simple b) = numbers
@@ -146,12 +149,14 @@ if_legal form w = if is_legal form w then Some w else None
 
 -- the word of a case, if its number is known and the discriminant may have it
 abbrev pub case_word : Numbers → Form → tree.Value → Option ℕ
-case_word numbers form v = option_and_then (if_legal form) (option_and_then (word_by form) (number_in numbers v))
+case_word numbers form v =
+    option_and_then (if_legal form) (option_and_then (word_by form) (number_in numbers v))
 
 -- the arms of words, with that of these cases
 abbrev pub with_cases : Numbers → Form → List (ℕ × Arm) → List tree.Value → Arm → List (ℕ × Arm)
 with_cases numbers form entries [] arm = entries
-with_cases numbers form entries (v ∷ vs) arm = with_cases numbers form (with_word entries (case_word numbers form v) arm) vs arm
+with_cases numbers form entries (v ∷ vs) arm =
+    with_cases numbers form (with_word entries (case_word numbers form v) arm) vs arm
 
 -- ---- forms
 
@@ -216,13 +221,15 @@ abbrev pub place_in : Arm → ℕ
 place_in arms.Void = 0
 place_in (arms.Of field) = field.form
 
--- What stands around the name of a declaration, at the place, and the part that is of the declared type: a place, or a link where it is
--- used as one.
+-- What stands around the name of a declaration, at the place, and the part that is of the declared type: a
+-- place, or a link where it is used as one.
 abbrev pub IsShape : Schema → Numbers → tree.Shape → ℕ → ℕ → Type 0
 IsShape s numbers tree.Plain place part = place ≡ part
 IsShape s numbers tree.Optional place part = form_at s place ≡ forms.Optional part
-IsShape s numbers (tree.Array (tree.Fixed size)) place part = form_at s place ≡ forms.FixedArray part (size_in numbers size)
-IsShape s numbers (tree.Array (tree.Variable most)) place part = form_at s place ≡ forms.Array part (limit_in numbers most)
+IsShape s numbers (tree.Array (tree.Fixed size)) place part =
+    form_at s place ≡ forms.FixedArray part (size_in numbers size)
+IsShape s numbers (tree.Array (tree.Variable most)) place part =
+    form_at s place ≡ forms.Array part (limit_in numbers most)
 
 -- the place of a part
 abbrev pub place_used : Schema → Use → ℕ → ℕ
@@ -241,22 +248,26 @@ abbrev mutual
   IsDeclared s known (tree.Of type name shape) place =
       (part : ℕ) × IsShape s known.numbers shape place part × IsType s known type (use_by shape) part
   IsDeclared s known (tree.Opaque name length) place = form_at s place ≡ opaque_form known.numbers length
-  IsDeclared s known (tree.String name most) place = form_at s place ≡ forms.String (limit_in known.numbers most)
+  IsDeclared s known (tree.String name most) place =
+      form_at s place ≡ forms.String (limit_in known.numbers most)
 
   pub IsType : Schema → Known → tree.DataType → Use → ℕ → Type 0
   IsType s known (tree.Simple b) usage part = form_at s (place_used s usage part) ≡ basic_form b
   IsType s known (tree.Name n) usage part = place_used s usage part ≡ place_named (types_seen s known usage) n
-  IsType s known (tree.Tagged tag n) usage part = place_used s usage part ≡ place_named (types_seen s known usage) n
+  IsType s known (tree.Tagged tag n) usage part =
+      place_used s usage part ≡ place_named (types_seen s known usage) n
   IsType s known (tree.Inline body) usage part = IsBody s known body (place_used s usage part)
 
   pub IsBody : Schema → Known → tree.Body → ℕ → Type 0
   IsBody s known (tree.Enum es) place = IsEnum s known.numbers es place
   IsBody s known (tree.Struct ds) place =
-      (fields : Vec Field Global) × (form_at s place ≡ forms.Struct fields) × AreFields s known ds fields.items
+      (fields : Vec Field Global) × (form_at s place ≡ forms.Struct fields)
+      × AreFields s known ds fields.items
   IsBody s known (tree.Union d arms other) place =
       (discriminant : Field) × (choice : Choice) × (form_at s place ≡ union_form discriminant choice)
       × (name_at s discriminant.name ≡ name_of d) × IsDeclared s known d discriminant.form
-      × AreArms s known (form_at s discriminant.form) arms [] choice.cases × IsDefault s known other choice.default
+      × AreArms s known (form_at s discriminant.form) arms [] choice.cases
+      × IsDefault s known other choice.default
 
   pub AreFields : Schema → Known → tree.Declarations → List Field → Type 0
   AreFields s known tree.none fields = fields ≡ []
@@ -278,8 +289,8 @@ abbrev mutual
 
 -- ---- names of types
 
--- The typedefs that stand for the types of a part, lifted ones too, in the order of the text, those inside first: a body with a name is
--- as well a typedef of the name (section 4.18).
+-- The typedefs that stand for the types of a part, lifted ones too, in the order of the text, those inside
+-- first: a body with a name is as well a typedef of the name (section 4.18).
 abbrev pub as_typedef : List ℕ → tree.Body → tree.Declaration
 as_typedef name body = tree.Of (tree.Inline body) name tree.Plain
 

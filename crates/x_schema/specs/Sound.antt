@@ -1,6 +1,8 @@
--- What holds of the types of a text, so that a value can be read by them: parts that stand in a value by value have smaller places than
--- what holds them, links lead to any form, and an enum and a union have a number.
-use Rattle.std.specs.Prelude.{◌≡◌, ℕ, ◌<◌, ◌^◌, Bool, true, false, nat_lt, IsTrue, is_some, List, [], ◌∷◌, Some, length}
+-- What holds of the types of a text, so that a value can be read by them: parts that stand in a value by
+-- value have smaller places than what holds them, links lead to any form, and an enum and a union have a
+-- number.
+use Rattle.std.specs.Prelude.{◌≡◌, ℕ, ◌<◌, ◌^◌, Bool, true, false, nat_lt, IsTrue, is_some, List, [], ◌∷◌}
+use Rattle.std.specs.Prelude.{Some, length}
 use Rattle.x_schema.specs.declared.form.Arm.{Arm}
 use Rattle.x_schema.specs.declared.form.Arm.TheVariants as arms
 use Rattle.x_schema.specs.declared.form.Field.{Field}
@@ -61,5 +63,7 @@ IsSoundForm s i _ = Unit {0}
 pub record IsSound (s : Schema) : Type 0 where
   pub forms : (i : ℕ) → i < length s.forms → IsSoundForm s i (form_at s i)
   pub links : (l : ℕ) → l < length s.links → target_at s l < length s.forms
-  pub types : (name : List ℕ) (t : NamedType) → named_type s name ≡ Some t → (t.form < length s.forms) × (t.name < length s.names)
-  pub procedures : (numbers : ProcedureNumbers) (kept : KeptProcedure) → procedure_at s numbers ≡ Some kept → IsKeptWithin (length s.names) (length s.forms) kept
+  pub types : (name : List ℕ) (t : NamedType) → named_type s name ≡ Some t
+      → (t.form < length s.forms) × (t.name < length s.names)
+  pub procedures : (numbers : ProcedureNumbers) (kept : KeptProcedure) → procedure_at s numbers ≡ Some kept
+      → IsKeptWithin (length s.names) (length s.forms) kept

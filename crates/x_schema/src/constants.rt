@@ -3,8 +3,10 @@
 ghost use Rattle.std.specs.Prelude.{◌≡◌, map, pos, Some, option_and_then, IfOk, OnOk};
 ghost use Rattle.std.specs.Map.{lookup};
 ghost use Rattle.std.specs.Str.{bytes_eq};
-ghost use Rattle.x_trees.specs.View.{view_value, view_most, view_enumerator, view_type, view_body, view_union};
-ghost use Rattle.x_trees.specs.View.{view_declaration, view_declarations, view_arms, view_default, view_definition};
+ghost use Rattle.x_trees.specs.View.{view_value, view_most, view_enumerator, view_type, view_body};
+ghost use Rattle.x_trees.specs.View.{view_union};
+ghost use Rattle.x_trees.specs.View.{view_declaration, view_declarations, view_arms, view_default};
+ghost use Rattle.x_trees.specs.View.{view_definition};
 ghost use Rattle.x_trees.specs.View.{tree_at};
 ghost use Rattle.x_schema.specs.SchemaOf.{beforehand, number_in, number_given, numbers_of, size_in, limit_in};
 ghost use Rattle.x_schema.specs.SchemaOf.{with_number, with_enumerators, with_type};
@@ -54,7 +56,8 @@ impl<'d> Constants<'d> {
         alloc: Global,
         definitions: &[Option<&'d Definition>],
     ) -> Result<Constants<'d>, NoMemory>
-        ensures { IfOk result (λ constants. numbers_held constants ≡ numbers_of (map tree_at definitions.now)) }
+        ensures { IfOk result
+            (λ constants. numbers_held constants ≡ numbers_of (map tree_at definitions.now)) }
     {
         let mut constants = Constants::beforehand(alloc)?;
         for definition in definitions {
@@ -161,7 +164,8 @@ impl<'d> Constants<'d> {
 
     #[cycle(constants)]
     fn body(&mut self, body: &'d Body) -> Result<(), NoMemory>
-        ensures { OnOk result (numbers_held self.new ≡ with_body (numbers_held self.old) (view_body body.now)) }
+        ensures { OnOk result
+            (numbers_held self.new ≡ with_body (numbers_held self.old) (view_body body.now)) }
     {
         match body {
             Body::Enum(enumerators) => self.enumerators(enumerators),
@@ -172,7 +176,8 @@ impl<'d> Constants<'d> {
 
     #[cycle(constants)]
     fn union(&mut self, body: &'d UnionBody) -> Result<(), NoMemory>
-        ensures { OnOk result (numbers_held self.new ≡ with_body (numbers_held self.old) (view_union body.now)) }
+        ensures { OnOk result
+            (numbers_held self.new ≡ with_body (numbers_held self.old) (view_union body.now)) }
     {
         self.declaration(&body.discriminant)?;
         self.arms(&body.arms)?;
@@ -181,7 +186,8 @@ impl<'d> Constants<'d> {
 
     #[cycle(constants)]
     fn data_type(&mut self, tree: &'d DataType) -> Result<(), NoMemory>
-        ensures { OnOk result (numbers_held self.new ≡ with_type (numbers_held self.old) (view_type tree.now)) }
+        ensures { OnOk result
+            (numbers_held self.new ≡ with_type (numbers_held self.old) (view_type tree.now)) }
     {
         match tree {
             DataType::Inline(body) => self.body(body),
@@ -213,7 +219,8 @@ impl<'d> Constants<'d> {
 
     #[cycle(constants)]
     fn arms(&mut self, arms: &'d [Arm]) -> Result<(), NoMemory>
-        ensures { OnOk result (numbers_held self.new ≡ with_arms (numbers_held self.old) (view_arms arms.now)) }
+        ensures { OnOk result
+            (numbers_held self.new ≡ with_arms (numbers_held self.old) (view_arms arms.now)) }
     {
         for arm in arms {
             self.declaration(&arm.declaration)?;

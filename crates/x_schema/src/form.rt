@@ -1,5 +1,5 @@
 //! What a type is (RFC 4506, section 4).
-ghost use Rattle.std.specs.Prelude.{◌≡◌};
+ghost use Rattle.std.specs.Prelude.{◌≡◌, length, slice_get};
 ghost use Rattle.x_schema.specs.Choices.{Choice, arm_for, name_for};
 
 use indexmap::IndexMap;
@@ -34,8 +34,9 @@ pub enum Arm {
     Of(Field),
 }
 
-/// The names of an enum by their numbers, each number as the word of four bytes that stands for it (RFC 4506, section 4.3). A number has
-/// the first name that the text gives it. They are seen as a list of words with their names.
+/// The names of an enum by their numbers, each number as the word of four bytes that stands for it (RFC 4506,
+/// section 4.3). A number has the first name that the text gives it. They are seen as a list of words with
+/// their names.
 #[derive(Drop)]
 pub struct Enumerators {
     pub(crate) names: IndexMap<u32, NameIndex>,
@@ -56,9 +57,27 @@ impl Enumerators {
     {
         self.names.get(&word).copied()
     }
+
+    /// How many numbers the enum has.
+    pub fn len(&self) -> usize
+        ensures { result ≡ length self.now }
+    {
+        self.names.len()
+    }
+
+    /// The number at a place, in the order of the text, as the word that stands for it, with its name.
+    pub fn get(&self, index: usize) -> Option<(u32, NameIndex)>
+        ensures { result ≡ slice_get self.now index }
+    {
+        match self.names.get_index(index) {
+            Some((word, name)) => Some((*word, *name)),
+            None => None,
+        }
+    }
 }
 
-/// What stands behind each number of a discriminant, each as the word of four bytes that stands for it (RFC 4506, section 4.15).
+/// What stands behind each number of a discriminant, each as the word of four bytes that stands for it (RFC
+/// 4506, section 4.15).
 #[derive(Drop)]
 pub struct Arms {
     pub(crate) cases: IndexMap<u32, Arm>,
@@ -82,6 +101,30 @@ impl Arms {
             Some(arm) => Some(*arm),
             None => self.default,
         }
+    }
+
+    /// How many numbers have a case.
+    pub fn case_count(&self) -> usize
+        ensures { result ≡ length self.now.cases }
+    {
+        self.cases.len()
+    }
+
+    /// The number at a place, in the order of the text, as the word that stands for it, with its arm.
+    pub fn case(&self, index: usize) -> Option<(u32, Arm)>
+        ensures { result ≡ slice_get self.now.cases index }
+    {
+        match self.cases.get_index(index) {
+            Some((word, arm)) => Some((*word, *arm)),
+            None => None,
+        }
+    }
+
+    /// What stands behind all other numbers, if anything may.
+    pub fn default(&self) -> Option<Arm>
+        ensures { result ≡ self.now.default }
+    {
+        self.default
     }
 }
 

@@ -1,8 +1,10 @@
 //! How the types of a text are found.
-ghost use Rattle.std.specs.Prelude.{◌≡◌, ◌<◌, ◌∷◌, ◌++◌, ℕ, [], get_or, length, map, pos, Some, IfOk, OnOk, option_and_then};
+ghost use Rattle.std.specs.Prelude.{◌≡◌, ◌<◌, ◌∷◌, ◌++◌, ℕ, [], get_or, length, map, pos, Some, IfOk, OnOk};
+ghost use Rattle.std.specs.Prelude.{option_and_then};
 ghost use Rattle.x_trees.specs.Gloss.{lifted_name, use_by};
 ghost use Rattle.x_trees.specs.Tree as tree;
-ghost use Rattle.x_trees.specs.View.{view_value, view_enumerator, view_type, view_body, view_union, view_shape};
+ghost use Rattle.x_trees.specs.View.{view_value, view_enumerator, view_type, view_body, view_union};
+ghost use Rattle.x_trees.specs.View.{view_shape};
 ghost use Rattle.x_trees.specs.View.{view_length, view_most, view_declaration, view_declarations, view_arms};
 ghost use Rattle.x_trees.specs.View.{view_default, view_definition};
 ghost use Rattle.x_trees.specs.declared.names.mention.Use.TheVariants as uses;
@@ -55,7 +57,8 @@ pub struct Known<'d> {
 }
 
 impl<'d> Known<'d> {
-    /// The place of a type that is used by value; that of `void`, if no item before declares the name as a type.
+    /// The place of a type that is used by value; that of `void`, if no item before declares the name as a
+    /// type.
     pub(super) fn place(&self, name: &[u8]) -> FormIndex
         ensures { result ≡ place_named (named_types self.now.types.entries) name.now }
     {
@@ -213,7 +216,8 @@ fn add_cases(
     arm: Arm,
 ) -> Result<(), NoMemory>
     ensures { OnOk result (cases.new.entries
-        ≡ with_cases (numbers_held constants.now) form.now cases.old.entries (map view_value values.now) arm) }
+        ≡ with_cases (numbers_held constants.now) form.now cases.old.entries
+        (map view_value values.now) arm) }
 {
     for value in values {
         add_word(cases, case_word(constants, form, value), arm)?;
@@ -280,7 +284,8 @@ impl<'d> Maker<'d> {
         name: &[u8],
     ) -> Result<(), NoMemory>
         ensures { OnOk result ((known : schema.Known) → PutsAll known self.old self.new [] (λ n i s.
-            (words_named s names.new.entries ≡ with_word (words_named s names.old.entries) (Some word) name.now)
+            (words_named s names.new.entries
+            ≡ with_word (words_named s names.old.entries) (Some word) name.now)
             × (AreSoundWords n names.old.entries → AreSoundWords n names.new.entries))) }
     {
         if names.get(&word).is_some() {
@@ -444,7 +449,8 @@ impl<'d> Maker<'d> {
         body: &'d Body,
     ) -> Result<FormIndex, NoMemory>
         ensures { IfOk result (λ place. PutsPlace (view_known known.now) self.old self.new
-            (typedefs_inside name.now (view_body body.now) ++ as_typedef name.now (view_body body.now) ∷ []) place
+            (typedefs_inside name.now (view_body body.now) ++ as_typedef name.now (view_body body.now)
+            ∷ []) place
             (λ s at. IsBody s (view_known known.now) (view_body body.now) at)) }
     {
         let place = self.body(alloc, known, name, body)?;
@@ -559,8 +565,10 @@ impl<'d> Maker<'d> {
         arms: &'d [ArmTree],
     ) -> Result<IndexMap<u32, Arm>, NoMemory>
         ensures { IfOk result (λ cases. discriminant < length self.old.forms.items
-            → PutsAll (view_known known.now) self.old self.new (typedefs_of_arms around.now (view_arms arms.now))
-            (λ n i s. AreArms s (view_known known.now) (form_at s discriminant) (view_arms arms.now) [] cases.entries
+            → PutsAll (view_known known.now) self.old self.new
+            (typedefs_of_arms around.now (view_arms arms.now))
+            (λ n i s. AreArms s (view_known known.now) (form_at s discriminant)
+            (view_arms arms.now) [] cases.entries
             × AreSoundCases n i (form_at s discriminant) cases.entries)) }
     {
         let mut cases = IndexMap::new(alloc);
@@ -754,7 +762,8 @@ impl<'d> Maker<'d> {
         known: &mut Known<'d>,
         definitions: &[Option<&'d Definition>],
     ) -> Result<(), NoMemory>
-        ensures { OnOk result (FindsItems self.old self.new known.old known.new (map tree_at definitions.now)) }
+        ensures { OnOk result
+            (FindsItems self.old self.new known.old known.new (map tree_at definitions.now)) }
     {
         for definition in definitions {
             self.item(alloc, known, *definition)?;
@@ -807,8 +816,9 @@ fn places_linked(
 }
 
 impl Schema {
-    /// The types and procedures of the items' definitions; an item without one declares none. They are those of the text where it has no
-    /// fault, and where it has, a name that is no type counts as `void`. It takes time in proportion to the definitions.
+    /// The types and procedures of the items' definitions; an item without one declares none. They are those
+    /// of the text where it has no fault, and where it has, a name that is no type counts as `void`. It takes
+    /// time in proportion to the definitions.
     ///
     /// # Errors
     ///

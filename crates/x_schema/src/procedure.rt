@@ -3,7 +3,8 @@
 use crate::form::{FormIndex, NameIndex};
 use crate::schema::TypeId;
 
-/// The numbers that a call names a procedure by: those of a program, of its version and of the procedure in that (RFC 5531, section 8).
+/// The numbers that a call names a procedure by: those of a program, of its version and of the procedure in
+/// that (RFC 5531, section 8).
 #[derive(Clone, Copy, Debug, PartialEq, Eq, Hash)]
 pub struct ProcedureNumbers {
     /// The program's number.

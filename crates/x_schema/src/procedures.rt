@@ -1,7 +1,8 @@
 //! How the procedures of a text are found.
 ghost use Rattle.std.specs.Prelude.{◌≡◌, ◌∷◌, [], Some, map, IfOk, OnOk};
 ghost use Rattle.std.specs.List.{flat_map};
-ghost use Rattle.x_trees.specs.View.{view_argument, view_definition, view_passed, view_procedure, view_type, view_version};
+ghost use Rattle.x_trees.specs.View.{view_argument, view_definition, view_passed, view_procedure, view_type};
+ghost use Rattle.x_trees.specs.View.{view_version};
 ghost use Rattle.x_trees.specs.View.{tree_at};
 ghost use Rattle.x_schema.specs.ProceduresOf.{AreArguments, IsArgument, IsArgumentField};
 ghost use Rattle.x_schema.specs.ProceduresOf.{IsPassed, IsPassedType};
@@ -54,9 +55,11 @@ fn numbers_from(
     }
 }
 
-/// The numbers of a procedure, where each is one of 32 bits; those of its program and version as they are spelled.
+/// The numbers of a procedure, where each is one of 32 bits; those of its program and version as they are
+/// spelled.
 fn numbers_by(program: &[u8], version: &[u8], procedure: &Procedure) -> Option<ProcedureNumbers>
-    ensures { result ≡ numbers_by (record { program = program.now; version = version.now; procedure = view_procedure procedure.now }) }
+    ensures { result ≡ numbers_by
+        (record { program = program.now; version = version.now; procedure = view_procedure procedure.now }) }
 {
     numbers_from(
         number_of(program),
@@ -93,7 +96,8 @@ fn one_field(alloc: Global, field: Field) -> Result<Vec<Field>, NoMemory>
 }
 
 impl<'d> Maker<'d> {
-    /// The place of the type of an argument or of a result; an inline one may not be passed, and counts as `void`.
+    /// The place of the type of an argument or of a result; an inline one may not be passed, and counts as
+    /// `void`.
     fn passed_type(&mut self, known: &Known<'d>, passed: &DataType) -> Result<FormIndex, NoMemory>
         ensures { IfOk result (λ place. PutsAs (view_known known.now) self.old self.new place
             (λ s at. IsPassedType s (view_type passed.now) at)) }
@@ -139,7 +143,8 @@ impl<'d> Maker<'d> {
         number: usize,
         form: FormIndex,
     ) -> Result<Field, NoMemory>
-        ensures { IfOk result (λ field. AddsName self.old self.new (argument_name number) field.name × (field.form ≡ form)) }
+        ensures { IfOk result
+            (λ field. AddsName self.old self.new (argument_name number) field.name × (field.form ≡ form)) }
     {
         let name = self.argument_name(alloc, number)?;
         Ok(Field { name, form })
@@ -210,7 +215,8 @@ impl<'d> Maker<'d> {
         procedure: &Procedure,
     ) -> Result<FormIndex, NoMemory>
         ensures { IfOk result (λ place. let p = view_procedure procedure.now in
-            PutsAs (view_known known.now) self.old self.new place (λ s at. AreArguments s p.first p.others at)) }
+            PutsAs (view_known known.now) self.old self.new place
+            (λ s at. AreArguments s p.first p.others at)) }
     {
         if procedure.others.is_empty() {
             return self.passed(known, &procedure.first);
@@ -290,7 +296,8 @@ impl<'d> Maker<'d> {
         table: &mut ProcedureTable,
     ) -> Result<(), NoMemory>
         ensures { OnOk result (PutsProcedures (view_known known.now) self.old self.new
-            table.old.entries table.new.entries (flat_map (procedures_in program.now) (map view_version versions.now))) }
+            table.old.entries table.new.entries
+            (flat_map (procedures_in program.now) (map view_version versions.now))) }
     {
         for version in versions {
             self.add_version(
@@ -314,7 +321,8 @@ impl<'d> Maker<'d> {
         table: &mut ProcedureTable,
     ) -> Result<(), NoMemory>
         ensures { OnOk result (PutsProcedures (view_known known.now) self.old self.new
-            table.old.entries table.new.entries (procedures_declared (Some (view_definition definition.now)))) }
+            table.old.entries table.new.entries
+            (procedures_declared (Some (view_definition definition.now)))) }
     {
         match definition {
             Definition::Program {

@@ -52,8 +52,8 @@ pub(crate) struct NamedType {
     pub(crate) form: FormIndex,
 }
 
-/// The types of a text without a fault. A type is a place in a list of forms, and a typedef leads to the form that it stands for, so
-/// that reading a value follows no chain of names.
+/// The types of a text without a fault. A type is a place in a list of forms, and a typedef leads to the form
+/// that it stands for, so that reading a value follows no chain of names.
 #[derive(Drop)]
 pub struct Schema {
     pub(crate) names: Vec<Vec<u8>>,
@@ -90,7 +90,8 @@ impl Model for Schema {
 }
 
 impl Schema {
-    /// The type of this name, if the text has one: a type definition's own name, or that of an inline type in it.
+    /// The type of this name, if the text has one: a type definition's own name, or that of an inline type in
+    /// it.
     pub fn type_named(&self, name: &[u8]) -> Option<TypeId>
         ensures named { result ≡ id_named self.now name.now }
         ensures known { IfSome result (IsTypeId self.now) }
@@ -113,11 +114,13 @@ impl Schema {
         self.types.get(name).copied()
     }
 
-    /// The procedure of these numbers, if the text has one; where two programs have one number, the first that has the version and the
-    /// procedure (RFC 5531, section 8).
+    /// The procedure of these numbers, if the text has one; where two programs have one number, the first
+    /// that has the version and the procedure (RFC 5531, section 8).
     pub fn procedure(&self, prog: u32, vers: u32, proc: u32) -> Option<Procedure<'_>>
-        ensures found { MatchOption result (procedure_at self.now (record { program = prog; version = vers; procedure = proc }) ≡ None)
-            (λ p. IsProcedureAt self.now (record { program = prog; version = vers; procedure = proc }) p.name.now p.arg p.res) }
+        ensures found { MatchOption result
+            (procedure_at self.now (record { program = prog; version = vers; procedure = proc }) ≡ None)
+            (λ p. IsProcedureAt self.now
+            (record { program = prog; version = vers; procedure = proc }) p.name.now p.arg p.res) }
         ensures known { IfSome result (λ p. IsTypeId self.now p.arg × IsTypeId self.now p.res) }
     {
         let numbers = ProcedureNumbers {
@@ -134,7 +137,8 @@ impl Schema {
     /// What is kept of the procedure of these numbers.
     fn kept(&self, numbers: ProcedureNumbers) -> Option<KeptProcedure>
         ensures kept { result ≡ procedure_at self.now numbers }
-        ensures within { IfSome result (λ kept. IsKeptWithin (length self.now.names) (length self.now.forms) kept) }
+        ensures within { IfSome result
+            (λ kept. IsKeptWithin (length self.now.names) (length self.now.forms) kept) }
     {
         self.procedures.get(&numbers).copied()
     }
@@ -159,10 +163,14 @@ impl Schema {
         }
     }
 
-    /// What the type is: its kind, with its sizes, fields, arms or enumerators.
+    /// What the type is: its kind, with its sizes, fields, arms or enumerators. What leads on from it, and from
+    /// the form at any place, stands within the schema: so [`Schema::form_at`], [`Schema::target`] and
+    /// [`Schema::name`] can be asked for it.
     pub fn form(&self, id: TypeId) -> &Form
         requires { IsTypeId self.now id }
-        ensures { result.now ≡ form_at self.now id.form }
+        ensures form { result.now ≡ form_at self.now id.form }
+        ensures within { id.form < length self.now.forms }
+        ensures sound { IsSound self.now }
     {
         &self.forms[id.form]
     }
@@ -179,7 +187,8 @@ impl Schema {
     /// The form that a link leads to.
     pub fn target(&self, link: LinkIndex) -> FormIndex
         requires { link < length self.now.links }
-        ensures { result ≡ target_at self.now link }
+        ensures target { result ≡ target_at self.now link }
+        ensures within { result < length self.now.forms }
     {
         self.links[link]
     }

@@ -1,6 +1,6 @@
-//! What the definitions of a text mean: who declares each name first (`x_names`), what is wrong with a definition
-//! beyond its spelling and what its names mean (`x_rules`), the types that values are read by (`x_schema`), and
-//! the numbers of spellings (`x_numbers`). It holds nothing of its own.
+//! What the definitions of a text mean: who declares each name first (`x_names`), what is wrong with a
+//! definition beyond its spelling and what its names mean (`x_rules`), the types that values are read by
+//! (`x_schema`), and the numbers of spellings (`x_numbers`). It holds nothing of its own.
 #![tactic(auto)]
 
 pub use x_names::{Declarer, Names, is_beforehand, one_first_declarer};

@@ -65,7 +65,8 @@ shown_name None = codes "-"
 
 -- `ITEM KEYWORD NAME`
 abbrev pub definition_line : ℕ × Definition → List ℕ
-definition_line d = decimal d.0 ++ codes " " ++ keyword_of d.1 ++ codes " " ++ shown_name (own_name d.1) ++ codes "\n"
+definition_line d =
+    decimal d.0 ++ codes " " ++ keyword_of d.1 ++ codes " " ++ shown_name (own_name d.1) ++ codes "\n"
 
 -- `LINE:COL`
 abbrev pub fault_place : Fault → List ℕ
@@ -80,7 +81,8 @@ tokens_answer ts = counted_line (codes "tokens") (length ts) ++ flat_map token_l
 
 -- each definition with the number of its item
 abbrev pub definitions_answer : List (Option Definition) → List ℕ
-definitions_answer ds = counted_line (codes "definitions") (length (numbered 0 ds)) ++ flat_map definition_line (numbered 0 ds)
+definitions_answer ds =
+    counted_line (codes "definitions") (length (numbered 0 ds)) ++ flat_map definition_line (numbered 0 ds)
 
 abbrev pub faults_answer : List Fault → List ℕ
 faults_answer fs = counted_line (codes "faults") (length fs) ++ flat_map fault_line fs

@@ -1,5 +1,6 @@
 -- What the program keeps of what checking items found, and what it says of it.
-use Rattle.std.specs.Prelude.{◌≡◌, ℕ, false, List, [], ◌∷◌, map, Option, None, Some, option_map, slice_get, if◌then◌else◌}
+use Rattle.std.specs.Prelude.{◌≡◌, ℕ, false, List, [], ◌∷◌, map, Option, None, Some, option_map, slice_get}
+use Rattle.std.specs.Prelude.{if◌then◌else◌}
 use Rattle.std.specs.Global.{Box}
 use Rattle.x_text.specs.Counts.{Counts, raised}
 use Rattle.x_trees.specs.Tree.{Definition}

@@ -1,10 +1,12 @@
 -- What a line of a script asks for.
-use Rattle.std.specs.Prelude.{ℕ, ◌+◌, ◌*◌, ◌%◌, Bool, ◌&&◌, ◌==◌, nat_lt, nat_le, if◌then◌else◌, List, [], ◌∷◌, length, Option, Some, None, codes, bytes_eq}
+use Rattle.std.specs.Prelude.{ℕ, ◌+◌, ◌*◌, ◌%◌, Bool, ◌&&◌, ◌==◌, nat_lt, nat_le, if◌then◌else◌, List, []}
+use Rattle.std.specs.Prelude.{◌∷◌, length, Option, Some, None, codes, bytes_eq}
 use Rattle.std.specs.List.{list_all, slice_split}
 use Rattle.std.specs.Char.{is_ascii_digit, is_ascii_hexdigit, digit_value}
 use Rattle.std.specs.Str.Parse.{digits_value}
 use Rattle.x_session.specs.declared.script.command.Command.{Command}
-use Rattle.x_session.specs.declared.script.command.Command.TheVariants.{Edit, Tokens, Definitions, Faults, Text, Bad}
+use Rattle.x_session.specs.declared.script.command.Command.TheVariants.{Edit, Tokens, Definitions, Faults}
+use Rattle.x_session.specs.declared.script.command.Command.TheVariants.{Text, Bad}
 use Rattle.x_pieces.specs.declared.which.Which.TheVariants.{Header, Routines, Stubs, Table}
 
 -- the words of a line; each space parts two, so that one of them may be empty
@@ -26,7 +28,9 @@ bytes_of _ = []
 
 -- an edit from one number to another
 abbrev pub edit_of : List ℕ → List ℕ → List ℕ → Command
-edit_of start end insert = if is_number start && is_number end then Edit (digits_value 10 start) (digits_value 10 end) insert else Bad
+edit_of start end insert =
+    if is_number start && is_number end then Edit (digits_value 10 start) (digits_value 10 end) insert
+    else Bad
 
 -- a line that is one word
 abbrev pub one_word : List ℕ → Command
@@ -60,7 +64,8 @@ command_of line = asked_by (words_of line)
 abbrev pub asked_if : Bool → List ℕ → List ℕ → Option (List ℕ × List ℕ)
 asked_if is name message = if is then Some (name, message) else None
 
--- the type and the message that the words behind `dump` name; a type has one or more bytes, and without digits the message is empty
+-- the type and the message that the words behind `dump` name; a type has one or more bytes, and without
+-- digits the message is empty
 abbrev pub dump_by : List (List ℕ) → Option (List ℕ × List ℕ)
 dump_by (name ∷ []) = asked_if (nat_lt 0 (length name)) name []
 dump_by (name ∷ hex ∷ []) = asked_if (nat_lt 0 (length name) && is_hex hex) name (bytes_of hex)

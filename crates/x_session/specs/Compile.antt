@@ -1,5 +1,7 @@
--- What compiling a text from scratch gives: its items, each with its tokens, what they parse to, and what checking it gives.
-use Rattle.std.specs.Prelude.{ℕ, suc, ◌-◌, ◌==◌, ◌&&◌, Bool, true, false, List, [], ◌∷◌, ◌++◌, map, Option, Some, None, option_and_then, slice_get, if◌then◌else◌}
+-- What compiling a text from scratch gives: its items, each with its tokens, what they parse to, and what
+-- checking it gives.
+use Rattle.std.specs.Prelude.{ℕ, suc, ◌-◌, ◌==◌, ◌&&◌, Bool, true, false, List, [], ◌∷◌, ◌++◌, map, Option}
+use Rattle.std.specs.Prelude.{Some, None, option_and_then, slice_get, if◌then◌else◌}
 use Rattle.std.specs.Option.{option_map_or}
 use Rattle.x_text.specs.Text.{line_of, column_of}
 use Rattle.x_lex.specs.declared.kind.Kind.{Kind}
@@ -54,7 +56,8 @@ definition_at items index = option_and_then (λ d. d) (slice_get (definitions_of
 abbrev pub token_of_word : List Lexeme → ℕ → ℕ
 token_of_word [] word = 0
 token_of_word (t ∷ ts) word =
-    if is_significant t.kind && word == 0 then 0 else suc (token_of_word ts (if is_significant t.kind then word - 1 else word))
+    if is_significant t.kind && word == 0 then 0
+    else suc (token_of_word ts (if is_significant t.kind then word - 1 else word))
 
 -- a rule that is broken at a word, as a fault at a token
 abbrev pub at_token : List Lexeme → WordFault → TokenFault

@@ -1,5 +1,6 @@
 -- What is generated of the items of a text.
-use Rattle.std.specs.Prelude.{ℕ, Bool, true, false, List, [], ◌∷◌, ◌++◌, map, drop, Option, None, option_map, codes}
+use Rattle.std.specs.Prelude.{ℕ, Bool, true, false, List, [], ◌∷◌, ◌++◌, map, drop, Option, None, option_map}
+use Rattle.std.specs.Prelude.{codes}
 use Rattle.std.specs.List.{filter, flat_map}
 use Rattle.x_lex.specs.declared.kind.Kind.{Kind}
 use Rattle.x_lex.specs.declared.kind.Kind.TheVariants as kinds
@@ -28,7 +29,11 @@ faultless (f ∷ fs) parse = None
 
 -- what is generated of an item: its lines, and the pieces of its definition where it has no fault
 abbrev pub part_of : Item → Part
-part_of i = record { lines = lines_of i.tokens; pieces = option_map pieces_of (faultless (token_faults i) i.parse) }
+part_of i = record {
+  lines = lines_of i.tokens;
+  pieces = option_map pieces_of
+      (faultless (token_faults i) i.parse);
+}
 
 -- this generated text of a text with these items, whose names have this base
 abbrev pub text_of : Which → List ℕ → List Item → List ℕ

@@ -1,5 +1,6 @@
 -- What a session keeps with the items of a text, and what it says of them.
-use Rattle.std.specs.Prelude.{◌≡◌, ℕ, List, [], ◌∷◌, length, map, take, drop, Option, None, Some, slice_get, slice_set}
+use Rattle.std.specs.Prelude.{◌≡◌, ℕ, List, [], ◌∷◌, length, map, take, drop, Option, None, Some, slice_get}
+use Rattle.std.specs.Prelude.{slice_set}
 use Rattle.std.specs.Global.{Box}
 use Rattle.x_lex.specs.Places.{Lexeme}
 use Rattle.x_cutting.specs.Items.{AreItems}

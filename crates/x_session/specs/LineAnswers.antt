@@ -6,9 +6,13 @@ use Rattle.x_session.specs.Compile.{Item}
 use Rattle.x_session.specs.Showing.{IsDumpAnswer}
 use Rattle.x_lines.specs.Limits.{most_line}
 
--- A line is answered so, over a text that has these items: it may ask to show a value, or be any other command; or it is too long.
+-- A line is answered so, over a text that has these items: it may ask to show a value, or be any other
+-- command; or it is too long.
 pub data IsLineAnswer (base text : List ℕ) (items : List Item) (line : List ℕ) (a : Answer) : Type 0 where
-  within : length line ≤ most_line → dump_asked line ≡ None → a ≡ answer base text items (command_of line) → IsLineAnswer base text items line a
-  shows : (name message : List ℕ) → length line ≤ most_line → dump_asked line ≡ Some (name, message) → IsDumpAnswer text items name message a
+  within : length line ≤ most_line → dump_asked line ≡ None → a ≡ answer base text items (command_of line)
       → IsLineAnswer base text items line a
-  too_long : most_line < length line → a ≡ refused text (codes "refused 44 LongLine\n") → IsLineAnswer base text items line a
+  shows : (name message : List ℕ) → length line ≤ most_line → dump_asked line ≡ Some (name, message)
+      → IsDumpAnswer text items name message a
+      → IsLineAnswer base text items line a
+  too_long : most_line < length line → a ≡ refused text (codes "refused 44 LongLine\n")
+      → IsLineAnswer base text items line a

@@ -41,7 +41,8 @@ TakesAll text (e ∷ es) = Fits (change_of text e) × TakesAll (edited_by (chang
 
 -- The text takes the edits before the one at the index, which leave this text, and refuses that one as it
 -- would alone.
-pub record StopsAt (text : List ℕ) (edits : List Edit) (left : List ℕ) (index : ℕ) (fault : TextFault) : Type 0 where
+pub record StopsAt (text : List ℕ) (edits : List Edit) (left : List ℕ) (index : ℕ)
+    (fault : TextFault) : Type 0 where
   pub before : List Edit
   pub edit : Edit
   pub behind : List Edit

@@ -16,19 +16,26 @@ use Rattle.x_session.specs.Compile.{Item, definitions_of, faults_of}
 abbrev pub value_answer : List Node → List ℕ
 value_answer nodes = counted_line (codes "value") (length nodes) ++ node_lines nodes
 
--- the answer to a message that is read as a value of a type: the nodes, or the fault of bytes that are no encoding
+-- the answer to a message that is read as a value of a type: the nodes, or the fault of bytes that are no
+-- encoding
 pub data IsMessageAnswer (s : Schema) (id : TypeId) (message text : List ℕ) (a : Answer) : Type 0 where
-  shown : (nodes : List Node) → IsShown s id message nodes → a ≡ answered text (value_answer nodes) → IsMessageAnswer s id message text a
-  stuck : (at : ℕ) (code : ReadCode) → IsFault s id message at code → (code ≡ NoMemory → ⊥) → a ≡ refused text (fault_line at code)
+  shown : (nodes : List Node) → IsShown s id message nodes → a ≡ answered text (value_answer nodes)
+      → IsMessageAnswer s id message text a
+  stuck : (at : ℕ) (code : ReadCode) → IsFault s id message at code → (code ≡ NoMemory → ⊥)
+      → a ≡ refused text (fault_line at code)
       → IsMessageAnswer s id message text a
 
 -- the name may be that of no type
 pub data IsTypedAnswer (s : Schema) (name message text : List ℕ) (a : Answer) : Type 0 where
-  no_type : id_named s name ≡ None → a ≡ refused text (codes "refused 42 NoType\n") → IsTypedAnswer s name message text a
-  typed : (id : TypeId) → id_named s name ≡ Some id → IsMessageAnswer s id message text a → IsTypedAnswer s name message text a
+  no_type : id_named s name ≡ None → a ≡ refused text (codes "refused 42 NoType\n")
+      → IsTypedAnswer s name message text a
+  typed : (id : TypeId) → id_named s name ≡ Some id → IsMessageAnswer s id message text a
+      → IsTypedAnswer s name message text a
 
 -- a text with a fault has no types
 pub data IsDumpAnswer (text : List ℕ) (items : List Item) (name message : List ℕ) (a : Answer) : Type 0 where
-  faulty : 0 < length (faults_of text items) → a ≡ refused text (codes "refused 40 Faulty\n") → IsDumpAnswer text items name message a
-  faultless : (s : Schema) → faults_of text items ≡ [] → IsSchemaOf (definitions_of items) s → IsTypedAnswer s name message text a
+  faulty : 0 < length (faults_of text items) → a ≡ refused text (codes "refused 40 Faulty\n")
+      → IsDumpAnswer text items name message a
+  faultless : (s : Schema) → faults_of text items ≡ [] → IsSchemaOf (definitions_of items) s
+      → IsTypedAnswer s name message text a
       → IsDumpAnswer text items name message a

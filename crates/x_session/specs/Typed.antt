@@ -6,7 +6,8 @@ use Rattle.x_session.specs.Compile.{Item, definitions_of, faults_of}
 use Rattle.x_session.specs.declared.session.schema_fault.SchemaFault.{SchemaFault}
 use Rattle.x_session.specs.declared.session.schema_fault.SchemaFault.TheVariants.{Faulty, NoMemory}
 
--- A text has a schema, that of its definitions, exactly where it has no fault; want of memory is told of no other.
+-- A text has a schema, that of its definitions, exactly where it has no fault; want of memory is told of no
+-- other.
 abbrev pub GivesSchema : List ℕ → List Item → Result Schema SchemaFault → Type 0
 GivesSchema text items (Ok schema) = (faults_of text items ≡ []) × IsSchemaOf (definitions_of items) schema
 GivesSchema text items (Err Faulty) = 0 < length (faults_of text items)

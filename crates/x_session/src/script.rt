@@ -23,11 +23,11 @@ use std::alloc::Global;
 use x_lines::{Found, LineFault, LineReader};
 use x_text::{Edit, EngineFault, NoMemory, Outcome, Pen, Sink, Tap, TextFault};
 
-/// Carries out the script that a tap gives, line by line, and writes the answer to each line before it carries out the next.
+/// Carries out the script that a tap gives, line by line, and writes the answer to each line before it
+/// carries out the next.
 ///
-/// # Errors
-/// The tap or the sink failed, or memory ran out: the lines before are answered and carried out. Where the sink failed, the line
-/// whose answer was not written whole is carried out too.
+/// # Errors The tap or the sink failed, or memory ran out: the lines before are answered and carried out.
+/// Where the sink failed, the line whose answer was not written whole is carried out too.
 pub fn run_script<R: Tap, S: Sink>(
     alloc: Global,
     session: &mut Session,
@@ -71,7 +71,8 @@ pub fn run_script<R: Tap, S: Sink>(
     })
 }
 
-/// Finds the next line and answers it. It answers whether that was refused, or `None` at the end of the script.
+/// Finds the next line and answers it. It answers whether that was refused, or `None` at the end of the
+/// script.
 fn next_answer<R: Tap, S: Sink>(
     alloc: Global,
     session: &mut Session,
@@ -88,7 +89,8 @@ fn next_answer<R: Tap, S: Sink>(
         ((told : List ℕ) × Adds pen.old (S.state sink.old) pen.new (S.state sink.new) told) }
     ensures failed { FailsBy result (R.state tap.old).failed (R.state tap.new).failed }
 {
-    // So that the contract of `item_count` says that the text has items, of which a line that is too long asks nothing.
+    // So that the contract of `item_count` says that the text has items, of which a line that is too long
+    // asks nothing.
     let _items = session.item_count();
     let refused = match reader.next(tap)? {
         Found::End => return Ok(None),
@@ -104,7 +106,8 @@ fn next_answer<R: Tap, S: Sink>(
     Ok(Some(refused))
 }
 
-/// Carries out a command, adds its answer, and answers whether that refuses it. Without memory nothing is done.
+/// Carries out a command, adds its answer, and answers whether that refuses it. Without memory nothing is
+/// done.
 fn carry_out<S: Sink>(
     session: &mut Session,
     command: &Command,
@@ -151,7 +154,8 @@ fn answer_line<S: Sink>(
     requires { length line.now ≤ LONGEST }
     ensures given { IfOk result
         (λ refused. LineAnswers session.old.base session.old.text line.now
-        (λ a. IsGiven a session.old session.new refused pen.old (S.state sink.old) pen.new (S.state sink.new))) }
+        (λ a. IsGiven a session.old session.new refused pen.old (S.state sink.old) pen.new
+        (S.state sink.new))) }
     ensures same { OnErr result ((session.new ≡ session.old) × (pen.new ≡ pen.old) × (sink.new ≡ sink.old)) }
 {
     if let Some((name, hex)) = dump_words(line) {

@@ -45,7 +45,8 @@ fn a_tap_that_fails_in_mid_line_is_told(rt: HostRuntime) {
 
 /// Counts the lines of a script: what the contract of [`LineReader::next`] says to a loop.
 fn count_lines<R: Tap>(alloc: Global, tap: &mut R) -> Result<u64, LineFault>
-    ensures { IfOk result (λ count. IfSome (R.state tap.old).bytes (λ script. count ≡ length (script_lines script))) }
+    ensures { IfOk result
+        (λ count. IfSome (R.state tap.old).bytes (λ script. count ≡ length (script_lines script))) }
 {
     let mut reader = LineReader::new(alloc);
     'lines: for count in 0..u64::MAX {

@@ -1,4 +1,5 @@
--- Lists of entries that each have a length, and what takes the place of some entries. `size` gives the length of an entry.
+-- Lists of entries that each have a length, and what takes the place of some entries. `size` gives the length
+-- of an entry.
 use Rattle.std.specs.Prelude.{◌≡◌, ℕ, ◌+◌, ◌^◌, ◌<◌, ◌≤◌, List, [], ◌∷◌, length, take}
 use Rattle.std.specs.List.{splice}
 use Rattle.x_text.specs.Seqs.{Gapped}

@@ -2,8 +2,8 @@
 use Rattle.std.specs.Prelude.{◌≡◌, ℕ, ◌<◌, ◌⊎◌, min, Bool, true, List, Some}
 use Rattle.x_text.specs.Streams.{Stream}
 
--- A sink or a tap over memory: the bytes that the sink took or the tap has left, how many it moves a call at the most, how many
--- more it moves before it fails, and whether it has failed.
+-- A sink or a tap over memory: the bytes that the sink took or the tap has left, how many it moves a call at
+-- the most, how many more it moves before it fails, and whether it has failed.
 pub record MemState : Type 0 where
   pub bytes : List ℕ
   pub most : ℕ
@@ -18,6 +18,7 @@ in_memory state = record { bytes = Some state.bytes; failed = state.failed }
 abbrev pub share : MemState → ℕ → ℕ
 share state possible = min possible (min state.most state.left)
 
--- whether a call with a slice of this length fails: one failed before, or no more bytes may be moved and the slice has room or bytes
+-- whether a call with a slice of this length fails: one failed before, or no more bytes may be moved and the
+-- slice has room or bytes
 abbrev pub Fails : MemState → ℕ → Type 0
 Fails state length = (state.failed ≡ true) ⊎ ((state.left ≡ 0) × (0 < length))

@@ -1,5 +1,6 @@
 -- What sinks and taps are seen as, and what their calls do.
-use Rattle.std.specs.Prelude.{◌≡◌, ◌<◌, ◌≤◌, ℕ, List, Option, Bool, Result, IsTrue, IfOk, IsErr, is_err, length}
+use Rattle.std.specs.Prelude.{◌≡◌, ◌<◌, ◌≤◌, ℕ, List, Option, Bool, Result, IsTrue, IfOk, IsErr, is_err}
+use Rattle.std.specs.Prelude.{length}
 use Rattle.std.specs.Io.KnownBytes.{WriteAppends, ReadConsumes}
 use Rattle.x_text.specs.declared.sink.Broken.{Broken}
 
@@ -19,7 +20,8 @@ pub record Puts (old new : Stream) (result : Result ℕ Broken) (bytes : List �
   pub within : IfOk result (λ n. n ≤ length bytes)
   pub some : IfOk result (λ n. 0 < length bytes → 0 < n)
 
--- a tap moved as many bytes as the result says to the front of the buffer, and none only at its end or with no room
+-- a tap moved as many bytes as the result says to the front of the buffer, and none only at its end or with
+-- no room
 pub record Takes (old new : Stream) (result : Result ℕ Broken) (buffer : List ℕ) : Type 0 where
   pub taken : ReadConsumes old.bytes new.bytes result buffer
   pub within : IfOk result (λ n. n ≤ length buffer)

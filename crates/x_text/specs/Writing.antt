@@ -1,5 +1,6 @@
 -- What a sink has of a text that is written in parts.
-use Rattle.std.specs.Prelude.{◌≡◌, ℕ, ◌-◌, ◌^◌, ◌≤◌, min, Bool, true, List, ◌++◌, length, take, MatchBool, MatchResult, Result}
+use Rattle.std.specs.Prelude.{◌≡◌, ℕ, ◌-◌, ◌^◌, ◌≤◌, min, Bool, true, List, ◌++◌, length, take, MatchBool}
+use Rattle.std.specs.Prelude.{MatchResult, Result}
 use Rattle.std.specs.Io.KnownBytes.{Appends}
 use Rattle.x_text.specs.Streams.{Stream}
 use Rattle.x_text.specs.declared.pen.WriteFault.{WriteFault}
@@ -33,8 +34,8 @@ pub record HasAllBut (start now : Stream) (text : List ℕ) (pen : Inked) : Type
   pub text_is : text ≡ front ++ pen.pending
   pub written_is : pen.written ≡ counted (length front)
 
--- Of the text that the pen was given so far, since the sink was as at the start, the sink has all but what the pen holds back;
--- or it has failed, with the front of the text that the pen counted.
+-- Of the text that the pen was given so far, since the sink was as at the start, the sink has all but what
+-- the pen holds back; or it has failed, with the front of the text that the pen counted.
 abbrev pub Writes : Stream → List ℕ → Inked → Stream → Type 0
 Writes start text pen now =
     MatchBool pen.stopped (StopsWithin start now text pen.written) (HasAllBut start now text pen)
@@ -48,4 +49,5 @@ pub record Adds (pen : Inked) (now : Stream) (pen' : Inked) (now' : Stream) (byt
 -- At Ok the sink took the text; at Err it has failed, with the first bytes of the text that the fault counts.
 abbrev pub IsWritten : {T : Type 0} → Result T WriteFault → Stream → Stream → List ℕ → Type 0
 IsWritten result start now text =
-    MatchResult result (λ _. Appends start.bytes now.bytes text) (λ fault. StopsWithin start now text fault.written)
+    MatchResult result (λ _. Appends start.bytes now.bytes text)
+    (λ fault. StopsWithin start now text fault.written)

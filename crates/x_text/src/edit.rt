@@ -58,7 +58,8 @@ pub(crate) fn edit_in_room(bytes: &mut Vec<u8>, edit: &Edit)
         ≤ vec_capacity bytes.old + (edit.now.end - edit.now.start) }
     ensures { bytes.new.items ≡ edited_by (change_of bytes.old.items edit.now) }
 {
-    // First bytes are written over others. Then there is a gap to close, or there are bytes left to insert, or neither.
+    // First bytes are written over others. Then there is a gap to close, or there are bytes left to insert,
+    // or neither.
     let over = edit.insert.len().min(edit.end - edit.start);
     let (front, rest) = edit.insert.split_at(over);
     let at = edit.start + over;

@@ -31,7 +31,8 @@ impl<'a, T> GapIter<'a, T> {
 }
 
 impl<'a, T: Measured> GapIter<'a, T> {
-    /// Passes over the next entries, or over all that are left where there are fewer, and answers how long they are together.
+    /// Passes over the next entries, or over all that are left where there are fewer, and answers how long
+    /// they are together.
     pub fn pass(&mut self, count: usize) -> usize
         requires short { total_length T.length self.old < 2 ^ 64 }
         ensures left { self.new ≡ drop count self.old }

@@ -1,4 +1,5 @@
-ghost use Rattle.std.specs.Prelude.{◌≡◌, ◌↔◌, ◌+◌, ◌<◌, ◌≤◌, ◌^◌, [], Some, IfOk, IsOk, OnOk, OnErr, length, drop, slice_get, slice_set, option_copied};
+ghost use Rattle.std.specs.Prelude.{◌≡◌, ◌↔◌, ◌+◌, ◌<◌, ◌≤◌, ◌^◌, [], Some, IfOk, IsOk, OnOk, OnErr, length};
+ghost use Rattle.std.specs.Prelude.{drop, slice_get, slice_set, option_copied};
 ghost use Rattle.std.specs.List.{splice};
 ghost use Rattle.x_text.specs.Seqs.{distance};
 
@@ -90,7 +91,8 @@ impl<T: Drop> GapSeq<T> {
         })
     }
 
-    /// Puts an entry in the place of the one at `at`, and gives that one back, with how many others moved. It takes no memory.
+    /// Puts an entry in the place of the one at `at`, and gives that one back, with how many others moved. It
+    /// takes no memory.
     pub fn exchange(&mut self, at: usize, new: T) -> (T, u64)
         requires { at < length self.old.list }
         ensures out { slice_get self.old.list at ≡ Some result.0 }

@@ -3,7 +3,8 @@ ghost use Rattle.std.specs.Prelude.{◌≡◌, false};
 use crate::{Broken, Tap};
 use std::io::Read;
 
-/// A [`Tap`] made of a reader of std. It tells what the reader tells, and any error of the reader is a failure.
+/// A [`Tap`] made of a reader of std. It tells what the reader tells, and any error of the reader is a
+/// failure.
 #[derive(Debug, Drop)]
 pub struct In<R> {
     reader: R,

@@ -1,5 +1,5 @@
-//! The text of a `.x` file and its edits, the counts of work done on it, the taps that bytes come from, and the sinks that
-//! generated text goes to.
+//! The text of a `.x` file and its edits, the counts of work done on it, the taps that bytes come from, and
+//! the sinks that generated text goes to.
 #![tactic(auto)]
 
 mod edit;

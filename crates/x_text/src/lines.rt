@@ -1,4 +1,5 @@
-ghost use Rattle.std.specs.Prelude.{◌≡◌, ◌==◌, ◌+◌, ◌-◌, ◌^◌, ◌<◌, ◌≤◌, length, count_by, reverse, if◌then◌else◌};
+ghost use Rattle.std.specs.Prelude.{◌≡◌, ◌==◌, ◌+◌, ◌-◌, ◌^◌, ◌<◌, ◌≤◌, length, count_by, reverse};
+ghost use Rattle.std.specs.Prelude.{if◌then◌else◌};
 ghost use Rattle.std.specs.List.{prefix_len};
 ghost use Rattle.x_text.specs.Text.{is_line_feed, is_in_line, line_of, column_of, AreCounts};
 
@@ -27,7 +28,8 @@ fn last_line(bytes: &[u8]) -> usize
     }
 }
 
-/// The length of the last line of bytes that follow a line of `before` bytes: `line` is that of the bytes alone.
+/// The length of the last line of bytes that follow a line of `before` bytes: `line` is that of the bytes
+/// alone.
 fn joined_line(before: usize, line: usize, length: usize) -> usize
     requires { before + length < 2 ^ 64 }
     ensures { result ≡ (if line == length then length + before else line) }
@@ -104,7 +106,8 @@ impl<'s> Lines<'s> {
         }
     }
 
-    /// The line and the column of a place, each counted from 1: the line feeds before it, and the bytes since the last of them.
+    /// The line and the column of a place, each counted from 1: the line feeds before it, and the bytes since
+    /// the last of them.
     pub fn line_col(&mut self, at: usize) -> (u32, u32)
         ensures line { result.0 ≡ line_of self.old at }
         ensures column { result.1 ≡ column_of self.old at }

@@ -1,8 +1,10 @@
 //! A list of entries that each have a length.
-ghost use Rattle.std.specs.Prelude.{◌≡◌, ◌+◌, ◌^◌, ◌<◌, ◌≤◌, ◌↔◌, ℕ, [], Some, IsTrue, IfOk, IsOk, OnOk, OnErr, length, drop};
+ghost use Rattle.std.specs.Prelude.{◌≡◌, ◌+◌, ◌^◌, ◌<◌, ◌≤◌, ◌↔◌, ℕ, [], Some, IsTrue, IfOk, IsOk, OnOk};
+ghost use Rattle.std.specs.Prelude.{OnErr, length, drop};
 ghost use Rattle.std.specs.Prelude.{option_copied, slice_get, slice_set};
 ghost use Rattle.x_text.specs.Seqs.{distance};
-ghost use Rattle.x_text.specs.Lengths.{total_length, length_before, IsCountBefore, patched, LiesAmong, HasRoom};
+ghost use Rattle.x_text.specs.Lengths.{total_length, length_before, IsCountBefore, patched, LiesAmong};
+ghost use Rattle.x_text.specs.Lengths.{HasRoom};
 
 use crate::measured::total_length;
 use crate::{GapIter, GapSeq, Measured, NoMemory, PatchedIter, Seq, SeqPatch};
@@ -11,7 +13,8 @@ use std::marker::Model;
 
 /// Entries that each have a length, in order: where one starts follows from the lengths of those before it.
 ///
-/// They have a seat, the index behind those that were put in last: what is done near it takes few steps, however long the list is.
+/// They have a seat, the index behind those that were put in last: what is done near it takes few steps,
+/// however long the list is.
 #[derive(Debug, Drop)]
 pub struct MeasuredSeq<T: Measured> {
     entries: GapSeq<T>,
@@ -149,7 +152,8 @@ impl<T: Measured + Drop> MeasuredSeq<T> {
         }
     }
 
-    /// Makes room for `extra` more entries. After [`NoMemory`], too, all is as before but the room, which never shrinks.
+    /// Makes room for `extra` more entries. After [`NoMemory`], too, all is as before but the room, which
+    /// never shrinks.
     pub fn reserve(&mut self, extra: usize) -> Result<(), NoMemory>
         ensures list { self.new.list ≡ self.old.list }
         ensures seat { self.new.seat ≡ self.old.seat }
@@ -160,9 +164,11 @@ impl<T: Measured + Drop> MeasuredSeq<T> {
         self.entries.reserve(extra)
     }
 
-    /// Carries the patch out in room that is there, and answers how many entries that stay it moved. It takes no memory.
+    /// Carries the patch out in room that is there, and answers how many entries that stay it moved. It takes
+    /// no memory.
     ///
-    /// It walks to its place and does not trust the patch's: it takes as many steps as it moves and removes entries, at the most.
+    /// It walks to its place and does not trust the patch's: it takes as many steps as it moves and removes
+    /// entries, at the most.
     pub fn put(&mut self, patch: SeqPatch<T>) -> u64
         requires among { LiesAmong self.old.list patch }
         requires room { HasRoom self.old patch }
@@ -181,7 +187,8 @@ impl<T: Measured + Drop> MeasuredSeq<T> {
         moved
     }
 
-    /// Puts an entry in the place of the one at `index`, and gives that one back, with how many others moved. It takes no memory.
+    /// Puts an entry in the place of the one at `index`, and gives that one back, with how many others moved.
+    /// It takes no memory.
     pub fn exchange(&mut self, index: usize, new: T) -> (T, u64)
         requires within { index < length self.old.list }
         requires short { total_length T.length (slice_set self.old.list index new) < 2 ^ 64 }
@@ -197,8 +204,9 @@ impl<T: Measured + Drop> MeasuredSeq<T> {
         (out, moved)
     }
 
-    /// Of the first entries, up to `most` of them, how many end before `limit`, and where the last of those ends: the search begins
-    /// at the nearest of the start, the seat and the end of the list, which is at `end`.
+    /// Of the first entries, up to `most` of them, how many end before `limit`, and where the last of those
+    /// ends: the search begins at the nearest of the start, the seat and the end of the list, which is at
+    /// `end`.
     pub fn count_before(&self, most: usize, limit: usize, end: usize) -> (usize, usize)
         requires within { most ≤ length self.now.list }
         requires end { end ≡ total_length T.length self.now.list }
@@ -210,7 +218,8 @@ impl<T: Measured + Drop> MeasuredSeq<T> {
         self.go_forth(index, place, most, limit)
     }
 
-    /// Goes on from the first `from` entries, which end at `place`, to the first that end at `target` or behind it, or to `most` of them.
+    /// Goes on from the first `from` entries, which end at `place`, to the first that end at `target` or
+    /// behind it, or to `most` of them.
     pub fn advance(&self, from: usize, place: usize, most: usize, target: usize) -> (usize, usize)
         requires forward { from ≤ most }
         requires within { most ≤ length self.now.list }
@@ -243,7 +252,8 @@ impl<T: Measured + Drop> MeasuredSeq<T> {
         }
     }
 
-    /// A count of entries and where the last of so many ends: of the start, the seat and the end, the nearest to the place `at`.
+    /// A count of entries and where the last of so many ends: of the start, the seat and the end, the nearest
+    /// to the place `at`.
     fn nearest(&self, at: usize, end: usize) -> (usize, usize)
         requires { end ≡ total_length T.length self.now.list }
         ensures within { result.0 ≤ length self.now.list }
@@ -261,7 +271,8 @@ impl<T: Measured + Drop> MeasuredSeq<T> {
         }
     }
 
-    /// Goes back from the first `index` entries, which end at `place`, to the most, up to `most`, that end before `limit`, or to none.
+    /// Goes back from the first `index` entries, which end at `place`, to the most, up to `most`, that end
+    /// before `limit`, or to none.
     fn go_back(&self, index: usize, place: usize, most: usize, limit: usize) -> (usize, usize)
         requires within { index ≤ length self.now.list }
         requires place { place ≡ length_before T.length self.now.list index }
@@ -278,7 +289,8 @@ impl<T: Measured + Drop> MeasuredSeq<T> {
         (index, place)
     }
 
-    /// Goes on from the first `index` entries, which end at `place`, to the most, up to `most`, that end before `limit`.
+    /// Goes on from the first `index` entries, which end at `place`, to the most, up to `most`, that end
+    /// before `limit`.
     fn go_forth(&self, index: usize, place: usize, most: usize, limit: usize) -> (usize, usize)
         requires order { index ≤ most }
         requires within { most ≤ length self.now.list }

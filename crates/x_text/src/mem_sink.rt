@@ -6,8 +6,8 @@ ghost use Rattle.x_text.specs.Streams.{FailsForGood, Puts};
 use crate::{Broken, Sink};
 use std::marker::Model;
 
-/// A [`Sink`] over memory, for tests: it takes at most a set number of bytes a call, and fails after a set number of bytes or
-/// where its slice is full.
+/// A [`Sink`] over memory, for tests: it takes at most a set number of bytes a call, and fails after a set
+/// number of bytes or where its slice is full.
 #[derive(Debug, Drop)]
 pub struct MemSink<'b> {
     bytes: &'b mut [u8],

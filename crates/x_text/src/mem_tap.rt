@@ -5,8 +5,8 @@ ghost use Rattle.x_text.specs.Streams.{FailsForGood, Takes};
 use crate::{Broken, Tap};
 use std::marker::Model;
 
-/// A [`Tap`] over memory, for tests: it moves at most a set number of bytes a call, and fails after a set number of bytes, at
-/// its end too.
+/// A [`Tap`] over memory, for tests: it moves at most a set number of bytes a call, and fails after a set
+/// number of bytes, at its end too.
 #[derive(Debug, Drop)]
 pub struct MemTap<'b> {
     bytes: &'b [u8],

@@ -3,9 +3,11 @@ ghost use Rattle.x_text.specs.Counts.{raised};
 
 use std::marker::Model;
 
-/// Counts the work that was done on a text. Each counter stays at the greatest number of its type, and no call lowers it.
+/// Counts the work that was done on a text. Each counter stays at the greatest number of its type, and no
+/// call lowers it.
 ///
-/// A meter is made by [`Meter::new`] alone: it is neither `Clone`, `Copy` nor `Default`, and its fields are private.
+/// A meter is made by [`Meter::new`] alone: it is neither `Clone`, `Copy` nor `Default`, and its fields are
+/// private.
 #[derive(Debug, Drop)]
 pub struct Meter {
     lexed: u64,

@@ -1,7 +1,8 @@
 use std::alloc::{AllocError, AllocFailed};
 use thiserror::Error;
 
-/// Memory ran out. What the call would have changed is as it was before, but for room that was made and what a meter counted.
+/// Memory ran out. What the call would have changed is as it was before, but for room that was made and what
+/// a meter counted.
 #[derive(Clone, Copy, Debug, PartialEq, Eq, Error)]
 #[error("out of memory")]
 pub struct NoMemory;

@@ -4,7 +4,8 @@ ghost use Rattle.std.specs.Iterator.{YieldsFirstRef, item_count};
 use crate::GapIter;
 use std::marker::Model;
 
-/// Goes over the entries that a patch will leave of a [`crate::MeasuredSeq`], seen as the list of those that are left.
+/// Goes over the entries that a patch will leave of a [`crate::MeasuredSeq`], seen as the list of those that
+/// are left.
 #[derive(Debug, Drop)]
 pub struct PatchedIter<'a, T> {
     /// How many entries of `front` stand in front of the fresh ones.

@@ -20,7 +20,8 @@ pub struct WriteFault {
 /// How many bytes a pen holds back at the most.
 const HELD: usize = 8192;
 
-/// Writes a text to a sink in parts: it holds back a few bytes, so that the sink is asked seldom, and takes no memory.
+/// Writes a text to a sink in parts: it holds back a few bytes, so that the sink is asked seldom, and takes
+/// no memory.
 ///
 /// Once the sink has failed nothing more goes to it, and [`Pen::finish`] tells.
 #[derive(Drop)]
@@ -60,7 +61,8 @@ impl Pen {
         }
     }
 
-    /// Holds the bytes back if there is room for them, or if nothing more goes to the sink, and answers whether it does.
+    /// Holds the bytes back if there is room for them, or if nothing more goes to the sink, and answers
+    /// whether it does.
     #[inline(always)]
     fn holds(&mut self, bytes: &[u8]) -> bool
         ensures holds { IsTrue result → (now : Stream) → Adds self.old now self.new now bytes.now }

@@ -1,4 +1,5 @@
-ghost use Rattle.std.specs.Prelude.{◌≡◌, ◌↔◌, ◌+◌, ◌<◌, ◌≤◌, ℕ, List, [], IsTrue, OnOk, OnErr, length, slice_get, option_copied};
+ghost use Rattle.std.specs.Prelude.{◌≡◌, ◌↔◌, ◌+◌, ◌<◌, ◌≤◌, ℕ, List, [], IsTrue, OnOk, OnErr, length};
+ghost use Rattle.std.specs.Prelude.{slice_get, option_copied};
 ghost use Rattle.std.specs.List.{splice};
 
 use crate::NoMemory;
@@ -13,7 +14,8 @@ pub trait Seq<T> {
     /// How many more entries there is room for.
     ghost spare: { Self → ℕ };
 
-    /// How many kept entries move where those of a range are replaced, by the place of the range and its length.
+    /// How many kept entries move where those of a range are replaced, by the place of the range and its
+    /// length.
     ghost moves: { Self → ℕ → ℕ → ℕ };
 
     /// How many entries there are.
@@ -47,8 +49,8 @@ pub trait Seq<T> {
         // A later change moves as many entries as it would have before.
         ensures moves { (at remove : ℕ) → moves self.new at remove ≡ moves self.old at remove };
 
-    /// Puts entries in the place of `remove` others, from `at` on, in room that is there, and answers how many of the entries that
-    /// are kept it moved.
+    /// Puts entries in the place of `remove` others, from `at` on, in room that is there, and answers how
+    /// many of the entries that are kept it moved.
     fn splice(&mut self, at: usize, remove: usize, new: Vec<T>) -> u64
         requires within { at + remove ≤ length (list self.old) }
         requires room { length new.items ≤ spare self.old }

@@ -27,7 +27,8 @@ impl<T> Model for SeqPatch<T> {
 }
 
 impl<T> SeqPatch<T> {
-    /// These entries, the first of which starts at `start`, in place of `removed` old ones from index `at` on.
+    /// These entries, the first of which starts at `start`, in place of `removed` old ones from index `at`
+    /// on.
     pub fn new(at: usize, removed: usize, start: usize, fresh: Vec<T>) -> SeqPatch<T>
         ensures { result ≡ record { at = at; removed = removed; start = start; fresh = fresh.items } }
     {

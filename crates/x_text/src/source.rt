@@ -61,8 +61,9 @@ impl Source {
         &self.bytes
     }
 
-    /// Carries an edit out: [`TextFault::BadRange`] where its range does not lie within the text, and [`TextFault::TooLarge`]
-    /// where the text would have more than [`MAX_TEXT`] bytes, which take no memory. After a fault the text is as before.
+    /// Carries an edit out: [`TextFault::BadRange`] where its range does not lie within the text, and
+    /// [`TextFault::TooLarge`] where the text would have more than [`MAX_TEXT`] bytes, which take no memory.
+    /// After a fault the text is as before.
     pub fn replace(&mut self, edit: &Edit) -> Result<(), TextFault>
         ensures text { OnOk result (self.new ≡ edited_by (change_of self.old edit.now)) }
         ensures fault { Judges (change_of self.old edit.now) result }
@@ -120,7 +121,8 @@ impl Source {
         Ok(())
     }
 
-    /// The line and the column of a place, each counted from 1: the line feeds before it, and the bytes since the last of them.
+    /// The line and the column of a place, each counted from 1: the line feeds before it, and the bytes since
+    /// the last of them.
     ///
     /// It reads the text up to the place: for many places take [`Lines`].
     pub fn line_col(&self, at: usize) -> (u32, u32)

@@ -83,7 +83,8 @@ fn a_sink_over_bytes_fails_as_it_is_told(rt: HostRuntime) {
 /// The length of a text that a pen can't hold back as a whole.
 const LONG: usize = 20_000;
 
-/// Writes the long text in pieces of seven bytes to a sink with this room, and checks that it has taken what fits.
+/// Writes the long text in pieces of seven bytes to a sink with this room, and checks that it has taken what
+/// fits.
 fn write_in_pieces(rt: &impl Abort, room: &mut [u8], expected: Result<(), WriteFault>) {
     let text = [b'a'; LONG];
     let mut sink = MemSink::new(room, 3000, LONG);

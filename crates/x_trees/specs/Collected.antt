@@ -1,5 +1,6 @@
 -- What a walk over a definition has found.
-use Rattle.std.specs.Prelude.{◌≡◌, ℕ, ◌+◌, ◌^◌, ◌<◌, true, List, [], ◌∷◌, ◌++◌, Option, Some, None, length, map}
+use Rattle.std.specs.Prelude.{◌≡◌, ℕ, ◌+◌, ◌^◌, ◌<◌, true, List, [], ◌∷◌, ◌++◌, Option, Some, None, length}
+use Rattle.std.specs.Prelude.{map}
 use Rattle.std.specs.Cow.{cow_slice_items}
 use Rattle.x_trees.specs.Gloss as gloss
 use Rattle.x_trees.specs.Gloss.{Role, Gloss, told_of}
@@ -31,14 +32,15 @@ pub record Walked (A : Type 0) : Type 0 where
   pub word : ℕ
   pub list : List A
 
--- The walk has gone over n words more, and found these from the word on where it was. Of a walk that comes to 2^64 words nothing
--- is said.
+-- The walk has gone over n words more, and found these from the word on where it was. Of a walk that comes to
+-- 2^64 words nothing is said.
 pub record Covers {A : Type 0} (from to : Walked A) (n : ℕ) (found : ℕ → List A) : Type 0 where
   pub word : from.word + n < 2 ^ 64 → to.word ≡ from.word + n
   pub list : from.word + n < 2 ^ 64 → to.list ≡ from.list ++ found from.word
 
 -- the walk has gone over these words, and found what is told of them
-pub record CoversAll {A : Type 0} (tell : ℕ → List Role → List A) (from to : Walked A) (words : List Gloss) : Type 0 where
+pub record CoversAll {A : Type 0} (tell : ℕ → List Role → List A) (from to : Walked A)
+    (words : List Gloss) : Type 0 where
   pub all : Covers from to (length words) (λ k. told_of tell k words)
 
 -- ---- the three lists of a glossary
@@ -53,7 +55,8 @@ abbrev pub noted_by : Walk → Walked NoteAt
 noted_by w = record { word = w.word; list = map view_note_at w.glossary.notes.items }
 
 -- the walk has gone over n words more, and found these
-pub record Finds (from to : Walk) (n : ℕ) (names : ℕ → List Declared) (mentions : ℕ → List uses.Mention) (notes : ℕ → List NoteAt) : Type 0 where
+pub record Finds (from to : Walk) (n : ℕ) (names : ℕ → List Declared) (mentions : ℕ → List uses.Mention)
+    (notes : ℕ → List NoteAt) : Type 0 where
   pub names_in : Covers (declared_by from) (declared_by to) n names
   pub mentions_in : Covers (mentioned_by from) (mentioned_by to) n mentions
   pub notes_in : Covers (noted_by from) (noted_by to) n notes

@@ -1,9 +1,11 @@
--- The words of definitions, each with its roles: RFC 4506, sections 6.3 and 6.4, and for programs RFC 5531, section 12.
--- Beyond them stand `unsigned` alone, `long`, a keyword and a name as a type, `string` as an argument or a result, a name as the
--- value of a constant, and an enumerator without a value.
+-- The words of definitions, each with its roles: RFC 4506, sections 6.3 and 6.4, and for programs RFC 5531,
+-- section 12. Beyond them stand `unsigned` alone, `long`, a keyword and a name as a type, `string` as an
+-- argument or a result, a name as the value of a constant, and an enumerator without a value.
 --
--- What becomes of a word with its roles is up to `make`: `gloss` keeps both, and `spell` of Spell.antt the words alone.
-use Rattle.std.specs.Prelude.{ℕ, ◌+◌, Bool, true, false, List, [], ◌∷◌, ◌++◌, length, map, slice_index_or, Option, Some, None, is_some, codes}
+-- What becomes of a word with its roles is up to `make`: `gloss` keeps both, and `spell` of Spell.antt the
+-- words alone.
+use Rattle.std.specs.Prelude.{ℕ, ◌+◌, Bool, true, false, List, [], ◌∷◌, ◌++◌, length, map, slice_index_or}
+use Rattle.std.specs.Prelude.{Option, Some, None, is_some, codes}
 use denote.Enum.Declared.{tag_of}
 use Rattle.x_trees.specs.Tree as tree
 use Rattle.x_trees.specs.Words.{Word, Fixed, Name, Number}
@@ -19,7 +21,8 @@ use Rattle.x_trees.specs.declared.names.declared_name.NameKind.TheVariants as ki
 use Rattle.x_trees.specs.declared.names.mention.Use.{Use}
 use Rattle.x_trees.specs.declared.names.mention.Use.TheVariants as uses
 
--- what a declaration stands in for: a field of a struct, the discriminant of a union, or what one of its arms holds
+-- what a declaration stands in for: a field of a struct, the discriminant of a union, or what one of its arms
+-- holds
 pub data Position : Type 0 where
   AsField : Position
   AsDiscriminant : Position
@@ -111,8 +114,8 @@ use_by tree.Optional = uses.Link
 use_by (tree.Array (tree.Fixed v)) = uses.ByValue
 use_by (tree.Array (tree.Variable v)) = uses.Link
 
--- Nothing inside an inline type that is an argument or a result has a role: where words have none, `told` is false, and their place
--- and the name of the type around them are `None`.
+-- Nothing inside an inline type that is an argument or a result has a role: where words have none, `told` is
+-- false, and their place and the name of the type around them are `None`.
 
 abbrev pub where_told : {X : Type 0} → Bool → X → Option X
 where_told true x = Some x
@@ -205,7 +208,8 @@ named_by make told roles name (tree.Array length) = make (Name name) roles ∷ l
 abbrev pub given_by : {A : Type 0} → (Word → List Role → A) → Bool → Option tree.Value → List A
 given_by make told None = []
 given_by make told (Some v) =
-    make (Fixed marks.Equals) [] ∷ make (spell_value v) (roles_where told (value_roles (EnumeratorValue v) v)) ∷ []
+    make (Fixed marks.Equals) []
+    ∷ make (spell_value v) (roles_where told (value_roles (EnumeratorValue v) v)) ∷ []
 
 -- NAME ["=" value]
 abbrev pub enumerator_by : {A : Type 0} → (Word → List Role → A) → Bool → tree.Enumerator → List A
@@ -233,20 +237,25 @@ cases_by make told (v ∷ vs) =
     ∷ make (Fixed marks.Colon) [] ∷ cases_by make told vs
 
 abbrev mutual
-  -- a type that is used so; its first word has these roles, and `inside` is its name where it is an inline one
-  pub type_by : {A : Type 0} → (Word → List Role → A) → List Role → Option Use → Option (List ℕ) → tree.DataType → List A
+  -- a type that is used so; its first word has these roles, and `inside` is its name where it is an inline
+  -- one
+  pub type_by : {A : Type 0} → (Word → List Role → A) → List Role → Option Use → Option (List ℕ)
+      → tree.DataType → List A
   type_by make first usage inside (tree.Simple b) = marks_by make first (basic_marks b)
   type_by make first usage inside (tree.Name t) = make (Name t) (mention_roles usage None t ++ first) ∷ []
   type_by make first usage inside (tree.Tagged tag t) =
       make (Fixed (tag_mark tag)) first ∷ make (Name t) (mention_roles usage (Some tag) t) ∷ []
-  type_by make first usage inside (tree.Inline body) = make (Fixed (body_mark body)) first ∷ body_by make inside body
+  type_by make first usage inside (tree.Inline body) =
+      make (Fixed (body_mark body)) first ∷ body_by make inside body
 
   -- the body of the type of the name `around`
   pub body_by : {A : Type 0} → (Word → List Role → A) → Option (List ℕ) → tree.Body → List A
   body_by make around (tree.Enum es) =
-      make (Fixed marks.OpenBrace) [] ∷ (enumerators_by make (is_some around) es ++ make (Fixed marks.CloseBrace) [] ∷ [])
+      make (Fixed marks.OpenBrace) []
+      ∷ (enumerators_by make (is_some around) es ++ make (Fixed marks.CloseBrace) [] ∷ [])
   body_by make around (tree.Struct ds) =
-      make (Fixed marks.OpenBrace) [] ∷ (declarations_by make around ds ++ make (Fixed marks.CloseBrace) [] ∷ [])
+      make (Fixed marks.OpenBrace) []
+      ∷ (declarations_by make around ds ++ make (Fixed marks.CloseBrace) [] ∷ [])
   body_by make around (tree.Union d arms other) =
       make (Fixed marks.Switch) []
       ∷ make (Fixed marks.OpenParenthesis) []
@@ -257,8 +266,10 @@ abbrev mutual
   pub declaration_by : {A : Type 0} → (Word → List Role → A) → Option Place → tree.Declaration → List A
   declaration_by make place tree.Void = make (Fixed marks.Void) (void_roles place) ∷ []
   declaration_by make place (tree.Of type name shape) =
-      type_by make (leading_roles place (tree.Of type name shape)) (usage_at place shape) (name_inside place name) type
-      ++ named_by make (is_some place) (name_roles place name ++ lifted_roles (name_inside place name) type) name shape
+      type_by make (leading_roles place (tree.Of type name shape)) (usage_at place shape)
+      (name_inside place name) type
+      ++ named_by make (is_some place)
+      (name_roles place name ++ lifted_roles (name_inside place name) type) name shape
   declaration_by make place (tree.Opaque name length) =
       make (Fixed marks.Opaque) (leading_roles place (tree.Opaque name length))
       ∷ make (Name name) (name_roles place name) ∷ length_by make (is_some place) length
@@ -270,14 +281,16 @@ abbrev mutual
   pub declarations_by : {A : Type 0} → (Word → List Role → A) → Option (List ℕ) → tree.Declarations → List A
   declarations_by make around tree.none = []
   declarations_by make around (tree.more d ds) =
-      declaration_by make (place_in AsField around) d ++ make (Fixed marks.Semicolon) [] ∷ declarations_by make around ds
+      declaration_by make (place_in AsField around) d ++ make (Fixed marks.Semicolon) []
+      ∷ declarations_by make around ds
 
   -- (("case" value ":")* declaration ";")*
   pub arms_by : {A : Type 0} → (Word → List Role → A) → Option (List ℕ) → tree.Arms → List A
   arms_by make around tree.no_arm = []
   arms_by make around (tree.arm cases d rest) =
       cases_by make (is_some around) cases
-      ++ (declaration_by make (place_in AsArm around) d ++ make (Fixed marks.Semicolon) [] ∷ arms_by make around rest)
+      ++ (declaration_by make (place_in AsArm around) d ++ make (Fixed marks.Semicolon) []
+      ∷ arms_by make around rest)
 
   -- ["default" ":" declaration ";"] "}"
   pub default_by : {A : Type 0} → (Word → List Role → A) → Option (List ℕ) → tree.Default → List A
@@ -285,22 +298,26 @@ abbrev mutual
   default_by make around (tree.default d) =
       make (Fixed marks.Default) []
       ∷ make (Fixed marks.Colon) []
-      ∷ (declaration_by make (place_in AsArm around) d ++ make (Fixed marks.Semicolon) [] ∷ make (Fixed marks.CloseBrace) [] ∷ [])
+      ∷ (declaration_by make (place_in AsArm around) d ++ make (Fixed marks.Semicolon) []
+      ∷ make (Fixed marks.CloseBrace) [] ∷ [])
 
 -- arg: type | "string"; nothing inside an inline type has a role
 abbrev pub argument_by : {A : Type 0} → (Word → List Role → A) → Bool → tree.Argument → List A
 argument_by make told tree.Text = make (Fixed marks.String) [] ∷ []
-argument_by make told (tree.Typed type) = type_by make (argument_roles told type) (where_told told uses.ByValue) None type
+argument_by make told (tree.Typed type) =
+    type_by make (argument_roles told type) (where_told told uses.ByValue) None type
 
 -- "void", which has these roles, | arg
-abbrev pub passed_by : {A : Type 0} → (Word → List Role → A) → Bool → List Role → Option tree.Argument → List A
+abbrev pub passed_by : {A : Type 0} → (Word → List Role → A) → Bool → List Role → Option tree.Argument
+    → List A
 passed_by make told void None = make (Fixed marks.Void) void ∷ []
 passed_by make told void (Some a) = argument_by make told a
 
 -- ("," arg)*
 abbrev pub others_by : {A : Type 0} → (Word → List Role → A) → Bool → List tree.Argument → List A
 others_by make told [] = []
-others_by make told (a ∷ rest) = make (Fixed marks.Comma) [] ∷ (argument_by make told a ++ others_by make told rest)
+others_by make told (a ∷ rest) =
+    make (Fixed marks.Comma) [] ∷ (argument_by make told a ++ others_by make told rest)
 
 -- result NAME "(" first ("," arg)* ")" "=" NUMBER ";"
 abbrev pub procedure_by : {A : Type 0} → (Word → List Role → A) → Bool → tree.Procedure → List A
@@ -308,10 +325,12 @@ procedure_by make told p =
     passed_by make told (roles_where told (VoidResult ∷ [])) p.result
     ++ make (Name p.name) (roles_where told (ProcedureName p.name ∷ []))
     ∷ make (Fixed marks.OpenParenthesis) []
-    ∷ ((passed_by make told (roles_where told (VoidArgument (length p.others) ∷ [])) p.first ++ others_by make told p.others)
+    ∷ ((passed_by make told (roles_where told (VoidArgument (length p.others) ∷ [])) p.first
+    ++ others_by make told p.others)
     ++ make (Fixed marks.CloseParenthesis) []
     ∷ make (Fixed marks.Equals) []
-    ∷ make (Number p.number) (roles_where told (ProcedureNumber p.number ∷ [])) ∷ make (Fixed marks.Semicolon) [] ∷ [])
+    ∷ make (Number p.number) (roles_where told (ProcedureNumber p.number ∷ []))
+    ∷ make (Fixed marks.Semicolon) [] ∷ [])
 
 abbrev pub procedures_by : {A : Type 0} → (Word → List Role → A) → Bool → List tree.Procedure → List A
 procedures_by make told [] = []
@@ -326,7 +345,8 @@ version_by make told v =
     ∷ (procedures_by make told v.procedures
     ++ make (Fixed marks.CloseBrace) []
     ∷ make (Fixed marks.Equals) []
-    ∷ make (Number v.number) (roles_where told (VersionNumber v.number ∷ [])) ∷ make (Fixed marks.Semicolon) [] ∷ [])
+    ∷ make (Number v.number) (roles_where told (VersionNumber v.number ∷ []))
+    ∷ make (Fixed marks.Semicolon) [] ∷ [])
 
 abbrev pub versions_by : {A : Type 0} → (Word → List Role → A) → Bool → List tree.Version → List A
 versions_by make told [] = []
@@ -338,9 +358,11 @@ definition_by make told (tree.Const name value) =
     make (Fixed marks.Const) []
     ∷ make (Name name) (Declares name kinds.Constant false ∷ [])
     ∷ make (Fixed marks.Equals) []
-    ∷ make (spell_value value) (value_roles (ConstantValue value) value) ∷ make (Fixed marks.Semicolon) [] ∷ []
+    ∷ make (spell_value value) (value_roles (ConstantValue value) value) ∷ make (Fixed marks.Semicolon) []
+    ∷ []
 definition_by make told (tree.Typedef d) =
-    make (Fixed marks.Typedef) [] ∷ (declaration_by make (where_told told InTypedef) d ++ make (Fixed marks.Semicolon) [] ∷ [])
+    make (Fixed marks.Typedef) []
+    ∷ (declaration_by make (where_told told InTypedef) d ++ make (Fixed marks.Semicolon) [] ∷ [])
 definition_by make told (tree.NewType name body) =
     make (Fixed (body_mark body)) []
     ∷ make (Name name) (Declares name (body_kind body) false ∷ [])
@@ -351,7 +373,8 @@ definition_by make told (tree.Program name versions number) =
     ∷ make (Fixed marks.OpenBrace) []
     ∷ (versions_by make told versions
     ++ make (Fixed marks.CloseBrace) []
-    ∷ make (Fixed marks.Equals) [] ∷ make (Number number) (ProgramNumber number ∷ []) ∷ make (Fixed marks.Semicolon) [] ∷ [])
+    ∷ make (Fixed marks.Equals) [] ∷ make (Number number) (ProgramNumber number ∷ [])
+    ∷ make (Fixed marks.Semicolon) [] ∷ [])
 
 -- the words of a definition, each with its roles
 abbrev pub gloss : tree.Definition → List Gloss

@@ -5,8 +5,8 @@ use Rattle.x_trees.specs.Gloss.{Role, Mentions, gloss, told_of}
 use Rattle.x_trees.specs.declared.trees.declaration.Tag.{Tag}
 use Rattle.x_trees.specs.declared.names.mention.Use.{Use}
 
--- a name, the word where it stands, counted from 0 among the words of its definition, what it is used as, and the keyword in
--- front of it
+-- a name, the word where it stands, counted from 0 among the words of its definition, what it is used as, and
+-- the keyword in front of it
 pub record Mention : Type 0 where
   pub name : List ℕ
   pub word : ℕ

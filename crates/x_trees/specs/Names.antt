@@ -4,8 +4,8 @@ use Rattle.x_trees.specs.Tree as tree
 use Rattle.x_trees.specs.Gloss.{Role, Declares, gloss, told_of}
 use Rattle.x_trees.specs.declared.names.declared_name.NameKind.{NameKind}
 
--- a name, the word that declares it, counted from 0 among the words of its definition, what it is declared as, and whether it is
--- lifted: the name of an inline type
+-- a name, the word that declares it, counted from 0 among the words of its definition, what it is declared
+-- as, and whether it is lifted: the name of an inline type
 pub record Declared : Type 0 where
   pub name : List ℕ
   pub word : ℕ

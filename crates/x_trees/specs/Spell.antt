@@ -104,7 +104,8 @@ abbrev mutual
   pub BodyFits : tree.Body → ℕ → Type 0
   BodyFits (tree.Enum es) n = HasOne es
   BodyFits (tree.Struct ds) n = HasDeclaration ds × DeclarationsFit ds n
-  BodyFits (tree.Union d arms other) n = DeclarationFits d n × (HasArm arms × (ArmsFit arms n × DefaultFits other n))
+  BodyFits (tree.Union d arms other) n =
+      DeclarationFits d n × (HasArm arms × (ArmsFit arms n × DefaultFits other n))
 
   pub DeclarationFits : tree.Declaration → ℕ → Type 0
   DeclarationFits tree.Void n = Unit {0}

@@ -1,4 +1,5 @@
--- The trees of definitions, apart from where they lie in memory. Each name and number is kept as it is spelled.
+-- The trees of definitions, apart from where they lie in memory. Each name and number is kept as it is
+-- spelled.
 use Rattle.std.specs.Prelude.{ℕ, List, Option}
 use Rattle.x_trees.specs.declared.trees.declaration.Basic.{Basic}
 use Rattle.x_trees.specs.declared.trees.declaration.Tag.{Tag}

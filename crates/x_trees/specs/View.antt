@@ -11,11 +11,14 @@ use Rattle.x_trees.specs.declared.trees.declaration.Shape.TheVariants as shapes
 use Rattle.x_trees.specs.declared.trees.declaration.Enumerator.{Enumerator}
 use Rattle.x_trees.specs.declared.trees.declaration.DataType.{DataType}
 use Rattle.x_trees.specs.declared.trees.declaration.DataType.TheVariants.{Basic, Named, Tagged, Inline'}
-use Rattle.x_trees.specs.declared.trees.declaration.Body.{Body, Row_of-Declaration, end_of-Declaration, more_of-Declaration}
+use Rattle.x_trees.specs.declared.trees.declaration.Body.{Body, Row_of-Declaration, end_of-Declaration}
+use Rattle.x_trees.specs.declared.trees.declaration.Body.{more_of-Declaration}
 use Rattle.x_trees.specs.declared.trees.declaration.Body.TheVariants.{Enum, Struct', Union'}
 use Rattle.x_trees.specs.declared.trees.declaration.Declaration.{Declaration}
 use Rattle.x_trees.specs.declared.trees.declaration.Declaration.TheVariants.{Void, Of, Opaque, String}
-use Rattle.x_trees.specs.declared.trees.declaration.UnionBody.{UnionBody, UnionBody', Row_of-Arm, end_of-Arm, more_of-Arm, Held-UnionBody-default, None', Some'}
+use Rattle.x_trees.specs.declared.trees.declaration.UnionBody.{UnionBody, UnionBody', Row_of-Arm, end_of-Arm}
+use Rattle.x_trees.specs.declared.trees.declaration.UnionBody.{more_of-Arm, Held-UnionBody-default, None'}
+use Rattle.x_trees.specs.declared.trees.declaration.UnionBody.{Some'}
 use Rattle.x_trees.specs.declared.trees.declaration.Arm.{Arm}
 use Rattle.x_trees.specs.declared.trees.program.Argument.{Argument}
 use Rattle.x_trees.specs.declared.trees.program.Argument.TheVariants as arguments
@@ -64,7 +67,8 @@ abbrev mutual
   view_declaration (String n m) = tree.String n.items (view_most m)
 
   pub view_union : UnionBody → tree.Body
-  view_union (UnionBody' d shape arms default) = tree.Union (view_declaration d) (view_arm_row arms) (view_held default)
+  view_union (UnionBody' d shape arms default) =
+      tree.Union (view_declaration d) (view_arm_row arms) (view_held default)
 
   pub view_row : {m : _} → Row_of-Declaration m → tree.Declarations
   view_row end_of-Declaration = tree.none
@@ -72,7 +76,8 @@ abbrev mutual
 
   pub view_arm_row : {m : _} → Row_of-Arm m → tree.Arms
   view_arm_row end_of-Arm = tree.no_arm
-  view_arm_row (more_of-Arm cases d rest) = tree.arm (map view_value cases.items) (view_declaration d) (view_arm_row rest)
+  view_arm_row (more_of-Arm cases d rest) =
+      tree.arm (map view_value cases.items) (view_declaration d) (view_arm_row rest)
 
   pub view_held : Held-UnionBody-default → tree.Default
   view_held None' = tree.no_default
@@ -85,7 +90,8 @@ view_declarations (d ∷ ds) = tree.more (view_declaration d) (view_declarations
 
 abbrev pub view_arms : List Arm → tree.Arms
 view_arms [] = tree.no_arm
-view_arms (a ∷ rest) = tree.arm (map view_value a.cases.items) (view_declaration a.declaration) (view_arms rest)
+view_arms (a ∷ rest) =
+    tree.arm (map view_value a.cases.items) (view_declaration a.declaration) (view_arms rest)
 
 abbrev pub view_default : Option Declaration → tree.Default
 view_default None = tree.no_default
@@ -110,13 +116,19 @@ view_procedure p = record {
 }
 
 abbrev pub view_version : Version → tree.Version
-view_version v = record { name = v.name.items; procedures = map view_procedure v.procedures.items; number = v.number.items }
+view_version v =
+    record {
+      name = v.name.items;
+      procedures = map view_procedure v.procedures.items;
+      number = v.number.items;
+    }
 
 abbrev pub view_definition : Definition → tree.Definition
 view_definition (definitions.Const name value) = tree.Const name.items (view_value value)
 view_definition (definitions.Typedef d) = tree.Typedef (view_declaration d.value)
 view_definition (definitions.NewType name body) = tree.NewType name.items (view_body body)
-view_definition (definitions.Program name versions number) = tree.Program name.items (map view_version versions.items) number.items
+view_definition (definitions.Program name versions number) =
+    tree.Program name.items (map view_version versions.items) number.items
 
 -- the tree of a definition that is lent, if there is one
 abbrev pub tree_at : Option (Bor Definition) → Option tree.Definition

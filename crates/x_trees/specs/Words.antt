@@ -15,7 +15,8 @@ is_significant kinds.Percent = false
 is_significant kinds.Marker = false
 is_significant kind = true
 
--- a significant token, wherever it stands: a keyword or punctuation mark, a name, a number, or a token of no spelling
+-- a significant token, wherever it stands: a keyword or punctuation mark, a name, a number, or a token of no
+-- spelling
 pub data Word : Type 0 where
   Fixed : (mark : Mark) → Word
   Name : (text : List ℕ) → Word

@@ -1,4 +1,5 @@
-//! The trees of the definitions of a `.x` file, how they are spelled, and the names that a definition declares and uses.
+//! The trees of the definitions of a `.x` file, how they are spelled, and the names that a definition
+//! declares and uses.
 #![tactic(auto)]
 
 mod laws;

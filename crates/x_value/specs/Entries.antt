@@ -6,7 +6,8 @@ use Rattle.x_value.specs.declared.entry.Called.TheVariants as called
 use Rattle.x_value.specs.declared.entry.Kept.{Kept}
 use Rattle.x_value.specs.declared.entry.Kept.TheVariants as kept
 use Rattle.x_value.specs.declared.entry.Entry.{Entry}
-use Rattle.x_value.specs.Shown.{Label, Name, Index, Star, Arguments, Results, Leaf, Signed, Unsigned, Truth, Enumerator, Hex, Text, Array, Null, Link, Struct, Union, Void, Node, node}
+use Rattle.x_value.specs.Shown.{Label, Name, Index, Star, Arguments, Results, Leaf, Signed, Unsigned, Truth}
+use Rattle.x_value.specs.Shown.{Enumerator, Hex, Text, Array, Null, Link, Struct, Union, Void, Node, node}
 
 -- so many bytes of the message from a place on
 abbrev pub body_at : List ℕ → ℕ → ℕ → List ℕ

@@ -2,7 +2,8 @@
 use Rattle.std.specs.Prelude.{ℕ, List, ◌++◌, codes}
 use Rattle.std.specs.Fmt.{decimal}
 use Rattle.x_value.specs.declared.fault.ReadCode.{ReadCode}
-use Rattle.x_value.specs.declared.fault.ReadCode.TheVariants.{Short, BadBool, BadEnum, NoArm, TooMany, BadPad, TooDeep, Trailing, NoMemory}
+use Rattle.x_value.specs.declared.fault.ReadCode.TheVariants.{Short, BadBool, BadEnum, NoArm, TooMany, BadPad}
+use Rattle.x_value.specs.declared.fault.ReadCode.TheVariants.{TooDeep, Trailing, NoMemory}
 
 -- the number and the name of the reason
 abbrev pub read_text : ReadCode → List ℕ

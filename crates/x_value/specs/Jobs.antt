@@ -1,5 +1,6 @@
 -- What is still to be read, and what the reader's steps answer.
-use Rattle.std.specs.Prelude.{◌≡◌, ℕ, ◌+◌, ◌*◌, ◌<◌, ◌≤◌, List, [], ◌∷◌, ◌++◌, ◌-◌, ◌%◌, ◌^◌, length, false, Some, None}
+use Rattle.std.specs.Prelude.{◌≡◌, ℕ, ◌+◌, ◌*◌, ◌<◌, ◌≤◌, List, [], ◌∷◌, ◌++◌, ◌-◌, ◌%◌, ◌^◌, length, false}
+use Rattle.std.specs.Prelude.{Some, None}
 use Rattle.x_schema.specs.Schema.{Schema}
 use Rattle.x_schema.specs.Sound.{AreSoundEnumerators, AreSoundFields, IsSoundUnion}
 use Rattle.x_value.specs.declared.fault.ReadCode.{ReadCode}

@@ -1,6 +1,7 @@
--- How the values of each form are laid out (RFC 4506, section 4): what stands in them by value, why a word may
--- not stand there, and what is shown of them.
-use Rattle.std.specs.Prelude.{ℕ, zero, suc, is_some, nat_eq, nat_lt, if◌then◌else◌, List, [], ◌∷◌, Option, Some, None}
+-- How the values of each form are laid out (RFC 4506, section 4): what stands in them by value, why a word
+-- may not stand there, and what is shown of them.
+use Rattle.std.specs.Prelude.{ℕ, zero, suc, is_some, nat_eq, nat_lt, if◌then◌else◌, List, [], ◌∷◌, Option}
+use Rattle.std.specs.Prelude.{Some, None}
 use Rattle.std.specs.Int.{cast_signed, from_be_bytes, w32, w64}
 use Rattle.x_schema.specs.declared.form.Arm.{Arm}
 use Rattle.x_schema.specs.declared.form.Arm.TheVariants as arms
@@ -12,7 +13,8 @@ use Rattle.x_schema.specs.Schema.{Schema, form_at, name_at, target_at}
 use Rattle.x_schema.specs.Sound.{is_legal}
 use Rattle.x_value.specs.declared.fault.ReadCode.{ReadCode}
 use Rattle.x_value.specs.declared.fault.ReadCode.TheVariants as codes
-use Rattle.x_value.specs.Shown.{Label, Name, Index, Star, Leaf, Signed, Unsigned, Truth, Enumerator, Hex, Text, Array, Null, Link, Struct, Union, Void, Node, node}
+use Rattle.x_value.specs.Shown.{Label, Name, Index, Star, Leaf, Signed, Unsigned, Truth, Enumerator, Hex}
+use Rattle.x_value.specs.Shown.{Text, Array, Null, Link, Struct, Union, Void, Node, node}
 
 -- the most links that may be open at once
 unfoldable pub most_links : ℕ

@@ -1,8 +1,10 @@
 -- The lines that nodes are written as.
-use Rattle.std.specs.Prelude.{ℕ, ◌/◌, ◌%◌, ◌+◌, Bool, ◌&&◌, ◌||◌, ◌==◌, not, nat_le, nat_lt, if◌then◌else◌, List, [], ◌∷◌, ◌++◌, codes}
+use Rattle.std.specs.Prelude.{ℕ, ◌/◌, ◌%◌, ◌+◌, Bool, ◌&&◌, ◌||◌, ◌==◌, not, nat_le, nat_lt, if◌then◌else◌}
+use Rattle.std.specs.Prelude.{List, [], ◌∷◌, ◌++◌, codes}
 use Rattle.std.specs.List.{flat_map}
 use Rattle.std.specs.Fmt.{decimal, signed_decimal}
-use Rattle.x_value.specs.Shown.{Label, Name, Index, Star, Arguments, Results, Leaf, Signed, Unsigned, Truth, Enumerator, Hex, Text, Array, Null, Link, Struct, Union, Void, Node}
+use Rattle.x_value.specs.Shown.{Label, Name, Index, Star, Arguments, Results, Leaf, Signed, Unsigned, Truth}
+use Rattle.x_value.specs.Shown.{Enumerator, Hex, Text, Array, Null, Link, Struct, Union, Void, Node}
 
 -- ---- bytes
 
@@ -17,7 +19,8 @@ hex_byte b = hex_digit (b / 16) ∷ hex_digit (b % 16) ∷ []
 abbrev pub hex_text : List ℕ → List ℕ
 hex_text bs = codes "0x" ++ flat_map hex_byte bs
 
--- a byte between quotes: `"` and `\` have a `\` before them, and what is not printable in ASCII is written in hexadecimal
+-- a byte between quotes: `"` and `\` have a `\` before them, and what is not printable in ASCII is written in
+-- hexadecimal
 abbrev pub quoted_byte : ℕ → List ℕ
 quoted_byte b =
     if b == 34 || b == 92 then 92 ∷ b ∷ []
@@ -59,7 +62,8 @@ leaf_text Void = codes "void"
 
 -- `LEVEL LABEL = TEXT`
 abbrev pub node_line : Node → List ℕ
-node_line n = decimal n.level ++ codes " " ++ label_text n.label ++ codes " = " ++ leaf_text n.leaf ++ codes "\n"
+node_line n =
+    decimal n.level ++ codes " " ++ label_text n.label ++ codes " = " ++ leaf_text n.leaf ++ codes "\n"
 
 abbrev pub node_lines : List Node → List ℕ
 node_lines nodes = flat_map node_line nodes

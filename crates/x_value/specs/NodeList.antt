@@ -4,7 +4,8 @@ use Rattle.x_value.specs.declared.nodes.Label.TheVariants as labels
 use Rattle.x_value.specs.declared.nodes.Leaf.{Leaf as RustLeaf}
 use Rattle.x_value.specs.declared.nodes.Leaf.TheVariants as leaves
 use Rattle.x_value.specs.declared.nodes.Node.{Node as RustNode}
-use Rattle.x_value.specs.Shown.{Label, Name, Index, Star, Arguments, Results, Leaf, Signed, Unsigned, Truth, Enumerator, Hex, Text, Array, Null, Link, Struct, Union, Void, Node, node}
+use Rattle.x_value.specs.Shown.{Label, Name, Index, Star, Arguments, Results, Leaf, Signed, Unsigned, Truth}
+use Rattle.x_value.specs.Shown.{Enumerator, Hex, Text, Array, Null, Link, Struct, Union, Void, Node, node}
 
 abbrev pub shown_label : RustLabel → Label
 shown_label (labels.Name name) = Name name.now

@@ -8,7 +8,8 @@ use Rattle.x_value.specs.declared.fault.ReadCode.{ReadCode}
 use Rattle.x_value.specs.declared.fault.ReadCode.TheVariants as codes
 use Rattle.x_value.specs.Shown.{Node}
 use Rattle.x_value.specs.Values.{Value, Values, body, group, headed, end, more}
-use Rattle.x_value.specs.Layouts.{Layout, Fixed, Fields, Elements, Place, Job, members, behind, head_fault, body_nodes, group_nodes, head_nodes}
+use Rattle.x_value.specs.Layouts.{Layout, Fixed, Fields, Elements, Place, Job, members, behind, head_fault}
+use Rattle.x_value.specs.Layouts.{body_nodes, group_nodes, head_nodes}
 
 abbrev pub IsByteList : List ℕ → Type 0
 IsByteList [] = Unit {0}

@@ -18,15 +18,19 @@ use Rattle.x_text.specs.declared.outcome.EngineFault.TheVariants.{Read, Write, N
 
 -- the lines of the value whose encoding the bytes are, or that of the fault of bytes that are none
 pub data IsValueText (s : Schema) (id : TypeId) (bytes text : List ℕ) (outcome : Outcome) : Type 0 where
-  shown : (nodes : List Node) → IsShown s id bytes nodes → text ≡ node_lines nodes → outcome ≡ Clean → IsValueText s id bytes text outcome
-  stuck : (at : ℕ) (code : ReadCode) → IsFault s id bytes at code → (code ≡ codes.NoMemory → ⊥) → text ≡ fault_line at code
+  shown : (nodes : List Node) → IsShown s id bytes nodes → text ≡ node_lines nodes → outcome ≡ Clean
+      → IsValueText s id bytes text outcome
+  stuck : (at : ℕ) (code : ReadCode) → IsFault s id bytes at code → (code ≡ codes.NoMemory → ⊥)
+      → text ≡ fault_line at code
       → outcome ≡ Refused → IsValueText s id bytes text outcome
 
 -- The text was written, or after a fault of the sink its first bytes; without memory nothing was.
-abbrev pub WritesValue : Schema → TypeId → List ℕ → (before after : Stream) → Result Outcome EngineFault → Type 0
+abbrev pub WritesValue : Schema → TypeId → List ℕ → (before after : Stream) → Result Outcome EngineFault
+    → Type 0
 WritesValue s id bytes before after (Ok outcome) =
     (text : List ℕ) × IsValueText s id bytes text outcome × Appends before.bytes after.bytes text
 WritesValue s id bytes before after (Err (Write written)) =
-    (text : List ℕ) × (outcome : Outcome) × IsValueText s id bytes text outcome × StopsWithin before after text written
+    (text : List ℕ) × (outcome : Outcome) × IsValueText s id bytes text outcome
+    × StopsWithin before after text written
 WritesValue s id bytes before after (Err (NoMemory written)) = (written ≡ 0) × (after ≡ before)
 WritesValue s id bytes before after (Err (Read written)) = ⊥

@@ -1,5 +1,6 @@
 -- The reader's stack, and how much work it stands for: a number that falls with each step.
-use Rattle.std.specs.Prelude.{◌≡◌, ◌⊎◌, ◌++◌, ℕ, suc, ◌+◌, ◌-◌, ◌*◌, ◌^◌, ◌<◌, ◌≤◌, List, [], ◌∷◌, length, drop, Option, Some, None}
+use Rattle.std.specs.Prelude.{◌≡◌, ◌⊎◌, ◌++◌, ℕ, suc, ◌+◌, ◌-◌, ◌*◌, ◌^◌, ◌<◌, ◌≤◌, List, [], ◌∷◌, length}
+use Rattle.std.specs.Prelude.{drop, Option, Some, None}
 use Rattle.x_schema.specs.declared.form.Arm.{Arm}
 use Rattle.x_schema.specs.declared.form.Arm.TheVariants as arms
 use Rattle.x_schema.specs.declared.form.Field.{Field}
@@ -164,7 +165,8 @@ pub record Stacked (s : Schema) (task : Task) (old new : List Task) : Type 0 whe
 pub record Opened (s : Schema) (task : Task) (old new : List Task) (value : Option (ℕ × Spot)) : Type 0 where
   pub jobs : jobs_of_task s task ++ pending s old ≡ pending s (new ++ tasks_of_value value)
   pub tasks : AreTasks s (new ++ tasks_of_value value)
-  pub less : weights s (new ++ tasks_of_value value) < weights s (old ++ (task ∷ [])) + length (tasks_of_value value)
+  pub less : weights s (new ++ tasks_of_value value) < weights s (old ++ (task ∷ [])) + length
+      (tasks_of_value value)
 
 -- what was read before the rest, and what is still to be read
 pub record Reading (s : Schema) (job : Job) (message : List ℕ) (stack : List Task)

@@ -1,7 +1,8 @@
 //! The nodes of a value as one list.
 ghost use Rattle.std.specs.Prelude.{◌≡◌, ◌<◌, List, length, map, option_map, slice_get};
 ghost use Rattle.std.specs.Iterator.{YieldsFirstBy, item_count};
-ghost use Rattle.x_value.specs.Entries.{label_of, leaf_of, node_of, nodes_of, body_at, IsCalled, IsKept, AreNamed};
+ghost use Rattle.x_value.specs.Entries.{label_of, leaf_of, node_of, nodes_of, body_at, IsCalled, IsKept};
+ghost use Rattle.x_value.specs.Entries.{AreNamed};
 ghost use Rattle.x_value.specs.NodeList.{shown_label, shown_leaf, shown_node};
 
 use crate::nodes::{Label, Leaf, Node};
@@ -50,7 +51,8 @@ pub(crate) struct Entry {
 
 const _: () = prove!(size_of::<Entry>() == 32);
 
-/// The nodes of a value in their order, seen as that list. They lend names from the schema, and bodies from the message.
+/// The nodes of a value in their order, seen as that list. They lend names from the schema, and bodies from
+/// the message.
 #[derive(Drop)]
 pub struct Dump<'a> {
     pub(crate) schema: &'a Schema,
@@ -168,7 +170,8 @@ impl<'a> Dump<'a> {
     }
 }
 
-/// Goes over the nodes of a value in order: the result of [`Dump::iter`], seen as the list of those that are left.
+/// Goes over the nodes of a value in order: the result of [`Dump::iter`], seen as the list of those that are
+/// left.
 #[derive(Drop)]
 pub struct Nodes<'d, 'a> {
     schema: &'a Schema,

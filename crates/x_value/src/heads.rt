@@ -3,7 +3,8 @@ ghost use Rattle.std.specs.Prelude.{◌≡◌, ◌<◌, ◌^◌, ◌++◌, ℕ, 
 ghost use Rattle.x_schema.specs.Choices.{name_for, arm_for};
 ghost use Rattle.x_schema.specs.Schema.{Schema, form_at};
 ghost use Rattle.x_schema.specs.Sound.{is_legal};
-ghost use Rattle.x_value.specs.Layouts.{layout_at, layout_of, head_fault, open_fault, illegal_code, arm_fault, most_links, Chosen, Counted, Sized};
+ghost use Rattle.x_value.specs.Layouts.{layout_at, layout_of, head_fault, open_fault, illegal_code};
+ghost use Rattle.x_value.specs.Layouts.{arm_fault, most_links, Chosen, Counted, Sized};
 ghost use Rattle.x_value.specs.Shown.{Leaf};
 ghost use Rattle.x_value.specs.Jobs.{HeadFault, HeadTaken};
 
@@ -106,7 +107,8 @@ fn fault_of_word(schema: &Schema, form: FormIndex, links: u32, word: u32) -> Opt
 }
 
 fn fault_of_length(word: u32, most: u32) -> Option<ReadCode>
-    ensures { (s : Schema) (links : ℕ) (leaf : List ℕ → Leaf) → result ≡ head_fault s (Sized leaf most) links word }
+    ensures { (s : Schema) (links : ℕ) (leaf : List ℕ → Leaf)
+        → result ≡ head_fault s (Sized leaf most) links word }
 {
     if word <= most {
         None
@@ -136,8 +138,10 @@ pub(crate) fn head<'a>(
     bytes: &'a [u8],
 ) -> Result<(u32, &'a [u8]), ReadFault>
     requires { form < length schema.now.forms }
-    ensures ok { IfOk result (λ r. HeadTaken schema.now (layout_at schema.now form) links bytes.now r.0 r.1.now) }
-    ensures err { IfErr result (λ e. HeadFault schema.now (layout_at schema.now form) links bytes.now e.at e.code) }
+    ensures ok { IfOk result
+        (λ r. HeadTaken schema.now (layout_at schema.now form) links bytes.now r.0 r.1.now) }
+    ensures err { IfErr result
+        (λ e. HeadFault schema.now (layout_at schema.now form) links bytes.now e.at e.code) }
 {
     let Some((word, rest)) = split_word(bytes) else {
         return Err(ReadFault {

@@ -32,7 +32,8 @@ fn words_of(bytes: &[u8]) -> u64
 #[inline(always)]
 pub(crate) fn kept_body(form: &Form, body: &[u8], len: u32, at: usize) -> Kept
     requires { number_size form.now ≤ length body.now }
-    ensures shown { (s : Schema) (m : List ℕ) → body_at m at len ≡ body.now → leaf_of s m result ≡ body_leaf form.now body.now }
+    ensures shown { (s : Schema) (m : List ℕ) → body_at m at len ≡ body.now
+        → leaf_of s m result ≡ body_leaf form.now body.now }
     ensures named { (n : ℕ) → IsKept n result }
 {
     match form {

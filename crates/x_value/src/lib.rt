@@ -1,5 +1,5 @@
-//! The reader of values (RFC 4506, section 4): [`dump`] reads the bytes of a value by its type, and gives its nodes, or tells where
-//! and why the bytes are no encoding of the type.
+//! The reader of values (RFC 4506, section 4): [`dump`] reads the bytes of a value by its type, and gives its
+//! nodes, or tells where and why the bytes are no encoding of the type.
 #![tactic(auto)]
 
 mod entry;

@@ -4,7 +4,8 @@ ghost use Rattle.std.specs.Prelude.{◌≡◌, ◌<◌, ◌≤◌, ◌*◌, ◌+
 ghost use Rattle.std.specs.List.{flat_map, list_all};
 ghost use Rattle.x_text.specs.Writing.{Adds};
 ghost use Rattle.x_value.specs.FaultTexts.{read_text, fault_line};
-ghost use Rattle.x_value.specs.Lines.{hex_digit, hex_byte, hex_text, quoted_byte, quoted_text, is_plain, label_text, leaf_text, truth_text, node_line, node_lines};
+ghost use Rattle.x_value.specs.Lines.{hex_digit, hex_byte, hex_text, quoted_byte, quoted_text, is_plain};
+ghost use Rattle.x_value.specs.Lines.{label_text, leaf_text, truth_text, node_line, node_lines};
 ghost use Rattle.x_value.specs.Shown.{Node as Shown};
 ghost use Rattle.x_value.specs.NodeList.{shown_label, shown_leaf, shown_node};
 
@@ -122,7 +123,8 @@ fn add_quoted_bytes<S: Sink>(bytes: &[u8], pen: &mut Pen, sink: &mut S)
 #[tactic(auto, using(x_text::proofs::Adding::three))]
 #[inline(always)]
 fn add_label<S: Sink>(label: &Label, pen: &mut Pen, sink: &mut S)
-    ensures { Adds pen.old (S.state sink.old) pen.new (S.state sink.new) (label_text (shown_label label.now)) }
+    ensures { Adds pen.old (S.state sink.old) pen.new (S.state sink.new)
+        (label_text (shown_label label.now)) }
 {
     match label {
         Label::Name(name) => pen.add(name, sink),
@@ -265,7 +267,8 @@ impl ReadFault {
     /// Adds the line of the fault, `fault CODE NAME at N`, to what is written.
     #[tactic(auto, using(x_text::proofs::Adding::five))]
     pub fn add_line<S: Sink>(&self, pen: &mut Pen, sink: &mut S)
-        ensures { Adds pen.old (S.state sink.old) pen.new (S.state sink.new) (fault_line self.now.at self.now.code) }
+        ensures { Adds pen.old (S.state sink.old) pen.new (S.state sink.new)
+            (fault_line self.now.at self.now.code) }
     {
         pen.add(b"fault ", sink);
         pen.add(self.code.text().as_bytes(), sink);

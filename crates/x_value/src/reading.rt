@@ -30,7 +30,8 @@ fn called(root: Root) -> Called
     }
 }
 
-/// The nodes of the value of this type whose encoding the bytes are (RFC 4506, section 4), or the place and the reason of their refusal.
+/// The nodes of the value of this type whose encoding the bytes are (RFC 4506, section 4), or the place and
+/// the reason of their refusal.
 pub fn dump<'a>(
     alloc: Global,
     schema: &'a Schema,

@@ -1,12 +1,16 @@
 //! How the reader begins a value.
-ghost use Rattle.std.specs.Prelude.{◌≡◌, ◌<◌, ◌≤◌, ◌^◌, ◌+◌, ◌∷◌, [], suc, ℕ, List, length, IfOk, IfErr, MatchOption, None, Some};
+ghost use Rattle.std.specs.Prelude.{◌≡◌, ◌<◌, ◌≤◌, ◌^◌, ◌+◌, ◌∷◌, [], suc, ℕ, List, length, IfOk, IfErr};
+ghost use Rattle.std.specs.Prelude.{MatchOption, None, Some};
 ghost use Rattle.x_schema.specs.Schema.{Schema, form_at};
 ghost use Rattle.x_schema.specs.Sound.{IsSound};
 ghost use Rattle.x_value.specs.Shown.{Leaf};
-ghost use Rattle.x_value.specs.Layouts.{Job, Fixed, placed, layout_at, arm_jobs, behind, most_links, head_fault, head_nodes, body_leaf, fixed_size, number_size};
+ghost use Rattle.x_value.specs.Layouts.{Job, Fixed, placed, layout_at, arm_jobs, behind, most_links};
+ghost use Rattle.x_value.specs.Layouts.{head_fault, head_nodes, body_leaf, fixed_size, number_size};
 ghost use Rattle.x_value.specs.Jobs.{AreReady, BodyFault, Moves, Refused};
 ghost use Rattle.x_value.specs.Entries.{nodes_of, IsCalled, AreNamed};
-ghost use Rattle.x_value.specs.Work.{place_of, value_job, jobs_of_option, IsSpot, IsTypedOption, IsRear, shown_entries, Begun, weight_of_option, most_weight, IsHeadedForm, IsSizedForm, IsKnownArm};
+ghost use Rattle.x_value.specs.Work.{place_of, value_job, jobs_of_option, IsSpot, IsTypedOption, IsRear};
+ghost use Rattle.x_value.specs.Work.{shown_entries, Begun, weight_of_option, most_weight, IsHeadedForm};
+ghost use Rattle.x_value.specs.Work.{IsSizedForm, IsKnownArm};
 
 use crate::entry::{Called, Entry, Kept};
 use crate::fault::{OUT_OF_MEMORY, ReadCode, ReadFault};
@@ -16,7 +20,8 @@ use crate::task::{Spot, Task};
 use crate::words::body;
 use x_schema::{Arm, Form, FormIndex, Schema};
 
-/// A value that was begun: the nodes that it shows so far, what is to be read behind them, and the bytes behind those that were read.
+/// A value that was begun: the nodes that it shows so far, what is to be read behind them, and the bytes
+/// behind those that were read.
 #[derive(Clone, Copy, Drop)]
 pub(crate) struct Step<'a> {
     pub(crate) first: Entry,
@@ -64,7 +69,10 @@ fn whole<'a>(
 ) -> Result<(Entry, &'a [u8]), ReadFault>
     requires rear { IsRear message.now bytes.now }
     requires number { number_size form.now ≤ len }
-    ensures ok { IfOk result (λ r. (s : Schema) (leaf : List ℕ → Leaf) → ((bs : List ℕ) → body_leaf form.now bs ≡ leaf bs) → (ks : List Job) → Moves s (placed (Fixed leaf len) (place_of s spot) ∷ ks) bytes.now (nodes_of s message.now (r.0 ∷ [])) ks r.1.now) }
+    ensures ok { IfOk result
+        (λ r. (s : Schema) (leaf : List ℕ → Leaf) → ((bs : List ℕ) → body_leaf form.now bs ≡ leaf bs)
+        → (ks : List Job) → Moves s (placed (Fixed leaf len) (place_of s spot) ∷ ks) bytes.now
+        (nodes_of s message.now (r.0 ∷ [])) ks r.1.now) }
     ensures named { IfOk result (λ r. (n : ℕ) → IsCalled n spot.called → AreNamed n (r.0 ∷ [])) }
     ensures less { IfOk result (λ r. length r.1.now + len ≤ length bytes.now) }
     ensures err { IfErr result (λ e. BodyFault len bytes.now e.at e.code) }
@@ -104,7 +112,9 @@ fn shown_head(
     requires level { level ≡ suc spot.level }
     requires headed { IsHeadedForm (form_at schema.now form) }
     requires fine { head_fault schema.now (layout_at schema.now form) spot.links word ≡ None }
-    ensures shown { (m : List ℕ) → nodes_of schema.now m (shown_entries result.0 result.1) ≡ head_nodes schema.now (layout_at schema.now form) (place_of schema.now spot) word }
+    ensures shown { (m : List ℕ)
+        → nodes_of schema.now m (shown_entries result.0 result.1)
+        ≡ head_nodes schema.now (layout_at schema.now form) (place_of schema.now spot) word }
     ensures named { AreNamed (length schema.now.names) (shown_entries result.0 result.1) }
 {
     match schema.form_at(form) {
@@ -156,7 +166,8 @@ fn behind_head(schema: &Schema, form: FormIndex, spot: Spot, level: u32, word: u
     requires level { level ≡ suc spot.level }
     requires headed { IsHeadedForm (form_at schema.now form) }
     requires fine { head_fault schema.now (layout_at schema.now form) spot.links word ≡ None }
-    ensures jobs { jobs_of_option schema.now result ≡ behind schema.now (layout_at schema.now form) (place_of schema.now spot) word }
+    ensures jobs { jobs_of_option schema.now result
+        ≡ behind schema.now (layout_at schema.now form) (place_of schema.now spot) word }
     ensures typed { IsTypedOption schema.now result }
     ensures light { weight_of_option schema.now result < most_weight schema.now }
 {
@@ -202,8 +213,11 @@ fn headed<'a>(
     requires spot { IsSpot schema.now spot }
     requires level { level ≡ suc spot.level }
     requires headed { IsHeadedForm (form_at schema.now form) }
-    ensures ok { IfOk result (λ r. Begun schema.now message.now form spot bytes.now r.first r.second r.next r.rest.now) }
-    ensures err { IfErr result (λ e. (ks : List Job) → AreReady schema.now ks → Refused schema.now (value_job schema.now form spot ∷ ks) bytes.now e.at e.code) }
+    ensures ok { IfOk result
+        (λ r. Begun schema.now message.now form spot bytes.now r.first r.second r.next r.rest.now) }
+    ensures err { IfErr result
+        (λ e. (ks : List Job) → AreReady schema.now ks
+        → Refused schema.now (value_job schema.now form spot ∷ ks) bytes.now e.at e.code) }
 {
     let (word, rest) = head(schema, form, spot.links, bytes)?;
     let (first, second) = shown_head(schema, form, spot, level, word);
@@ -230,8 +244,11 @@ fn sized<'a>(
     requires spot { IsSpot schema.now spot }
     requires sized { IsSizedForm (form_at schema.now form) }
     requires rear { IsRear message.now bytes.now }
-    ensures ok { IfOk result (λ r. Begun schema.now message.now form spot bytes.now r.first r.second r.next r.rest.now) }
-    ensures err { IfErr result (λ e. (ks : List Job) → AreReady schema.now ks → Refused schema.now (value_job schema.now form spot ∷ ks) bytes.now e.at e.code) }
+    ensures ok { IfOk result
+        (λ r. Begun schema.now message.now form spot bytes.now r.first r.second r.next r.rest.now) }
+    ensures err { IfErr result
+        (λ e. (ks : List Job) → AreReady schema.now ks
+        → Refused schema.now (value_job schema.now form spot ∷ ks) bytes.now e.at e.code) }
 {
     let (len, rest) = head(schema, form, spot.links, bytes)?;
     match whole(schema.form_at(form), message, spot, len, rest) {
@@ -260,8 +277,11 @@ fn fixed<'a>(
     requires spot { IsSpot schema.now spot }
     requires size { fixed_size (form_at schema.now form) ≡ Some size }
     requires rear { IsRear message.now bytes.now }
-    ensures ok { IfOk result (λ r. Begun schema.now message.now form spot bytes.now r.first r.second r.next r.rest.now) }
-    ensures err { IfErr result (λ e. (ks : List Job) → AreReady schema.now ks → Refused schema.now (value_job schema.now form spot ∷ ks) bytes.now e.at e.code) }
+    ensures ok { IfOk result
+        (λ r. Begun schema.now message.now form spot bytes.now r.first r.second r.next r.rest.now) }
+    ensures err { IfErr result
+        (λ e. (ks : List Job) → AreReady schema.now ks
+        → Refused schema.now (value_job schema.now form spot ∷ ks) bytes.now e.at e.code) }
 {
     let (first, rest) = whole(schema.form_at(form), message, spot, size, bytes)?;
     Ok(Step {
@@ -292,8 +312,11 @@ pub(crate) fn value<'a>(
     requires known { form < length schema.now.forms }
     requires spot { IsSpot schema.now spot }
     requires rear { IsRear message.now bytes.now }
-    ensures ok { IfOk result (λ r. Begun schema.now message.now form spot bytes.now r.first r.second r.next r.rest.now) }
-    ensures err { IfErr result (λ e. (ks : List Job) → AreReady schema.now ks → Refused schema.now (value_job schema.now form spot ∷ ks) bytes.now e.at e.code) }
+    ensures ok { IfOk result
+        (λ r. Begun schema.now message.now form spot bytes.now r.first r.second r.next r.rest.now) }
+    ensures err { IfErr result
+        (λ e. (ks : List Job) → AreReady schema.now ks
+        → Refused schema.now (value_job schema.now form spot ∷ ks) bytes.now e.at e.code) }
 {
     let Some(level) = spot.level.checked_add(1) else {
         return Err(OUT_OF_MEMORY);

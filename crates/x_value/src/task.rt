@@ -2,7 +2,8 @@
 use crate::entry::Called;
 use x_schema::FormIndex;
 
-/// Where a value stands: what its first node is called, in how many nodes it stands, and how many links are open around it.
+/// Where a value stands: what its first node is called, in how many nodes it stands, and how many links are
+/// open around it.
 #[derive(Clone, Copy, Drop)]
 pub(crate) struct Spot {
     pub(crate) called: Called,

@@ -1,9 +1,12 @@
 //! One turn of the reader: a task is taken from the stack and carried out.
-ghost use Rattle.std.specs.Prelude.{◌≡◌, ◌<◌, ◌≤◌, ◌+◌, ◌++◌, ◌∷◌, [], ℕ, List, length, drop, IfOk, IfErr, OnOk, MatchOption};
+ghost use Rattle.std.specs.Prelude.{◌≡◌, ◌<◌, ◌≤◌, ◌+◌, ◌++◌, ◌∷◌, [], ℕ, List, length, drop, IfOk, IfErr};
+ghost use Rattle.std.specs.Prelude.{OnOk, MatchOption};
 ghost use Rattle.x_schema.specs.Schema.{Schema, form_at};
 ghost use Rattle.x_schema.specs.Sound.{IsSound};
 ghost use Rattle.x_value.specs.Jobs.{Refused};
-ghost use Rattle.x_value.specs.Work.{fields, value_job, jobs_of_task, pending, tasks_of_option, tasks_of_value, shown_entries, IsTyped, AreTasks, IsSpot, IsRear, Stacked, Opened, Turn};
+ghost use Rattle.x_value.specs.Work.{fields, value_job, jobs_of_task, pending, tasks_of_option};
+ghost use Rattle.x_value.specs.Work.{tasks_of_value, shown_entries, IsTyped, AreTasks, IsSpot, IsRear};
+ghost use Rattle.x_value.specs.Work.{Stacked, Opened, Turn};
 
 use crate::entry::{Called, Entry};
 use crate::fault::{ReadCode, ReadFault};
@@ -69,8 +72,13 @@ fn begin<'a>(
     requires spot { IsSpot schema.now spot }
     requires rear { IsRear message.now bytes.now }
     requires tasks { AreTasks schema.now stack.old.items }
-    ensures ok { IfOk result (λ rest. Turn schema.now message.now (Task.One form spot) stack.old.items entries.old.items bytes.now stack.new.items entries.new.items rest.now) }
-    ensures err { IfErr result (λ e. Refused schema.now (value_job schema.now form spot ∷ pending schema.now stack.old.items) bytes.now e.at e.code) }
+    ensures ok { IfOk result
+        (λ rest. Turn schema.now message.now
+        (Task.One form spot) stack.old.items entries.old.items bytes.now stack.new.items entries.new.items
+        rest.now) }
+    ensures err { IfErr result
+        (λ e. Refused schema.now
+        (value_job schema.now form spot ∷ pending schema.now stack.old.items) bytes.now e.at e.code) }
 {
     let step = value(schema, message, form, spot, bytes)?;
     show_all(entries, step.first, step.second)?;
@@ -80,7 +88,8 @@ fn begin<'a>(
 
 /// The field at a place, and the place behind it.
 fn field_at(form: &Form, place: usize) -> Option<(Field, usize)>
-    ensures { MatchOption result (drop place (fields form.now) ≡ []) (λ r. (r.1 ≡ place + 1) × (drop place (fields form.now) ≡ r.0 ∷ drop (place + 1) (fields form.now))) }
+    ensures { MatchOption result (drop place (fields form.now) ≡ [])
+        (λ r. (r.1 ≡ place + 1) × (drop place (fields form.now) ≡ r.0 ∷ drop (place + 1) (fields form.now))) }
 {
     match form {
         Form::Struct(fields) => {
@@ -107,7 +116,9 @@ fn next_field(
     requires sound { IsSound schema.now }
     requires task { IsTyped schema.now (Task.Fields form place level links) }
     requires tasks { AreTasks schema.now stack.old.items }
-    ensures ok { IfOk result (λ value. Stacked schema.now (Task.Fields form place level links) stack.old.items (stack.new.items ++ tasks_of_value value)) }
+    ensures ok { IfOk result
+        (λ value. Stacked schema.now (Task.Fields form place level links) stack.old.items
+        (stack.new.items ++ tasks_of_value value)) }
     ensures err { IfErr result (λ e. (e.code ≡ ReadCode.NoMemory) × (e.at ≡ 0)) }
 {
     let Some((field, next)) = field_at(schema.form_at(form), place) else {
@@ -135,7 +146,9 @@ fn next_element(
 ) -> Result<Option<(FormIndex, Spot)>, ReadFault>
     requires task { IsTyped schema.now (Task.Elements form next end level links) }
     requires tasks { AreTasks schema.now stack.old.items }
-    ensures ok { IfOk result (λ value. Stacked schema.now (Task.Elements form next end level links) stack.old.items (stack.new.items ++ tasks_of_value value)) }
+    ensures ok { IfOk result
+        (λ value. Stacked schema.now (Task.Elements form next end level links) stack.old.items
+        (stack.new.items ++ tasks_of_value value)) }
     ensures err { IfErr result (λ e. (e.code ≡ ReadCode.NoMemory) × (e.at ≡ 0)) }
 {
     if next >= end {
@@ -150,7 +163,8 @@ fn next_element(
     Ok(Some((form, spot)))
 }
 
-/// The first value of a task and where it stands, if there is one; what is left of the task goes on the stack.
+/// The first value of a task and where it stands, if there is one; what is left of the task goes on the
+/// stack.
 #[inline(always)]
 fn next_value(
     schema: &Schema,
@@ -188,8 +202,12 @@ pub(crate) fn carry_out<'a>(
     requires task { IsTyped schema.now task }
     requires tasks { AreTasks schema.now stack.old.items }
     requires rear { IsRear message.now bytes.now }
-    ensures ok { IfOk result (λ rest. Turn schema.now message.now task stack.old.items entries.old.items bytes.now stack.new.items entries.new.items rest.now) }
-    ensures err { IfErr result (λ e. Refused schema.now (jobs_of_task schema.now task ++ pending schema.now stack.old.items) bytes.now e.at e.code) }
+    ensures ok { IfOk result
+        (λ rest. Turn schema.now message.now task stack.old.items entries.old.items bytes.now stack.new.items
+        entries.new.items rest.now) }
+    ensures err { IfErr result
+        (λ e. Refused schema.now
+        (jobs_of_task schema.now task ++ pending schema.now stack.old.items) bytes.now e.at e.code) }
 {
     let Some((form, spot)) = next_value(schema, stack, task)? else {
         return Ok(bytes);

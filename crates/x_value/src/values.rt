@@ -11,8 +11,9 @@ use std::alloc::Global;
 use x_schema::{Schema, TypeId};
 use x_text::{EngineFault, NoMemory, Outcome, Pen, Sink, WriteFault};
 
-/// Writes the nodes of the value whose encoding the bytes are, a line each; or one line with the fault of bytes that are no encoding
-/// of the type (RFC 4506), and then the outcome is [`Outcome::Refused`]. The id is one of this schema's.
+/// Writes the nodes of the value whose encoding the bytes are, a line each; or one line with the fault of
+/// bytes that are no encoding of the type (RFC 4506), and then the outcome is [`Outcome::Refused`]. The id is
+/// one of this schema's.
 ///
 /// # Errors
 /// The sink failed, or memory ran out before anything was written.

@@ -1,5 +1,6 @@
 -- Calls as their replies need them.
-use Rattle.std.specs.Prelude.{ℕ, ◌==◌, nat_eq, List, ◌∷◌, Option, Some, None, option_map, option_and_then, if◌then◌else◌, codes}
+use Rattle.std.specs.Prelude.{ℕ, ◌==◌, nat_eq, List, ◌∷◌, Option, Some, None, option_map, option_and_then}
+use Rattle.std.specs.Prelude.{if◌then◌else◌, codes}
 use Rattle.std.specs.Map.{lookup}
 use Rattle.x_schema.specs.Schema.{Schema, arguments_id, name_at, procedure_at, results_id}
 use Rattle.x_schema.specs.declared.schema.TypeId.{TypeId}
@@ -16,7 +17,8 @@ Calls = List (ℕ × Heard)
 abbrev pub call_of : Calls → ℕ → Option Heard
 call_of calls xid = lookup (nat_eq xid) calls
 
--- the procedure that a call names; what stands in a call of another version of the protocol (RFC 5531, section 9), is not said
+-- the procedure that a call names; what stands in a call of another version of the protocol (RFC 5531,
+-- section 9), is not said
 abbrev pub numbers_called : (rpcvers prog vers proc : ℕ) → Option ProcedureNumbers
 numbers_called rpcvers prog vers proc =
     if rpcvers == 2 then Some (record { program = prog; version = vers; procedure = proc }) else None

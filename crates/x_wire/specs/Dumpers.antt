@@ -18,7 +18,8 @@ use Rattle.x_wire.specs.declared.telling.stream.Turn.TheVariants.{GoesOn, Ended,
 use Rattle.x_wire.specs.declared.telling.teller.Teller.{Teller}
 
 -- a teller told these records of a stream, the first ones, by these texts
-pub record HasTold (s : Schema) (told : List (List ℕ)) (t : Told) (teller : Teller) (refused : Bool) : Type 0 where
+pub record HasTold (s : Schema) (told : List (List ℕ)) (t : Told) (teller : Teller)
+    (refused : Bool) : Type 0 where
   pub calls : Calls
   pub are : AreTold s 1 [] told t calls
   pub knows : Knows teller.calls.entries calls
@@ -56,7 +57,8 @@ abbrev pub IsUsed : List ℕ → Option ℕ → Type 0
 IsUsed piece None = Unit {0}
 IsUsed piece (Some used) = (used ≤ length piece) × (0 < length piece → 0 < used)
 
--- the front of a piece that was taken: all of it behind a header that takes its record over the limit, since nothing counts any more
+-- the front of a piece that was taken: all of it behind a header that takes its record over the limit, since
+-- nothing counts any more
 abbrev pub front_taken : List ℕ → Option ℕ → List ℕ
 front_taken piece None = piece
 front_taken piece (Some used) = take used piece
@@ -74,16 +76,18 @@ abbrev pub IsOverAt : Option ℕ → Dumper → Type 0
 IsOverAt None dumper = IsOver dumper
 IsOverAt (Some used) dumper = IsUnder dumper
 
--- Where a turn leaves a stream of which these bytes were read and the tap has `left`: the texts of what was read; or how the stream ends;
--- or memory ran out, behind the texts of some records.
+-- Where a turn leaves a stream of which these bytes were read and the tap has `left`: the texts of what was
+-- read; or how the stream ends; or memory ran out, behind the texts of some records.
 abbrev pub IsTurn : Schema → (read : List ℕ) → (left : Option (List ℕ)) → Turn → Told → Dumper → Type 0
 IsTurn s read left GoesOn t new = IsAt s read t new × IsUnder new
 IsTurn s read left (Ended outcome) t new =
-    ((stream : List ℕ) → Consumes (Some stream) left read → IsStreamText s stream t) × (is_refused outcome ≡ t.refused)
+    ((stream : List ℕ) → Consumes (Some stream) left read → IsStreamText s stream t)
+    × (is_refused outcome ≡ t.refused)
 IsTurn s read left NoMemory t new = IsFrontText s read t
 
 -- a block was read and told
-pub record TellsTurn (s : Schema) (read : List ℕ) (t : Told) (before left : Option (List ℕ)) (turn : Turn) (new : Dumper)
+pub record TellsTurn (s : Schema) (read : List ℕ) (t : Told) (before left : Option (List ℕ)) (turn : Turn)
+    (new : Dumper)
     (p : Inked) (now : Stream) (q : Inked) (now' : Stream) : Type 0 where
   pub taken : List ℕ
   pub come : Consumes before left taken

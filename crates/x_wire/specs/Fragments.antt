@@ -22,7 +22,8 @@ pub data Frames : (at : ℕ) → Option (List ℕ) → (stream : List ℕ) → (
   -- the header
   ends_too_long : {at : ℕ} {joined : Option (List ℕ)} (last : Bool) (size : ℕ) (rest : List ℕ) →
       size < last_bit → most_record < length (data_of joined) + size →
-      Frames at joined (header last size ++ rest) [] (record { taken = at + header_length; phase = TooLong at })
+      Frames at joined (header last size ++ rest) []
+      (record { taken = at + header_length; phase = TooLong at })
   -- it begins with a header, and ends inside the data of that fragment or in front of it
   ends_in_data : {at : ℕ} {joined : Option (List ℕ)} (last : Bool) (size : ℕ) (bytes : List ℕ) →
       length bytes < size → length (data_of joined) + size ≤ most_record →

@@ -1,11 +1,13 @@
 -- Which bytes are refused as no message, where and why.
-use Rattle.std.specs.Prelude.{◌≡◌, ℕ, zero, suc, ◌*◌, ◌<◌, List, [], ◌∷◌, ◌++◌, length, drop, nat_lt, if◌then◌else◌, Option, Some, None}
+use Rattle.std.specs.Prelude.{◌≡◌, ℕ, zero, suc, ◌*◌, ◌<◌, List, [], ◌∷◌, ◌++◌, length, drop, nat_lt}
+use Rattle.std.specs.Prelude.{if◌then◌else◌, Option, Some, None}
 use Rattle.std.specs.Int.{from_be_bytes, w32}
 use Rattle.x_value.specs.declared.fault.ReadCode.{ReadCode}
 use Rattle.x_value.specs.declared.fault.ReadCode.TheVariants as codes
 use Rattle.x_units.specs.Units.{are_zeros}
 use Rattle.x_wire.specs.Limits.{most_auth_bytes}
-use Rattle.x_wire.specs.Headers.{Header, HeaderField, Number, State, Length, Body, header_fields, header_bytes, IsHeader, IsBare}
+use Rattle.x_wire.specs.Headers.{Header, HeaderField, Number, State, Length, Body, header_fields}
+use Rattle.x_wire.specs.Headers.{header_bytes, IsHeader, IsBare}
 
 -- ---- what each unit of four bytes in a header is
 

@@ -4,7 +4,9 @@ use Rattle.x_value.specs.declared.fault.ReadCode.{ReadCode}
 use Rattle.x_value.specs.declared.fault.ReadCode.TheVariants as codes
 use Rattle.x_value.specs.Readings.{IsByteList}
 use Rattle.x_wire.specs.Limits.{most_auth_bytes}
-use Rattle.x_wire.specs.Headers.{Auth, Success, ProgUnavail, ProgMismatch, ProcUnavail, GarbageArgs, SystemErr, RpcMismatch, AuthError, Header, Call, Accepted, Denied, HeaderField, Number, State, Length, Body, fields_bytes, IsBare}
+use Rattle.x_wire.specs.Headers.{Auth, Success, ProgUnavail, ProgMismatch, ProcUnavail, GarbageArgs}
+use Rattle.x_wire.specs.Headers.{SystemErr, RpcMismatch, AuthError, Header, Call, Accepted, Denied}
+use Rattle.x_wire.specs.Headers.{HeaderField, Number, State, Length, Body, fields_bytes, IsBare}
 use Rattle.x_wire.specs.HeaderFaults.{UnitKind, unit_fault, fields_units}
 
 -- ---- forms

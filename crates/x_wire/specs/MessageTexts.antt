@@ -9,9 +9,12 @@ use Rattle.x_value.specs.Lines.{hex_text, node_lines}
 use Rattle.x_value.specs.Shown.{Node}
 use Rattle.x_value.specs.declared.fault.ReadCode.{ReadCode}
 use Rattle.x_value.specs.declared.fault.ReadCode.TheVariants.{NoMemory}
-use Rattle.x_wire.specs.Calls.{Calls, call_of, calls_behind, numbers_called, numbers_heard, procedure_called, name_called, arguments_called, results_called}
+use Rattle.x_wire.specs.Calls.{Calls, call_of, calls_behind, numbers_called, numbers_heard, procedure_called}
+use Rattle.x_wire.specs.Calls.{name_called, arguments_called, results_called}
 use Rattle.x_wire.specs.HeaderFaults.{IsHeaderFault}
-use Rattle.x_wire.specs.Headers.{Auth, Accept, Success, ProgUnavail, ProgMismatch, ProcUnavail, GarbageArgs, SystemErr, Reject, RpcMismatch, AuthError, Header, Call, Accepted, Denied, IsMessage}
+use Rattle.x_wire.specs.Headers.{Auth, Accept, Success, ProgUnavail, ProgMismatch, ProcUnavail, GarbageArgs}
+use Rattle.x_wire.specs.Headers.{SystemErr, Reject, RpcMismatch, AuthError, Header, Call, Accepted, Denied}
+use Rattle.x_wire.specs.Headers.{IsMessage}
 use Rattle.x_wire.specs.declared.telling.teller.Heard.{Heard}
 
 -- Lines, and whether a fault is among them.
@@ -34,13 +37,15 @@ then_told first rest = record { text = first.text ++ rest.text; refused = first.
 abbrev pub raw_line : List ℕ → List ℕ
 raw_line bytes = codes "raw " ++ hex_text bytes ++ codes "\n"
 
--- Arguments or results are read by their type; where it is not known they stand as they are, and behind their fault where the type
--- refuses them.
+-- Arguments or results are read by their type; where it is not known they stand as they are, and behind their
+-- fault where the type refuses them.
 pub data IsBodyText (s : Schema) (type : Option TypeId) (bytes : List ℕ) (t : Told) : Type 0 where
   unread : type ≡ None → t ≡ plain (raw_line bytes) → IsBodyText s type bytes t
-  shown : (id : TypeId) (nodes : List Node) → type ≡ Some id → IsShown s id bytes nodes → t ≡ plain (node_lines nodes)
+  shown : (id : TypeId) (nodes : List Node) → type ≡ Some id → IsShown s id bytes nodes
+      → t ≡ plain (node_lines nodes)
       → IsBodyText s type bytes t
-  stuck : (id : TypeId) (at : ℕ) (code : ReadCode) → type ≡ Some id → IsFault s id bytes at code → (code ≡ NoMemory → ⊥)
+  stuck : (id : TypeId) (at : ℕ) (code : ReadCode) → type ≡ Some id → IsFault s id bytes at code
+      → (code ≡ NoMemory → ⊥)
       → t ≡ refused (fault_line at code ++ raw_line bytes) → IsBodyText s type bytes t
 
 -- ---- headers
@@ -97,18 +102,21 @@ reject_details (AuthError stat) = codes "auth_stat " ++ decimal stat ++ codes "\
 
 -- the lines of a reply that belongs to this call, if to any
 abbrev pub reply_text : Schema → (number xid : ℕ) → (state : List ℕ) → Option Heard → List ℕ
-reply_text s number xid state heard = reply_line number xid state heard (name_called s (procedure_called s (numbers_heard heard)))
+reply_text s number xid state heard =
+    reply_line number xid state heard (name_called s (procedure_called s (numbers_heard heard)))
 
 -- the lines of a header
 abbrev pub head_text : Schema → ℕ → Calls → Header → List ℕ
 head_text s number calls (Call xid rpcvers prog vers proc cred verf) =
-    call_line number xid rpcvers prog vers proc (name_called s (procedure_called s (numbers_called rpcvers prog vers proc)))
+    call_line number xid rpcvers prog vers proc
+    (name_called s (procedure_called s (numbers_called rpcvers prog vers proc)))
     ++ auth_line (codes "cred") cred ++ auth_line (codes "verf") verf
 head_text s number calls (Accepted xid verf accept) =
     reply_text s number xid (codes "accepted " ++ accept_name accept) (call_of calls xid)
     ++ auth_line (codes "verf") verf ++ accept_details accept
 head_text s number calls (Denied xid reject) =
-    reply_text s number xid (codes "denied " ++ reject_name reject) (call_of calls xid) ++ reject_details reject
+    reply_text s number xid (codes "denied " ++ reject_name reject) (call_of calls xid)
+    ++ reject_details reject
 
 -- ---- messages
 
@@ -125,9 +133,12 @@ abbrev pub bad_header_line : (number at : ℕ) → ReadCode → List ℕ
 bad_header_line number at code = codes "# " ++ decimal number ++ codes " " ++ fault_line at code
 
 -- The text of the message of this number behind these calls, and the calls behind it.
-pub data IsMessageText (s : Schema) (number : ℕ) (calls : Calls) (bytes : List ℕ) (t : Told) (calls' : Calls) : Type 0 where
-  read : (h : Header) (body : List ℕ) (behind : Told) → IsMessage bytes h body → IsBehindHead s calls h body behind
+pub data IsMessageText (s : Schema) (number : ℕ) (calls : Calls) (bytes : List ℕ) (t : Told)
+    (calls' : Calls) : Type 0 where
+  read : (h : Header) (body : List ℕ) (behind : Told) → IsMessage bytes h body
+      → IsBehindHead s calls h body behind
       → t ≡ then_told (plain (head_text s number calls h)) behind → calls' ≡ calls_behind number calls h
       → IsMessageText s number calls bytes t calls'
   stuck : (at : ℕ) (code : ReadCode) → IsHeaderFault bytes at code
-      → t ≡ refused (bad_header_line number at code ++ raw_line bytes) → calls' ≡ calls → IsMessageText s number calls bytes t calls'
+      → t ≡ refused (bad_header_line number at code ++ raw_line bytes) → calls' ≡ calls
+      → IsMessageText s number calls bytes t calls'

@@ -10,7 +10,8 @@ use Rattle.x_wire.specs.declared.messages.parts.Reply.TheVariants as replies
 use Rattle.x_wire.specs.declared.messages.parts.Kind.{Kind}
 use Rattle.x_wire.specs.declared.messages.parts.Kind.TheVariants as kinds
 use Rattle.x_wire.specs.declared.messages.parts.Message.{Message}
-use Rattle.x_wire.specs.Headers.{Auth, Accept, Success, ProgUnavail, ProgMismatch, ProcUnavail, GarbageArgs, SystemErr, Reject, RpcMismatch, AuthError, Header, Call, Accepted, Denied}
+use Rattle.x_wire.specs.Headers.{Auth, Accept, Success, ProgUnavail, ProgMismatch, ProcUnavail, GarbageArgs}
+use Rattle.x_wire.specs.Headers.{SystemErr, Reject, RpcMismatch, AuthError, Header, Call, Accepted, Denied}
 
 abbrev pub auth_of : RustAuth → Auth
 auth_of a = record { flavor = a.flavor; body = a.body.now }

@@ -53,7 +53,8 @@ in_fragment taken lacks last joined =
 -- bits are the fragment's length.
 abbrev pub behind_header : (taken number : ℕ) → List ℕ → Moved
 behind_header taken number joined =
-    if nat_lt most_record (length joined + number % last_bit) then quiet taken (TooLong (taken - header_length))
+    if nat_lt most_record (length joined + number % last_bit)
+    then quiet taken (TooLong (taken - header_length))
     else in_fragment taken (number % last_bit) (nat_le last_bit number) joined
 
 -- these bytes of a header came

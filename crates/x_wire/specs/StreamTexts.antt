@@ -1,5 +1,6 @@
 -- What is printed of a stream, of a message and of a value.
-use Rattle.std.specs.Prelude.{◌≡◌, ℕ, ◌+◌, ◌⊎◌, List, [], ◌∷◌, ◌++◌, length, Option, Some, None, Result, Ok, Err, codes}
+use Rattle.std.specs.Prelude.{◌≡◌, ℕ, ◌+◌, ◌⊎◌, List, [], ◌∷◌, ◌++◌, length, Option, Some, None, Result, Ok}
+use Rattle.std.specs.Prelude.{Err, codes}
 use Rattle.std.specs.Fmt.{decimal}
 use Rattle.std.specs.Io.KnownBytes.{Appends, Consumes}
 use Rattle.x_text.specs.Streams.{Stream}
@@ -38,7 +39,8 @@ end_told (Some fault) = refused (record_line fault)
 
 -- the texts of a stream's records, and that of its fault where it has one
 abbrev pub IsStreamText : Schema → List ℕ → Told → Type 0
-IsStreamText s stream t = (all : Told) × IsTextOf s (records stream) all × (t ≡ then_told all (end_told (end_fault (left stream))))
+IsStreamText s stream t =
+    (all : Told) × IsTextOf s (records stream) all × (t ≡ then_told all (end_told (end_fault (left stream))))
 
 -- the texts of some of the stream's records, from the first on
 pub record IsFrontText (s : Schema) (stream : List ℕ) (t : Told) : Type 0 where
@@ -52,26 +54,32 @@ pub record HasText (t : Told) (before after : Stream) (written : ℕ) : Type 0 w
   pub taken : Appends before.bytes after.bytes t.text
   pub written_is : written ≡ counted (length t.text)
 
--- What is written of a stream, of which the tap has `later` then. A fault of the tap comes behind the texts of all records that are whole in
--- what was read, in which no header takes its record over the limit; want of memory behind those of some records of what was read, from the
--- first on; and a fault of the sink within a text or at its end.
-abbrev pub DumpsStream : Schema → (stream : List ℕ) (later : Option (List ℕ)) (before after : Stream) → Result Outcome EngineFault → Type 0
+-- What is written of a stream, of which the tap has `later` then. A fault of the tap comes behind the texts
+-- of all records that are whole in what was read, in which no header takes its record over the limit; want of
+-- memory behind those of some records of what was read, from the first on; and a fault of the sink within a
+-- text or at its end.
+abbrev pub DumpsStream : Schema → (stream : List ℕ) (later : Option (List ℕ)) (before after : Stream)
+    → Result Outcome EngineFault → Type 0
 DumpsStream s stream later before after (Ok outcome) =
-    (t : Told) × IsStreamText s stream t × Appends before.bytes after.bytes t.text × (is_refused outcome ≡ t.refused)
+    (t : Told) × IsStreamText s stream t × Appends before.bytes after.bytes t.text
+    × (is_refused outcome ≡ t.refused)
 DumpsStream s stream later before after (Err (Read written)) =
     (read : List ℕ) × Consumes (Some stream) later read × (fault_at (left read).phase ≡ None)
     × ((t : Told) × IsTextOf s (records read) t × HasText t before after written)
 DumpsStream s stream later before after (Err (NoMemory written)) =
-    (read : List ℕ) × Consumes (Some stream) later read × ((t : Told) × IsFrontText s read t × HasText t before after written)
+    (read : List ℕ) × Consumes (Some stream) later read
+    × ((t : Told) × IsFrontText s read t × HasText t before after written)
 DumpsStream s stream later before after (Err (Write written)) =
     (t : Told) × (IsFrontText s stream t ⊎ IsStreamText s stream t) × StopsWithin before after t.text written
 
 -- ---- one message
 
--- the text of a message alone, or after a fault of the sink its first bytes; without memory nothing was written
+-- the text of a message alone, or after a fault of the sink its first bytes; without memory nothing was
+-- written
 abbrev pub DumpsMessage : Schema → List ℕ → (before after : Stream) → Result Outcome EngineFault → Type 0
 DumpsMessage s bytes before after (Ok outcome) =
-    (t : Told) × IsTextOf s (bytes ∷ []) t × Appends before.bytes after.bytes t.text × (is_refused outcome ≡ t.refused)
+    (t : Told) × IsTextOf s (bytes ∷ []) t × Appends before.bytes after.bytes t.text
+    × (is_refused outcome ≡ t.refused)
 DumpsMessage s bytes before after (Err (Write written)) =
     (t : Told) × IsTextOf s (bytes ∷ []) t × StopsWithin before after t.text written
 DumpsMessage s bytes before after (Err (NoMemory written)) = (written ≡ 0) × (after ≡ before)

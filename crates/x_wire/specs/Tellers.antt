@@ -27,7 +27,8 @@ pub record IsShownAs (s : Schema) (procedure : Option KeptProcedure) (p : Proced
 
 -- the procedure of these numbers, or none
 abbrev pub IsFound : Schema → Option ProcedureNumbers → Option Procedure → Type 0
-IsFound s numbers found = MatchOption found (procedure_called s numbers ≡ None) (λ p. IsShownAs s (procedure_called s numbers) p)
+IsFound s numbers found =
+    MatchOption found (procedure_called s numbers ≡ None) (λ p. IsShownAs s (procedure_called s numbers) p)
 
 abbrev pub name_found : Option Procedure → List ℕ
 name_found None = codes "?"
@@ -46,26 +47,31 @@ abbrev pub Knows : List (ℕ × Heard) → Calls → Type 0
 Knows entries calls = (xid : ℕ) → lookup (nat_eq xid) entries ≡ call_of calls xid
 
 -- lines were added, and it was answered whether a fault is among them
-pub record IsAdded (t : Told) (refused : Bool) (p : Inked) (now : Stream) (q : Inked) (now' : Stream) : Type 0 where
+pub record IsAdded (t : Told) (refused : Bool) (p : Inked) (now : Stream) (q : Inked)
+    (now' : Stream) : Type 0 where
   pub added : Adds p now q now' t.text
   pub refused_is : refused ≡ t.refused
 
--- Behind any calls that the entries know, the text of the message of this number was added, and the entries know the calls behind it.
+-- Behind any calls that the entries know, the text of the message of this number was added, and the entries
+-- know the calls behind it.
 abbrev pub TellsMessage : Schema → ℕ → List (ℕ × Heard) → List ℕ → Bool → List (ℕ × Heard)
     → Inked → Stream → Inked → Stream → Type 0
 TellsMessage s number old bytes refused new p now q now' =
-    (calls : Calls) → Knows old calls → (t : Told) × (calls' : Calls) × IsMessageText s number calls bytes t calls' × Knows new calls'
+    (calls : Calls) → Knows old calls
+    → (t : Told) × (calls' : Calls) × IsMessageText s number calls bytes t calls' × Knows new calls'
     × IsAdded t refused p now q now'
 
 -- the same of a message that is this header and this body
 abbrev pub TellsHeader : Schema → ℕ → List (ℕ × Heard) → Header → List ℕ → Bool → List (ℕ × Heard)
     → Inked → Stream → Inked → Stream → Type 0
 TellsHeader s number old h body refused new p now q now' =
-    (calls : Calls) → Knows old calls → (behind : Told) × IsBehindHead s calls h body behind × Knows new (calls_behind number calls h)
+    (calls : Calls) → Knows old calls
+    → (behind : Told) × IsBehindHead s calls h body behind × Knows new (calls_behind number calls h)
     × IsAdded (then_told (plain (head_text s number calls h)) behind) refused p now q now'
 
 -- the same of a reply, whose xid was last that of this call
-abbrev pub TellsReply : Schema → ℕ → ℕ → Option Heard → Header → List ℕ → Bool → Inked → Stream → Inked → Stream → Type 0
+abbrev pub TellsReply : Schema → ℕ → ℕ → Option Heard → Header → List ℕ → Bool → Inked → Stream → Inked
+    → Stream → Type 0
 TellsReply s number xid heard h body refused p now q now' =
     (calls : Calls) → call_of calls xid ≡ heard → (behind : Told) × IsBehindHead s calls h body behind
     × IsAdded (then_told (plain (head_text s number calls h)) behind) refused p now q now'

@@ -1,5 +1,5 @@
-//! Remote procedure calls as they were recorded (RFC 5531): the records of a stream of bytes, the headers of messages, and the text that is
-//! printed of them. What reads values is offered again.
+//! Remote procedure calls as they were recorded (RFC 5531): the records of a stream of bytes, the headers of
+//! messages, and the text that is printed of them. What reads values is offered again.
 #![tactic(auto)]
 
 mod messages;

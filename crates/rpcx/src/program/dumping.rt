@@ -34,9 +34,10 @@ enum Halt {
     Unwritten,
 }
 
-/// Shows the bytes of a file by the types of the schema's text, that of NFS version 2 where none is given, and
-/// answers the status: `Done` where all was shown and has no fault, `Faulty` where a fault was shown, or where the
-/// text has faults, which it tells, and `Failed` where the run could not be carried out, which it tells.
+/// Shows the bytes of a file by the types of the schema's text, that of NFS version 2 where none is given,
+/// and answers the status: `Done` where all was shown and has no fault, `Faulty` where a fault was shown, or
+/// where the text has faults, which it tells, and `Failed` where the run could not be carried out, which it
+/// tells.
 pub fn dump_run<I: Tap, O: Sink, E: Sink>(
     alloc: Global,
     args: &DumpArgs,
@@ -226,7 +227,8 @@ fn read_by_blocks<I: Tap>(alloc: Global, block: &mut [u8], input: &mut I) -> Res
     Err(Halt::TooLarge)
 }
 
-/// Reads bytes of a tap by way of a buffer, puts them behind those that are there, and answers whether any were left.
+/// Reads bytes of a tap by way of a buffer, puts them behind those that are there, and answers whether any
+/// were left.
 fn read_more<I: Tap>(buffer: &mut [u8], bytes: &mut Vec<u8>, input: &mut I) -> Result<bool, Halt>
     requires { 0 < length buffer.old }
     ensures { ReadsOn bytes.old.items bytes.new.items (I.state input.old) (I.state input.new) result }

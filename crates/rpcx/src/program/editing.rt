@@ -15,8 +15,9 @@ use x_args::{EditArgs, Status};
 use x_session::{Outcome, Session, run_script};
 use x_text::{Sink, Tap};
 
-/// Opens the text of a file, carries out the script of the input, and answers the status: `Done` where each line was
-/// carried out, `Faulty` where one was refused, and `Failed` where the run could not be carried out, which it tells.
+/// Opens the text of a file, carries out the script of the input, and answers the status: `Done` where each
+/// line was carried out, `Faulty` where one was refused, and `Failed` where the run could not be carried out,
+/// which it tells.
 pub fn edit_run<I: Tap, O: Sink, E: Sink>(
     alloc: Global,
     args: &EditArgs,

@@ -17,8 +17,8 @@ fn bytes_of_file(rt: &HostRuntime, file: &str) -> io::Result<Vec<u8>> {
     Ok(bytes)
 }
 
-/// The text of a file; of one that is too large no more than shows it. Where the file cannot be read it tells so, behind the name
-/// of the program, and answers `Failed`.
+/// The text of a file; of one that is too large no more than shows it. Where the file cannot be read it tells
+/// so, behind the name of the program, and answers `Failed`.
 pub fn read_text<E: Sink>(
     rt: &HostRuntime,
     program: &str,

@@ -11,7 +11,8 @@ use std::alloc::Global;
 use x_lex::Tokens;
 use x_text::{NoMemory, Source};
 
-/// The items of the text, with which nothing is kept yet, and with the seat behind the last of them. [`NoMemory`] where memory ran out.
+/// The items of the text, with which nothing is kept yet, and with the seat behind the last of them.
+/// [`NoMemory`] where memory ran out.
 pub fn cut<K: Default + Drop>(
     alloc: Global,
     tokens: &Tokens,

@@ -27,8 +27,8 @@ impl Cutter {
         Cutter { depth: 0 }
     }
 
-    /// Whether the token of this kind and these bytes ends the item. It goes on behind the token, and behind an end it is at the
-    /// start of an item.
+    /// Whether the token of this kind and these bytes ends the item. It goes on behind the token, and behind
+    /// an end it is at the start of an item.
     pub(crate) fn ends(&mut self, kind: Kind, text: &[u8]) -> bool
         requires { self.old < usize.MAX }
         ensures ends { result ≡ ends_at self.old (role_by kind text.now) }

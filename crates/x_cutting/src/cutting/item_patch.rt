@@ -22,7 +22,8 @@ impl<K> Model for ItemPatch<K> {
 }
 
 impl<K> ItemPatch<K> {
-    /// The fresh items of these entries, the first of which starts at the token `start`, in place of `removed` old ones from index `at` on.
+    /// The fresh items of these entries, the first of which starts at the token `start`, in place of
+    /// `removed` old ones from index `at` on.
     pub(crate) fn new(at: usize, removed: usize, start: usize, fresh: Vec<Entry<K>>) -> ItemPatch<K>
         ensures { result ≡ record { at = at; removed = removed; start = start; fresh = fresh.items } }
     {
@@ -45,7 +46,8 @@ impl<K> ItemPatch<K> {
         self.entries.removed()
     }
 
-    /// The index of the first token of the first fresh item, each of the others starting where the one before it ends.
+    /// The index of the first token of the first fresh item, each of the others starting where the one before
+    /// it ends.
     pub fn start(&self) -> usize
         ensures { result ≡ self.now.start }
     {
@@ -73,8 +75,8 @@ impl<K> ItemPatch<K> {
         self.entries.get(index)
     }
 
-    /// Keeps this with the fresh item at `index`, counted from the first of them, and gives back what was kept
-    /// with it.
+    /// Keeps this with the fresh item at `index`, counted from the first of them, and gives back what was
+    /// kept with it.
     pub fn exchange(&mut self, index: usize, new: K) -> K
         requires { index < length self.old.fresh }
         ensures out { slice_get (kept self.old.fresh) index ≡ Some result }

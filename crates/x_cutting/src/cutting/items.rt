@@ -3,7 +3,8 @@ ghost use Rattle.std.specs.Prelude.{◌≡◌, ◌+◌, ◌<◌, ◌≤◌, ◌�
 ghost use Rattle.std.specs.Prelude.{option_copied, slice_get, slice_set};
 ghost use Rattle.x_text.specs.declared.source.TheConstants.{MAX_TEXT};
 ghost use Rattle.x_text.specs.Seqs.{distance};
-ghost use Rattle.x_cutting.specs.ItemList.{counts, kept, total, tokens_before, patched, LiesAmong, HasRoom, AreOfText};
+ghost use Rattle.x_cutting.specs.ItemList.{counts, kept, total, tokens_before, patched, LiesAmong, HasRoom};
+ghost use Rattle.x_cutting.specs.ItemList.{AreOfText};
 
 use super::{Entry, ItemPatch};
 use std::alloc::Global;
@@ -12,7 +13,8 @@ use x_text::{GapIter, MeasuredSeq, NoMemory, PatchedIter};
 
 /// The items of a text, in order, each with how many tokens it has and what is kept with it.
 ///
-/// They have a seat, the index behind those that were put in last: what is done near it takes few steps, however long the text is.
+/// They have a seat, the index behind those that were put in last: what is done near it takes few steps,
+/// however long the text is.
 #[derive(Debug, Drop)]
 pub struct Items<K> {
     entries: MeasuredSeq<Entry<K>>,
@@ -32,7 +34,8 @@ impl<K> Model for Items<K> {
 }
 
 impl<K: Drop> Items<K> {
-    /// The items with these entries, with the seat behind the last of them. [`NoMemory`] where memory ran out.
+    /// The items with these entries, with the seat behind the last of them. [`NoMemory`] where memory ran
+    /// out.
     pub fn from_entries(alloc: Global, entries: Vec<Entry<K>>) -> Result<Items<K>, NoMemory>
         requires of_text { AreOfText (counts entries.items) }
         ensures list { IfOk result (λ items. items.list ≡ entries.items) }
@@ -85,7 +88,8 @@ impl<K: Drop> Items<K> {
         self.entries.start_of(index)
     }
 
-    /// Makes room for the fresh items of the patch. After [`NoMemory`], too, all is as before but the room, which never shrinks.
+    /// Makes room for the fresh items of the patch. After [`NoMemory`], too, all is as before but the room,
+    /// which never shrinks.
     pub fn reserve(&mut self, patch: &ItemPatch<K>) -> Result<(), NoMemory>
         ensures list { self.new.list ≡ self.old.list }
         ensures seat { self.new.seat ≡ self.old.seat }
@@ -109,7 +113,8 @@ impl<K: Drop> Items<K> {
         self.entries.put(patch.into_entries())
     }
 
-    /// Keeps this with the item at `index`, and gives back what was kept with it, with how many other items moved. It takes no memory.
+    /// Keeps this with the item at `index`, and gives back what was kept with it, with how many other items
+    /// moved. It takes no memory.
     pub fn exchange(&mut self, index: usize, new: K) -> (K, u64)
         requires { index < length self.old.list }
         ensures out { slice_get (kept self.old.list) index ≡ Some result.0 }
@@ -124,8 +129,8 @@ impl<K: Drop> Items<K> {
         (out.kept, moved)
     }
 
-    /// How many items but the last have all their tokens among the first `limit` of the `end` that there are, and how many tokens
-    /// those have.
+    /// How many items but the last have all their tokens among the first `limit` of the `end` that there are,
+    /// and how many tokens those have.
     pub(crate) fn whole_within(&self, limit: usize, end: usize) -> (usize, usize)
         requires { end ≡ total (counts self.now.list) }
         ensures within { result.0 < length self.now.list }
@@ -138,8 +143,8 @@ impl<K: Drop> Items<K> {
             .count_before(self.entries.len() - 1, limit.saturating_add(1), end)
     }
 
-    /// Goes on from the first `from` items, which have `token` tokens, to the first that have `target` tokens or more, or that
-    /// leave the last item alone.
+    /// Goes on from the first `from` items, which have `token` tokens, to the first that have `target` tokens
+    /// or more, or that leave the last item alone.
     pub(crate) fn advance(&self, from: usize, token: usize, target: usize) -> (usize, usize)
         requires within { from < length self.now.list }
         requires tokens { token ≡ tokens_before (counts self.now.list) from }

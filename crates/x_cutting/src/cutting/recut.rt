@@ -16,8 +16,9 @@ use std::alloc::Global;
 use x_lex::{Kind, Patch, Tokens};
 use x_text::{NoMemory, Source};
 
-/// What the edit that makes `new` of the old text, and of whose tokens `patch`, does to the old text's items: those that end before
-/// it stay, then come fresh ones, with which nothing is kept yet, up to the first place from which the old ones hold again.
+/// What the edit that makes `new` of the old text, and of whose tokens `patch`, does to the old text's items:
+/// those that end before it stay, then come fresh ones, with which nothing is kept yet, up to the first place
+/// from which the old ones hold again.
 ///
 /// [`NoMemory`] where memory ran out.
 pub fn recut<K: Default + Drop>(
@@ -67,7 +68,8 @@ pub fn recut<K: Default + Drop>(
     }
 }
 
-/// Where the token at `index` starts, which is one of those that the patch keeps in front, or the first behind them.
+/// Where the token at `index` starts, which is one of those that the patch keeps in front, or the first
+/// behind them.
 fn place_before(tokens: &Tokens, patch: &Patch, index: usize) -> usize
     requires among { LiesAmong tokens.now.list patch.now }
     requires start { patch.now.start ≡ end_of tokens.now.list patch.now.at }
@@ -104,7 +106,8 @@ fn patched_get(tokens: &Tokens, patch: &Patch, index: usize) -> Option<(Kind, us
     tokens.kind_and_length(at + patch.removed() + (index - behind))
 }
 
-/// How many tokens the item has that starts at the token `index`, at `place`, where it ends, and whether it ends with a `;`.
+/// How many tokens the item has that starts at the token `index`, at `place`, where it ends, and whether it
+/// ends with a `;`.
 fn item_from(
     tokens: &Tokens,
     patch: &Patch,

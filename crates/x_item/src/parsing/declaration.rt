@@ -1,6 +1,6 @@
-//! Reading of types and declarations, and of all that stands inside them. Each function takes the tokens that are
-//! ahead, of which some may be no words, and gives back those after what it read; `depth` is how many inline bodies
-//! may stand inside one another.
+//! Reading of types and declarations, and of all that stands inside them. Each function takes the tokens that
+//! are ahead, of which some may be no words, and gives back those after what it read; `depth` is how many
+//! inline bodies may stand inside one another.
 ghost use Rattle.std.specs.Prelude.{◌≡◌, ◌≢◌, ℕ, [], ◌∷◌, ◌++◌, ◌+◌, map, IfOk, IfErr};
 ghost use Rattle.x_trees.specs.Words.{Fixed, Name};
 ghost use Rattle.x_trees.specs.Tree.{default as one_default};

@@ -1,5 +1,5 @@
-//! Reading of definitions. Each function takes the tokens that are ahead, of which some may be no words, and gives
-//! back those after what it read.
+//! Reading of definitions. Each function takes the tokens that are ahead, of which some may be no words, and
+//! gives back those after what it read.
 ghost use Rattle.std.specs.Prelude.{[], ◌∷◌, IfOk, IfErr};
 ghost use Rattle.x_trees.specs.Words.{Fixed};
 ghost use Rattle.x_trees.specs.View.{view_definition};

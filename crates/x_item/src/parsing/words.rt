@@ -6,7 +6,8 @@ ghost use Rattle.x_trees.specs.Gloss.{spell_value};
 ghost use Rattle.x_trees.specs.Words.{Fixed, Name, Number, word_of, is_significant};
 ghost use Rattle.x_trees.specs.View.{view_value};
 ghost use Rattle.x_item.specs.Symbols.{Symbol, Token as OfMark, AnyName, AnyNumber, AnyValue};
-ghost use Rattle.x_item.specs.Reading.{view_word, ahead, left_in, code_in, IsSplit, HasFirst, IsBefore, Fails};
+ghost use Rattle.x_item.specs.Reading.{view_word, ahead, left_in, code_in, IsSplit, HasFirst, IsBefore};
+ghost use Rattle.x_item.specs.Reading.{Fails};
 ghost use Rattle.x_item.specs.Reading.{IsPart, LacksFirst};
 
 use super::{FaultCode, ParseError};

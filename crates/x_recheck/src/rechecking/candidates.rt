@@ -5,8 +5,10 @@ ghost use Rattle.std.specs.Prelude.{IsTrue, true, false};
 ghost use Rattle.x_trees.specs.Tree.{Definition as Tree};
 ghost use Rattle.x_names.specs.declared.names.Declarer.{Declarer as First};
 ghost use Rattle.x_recheck.specs.Editing.{count_after, definition_at, definitions_after, old_number};
-ghost use Rattle.x_recheck.specs.Rechecking.{AddsItemsFrom, AreCovered, AreCoveredAt, AreEditedItems, IsAlike};
-ghost use Rattle.x_recheck.specs.Rechecking.{IsCovered, IsFirst, IsFormer, IsKept, IsKeptUser, IsNamed, IsReady};
+ghost use Rattle.x_recheck.specs.Rechecking.{AddsItemsFrom, AreCovered, AreCoveredAt, AreEditedItems};
+ghost use Rattle.x_recheck.specs.Rechecking.{IsAlike};
+ghost use Rattle.x_recheck.specs.Rechecking.{IsCovered, IsFirst, IsFormer, IsKept, IsKeptUser, IsNamed};
+ghost use Rattle.x_recheck.specs.Rechecking.{IsReady};
 ghost use Rattle.x_recheck.specs.Rechecking.{edit_of, is_waiting};
 
 use super::CheckedItems;

@@ -6,12 +6,16 @@ ghost use Rattle.x_rules.specs.Bodies.{star};
 ghost use Rattle.x_trees.specs.Spell.{spell_length, spell_named, spell_enumerator, spell_other_enumerators};
 ghost use Rattle.x_trees.specs.Spell.{spell_enumerators, spell_body};
 ghost use Rattle.x_trees.specs.Tree.{Variable};
-ghost use Rattle.x_trees.specs.View.{view_value, view_most, view_shape, view_length, view_enumerator, view_type, view_body};
-ghost use Rattle.x_trees.specs.View.{view_union, view_declaration, view_declarations, view_arms, view_default};
+ghost use Rattle.x_trees.specs.View.{view_value, view_most, view_shape, view_length, view_enumerator};
+ghost use Rattle.x_trees.specs.View.{view_type, view_body};
+ghost use Rattle.x_trees.specs.View.{view_union, view_declaration, view_declarations, view_arms};
+ghost use Rattle.x_trees.specs.View.{view_default};
 ghost use Rattle.x_trees.specs.View.{view_definition};
 ghost use Rattle.x_rules.specs.Bodies.{bodies};
-ghost use Rattle.x_rules.specs.BodyWalks.{view_walk, view_body_at, stand, Passes, FindsType, FindsBody, FindsOwn};
-ghost use Rattle.x_rules.specs.BodyWalks.{GoesName, GoesDeclaration, GoesFields, GoesCases, GoesArms, GoesDefault};
+ghost use Rattle.x_rules.specs.BodyWalks.{view_walk, view_body_at, stand, Passes, FindsType, FindsBody};
+ghost use Rattle.x_rules.specs.BodyWalks.{FindsOwn};
+ghost use Rattle.x_rules.specs.BodyWalks.{GoesName, GoesDeclaration, GoesFields, GoesCases, GoesArms};
+ghost use Rattle.x_rules.specs.BodyWalks.{GoesDefault};
 ghost use Rattle.x_rules.specs.BodyWalks.{GoesInside, FindsAll, AreFilled};
 ghost use Rattle.x_names.specs.Declarers.{IsShort};
 
@@ -113,7 +117,8 @@ impl<'d> BodyWalk<'d> {
 
     /// Goes over the enumerators of an enum.
     fn enumerators(&mut self, enumerators: &[Enumerator])
-        ensures { Passes self.old self.new (length (spell_enumerators (map view_enumerator enumerators.now))) }
+        ensures { Passes self.old self.new
+            (length (spell_enumerators (map view_enumerator enumerators.now))) }
     {
         match enumerators.split_first() {
             Some((first, others)) => {
@@ -126,7 +131,8 @@ impl<'d> BodyWalk<'d> {
 
     /// Goes over enumerators, each behind a comma.
     fn other_enumerators(&mut self, enumerators: &[Enumerator])
-        ensures { Passes self.old self.new (length (spell_other_enumerators (map view_enumerator enumerators.now))) }
+        ensures { Passes self.old self.new
+            (length (spell_other_enumerators (map view_enumerator enumerators.now))) }
     {
         for enumerator in enumerators {
             self.skip(1);
@@ -248,7 +254,8 @@ impl<'d> BodyWalk<'d> {
 
     /// Goes over the word of a name, which is added to the fields.
     fn field(&mut self, name: &'d [u8], contents: &mut Contents<'d>) -> Result<(), NoMemory>
-        ensures { OnOk result (GoesName (stand self.old contents.old) (stand self.new contents.new) name.now) }
+        ensures { OnOk result
+            (GoesName (stand self.old contents.old) (stand self.new contents.new) name.now) }
     {
         let word = self.word;
         contents.fields.push(NameAt { word, name })?;
@@ -393,8 +400,8 @@ impl<'d> BodyWalk<'d> {
     }
 }
 
-/// The bodies of the definition: its own first, and each other behind those inside it. Nothing inside an inline type that is an argument
-/// or a result counts. They take the memory of what was in the list.
+/// The bodies of the definition: its own first, and each other behind those inside it. Nothing inside an
+/// inline type that is an argument or a result counts. They take the memory of what was in the list.
 pub fn bodies_into<'d>(
     alloc: Global,
     list: &mut Vec<BodyAt<'d>>,

@@ -6,7 +6,8 @@ ghost use Rattle.x_trees.specs.View.{view_type, view_argument, view_passed, view
 ghost use Rattle.x_trees.specs.View.{view_definition};
 ghost use Rattle.x_rules.specs.Bodies.{members, procedures_of, versions_from};
 ghost use Rattle.x_names.specs.Declarers.{IsShort};
-ghost use Rattle.x_rules.specs.MemberWalks.{Skips, AddsName, AddsNumber, AddsProcedure, AddsProcedures, AddsVersion};
+ghost use Rattle.x_rules.specs.MemberWalks.{Skips, AddsName, AddsNumber, AddsProcedure, AddsProcedures};
+ghost use Rattle.x_rules.specs.MemberWalks.{AddsVersion};
 ghost use Rattle.x_rules.specs.MemberWalks.{place, start};
 ghost use Rattle.x_rules.specs.Tables.{view_members};
 
@@ -121,7 +122,8 @@ fn add_procedure<'d>(
     procedure: &'d Procedure,
     members: &mut Members<'d>,
 ) -> Result<(), NoMemory>
-    ensures { OnOk result (AddsProcedure (place walk.old.word [] members.old) (place walk.new.word [] members.new)
+    ensures { OnOk result
+        (AddsProcedure (place walk.old.word [] members.old) (place walk.new.word [] members.new)
         (view_procedure procedure.now)) }
 {
     pass(alloc, walk, &procedure.result)?;

@@ -1,6 +1,7 @@
 //! The numbers of values and of enumerators.
 
-ghost use Rattle.std.specs.Prelude.{◌≡◌, ◌<◌, ◌+◌, ◌^◌, ◌++◌, nat_lt, [], List, length, map, Some, true, false};
+ghost use Rattle.std.specs.Prelude.{◌≡◌, ◌<◌, ◌+◌, ◌^◌, ◌++◌, nat_lt, [], List, length, map, Some, true};
+ghost use Rattle.std.specs.Prelude.{false};
 ghost use Rattle.std.specs.Prelude.{OnOk, IfOk};
 ghost use Rattle.std.specs.Prelude.{slice_get, option_and_then};
 ghost use Rattle.x_trees.specs.Spell.{spell_other_enumerators};
@@ -13,7 +14,8 @@ ghost use Rattle.x_rules.specs.RustViews.{view_view};
 ghost use Rattle.std.specs.Option.{option_map_or};
 ghost use Rattle.x_rules.specs.Constants.{number_before, number_by, number_seen, number_of};
 ghost use Rattle.x_numbers.specs.Numbers.{next_number, is_enum_number, is_word_number};
-ghost use Rattle.x_rules.specs.Tables.{ArePlaces, HasNumbers, place_by, place_listed, seen_by, view_enumerator_at};
+ghost use Rattle.x_rules.specs.Tables.{ArePlaces, HasNumbers, place_by, place_listed, seen_by};
+ghost use Rattle.x_rules.specs.Tables.{view_enumerator_at};
 
 use super::places::{MOST_FEW, NameTable, Named, place_among, place_tabled, table_of};
 use super::sights::Sights;
@@ -25,8 +27,8 @@ use x_numbers::{next_number, number_value};
 use x_text::NoMemory;
 use x_trees::{Body, Enumerator, NameKind, Value};
 
-/// The word before which names stand that a value at the word may use: two words in front of it stands its own name, where it is the
-/// value of an enumerator.
+/// The word before which names stand that a value at the word may use: two words in front of it stands its
+/// own name, where it is the value of an enumerator.
 pub fn limit_of(word: usize) -> usize
     ensures { result ≡ limit_of word }
 {
@@ -39,7 +41,8 @@ fn add_names<'d>(
     at: usize,
     enumerators: &'d [Enumerator],
 ) -> Result<(), NoMemory>
-    ensures { OnOk result (at + length (spell_other_enumerators (map view_enumerator enumerators.now)) < 2 ^ 64
+    ensures { OnOk result
+        (at + length (spell_other_enumerators (map view_enumerator enumerators.now)) < 2 ^ 64
         → map view_enumerator_at list.new.items ≡ map view_enumerator_at list.old.items
         ++ enumerators_from true at (map view_enumerator enumerators.now)) }
 {

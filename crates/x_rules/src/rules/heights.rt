@@ -61,7 +61,8 @@ fn type_height(sights: &Sights, tree: &DataType) -> u32
     }
 }
 
-/// The height of the type of a body: 1 more than the greatest of those that it holds, and at most the greatest number.
+/// The height of the type of a body: 1 more than the greatest of those that it holds, and at most the
+/// greatest number.
 #[cycle(height)]
 pub fn body_height(sights: &Sights, body: &Body) -> u32
     ensures { result ≡ capped (body_height (seen_by sights.now) (view_body body.now)) }

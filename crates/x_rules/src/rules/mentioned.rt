@@ -87,8 +87,8 @@ fn is_no_constant(view: View, usage: Use) -> bool
     }
 }
 
-/// Whether the name is declared too late for the use. `before` tells whether the item declares it at an earlier word, and not by the
-/// very constant whose value this is.
+/// Whether the name is declared too late for the use. `before` tells whether the item declares it at an
+/// earlier word, and not by the very constant whose value this is.
 fn is_too_late(view: View, before: bool, usage: Use) -> bool
     ensures { result ≡ is_too_late (view_view view.entry) before usage }
 {

@@ -15,7 +15,8 @@ use x_text::NoMemory;
 #[derive(Drop)]
 pub struct NamedBodies<'b, 'd> {
     bodies: &'b [BodyAt<'d>],
-    /// The place of each of many bodies. A few are compared one by one: most definitions have no more, and making a table takes longer.
+    /// The place of each of many bodies. A few are compared one by one: most definitions have no more, and
+    /// making a table takes longer.
     table: Option<IndexMap<usize, usize>>,
 }
 

@@ -7,7 +7,8 @@ use indexmap::IndexMap;
 use std::alloc::Global;
 use x_text::NoMemory;
 
-/// So many names, numbers or bodies are few. They are compared one by one: most definitions have no more, and making a table takes longer.
+/// So many names, numbers or bodies are few. They are compared one by one: most definitions have no more, and
+/// making a table takes longer.
 pub const MOST_FEW: usize = 12;
 
 /// The first place of each of many names.

@@ -63,7 +63,8 @@ fn table_of_many<'v>(
     Ok(Some(table_of(alloc, &names)?))
 }
 
-/// The first place of a name among those that an item declares and then those that it uses, by going over them.
+/// The first place of a name among those that an item declares and then those that it uses, by going over
+/// them.
 fn place_among_few(declared: &[DeclaredName], mentions: &[Mention], name: &[u8]) -> Option<usize>
     ensures { result ≡ first_place 0 (names_seen declared.now mentions.now) name.now }
 {

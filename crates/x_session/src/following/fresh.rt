@@ -1,6 +1,7 @@
 //! The items of an edited text that are parsed anew.
 
-ghost use Rattle.std.specs.Prelude.{◌≡◌, ◌+◌, ◌<◌, ◌≤◌, All, None, OnOk, Some, drop, length, map, slice_get, take};
+ghost use Rattle.std.specs.Prelude.{◌≡◌, ◌+◌, ◌<◌, ◌≤◌, All, None, OnOk, Some, drop, length, map, slice_get};
+ghost use Rattle.std.specs.Prelude.{take};
 ghost use Rattle.x_text.specs.Counts.{raised};
 ghost use Rattle.x_lex.specs.Places.{lexeme, lexemes};
 ghost use Rattle.x_lex.specs.Tiling.{AreTokens};

@@ -7,7 +7,9 @@ ghost use Rattle.x_session.specs.Session.{Compiles};
 ghost use Rattle.x_trees.specs.View.{view_body, view_declaration, view_definition};
 ghost use Rattle.x_session.specs.Compile.{tokens_of, definitions_of, faults_of};
 ghost use Rattle.x_session.specs.Generated.{text_of};
-ghost use Rattle.x_session.specs.Answers.{counted_by, body_keyword, keyword_of, given_name, own_name, shown_name, definition_line, token_line, fault_line, tokens_answer, definitions_answer, fault_place, faults_answer, text_answer};
+ghost use Rattle.x_session.specs.Answers.{counted_by, body_keyword, keyword_of, given_name, own_name};
+ghost use Rattle.x_session.specs.Answers.{shown_name, definition_line, token_line, fault_line, tokens_answer};
+ghost use Rattle.x_session.specs.Answers.{definitions_answer, fault_place, faults_answer, text_answer};
 
 use crate::{Fault, Session};
 use itoa::Integer;

@@ -1,8 +1,10 @@
-ghost use Rattle.std.specs.Prelude.{◌≡◌, ◌<◌, ◌∷◌, [], true, length, IfOk, IfSome, OnErr, IsTrue, MatchOption, SomeIff, nat_lt, option_map};
+ghost use Rattle.std.specs.Prelude.{◌≡◌, ◌<◌, ◌∷◌, [], true, length, IfOk, IfSome, OnErr, IsTrue};
+ghost use Rattle.std.specs.Prelude.{MatchOption, SomeIff, nat_lt, option_map};
 ghost use Rattle.std.specs.Char.{is_ascii_hexdigit, is_ascii_digit, digit_value};
 ghost use Rattle.std.specs.List.{list_all};
 ghost use Rattle.std.specs.Str.Parse.{digits_value};
-ghost use Rattle.x_session.specs.Commands.{edit_by, command_of, words_of, one_word, edit_of, is_number, is_hex, bytes_of, asked_if, dump_by, dump_asked};
+ghost use Rattle.x_session.specs.Commands.{edit_by, command_of, words_of, one_word, edit_of, is_number};
+ghost use Rattle.x_session.specs.Commands.{is_hex, bytes_of, asked_if, dump_by, dump_asked};
 
 use memchr::memchr;
 use std::alloc::Global;
@@ -84,8 +86,8 @@ pub fn parse_command(alloc: Global, line: &[u8]) -> Result<Command, NoMemory>
     }
 }
 
-/// The type that a line asks to show a value of, by `dump TYPE` or `dump TYPE HEX`, and the hexadecimal digits of the message; `None` is
-/// answered of any other line.
+/// The type that a line asks to show a value of, by `dump TYPE` or `dump TYPE HEX`, and the hexadecimal
+/// digits of the message; `None` is answered of any other line.
 pub fn dump_words(line: &[u8]) -> Option<(&[u8], &[u8])>
     ensures asked { option_map (λ p. (p.0.now, bytes_of p.1.now)) result ≡ dump_asked line.now }
     ensures digits { IfSome result (λ p. 0 < length p.1.now → is_hex p.1.now ≡ true) }

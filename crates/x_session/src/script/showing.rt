@@ -25,7 +25,8 @@ fn add_value<S: Sink>(dump: &Dump, pen: &mut Pen, sink: &mut S)
     dump.add_lines(pen, sink);
 }
 
-/// Answers what value of the type the message is, and answers whether that refuses it. Without memory nothing is done.
+/// Answers what value of the type the message is, and answers whether that refuses it. Without memory nothing
+/// is done.
 fn answer_message<S: Sink>(
     alloc: Global,
     schema: &Schema,
@@ -54,8 +55,8 @@ fn answer_message<S: Sink>(
     }
 }
 
-/// Answers what value of the type of this name the message is, whose bytes these digits write, and answers whether that refuses it.
-/// Without memory nothing is done.
+/// Answers what value of the type of this name the message is, whose bytes these digits write, and answers
+/// whether that refuses it. Without memory nothing is done.
 fn answer_typed<S: Sink>(
     alloc: Global,
     schema: &Schema,
@@ -65,7 +66,8 @@ fn answer_typed<S: Sink>(
     sink: &mut S,
 ) -> Result<bool, NoMemory>
     requires { 0 < length hex.now → is_hex hex.now ≡ true }
-    ensures told { IfOk result (λ refused. TellsOver (IsTypedAnswer schema.now name.now (bytes_of hex.now)) refused
+    ensures told { IfOk result
+        (λ refused. TellsOver (IsTypedAnswer schema.now name.now (bytes_of hex.now)) refused
         pen.old (S.state sink.old) pen.new (S.state sink.new)) }
     ensures same { OnErr result ((pen.new ≡ pen.old) × (sink.new ≡ sink.old)) }
 {

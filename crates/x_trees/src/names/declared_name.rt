@@ -46,7 +46,8 @@ pub struct DeclaredName<'d> {
     pub word: usize,
     /// What it is declared as.
     pub kind: NameKind,
-    /// Whether it is the name of an inline type: that of the type around it, `_`, and that of the declaration where it stands.
+    /// Whether it is the name of an inline type: that of the type around it, `_`, and that of the declaration
+    /// where it stands.
     pub lifted: bool,
 }
 

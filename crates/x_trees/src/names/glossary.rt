@@ -1,5 +1,7 @@
-//! What the words of a definition are: the names that it declares, those that it uses, and what the rules ask of beside them.
-ghost use Rattle.std.specs.Prelude.{◌≡◌, ◌+◌, ◌<◌, ◌^◌, ℕ, List, [], ◌∷◌, ◌++◌, length, map, Some, true, false};
+//! What the words of a definition are: the names that it declares, those that it uses, and what the rules ask
+//! of beside them.
+ghost use Rattle.std.specs.Prelude.{◌≡◌, ◌+◌, ◌<◌, ◌^◌, ℕ, List, [], ◌∷◌, ◌++◌, length, map, Some, true};
+ghost use Rattle.std.specs.Prelude.{false};
 ghost use Rattle.std.specs.Prelude.{OnOk, IfOk};
 ghost use Rattle.std.specs.Cow.{cow_slice_items};
 ghost use Rattle.x_trees.specs.Tree.{Void, Inline, Typed};
@@ -36,7 +38,8 @@ use x_text::NoMemory;
 /// The names in a definition, and what its words are beside them, each in the order of the words.
 #[derive(Drop)]
 pub struct Glossary<'d> {
-    /// The names that it declares; at one word the own name comes first. What is written as an argument or a result declares none.
+    /// The names that it declares; at one word the own name comes first. What is written as an argument or a
+    /// result declares none.
     pub declared: Vec<DeclaredName<'d>>,
     /// The names that it uses. What an inline type holds that is an argument or a result is no mention.
     pub mentioned: Vec<Mention<'d>>,
@@ -54,8 +57,8 @@ impl<'d> Glossary<'d> {
         }
     }
 
-    /// Takes in what stands in the definition, in place of what was there: only its memory is used again. It takes time in
-    /// proportion to the definition.
+    /// Takes in what stands in the definition, in place of what was there: only its memory is used again. It
+    /// takes time in proportion to the definition.
     ///
     /// # Errors
     ///
@@ -81,8 +84,8 @@ impl<'d> Glossary<'d> {
     }
 }
 
-/// The names that the definition declares, in the order of their words; at one word the own name comes first. What is written as
-/// an argument or a result declares none.
+/// The names that the definition declares, in the order of their words; at one word the own name comes first.
+/// What is written as an argument or a result declares none.
 ///
 /// # Errors
 ///
@@ -96,8 +99,8 @@ pub fn declares(alloc: Global, definition: &Definition) -> Result<Vec<DeclaredNa
     Ok(glossary.declared)
 }
 
-/// The names that the definition uses, in the order of their words. What an inline type holds that is an argument or a result
-/// is no mention.
+/// The names that the definition uses, in the order of their words. What an inline type holds that is an
+/// argument or a result is no mention.
 ///
 /// # Errors
 ///
@@ -127,9 +130,11 @@ struct Lifted {
     kind: NameKind,
 }
 
-/// The name of an inline type in a declaration of the name, which stands in the type that `around` names or behind `typedef`.
+/// The name of an inline type in a declaration of the name, which stands in the type that `around` names or
+/// behind `typedef`.
 fn name_inside(alloc: Global, place: Place, around: &[u8], name: &[u8]) -> Result<Vec<u8>, NoMemory>
-    ensures { IfOk result (λ lifted. name_inside (Some (place_in place around.now)) name.now ≡ Some lifted.items) }
+    ensures { IfOk result
+        (λ lifted. name_inside (Some (place_in place around.now)) name.now ≡ Some lifted.items) }
 {
     match place {
         Place::Typedef => lifted_name(alloc, name, name),
@@ -255,7 +260,8 @@ impl<'d> Walk<'d> {
 
     /// Takes in the name of an inline type, if there is one.
     fn lifted(&mut self, lifted: Option<Lifted>) -> Result<(), NoMemory>
-        ensures { OnOk result (Finds self.old self.new 0 (λ k. declared_at k (roles_of_lifted lifted)) (λ k. []) (λ k. [])) }
+        ensures { OnOk result
+            (Finds self.old self.new 0 (λ k. declared_at k (roles_of_lifted lifted)) (λ k. []) (λ k. [])) }
     {
         match lifted {
             Some(lifted) => self.declare(CowSlice::Owned(lifted.name), lifted.kind, true),
@@ -350,7 +356,8 @@ impl<'d> Walk<'d> {
         Ok(())
     }
 
-    /// Goes over the type in a declaration of the name, and gives the name of the type where it is an inline one.
+    /// Goes over the type in a declaration of the name, and gives the name of the type where it is an inline
+    /// one.
     #[cycle(walk)]
     fn data_type(
         &mut self,
@@ -427,7 +434,8 @@ impl<'d> Walk<'d> {
     /// Takes note of the first word of a declaration.
     fn leading(&mut self, place: Place, declaration: &'d Declaration) -> Result<(), NoMemory>
         ensures { OnOk result ((around : List ℕ) → Finds self.old self.new 0 (λ k. []) (λ k. [])
-            (λ k. noted_at k (leading_roles (Some (place_in place around)) (view_declaration declaration.now)))) }
+            (λ k. noted_at k (leading_roles (Some (place_in place around))
+            (view_declaration declaration.now)))) }
     {
         match place {
             Place::Discriminant => self.note(Note::Discriminant(declaration)),
@@ -509,7 +517,8 @@ impl<'d> Walk<'d> {
 
     #[cycle(walk)]
     fn arms(&mut self, alloc: Global, around: &[u8], arms: &'d [Arm]) -> Result<(), NoMemory>
-        ensures { OnOk result (Reads self.old self.new (arms_by glossed (Some around.now) (view_arms arms.now))) }
+        ensures { OnOk result
+            (Reads self.old self.new (arms_by glossed (Some around.now) (view_arms arms.now))) }
     {
         for arm in arms {
             self.cases(&arm.cases)?;
@@ -695,7 +704,8 @@ impl<'d> Walk<'d> {
     /// Goes over a keyword and the name behind it, which is declared.
     fn headed(&mut self, name: &'d [u8], kind: NameKind) -> Result<(), NoMemory>
         ensures { OnOk result (Finds self.old self.new 2
-            (λ k. record { name = name.now; word = k + 1; kind = kind; lifted = false } ∷ []) (λ k. []) (λ k. [])) }
+            (λ k. record { name = name.now; word = k + 1; kind = kind; lifted = false } ∷ []) (λ k. [])
+            (λ k. [])) }
     {
         self.skip(1);
         self.declare(CowSlice::Borrowed(name), kind, false)?;

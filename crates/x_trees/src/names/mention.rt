@@ -9,7 +9,8 @@ use crate::trees::{Length, Shape, Tag};
 pub enum Use {
     /// A constant: a size, the value of a case, of an enumerator or of a `const`.
     Value,
-    /// A type whose values are held: by a plain declaration, by an array of a fixed length, as an argument or a result.
+    /// A type whose values are held: by a plain declaration, by an array of a fixed length, as an argument or
+    /// a result.
     ByValue,
     /// A type whose values are linked to: by `*` or by `<>`.
     Link,

@@ -1,7 +1,8 @@
 //! The fields of headers (RFC 5531, section 8.2; RFC 4506, sections 4.2, 4.3 and 4.10).
 ghost use Rattle.std.specs.Prelude.{ℕ, List, IfOk, IfErr};
 ghost use Rattle.x_wire.specs.Headers.{Auth as AuthField};
-ghost use Rattle.x_wire.specs.HeaderForms.{HeaderForm, number_form, state_form, length_form, body_form, auth_form, Reads, FormFault};
+ghost use Rattle.x_wire.specs.HeaderForms.{HeaderForm, number_form, state_form, length_form, body_form};
+ghost use Rattle.x_wire.specs.HeaderForms.{auth_form, Reads, FormFault};
 ghost use Rattle.x_wire.specs.Messages.{auth_of};
 
 use super::parts::{Auth, MOST_AUTH_BYTES};

@@ -2,8 +2,11 @@
 ghost use Rattle.std.specs.Prelude.{◌≡◌, ℕ, [], IfOk, IfErr};
 ghost use Rattle.x_wire.specs.Headers.{Auth as AuthField, Header, Accepted, Denied, IsBare, IsMessage};
 ghost use Rattle.x_wire.specs.HeaderFaults.{IsHeaderFault};
-ghost use Rattle.x_wire.specs.HeaderForms.{Whole, bounds_form, call_form, accept_form, accepted_form, reject_form, denied_form, reply_form, kind_form, header_form, Reads, FormFault};
-ghost use Rattle.x_wire.specs.Messages.{accept_of, results_of, reject_of, header_of_reply, body_of_reply, header_of_kind, body_of_kind, header_of, body_of};
+ghost use Rattle.x_wire.specs.HeaderForms.{Whole, bounds_form, call_form, accept_form, accepted_form};
+ghost use Rattle.x_wire.specs.HeaderForms.{reject_form, denied_form, reply_form, kind_form, header_form};
+ghost use Rattle.x_wire.specs.HeaderForms.{Reads, FormFault};
+ghost use Rattle.x_wire.specs.Messages.{accept_of, results_of, reject_of, header_of_reply, body_of_reply};
+ghost use Rattle.x_wire.specs.Messages.{header_of_kind, body_of_kind, header_of, body_of};
 
 use super::fields::{Refusal, auth, number, state};
 use super::parts::{AcceptStat, Call, Kind, Message, RejectStat, Reply};

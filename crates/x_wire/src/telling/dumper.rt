@@ -3,7 +3,8 @@ ghost use Rattle.std.specs.Prelude.{◌≡◌, ◌<◌, ◌||◌, ◌∷◌, [],
 ghost use Rattle.x_schema.specs.Schema.{Schema};
 ghost use Rattle.x_text.specs.Engines.{is_refused};
 ghost use Rattle.x_text.specs.Writing.{Adds};
-ghost use Rattle.x_wire.specs.Dumpers.{HasTold, IsAt, IsOver, IsOverAt, IsUnder, IsUsed, Tells, TellsFront, TellsMore, front_taken};
+ghost use Rattle.x_wire.specs.Dumpers.{HasTold, IsAt, IsOver, IsOverAt, IsUnder, IsUsed, Tells, TellsFront};
+ghost use Rattle.x_wire.specs.Dumpers.{TellsMore, front_taken};
 ghost use Rattle.x_wire.specs.Framers.{IsOpen, left_by};
 ghost use Rattle.x_wire.specs.MessageTexts.{Told, plain};
 ghost use Rattle.x_wire.specs.RecordFaults.{end_fault};
@@ -39,8 +40,8 @@ impl Dumper {
         }
     }
 
-    /// Tells the messages that become whole by a block, and answers whether the stream goes on: it ends behind a header that takes
-    /// its record over the limit. Without memory the messages before are told.
+    /// Tells the messages that become whole by a block, and answers whether the stream goes on: it ends
+    /// behind a header that takes its record over the limit. Without memory the messages before are told.
     pub(super) fn take<S: Sink>(
         &mut self,
         alloc: Global,
@@ -52,7 +53,8 @@ impl Dumper {
         requires is_open { IsOpen self.old.framer.phase }
         ensures is_open { IsOpen self.new.framer.phase }
         ensures told { IfOk result (λ _. (read : List ℕ) (t : Told) → IsAt schema.now read t self.old →
-            Tells schema.now read t block.now self.new pen.old (S.state sink.old) pen.new (S.state sink.new)) }
+            Tells schema.now read t block.now self.new pen.old (S.state sink.old) pen.new
+            (S.state sink.new)) }
         ensures over { IfOk result (λ goes. goes ≡ false → IsOver self.new) }
         ensures under { IfOk result (λ goes. goes ≡ true → 0 < length block.now → IsUnder self.new) }
         ensures front { OnErr result ((read : List ℕ) (t : Told) → IsAt schema.now read t self.old →
@@ -68,8 +70,8 @@ impl Dumper {
         Ok(true)
     }
 
-    /// Takes bytes up to the end of the first record that they complete, if they complete one, and tells its message. Answers how many
-    /// it took, or `None` behind a header that takes its record over the limit.
+    /// Takes bytes up to the end of the first record that they complete, if they complete one, and tells its
+    /// message. Answers how many it took, or `None` behind a header that takes its record over the limit.
     fn take_record<S: Sink>(
         &mut self,
         alloc: Global,

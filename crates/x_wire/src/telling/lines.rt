@@ -88,7 +88,8 @@ pub(super) fn add_call<S: Sink>(
 )
     ensures { Adds pen.old (S.state sink.old) pen.new (S.state sink.new)
         (call_line number xid call.now.rpcvers call.now.prog call.now.vers call.now.proc name.now
-        ++ auth_line (codes "cred") (auth_of call.now.cred) ++ auth_line (codes "verf") (auth_of call.now.verf)) }
+        ++ auth_line (codes "cred") (auth_of call.now.cred)
+        ++ auth_line (codes "verf") (auth_of call.now.verf)) }
 {
     add_call_line(number, xid, call, name, pen, sink);
     add_auth("cred", &call.cred, pen, sink);

@@ -27,13 +27,13 @@ enum Turn {
     NoMemory,
 }
 
-/// Writes the text of each message of a recorded stream, and that of the stream's fault where it has one (RFC 5531, sections 8 to 11). Then,
-/// and where a message has a fault, the outcome is [`Outcome::Refused`]. The stream is read in blocks, and all that is kept of it is the open
-/// record and the last call of each xid. What is told of a block is written before the next one is read.
+/// Writes the text of each message of a recorded stream, and that of the stream's fault where it has one (RFC
+/// 5531, sections 8 to 11). Then, and where a message has a fault, the outcome is [`Outcome::Refused`]. The
+/// stream is read in blocks, and all that is kept of it is the open record and the last call of each xid.
+/// What is told of a block is written before the next one is read.
 ///
-/// # Errors
-/// The tap failed: the texts of all records that are whole in what was read are written. Memory ran out: the whole texts of the messages before
-/// are. The sink failed.
+/// # Errors The tap failed: the texts of all records that are whole in what was read are written. Memory ran
+/// out: the whole texts of the messages before are. The sink failed.
 pub fn dump_stream<R: Tap, S: Sink>(
     alloc: Global,
     schema: &Schema,
@@ -41,7 +41,8 @@ pub fn dump_stream<R: Tap, S: Sink>(
     sink: &mut S,
 ) -> Result<Outcome, EngineFault>
     ensures dumps { MatchOption (R.state tap.old).bytes (Unit {0})
-        (λ stream. DumpsStream schema.now stream (R.state tap.new).bytes (S.state sink.old) (S.state sink.new) result) }
+        (λ stream. DumpsStream schema.now stream (R.state tap.new).bytes (S.state sink.old)
+        (S.state sink.new) result) }
     ensures cause { NamesCause result (R.state tap.old).failed (R.state tap.new).failed
         (S.state sink.old).failed (S.state sink.new).failed }
 {
