@@ -7,8 +7,8 @@ use Rattle.x_schema.specs.Choices.{Choice, or_default}
 use Rattle.x_numbers.specs.Numbers.{next_number}
 use Rattle.x_schema.specs.Schema.{Schema, form_at, name_at}
 use Rattle.x_schema.specs.SchemaOf.{Known, Numbers, AreArms, IsBody, IsDefault, IsEnum, number_in, case_word, if_legal, word_by, signed_word, unsigned_word, enum_form, number_given, typedefs_inside, typedefs_of, typedefs_of_arms, typedefs_of_default, union_form, with_cases, with_word, words_from}
-use Rattle.x_schema.specs.SchemaMaking.{Completes, IsGood, Puts, PutsAll, PutsPlace, AddsName, AddsForm, AreSoundCases, AreSoundWords, IsSoundDefault, words_named}
-use Rattle.x_schema.specs.Sound.{IsSoundForm, IsSoundField, IsSoundArm, is_legal}
+use Rattle.x_schema.specs.SchemaMaking.{Completes, IsGood, Puts, PutsAll, PutsPlace, AddsName, AddsForm, AreSoundCases, AreSoundWords, words_named}
+use Rattle.x_schema.specs.Sound.{IsSoundForm, IsSoundField, IsSoundArm, IsSoundDefault, is_legal}
 use Rattle.x_schema.specs.declared.form.Arm.{Arm}
 use Rattle.x_schema.specs.declared.form.Field.{Field}
 use Rattle.x_schema.specs.declared.form.Form.{Form}
@@ -206,6 +206,7 @@ union_sound s i field choice f c d = by choice.cases c refl
       legal = legal;
       chosen = subst (λ b. IsTrue (is_some (or_default (cond b (Some e.1) (lookup (nat_eq e.0) es)) choice.default))) (sym (same_nat e.0)) refl;
       arms = λ w arm found. arm_found (length s.names) i (form_at s field.form) (e ∷ es) choice.default w arm (fits, legal, a, rest) d found;
+      other = d;
     }
 
 abbrev IsChosen : Known → tree.Arms → Field → List (ℕ × Arm) → ℕ → ℕ → Schema → Type 0

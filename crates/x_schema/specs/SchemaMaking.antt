@@ -144,10 +144,6 @@ AreSoundCases n i form [] = Unit {0}
 AreSoundCases n i form (e ∷ es) =
     (e.0 < 2 ^ 32) × IsTrue (is_legal form e.0) × IsSoundArm n i e.1 × AreSoundCases n i form es
 
-abbrev pub IsSoundDefault : ℕ → ℕ → Option Arm → Type 0
-IsSoundDefault n i None = Unit {0}
-IsSoundDefault n i (Some arm) = IsSoundArm n i arm
-
 -- types with others behind them, by their names; the first of a name has it
 abbrev pub with_found : List (List ℕ) → Types → List NamedType → Types
 with_found names types [] = types

@@ -2,7 +2,7 @@
 -- value have smaller places than what holds them, links lead to any form, and an enum and a union have a
 -- number.
 use Rattle.std.specs.Prelude.{◌≡◌, ℕ, ◌<◌, ◌^◌, Bool, true, false, nat_lt, IsTrue, is_some, List, [], ◌∷◌}
-use Rattle.std.specs.Prelude.{Some, length}
+use Rattle.std.specs.Prelude.{Option, Some, None, length}
 use Rattle.x_schema.specs.declared.form.Arm.{Arm}
 use Rattle.x_schema.specs.declared.form.Arm.TheVariants as arms
 use Rattle.x_schema.specs.declared.form.Field.{Field}
@@ -36,6 +36,10 @@ abbrev pub IsSoundArm : ℕ → ℕ → Arm → Type 0
 IsSoundArm n i arms.Void = Unit {0}
 IsSoundArm n i (arms.Of f) = IsSoundField n i f
 
+abbrev pub IsSoundDefault : ℕ → ℕ → Option Arm → Type 0
+IsSoundDefault n i None = Unit {0}
+IsSoundDefault n i (Some arm) = IsSoundArm n i arm
+
 pub record AreSoundEnumerators (n : ℕ) (entries : List (ℕ × ℕ)) : Type 0 where
   pub word : ℕ
   pub fits : word < 2 ^ 32
@@ -49,6 +53,7 @@ pub record IsSoundUnion (s : Schema) (i : ℕ) (discriminant : Field) (choice : 
   pub legal : IsTrue (is_legal (form_at s discriminant.form) word)
   pub chosen : IsTrue (is_some (arm_for choice word))
   pub arms : (w : ℕ) (arm : Arm) → arm_for choice w ≡ Some arm → IsSoundArm (length s.names) i arm
+  pub other : IsSoundDefault (length s.names) i choice.default
 
 -- a form at place i
 abbrev pub IsSoundForm : Schema → ℕ → Form → Type 0

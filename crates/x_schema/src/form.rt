@@ -1,5 +1,5 @@
 //! What a type is (RFC 4506, section 4).
-ghost use Rattle.std.specs.Prelude.{◌≡◌, length, slice_get};
+ghost use Rattle.std.specs.Prelude.{◌≡◌, IfSome, Some, length, slice_get};
 ghost use Rattle.x_schema.specs.Choices.{Choice, arm_for, name_for};
 
 use indexmap::IndexMap;
@@ -67,7 +67,8 @@ impl Enumerators {
 
     /// The number at a place, in the order of the text, as the word that stands for it, with its name.
     pub fn get(&self, index: usize) -> Option<(u32, NameIndex)>
-        ensures { result ≡ slice_get self.now index }
+        ensures entry { result ≡ slice_get self.now index }
+        ensures named { IfSome result (λ entry. name_for self.now entry.0 ≡ Some entry.1) }
     {
         match self.names.get_index(index) {
             Some((word, name)) => Some((*word, *name)),
@@ -112,7 +113,8 @@ impl Arms {
 
     /// The number at a place, in the order of the text, as the word that stands for it, with its arm.
     pub fn case(&self, index: usize) -> Option<(u32, Arm)>
-        ensures { result ≡ slice_get self.now.cases index }
+        ensures entry { result ≡ slice_get self.now.cases index }
+        ensures chosen { IfSome result (λ entry. arm_for self.now entry.0 ≡ Some entry.1) }
     {
         match self.cases.get_index(index) {
             Some((word, arm)) => Some((*word, *arm)),

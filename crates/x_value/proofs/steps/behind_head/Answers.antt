@@ -22,12 +22,12 @@ overflow_add-spot c = let h = c.requires.spot.1 in omega arith
 pub returns-else-word-eq0-clause-light : goal.returns-else-word-eq0-clause-light
 returns-else-word-eq0-clause-light c =
     light_elements c.args.schema.now c.target-of.result c.args.word c.args.level (c.args.spot.links + 1)
-    (array_known c.args.schema.now c.args.form c.form_at.result.now c.in-Array.link c.in-Array.field-1 c.target-of.result c.form_at.ensures.sound c.requires.known c.form_at.ensures.form c.in-Array.is c.target-of.ensures) c.ranges.word.fits
+    (array_known c.args.schema.now c.args.form c.form_at.result.now c.in-Array.link c.in-Array.field-1 c.target-of.result c.form_at.ensures.sound c.requires.known c.form_at.ensures.form c.in-Array.is c.target-of.ensures.target) c.ranges.word.fits
 
 pub returns-else-word-eq0-2-clause-light : goal.returns-else-word-eq0-2-clause-light
 returns-else-word-eq0-2-clause-light c =
     light_one c.args.schema.now c.target.result _
-    (optional_known c.args.schema.now c.args.form c.form_at.result.now c.in-Optional.link c.target.result c.form_at.ensures.sound c.requires.known c.form_at.ensures.form c.in-Optional.is c.target.ensures)
+    (optional_known c.args.schema.now c.args.form c.form_at.result.now c.in-Optional.link c.target.result c.form_at.ensures.sound c.requires.known c.form_at.ensures.form c.in-Optional.is c.target.ensures.target)
 
 pub returns-in-Some-clause-typed : goal.returns-in-Some-clause-typed
 returns-in-Some-clause-typed c =

@@ -8,8 +8,8 @@ use Rattle.x_trees.specs.declared.trees.declaration.Body.TheViews.{out-UnionBody
 use Rattle.x_trees.proofs.Rows.{struct_view, union_parts}
 use Rattle.x_schema.specs.Schema.{form_at}
 use Rattle.x_schema.specs.SchemaOf.{AreArms, AreFields, IsBody, IsDeclared, IsDefault, IsEnum, IsType, as_typedef, basic_form, opaque_form, limit_in, place_named, typedefs_inside, typedefs_of, typedefs_of_arms, typedefs_of_default, typedefs_of_fields, typedefs_of_type, union_form}
-use Rattle.x_schema.specs.SchemaMaking.{PutsAll, PutsPlace, PutsLink, AddsForm, AreSoundCases, IsSoundDefault, view_known}
-use Rattle.x_schema.specs.Sound.{AreSoundFields}
+use Rattle.x_schema.specs.SchemaMaking.{PutsAll, PutsPlace, PutsLink, AddsForm, AreSoundCases, view_known}
+use Rattle.x_schema.specs.Sound.{AreSoundFields, IsSoundDefault}
 use Rattle.x_schema.specs.declared.form.Form.TheVariants as forms
 use Rattle.x_text.proofs.ListLemmas.{drop_one, drop_none}
 use Rattle.x_schema.proofs.MakerForms.{FieldsSoFar, held_basic, held_named, held_opaque, held_string, to_link, to_named, optional, counted, fixed, plain, named_type, field_put, fields_start, fields_more, fields_end, struct_put, arm_field}
