@@ -68,11 +68,6 @@ abbrev pub rule_faults : Option Outcome → List WordFault
 rule_faults None = []
 rule_faults (Some o) = o.faults
 
--- whether the item's words spell no definition
-abbrev pub spells_none : Parse → Bool
-spells_none (Fault token code) = true
-spells_none parse = false
-
 -- the faults of an item at its tokens, of which these are by the rules
 abbrev pub faults_at : List Lexeme → Parse → List WordFault → List TokenFault
 faults_at tokens (Fault token code) ruled = record { token = token; code = codes.Syntax code } ∷ []
