@@ -163,8 +163,8 @@ impl Schema {
         }
     }
 
-    /// What the type is: its kind, with its sizes, fields, arms or enumerators. What leads on from it, and from
-    /// the form at any place, stands within the schema: so [`Schema::form_at`], [`Schema::target`] and
+    /// What the type is: its kind, with its sizes, fields, arms or enumerators. What leads on from it, and
+    /// from the form at any place, stands within the schema: so [`Schema::form_at`], [`Schema::target`] and
     /// [`Schema::name`] can be asked for it.
     pub fn form(&self, id: TypeId) -> &Form
         requires { IsTypeId self.now id }

@@ -4,6 +4,7 @@ pub mod EntryLemmas
 pub mod Faults
 pub mod Fronts
 pub mod LineLemmas
+pub mod OneReading
 pub mod Opening
 pub mod Pieces
 pub mod Quoting

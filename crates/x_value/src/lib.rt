@@ -19,7 +19,7 @@ mod words;
 pub use entry::{Dump, Nodes};
 pub use fault::{ReadCode, ReadFault};
 pub use heads::MOST_LINKS;
-pub use laws::enc_law;
+pub use laws::{enc_law, one_reading};
 pub use lines::{add_hex, add_number};
 pub use nodes::{Label, Leaf, Node};
 pub use reading::dump;

@@ -8,7 +8,6 @@ pub mod HeaderLemmas
 pub mod Leaves
 pub mod Moves
 pub mod OneFault
-pub mod OneReading
 pub mod OneText
 pub mod TellerLemmas
 pub mod Turning

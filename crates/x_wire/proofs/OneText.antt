@@ -15,7 +15,7 @@ use Rattle.x_wire.specs.Records.{left, records}
 use Rattle.x_wire.specs.StreamTexts.{AreTold, IsTextOf, IsStreamText, end_told}
 use Rattle.x_wire.proofs.HeaderLemmas.{one_message_lem, one_answer_lem}
 use Rattle.x_wire.proofs.OneFault.{one_fault_lem}
-use Rattle.x_wire.proofs.OneReading.{one_refusal, one_showing, not_both}
+use Rattle.x_value.proofs.OneReading.{one_refusal, one_showing, not_both}
 
 none_some : (id : TypeId) (type : Option TypeId) → type ≡ None → type ≡ Some id → ⊥
 none_some id type e f = cc

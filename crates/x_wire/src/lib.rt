@@ -18,5 +18,5 @@ pub use x_schema::{Procedure, Schema, TypeId};
 pub use x_text::{EngineFault, Outcome};
 pub use x_value::{
     Dump, Label, Leaf, MOST_LINKS, Node, Nodes, ReadCode, ReadFault, add_hex, dump, dump_value,
-    enc_law,
+    enc_law, one_reading,
 };
