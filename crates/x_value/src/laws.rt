@@ -20,8 +20,8 @@ pub fn enc_law()
         → (v : Value) × Fits s (layout_at s form) p v }
 {}
 
-/// Bytes are read in one way: they are a value, which is shown in one way, or they are refused, want of memory
-/// aside, for one reason at one place, and not both.
+/// Bytes are read in one way: they are a value, which is shown in one way, or they are refused, want of
+/// memory aside, for one reason at one place, and not both.
 pub fn one_reading()
     ensures showing { (s : Schema) (id : TypeId) (bytes : List ℕ) (shown shown' : List Node)
         → IsShown s id bytes shown → IsShown s id bytes shown' → shown ≡ shown' }
