@@ -248,7 +248,7 @@ impl<'d> Walk<'d> {
     }
 
     /// Takes in the name of a declaration, if that declares it.
-    fn own(&mut self, place: Place, name: &'d [u8]) -> Result<(), NoMemory>
+    fn own_name(&mut self, place: Place, name: &'d [u8]) -> Result<(), NoMemory>
         ensures { OnOk result ((around : List ℕ) → Finds self.old self.new 0
             (λ k. declared_at k (name_roles (Some (place_in place around)) name.now)) (λ k. []) (λ k. [])) }
     {
@@ -259,7 +259,7 @@ impl<'d> Walk<'d> {
     }
 
     /// Takes in the name of an inline type, if there is one.
-    fn lifted(&mut self, lifted: Option<Lifted>) -> Result<(), NoMemory>
+    fn inline_name(&mut self, lifted: Option<Lifted>) -> Result<(), NoMemory>
         ensures { OnOk result
             (Finds self.old self.new 0 (λ k. declared_at k (roles_of_lifted lifted)) (λ k. []) (λ k. [])) }
     {
@@ -270,18 +270,23 @@ impl<'d> Walk<'d> {
     }
 
     /// Goes over the name of a declaration.
-    fn name(&mut self, place: Place, name: &'d [u8], lifted: Option<Lifted>) -> Result<(), NoMemory>
+    fn name_word(
+        &mut self,
+        place: Place,
+        name: &'d [u8],
+        lifted: Option<Lifted>,
+    ) -> Result<(), NoMemory>
         ensures { OnOk result ((around : List ℕ) → Reads self.old self.new (glossed (Name name.now)
             (name_roles (Some (place_in place around)) name.now ++ roles_of_lifted lifted) ∷ [])) }
     {
-        self.own(place, name)?;
-        self.lifted(lifted)?;
+        self.own_name(place, name)?;
+        self.inline_name(lifted)?;
         self.skip(1);
         Ok(())
     }
 
     /// Goes over the name of a declaration and what stands around it.
-    fn named(
+    fn declarator(
         &mut self,
         place: Place,
         name: &'d [u8],
@@ -293,13 +298,13 @@ impl<'d> Walk<'d> {
             (view_shape shape.now))) }
     {
         match shape {
-            Shape::Plain => self.name(place, name, lifted),
+            Shape::Plain => self.name_word(place, name, lifted),
             Shape::Optional => {
                 self.skip(1);
-                self.name(place, name, lifted)
+                self.name_word(place, name, lifted)
             }
             Shape::Array(length) => {
-                self.name(place, name, lifted)?;
+                self.name_word(place, name, lifted)?;
                 self.brackets(length)
             }
         }
@@ -477,18 +482,18 @@ impl<'d> Walk<'d> {
                 self.leading(place, declaration)?;
                 let usage = Use::of_type(shape);
                 let lifted = self.data_type(alloc, place, around, name, usage, data)?;
-                self.named(place, name, lifted, shape)
+                self.declarator(place, name, lifted, shape)
             }
             Declaration::Opaque { name, length } => {
                 self.leading(place, declaration)?;
                 self.skip(1);
-                self.name(place, name, None)?;
+                self.name_word(place, name, None)?;
                 self.brackets(length)
             }
             Declaration::String { name, most } => {
                 self.leading(place, declaration)?;
                 self.skip(1);
-                self.name(place, name, None)?;
+                self.name_word(place, name, None)?;
                 self.skip(1);
                 self.most(most)?;
                 self.skip(1);
@@ -605,7 +610,7 @@ impl<'d> Walk<'d> {
     }
 
     /// Goes over a result.
-    fn returned(&mut self, alloc: Global, returned: &'d Option<Argument>) -> Result<(), NoMemory>
+    fn result(&mut self, alloc: Global, returned: &'d Option<Argument>) -> Result<(), NoMemory>
         ensures { OnOk result (Reads self.old self.new
             (passed_by glossed true (VoidResult ∷ []) (view_passed returned.now))) }
     {
@@ -657,7 +662,7 @@ impl<'d> Walk<'d> {
         ensures { OnOk result (Reads self.old self.new
             (procedure_by glossed true (view_procedure procedure.now))) }
     {
-        self.returned(alloc, &procedure.result)?;
+        self.result(alloc, &procedure.result)?;
         self.skip(2);
         self.first_argument(alloc, &procedure.first, procedure.others.len())?;
         self.others(alloc, &procedure.others)?;
@@ -702,7 +707,7 @@ impl<'d> Walk<'d> {
     }
 
     /// Goes over a keyword and the name behind it, which is declared.
-    fn headed(&mut self, name: &'d [u8], kind: NameKind) -> Result<(), NoMemory>
+    fn head(&mut self, name: &'d [u8], kind: NameKind) -> Result<(), NoMemory>
         ensures { OnOk result (Finds self.old self.new 2
             (λ k. record { name = name.now; word = k + 1; kind = kind; lifted = false } ∷ []) (λ k. [])
             (λ k. [])) }
@@ -719,7 +724,7 @@ impl<'d> Walk<'d> {
     {
         match definition {
             Definition::Const { name, value } => {
-                self.headed(name, NameKind::Constant)?;
+                self.head(name, NameKind::Constant)?;
                 self.skip(1);
                 self.value(ValueRole::Constant, value)
             }
@@ -728,7 +733,7 @@ impl<'d> Walk<'d> {
                 self.declaration(alloc, Place::Typedef, b"", declaration)
             }
             Definition::NewType { name, body } => {
-                self.headed(name, NameKind::of_body(body))?;
+                self.head(name, NameKind::of_body(body))?;
                 self.body(alloc, name, body)
             }
             Definition::Program {
@@ -736,7 +741,7 @@ impl<'d> Walk<'d> {
                 versions,
                 number,
             } => {
-                self.headed(name, NameKind::Program)?;
+                self.head(name, NameKind::Program)?;
                 self.skip(1);
                 self.versions(alloc, versions)?;
                 self.skip(2);

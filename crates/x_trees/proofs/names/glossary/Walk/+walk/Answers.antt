@@ -100,20 +100,20 @@ declaration-returns-in_ok-lifted-in-Of t c =
     let front : Reads c.leading.new.self c.data_type.new.self (type_by glossed [] (Some (use_by shape)) (name_inside (Some place) name) type) =
     subst (λ n. Reads c.leading.new.self c.data_type.new.self (type_by glossed [] (Some (use_by shape)) (name_inside (Some place) n) type)) c.deref.ensures
     (subst (λ u. Reads c.leading.new.self c.data_type.new.self (type_by glossed [] (Some u) (name_inside (Some place) c.deref.result.now) type)) c.of_type-usage.ensures c.in_ok-lifted-in-Of.ensures.reads) in
-    on_ok_weaker c.named.result
-    (λ last. let behind : Reads c.data_type.new.self c.named.new.self (named_by glossed true (name_roles (Some place) name ++ lifted) name shape) =
-    subst (λ n. Reads c.data_type.new.self c.named.new.self (named_by glossed true (name_roles (Some place) n ++ lifted) n shape)) c.deref-in-Of.ensures (last c.args.around.now) in
+    on_ok_weaker c.declarator.result
+    (λ last. let behind : Reads c.data_type.new.self c.declarator.new.self (named_by glossed true (name_roles (Some place) name ++ lifted) name shape) =
+    subst (λ n. Reads c.data_type.new.self c.declarator.new.self (named_by glossed true (name_roles (Some place) n ++ lifted) n shape)) c.deref-in-Of.ensures (last c.args.around.now) in
     reads_declaration place is (reads_typed place type name shape lifted lifts (led_as place is (c.in_ok-leading-in-Of.ensures c.args.around.now)) front behind))
-    c.named.ensures
+    c.declarator.ensures
 
-pub declaration-returns-in_ok-name-in-Opaque : goal.declaration-returns-in_ok-name-in-Opaque
-declaration-returns-in_ok-name-in-Opaque t c =
+pub declaration-returns-in_ok-name_word-in-Opaque : goal.declaration-returns-in_ok-name_word-in-Opaque
+declaration-returns-in_ok-name_word-in-Opaque t c =
     let place = place_in c.args.place c.args.around.now in
     let name = c.in-Opaque.name.items in
     let d = Opaque name (view_length c.in-Opaque.length) in
     let is : view_declaration c.args.declaration.now ≡ d = ap view_declaration c.in-Opaque.is in
-    let own : Reads c.skip.new.self c.name.new.self (glossed (Name name) (name_roles (Some place) name ++ []) ∷ []) =
-    subst (λ n. Reads c.skip.new.self c.name.new.self (glossed (Name n) (name_roles (Some place) n ++ []) ∷ [])) c.deref-in-Opaque.ensures (c.in_ok-name-in-Opaque.ensures c.args.around.now) in
+    let own : Reads c.skip.new.self c.name_word.new.self (glossed (Name name) (name_roles (Some place) name ++ []) ∷ []) =
+    subst (λ n. Reads c.skip.new.self c.name_word.new.self (glossed (Name n) (name_roles (Some place) n ++ []) ∷ [])) c.deref-in-Opaque.ensures (c.in_ok-name_word-in-Opaque.ensures c.args.around.now) in
     on_ok_weaker c.brackets.result
     (λ last. reads_declaration place is (reads_next (reads_first place d _ (led_as place is (c.in_ok-leading-in-Opaque.ensures c.args.around.now)) c.skip.ensures)
     (reads_next (reads_own place name own) last)))
@@ -125,7 +125,7 @@ declaration-returns-in_ok-most-in-String t c =
     let name = c.in-String.name.items in
     let d = String name (view_most c.in-String.most) in
     let is : view_declaration c.args.declaration.now ≡ d = ap view_declaration c.in-String.is in
-    let own : Reads c.skip-in-String.new.self c.name-in-String.new.self (glossed (Name name) (name_roles (Some place) name ++ []) ∷ []) =
-    subst (λ n. Reads c.skip-in-String.new.self c.name-in-String.new.self (glossed (Name n) (name_roles (Some place) n ++ []) ∷ [])) c.deref-in-String.ensures (c.in_ok-name-in-String.ensures c.args.around.now) in
+    let own : Reads c.skip-in-String.new.self c.name_word-in-String.new.self (glossed (Name name) (name_roles (Some place) name ++ []) ∷ []) =
+    subst (λ n. Reads c.skip-in-String.new.self c.name_word-in-String.new.self (glossed (Name n) (name_roles (Some place) n ++ []) ∷ [])) c.deref-in-String.ensures (c.in_ok-name_word-in-String.ensures c.args.around.now) in
     reads_declaration place is (reads_next (reads_first place d _ (led_as place is (c.in_ok-leading-in-String.ensures c.args.around.now)) c.skip-in-String.ensures)
     (reads_next (reads_own place name own) (reads_next (reads c.skip-in-String-2.ensures) (reads_then c.in_ok-most-in-String.ensures (reads c.skip-in-String-3.ensures)))))

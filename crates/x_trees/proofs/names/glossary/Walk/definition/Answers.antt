@@ -17,14 +17,14 @@ returns-in-Typedef c =
     reads_all (Typedef d) (_ ∷ declaration_by glossed (Some InTypedef) d) _ refl (reads_next (reads c.skip-in-Typedef.ensures) inside))
     c.declaration.ensures)
 
-pub returns-in_ok-headed-in-NewType : goal.returns-in_ok-headed-in-NewType
-returns-in_ok-headed-in-NewType c =
+pub returns-in_ok-head-in-NewType : goal.returns-in_ok-head-in-NewType
+returns-in_ok-head-in-NewType c =
     let name = c.in-NewType.name.items in
     let body = view_body c.in-NewType.body in
-    let own = reads_headed _ name _ c.deref-in-NewType.ensures c.of_body.ensures c.in_ok-headed-in-NewType.ensures in
+    let own = reads_headed _ name _ c.deref-in-NewType.ensures c.of_body.ensures c.in_ok-head-in-NewType.ensures in
     subst (λ x. OnOk c.body.result (ReadsAll c.args.self.now c.body.new.self (view_definition x))) (sym c.in-NewType.is)
     (on_ok_weaker c.body.result
-    (λ x. let inside : Reads c.headed-in-NewType.new.self c.body.new.self (body_by glossed (Some name) body) = rw c.deref-in-NewType-2.ensures at x in
+    (λ x. let inside : Reads c.head-in-NewType.new.self c.body.new.self (body_by glossed (Some name) body) = rw c.deref-in-NewType-2.ensures at x in
     reads_all (NewType name body) (_ ∷ _ ∷ body_by glossed (Some name) body) _ refl (reads_then own inside))
     c.body.ensures)
 
@@ -33,7 +33,7 @@ returns-in_ok-versions-in-Program c =
     let name = c.in-Program.name.items in
     let versions = map view_version c.in-Program.versions.items in
     let text = c.in-Program.number.items in
-    let own = reads_headed _ name _ c.deref-in-Program.ensures refl c.in_ok-headed-in-Program.ensures in
+    let own = reads_headed _ name _ c.deref-in-Program.ensures refl c.in_ok-head-in-Program.ensures in
     let inside : Reads c.skip-in-Program.new.self c.versions.new.self (versions_by glossed true versions) = rw c.deref-in-Program-2.ensures.value at c.in_ok-versions-in-Program.ensures in
     subst (λ x. OnOk c.number.result (ReadsAll c.args.self.now c.number.new.self (view_definition x))) (sym c.in-Program.is)
     (on_ok_weaker c.number.result
