@@ -1,5 +1,5 @@
 -- How a dumper goes on.
-use Rattle.std.proofs.Common.{◌≡◌, ℕ, ◌+◌, ◌-◌, Bool, true, false, ◌||◌, List, [], ◌∷◌, ◌++◌, length, take, drop, refl, sym, ap, subst, ◌∙◌, append_assoc, append-nil, arith}
+use Rattle.std.proofs.Common.{◌≡◌, ℕ, ◌+◌, ◌-◌, ◌≤◌, Bool, true, false, ◌||◌, List, [], ◌∷◌, ◌++◌, length, take, drop, refl, sym, ap, subst, ◌∙◌, append_assoc, append-nil, arith}
 use Rattle.std.specs.Prelude.{Option, Some, None, Result, Ok, Err, OnErr}
 use Rattle.std.proofs.lemmas.List.{length-append, take_rest, take-append-drop}
 use Rattle.x_text.specs.Streams.{Stream}
@@ -238,10 +238,19 @@ pub taken_front : (s : Schema) (old mid : Dumper) (block rest read : List ℕ) (
     → HasTaken s old block rest mid p now q now' → r ≡ q → now'' ≡ now' → IsAt s read t old → TellsFront s read t block p now r now''
 taken_front s old mid block rest read t p q r now now' now'' h pen_same sink_same at =
     let k = h.tells read t at in
+    let whole : (read ++ h.front) ++ rest ≡ read ++ block = append_assoc read h.front rest ∙ ap (λ b. read ++ b) (sym h.block_is) in
+    let long = ap length (records_append read h.front) ∙ length-append (records read) (told (left read) h.front) in
     record {
       more = k.more;
-      is_front = subst (λ b. IsFrontText s b (then_told t k.more)) (append_assoc read h.front rest ∙ ap (λ b. read ++ b) (sym h.block_is))
-          (front_text s (read ++ h.front) rest (then_told t k.more) mid k.is_at);
+      is_front = record {
+        front = record {
+          told = records (read ++ h.front);
+          rest = told (left (read ++ h.front)) rest;
+          parts = sym (ap records whole) ∙ records_append (read ++ h.front) rest;
+          are = (k.is_at.has_told.calls, k.is_at.has_told.are);
+        };
+        all_before = omega (arith, long);
+      };
       added = subst (λ a. Adds p now a now'' k.more.text) (sym pen_same) (subst (λ a. Adds p now q a k.more.text) (sym sink_same) k.added);
     }
 

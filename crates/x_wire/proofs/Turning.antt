@@ -1,6 +1,7 @@
 -- How a stream goes on, block by block.
 use Rattle.std.proofs.Common.{◌≡◌, ℕ, zero, suc, ◌<◌, ◌≤◌, Bool, true, false, ◌||◌, List, [], ◌∷◌, ◌++◌, length, take, refl, sym, ap, subst, ◌∙◌, inl, inr, append_assoc, append-nil, arith}
 use Rattle.std.specs.Prelude.{Option, Some, None, Ok, Err, ◌⊎◌, IsErr, IsTrue}
+use Rattle.std.proofs.lemmas.List.{length-take}
 use Rattle.std.specs.Io.KnownBytes.{Consumes, IsAtEnd, Keeps}
 use Rattle.std.proofs.KnownBytes.{Appends-nil, Consumes-nil, Consumes-trans, Consumes-kept}
 use Rattle.x_text.specs.Streams.{Stream, FailsForGood}
@@ -16,7 +17,8 @@ use Rattle.x_wire.specs.Framers.{left_by}
 use Rattle.x_wire.specs.MessageTexts.{Told, plain, then_told}
 use Rattle.x_wire.specs.RecordFaults.{end_fault, fault_at}
 use Rattle.x_wire.specs.Records.{Left, left, records, told}
-use Rattle.x_wire.specs.StreamTexts.{IsTextOf, IsStreamText, IsFrontText, DumpsStream, HasText, end_told}
+use Rattle.x_wire.specs.Limits.{most_block}
+use Rattle.x_wire.specs.StreamTexts.{IsTextOf, IsStreamText, IsFrontText, IsTextToBlock, DumpsStream, HasText, end_told}
 use Rattle.x_wire.specs.declared.telling.dumper.Dumper.{Dumper}
 use Rattle.x_wire.specs.declared.telling.stream.Turn.{Turn}
 use Rattle.x_wire.specs.declared.telling.stream.Turn.TheVariants.{GoesOn, Ended, NoMemory}
@@ -31,12 +33,16 @@ some_taken zero xs h k = absurd (omega (arith, h))
 some_taken (suc n) [] h k = absurd (omega (arith, k))
 some_taken (suc n) (x ∷ xs) h k = omega arith
 
+pub few_taken : (n : ℕ) (xs : List ℕ) → length xs ≤ most_block → length (take n xs) ≤ most_block
+few_taken n xs h = let shorter = length-take n xs in omega (arith, shorter, h)
+
 -- the stream goes on
 pub turn_on : (s : Schema) (read piece : List ℕ) (t : Told) (before left : Option (List ℕ)) (new : Dumper) (p q : Inked) (now now' : Stream)
-    → Consumes before left piece → Tells s read t piece new p now q now' → IsUnder new → TellsTurn s read t before left GoesOn new p now q now'
-turn_on s read piece t before left new p q now now' come h under = record {
+    → Consumes before left piece → length piece ≤ most_block → Tells s read t piece new p now q now' → IsUnder new → TellsTurn s read t before left GoesOn new p now q now'
+turn_on s read piece t before left new p q now now' come few h under = record {
   taken = piece;
   come = come;
+  few = few;
   more = h.more;
   is_turn = (h.is_at, under);
   added = h.added;
@@ -44,10 +50,11 @@ turn_on s read piece t before left new p q now now' come h under = record {
 
 -- memory ran out
 pub turn_want : (s : Schema) (read piece : List ℕ) (t : Told) (before left : Option (List ℕ)) (new : Dumper) (p q : Inked) (now now' : Stream)
-    → Consumes before left piece → TellsFront s read t piece p now q now' → TellsTurn s read t before left NoMemory new p now q now'
-turn_want s read piece t before left new p q now now' come h = record {
+    → Consumes before left piece → length piece ≤ most_block → TellsFront s read t piece p now q now' → TellsTurn s read t before left NoMemory new p now q now'
+turn_want s read piece t before left new p q now now' come few h = record {
   taken = piece;
   come = come;
+  few = few;
   more = h.more;
   is_turn = h.is_front;
   added = h.added;
@@ -84,10 +91,10 @@ whole_of read later d goes count left_is either over end = elim either [
 
 -- how a stream ends of which nothing more counts
 pub turn_end : (s : Schema) (read piece : List ℕ) (t : Told) (before later : Option (List ℕ)) (d : Dumper) (outcome : Outcome) (p q r : Inked) (now now' now'' : Stream)
-    → Consumes before later piece → (h : Tells s read t piece d p now q now') → IsWhole (read ++ piece) later
+    → Consumes before later piece → length piece ≤ most_block → (h : Tells s read t piece d p now q now') → IsWhole (read ++ piece) later
     → Adds q now' r now'' (end_told (end_fault (left_by d.framer))).text → is_refused outcome ≡ (d.refused || (end_told (end_fault (left_by d.framer))).refused)
     → TellsTurn s read t before later (Ended outcome) d p now r now''
-turn_end s read piece t before later d outcome p q r now now' now'' come h whole added refused_is =
+turn_end s read piece t before later d outcome p q r now now' now'' come few h whole added refused_is =
     let end = end_told (end_fault (left_by d.framer)) in
     let whole_text : (stream : List ℕ) → Consumes (Some stream) later (read ++ piece) → IsStreamText s stream (then_told t (then_told h.more (end_told (end_fault (left_by d.framer))))) = λ stream k. (
       then_told t h.more,
@@ -97,6 +104,7 @@ turn_end s read piece t before later d outcome p q r now now' now'' come h whole
     record {
       taken = piece;
       come = come;
+      few = few;
       more = then_told h.more end;
       is_turn = (whole_text, refused_is ∙ ap (λ b. b || end.refused) h.is_at.has_told.refused_is ∙ ap (λ (a : Told). a.refused) (then_assoc t h.more end));
       added = adds_trans p q r now now' now'' h.more.text end.text h.added added;
@@ -133,9 +141,11 @@ run_start s start before d pen at is = record {
 -- behind a block: what it came to was passed on, or the sink has failed
 pub record HasTurned (s : Schema) (start : Stream) (before later : Option (List ℕ)) (turn : Turn) (d : Dumper) (pen : Inked) (now : Stream) : Type 0 where
   pub read : List ℕ
+  pub block : List ℕ
+  pub few : length block ≤ most_block
   pub text : Told
-  pub is_turn : IsTurn s read later turn text d
-  pub come : Consumes before later read
+  pub is_turn : IsTurn s read block later turn text d
+  pub come : Consumes before later (read ++ block)
   pub writes : Writes start text.text pen now
 
 pub turned : (s : Schema) (start : Stream) (before left later : Option (List ℕ)) (turn : Turn) (d new : Dumper) (p q r : Inked) (now now' now'' : Stream)
@@ -145,7 +155,9 @@ pub turned : (s : Schema) (start : Stream) (before left later : Option (List ℕ
 turned s start before left later turn d new p q r now now' now'' h tells flushed =
     let k = tells h.read h.text h.is_at in
     record {
-      read = h.read ++ k.taken;
+      read = h.read;
+      block = k.taken;
+      few = k.few;
       text = then_told h.text k.more;
       is_turn = k.is_turn;
       come = Consumes-trans before left later h.read k.taken h.come k.come;
@@ -157,10 +169,10 @@ pub run_on : (s : Schema) (start : Stream) (before later : Option (List ℕ)) (t
     → HasTurned s start before later turn d pen now → turn ≡ GoesOn → pen.stopped ≡ false → pen.pending ≡ [] → now.failed ≡ false
     → IsRunning s start before later d pen now
 run_on s start before later turn d pen now h is goes empty works = record {
-  read = h.read;
+  read = h.read ++ h.block;
   text = h.text;
-  is_at = (subst (λ u. IsTurn s h.read later u h.text d) is h.is_turn).0;
-  under = (subst (λ u. IsTurn s h.read later u h.text d) is h.is_turn).1;
+  is_at = (subst (λ u. IsTurn s h.read h.block later u h.text d) is h.is_turn).0;
+  under = (subst (λ u. IsTurn s h.read h.block later u h.text d) is h.is_turn).1;
   come = h.come;
   writes = h.writes;
   goes = goes;
@@ -186,11 +198,11 @@ read_front : (s : Schema) (read : List ℕ) (t : Told) (d : Dumper) → IsAt s r
 read_front s read t d h = subst (λ b. IsFrontText s b t) (append-nil read) (front_text s read [] t d h)
 
 -- a turn's text is that of a front or of the whole stream
-turn_text : (s : Schema) (stream read : List ℕ) (later : Option (List ℕ)) (turn : Turn) (t : Told) (d : Dumper) → Consumes (Some stream) later read
-    → IsTurn s read later turn t d → IsFrontText s stream t ⊎ IsStreamText s stream t
-turn_text s stream read later GoesOn t d come h = inl (front_of s stream read later t come (read_front s read t d h.0))
-turn_text s stream read later (Ended outcome) t d come h = inr (h.0 stream come)
-turn_text s stream read later NoMemory t d come h = inl (front_of s stream read later t come h)
+turn_text : (s : Schema) (stream read block : List ℕ) (later : Option (List ℕ)) (turn : Turn) (t : Told) (d : Dumper) → Consumes (Some stream) later (read ++ block)
+    → IsTurn s read block later turn t d → IsFrontText s stream t ⊎ IsStreamText s stream t
+turn_text s stream read block later GoesOn t d come h = inl (front_of s stream (read ++ block) later t come (read_front s (read ++ block) t d h.0))
+turn_text s stream read block later (Ended outcome) t d come h = inr (h.0 stream come)
+turn_text s stream read block later NoMemory t d come h = inl (front_of s stream (read ++ block) later t come h.front)
 
 -- what the tap told at the start
 known : (before later : Option (List ℕ)) (stream read : List ℕ) → before ≡ Some stream → Consumes before later read → Consumes (Some stream) later read
@@ -208,10 +220,12 @@ has_text t start now pen written writes goes empty is = record {
 pub none_dumped : (s : Schema) (stream : List ℕ) (later : Option (List ℕ)) (start : Stream) → later ≡ Some stream → DumpsStream s stream later start start (Err (faults.NoMemory 0))
 none_dumped s stream later start from = (
   [],
+  [],
   known later later stream [] from (Consumes-nil later),
+  omega arith,
   (
     plain [],
-    record { told = []; rest = records []; parts = refl; are = ([], (refl, refl)) },
+    record { front = record { told = []; rest = records []; parts = refl; are = ([], (refl, refl)) }; all_before = omega arith },
     record { taken = Appends-nil start.bytes; written_is = refl },
   ),
 )
@@ -237,8 +251,22 @@ pub stopped_dumped : (s : Schema) (start : Stream) (before later : Option (List 
     → IsRunning s start before later d pen now → written ≡ pen.written → before ≡ Some stream → DumpsStream s stream later start now (Err (faults.NoMemory written))
 stopped_dumped s start before later d pen now written stream h is from = (
   h.read,
-  known before later stream h.read from h.come,
-  (h.text, read_front s h.read h.text d h.is_at, has_text h.text start now pen written h.writes h.goes h.empty is),
+  [],
+  known before later stream (h.read ++ []) from (subst (λ b. Consumes before later b) (sym (append-nil h.read)) h.come),
+  omega arith,
+  (
+    h.text,
+    record {
+      front = record {
+        told = records h.read;
+        rest = told (left h.read) [];
+        parts = records_append h.read [];
+        are = (h.is_at.has_told.calls, h.is_at.has_told.are);
+      };
+      all_before = omega arith;
+    },
+    has_text h.text start now pen written h.writes h.goes h.empty is,
+  ),
 )
 
 -- the sink failed
@@ -248,7 +276,7 @@ pub unwritten_dumped : (s : Schema) (start : Stream) (before later : Option (Lis
 unwritten_dumped s start before later turn d pen now written stream h stops is from =
     subst (λ w. DumpsStream s stream later start now (Err (faults.Write w))) (sym is) (
       h.text,
-      turn_text s stream h.read later turn h.text d (known before later stream h.read from h.come) h.is_turn,
+      turn_text s stream h.read h.block later turn h.text d (known before later stream (h.read ++ h.block) from h.come) h.is_turn,
       front_written pen start now h.text.text stops h.writes,
     )
 
@@ -261,17 +289,19 @@ pub all_dumped : (s : Schema) (start : Stream) (before later : Option (List ℕ)
     → HasTurned s start before later turn d pen now → turn ≡ Ended outcome → pen.stopped ≡ false → pen.pending ≡ [] → before ≡ Some stream
     → DumpsStream s stream later start now (Ok outcome)
 all_dumped s start before later turn outcome d pen now stream h is goes empty from =
-    let end = subst (λ u. IsTurn s h.read later u h.text d) is h.is_turn in
-    (h.text, end.0 stream (known before later stream h.read from h.come), all_written pen start now h.text.text goes empty h.writes, end.1)
+    let end = subst (λ u. IsTurn s h.read h.block later u h.text d) is h.is_turn in
+    (h.text, end.0 stream (known before later stream (h.read ++ h.block) from h.come), all_written pen start now h.text.text goes empty h.writes, end.1)
 
 -- memory ran out
 pub want_dumped : (s : Schema) (start : Stream) (before later : Option (List ℕ)) (turn : Turn) (d : Dumper) (pen : Inked) (now : Stream) (written : ℕ) (stream : List ℕ)
     → HasTurned s start before later turn d pen now → turn ≡ NoMemory → pen.stopped ≡ false → pen.pending ≡ [] → written ≡ pen.written → before ≡ Some stream
     → DumpsStream s stream later start now (Err (faults.NoMemory written))
 want_dumped s start before later turn d pen now written stream h is goes empty written_is from =
-    let front : IsFrontText s h.read h.text = subst (λ u. IsTurn s h.read later u h.text d) is h.is_turn in (
+    let front : IsTextToBlock s h.read h.block h.text = subst (λ u. IsTurn s h.read h.block later u h.text d) is h.is_turn in (
       h.read,
-      known before later stream h.read from h.come,
+      h.block,
+      known before later stream (h.read ++ h.block) from h.come,
+      h.few,
       (h.text, front, has_text h.text start now pen written h.writes goes empty written_is),
     )
 

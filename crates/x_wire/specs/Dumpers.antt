@@ -10,7 +10,8 @@ use Rattle.x_wire.specs.Framers.{left_by}
 use Rattle.x_wire.specs.MessageTexts.{Told, then_told}
 use Rattle.x_wire.specs.RecordFaults.{fault_at}
 use Rattle.x_wire.specs.Records.{left, records}
-use Rattle.x_wire.specs.StreamTexts.{AreTold, IsStreamText, IsFrontText}
+use Rattle.x_wire.specs.Limits.{most_block}
+use Rattle.x_wire.specs.StreamTexts.{AreTold, IsStreamText, IsTextToBlock}
 use Rattle.x_wire.specs.Tellers.{Knows}
 use Rattle.x_wire.specs.declared.telling.dumper.Dumper.{Dumper}
 use Rattle.x_wire.specs.declared.telling.stream.Turn.{Turn}
@@ -49,7 +50,7 @@ pub record Tells (s : Schema) (read : List ℕ) (t : Told) (taken : List ℕ) (n
 pub record TellsFront (s : Schema) (read : List ℕ) (t : Told) (block : List ℕ)
     (p : Inked) (now : Stream) (q : Inked) (now' : Stream) : Type 0 where
   pub more : Told
-  pub is_front : IsFrontText s (read ++ block) (then_told t more)
+  pub is_front : IsTextToBlock s read block (then_told t more)
   pub added : Adds p now q now' more.text
 
 -- how many bytes of a piece were taken: at least one where there is one
@@ -76,14 +77,14 @@ abbrev pub IsOverAt : Option ℕ → Dumper → Type 0
 IsOverAt None dumper = IsOver dumper
 IsOverAt (Some used) dumper = IsUnder dumper
 
--- Where a turn leaves a stream of which these bytes were read and the tap has `left`: the texts of what was
--- read; or how the stream ends; or memory ran out, behind the texts of some records.
-abbrev pub IsTurn : Schema → (read : List ℕ) → (left : Option (List ℕ)) → Turn → Told → Dumper → Type 0
-IsTurn s read left GoesOn t new = IsAt s read t new × IsUnder new
-IsTurn s read left (Ended outcome) t new =
-    ((stream : List ℕ) → Consumes (Some stream) left read → IsStreamText s stream t)
+-- Where a turn leaves a stream of which these bytes were read, a block of them now, and the tap has `left`:
+-- the texts of what was read; or how the stream ends; or memory ran out, behind the texts of some records.
+abbrev pub IsTurn : Schema → (read block : List ℕ) → (left : Option (List ℕ)) → Turn → Told → Dumper → Type 0
+IsTurn s read block left GoesOn t new = IsAt s (read ++ block) t new × IsUnder new
+IsTurn s read block left (Ended outcome) t new =
+    ((stream : List ℕ) → Consumes (Some stream) left (read ++ block) → IsStreamText s stream t)
     × (is_refused outcome ≡ t.refused)
-IsTurn s read left NoMemory t new = IsFrontText s read t
+IsTurn s read block left NoMemory t new = IsTextToBlock s read block t
 
 -- a block was read and told
 pub record TellsTurn (s : Schema) (read : List ℕ) (t : Told) (before left : Option (List ℕ)) (turn : Turn)
@@ -91,6 +92,7 @@ pub record TellsTurn (s : Schema) (read : List ℕ) (t : Told) (before left : Op
     (p : Inked) (now : Stream) (q : Inked) (now' : Stream) : Type 0 where
   pub taken : List ℕ
   pub come : Consumes before left taken
+  pub few : length taken ≤ most_block
   pub more : Told
-  pub is_turn : IsTurn s (read ++ taken) left turn (then_told t more) new
+  pub is_turn : IsTurn s read taken left turn (then_told t more) new
   pub added : Adds p now q now' more.text

@@ -14,6 +14,10 @@ last_bit = 2147483648
 abbrev pub most_record : ℕ
 most_record = 1048576
 
+-- the most bytes of a stream that are read at a time (this project)
+abbrev pub most_block : ℕ
+most_block = 65536
+
 -- the most bytes of an authentication body (RFC 5531, section 8.2)
 abbrev pub most_auth_bytes : ℕ
 most_auth_bytes = 400

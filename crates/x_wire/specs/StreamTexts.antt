@@ -1,5 +1,6 @@
 -- What is printed of a stream, of a message and of a value.
-use Rattle.std.specs.Prelude.{◌≡◌, ℕ, ◌+◌, ◌⊎◌, List, [], ◌∷◌, ◌++◌, length, Option, Some, None, Result, Ok}
+use Rattle.std.specs.Prelude.{◌≡◌, ℕ, ◌+◌, ◌≤◌, ◌⊎◌, List, [], ◌∷◌, ◌++◌, length, Option, Some, None, Result}
+use Rattle.std.specs.Prelude.{Ok}
 use Rattle.std.specs.Prelude.{Err, codes}
 use Rattle.std.specs.Fmt.{decimal}
 use Rattle.std.specs.Io.KnownBytes.{Appends, Consumes}
@@ -11,6 +12,7 @@ use Rattle.x_text.specs.declared.outcome.Outcome.{Outcome}
 use Rattle.x_text.specs.declared.outcome.EngineFault.{EngineFault}
 use Rattle.x_text.specs.declared.outcome.EngineFault.TheVariants.{Read, Write, NoMemory}
 use Rattle.x_wire.specs.Calls.{Calls}
+use Rattle.x_wire.specs.Limits.{most_block}
 use Rattle.x_wire.specs.MessageTexts.{Told, plain, refused, then_told, IsMessageText}
 use Rattle.x_wire.specs.RecordFaults.{end_fault, fault_at, record_text}
 use Rattle.x_wire.specs.Records.{left, records}
@@ -49,6 +51,11 @@ pub record IsFrontText (s : Schema) (stream : List ℕ) (t : Told) : Type 0 wher
   pub parts : records stream ≡ told ++ rest
   pub are : IsTextOf s told t
 
+-- the texts of some of the stream's records, from the first on: of all that are whole before the last block
+pub record IsTextToBlock (s : Schema) (read block : List ℕ) (t : Told) : Type 0 where
+  pub front : IsFrontText s (read ++ block) t
+  pub all_before : length (records read) ≤ length front.told
+
 -- the sink has the whole text
 pub record HasText (t : Told) (before after : Stream) (written : ℕ) : Type 0 where
   pub taken : Appends before.bytes after.bytes t.text
@@ -56,8 +63,8 @@ pub record HasText (t : Told) (before after : Stream) (written : ℕ) : Type 0 w
 
 -- What is written of a stream, of which the tap has `later` then. A fault of the tap comes behind the texts
 -- of all records that are whole in what was read, in which no header takes its record over the limit; want of
--- memory behind those of some records of what was read, from the first on; and a fault of the sink within a
--- text or at its end.
+-- memory behind those of some records of what was read, from the first on, and of all that are whole before
+-- the last block that was read; and a fault of the sink within a text or at its end.
 abbrev pub DumpsStream : Schema → (stream : List ℕ) (later : Option (List ℕ)) (before after : Stream)
     → Result Outcome EngineFault → Type 0
 DumpsStream s stream later before after (Ok outcome) =
@@ -67,8 +74,9 @@ DumpsStream s stream later before after (Err (Read written)) =
     (read : List ℕ) × Consumes (Some stream) later read × (fault_at (left read).phase ≡ None)
     × ((t : Told) × IsTextOf s (records read) t × HasText t before after written)
 DumpsStream s stream later before after (Err (NoMemory written)) =
-    (read : List ℕ) × Consumes (Some stream) later read
-    × ((t : Told) × IsFrontText s read t × HasText t before after written)
+    (read : List ℕ) × (block : List ℕ) × Consumes (Some stream) later (read ++ block)
+    × (length block ≤ most_block)
+    × ((t : Told) × IsTextToBlock s read block t × HasText t before after written)
 DumpsStream s stream later before after (Err (Write written)) =
     (t : Told) × (IsFrontText s stream t ⊎ IsStreamText s stream t) × StopsWithin before after t.text written
 

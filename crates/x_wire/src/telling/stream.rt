@@ -1,10 +1,11 @@
 //! What is printed of a recorded stream.
-ghost use Rattle.std.specs.Prelude.{◌≡◌, ◌<◌, ℕ, List, length, IfOk, OnErr, MatchOption};
+ghost use Rattle.std.specs.Prelude.{◌≡◌, ◌<◌, ◌≤◌, ℕ, List, length, IfOk, OnErr, MatchOption};
 ghost use Rattle.std.specs.Io.KnownBytes.{Keeps};
 ghost use Rattle.x_text.specs.Engines.{NamesCause};
 ghost use Rattle.x_text.specs.Streams.{FailsForGood};
 ghost use Rattle.x_wire.specs.Dumpers.{IsAt, TellsTurn};
 ghost use Rattle.x_wire.specs.Framers.{IsOpen};
+ghost use Rattle.x_wire.specs.Limits.{most_block};
 ghost use Rattle.x_wire.specs.MessageTexts.{Told};
 ghost use Rattle.x_wire.specs.StreamTexts.{DumpsStream};
 
@@ -32,8 +33,11 @@ enum Turn {
 /// stream is read in blocks, and all that is kept of it is the open record and the last call of each xid.
 /// What is told of a block is written before the next one is read.
 ///
-/// # Errors The tap failed: the texts of all records that are whole in what was read are written. Memory ran
-/// out: the whole texts of the messages before are. The sink failed.
+/// # Errors
+///
+/// The tap failed: the texts of all records that are whole in what was read are written. Memory ran out: the
+/// whole texts of some messages are, and of all that were whole before the last block was read. The sink
+/// failed.
 pub fn dump_stream<R: Tap, S: Sink>(
     alloc: Global,
     schema: &Schema,
@@ -87,6 +91,7 @@ fn tell_block<R: Tap, S: Sink>(
 ) -> Result<Turn, Broken>
     requires is_open { IsOpen dumper.old.framer.phase }
     requires some { 0 < length block.old }
+    requires few { length block.old ≤ most_block }
     ensures is_open { IsOpen dumper.new.framer.phase }
     ensures told { IfOk result (λ turn. (read : List ℕ) (t : Told) → IsAt schema.now read t dumper.old →
         TellsTurn schema.now read t (R.state tap.old).bytes (R.state tap.new).bytes turn dumper.new

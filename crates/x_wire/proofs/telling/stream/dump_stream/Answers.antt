@@ -11,6 +11,7 @@ pub loop-init : goal.loop-init
 loop-init g c = record {
   is_open = c.new-dumper.ensures.is_open;
   room = (let h : vec_len c.in-Ok.block ≡ 65536 = c.in-Ok.ensures.len in omega (arith, h));
+  few = (let h : vec_len c.in-Ok.block ≡ 65536 = c.in-Ok.ensures.len in omega (arith, h));
   tap_is = refl;
   runs = run_start c.args.schema.now (g.S.Sink.state c.args.sink.now) (g.R.Tap.state c.args.tap.now).bytes c.new-dumper.result c.new-pen.result
       (c.new-dumper.ensures.at c.args.schema.now) c.new-pen.ensures;
@@ -123,6 +124,7 @@ loop-preserved g c =
     record {
       is_open = c.in-Ok-tell_block.ensures.is_open;
       room = c.loop.invariant.room;
+      few = c.loop.invariant.few;
       tap_is = tap_still (g.R.Tap.state c.loop.tap) (g.R.Tap.state c.tell_block.new.tap) c.in-Ok-tell_block.turn c.in-Ok-tell_block.ensures.fails ∙ c.loop.invariant.tap_is;
       runs = run_on c.args.schema.now start before later turn d pen now k c.in-GoesOn.is goes (c.flush.ensures.empty goes) (c.flush.ensures.working goes);
     }
