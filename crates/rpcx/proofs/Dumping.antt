@@ -3,17 +3,17 @@ use Rattle.std.proofs.Common.{◌≡◌, ◌∙◌, ℕ, ◌≤◌, ◌<◌, Boo
 use Rattle.std.specs.Prelude.{MatchOption, option_map, unwrap_or, IsErrAnd, IsErrOf}
 use Rattle.std.specs.Io.KnownBytes.{Consumes, IsAtEnd, Keeps}
 use Rattle.x_text.specs.Streams.{Stream}
-use Rattle.x_text.specs.declared.source.TheConstants.{MAX_TEXT}
+use Rattle.x_text.specs.declared.text.source.TheConstants.{MAX_TEXT}
 use Rattle.x_schema.specs.Schema.{Schema}
 use Rattle.x_session.specs.Session.{Compiles}
 use Rattle.x_session.specs.Compile.{faults_of}
 use Rattle.x_session.specs.Typed.{GivesSchema}
-use Rattle.x_text.specs.declared.outcome.Outcome.{Outcome}
+use Rattle.x_text.specs.declared.streams.outcome.Outcome.{Outcome}
 use Rattle.x_session.specs.declared.session.Session.{Session}
 use Rattle.x_args.proofs.Grown.{stays}
 use Rattle.rpcx.proofs.Unopened.{fits}
 use Rattle.rpcx.specs.Course.{course}
-use Rattle.rpcx.specs.Dumping.{HasTypes, IsFaultless, IsRead, Opens, ReadsAll, ReadsOn, Shows, ShowsFile}
+use Rattle.rpcx.specs.Dumping.{HasTypes, IsFaultless, IsWholeFile, Opens, ReadsAll, ReadsOn, Shows, ShowsFile}
 use Rattle.rpcx.specs.Dumping.{StopsAt}
 use Rattle.rpcx.specs.Generate.{NotOpened, told_faults}
 use Rattle.x_args.specs.Telling.{IsTold}
@@ -108,7 +108,7 @@ reads_more start mid now old new false h other front working = absurd (cc)
 
 -- all bytes of a file were read, and of them this holds
 whole : (file file' : Option (List ℕ)) (bytes : List ℕ) (P : List ℕ → Type 0) → Consumes file file' bytes → IsAtEnd file' → length bytes ≤ MAX_TEXT
-    → P bytes → MatchOption file (Unit {0}) (λ all. IsRead all file' × P all)
+    → P bytes → MatchOption file (Unit {0}) (λ all. IsWholeFile all file' × P all)
 whole None file' bytes P front end fits h = tt
 whole (Some all) None bytes P front end fits h = absurd front
 whole (Some all) (Some later) bytes P front end fits h =
@@ -116,7 +116,7 @@ whole (Some all) (Some later) bytes P front end fits h =
     (record { fits = subst (λ t. length t ≤ MAX_TEXT) same fits; none_left = ap Some end }, subst P same h)
 
 pub read_whole : (file file' : Stream) (bytes : List ℕ) (P : List ℕ → Type 0) → ReadsAll bytes file file' → P bytes
-    → MatchOption file.bytes (Unit {0}) (λ all. IsRead all file'.bytes × P all)
+    → MatchOption file.bytes (Unit {0}) (λ all. IsWholeFile all file'.bytes × P all)
 read_whole file file' bytes P h p = whole file.bytes file'.bytes bytes P h.read h.all h.fits p
 
 -- what was shown stays

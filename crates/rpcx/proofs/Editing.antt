@@ -3,15 +3,15 @@ use Rattle.std.proofs.Common.{◌≡◌, ◌↔◌, ◌<◌, ◌≤◌, ℕ, Boo
 use Rattle.std.proofs.Common.{Ok, Err, refl, sym, subst, ◌∙◌}
 use Rattle.std.specs.Prelude.{MatchOption, IsErrOf}
 use Rattle.x_text.specs.Streams.{Stream}
-use Rattle.x_text.specs.declared.fault.TextFault.{TextFault}
-use Rattle.x_text.specs.declared.fault.TextFault.TheVariants as faults
-use Rattle.x_text.specs.declared.source.TheConstants.{MAX_TEXT}
+use Rattle.x_text.specs.declared.text.fault.TextFault.{TextFault}
+use Rattle.x_text.specs.declared.text.fault.TextFault.TheVariants as faults
+use Rattle.x_text.specs.declared.text.source.TheConstants.{MAX_TEXT}
 use Rattle.x_session.specs.Session.{Document}
 use Rattle.x_lines.specs.Lines.{script_lines}
 use Rattle.x_session.specs.Script.{HasRun, Runs}
 use Rattle.x_text.specs.Engines.{is_refused, NamesCause}
-use Rattle.x_text.specs.declared.outcome.Outcome.{Outcome}
-use Rattle.x_text.specs.declared.outcome.EngineFault.{EngineFault}
+use Rattle.x_text.specs.declared.streams.outcome.Outcome.{Outcome}
+use Rattle.x_text.specs.declared.streams.outcome.EngineFault.{EngineFault}
 use Rattle.x_session.specs.declared.session.Session.{Session}
 use Rattle.rpcx.specs.Course.{course}
 use Rattle.rpcx.specs.Editing.{Answers, EndsBy, EndsEarly, status_of}

@@ -3,9 +3,9 @@ use Rattle.std.proofs.Common.{◌↔◌, ℕ, ◌+◌, ◌<◌, ◌≤◌, List,
 use Rattle.std.specs.Prelude.{IsErrOf}
 use Rattle.std.proofs.Math.Nat.{lt_of_not-le}
 use Rattle.x_text.specs.Streams.{Stream}
-use Rattle.x_text.specs.declared.fault.TextFault.{TextFault}
-use Rattle.x_text.specs.declared.fault.TextFault.TheVariants as faults
-use Rattle.x_text.specs.declared.source.TheConstants.{MAX_TEXT}
+use Rattle.x_text.specs.declared.text.fault.TextFault.{TextFault}
+use Rattle.x_text.specs.declared.text.fault.TextFault.TheVariants as faults
+use Rattle.x_text.specs.declared.text.source.TheConstants.{MAX_TEXT}
 use Rattle.x_session.specs.declared.session.Session.{Session}
 use Rattle.x_args.specs.Telling.{IsTold}
 use Rattle.rpcx.specs.Generate.{unopened_told, NotOpened, TooLarge, NoRoom}

@@ -12,9 +12,9 @@ use Rattle.x_session.specs.Compile.{definitions_of, faults_of}
 use Rattle.x_text.specs.Engines.{NamesCause}
 use Rattle.x_value.specs.ValueTexts.{WritesValue}
 use Rattle.x_session.specs.declared.compile.fault.Fault.{Fault}
-use Rattle.x_text.specs.declared.outcome.Outcome.{Outcome}
-use Rattle.x_text.specs.declared.outcome.Outcome.TheVariants.{Clean, Refused}
-use Rattle.x_text.specs.declared.outcome.EngineFault.{EngineFault}
+use Rattle.x_text.specs.declared.streams.outcome.Outcome.{Outcome}
+use Rattle.x_text.specs.declared.streams.outcome.Outcome.TheVariants.{Clean, Refused}
+use Rattle.x_text.specs.declared.streams.outcome.EngineFault.{EngineFault}
 use Rattle.x_wire.specs.StreamTexts.{DumpsMessage, DumpsStream}
 use Rattle.x_wire.specs.declared.nfs2.TheConstants.{NFS2_X}
 use Rattle.rpcx.specs.Course.{Course, IsIdle}
@@ -72,7 +72,7 @@ Opens file text before after (Err Done) = ⊥
 -- ---- what is shown
 
 -- all bytes were read, which are not too many
-pub record IsRead (bytes : List ℕ) (left : Option (List ℕ)) : Type 0 where
+pub record IsWholeFile (bytes : List ℕ) (left : Option (List ℕ)) : Type 0 where
   pub fits : length bytes ≤ most_text
   pub none_left : left ≡ Some []
 
@@ -89,9 +89,9 @@ abbrev pub Shows : Mode → (type : List ℕ) → Schema → (bytes : List ℕ) 
     → Result Outcome EngineFault → Type 0
 Shows modes.Stream type s bytes left before after result = DumpsStream s bytes left before after result
 Shows modes.Message type s bytes left before after result =
-    IsRead bytes left × DumpsMessage s bytes before after result
+    IsWholeFile bytes left × DumpsMessage s bytes before after result
 Shows modes.Value type s bytes left before after result =
-    IsRead bytes left × WritesNamed s type bytes before after result
+    IsWholeFile bytes left × WritesNamed s type bytes before after result
 
 -- the same of a file, where it tells its bytes
 abbrev pub ShowsFile : Mode → (type : List ℕ) → Schema → Course → Result Outcome EngineFault → Type 0

@@ -9,11 +9,11 @@ use Rattle.x_session.specs.declared.compile.fault.Fault.{Fault}
 use Rattle.x_session.specs.Session.{Compiles, Document}
 use Rattle.x_session.specs.Compile.{faults_of}
 use Rattle.x_session.specs.Faults.{fault_text}
-use Rattle.x_text.specs.declared.outcome.EngineFault.{EngineFault}
-use Rattle.x_text.specs.declared.outcome.EngineFault.TheVariants.{Read, Write, NoMemory}
+use Rattle.x_text.specs.declared.streams.outcome.EngineFault.{EngineFault}
+use Rattle.x_text.specs.declared.streams.outcome.EngineFault.TheVariants.{Read, Write, NoMemory}
 use Rattle.x_session.specs.Answers.{fault_place}
-use Rattle.x_text.specs.declared.fault.TextFault.{TextFault}
-use Rattle.x_text.specs.declared.fault.TextFault.TheVariants as faults
+use Rattle.x_text.specs.declared.text.fault.TextFault.{TextFault}
+use Rattle.x_text.specs.declared.text.fault.TextFault.TheVariants as faults
 use Rattle.x_text.specs.Limits.{most_text}
 use Rattle.x_args.specs.Telling.{IsTold, told_of}
 use Rattle.x_args.specs.declared.status.Status.{Status}

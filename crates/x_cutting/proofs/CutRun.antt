@@ -3,9 +3,9 @@ use Rattle.std.proofs.Common.{◌≡◌, ℕ, ◌+◌, ◌≤◌, Bool, true, fa
 use Rattle.std.proofs.lemmas.Bool.{cond-true, cond-false}
 use Rattle.std.proofs.lemmas.Bool.Decides.{nat_tests}
 use Rattle.std.proofs.lemmas.List.{map-append, length_push}
-use Rattle.x_text.specs.declared.source.TheConstants.{MAX_TEXT}
+use Rattle.x_text.specs.declared.text.source.TheConstants.{MAX_TEXT}
 use Rattle.x_lex.specs.Places.{Lexeme}
-use Rattle.x_cutting.specs.declared.cutting.entry.Entry.{Entry}
+use Rattle.x_cutting.specs.declared.cutting.item_entry.ItemEntry.{ItemEntry}
 use Rattle.x_cutting.specs.Items.{IsCut}
 use Rattle.x_cutting.specs.ItemList.{total, counts, AreOfText}
 use Rattle.x_cutting.specs.Cutting.{DepthRole, opening, closing, semicolon, plain, role_of, roles_of, depth_after, ends_at, counts_from}
@@ -77,5 +77,5 @@ cutting_fits all left found more depth count none pushed h fits =
     record { some = omega (arith, l); few = omega (arith, l, f, s, fits, n); short = omega (arith, t, s, fits, n) }
 
 -- an entry more
-pub counts_pushed : {K : Type 0} (entries more : List (Entry K)) (e : Entry K) (n : ℕ) → more ≡ entries ++ e ∷ [] → e.tokens ≡ n → counts more ≡ counts entries ++ n ∷ []
-counts_pushed {K} entries more e n pushed is = let f = λ (x : Entry K). x.tokens in ap counts pushed ∙ map-append f entries (e ∷ []) ∙ ap (λ k. counts entries ++ k ∷ []) is
+pub counts_pushed : {K : Type 0} (entries more : List (ItemEntry K)) (e : ItemEntry K) (n : ℕ) → more ≡ entries ++ e ∷ [] → e.tokens ≡ n → counts more ≡ counts entries ++ n ∷ []
+counts_pushed {K} entries more e n pushed is = let f = λ (x : ItemEntry K). x.tokens in ap counts pushed ∙ map-append f entries (e ∷ []) ∙ ap (λ k. counts entries ++ k ∷ []) is

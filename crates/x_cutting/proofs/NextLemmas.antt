@@ -2,7 +2,7 @@
 use Rattle.std.proofs.Common.{◌≡◌, ℕ, Bool, true, false, List, [], ◌∷◌, ◌++◌, map, refl, ap, sym, ◌∙◌, subst, append_assoc, true≢false}
 use Rattle.std.proofs.lemmas.List.{append-nil, map-append}
 use Rattle.x_lex.specs.Places.{Lexeme, lexeme}
-use Rattle.x_lex.specs.declared.token.Token.{Token}
+use Rattle.x_lex.specs.declared.tokens.token.Token.{Token}
 use Rattle.x_cutting.specs.Items.{HasNoEnd, IsNext, depth}
 use Rattle.x_cutting.specs.Cutting.{role_of, depth_after, ends_at}
 use Rattle.x_cutting.proofs.CuttingLemmas.{depth_next, ends_from, ends_yes}

@@ -5,7 +5,7 @@ use Rattle.std.specs.Bool.{beq}
 use Rattle.std.specs.List.{splice}
 use Rattle.std.proofs.lemmas.Bool.{cond-true, cond-false}
 use Rattle.std.proofs.lemmas.List.{length-map}
-use Rattle.x_text.specs.declared.source.TheConstants.{MAX_TEXT}
+use Rattle.x_text.specs.declared.text.source.TheConstants.{MAX_TEXT}
 use Rattle.x_text.specs.Edits.{Change}
 use Rattle.x_lex.specs.declared.kind.Kind.{Kind}
 use Rattle.x_lex.specs.Tiling.{end_of}
@@ -15,7 +15,7 @@ use Rattle.x_lex.specs.Places.{lexemes}
 use Rattle.x_lex.specs.Relex.{old_place}
 use Rattle.x_lex.proofs.RelexEnds.{tokens_fit}
 use Rattle.x_lex.proofs.RelexRun.{IsEdit}
-use Rattle.x_cutting.specs.declared.cutting.entry.Entry.{Entry}
+use Rattle.x_cutting.specs.declared.cutting.item_entry.ItemEntry.{ItemEntry}
 use Rattle.x_cutting.specs.ItemList.{total, counts, tokens_before, ItemChange, patched, AreOfText}
 use Rattle.x_cutting.specs.Items.{IsCut}
 use Rattle.x_cutting.specs.Cutting.{DepthRole, roles, counts_from, ends_at, depth_after}
@@ -38,7 +38,7 @@ few_items d n (r ∷ rs) = by (ends_at d r) refl (few_items 0 0 rs) (few_items (
     by true e one other = let c = ap length (cond-true (ends_at d r) ((n + 1) ∷ counts_from 0 0 rs) (counts_from (depth_after d r) (n + 1) rs) e) in omega (arith, c, one)
     by false e one other = let c = ap length (cond-false (ends_at d r) ((n + 1) ∷ counts_from 0 0 rs) (counts_from (depth_after d r) (n + 1) rs) e) in omega (arith, c, other)
 
-module _ {K : Type 0} (change : Change) (new : List ℕ) (ts : List (Kind × ℕ)) (items : List (Entry K)) (patch : TokenPatch) (rel : IsRelexed change new ts (counts items) patch) where
+module _ {K : Type 0} (change : Change) (new : List ℕ) (ts : List (Kind × ℕ)) (items : List (ItemEntry K)) (patch : TokenPatch) (rel : IsRelexed change new ts (counts items) patch) where
   abbrev us : List (Kind × ℕ)
   us = tokens.patched ts patch
 
@@ -52,7 +52,7 @@ module _ {K : Type 0} (change : Change) (new : List ℕ) (ts : List (Kind × ℕ
   items_are = cut_counts (lexemes change.old ts) (counts items) rel.items
 
   pub item_count : length items ≡ length (cut_of (roles change.old ts))
-  item_count = sym (length-map items (λ (e : Entry K). e.tokens)) ∙ ap length items_are
+  item_count = sym (length-map items (λ (e : ItemEntry K). e.tokens)) ∙ ap length items_are
 
   -- as many tokens as the items have
   pub token_count : total (counts items) ≡ length ts
@@ -73,7 +73,7 @@ module _ {K : Type 0} (change : Change) (new : List ℕ) (ts : List (Kind × ℕ
         omega (arith, l, e, at);
   }
 
-  module _ (k start : ℕ) (kept : Keeps (cut_of (roles change.old ts)) patch.at k start) (fresh : List (Entry K)) (end : ℕ) where
+  module _ (k start : ℕ) (kept : Keeps (cut_of (roles change.old ts)) patch.at k start) (fresh : List (ItemEntry K)) (end : ℕ) where
     abbrev made : ItemChange K
     made = record { at = k; removed = end - k; start = start; fresh = fresh }
 
@@ -89,10 +89,10 @@ module _ {K : Type 0} (change : Change) (new : List ℕ) (ts : List (Kind × ℕ
         ∙ sym h.are
 
     left_count : TheRecut → length (patched items made) ≡ length (cut_of (roles new us))
-    left_count h = sym (length-map (patched items made) (λ (e : Entry K). e.tokens)) ∙ ap length (left_are h)
+    left_count h = sym (length-map (patched items made) (λ (e : ItemEntry K). e.tokens)) ∙ ap length (left_are h)
 
     fresh_count : length (counts fresh) ≡ length fresh
-    fresh_count = length-map fresh (λ (e : Entry K). e.tokens)
+    fresh_count = length-map fresh (λ (e : ItemEntry K). e.tokens)
 
     -- the items of the new text are as few as a text can have
     made_fits : TheRecut → length new ≤ MAX_TEXT → AreOfText (counts (patched items made))
@@ -176,15 +176,15 @@ module _ {K : Type 0} (change : Change) (new : List ℕ) (ts : List (Kind × ℕ
     goes_fits h small = made_fits h.recut small
 
 -- what is known before the loop: what the edit did to the tokens of a text that isn't too long, and the items in front
-pub record Ready {K : Type 0} (change : Change) (text : List ℕ) (ts : List (Kind × ℕ)) (items : List (Entry K)) (patch : TokenPatch) (k start : ℕ) : Type 0 where
+pub record Ready {K : Type 0} (change : Change) (text : List ℕ) (ts : List (Kind × ℕ)) (items : List (ItemEntry K)) (patch : TokenPatch) (k start : ℕ) : Type 0 where
   pub rel : IsRelexed change text ts (counts items) patch
   pub small : length text ≤ MAX_TEXT
   pub kept : Keeps (cut_of (roles change.old ts)) patch.at k start
 
-pub relexed_as : {K : Type 0} (change : Change) (text new : List ℕ) (ts : List (Kind × ℕ)) (items : List (Entry K)) (patch : TokenPatch) → text ≡ new → IsRelexed change new ts (counts items) patch → IsRelexed change text ts (counts items) patch
+pub relexed_as : {K : Type 0} (change : Change) (text new : List ℕ) (ts : List (Kind × ℕ)) (items : List (ItemEntry K)) (patch : TokenPatch) → text ≡ new → IsRelexed change new ts (counts items) patch → IsRelexed change text ts (counts items) patch
 relexed_as change text new ts items patch same rel = subst (λ t. IsRelexed change t ts (counts items) patch) (sym same) rel
 
-pub ready : {K : Type 0} (change : Change) (text new : List ℕ) (ts : List (Kind × ℕ)) (items : List (Entry K)) (patch : TokenPatch) (k start x : ℕ) → text ≡ new → length new ≤ MAX_TEXT → IsRelexed change new ts (counts items) patch
+pub ready : {K : Type 0} (change : Change) (text new : List ℕ) (ts : List (Kind × ℕ)) (items : List (ItemEntry K)) (patch : TokenPatch) (k start x : ℕ) → text ≡ new → length new ≤ MAX_TEXT → IsRelexed change new ts (counts items) patch
     → x ≡ patch.at → k < length items → start ≡ tokens_before (counts items) k → start ≤ x → (k + 1 < length items → x < tokens_before (counts items) (k + 1)) → Ready change text ts items patch k start
 ready change text new ts items patch k start x same small rel at within is before next =
     let r = relexed_as change text new ts items patch same rel in
@@ -194,25 +194,25 @@ ready change text new ts items patch k start x same small rel at within is befor
       kept = keeps change text ts items patch r k start x at within is before next;
     }
 
-module _ {K : Type 0} (change : Change) (text : List ℕ) (ts : List (Kind × ℕ)) (items : List (Entry K)) (patch : TokenPatch) (k start : ℕ) (known : Ready change text ts items patch k start) where
+module _ {K : Type 0} (change : Change) (text : List ℕ) (ts : List (Kind × ℕ)) (items : List (ItemEntry K)) (patch : TokenPatch) (k start : ℕ) (known : Ready change text ts items patch k start) where
   abbrev all_meet : Meet (roles change.old ts) (roles text (tokens.patched ts patch)) patch.at (length patch.fresh) patch.removed
   all_meet = meet change text ts items patch known.rel
 
   -- the loop's state
-  abbrev pub State : List (Entry K) → ℕ → ℕ → ℕ → Type 0
+  abbrev pub State : List (ItemEntry K) → ℕ → ℕ → ℕ → Type 0
   State fresh index back back_index = Recutting (counts items) (roles text (tokens.patched ts patch)) patch.at (length patch.fresh) patch.removed k start (counts fresh) index back back_index
 
   -- by what running depth finds
-  abbrev Run : List (Entry K) → ℕ → ℕ → ℕ → Type 0
+  abbrev Run : List (ItemEntry K) → ℕ → ℕ → ℕ → Type 0
   Run fresh index back back_index = Recutting (cut_of (roles change.old ts)) (roles text (tokens.patched ts patch)) patch.at (length patch.fresh) patch.removed k start (counts fresh) index back back_index
 
   are : counts items ≡ cut_of (roles change.old ts)
   are = items_are change text ts items patch known.rel
 
-  run : (fresh : List (Entry K)) (index back back_index : ℕ) → State fresh index back back_index → Run fresh index back back_index
+  run : (fresh : List (ItemEntry K)) (index back back_index : ℕ) → State fresh index back back_index → Run fresh index back back_index
   run fresh index back back_index h = subst (λ cs. Recutting cs (roles text (tokens.patched ts patch)) patch.at (length patch.fresh) patch.removed k start (counts fresh) index back back_index) are h
 
-  state : (fresh : List (Entry K)) (index back back_index : ℕ) → Run fresh index back back_index → State fresh index back back_index
+  state : (fresh : List (ItemEntry K)) (index back back_index : ℕ) → Run fresh index back back_index → State fresh index back back_index
   state fresh index back back_index h = subst (λ cs. Recutting cs (roles text (tokens.patched ts patch)) patch.at (length patch.fresh) patch.removed k start (counts fresh) index back back_index) (sym are) h
 
   run_moved : (index back to to_index : ℕ) → Moved (counts items) patch.at (length patch.fresh) patch.removed index back to to_index → Moved (cut_of (roles change.old ts)) patch.at (length patch.fresh) patch.removed index back to to_index
@@ -227,23 +227,23 @@ module _ {K : Type 0} (change : Change) (text : List ℕ) (ts : List (Kind × �
   pub gone_within : patch.at + patch.removed ≤ length ts
   gone_within = let i = all_meet.in_old in let l = length-roles change.old ts in omega (arith, i, l)
 
-  pub index_within : (fresh : List (Entry K)) (index back back_index : ℕ) → State fresh index back back_index → index ≤ length (tokens.patched ts patch)
+  pub index_within : (fresh : List (ItemEntry K)) (index back back_index : ℕ) → State fresh index back back_index → index ≤ length (tokens.patched ts patch)
   index_within fresh index back back_index h = let w = h.within in let l = length-roles text (tokens.patched ts patch) in omega (arith, w, l)
 
-  pub back_within : (fresh : List (Entry K)) (index back back_index : ℕ) → State fresh index back back_index → back < length items
-  back_within fresh index back back_index h = let w = h.back_within in let n = length-map items (λ (e : Entry K). e.tokens) in omega (arith, w, n)
+  pub back_within : (fresh : List (ItemEntry K)) (index back back_index : ℕ) → State fresh index back back_index → back < length items
+  back_within fresh index back back_index h = let w = h.back_within in let n = length-map items (λ (e : ItemEntry K). e.tokens) in omega (arith, w, n)
 
-  pub back_is : (fresh : List (Entry K)) (index back back_index : ℕ) → State fresh index back back_index → back_index ≡ tokens_before (counts items) back
+  pub back_is : (fresh : List (ItemEntry K)) (index back back_index : ℕ) → State fresh index back back_index → back_index ≡ tokens_before (counts items) back
   back_is fresh index back back_index h = h.back_is
 
-  pub state_none : (fresh : List (Entry K)) → fresh ≡ [] → State fresh start k start
+  pub state_none : (fresh : List (ItemEntry K)) → fresh ≡ [] → State fresh start k start
   state_none fresh e = state fresh start k start (recutting_none (roles change.old ts) (roles text (tokens.patched ts patch)) patch.at (length patch.fresh) patch.removed all_meet k start known.kept (counts fresh) (ap counts e))
 
   pub place_start : (place : ℕ) → place ≡ end_of ts start → place ≡ end_of (tokens.patched ts patch) start
   place_start place e = e ∙ sym (front_end change text (edit change text ts items patch known.rel) ts known.rel.tokens patch known.rel.patch start known.kept.before)
 
   -- an item of the old ones was reached
-  pub reached : (fresh : List (Entry K)) (index back back_index to to_index target : ℕ) → State fresh index back back_index → target ≡ patch.at + patch.removed + (index - (patch.at + length patch.fresh)) → to < length items → to_index ≡ tokens_before (counts items) to
+  pub reached : (fresh : List (ItemEntry K)) (index back back_index to to_index target : ℕ) → State fresh index back back_index → target ≡ patch.at + patch.removed + (index - (patch.at + length patch.fresh)) → to < length items → to_index ≡ tokens_before (counts items) to
       → ((j : ℕ) → back ≤ j → j < to → tokens_before (counts items) j < target) → (to + 1 < length items → target ≤ to_index) → Advanced (counts items) patch.at (length patch.fresh) patch.removed index to to_index
   reached fresh index back back_index to to_index target h is within at below far =
       let n = item_count change text ts items patch known.rel in
@@ -257,13 +257,13 @@ module _ {K : Type 0} (change : Change) (text : List ℕ) (ts : List (Kind × �
   there_is to to_index e = e ∙ ap (λ l. tokens_before l to) (items_are change text ts items patch known.rel)
 
   pub counted_within : (to : ℕ) → to < length items → to < length (counts items)
-  counted_within to lt = let n = length-map items (λ (e : Entry K). e.tokens) in omega (arith, lt, n)
+  counted_within to lt = let n = length-map items (λ (e : ItemEntry K). e.tokens) in omega (arith, lt, n)
 
   pub there_within : (to : ℕ) → to < length items → to < length (cut_of (roles change.old ts))
   there_within to lt = let n = item_count change text ts items patch known.rel in omega (arith, lt, n)
 
   -- one item more
-  pub state_more : (fresh more : List (Entry K)) (entry : Entry K) (index count back back_index to to_index : ℕ) (whole : Bool) → State fresh index back back_index → Moved (counts items) patch.at (length patch.fresh) patch.removed index back to to_index
+  pub state_more : (fresh more : List (ItemEntry K)) (entry : ItemEntry K) (index count back back_index to to_index : ℕ) (whole : Bool) → State fresh index back back_index → Moved (counts items) patch.at (length patch.fresh) patch.removed index back to to_index
       → index + count ≤ length (tokens.patched ts patch) → counts_from 0 0 (drop index (roles text (tokens.patched ts patch))) ≡ count ∷ cond whole (counts_from 0 0 (drop (index + count) (roles text (tokens.patched ts patch)))) []
       → whole ≡ true → more ≡ fresh ++ entry ∷ [] → entry.tokens ≡ count → State more (index + count) to to_index
   state_more fresh more entry index count back back_index to to_index whole h moved fit item is pushed as_many =
@@ -287,7 +287,7 @@ module _ {K : Type 0} (change : Change) (text : List ℕ) (ts : List (Kind × �
       pub patch_is : IsItemPatch change ts (tokens.patched ts patch) items made
       pub fits : AreOfText (counts (patched items made))
 
-    pub made_joined : (fresh : List (Entry K)) (index back back_index to to_index target : ℕ) → State fresh index back back_index → back ≤ to → to < length items → to_index ≡ tokens_before (counts items) to
+    pub made_joined : (fresh : List (ItemEntry K)) (index back back_index to to_index target : ℕ) → State fresh index back back_index → back ≤ to → to < length items → to_index ≡ tokens_before (counts items) to
         → patch.at + length patch.fresh ≤ index → target ≡ patch.at + patch.removed + (index - (patch.at + length patch.fresh)) → to_index ≡ target → beq (index == 0) (target == 0) ≡ true → made ≡ record { at = k; removed = to - k; start = start; fresh = fresh } → IsMade
     made_joined fresh index back back_index to to_index target h forth within at far is there nil made_is =
         let stays = recut_joined (roles change.old ts) (roles text (tokens.patched ts patch)) patch.at (length patch.fresh) patch.removed all_meet k start known.kept (counts fresh) index back back_index to to_index (run fresh index back back_index h) forth (there_within to within) (there_is to to_index at) far (there ∙ is)
@@ -298,7 +298,7 @@ module _ {K : Type 0} (change : Change) (text : List ℕ) (ts : List (Kind × �
           fits = subst (λ p. AreOfText (counts (patched items p))) (sym made_is) (stays_fits change text ts items patch known.rel k start known.kept fresh to stays known.small);
         }
 
-    pub made_ended : (fresh more : List (Entry K)) (entry : Entry K) (index count back back_index to to_index end : ℕ) (whole : Bool) → State fresh index back back_index → Moved (counts items) patch.at (length patch.fresh) patch.removed index back to to_index
+    pub made_ended : (fresh more : List (ItemEntry K)) (entry : ItemEntry K) (index count back back_index to to_index end : ℕ) (whole : Bool) → State fresh index back back_index → Moved (counts items) patch.at (length patch.fresh) patch.removed index back to to_index
         → counts_from 0 0 (drop index (roles text (tokens.patched ts patch))) ≡ count ∷ cond whole (counts_from 0 0 (drop (index + count) (roles text (tokens.patched ts patch)))) []
         → whole ≡ false → more ≡ fresh ++ entry ∷ [] → entry.tokens ≡ count → end ≡ length items → made ≡ record { at = k; removed = end - k; start = start; fresh = more } → IsMade
     made_ended fresh more entry index count back back_index to to_index end whole h moved item is pushed as_many all made_is =

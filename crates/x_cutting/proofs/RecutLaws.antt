@@ -11,7 +11,7 @@ use Rattle.x_lex.specs.TokenList as tokens
 use Rattle.x_lex.specs.Places.{lexemes}
 use Rattle.x_lex.specs.Relex.{old_place}
 use Rattle.x_lex.proofs.MeetingLemmas.{same_meeting}
-use Rattle.x_cutting.specs.declared.cutting.entry.Entry.{Entry}
+use Rattle.x_cutting.specs.declared.cutting.item_entry.ItemEntry.{ItemEntry}
 use Rattle.x_cutting.specs.ItemList.{ItemChange, counts, patched, tokens_before}
 use Rattle.x_cutting.specs.Recut.{IsRelexed, IsItemPatch, IsRejoining, IsBehind, EndsBefore, AreOne, start_of}
 use Rattle.x_cutting.proofs.CountLemmas.{counts-splice}
@@ -40,7 +40,7 @@ same_rear n x y P le ge h g =
     (λ gt. let z = (h y (omega arith)).1 ((g y (omega arith)).0 (omega arith)) in absurd (omega (arith, z)))
     o) (cases_order x y)
 
-pub same_item_patch : {K : Type 0} (change : Change) (new : List ℕ) (ts : List (Kind × ℕ)) (items : List (Entry K)) (patch : TokenPatch) (p q : ItemChange K) → IsRelexed change new ts (counts items) patch
+pub same_item_patch : {K : Type 0} (change : Change) (new : List ℕ) (ts : List (Kind × ℕ)) (items : List (ItemEntry K)) (patch : TokenPatch) (p q : ItemChange K) → IsRelexed change new ts (counts items) patch
     → IsItemPatch change ts (tokens.patched ts patch) items p → IsItemPatch change ts (tokens.patched ts patch) items q → AreOne p q
 same_item_patch {K} change new ts items patch p q rel h g = record {
   at = same_at;

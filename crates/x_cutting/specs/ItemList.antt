@@ -1,20 +1,20 @@
 -- Items as they are kept, and what takes the place of some of them.
 use Rattle.std.specs.Prelude.{ℕ, ◌+◌, ◌<◌, ◌≤◌, List, length, map}
 use Rattle.x_text.specs.Lengths.{total_length, length_before, Patch}
-use Rattle.x_text.specs.declared.source.TheConstants.{MAX_TEXT}
-use Rattle.x_cutting.specs.declared.cutting.entry.Entry.{Entry}
+use Rattle.x_text.specs.declared.text.source.TheConstants.{MAX_TEXT}
+use Rattle.x_cutting.specs.declared.cutting.item_entry.ItemEntry.{ItemEntry}
 pub use Rattle.x_text.specs.Lengths.{patched, LiesAmong, HasRoom}
 
 -- how many tokens an item has
-abbrev pub tokens_in : {K : Type 0} → Entry K → ℕ
+abbrev pub tokens_in : {K : Type 0} → ItemEntry K → ℕ
 tokens_in entry = entry.tokens
 
 -- how many tokens each item has
-abbrev pub counts : {K : Type 0} → List (Entry K) → List ℕ
+abbrev pub counts : {K : Type 0} → List (ItemEntry K) → List ℕ
 counts entries = map tokens_in entries
 
 -- what is kept with each
-abbrev pub kept : {K : Type 0} → List (Entry K) → List K
+abbrev pub kept : {K : Type 0} → List (ItemEntry K) → List K
 kept entries = map (λ entry. entry.kept) entries
 
 -- how many tokens items have together, where each has so many
@@ -34,4 +34,4 @@ pub record AreOfText (cs : List ℕ) : Type 0 where
 -- fresh items in place of `removed` old ones from index `at` on; `start` is the index of the first token of
 -- the first of them
 abbrev pub ItemChange : Type 0 → Type 0
-ItemChange K = Patch (Entry K)
+ItemChange K = Patch (ItemEntry K)

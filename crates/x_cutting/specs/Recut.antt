@@ -10,7 +10,7 @@ use Rattle.x_lex.specs.TokenList.{TokenPatch}
 use Rattle.x_lex.specs.Relex.{Agrees, IsMeeting, IsPatch, old_place}
 use Rattle.x_cutting.specs.Items.{IsCut}
 use Rattle.x_cutting.specs.ItemList.{ItemChange, patched, LiesAmong, tokens_before, counts}
-use Rattle.x_cutting.specs.declared.cutting.entry.Entry.{Entry}
+use Rattle.x_cutting.specs.declared.cutting.item_entry.ItemEntry.{ItemEntry}
 
 -- the old text has these tokens, they are cut so, and the patch is what the change, which makes `new` of it,
 -- does to them
@@ -72,7 +72,7 @@ pub record IsAmong (i at end : ℕ) : Type 0 where
 
 -- the patch leaves the items of the new text; its fresh items are those that are recut; and of the old items
 -- it leaves those that end before a, in front, and those that start at the old place of z or behind it
-pub record IsItemPatch {K : Type 0} (change : Change) (ts us : List (Kind × ℕ)) (items : List (Entry K))
+pub record IsItemPatch {K : Type 0} (change : Change) (ts us : List (Kind × ℕ)) (items : List (ItemEntry K))
     (patch : ItemChange K) : Type 0 where
   pub among : LiesAmong items patch
   pub start : patch.start ≡ tokens_before (counts items) patch.at

@@ -2,12 +2,12 @@
 
 pub mod cut;
 mod cutter;
-mod entry;
+mod item_entry;
 mod item_patch;
 mod items;
 pub mod next_item;
 pub mod recut;
 
-pub use entry::Entry;
+pub use item_entry::ItemEntry;
 pub use item_patch::ItemPatch;
 pub use items::Items;

@@ -3,7 +3,7 @@ ghost use Rattle.x_text.specs.Edits.{Change};
 ghost use Rattle.x_lex.specs.declared.kind.Kind.{Kind};
 ghost use Rattle.x_lex.specs.Places.{Lexeme};
 ghost use Rattle.x_lex.specs.TokenList.{TokenPatch, patched};
-ghost use Rattle.x_cutting.specs.declared.cutting.entry.Entry.{Entry};
+ghost use Rattle.x_cutting.specs.declared.cutting.item_entry.ItemEntry.{ItemEntry};
 ghost use Rattle.x_cutting.specs.Items.{IsCut};
 ghost use Rattle.x_cutting.specs.ItemList.{ItemChange, counts};
 ghost use Rattle.x_cutting.specs.Recut.{IsRelexed, IsItemPatch, AreOne};
@@ -16,7 +16,7 @@ pub fn one_cut()
 
 /// What an edit does to the items of a text is determined by the items and the change.
 pub fn one_recut<K>()
-    ensures { (change : Change) (new : List ℕ) (ts : List (Kind × ℕ)) (items : List (Entry K))
+    ensures { (change : Change) (new : List ℕ) (ts : List (Kind × ℕ)) (items : List (ItemEntry K))
         (patch : TokenPatch) (p q : ItemChange K)
         → IsRelexed change new ts (counts items) patch
         → IsItemPatch change ts (patched ts patch) items p

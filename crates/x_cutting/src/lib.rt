@@ -8,5 +8,5 @@ mod laws;
 pub use cutting::cut::cut;
 pub use cutting::next_item::next_item;
 pub use cutting::recut::recut;
-pub use cutting::{Entry, ItemPatch, Items};
+pub use cutting::{ItemEntry, ItemPatch, Items};
 pub use laws::{one_cut, one_recut};

@@ -9,7 +9,7 @@ use Rattle.x_trees.specs.Tree as tree
 use Rattle.x_trees.specs.Spell.{spell, KeepsLimits, Begins}
 use Rattle.x_item.specs.Parse.{code_of, IsStuck}
 use Rattle.x_item.specs.Symbols.{Symbol, Item, step, go}
-use Rattle.x_item.specs.Reading.{Place, place_of, places_of, words_at, read, IsAt, IsRefused}
+use Rattle.x_item.specs.Reading.{WordAhead, place_of, places_of, words_at, read, IsAt, IsRefused}
 use Rattle.x_item.specs.declared.parsing.fault_code.FaultCode.{FaultCode}
 use Rattle.x_item.specs.declared.parsing.parse_error.ParseError.{ParseError}
 use Rattle.x_item.specs.declared.parsing.parse_error.ParseError.TheVariants as errors
@@ -48,7 +48,7 @@ words_places (t ∷ ts) =
     (cases_word t)
 
 -- a place of a word, and the token there
-record PlacedAt (tokens : List Lexeme) (gone : List Place) (at : Place) : Type 0 where
+record PlacedAt (tokens : List Lexeme) (gone : List WordAhead) (at : WordAhead) : Type 0 where
   front : List Lexeme
   token : Lexeme
   rear : List Lexeme
@@ -59,7 +59,7 @@ record PlacedAt (tokens : List Lexeme) (gone : List Place) (at : Place) : Type 0
   left : at.left ≡ suc (length rear)
   code : at.code ≡ code_of token.kind
 
-placed_here : (t : Lexeme) (ts : List Lexeme) (gone : List Place) (at : Place) (rest : List Place) → is_significant t.kind ≡ true → place_of t ts ∷ places_of ts ≡ gone ++ at ∷ rest → ((more : List Place) → places_of ts ≡ more ++ at ∷ rest → PlacedAt ts more at) → PlacedAt (t ∷ ts) gone at
+placed_here : (t : Lexeme) (ts : List Lexeme) (gone : List WordAhead) (at : WordAhead) (rest : List WordAhead) → is_significant t.kind ≡ true → place_of t ts ∷ places_of ts ≡ gone ++ at ∷ rest → ((more : List WordAhead) → places_of ts ≡ more ++ at ∷ rest → PlacedAt ts more at) → PlacedAt (t ∷ ts) gone at
 placed_here t ts [] at rest word e ih =
     let is : place_of t ts ≡ at = same_head e in
     record {
@@ -69,9 +69,9 @@ placed_here t ts [] at rest word e ih =
       parts = refl;
       is_word = word;
       words = refl;
-      word = ap (λ (p : Place). p.word) is;
-      left = ap (λ (p : Place). p.left) (sym is);
-      code = ap (λ (p : Place). p.code) (sym is);
+      word = ap (λ (p : WordAhead). p.word) is;
+      left = ap (λ (p : WordAhead). p.left) (sym is);
+      code = ap (λ (p : WordAhead). p.code) (sym is);
     }
 placed_here t ts (g ∷ gone) at rest word e ih =
     let is : place_of t ts ≡ g = same_head e in
@@ -82,13 +82,13 @@ placed_here t ts (g ∷ gone) at rest word e ih =
       rear = h.rear;
       parts = ap (λ x. t ∷ x) h.parts;
       is_word = h.is_word;
-      words = words_of-word t h.front word ∙ ap (λ x. word_of t ∷ x) h.words ∙ ap (λ (p : Place). p.word ∷ words_at gone) is;
+      words = words_of-word t h.front word ∙ ap (λ x. word_of t ∷ x) h.words ∙ ap (λ (p : WordAhead). p.word ∷ words_at gone) is;
       word = h.word;
       left = h.left;
       code = h.code;
     }
 
-placed_later : (t : Lexeme) (ts : List Lexeme) (gone : List Place) (at : Place) → is_significant t.kind ≡ false → PlacedAt ts gone at → PlacedAt (t ∷ ts) gone at
+placed_later : (t : Lexeme) (ts : List Lexeme) (gone : List WordAhead) (at : WordAhead) → is_significant t.kind ≡ false → PlacedAt ts gone at → PlacedAt (t ∷ ts) gone at
 placed_later t ts gone at other h = record {
   front = t ∷ h.front;
   token = h.token;
@@ -101,7 +101,7 @@ placed_later t ts gone at other h = record {
   code = h.code;
 }
 
-placed : (tokens : List Lexeme) (gone : List Place) (at : Place) (rest : List Place) → places_of tokens ≡ gone ++ at ∷ rest → PlacedAt tokens gone at
+placed : (tokens : List Lexeme) (gone : List WordAhead) (at : WordAhead) (rest : List WordAhead) → places_of tokens ≡ gone ++ at ∷ rest → PlacedAt tokens gone at
 placed [] gone at rest e = absurd (not_empty gone at rest e)
 placed (t ∷ ts) gone at rest e =
     ⊎_elim
@@ -110,20 +110,20 @@ placed (t ∷ ts) gone at rest e =
     (cases_word t)
 
 -- where reading stops at a place, the machine stops at its word
-record Cut (ss : List Symbol) (ps : List Place) (left : ℕ) (code : FaultCode) : Type 0 where
-  gone : List Place
-  at : Place
-  rest : List Place
+record Cut (ss : List Symbol) (ps : List WordAhead) (left : ℕ) (code : FaultCode) : Type 0 where
+  gone : List WordAhead
+  at : WordAhead
+  rest : List WordAhead
   parts : ps ≡ gone ++ at ∷ rest
   left_is : left ≡ at.left
   code_is : code ≡ at.code
   words : drive step ss (words_at ps) ≡ Err (suc (length (words_at rest)))
 
-driven : (s : Symbol) (ss : List Symbol) (p : Place) (ps : List Place) (o : Option (List Symbol)) → o ≡ step s p.word → drive step (s ∷ ss) (words_at (p ∷ ps)) ≡ go o (λ symbols. drive step (symbols ++ ss) (words_at ps)) (Err (suc (length (words_at ps))))
+driven : (s : Symbol) (ss : List Symbol) (p : WordAhead) (ps : List WordAhead) (o : Option (List Symbol)) → o ≡ step s p.word → drive step (s ∷ ss) (words_at (p ∷ ps)) ≡ go o (λ symbols. drive step (symbols ++ ss) (words_at ps)) (Err (suc (length (words_at ps))))
 driven s ss p ps o is =
     ap (λ (o : Option (List Symbol)). go o (λ symbols. drive step (symbols ++ ss) (words_at ps)) (Err (suc (length (words_at ps))))) (sym is)
 
-halts_step : (s : Symbol) (ss : List Symbol) (p : Place) (ps : List Place) (left : ℕ) (code : FaultCode) (o : Option (List Symbol)) → o ≡ step s p.word → ((rr : List Symbol) → read rr ps ≡ Err (errors.Stuck left code) → Cut rr ps left code) → go o (λ symbols. read (symbols ++ ss) ps) (Err (errors.Stuck p.left p.code)) ≡ Err (errors.Stuck left code) → Cut (s ∷ ss) (p ∷ ps) left code
+halts_step : (s : Symbol) (ss : List Symbol) (p : WordAhead) (ps : List WordAhead) (left : ℕ) (code : FaultCode) (o : Option (List Symbol)) → o ≡ step s p.word → ((rr : List Symbol) → read rr ps ≡ Err (errors.Stuck left code) → Cut rr ps left code) → go o (λ symbols. read (symbols ++ ss) ps) (Err (errors.Stuck p.left p.code)) ≡ Err (errors.Stuck left code) → Cut (s ∷ ss) (p ∷ ps) left code
 halts_step s ss p ps left code None is ih e = record {
   gone = [];
   at = p;
@@ -145,32 +145,32 @@ halts_step s ss p ps left code (Some rhs) is ih e =
       words = driven s ss p ps (Some rhs) is ∙ h.words;
     }
 
-halts : (ps : List Place) (ss : List Symbol) (left : ℕ) (code : FaultCode) → read ss ps ≡ Err (errors.Stuck left code) → Cut ss ps left code
+halts : (ps : List WordAhead) (ss : List Symbol) (left : ℕ) (code : FaultCode) → read ss ps ≡ Err (errors.Stuck left code) → Cut ss ps left code
 halts ps [] left code e = cc
 halts [] (s ∷ ss) left code e = cc
 halts (p ∷ ps) (s ∷ ss) left code e = halts_step s ss p ps left code (step s p.word) refl (λ rr f. halts ps rr left code f) e
 
-ends_step : (s : Symbol) (ss : List Symbol) (p : Place) (ps : List Place) (o : Option (List Symbol)) → o ≡ step s p.word → ((rr : List Symbol) → read rr ps ≡ Err errors.AtEnd → drive step rr (words_at ps) ≡ Err 0) → go o (λ symbols. read (symbols ++ ss) ps) (Err (errors.Stuck p.left p.code)) ≡ Err errors.AtEnd → drive step (s ∷ ss) (words_at (p ∷ ps)) ≡ Err 0
+ends_step : (s : Symbol) (ss : List Symbol) (p : WordAhead) (ps : List WordAhead) (o : Option (List Symbol)) → o ≡ step s p.word → ((rr : List Symbol) → read rr ps ≡ Err errors.AtEnd → drive step rr (words_at ps) ≡ Err 0) → go o (λ symbols. read (symbols ++ ss) ps) (Err (errors.Stuck p.left p.code)) ≡ Err errors.AtEnd → drive step (s ∷ ss) (words_at (p ∷ ps)) ≡ Err 0
 ends_step s ss p ps None is ih e = cc
 ends_step s ss p ps (Some rhs) is ih e = driven s ss p ps (Some rhs) is ∙ ih (rhs ++ ss) e
 
-ends_words : (ps : List Place) (ss : List Symbol) → read ss ps ≡ Err errors.AtEnd → drive step ss (words_at ps) ≡ Err 0
+ends_words : (ps : List WordAhead) (ss : List Symbol) → read ss ps ≡ Err errors.AtEnd → drive step ss (words_at ps) ≡ Err 0
 ends_words ps [] e = cc
 ends_words [] (s ∷ ss) e = refl
 ends_words (p ∷ ps) (s ∷ ss) e = ends_step s ss p ps (step s p.word) refl (λ rr f. ends_words ps rr f) e
 
 -- what is left is a rear of the places
-record Rear (ps rest : List Place) : Type 0 where
-  gone : List Place
+record Rear (ps rest : List WordAhead) : Type 0 where
+  gone : List WordAhead
   parts : ps ≡ gone ++ rest
 
-rear_step : (ss : List Symbol) (p : Place) (ps rest : List Place) (o : Option (List Symbol)) (stop : ParseError) → ((rr : List Symbol) → read rr ps ≡ Ok rest → Rear ps rest) → go o (λ symbols. read (symbols ++ ss) ps) (Err stop) ≡ Ok rest → Rear (p ∷ ps) rest
+rear_step : (ss : List Symbol) (p : WordAhead) (ps rest : List WordAhead) (o : Option (List Symbol)) (stop : ParseError) → ((rr : List Symbol) → read rr ps ≡ Ok rest → Rear ps rest) → go o (λ symbols. read (symbols ++ ss) ps) (Err stop) ≡ Ok rest → Rear (p ∷ ps) rest
 rear_step ss p ps rest None stop ih e = cc
 rear_step ss p ps rest (Some rhs) stop ih e =
     let h = ih (rhs ++ ss) e in
     record { gone = p ∷ h.gone; parts = ap (λ x. p ∷ x) h.parts }
 
-rear_of : (ps : List Place) (ss : List Symbol) (rest : List Place) → read ss ps ≡ Ok rest → Rear ps rest
+rear_of : (ps : List WordAhead) (ss : List Symbol) (rest : List WordAhead) → read ss ps ≡ Ok rest → Rear ps rest
 rear_of ps [] rest e = record { gone = []; parts = cc }
 rear_of [] (s ∷ ss) rest e = cc
 rear_of (p ∷ ps) (s ∷ ss) rest e = rear_step ss p ps rest (step s p.word) (errors.Stuck p.left p.code) (λ rr f. rear_of ps rr rest f) e
@@ -194,7 +194,7 @@ none_behind d e p q w more same =
     cc
 
 -- a fault at a place
-fault_at : (item : List Lexeme) (gone : List Place) (at : Place) (left : ℕ) (code : FaultCode) → PlacedAt item gone at → left ≡ at.left → code ≡ at.code → Begins (words_at gone) → (Begins (words_at gone ++ at.word ∷ []) → ⊥) → (left ≤ length item) × IsStuck item (length item - left) code
+fault_at : (item : List Lexeme) (gone : List WordAhead) (at : WordAhead) (left : ℕ) (code : FaultCode) → PlacedAt item gone at → left ≡ at.left → code ≡ at.code → Begins (words_at gone) → (Begins (words_at gone ++ at.word ∷ []) → ⊥) → (left ≤ length item) × IsStuck item (length item - left) code
 fault_at item gone at left code h left_is code_is before here =
     let tokens : length item ≡ length h.front + suc (length h.rear) = ap length h.parts ∙ length-append h.front (h.token ∷ h.rear) in
     let within : left ≤ length item = omega (arith, h.left, left_is) in (
@@ -212,8 +212,8 @@ fault_at item gone at left code h left_is code_is before here =
       },
     )
 
-words_cut : (ps gone : List Place) (at : Place) (rest : List Place) → ps ≡ gone ++ at ∷ rest → words_at ps ≡ words_at gone ++ at.word ∷ words_at rest
-words_cut ps gone at rest e = ap words_at e ∙ map-append (λ (p : Place). p.word) gone (at ∷ rest)
+words_cut : (ps gone : List WordAhead) (at : WordAhead) (rest : List WordAhead) → ps ≡ gone ++ at ∷ rest → words_at ps ≡ words_at gone ++ at.word ∷ words_at rest
+words_cut ps gone at rest e = ap words_at e ∙ map-append (λ (p : WordAhead). p.word) gone (at ∷ rest)
 
 stuck_cut : (item : List Lexeme) (left : ℕ) (code : FaultCode) → Cut (Item ∷ []) (places_of item) left code → (left ≤ length item) × IsStuck item (length item - left) code
 stuck_cut item left code h =
@@ -243,7 +243,7 @@ refused item errors.AtEnd f = ended item (ends_words (places_of item) (Item ∷ 
 refused item (errors.Stuck left code) f = stuck_cut item left code (halts (places_of item) (Item ∷ []) left code f)
 
 -- an item with a word after a definition
-pub behind : (d : tree.Definition) (item : List Lexeme) (at : Place) (rest : List Place) → KeepsLimits d → words_at (places_of item) ≡ spell d ++ words_at (at ∷ rest) → read (Item ∷ []) (places_of item) ≡ read [] (at ∷ rest) → IsRefused item (errors.Stuck at.left at.code)
+pub behind : (d : tree.Definition) (item : List Lexeme) (at : WordAhead) (rest : List WordAhead) → KeepsLimits d → words_at (places_of item) ≡ spell d ++ words_at (at ∷ rest) → read (Item ∷ []) (places_of item) ≡ read [] (at ∷ rest) → IsRefused item (errors.Stuck at.left at.code)
 behind d item at rest p spelled leads =
     let r = rear_of (places_of item) (Item ∷ []) (at ∷ rest) leads in
     let gone : words_at r.gone ≡ spell d = append_cancel_right (words_at r.gone) (spell d) (words_at (at ∷ rest)) (sym (words_cut (places_of item) r.gone at rest r.parts) ∙ spelled) in

@@ -2,12 +2,12 @@
 use Rattle.std.proofs.Common.{◌≡◌, List, [], ◌∷◌, ◌++◌, map, ap, sym, subst, ◌∙◌}
 use Rattle.std.proofs.lemmas.List.{append-nil}
 use Rattle.x_lex.specs.Places.{lexeme}
-use Rattle.x_lex.specs.declared.token.Token.{Token}
+use Rattle.x_lex.specs.declared.tokens.token.Token.{Token}
 use Rattle.x_trees.specs.Words.{word_of, words_of}
 use Rattle.x_trees.specs.Tree.{Definition}
 use Rattle.x_trees.specs.Spell.{spell, KeepsLimits}
 use Rattle.x_item.specs.Symbols.{Item}
-use Rattle.x_item.specs.Reading.{Place, ahead, words_at, left_in, code_in, read, Fails, IsPart, IsSplit, IsBefore, IsRefused}
+use Rattle.x_item.specs.Reading.{WordAhead, ahead, words_at, left_in, code_in, read, Fails, IsPart, IsSplit, IsBefore, IsRefused}
 use Rattle.x_item.specs.declared.parsing.parse_error.ParseError.{ParseError}
 use Rattle.x_item.specs.declared.parsing.parse_error.ParseError.TheVariants as errors
 use Rattle.x_item.proofs.FaultLemmas.{words_places, refused, behind}
@@ -24,7 +24,7 @@ refused_at tokens e fails = refused (map lexeme tokens) e (fails.by [])
 refused_behind : (tokens rest after : List Token) (token : Token) (d : Definition) → KeepsLimits d → IsPart Item tokens (spell d) rest → IsSplit rest token after → IsRefused (map lexeme tokens) (errors.Stuck (left_in rest) (code_in rest))
 unfolding ahead
 refused_behind tokens rest after token d fits part split =
-    let at : Place = record { word = word_of (lexeme token); left = left_in rest; code = code_in rest } in
+    let at : WordAhead = record { word = word_of (lexeme token); left = left_in rest; code = code_in rest } in
     behind d (map lexeme tokens) at (ahead after) fits (part.found ∙ ap (λ r. spell d ++ words_at r) split.all)
     (part.leads [] ∙ ap (λ r. read [] r) split.all)
 

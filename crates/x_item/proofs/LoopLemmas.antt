@@ -3,7 +3,7 @@ use Rattle.std.proofs.Common.{◌≡◌, ◌≢◌, ℕ, zero, suc, ◌+◌, ◌
 use Rattle.std.proofs.lemmas.List.{append-nil, map-append}
 use Rattle.std.specs.Result.{IfOk, IfErr}
 use Rattle.std.proofs.lemmas.Result.{IfOk-weaker, IfErr-weaker}
-use Rattle.x_lex.specs.declared.token.Token.{Token as LexToken}
+use Rattle.x_lex.specs.declared.tokens.token.Token.{Token as LexToken}
 use Rattle.x_trees.specs.Words.{Word, Fixed, Name}
 use Rattle.x_trees.specs.Tree as tree
 use Rattle.x_trees.specs.Gloss.{tag_mark, spell_value}
@@ -25,7 +25,7 @@ use Rattle.x_item.specs.declared.parsing.words.Word.TheVariants as words
 use Rattle.x_item.specs.declared.parsing.parse_error.ParseError.{ParseError}
 use Rattle.x_item.specs.declared.parsing.parse_error.ParseError.TheVariants as errors
 use Rattle.x_item.specs.Symbols.{Symbol, Context, InDeclaration, Token, AnyName, AnyValue, AnyLength, AfterLess, AfterName, AfterType, AfterUnsigned, Typed, AfterTag, AnyBody, Enumerators, AfterEnumerator, MoreEnumerators, Declared, Declarations, MoreDeclarations, Arms, AfterCase, MoreArms, ending_mark, followed, go, step_declared}
-use Rattle.x_item.specs.Reading.{view_word, Place, HasFirst, LacksFirst, IsRead, Fails, read, spell_ended, spell_arm}
+use Rattle.x_item.specs.Reading.{view_word, WordAhead, HasFirst, LacksFirst, ReadsPart, Fails, read, spell_ended, spell_arm}
 use Rattle.x_item.proofs.ReadLemmas.{Alike, alike, alike_first, alike_where, alike_other, alike_neither, headed, read_as, read_first, read_then, read_after, fails_then}
 
 -- no word that is no name is one
@@ -40,7 +40,7 @@ pub one_only : {A : Type 0} (none xs : List A) (x : A) → none ≡ [] → xs �
 one_only none xs x is pushed = pushed ∙ ap (λ ys. ys ++ x ∷ []) is
 
 -- what stands between `<` and `>`
-after_less_is : (w : Word) (left : ℕ) (code : FaultCode) (ps : List Place) (ss : List Symbol) → w ≢ Fixed marks.Greater → read (AfterLess ∷ ss) (headed w left code ps) ≡ read (AnyValue ∷ Token marks.Greater ∷ ss) (headed w left code ps)
+after_less_is : (w : Word) (left : ℕ) (code : FaultCode) (ps : List WordAhead) (ss : List Symbol) → w ≢ Fixed marks.Greater → read (AfterLess ∷ ss) (headed w left code ps) ≡ read (AnyValue ∷ Token marks.Greater ∷ ss) (headed w left code ps)
 after_less_is (Fixed marks.Greater) left code ps ss h = absurd (h refl)
 after_less_is w left code ps ss h = refl
 
@@ -48,7 +48,7 @@ pub after_less : {tokens : List LexToken} → LacksFirst tokens (Fixed marks.Gre
 after_less other = alike_other other after_less_is
 
 -- a length that is no `<`
-any_length_is : (w : Word) (left : ℕ) (code : FaultCode) (ps : List Place) (ss : List Symbol) → w ≢ Fixed marks.Less → read (AnyLength ∷ ss) (headed w left code ps) ≡ read (Token marks.OpenBracket ∷ AnyValue ∷ Token marks.CloseBracket ∷ ss) (headed w left code ps)
+any_length_is : (w : Word) (left : ℕ) (code : FaultCode) (ps : List WordAhead) (ss : List Symbol) → w ≢ Fixed marks.Less → read (AnyLength ∷ ss) (headed w left code ps) ≡ read (Token marks.OpenBracket ∷ AnyValue ∷ Token marks.CloseBracket ∷ ss) (headed w left code ps)
 any_length_is (Fixed marks.Less) left code ps ss h = absurd (h refl)
 any_length_is (Fixed m) left code ps ss h = refl
 any_length_is w left code ps ss h = refl
@@ -57,11 +57,11 @@ pub any_length : {tokens : List LexToken} → LacksFirst tokens (Fixed marks.Les
 any_length other = alike_other other any_length_is
 
 -- after a name, at an ending and at none
-pub ended_name : (e : Ending) {m : Mark} {tokens rest : List LexToken} → m ≡ ending_mark e → HasFirst tokens (Fixed m) rest → IsRead [] (AfterName e ∷ []) tokens (Fixed (ending_mark e) ∷ []) [] rest
+pub ended_name : (e : Ending) {m : Mark} {tokens rest : List LexToken} → m ≡ ending_mark e → HasFirst tokens (Fixed m) rest → ReadsPart [] (AfterName e ∷ []) tokens (Fixed (ending_mark e) ∷ []) [] rest
 ended_name endings.Semicolon is first = read_first (Fixed marks.Semicolon) first (ap Fixed is) (λ left code ps ss. refl)
 ended_name endings.Parenthesis is first = read_first (Fixed marks.CloseParenthesis) first (ap Fixed is) (λ left code ps ss. refl)
 
-after_name_is : (e : Ending) (w : Word) (left : ℕ) (code : FaultCode) (ps : List Place) (ss : List Symbol) → w ≢ Fixed (ending_mark e) → read (AfterName e ∷ ss) (headed w left code ps) ≡ read (AnyLength ∷ Token (ending_mark e) ∷ ss) (headed w left code ps)
+after_name_is : (e : Ending) (w : Word) (left : ℕ) (code : FaultCode) (ps : List WordAhead) (ss : List Symbol) → w ≢ Fixed (ending_mark e) → read (AfterName e ∷ ss) (headed w left code ps) ≡ read (AnyLength ∷ Token (ending_mark e) ∷ ss) (headed w left code ps)
 after_name_is endings.Semicolon (Fixed marks.Semicolon) left code ps ss h = absurd (h refl)
 after_name_is endings.Semicolon (Fixed m) left code ps ss h = refl
 after_name_is endings.Parenthesis (Fixed marks.CloseParenthesis) left code ps ss h = absurd (h refl)
@@ -73,7 +73,7 @@ after_name e {tokens = tokens} is other =
     alike_other (subst (λ k. LacksFirst tokens (Fixed k)) is other) (after_name_is e)
 
 -- a declaration's name, with no star
-named_is : (e : Ending) (w : Word) (left : ℕ) (code : FaultCode) (ps : List Place) (ss : List Symbol) → w ≢ Fixed marks.Star → read (AfterType (InDeclaration e) ∷ ss) (headed w left code ps) ≡ read (AnyName ∷ AfterName e ∷ ss) (headed w left code ps)
+named_is : (e : Ending) (w : Word) (left : ℕ) (code : FaultCode) (ps : List WordAhead) (ss : List Symbol) → w ≢ Fixed marks.Star → read (AfterType (InDeclaration e) ∷ ss) (headed w left code ps) ≡ read (AnyName ∷ AfterName e ∷ ss) (headed w left code ps)
 named_is e (Fixed marks.Star) left code ps ss h = absurd (h refl)
 named_is e w left code ps ss h = refl
 
@@ -81,7 +81,7 @@ pub no_star : (e : Ending) {tokens : List LexToken} → LacksFirst tokens (Fixed
 no_star e other = alike_other other (named_is e)
 
 -- enumerators
-enumerators_is : (ps : List Place) (ss : List Symbol) → read (Enumerators ∷ ss) ps ≡ read (AnyName ∷ AfterEnumerator ∷ ss) ps
+enumerators_is : (ps : List WordAhead) (ss : List Symbol) → read (Enumerators ∷ ss) ps ≡ read (AnyName ∷ AfterEnumerator ∷ ss) ps
 enumerators_is [] ss = refl
 enumerators_is (p ∷ ps) ss = by p.word p.left p.code
   where
@@ -92,7 +92,7 @@ enumerators_is (p ∷ ps) ss = by p.word p.left p.code
 pub of_enumerator : (tokens : List LexToken) → Alike (Enumerators ∷ []) (AnyName ∷ AfterEnumerator ∷ []) tokens
 of_enumerator tokens = alike tokens enumerators_is
 
-more_enumerators_is : (w : Word) (left : ℕ) (code : FaultCode) (ps : List Place) (ss : List Symbol) → w ≢ Fixed marks.CloseBrace → read (MoreEnumerators ∷ ss) (headed w left code ps) ≡ read (Token marks.Comma ∷ Enumerators ∷ ss) (headed w left code ps)
+more_enumerators_is : (w : Word) (left : ℕ) (code : FaultCode) (ps : List WordAhead) (ss : List Symbol) → w ≢ Fixed marks.CloseBrace → read (MoreEnumerators ∷ ss) (headed w left code ps) ≡ read (Token marks.Comma ∷ Enumerators ∷ ss) (headed w left code ps)
 more_enumerators_is (Fixed marks.CloseBrace) left code ps ss h = absurd (h refl)
 more_enumerators_is (Fixed m) left code ps ss h = refl
 more_enumerators_is w left code ps ss h = refl
@@ -130,18 +130,18 @@ pub enumerators_one : (x : Enumerator) (ys : List Enumerator) → ys ≡ [] ++ x
 enumerators_one x ys is = sym (append-nil (spell_enumerator (view_enumerator x))) ∙ ap (λ zs. spell_enumerators (map view_enumerator zs)) (sym is)
 
 -- a body of declarations is a declaration and the rest
-go_followed : (o : Option (List Symbol)) (m ss : List Symbol) (ps : List Place) (stop : ParseError) → go (followed m o) (λ rhs. read (rhs ++ ss) ps) (Err stop) ≡ go o (λ rhs. read (rhs ++ (m ++ ss)) ps) (Err stop)
+go_followed : (o : Option (List Symbol)) (m ss : List Symbol) (ps : List WordAhead) (stop : ParseError) → go (followed m o) (λ rhs. read (rhs ++ ss) ps) (Err stop) ≡ go o (λ rhs. read (rhs ++ (m ++ ss)) ps) (Err stop)
 go_followed None m ss ps stop = refl
 go_followed (Some rhs) m ss ps stop = ap (λ c. read c ps) (append_assoc rhs m ss)
 
-declarations_is : (n : ℕ) (ps : List Place) (ss : List Symbol) → read (Declarations n ∷ ss) ps ≡ read (Declared n endings.Semicolon ∷ MoreDeclarations n ∷ ss) ps
+declarations_is : (n : ℕ) (ps : List WordAhead) (ss : List Symbol) → read (Declarations n ∷ ss) ps ≡ read (Declared n endings.Semicolon ∷ MoreDeclarations n ∷ ss) ps
 declarations_is n [] ss = refl
 declarations_is n (p ∷ ps) ss = go_followed (step_declared n endings.Semicolon p.word) (MoreDeclarations n ∷ []) ss ps (errors.Stuck p.left p.code)
 
 pub of_declarations : (n : ℕ) (tokens : List LexToken) → Alike (Declarations n ∷ []) (Declared n endings.Semicolon ∷ MoreDeclarations n ∷ []) tokens
 of_declarations n tokens = alike tokens (declarations_is n)
 
-more_is : (n : ℕ) (w : Word) (left : ℕ) (code : FaultCode) (ps : List Place) (ss : List Symbol) → w ≢ Fixed marks.CloseBrace → read (MoreDeclarations n ∷ ss) (headed w left code ps) ≡ read (Declared n endings.Semicolon ∷ MoreDeclarations n ∷ ss) (headed w left code ps)
+more_is : (n : ℕ) (w : Word) (left : ℕ) (code : FaultCode) (ps : List WordAhead) (ss : List Symbol) → w ≢ Fixed marks.CloseBrace → read (MoreDeclarations n ∷ ss) (headed w left code ps) ≡ read (Declared n endings.Semicolon ∷ MoreDeclarations n ∷ ss) (headed w left code ps)
 more_is n (Fixed marks.CloseBrace) left code ps ss h = absurd (h refl)
 more_is n w left code ps ss h = go_followed (step_declared n endings.Semicolon w) (MoreDeclarations n ∷ []) ss ps (errors.Stuck left code)
 
@@ -185,7 +185,7 @@ cases_more vs v us is =
     append_assoc (spell_cases (map view_value vs)) (Fixed marks.Case ∷ []) (spell_value (view_value v) ∷ Fixed marks.Colon ∷ [])
     ∙ sym (cases_push (map view_value vs) (view_value v)) ∙ ap spell_cases (sym (ap (map view_value) is ∙ map-append view_value vs (v ∷ [])))
 
-no_case_is : (n : ℕ) (w : Word) (left : ℕ) (code : FaultCode) (ps : List Place) (ss : List Symbol) → w ≢ Fixed marks.Case → read (AfterCase n ∷ ss) (headed w left code ps) ≡ read (Declared n endings.Semicolon ∷ ss) (headed w left code ps)
+no_case_is : (n : ℕ) (w : Word) (left : ℕ) (code : FaultCode) (ps : List WordAhead) (ss : List Symbol) → w ≢ Fixed marks.Case → read (AfterCase n ∷ ss) (headed w left code ps) ≡ read (Declared n endings.Semicolon ∷ ss) (headed w left code ps)
 no_case_is n (Fixed marks.Case) left code ps ss h = absurd (h refl)
 no_case_is n w left code ps ss h = refl
 
@@ -193,7 +193,7 @@ pub no_case : (n : ℕ) {tokens : List LexToken} → LacksFirst tokens (Fixed ma
 no_case n other = alike_other other (no_case_is n)
 
 -- the body of a union is an arm and the rest
-arms_is : (n : ℕ) (ps : List Place) (ss : List Symbol) → read (Arms n ∷ ss) ps ≡ read (Token marks.Case ∷ AnyValue ∷ Token marks.Colon ∷ AfterCase n ∷ MoreArms n ∷ ss) ps
+arms_is : (n : ℕ) (ps : List WordAhead) (ss : List Symbol) → read (Arms n ∷ ss) ps ≡ read (Token marks.Case ∷ AnyValue ∷ Token marks.Colon ∷ AfterCase n ∷ MoreArms n ∷ ss) ps
 arms_is n [] ss = refl
 arms_is n (p ∷ ps) ss = by p.word p.left p.code
   where
@@ -205,7 +205,7 @@ arms_is n (p ∷ ps) ss = by p.word p.left p.code
 pub of_arms : (n : ℕ) (tokens : List LexToken) → Alike (Arms n ∷ []) (Token marks.Case ∷ AnyValue ∷ Token marks.Colon ∷ AfterCase n ∷ MoreArms n ∷ []) tokens
 of_arms n tokens = alike tokens (arms_is n)
 
-more_arms_is : (n : ℕ) (w : Word) (left : ℕ) (code : FaultCode) (ps : List Place) (ss : List Symbol) → w ≢ Fixed marks.CloseBrace → w ≢ Fixed marks.Default → read (MoreArms n ∷ ss) (headed w left code ps) ≡ read (Token marks.Case ∷ AnyValue ∷ Token marks.Colon ∷ AfterCase n ∷ MoreArms n ∷ ss) (headed w left code ps)
+more_arms_is : (n : ℕ) (w : Word) (left : ℕ) (code : FaultCode) (ps : List WordAhead) (ss : List Symbol) → w ≢ Fixed marks.CloseBrace → w ≢ Fixed marks.Default → read (MoreArms n ∷ ss) (headed w left code ps) ≡ read (Token marks.Case ∷ AnyValue ∷ Token marks.Colon ∷ AfterCase n ∷ MoreArms n ∷ ss) (headed w left code ps)
 more_arms_is n (Fixed marks.CloseBrace) left code ps ss a b = absurd (a refl)
 more_arms_is n (Fixed marks.Default) left code ps ss a b = absurd (b refl)
 more_arms_is n (Fixed m) left code ps ss a b = refl
@@ -244,16 +244,16 @@ abbrev pub default_symbols : ℕ → List Symbol
 default_symbols n = Token marks.Colon ∷ Declared n endings.Semicolon ∷ Token marks.CloseBrace ∷ []
 
 -- a struct and one more declaration, and a union's arms and one more
-pub struct_read : (n : ℕ) (xs : List Declaration) (x : Declaration) (ys : List Declaration) {tokens left rest : List LexToken} → ys ≡ xs ++ x ∷ [] → IsRead [] (AnyBody tags.Struct n ∷ []) tokens (Fixed marks.OpenBrace ∷ spell_declarations (view_declarations xs)) (Declared n endings.Semicolon ∷ MoreDeclarations n ∷ []) left → IsRead [] (Declared n endings.Semicolon ∷ []) left (spell_ended (view_declaration x) endings.Semicolon) [] rest → IsRead [] (AnyBody tags.Struct n ∷ []) tokens (Fixed marks.OpenBrace ∷ spell_declarations (view_declarations ys)) (MoreDeclarations n ∷ []) rest
+pub struct_read : (n : ℕ) (xs : List Declaration) (x : Declaration) (ys : List Declaration) {tokens left rest : List LexToken} → ys ≡ xs ++ x ∷ [] → ReadsPart [] (AnyBody tags.Struct n ∷ []) tokens (Fixed marks.OpenBrace ∷ spell_declarations (view_declarations xs)) (Declared n endings.Semicolon ∷ MoreDeclarations n ∷ []) left → ReadsPart [] (Declared n endings.Semicolon ∷ []) left (spell_ended (view_declaration x) endings.Semicolon) [] rest → ReadsPart [] (AnyBody tags.Struct n ∷ []) tokens (Fixed marks.OpenBrace ∷ spell_declarations (view_declarations ys)) (MoreDeclarations n ∷ []) rest
 struct_read n xs x ys is h r =
     read_as (ap (λ t. Fixed marks.OpenBrace ∷ t) (declarations_more xs x ys is)) (read_then (Declared n endings.Semicolon ∷ []) (MoreDeclarations n ∷ []) h r)
 
-pub arms_read : (n : ℕ) (xs : List Arm) (x : Arm) (ys : List Arm) {from : List Symbol} {tokens left rest : List LexToken} → ys ≡ xs ++ x ∷ [] → IsRead [] from tokens (Fixed marks.OpenBrace ∷ (spell_arms (view_arms xs) ++ Fixed marks.Case ∷ [])) (AnyValue ∷ Token marks.Colon ∷ AfterCase n ∷ MoreArms n ∷ []) left → IsRead (Fixed marks.Case ∷ []) (AnyValue ∷ Token marks.Colon ∷ AfterCase n ∷ []) left (arm_words x) [] rest → IsRead [] from tokens (Fixed marks.OpenBrace ∷ spell_arms (view_arms ys)) (MoreArms n ∷ []) rest
+pub arms_read : (n : ℕ) (xs : List Arm) (x : Arm) (ys : List Arm) {from : List Symbol} {tokens left rest : List LexToken} → ys ≡ xs ++ x ∷ [] → ReadsPart [] from tokens (Fixed marks.OpenBrace ∷ (spell_arms (view_arms xs) ++ Fixed marks.Case ∷ [])) (AnyValue ∷ Token marks.Colon ∷ AfterCase n ∷ MoreArms n ∷ []) left → ReadsPart (Fixed marks.Case ∷ []) (AnyValue ∷ Token marks.Colon ∷ AfterCase n ∷ []) left (arm_words x) [] rest → ReadsPart [] from tokens (Fixed marks.OpenBrace ∷ spell_arms (view_arms ys)) (MoreArms n ∷ []) rest
 arms_read n xs x ys is h r =
     read_as (ap (λ t. Fixed marks.OpenBrace ∷ t) (arms_more xs x ys is)) (read_after (AnyValue ∷ Token marks.Colon ∷ AfterCase n ∷ []) (MoreArms n ∷ []) (Fixed marks.OpenBrace ∷ spell_arms (view_arms xs)) (Fixed marks.Case) h r)
 
 -- bodies
-enum_is : (n : ℕ) (ps : List Place) (ss : List Symbol) → read (AnyBody tags.Enum n ∷ ss) ps ≡ read (Token marks.OpenBrace ∷ Enumerators ∷ ss) ps
+enum_is : (n : ℕ) (ps : List WordAhead) (ss : List Symbol) → read (AnyBody tags.Enum n ∷ ss) ps ≡ read (Token marks.OpenBrace ∷ Enumerators ∷ ss) ps
 enum_is n [] ss = refl
 enum_is n (p ∷ ps) ss = by p.word p.left p.code
   where
@@ -265,7 +265,7 @@ enum_is n (p ∷ ps) ss = by p.word p.left p.code
 pub of_enum : (n : ℕ) (tokens : List LexToken) → Alike (AnyBody tags.Enum n ∷ []) (Token marks.OpenBrace ∷ Enumerators ∷ []) tokens
 of_enum n tokens = alike tokens (enum_is n)
 
-struct_is : (n : ℕ) (ps : List Place) (ss : List Symbol) → read (AnyBody tags.Struct n ∷ ss) ps ≡ read (Token marks.OpenBrace ∷ Declarations n ∷ ss) ps
+struct_is : (n : ℕ) (ps : List WordAhead) (ss : List Symbol) → read (AnyBody tags.Struct n ∷ ss) ps ≡ read (Token marks.OpenBrace ∷ Declarations n ∷ ss) ps
 struct_is n [] ss = refl
 struct_is n (p ∷ ps) ss = by p.word p.left p.code
   where
@@ -280,7 +280,7 @@ of_struct n tokens = alike tokens (struct_is n)
 abbrev pub union_symbols : ℕ → List Symbol
 union_symbols n = Token marks.Switch ∷ Token marks.OpenParenthesis ∷ Declared n endings.Parenthesis ∷ Token marks.OpenBrace ∷ Arms n ∷ []
 
-union_is : (n : ℕ) (ps : List Place) (ss : List Symbol) → read (AnyBody tags.Union n ∷ ss) ps ≡ read (union_symbols n ++ ss) ps
+union_is : (n : ℕ) (ps : List WordAhead) (ss : List Symbol) → read (AnyBody tags.Union n ∷ ss) ps ≡ read (union_symbols n ++ ss) ps
 union_is n [] ss = refl
 union_is n (p ∷ ps) ss = by p.word p.left p.code
   where
@@ -293,7 +293,7 @@ pub of_union : (n : ℕ) (tokens : List LexToken) → Alike (AnyBody tags.Union 
 of_union n tokens = alike tokens (union_is n)
 
 -- a body after a keyword
-tagged_is : (tag : Tag) (n : ℕ) (w : Word) (left : ℕ) (code : FaultCode) (ps : List Place) (ss : List Symbol) → ((t : List ℕ) → w ≢ Name t) → n ≢ 0 → read (AfterTag tag n ∷ ss) (headed w left code ps) ≡ read (AnyBody tag (n - 1) ∷ ss) (headed w left code ps)
+tagged_is : (tag : Tag) (n : ℕ) (w : Word) (left : ℕ) (code : FaultCode) (ps : List WordAhead) (ss : List Symbol) → ((t : List ℕ) → w ≢ Name t) → n ≢ 0 → read (AfterTag tag n ∷ ss) (headed w left code ps) ≡ read (AnyBody tag (n - 1) ∷ ss) (headed w left code ps)
 tagged_is tag zero w left code ps ss h some = absurd (some refl)
 tagged_is tag (suc n) (Name t) left code ps ss h some = absurd (h t refl)
 tagged_is tag (suc n) w left code ps ss h some =
@@ -313,7 +313,7 @@ fits_inline t b n is fits =
     subst (λ k. TypeFits t k) e (subst (λ y. TypeFits y (suc n)) (sym is) fits)
 
 -- a declaration that begins with a type
-declared_is : (n : ℕ) (e : Ending) (w : Word) (left : ℕ) (code : FaultCode) (ps : List Place) (ss : List Symbol) → w ≢ Fixed marks.Void → w ≢ Fixed marks.Opaque → w ≢ Fixed marks.String → read (Declared n e ∷ ss) (headed w left code ps) ≡ read (Typed n (InDeclaration e) ∷ ss) (headed w left code ps)
+declared_is : (n : ℕ) (e : Ending) (w : Word) (left : ℕ) (code : FaultCode) (ps : List WordAhead) (ss : List Symbol) → w ≢ Fixed marks.Void → w ≢ Fixed marks.Opaque → w ≢ Fixed marks.String → read (Declared n e ∷ ss) (headed w left code ps) ≡ read (Typed n (InDeclaration e) ∷ ss) (headed w left code ps)
 declared_is n e (Fixed marks.Void) left code ps ss a b c = absurd (a refl)
 declared_is n e (Fixed marks.Opaque) left code ps ss a b c = absurd (b refl)
 declared_is n e (Fixed marks.String) left code ps ss a b c = absurd (c refl)
@@ -330,12 +330,12 @@ union_words d rest =
 
 -- what follows `unsigned`
 module _ {T : Type 0} {tokens left : List LexToken} {w : Word} (first : HasFirst tokens w left) (is : w ≡ Fixed marks.Unsigned) (r : Result T ParseError) where
-  start : (n : ℕ) (c : Context) → IsRead [] (Typed n c ∷ []) tokens (Fixed marks.Unsigned ∷ []) (AfterUnsigned c ∷ []) left
+  start : (n : ℕ) (c : Context) → ReadsPart [] (Typed n c ∷ []) tokens (Fixed marks.Unsigned ∷ []) (AfterUnsigned c ∷ []) left
   start n c = read_first (Fixed marks.Unsigned) first is (λ l code ps ss. refl)
 
-  pub read_unsigned : (spelled : T → List Word) (rest : T → List LexToken) → IfOk r (λ x. (c : Context) → IsRead (Fixed marks.Unsigned ∷ []) (AfterUnsigned c ∷ []) left (spelled x) (AfterType c ∷ []) (rest x)) → IfOk r (λ x. (n : ℕ) (c : Context) → IsRead [] (Typed n c ∷ []) tokens (spelled x) (AfterType c ∷ []) (rest x))
+  pub read_unsigned : (spelled : T → List Word) (rest : T → List LexToken) → IfOk r (λ x. (c : Context) → ReadsPart (Fixed marks.Unsigned ∷ []) (AfterUnsigned c ∷ []) left (spelled x) (AfterType c ∷ []) (rest x)) → IfOk r (λ x. (n : ℕ) (c : Context) → ReadsPart [] (Typed n c ∷ []) tokens (spelled x) (AfterType c ∷ []) (rest x))
   read_unsigned spelled rest h =
-      IfOk-weaker r (λ x. (c : Context) → IsRead (Fixed marks.Unsigned ∷ []) (AfterUnsigned c ∷ []) left (spelled x) (AfterType c ∷ []) (rest x)) (λ x. (n : ℕ) (c : Context) → IsRead [] (Typed n c ∷ []) tokens (spelled x) (AfterType c ∷ []) (rest x))
+      IfOk-weaker r (λ x. (c : Context) → ReadsPart (Fixed marks.Unsigned ∷ []) (AfterUnsigned c ∷ []) left (spelled x) (AfterType c ∷ []) (rest x)) (λ x. (n : ℕ) (c : Context) → ReadsPart [] (Typed n c ∷ []) tokens (spelled x) (AfterType c ∷ []) (rest x))
       (λ x p n c. read_after (AfterUnsigned c ∷ []) [] [] (Fixed marks.Unsigned) (start n c) (p c)) h
 
   pub stuck_unsigned : IfErr r (λ e. (c : Context) → Fails (AfterUnsigned c ∷ []) left e) → IfErr r (λ e. (n : ℕ) (c : Context) → Fails (Typed n c ∷ []) tokens e)
@@ -344,18 +344,18 @@ module _ {T : Type 0} {tokens left : List LexToken} {w : Word} (first : HasFirst
       (λ e f n c. fails_then (AfterUnsigned c ∷ []) [] (start n c) (f c)) h
 
 -- what follows `enum`, `struct` or `union`
-tag_is : (tag : Tag) (n : ℕ) (c : Context) (left : ℕ) (code : FaultCode) (ps : List Place) (ss : List Symbol) → read (Typed n c ∷ ss) (headed (Fixed (tag_mark tag)) left code ps) ≡ read (AfterTag tag n ∷ AfterType c ∷ ss) ps
+tag_is : (tag : Tag) (n : ℕ) (c : Context) (left : ℕ) (code : FaultCode) (ps : List WordAhead) (ss : List Symbol) → read (Typed n c ∷ ss) (headed (Fixed (tag_mark tag)) left code ps) ≡ read (AfterTag tag n ∷ AfterType c ∷ ss) ps
 tag_is tags.Enum n c left code ps ss = refl
 tag_is tags.Struct n c left code ps ss = refl
 tag_is tags.Union n c left code ps ss = refl
 
 module _ {T : Type 0} (tag : Tag) (n : ℕ) {tokens left : List LexToken} {w : Word} (first : HasFirst tokens w left) (is : w ≡ Fixed (tag_mark tag)) (r : Result T ParseError) where
-  after_keyword : (c : Context) → IsRead [] (Typed n c ∷ []) tokens (Fixed (tag_mark tag) ∷ []) (AfterTag tag n ∷ AfterType c ∷ []) left
+  after_keyword : (c : Context) → ReadsPart [] (Typed n c ∷ []) tokens (Fixed (tag_mark tag) ∷ []) (AfterTag tag n ∷ AfterType c ∷ []) left
   after_keyword c = read_first (Fixed (tag_mark tag)) first is (tag_is tag n c)
 
-  pub read_tagged : (spelled : T → List Word) (rest : T → List LexToken) → IfOk r (λ x. IsRead (Fixed (tag_mark tag) ∷ []) (AfterTag tag n ∷ []) left (spelled x) [] (rest x)) → IfOk r (λ x. (c : Context) → IsRead [] (Typed n c ∷ []) tokens (spelled x) (AfterType c ∷ []) (rest x))
+  pub read_tagged : (spelled : T → List Word) (rest : T → List LexToken) → IfOk r (λ x. ReadsPart (Fixed (tag_mark tag) ∷ []) (AfterTag tag n ∷ []) left (spelled x) [] (rest x)) → IfOk r (λ x. (c : Context) → ReadsPart [] (Typed n c ∷ []) tokens (spelled x) (AfterType c ∷ []) (rest x))
   read_tagged spelled rest h =
-      IfOk-weaker r (λ x. IsRead (Fixed (tag_mark tag) ∷ []) (AfterTag tag n ∷ []) left (spelled x) [] (rest x)) (λ x. (c : Context) → IsRead [] (Typed n c ∷ []) tokens (spelled x) (AfterType c ∷ []) (rest x))
+      IfOk-weaker r (λ x. ReadsPart (Fixed (tag_mark tag) ∷ []) (AfterTag tag n ∷ []) left (spelled x) [] (rest x)) (λ x. (c : Context) → ReadsPart [] (Typed n c ∷ []) tokens (spelled x) (AfterType c ∷ []) (rest x))
       (λ x p c. read_after (AfterTag tag n ∷ []) (AfterType c ∷ []) [] (Fixed (tag_mark tag)) (after_keyword c) p) h
 
   pub stuck_tagged : IfErr r (λ e. Fails (AfterTag tag n ∷ []) left e) → IfErr r (λ e. (c : Context) → Fails (Typed n c ∷ []) tokens e)

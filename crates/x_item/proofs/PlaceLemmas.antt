@@ -3,7 +3,7 @@ use Rattle.std.proofs.Common.{◌≡◌, ℕ, suc, ◌+◌, ◌<◌, ◌≤◌, 
 use Rattle.std.specs.Prelude.{if◌then◌else◌}
 use Rattle.std.proofs.lemmas.List.{drop_more, drop_all, length-map, length-drop}
 use Rattle.x_lex.specs.Places.{Lexeme, lexeme}
-use Rattle.x_lex.specs.declared.token.Token.{Token}
+use Rattle.x_lex.specs.declared.tokens.token.Token.{Token}
 use Rattle.x_trees.specs.Words.{word_of, is_significant}
 use Rattle.x_item.specs.Parse.{code_of}
 use Rattle.x_item.specs.declared.parsing.fault_code.FaultCode.TheVariants as codes

@@ -1,7 +1,7 @@
 -- Reading what programs are made of.
 use Rattle.std.proofs.Common.{◌≡◌, ◌≢◌, ℕ, Option, Some, None, Err, List, [], ◌∷◌, ◌++◌, map, refl, ap, sym, ◌∙◌, subst, append_assoc}
 use Rattle.std.proofs.lemmas.List.{append-nil, map-append}
-use Rattle.x_lex.specs.declared.token.Token.{Token as LexToken}
+use Rattle.x_lex.specs.declared.tokens.token.Token.{Token as LexToken}
 use Rattle.x_trees.specs.Words.{Word, Fixed}
 use Rattle.x_trees.specs.Tree as tree
 use Rattle.x_trees.specs.Spell.{spell_argument, spell_passed, spell_others, spell_procedure, spell_procedures, spell_version, spell_versions, ArgumentFits, OthersFit, ProcedureFits, ProceduresFit, VersionFits, VersionsFit}
@@ -12,13 +12,13 @@ use Rattle.x_trees.specs.declared.trees.program.Argument.{Argument}
 use Rattle.x_item.specs.declared.parsing.fault_code.FaultCode.{FaultCode}
 use Rattle.x_item.specs.Symbols.{Symbol, Token, AnyName, Typed, InArguments, InResult, AfterType, Arguments, Parameters, Procedures, MoreProcedures, Versions, MoreVersions, go, followed, step_result, of_number, of_procedure, of_version}
 use Rattle.x_item.specs.Symbols.{Result as AnyResult}
-use Rattle.x_item.specs.Reading.{Place, LacksFirst, IsRead, read}
+use Rattle.x_item.specs.Reading.{WordAhead, LacksFirst, ReadsPart, read}
 use Rattle.x_item.specs.declared.parsing.parse_error.ParseError.{ParseError}
 use Rattle.x_item.specs.declared.parsing.parse_error.ParseError.TheVariants as errors
 use Rattle.x_item.proofs.ReadLemmas.{Alike, alike, alike_other, alike_neither, headed, read_as, read_then}
 
 -- an argument that is no `string`
-arguments_is : (w : Word) (left : ℕ) (code : FaultCode) (ps : List Place) (ss : List Symbol) → w ≢ Fixed marks.String → read (Arguments ∷ ss) (headed w left code ps) ≡ read (Typed MOST_INLINE InArguments ∷ ss) (headed w left code ps)
+arguments_is : (w : Word) (left : ℕ) (code : FaultCode) (ps : List WordAhead) (ss : List Symbol) → w ≢ Fixed marks.String → read (Arguments ∷ ss) (headed w left code ps) ≡ read (Typed MOST_INLINE InArguments ∷ ss) (headed w left code ps)
 arguments_is (Fixed marks.String) left code ps ss h = absurd (h refl)
 arguments_is w left code ps ss h = refl
 
@@ -26,7 +26,7 @@ pub no_string : {tokens : List LexToken} → LacksFirst tokens (Fixed marks.Stri
 no_string other = alike_other other arguments_is
 
 -- a first argument that is not `void`
-parameters_is : (w : Word) (left : ℕ) (code : FaultCode) (ps : List Place) (ss : List Symbol) → w ≢ Fixed marks.Void → read (Parameters ∷ ss) (headed w left code ps) ≡ read (Arguments ∷ ss) (headed w left code ps)
+parameters_is : (w : Word) (left : ℕ) (code : FaultCode) (ps : List WordAhead) (ss : List Symbol) → w ≢ Fixed marks.Void → read (Parameters ∷ ss) (headed w left code ps) ≡ read (Arguments ∷ ss) (headed w left code ps)
 parameters_is (Fixed marks.Void) left code ps ss h = absurd (h refl)
 parameters_is w left code ps ss h = refl
 
@@ -34,7 +34,7 @@ pub no_void : {tokens : List LexToken} → LacksFirst tokens (Fixed marks.Void) 
 no_void other = alike_other other parameters_is
 
 -- a result that is neither
-result_is : (w : Word) (left : ℕ) (code : FaultCode) (ps : List Place) (ss : List Symbol) → w ≢ Fixed marks.Void → w ≢ Fixed marks.String → read (AnyResult ∷ ss) (headed w left code ps) ≡ read (Typed MOST_INLINE InResult ∷ ss) (headed w left code ps)
+result_is : (w : Word) (left : ℕ) (code : FaultCode) (ps : List WordAhead) (ss : List Symbol) → w ≢ Fixed marks.Void → w ≢ Fixed marks.String → read (AnyResult ∷ ss) (headed w left code ps) ≡ read (Typed MOST_INLINE InResult ∷ ss) (headed w left code ps)
 result_is (Fixed marks.Void) left code ps ss h g = absurd (h refl)
 result_is (Fixed marks.String) left code ps ss h g = absurd (g refl)
 result_is w left code ps ss h g = refl
@@ -43,7 +43,7 @@ pub typed_result : {tokens : List LexToken} → LacksFirst tokens (Fixed marks.V
 typed_result other second = alike_neither other second (λ w left code ps ss h. result_is w left code ps ss h.0 h.1)
 
 -- after an argument there are others
-more_arguments_is : (w : Word) (left : ℕ) (code : FaultCode) (ps : List Place) (ss : List Symbol) → w ≢ Fixed marks.CloseParenthesis → read (AfterType InArguments ∷ ss) (headed w left code ps) ≡ read (Token marks.Comma ∷ Arguments ∷ ss) (headed w left code ps)
+more_arguments_is : (w : Word) (left : ℕ) (code : FaultCode) (ps : List WordAhead) (ss : List Symbol) → w ≢ Fixed marks.CloseParenthesis → read (AfterType InArguments ∷ ss) (headed w left code ps) ≡ read (Token marks.Comma ∷ Arguments ∷ ss) (headed w left code ps)
 more_arguments_is (Fixed marks.CloseParenthesis) left code ps ss h = absurd (h refl)
 more_arguments_is (Fixed m) left code ps ss h = refl
 more_arguments_is w left code ps ss h = refl
@@ -51,7 +51,7 @@ more_arguments_is w left code ps ss h = refl
 pub more_arguments : {tokens : List LexToken} → LacksFirst tokens (Fixed marks.CloseParenthesis) → Alike (AfterType InArguments ∷ []) (Token marks.Comma ∷ Arguments ∷ []) tokens
 more_arguments other = alike_other other more_arguments_is
 
-after_result_is : (ps : List Place) (ss : List Symbol) → read (AfterType InResult ∷ ss) ps ≡ read (AnyName ∷ ss) ps
+after_result_is : (ps : List WordAhead) (ss : List Symbol) → read (AfterType InResult ∷ ss) ps ≡ read (AnyName ∷ ss) ps
 after_result_is [] ss = refl
 after_result_is (p ∷ ps) ss = refl
 
@@ -59,11 +59,11 @@ pub after_result : (tokens : List LexToken) → Alike (AfterType InResult ∷ []
 after_result tokens = alike tokens after_result_is
 
 -- a procedure and more of them
-go_followed : (o : Option (List Symbol)) (m ss : List Symbol) (ps : List Place) (stop : ParseError) → go (followed m o) (λ rhs. read (rhs ++ ss) ps) (Err stop) ≡ go o (λ rhs. read (rhs ++ (m ++ ss)) ps) (Err stop)
+go_followed : (o : Option (List Symbol)) (m ss : List Symbol) (ps : List WordAhead) (stop : ParseError) → go (followed m o) (λ rhs. read (rhs ++ ss) ps) (Err stop) ≡ go o (λ rhs. read (rhs ++ (m ++ ss)) ps) (Err stop)
 go_followed None m ss ps stop = refl
 go_followed (Some rhs) m ss ps stop = ap (λ c. read c ps) (append_assoc rhs m ss)
 
-procedures_is : (ps : List Place) (ss : List Symbol) → read (Procedures ∷ ss) ps ≡ read ((of_procedure ++ MoreProcedures ∷ []) ++ ss) ps
+procedures_is : (ps : List WordAhead) (ss : List Symbol) → read (Procedures ∷ ss) ps ≡ read ((of_procedure ++ MoreProcedures ∷ []) ++ ss) ps
 procedures_is [] ss = refl
 procedures_is (p ∷ ps) ss =
     go_followed (step_result p.word) (Token marks.OpenParenthesis ∷ Parameters ∷ (of_number ++ MoreProcedures ∷ [])) ss ps (errors.Stuck p.left p.code)
@@ -71,7 +71,7 @@ procedures_is (p ∷ ps) ss =
 pub more_of_procedures : (tokens : List LexToken) → Alike (Procedures ∷ []) (of_procedure ++ MoreProcedures ∷ []) tokens
 more_of_procedures tokens = alike tokens procedures_is
 
-more_procedures_is : (w : Word) (left : ℕ) (code : FaultCode) (ps : List Place) (ss : List Symbol) → w ≢ Fixed marks.CloseBrace → read (MoreProcedures ∷ ss) (headed w left code ps) ≡ read (Procedures ∷ ss) (headed w left code ps)
+more_procedures_is : (w : Word) (left : ℕ) (code : FaultCode) (ps : List WordAhead) (ss : List Symbol) → w ≢ Fixed marks.CloseBrace → read (MoreProcedures ∷ ss) (headed w left code ps) ≡ read (Procedures ∷ ss) (headed w left code ps)
 more_procedures_is (Fixed marks.CloseBrace) left code ps ss h = absurd (h refl)
 more_procedures_is w left code ps ss h = refl
 
@@ -79,7 +79,7 @@ pub more_procedures : {tokens : List LexToken} → LacksFirst tokens (Fixed mark
 more_procedures other = alike_other other (λ w left code ps ss h. more_procedures_is w left code ps ss h ∙ procedures_is (headed w left code ps) ss)
 
 -- a version and more of them
-versions_is : (ps : List Place) (ss : List Symbol) → read (Versions ∷ ss) ps ≡ read ((of_version ++ MoreVersions ∷ []) ++ ss) ps
+versions_is : (ps : List WordAhead) (ss : List Symbol) → read (Versions ∷ ss) ps ≡ read ((of_version ++ MoreVersions ∷ []) ++ ss) ps
 versions_is [] ss = refl
 versions_is (p ∷ ps) ss = by p.word p.left p.code
   where
@@ -90,7 +90,7 @@ versions_is (p ∷ ps) ss = by p.word p.left p.code
 pub more_of_versions : (tokens : List LexToken) → Alike (Versions ∷ []) (of_version ++ MoreVersions ∷ []) tokens
 more_of_versions tokens = alike tokens versions_is
 
-more_versions_is : (w : Word) (left : ℕ) (code : FaultCode) (ps : List Place) (ss : List Symbol) → w ≢ Fixed marks.CloseBrace → read (MoreVersions ∷ ss) (headed w left code ps) ≡ read (Versions ∷ ss) (headed w left code ps)
+more_versions_is : (w : Word) (left : ℕ) (code : FaultCode) (ps : List WordAhead) (ss : List Symbol) → w ≢ Fixed marks.CloseBrace → read (MoreVersions ∷ ss) (headed w left code ps) ≡ read (Versions ∷ ss) (headed w left code ps)
 more_versions_is (Fixed marks.CloseBrace) left code ps ss h = absurd (h refl)
 more_versions_is w left code ps ss h = refl
 
@@ -103,7 +103,7 @@ spelled_more view spell one push xs x ys is =
     sym (push (map view xs) (view x)) ∙ ap spell (sym (ap (map view) is ∙ map-append view xs (x ∷ [])))
 
 -- one more, behind the `{`
-pub braced_more : {A V : Type 0} (view : A → V) (spell : List V → List Word) (one : V → List Word) → ((vs : List V) (v : V) → spell (vs ++ v ∷ []) ≡ spell vs ++ one v) → (each : List Symbol) (more : Symbol) (xs : List A) (x : A) (ys : List A) → ys ≡ xs ++ x ∷ [] → {from : List Symbol} {tokens left rest : List LexToken} → IsRead [] from tokens (Fixed marks.OpenBrace ∷ spell (map view xs)) (each ++ more ∷ []) left → IsRead [] each left (one (view x)) [] rest → IsRead [] from tokens (Fixed marks.OpenBrace ∷ spell (map view ys)) (more ∷ []) rest
+pub braced_more : {A V : Type 0} (view : A → V) (spell : List V → List Word) (one : V → List Word) → ((vs : List V) (v : V) → spell (vs ++ v ∷ []) ≡ spell vs ++ one v) → (each : List Symbol) (more : Symbol) (xs : List A) (x : A) (ys : List A) → ys ≡ xs ++ x ∷ [] → {from : List Symbol} {tokens left rest : List LexToken} → ReadsPart [] from tokens (Fixed marks.OpenBrace ∷ spell (map view xs)) (each ++ more ∷ []) left → ReadsPart [] each left (one (view x)) [] rest → ReadsPart [] from tokens (Fixed marks.OpenBrace ∷ spell (map view ys)) (more ∷ []) rest
 braced_more view spell one push each more xs x ys is h r =
     read_as (ap (λ t. Fixed marks.OpenBrace ∷ t) (spelled_more view spell one push xs x ys is)) (read_then each (more ∷ []) h r)
 

@@ -4,7 +4,7 @@ use Rattle.std.proofs.lemmas.List.{map-append, drop_more, drop_all, take-append-
 use Rattle.std.proofs.lemmas.List.Elements.{filter-append}
 use Rattle.std.specs.List.{filter}
 use Rattle.x_lex.specs.Places.{Lexeme, lexeme}
-use Rattle.x_lex.specs.declared.token.Token.{Token}
+use Rattle.x_lex.specs.declared.tokens.token.Token.{Token}
 use Rattle.x_trees.specs.Words.{word_of, words_of, is_significant}
 use Rattle.x_item.specs.Parse.{IsLastWord}
 

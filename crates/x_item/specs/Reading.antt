@@ -2,7 +2,7 @@
 use Rattle.std.specs.Prelude.{◌≡◌, ◌≢◌, ℕ, suc, ◌+◌, ◌-◌, ◌≤◌, ◌<◌, List, [], ◌∷◌, ◌++◌, Result, Ok, Err, map}
 use Rattle.std.specs.Prelude.{length, if◌then◌else◌}
 use Rattle.x_lex.specs.Places.{Lexeme, lexeme}
-use Rattle.x_lex.specs.declared.token.Token.{Token}
+use Rattle.x_lex.specs.declared.tokens.token.Token.{Token}
 use Rattle.x_trees.specs.Words.{Word, Fixed, Name, Number, Other, word_of, words_of, is_significant}
 use Rattle.x_trees.specs.Tree as tree
 use Rattle.x_trees.specs.Tree.{Definition}
@@ -26,29 +26,29 @@ view_word (words.Number t) = Number t.now
 view_word words.Other = Other
 
 -- a word of an item, how many tokens there are from it on, and the code of a fault at it
-pub record Place : Type 0 where
+pub record WordAhead : Type 0 where
   pub word : Word
   pub left : ℕ
   pub code : FaultCode
 
 -- the place of a token before others
-abbrev pub place_of : Lexeme → List Lexeme → Place
+abbrev pub place_of : Lexeme → List Lexeme → WordAhead
 place_of t ts = record { word = word_of t; left = suc (length ts); code = code_of t.kind }
 
 -- the places of the words among the tokens
-abbrev pub places_of : List Lexeme → List Place
+abbrev pub places_of : List Lexeme → List WordAhead
 places_of [] = []
 places_of (t ∷ ts) = if is_significant t.kind then place_of t ts ∷ places_of ts else places_of ts
 
 -- the places of the words that are ahead
-unfoldable pub ahead : List Token → List Place
+unfoldable pub ahead : List Token → List WordAhead
 ahead tokens = places_of (map lexeme tokens)
 
-abbrev pub first_left : List Place → ℕ
+abbrev pub first_left : List WordAhead → ℕ
 first_left [] = 0
 first_left (p ∷ ps) = p.left
 
-abbrev pub first_code : List Place → FaultCode
+abbrev pub first_code : List WordAhead → FaultCode
 first_code [] = codes.Syntax
 first_code (p ∷ ps) = p.code
 
@@ -61,18 +61,18 @@ unfoldable pub code_in : List Token → FaultCode
 code_in tokens = first_code (ahead tokens)
 
 -- the words of the places
-abbrev pub words_at : List Place → List Word
+abbrev pub words_at : List WordAhead → List Word
 words_at ps = map (λ p. p.word) ps
 
 -- what is left after what the symbols take, or why reading stops
-abbrev pub read : List Symbol → List Place → Result (List Place) ParseError
+abbrev pub read : List Symbol → List WordAhead → Result (List WordAhead) ParseError
 read [] ps = Ok ps
 read (s ∷ ss) [] = Err errors.AtEnd
 read (s ∷ ss) (p ∷ ps) =
     go (step s p.word) (λ symbols. read (symbols ++ ss) ps) (Err (errors.Stuck p.left p.code))
 
 -- reading stops where the error says
-abbrev pub IsAt : ParseError → Result (List Place) ParseError → Type 0
+abbrev pub IsAt : ParseError → Result (List WordAhead) ParseError → Type 0
 IsAt errors.Memory r = Unit {0}
 IsAt errors.AtEnd r = r ≡ Err errors.AtEnd
 IsAt (errors.Stuck left code) r = r ≡ Err (errors.Stuck left code)
@@ -83,7 +83,7 @@ pub record Fails (from : List Symbol) (tokens : List Token) (e : ParseError) : T
 
 -- A part was read after the words `before`: with them it is spelled by `words`, reading by the symbols `from`
 -- comes to the symbols `to` at the rest, whatever symbols follow, and the rest is shorter.
-pub record IsRead (before : List Word) (from : List Symbol) (tokens : List Token) (words : List Word)
+pub record ReadsPart (before : List Word) (from : List Symbol) (tokens : List Token) (words : List Word)
     (to : List Symbol)
     (rest : List Token) : Type 0 where
   pub found : before ++ words_at (ahead tokens) ≡ words ++ words_at (ahead rest)
@@ -92,7 +92,7 @@ pub record IsRead (before : List Word) (from : List Symbol) (tokens : List Token
 
 -- a part that one symbol stands for
 abbrev pub IsPart : Symbol → List Token → List Word → List Token → Type 0
-IsPart symbol tokens words rest = IsRead [] (symbol ∷ []) tokens words [] rest
+IsPart symbol tokens words rest = ReadsPart [] (symbol ∷ []) tokens words [] rest
 
 -- a word, and what stands after it
 pub record IsSplit (tokens : List Token) (token : Token) (rest : List Token) : Type 0 where
@@ -116,7 +116,7 @@ pub record HasFirst (tokens : List Token) (word : Word) (rest : List Token) : Ty
 
 -- no word is ahead, or another one
 pub record LacksFirst (tokens : List Token) (word : Word) : Type 0 where
-  pub by : (p : Place) (ps : List Place) → ahead tokens ≡ p ∷ ps → p.word ≢ word
+  pub by : (p : WordAhead) (ps : List WordAhead) → ahead tokens ≡ p ∷ ps → p.word ≢ word
 
 -- a declaration and its ending
 abbrev pub spell_ended : tree.Declaration → Ending → List Word

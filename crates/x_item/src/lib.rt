@@ -9,7 +9,7 @@ mod parsing;
 pub use laws::{one_parse, spell_law};
 pub use parsing::parse_item::{Parsed, parse_item};
 pub use parsing::{FaultCode, is_significant};
-pub use x_cutting::{Entry, ItemPatch, Items, cut, next_item, one_cut, one_recut, recut};
+pub use x_cutting::{ItemEntry, ItemPatch, Items, cut, next_item, one_cut, one_recut, recut};
 pub use x_trees::{
     Argument, Arm, BASIC_MARKS, Basic, Body, DataType, Declaration, DeclaredName, Definition,
     Enumerator, Glossary, Length, MOST_INLINE, Mention, NameKind, Procedure, Shape, Spelling, Tag,

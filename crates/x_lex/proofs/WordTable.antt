@@ -2,7 +2,7 @@
 use Rattle.std.proofs.Common.{◌≡◌, ℕ, zero, suc, ◌+◌, ◌<◌, Bool, true, false, not, ◌&&◌, ◌==◌, List, [], ◌∷◌, length, slice_index, refl, ap, ◌∙◌, arith}
 use Rattle.std.proofs.lemmas.Bool.{false≢true}
 use Rattle.x_lex.specs.Bytes.{is_word_byte}
-use Rattle.x_lex.specs.declared.classes.TheConstants.{WORD_BYTES}
+use Rattle.x_lex.specs.declared.scan.classes.TheConstants.{WORD_BYTES}
 
 abbrev same : Bool → Bool → Bool
 same true q = q

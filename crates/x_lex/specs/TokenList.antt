@@ -2,7 +2,7 @@
 use Rattle.std.specs.Prelude.{ℕ, ◌≤◌, List, length}
 use Rattle.x_text.specs.Seqs.{Gapped}
 use Rattle.x_text.specs.Lengths.{Patch}
-use Rattle.x_text.specs.declared.source.TheConstants.{MAX_TEXT}
+use Rattle.x_text.specs.declared.text.source.TheConstants.{MAX_TEXT}
 use Rattle.x_lex.specs.declared.kind.Kind.{Kind}
 use Rattle.x_lex.specs.Tiling.{span}
 pub use Rattle.x_text.specs.Lengths.{patched, LiesAmong, HasRoom}

@@ -3,7 +3,7 @@ ghost use Rattle.std.specs.Prelude.{◌≡◌, ◌≤◌, [], length, IfOk, IsOk
 ghost use Rattle.x_text.specs.Counts.{raised};
 ghost use Rattle.x_lex.specs.Tiling.{AreTokens};
 
-use crate::entry::Entry;
+use crate::tokens::TokenEntry;
 use crate::scan::lex_one;
 use crate::tokens::Tokens;
 use std::alloc::Global;
@@ -28,7 +28,7 @@ pub fn lex(alloc: Global, source: &Source, meter: &mut Meter) -> Result<Tokens, 
     let mut line_start = true;
     while at < bytes.len() {
         let (kind, end) = lex_one(bytes, at, line_start, meter);
-        entries.push(Entry::new(kind, end - at))?;
+        entries.push(TokenEntry::new(kind, end - at))?;
         line_start = bytes[end - 1] == b'\n';
         at = end;
     }

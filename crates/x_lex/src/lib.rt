@@ -3,27 +3,18 @@
 //! what an edit does to the tokens.
 #![tactic(auto)]
 
-mod classes;
-mod entry;
 mod kind;
 mod laws;
 mod lexing;
 mod mark;
-mod patch;
-mod patched_walk;
 mod relexing;
 mod scan;
-mod token;
 mod tokens;
-mod words;
 
 pub use kind::Kind;
 pub use laws::{has_tokens, one_meeting, one_patch, one_tiling, tokens_by_place};
 pub use lexing::lex;
 pub use mark::{MARKS, Mark};
-pub use patch::Patch;
-pub use patched_walk::PatchedWalk;
 pub use relexing::relex;
 pub use scan::lex_one;
-pub use token::Token;
-pub use tokens::{Tokens, Walk};
+pub use tokens::{Patch, PatchedTokenIter, Token, TokenIter, Tokens};

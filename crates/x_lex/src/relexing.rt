@@ -1,6 +1,6 @@
 //! What an edit does to the tokens of a text.
 ghost use Rattle.std.specs.Prelude.{◌≡◌, ◌+◌, ◌-◌, ◌≤◌, [], length, IfOk, IsOk};
-ghost use Rattle.x_text.specs.declared.source.TheConstants.{MAX_TEXT};
+ghost use Rattle.x_text.specs.declared.text.source.TheConstants.{MAX_TEXT};
 ghost use Rattle.x_text.specs.Counts.{raised};
 ghost use Rattle.x_text.specs.Edits.{change_of, edited_by, LiesWithin};
 ghost use Rattle.x_lex.specs.Tiling.{AreTokens, end_of};
@@ -8,7 +8,7 @@ ghost use Rattle.x_lex.specs.Places.{is_line_start};
 ghost use Rattle.x_lex.specs.TokenList.{patched, IsOfText};
 ghost use Rattle.x_lex.specs.Relex.{IsPatch};
 
-use crate::entry::Entry;
+use crate::tokens::TokenEntry;
 use crate::scan::lex_one;
 use crate::{Patch, Tokens};
 use std::alloc::Global;
@@ -82,7 +82,7 @@ fn relex_bytes(
         back = index;
         back_place = end;
         let (kind, next) = lex_one(new, at, line_start, meter);
-        fresh.push(Entry::new(kind, next - at))?;
+        fresh.push(TokenEntry::new(kind, next - at))?;
         line_start = new[next - 1] == b'\n';
         at = next;
     }
@@ -90,7 +90,7 @@ fn relex_bytes(
 
 /// The patch that puts fresh tokens, the first of which starts at `start`, in the place of those from index
 /// `at` to before `end`.
-fn patch(at: usize, end: usize, start: usize, fresh: Vec<Entry>) -> Patch
+fn patch(at: usize, end: usize, start: usize, fresh: Vec<TokenEntry>) -> Patch
     requires { at ≤ end }
     ensures { result ≡ record { at = at; removed = end - at; start = start; fresh = fresh.items } }
 {

@@ -6,10 +6,13 @@ ghost use Rattle.x_lex.specs.Word.{IsToken};
 ghost use Rattle.x_lex.specs.Places.{is_line_start, IsTokenAt};
 ghost use Rattle.x_lex.specs.Scan.{scan, scan_as, first_close, comment_of, letters, digits, signed, hash};
 
+mod classes;
+mod words;
+
 use crate::Kind;
-use crate::classes::{is_digit, is_letter, is_punct, is_space, line_len, space_len, word_len};
-use crate::words::{is_keyword, is_marker, is_number};
+use classes::{is_digit, is_letter, is_punct, is_space, line_len, space_len, word_len};
 use memchr::memmem;
+use words::{is_keyword, is_marker, is_number};
 use x_text::Meter;
 
 /// The comment that opens at the front.

@@ -2,17 +2,25 @@
 ghost use Rattle.std.specs.Prelude.{◌≡◌, ◌+◌, ◌<◌, ◌≤◌, ◌↔◌, ℕ, [], IsTrue, IfOk, IsOk, OnOk, OnErr, length};
 ghost use Rattle.std.specs.Prelude.{drop, option_map, slice_get};
 ghost use Rattle.std.specs.Iterator.{YieldsFirstBy, item_count};
-ghost use Rattle.x_text.specs.declared.source.TheConstants.{MAX_TEXT};
+ghost use Rattle.x_text.specs.declared.text.source.TheConstants.{MAX_TEXT};
 ghost use Rattle.x_text.specs.Seqs.{distance};
 ghost use Rattle.x_lex.specs.Tiling.{AreTokens, span, end_of};
 ghost use Rattle.x_lex.specs.TokenList.{patched, LiesAmong, HasRoom, IsOfText};
 ghost use Rattle.x_lex.specs.Places.{places, lexeme, lexeme_at, lexemes};
 ghost use Rattle.x_lex.specs.Relex.{IsFront};
 
-use crate::entry::Entry;
-use crate::{Kind, Patch, PatchedWalk, Token};
+mod patch;
+mod patched_token_iter;
+mod token;
+mod token_entry;
+
+use crate::Kind;
+pub use patch::Patch;
+pub use patched_token_iter::PatchedTokenIter;
 use std::alloc::Global;
 use std::marker::Model;
+pub use token::Token;
+pub(crate) use token_entry::TokenEntry;
 use x_text::{GapIter, MeasuredSeq, NoMemory, Source};
 
 /// The tokens of a text, in order, each with its kind and length.
@@ -21,7 +29,7 @@ use x_text::{GapIter, MeasuredSeq, NoMemory, Source};
 /// however long the text is.
 #[derive(Debug, Drop)]
 pub struct Tokens {
-    entries: MeasuredSeq<Entry>,
+    entries: MeasuredSeq<TokenEntry>,
 }
 
 impl Model for Tokens {
@@ -39,7 +47,7 @@ impl Tokens {
     /// The tokens with these entries, which have so many bytes together.
     pub(crate) fn from_entries(
         alloc: Global,
-        entries: Vec<Entry>,
+        entries: Vec<TokenEntry>,
         total: usize,
     ) -> Result<Tokens, NoMemory>
         requires of_text { IsOfText entries.items }
@@ -100,12 +108,12 @@ impl Tokens {
     }
 
     /// Goes over the tokens of the text that these are the tokens of.
-    pub fn iter<'a>(&'a self, source: &'a Source) -> Walk<'a>
+    pub fn iter<'a>(&'a self, source: &'a Source) -> TokenIter<'a>
         requires { AreTokens source.now self.now.list }
         ensures tokens { result ≡ lexemes source.now self.now.list }
         ensures small { length result ≤ MAX_TEXT }
     {
-        Walk {
+        TokenIter {
             entries: self.entries.iter(),
             text: source.bytes(),
             at: 0,
@@ -115,13 +123,13 @@ impl Tokens {
     /// Goes over the tokens of the text that these are the tokens of, from that at `index` on.
     ///
     /// Looks first at each token between it and the seat or the first one.
-    pub fn iter_from<'a>(&'a self, index: usize, source: &'a Source) -> Walk<'a>
+    pub fn iter_from<'a>(&'a self, index: usize, source: &'a Source) -> TokenIter<'a>
         requires tokens { AreTokens source.now self.now.list }
         requires within { index ≤ length self.now.list }
         ensures tokens { result ≡ drop index (lexemes source.now self.now.list) }
         ensures small { length result ≤ MAX_TEXT }
     {
-        Walk {
+        TokenIter {
             entries: self.entries.iter_from(index),
             text: source.bytes(),
             at: self.entries.start_of(index),
@@ -136,7 +144,7 @@ impl Tokens {
         patch: &'a Patch,
         index: usize,
         source: &'a Source,
-    ) -> PatchedWalk<'a>
+    ) -> PatchedTokenIter<'a>
         requires among { LiesAmong self.now.list patch.now }
         requires tokens { AreTokens source.now (patched self.now.list patch.now) }
         requires within { index ≤ length (patched self.now.list patch.now) }
@@ -146,7 +154,7 @@ impl Tokens {
         let text = source.bytes();
         let start = self.entries.start_patched(patch.entries(), index);
         let entries = self.entries.iter_patched(patch.entries(), index);
-        PatchedWalk::new(entries, text, start)
+        PatchedTokenIter::new(entries, text, start)
     }
 
     /// Makes room for the fresh tokens of the patch. After [`NoMemory`], too, all is as before but the room,
@@ -217,13 +225,13 @@ fn token_at(text: &[u8], place: (Kind, usize, usize)) -> Token<'_>
 
 /// Goes over tokens in order: the result of [`Tokens::iter`], seen as the list of those that are left.
 #[derive(Debug, Drop)]
-pub struct Walk<'a> {
-    entries: GapIter<'a, Entry>,
+pub struct TokenIter<'a> {
+    entries: GapIter<'a, TokenEntry>,
     text: &'a [u8],
     at: usize,
 }
 
-impl<'a> Model for Walk<'a> {
+impl<'a> Model for TokenIter<'a> {
     ghost use Rattle.std.specs.Prelude.{◌+◌, ◌≤◌, List, length};
     ghost use Rattle.x_lex.specs.Tiling.{span};
     ghost use Rattle.x_lex.specs.Places.{Lexeme, lexemes_from};
@@ -235,7 +243,7 @@ impl<'a> Model for Walk<'a> {
     ghost invariant = { λ walk. walk.at + span walk.entries ≤ length walk.text.now };
 }
 
-impl<'a> Walk<'a> {
+impl<'a> TokenIter<'a> {
     /// Passes over the next tokens, or over all that are left where there are fewer. It looks at their
     /// lengths alone.
     pub fn pass(&mut self, count: usize)
@@ -245,7 +253,7 @@ impl<'a> Walk<'a> {
     }
 }
 
-impl<'a> Iterator for Walk<'a> {
+impl<'a> Iterator for TokenIter<'a> {
     type Item = Token<'a>;
 
     ghost next_gives = { YieldsFirstBy lexeme (λ left. left) };

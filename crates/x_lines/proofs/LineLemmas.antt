@@ -4,8 +4,8 @@ use Rattle.std.specs.Prelude.{filter, nat_lt, ⊤, IfSome}
 use Rattle.std.specs.List.{slice_split}
 use Rattle.std.proofs.lemmas.List.Splits.{slice_split_none, slice_split_at, slice_split-cons_yes, length-slice_split}
 use Rattle.std.specs.Io.KnownBytes.{Consumes, IsAtEnd}
-use Rattle.x_lines.specs.declared.lines.Found.{Found}
-use Rattle.x_lines.specs.declared.lines.Found.TheVariants.{Line, TooLong, End}
+use Rattle.x_lines.specs.declared.lines.LineEvent.{LineEvent}
+use Rattle.x_lines.specs.declared.lines.LineEvent.TheVariants.{Line, TooLong, End}
 use Rattle.x_lines.specs.declared.lines.State.{State}
 use Rattle.x_lines.specs.declared.lines.State.TheVariants.{Ended}
 use Rattle.x_lines.specs.Lines.{is_feed, script_lines, all_but_last, whole_lines, AreFeeds, HasNoFeed, Reading, IsNextLine, HasNoLine, ReadsOn}
@@ -109,7 +109,7 @@ given_all (Some script) (Some later) (Some later') lines unread come given took 
     given ∙ ap (λ l. lines ++ script_lines l) (ap (λ l. unread ++ l) took ∙ sym (append_assoc unread come later')) ∙ ap (λ l. lines ++ l) (given_end (unread ++ come) later' are end) ∙ append-nil lines
 
 -- any line that was found, also one that is too long, is one line more
-pub found_more : (start left left' : Option (List ℕ)) (lines : List (List ℕ)) (unread : List ℕ) (new : Reading) (found : Found) → IsGiven start lines unread left
+pub found_more : (start left left' : Option (List ℕ)) (lines : List (List ℕ)) (unread : List ℕ) (new : Reading) (found : LineEvent) → IsGiven start lines unread left
     → (on : ReadsOn unread new left left' (Ok found)) → (found ≡ End → ⊥) → (line : List ℕ) × IsGiven start (lines ++ line ∷ []) on.rest left'
 found_more start left left' lines unread new Line given on goes = (new.line, given_more start left left' lines unread on.come new.line on.rest new.state given on.from_tap on.told.1)
 found_more start left left' lines unread new TooLong given on goes = (on.told.0, given_more start left left' lines unread on.come on.told.0 on.rest new.state given on.from_tap on.told.2)

@@ -7,8 +7,8 @@ use Rattle.std.proofs.lemmas.Result.{MatchResult-from_err, MatchResult-weaker}
 use Rattle.std.proofs.KnownBytes.{Consumes-trans}
 use Rattle.x_lines.specs.declared.lines.TheConstants.{LONGEST}
 use Rattle.x_lines.specs.declared.lines.LineFault.{LineFault}
-use Rattle.x_lines.specs.declared.lines.Found.{Found}
-use Rattle.x_lines.specs.declared.lines.Found.TheVariants.{Line, TooLong, End}
+use Rattle.x_lines.specs.declared.lines.LineEvent.{LineEvent}
+use Rattle.x_lines.specs.declared.lines.LineEvent.TheVariants.{Line, TooLong, End}
 use Rattle.x_lines.specs.declared.lines.State.{State}
 use Rattle.x_lines.specs.declared.lines.State.TheVariants.{Between, WithinLong, Ended}
 use Rattle.x_lines.specs.Lines.{is_feed, AreFeeds, HasNoFeed, EndsAt, HasSearched, HasPassed, Reading, InState, IsUnread, IsNextLine, Tells, HasNoLine, ReadsOn, Advances}
@@ -47,7 +47,7 @@ next_behind feeds line text rest state left are h = record {
       (λ e. inr (ap (λ l. feeds ++ l) e.0 ∙ sym (append_assoc feeds h.feeds line), e.1, e.2, e.3)) h.text_is;
 }
 
-tells_behind : (feeds : List ℕ) → AreFeeds feeds → (found : Found) (new : Reading) (text rest : List ℕ) (left : Option (List ℕ)) → Tells found new text rest left → Tells found new (feeds ++ text) rest left
+tells_behind : (feeds : List ℕ) → AreFeeds feeds → (found : LineEvent) (new : Reading) (text rest : List ℕ) (left : Option (List ℕ)) → Tells found new text rest left → Tells found new (feeds ++ text) rest left
 tells_behind feeds are Line new text rest left h = (h.0, next_behind feeds new.line text rest new.state left are h.1)
 tells_behind feeds are TooLong new text rest left h = (h.0, h.1, next_behind feeds h.0 text rest new.state left are h.2)
 tells_behind feeds are End new text rest left h = (All-append (λ b. is_feed b ≡ true) feeds text are h.0, h.1, h.2, h.3)
@@ -88,7 +88,7 @@ module _ (old new unread : List ℕ) (left left' : Option (List ℕ)) (is : InSt
     );
   }
 
-  pub reads_open : (state : State) (result : Result Found LineFault) → state ≡ Between → IsErr result → HasNoFeed new → ReadsOn unread (record { line = []; bytes = new; state = state }) left left' result
+  pub reads_open : (state : State) (result : Result LineEvent LineFault) → state ≡ Between → IsErr result → HasNoFeed new → ReadsOn unread (record { line = []; bytes = new; state = state }) left left' result
   reads_open state result between fails none = record {
     come = searched.come;
     from_tap = searched.from_tap;
@@ -101,7 +101,7 @@ module _ (old new unread : List ℕ) (left left' : Option (List ℕ)) (is : InSt
   }
 
   -- the front of a line that is too long was dropped, and a call went on from there
-  pub reads_on : (mid after : Reading) (left'' : Option (List ℕ)) (result : Result Found LineFault) → mid.state ≡ WithinLong → mid.bytes ≡ drop (LONGEST + 1) new → HasNoFeed (take (LONGEST + 1) new) → LONGEST < length new
+  pub reads_on : (mid after : Reading) (left'' : Option (List ℕ)) (result : Result LineEvent LineFault) → mid.state ≡ WithinLong → mid.bytes ≡ drop (LONGEST + 1) new → HasNoFeed (take (LONGEST + 1) new) → LONGEST < length new
       → Advances mid after left' left'' result → ReadsOn unread after left left'' result
   reads_on mid after left'' result state bytes none far on =
       let more = on new (unread_from mid WithinLong (drop (LONGEST + 1) new) left' new state bytes (take (LONGEST + 1) new, omega (arith, length-take (LONGEST + 1) new), none, sym (take-append-drop (LONGEST + 1) new))) in
@@ -162,7 +162,7 @@ module _ (old new unread : List ℕ) (left left' : Option (List ℕ)) (is : InSt
     );
   }
 
-  pub long_open : (line : List ℕ) (state : State) (fault : LineFault) (result : Result Found LineFault) → state ≡ WithinLong → IsErr result → HasPassed old new left left' (Err fault)
+  pub long_open : (line : List ℕ) (state : State) (fault : LineFault) (result : Result LineEvent LineFault) → state ≡ WithinLong → IsErr result → HasPassed old new left left' (Err fault)
       → ReadsOn unread (record { line = line; bytes = new; state = state }) left left' result
   long_open line state fault result within fails h =
       let part = is.0 ++ (old ++ h.come) in

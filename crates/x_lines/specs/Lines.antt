@@ -10,8 +10,8 @@ use Rattle.x_lines.specs.declared.lines.LineEnd.TheVariants.{Feed, Text, Far}
 use Rattle.x_lines.specs.declared.lines.State.{State}
 use Rattle.x_lines.specs.Limits.{most_line}
 use Rattle.x_lines.specs.declared.lines.State.TheVariants.{Between, WithinLong, Ended}
-use Rattle.x_lines.specs.declared.lines.Found.{Found}
-use Rattle.x_lines.specs.declared.lines.Found.TheVariants.{Line, TooLong, End}
+use Rattle.x_lines.specs.declared.lines.LineEvent.{LineEvent}
+use Rattle.x_lines.specs.declared.lines.LineEvent.TheVariants.{Line, TooLong, End}
 use Rattle.std.specs.Io.KnownBytes.{Consumes, IsAtEnd}
 
 -- a line feed
@@ -126,7 +126,7 @@ pub record IsNextLine (text line rest : List ℕ) (state : State) (left : Option
 
 -- what is told of the text, of which `rest` stays unread: its first line, that this is too long, or that
 -- there is none
-abbrev pub Tells : Found → Reading → List ℕ → List ℕ → Option (List ℕ) → Type 0
+abbrev pub Tells : LineEvent → Reading → List ℕ → List ℕ → Option (List ℕ) → Type 0
 Tells Line new text rest left = (length new.line ≤ most_line) × IsNextLine text new.line rest new.state left
 Tells TooLong new text rest left =
     (line : List ℕ) × (most_line < length line) × IsNextLine text line rest new.state left
@@ -140,7 +140,7 @@ pub record HasNoLine (text rest : List ℕ) : Type 0 where
 -- A call read on from this unread text: what came from the tap, what stays unread, and what it answers of all
 -- that.
 pub record ReadsOn (unread : List ℕ) (new : Reading) (left left' : Option (List ℕ))
-    (result : Result Found LineFault) : Type 0 where
+    (result : Result LineEvent LineFault) : Type 0 where
   pub come : List ℕ
   pub from_tap : Consumes left left' come
   pub rest : List ℕ
@@ -149,7 +149,7 @@ pub record ReadsOn (unread : List ℕ) (new : Reading) (left left' : Option (Lis
       (λ _. HasNoLine (unread ++ come) rest)
 
 -- the same of every text that the reader may stand before
-abbrev pub Advances : Reading → Reading → Option (List ℕ) → Option (List ℕ) → Result Found LineFault → Type 0
+abbrev pub Advances : Reading → Reading → Option (List ℕ) → Option (List ℕ) → Result LineEvent LineFault → Type 0
 Advances old new left left' result =
     (unread : List ℕ) → IsUnread old left unread → ReadsOn unread new left left' result
 

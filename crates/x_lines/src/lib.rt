@@ -5,4 +5,4 @@
 mod byte_queue;
 mod lines;
 
-pub use lines::{Found, LONGEST, LineFault, LineReader};
+pub use lines::{LineEvent, LONGEST, LineFault, LineReader};

@@ -3,7 +3,7 @@ ghost use Rattle.std.specs.Prelude.{MatchResult, Ok};
 ghost use Rattle.std.specs.List.{prefix_len};
 ghost use Rattle.x_lines.specs.Lines.{Advances, EndIs, EndsAt, FailsBy, HasNoFeed, HasPassed, HasSearched};
 ghost use Rattle.x_lines.specs.Lines.{IsBehindFeed, IsTrimmed, is_feed};
-ghost use Rattle.x_lines.specs.declared.lines.Found.TheVariants.{End};
+ghost use Rattle.x_lines.specs.declared.lines.LineEvent.TheVariants.{End};
 ghost use Rattle.x_lines.specs.declared.lines.TheConstants.{LONGEST};
 ghost use Rattle.x_lines.specs.declared.lines.State.TheVariants.{Between, WithinLong, Ended};
 
@@ -30,7 +30,7 @@ pub enum LineFault {
 
 /// What [`LineReader::next`] found.
 #[derive(Clone, Copy, Debug, PartialEq, Eq)]
-pub enum Found {
+pub enum LineEvent {
     /// A line, which [`LineReader::line`] gives.
     Line,
     /// A line of more than [`LONGEST`] bytes, which is passed over.
@@ -104,7 +104,7 @@ impl LineReader {
     ///
     /// # Errors
     /// The tap failed, or memory ran out. The line that it is in stays unread.
-    pub fn next<R: Tap>(&mut self, tap: &mut R) -> Result<Found, LineFault>
+    pub fn next<R: Tap>(&mut self, tap: &mut R) -> Result<LineEvent, LineFault>
         ensures lines { Advances self.old self.new (R.state tap.old).bytes (R.state tap.new).bytes result }
         ensures failed { FailsBy result (R.state tap.old).failed (R.state tap.new).failed }
         ensures ended { self.old.state ≡ Ended → result ≡ Ok End }
@@ -112,12 +112,12 @@ impl LineReader {
         match self.state {
             State::Between => self.next_line(tap),
             State::WithinLong => self.end_of_long(tap),
-            State::Ended => Ok(Found::End),
+            State::Ended => Ok(LineEvent::End),
         }
     }
 
     /// Finds the next line, where the reader stands between two.
-    fn next_line<R: Tap>(&mut self, tap: &mut R) -> Result<Found, LineFault>
+    fn next_line<R: Tap>(&mut self, tap: &mut R) -> Result<LineEvent, LineFault>
         requires { self.old.state ≡ Between }
         ensures lines { Advances self.old self.new (R.state tap.old).bytes (R.state tap.new).bytes result }
         ensures failed { FailsBy result (R.state tap.old).failed (R.state tap.new).failed }
@@ -129,13 +129,13 @@ impl LineReader {
             LineEnd::Feed(len) => {
                 self.line = len;
                 self.given = len + 1;
-                Ok(Found::Line)
+                Ok(LineEvent::Line)
             }
             LineEnd::Text(len) => {
                 self.given = len;
                 self.line = len;
                 self.state = State::Ended;
-                Ok(if len == 0 { Found::End } else { Found::Line })
+                Ok(if len == 0 { LineEvent::End } else { LineEvent::Line })
             }
             LineEnd::Far => {
                 self.given = LONGEST + 1;
@@ -146,7 +146,7 @@ impl LineReader {
     }
 
     /// Passes over what is left of a line that is too long.
-    fn end_of_long<R: Tap>(&mut self, tap: &mut R) -> Result<Found, LineFault>
+    fn end_of_long<R: Tap>(&mut self, tap: &mut R) -> Result<LineEvent, LineFault>
         requires { self.old.state ≡ WithinLong }
         ensures lines { Advances self.old self.new (R.state tap.old).bytes (R.state tap.new).bytes result }
         ensures failed { FailsBy result (R.state tap.old).failed (R.state tap.new).failed }
@@ -159,7 +159,7 @@ impl LineReader {
         } else {
             self.state = State::Ended;
         }
-        Ok(Found::TooLong)
+        Ok(LineEvent::TooLong)
     }
 }
 

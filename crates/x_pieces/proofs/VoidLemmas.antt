@@ -2,7 +2,7 @@
 use Rattle.std.proofs.Common.{◌≡◌, ℕ, List, ◌++◌, false, codes, refl}
 use Rattle.x_trees.specs.Tree.{Declaration, Void, Of, Opaque, String}
 use Rattle.x_trees.specs.Declarations.{name_of, is_void}
-use Rattle.x_pieces.specs.Declarations.{Place, Alone, c_declaration, call}
+use Rattle.x_pieces.specs.Declarations.{Location, Alone, c_declaration, call}
 use Rattle.x_pieces.specs.Header.{routine_line, typedef_header}
 use Rattle.x_pieces.specs.Routines.{routine_front, routine_end, checked_call, typedef_routine}
 
@@ -13,7 +13,7 @@ typedef_of (Of type x shape) is = refl
 typedef_of (Opaque x length) is = refl
 typedef_of (String x most) is = refl
 
-pub checked_call_of : (indent around : List ℕ) (place : Place) (d : Declaration) → is_void d ≡ false
+pub checked_call_of : (indent around : List ℕ) (place : Location) (d : Declaration) → is_void d ≡ false
     → checked_call indent around place d ≡ (indent ++ codes "if (!") ++ call around place d ++ (codes ")\n" ++ indent ++ codes "    return (FALSE);\n")
 checked_call_of indent around place Void is = absurd (cc)
 checked_call_of indent around place (Of type x shape) is = refl

@@ -29,13 +29,13 @@ c_declaration around (String x m) = codes "char *" ++ x
 
 -- where a value lies that a routine reads or writes: in a field of a struct or in a union's discriminant, in
 -- an arm of the union of a name, or by itself, as that of a `typedef`
-pub data Place : Type 0 where
-  InStruct : Place
-  InUnion : (union : List ℕ) → Place
-  Alone : Place
+pub data Location : Type 0 where
+  InStruct : Location
+  InUnion : (union : List ℕ) → Location
+  Alone : Location
 
 -- in C
-abbrev pub lies_at : Place → List ℕ → List ℕ
+abbrev pub lies_at : Location → List ℕ → List ℕ
 lies_at InStruct x = codes "objp->" ++ x
 lies_at (InUnion union) x = codes "objp->" ++ union ++ codes "_u." ++ x
 lies_at Alone x = codes "(*objp)"
@@ -71,5 +71,5 @@ call_at around e (Opaque x length) = opaque_call e x length
 call_at around e (String x m) = codes "xdr_string(xdrs, &" ++ e ++ codes ", " ++ most m ++ codes ")"
 
 -- the call for what a declaration declares
-abbrev pub call : List ℕ → Place → Declaration → List ℕ
+abbrev pub call : List ℕ → Location → Declaration → List ℕ
 call around place d = call_at around (lies_at place (name_of d)) d

@@ -5,7 +5,7 @@ use Rattle.x_trees.specs.Tree.{Value, Body, Enum, Struct, Union, Declaration, Vo
 use Rattle.x_trees.specs.Tree.{Declarations, none, more, Arms, no_arm, arm, Default, no_default, default}
 use Rattle.x_pieces.specs.CTypes.{CType, spelled}
 use Rattle.x_trees.specs.Declarations.{name_of}
-use Rattle.x_pieces.specs.Declarations.{Place, InStruct, InUnion, Alone, call}
+use Rattle.x_pieces.specs.Declarations.{Location, InStruct, InUnion, Alone, call}
 use Rattle.x_pieces.specs.InlineTypes.{NamedBody}
 use Rattle.x_pieces.specs.Procedures.{are_several, argument_pieces, version_pieces}
 
@@ -18,7 +18,7 @@ abbrev pub routine_end : List ℕ
 routine_end = codes "    return (TRUE);\n}\n\n"
 
 -- a call that may fail, behind its indent: `void` has none
-abbrev pub checked_call : List ℕ → List ℕ → Place → Declaration → List ℕ
+abbrev pub checked_call : List ℕ → List ℕ → Location → Declaration → List ℕ
 checked_call indent around place Void = []
 checked_call indent around place d =
     (indent ++ codes "if (!") ++ call around place d

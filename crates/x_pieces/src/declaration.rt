@@ -5,7 +5,7 @@ ghost use Rattle.x_trees.specs.Tree.{Array, String};
 ghost use Rattle.x_trees.specs.View.{view_shape, view_length, view_most, view_declaration};
 ghost use Rattle.x_pieces.specs.Declarations.{declared_array, declared_as, c_declaration, lies_at};
 ghost use Rattle.x_pieces.specs.Declarations.{array_call, call_as, opaque_call, call_at, call};
-ghost use Rattle.x_pieces.specs.Views.{view_c, view_place};
+ghost use Rattle.x_pieces.specs.Views.{view_c, view_location};
 
 use crate::add::{Made, add, made};
 use crate::c_types::{CType, c_type, lifted, most, spelled};
@@ -15,7 +15,7 @@ use x_trees::{Declaration, Length, Shape};
 
 /// Where a value lies that a routine reads or writes.
 #[derive(Clone, Copy, Debug)]
-pub enum Place<'d> {
+pub enum Location<'d> {
     /// In a field of a struct.
     InStruct,
     /// In an arm of the union of this name.
@@ -81,13 +81,13 @@ pub fn add_declaration(
 }
 
 /// Where the value lies that is declared as `name`, in C.
-fn lies_at(alloc: Global, place: Place, name: &[u8]) -> Result<Made, NoMemory>
-    ensures { IfOk result (λ e. e.items ≡ lies_at (view_place place.entry) name.now) }
+fn lies_at(alloc: Global, place: Location, name: &[u8]) -> Result<Made, NoMemory>
+    ensures { IfOk result (λ e. e.items ≡ lies_at (view_location place.entry) name.now) }
 {
     match place {
-        Place::InStruct => made(alloc, &[b"objp->", name]),
-        Place::InUnion(union) => made(alloc, &[b"objp->", union, b"_u.", name]),
-        Place::Alone => made(alloc, &[b"(*objp)"]),
+        Location::InStruct => made(alloc, &[b"objp->", name]),
+        Location::InUnion(union) => made(alloc, &[b"objp->", union, b"_u.", name]),
+        Location::Alone => made(alloc, &[b"(*objp)"]),
     }
 }
 
@@ -229,11 +229,11 @@ pub fn add_call(
     alloc: Global,
     text: &mut Vec<u8>,
     around: &[u8],
-    place: Place,
+    place: Location,
     declaration: &Declaration,
 ) -> Result<(), NoMemory>
     ensures { OnOk result (text.new.items ≡ text.old.items
-        ++ call around.now (view_place place.entry) (view_declaration declaration.now)) }
+        ++ call around.now (view_location place.entry) (view_declaration declaration.now)) }
 {
     let e = lies_at(alloc, place, declaration.name())?;
     add_call_at(alloc, text, around, &e, declaration)

@@ -10,11 +10,11 @@ ghost use Rattle.x_pieces.specs.Routines.{routine_front, routine_end, checked_ca
 ghost use Rattle.x_pieces.specs.Routines.{arm_calls, arms_calls};
 ghost use Rattle.x_pieces.specs.Routines.{default_calls, body_calls, type_routine};
 ghost use Rattle.x_pieces.specs.Routines.{typedef_routine, struct_routine};
-ghost use Rattle.x_pieces.specs.Views.{view_place, view_named};
+ghost use Rattle.x_pieces.specs.Views.{view_location, view_named};
 
 use crate::add::add;
 use crate::c_types::{CType, spelled};
-use crate::declaration::{Place, add_call};
+use crate::declaration::{Location, add_call};
 use crate::procedures::{ArgumentPiece, Call, ProcedurePiece, add_arguments};
 use crate::types::NamedBody;
 use std::alloc::Global;
@@ -51,11 +51,11 @@ fn add_checked_call(
     text: &mut Vec<u8>,
     indent: &[u8],
     around: &[u8],
-    place: Place,
+    place: Location,
     declaration: &Declaration,
 ) -> Result<(), NoMemory>
     ensures { OnOk result (text.new.items ≡ text.old.items
-        ++ checked_call indent.now around.now (view_place place.entry) (view_declaration declaration.now)) }
+        ++ checked_call indent.now around.now (view_location place.entry) (view_declaration declaration.now)) }
 {
     if declaration.is_void() {
         return Ok(());
@@ -76,7 +76,7 @@ fn add_fields(
         ++ field_calls around.now (view_declarations declarations.now)) }
 {
     for declaration in declarations {
-        add_checked_call(alloc, text, b"    ", around, Place::InStruct, declaration)?;
+        add_checked_call(alloc, text, b"    ", around, Location::InStruct, declaration)?;
     }
     Ok(())
 }
@@ -106,7 +106,7 @@ fn add_arm(
         text,
         b"        ",
         name,
-        Place::InUnion(name),
+        Location::InUnion(name),
         declaration,
     )?;
     text.extend_from_slice(b"        break;\n")?;
@@ -179,7 +179,7 @@ fn add_union(
     ensures { OnOk result (text.new.items ≡ text.old.items ++ body_calls name.now (view_union body.now)) }
 {
     let discriminant = &body.discriminant;
-    add_checked_call(alloc, text, b"    ", name, Place::InStruct, discriminant)?;
+    add_checked_call(alloc, text, b"    ", name, Location::InStruct, discriminant)?;
     add(
         text,
         &[b"    switch (objp->", discriminant.name(), b") {\n"],
@@ -224,7 +224,7 @@ pub fn add_typedef(
     }
     let name = declaration.name();
     add_front(text, name)?;
-    add_checked_call(alloc, text, b"    ", name, Place::Alone, declaration)?;
+    add_checked_call(alloc, text, b"    ", name, Location::Alone, declaration)?;
     add_end(text)
 }
 

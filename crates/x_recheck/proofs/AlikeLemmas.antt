@@ -13,7 +13,7 @@ use Rattle.x_rules.specs.Views.{View, Meaning, Earlier, Later, Own}
 use Rattle.x_trees.specs.Seen.{names_of}
 use Rattle.x_rules.proofs.AmongLemmas.{among_first, among_more}
 use Rattle.x_rules.proofs.ResultLaws.{one_outcome}
-use Rattle.x_uses.specs.declared.uses.Place.{Place}
+use Rattle.x_uses.specs.declared.uses.ItemSplice.{ItemSplice}
 use Rattle.x_recheck.specs.Editing.{TextEdit, definitions_after, IsEdit, definition_at, old_number, old_result}
 use Rattle.x_recheck.specs.Rechecking.{IsAlike, IsUnchanged, IsSettled}
 use Rattle.x_recheck.proofs.Numbering.{same_order, definition_kept}
@@ -39,7 +39,7 @@ same_sight b true c c' k k' l l' m m' eb ec ek el em = λ i. seen_at (eb i) (ec 
 same_sight b false c c' k k' l l' m m' eb ec ek el em = ap (λ t. seen_at t c k l m) eb ∙ (λ i. seen_at false (ec i) (ek i) (el i) m')
 
 -- what a kept item sees of a name whose first declarers are alike
-seen_alike : (p : Place) (r s : ℕ → Option Outcome) (was k : ℕ) (first now : Option Declarer) → old_number p k ≡ Some was → IsAlike p first now
+seen_alike : (p : ItemSplice) (r s : ℕ → Option Outcome) (was k : ℕ) (first now : Option Declarer) → old_number p k ≡ Some was → IsAlike p first now
     → ((o f : Declarer) → first ≡ Some o → now ≡ Some f → f.item < k → meaning_at r o ≡ meaning_at s f) → view_of r was first ≡ view_of s k now
 seen_alike p r s was k None None kept alike means = refl
 seen_alike p r s was k None (Some f) kept alike means = absurd alike

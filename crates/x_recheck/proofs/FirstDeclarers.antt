@@ -13,7 +13,7 @@ use Rattle.x_names.specs.Declarers.{is_beforehand, IsDeclarer, IsFirstDeclarer, 
 use Rattle.x_names.specs.declared.names.Declarer.{Declarer}
 use Rattle.x_names.proofs.DeclarerLaws.{first_is}
 use Rattle.x_names.proofs.NameLemmas.{option_or_after}
-use Rattle.x_uses.specs.declared.uses.Place.{Place}
+use Rattle.x_uses.specs.declared.uses.ItemSplice.{ItemSplice}
 use Rattle.x_recheck.specs.Editing.{TextEdit, definitions_after, IsEdit, definition_at}
 use Rattle.x_recheck.specs.Rechecking.{IsAlike, HasAlike, IsNamed}
 use Rattle.x_recheck.proofs.Numbering.{former_front, former_rear}
@@ -128,7 +128,7 @@ first_inside n k ds name le = by (first_from n ds name) (first_moved n n ds name
     by (Some a) moved below = (moved.0, below)
 
 -- first declarers are alike, unless that before the edit goes, or that after it is fresh
-alike_parts : (p : Place) (front removed rear put rear' : Option Declarer) → IsBelow p.at front → IsMoved (p.at + p.removed) (p.at + p.added) rear rear'
+alike_parts : (p : ItemSplice) (front removed rear put rear' : Option Declarer) → IsBelow p.at front → IsMoved (p.at + p.removed) (p.at + p.added) rear rear'
     → IsWithin p.at (p.at + p.removed) removed → IsWithin p.at (p.at + p.added) put
     → ((o : Declarer) → option_or front (option_or removed rear) ≡ Some o → p.at ≤ o.item → o.item < p.at + p.removed → IsAlike p (option_or front (option_or removed rear)) (option_or front (option_or put rear')))
     → ((f : Declarer) → option_or front (option_or put rear') ≡ Some f → p.at ≤ f.item → f.item < p.at + p.added → IsAlike p (option_or front (option_or removed rear)) (option_or front (option_or put rear')))
@@ -146,7 +146,7 @@ pub alike_everywhere : (e : TextEdit) (name : List ℕ) → IsEdit e
     → ((f : Declarer) → first_declarer (definitions_after e) name ≡ Some f → e.place.at ≤ f.item → f.item < e.place.at + e.place.added → HasAlike e name) → HasAlike e name
 alike_everywhere e name is without come = by (is_beforehand name) refl
   where
-    p : Place
+    p : ItemSplice
     p = e.place
 
     front : Option Declarer

@@ -14,7 +14,7 @@ use Rattle.x_rules.specs.Views.{Bad}
 use Rattle.x_rules.proofs.HasResults.{has_results}
 use Rattle.x_recheck.specs.Editing.{TextEdit, definitions_after, IsEdit, definition_at}
 use Rattle.x_recheck.specs.Staleness.{IsRecheck, IsStale}
-use Rattle.x_recheck.specs.Rechecking.{AddsItems, IsDecided, IsNamed, IsReady, IsSpread, IsTold, IsUnchanged, is_waiting}
+use Rattle.x_recheck.specs.Rechecking.{AddsItems, IsDecided, IsNamed, IsReady, IsSpread, IsWaitedFor, IsUnchanged, is_waiting}
 use Rattle.x_recheck.specs.declared.rechecking.Rechecked.{Rechecked}
 use Rattle.x_recheck.specs.declared.rechecking.queue.Queue.{Queue}
 use Rattle.x_recheck.proofs.DecidedLemmas.{decided_stale, decided_to, decided_unchanged}
@@ -34,7 +34,7 @@ unchanged_none e after k none = record {
 
 -- the users of a name know what it means, once the item was checked that declares it first
 spread_told : (e : TextEdit) (after : List (Option Outcome)) (waits : ℕ → Bool) (k : ℕ) (d : Definition) (names : List DeclaredName) (c : Outcome) → definition_at (definitions_after e) k ≡ Some d
-    → map view_name names ≡ declared d → Some c ≡ result_at after k → ((name : List ℕ) (place : ℕ) → IsNamed names place name → IsTold e k place c waits name)
+    → map view_name names ≡ declared d → Some c ≡ result_at after k → ((name : List ℕ) (place : ℕ) → IsNamed names place name → IsWaitedFor e k place c waits name)
     → (name : List ℕ) (f : Declarer) → first_declarer (definitions_after e) name ≡ Some f → f.item ≡ k → IsSpread e after waits k name
 spread_told e after waits k d names c has are result told name f first here j lt within u rests o g before now there =
     let item : result_at after g.item ≡ Some c = ap (result_at after) there ∙ sym result in
@@ -50,7 +50,7 @@ decided_same e after waits waits' rs k is are d same stay = subst (IsDecided e a
 pub decided_anew : (e : TextEdit) (after : List (Option Outcome)) (waits : ℕ → Bool) (q q' : Queue) (rs new : List Rechecked) (r : Rechecked) (k high : ℕ) (d : Definition) (names : List DeclaredName) → IsDecided e after waits rs k
     → r.item ≡ k → definition_at (definitions_after e) k ≡ Some d → map view_name names ≡ declared d → IsStale e after k × (Some r.checked ≡ result_at after k) → AddsItems q q' (k + 1) high
     → ((j : ℕ) → k < j → is_waiting q j ≡ false → waits j ≡ false)
-    → ((name : List ℕ) (place : ℕ) → IsNamed names place name → IsTold e k place r.checked (is_waiting q') name) → new ≡ rs ++ r ∷ [] → IsDecided e after (is_waiting q') new (k + 1)
+    → ((name : List ℕ) (place : ℕ) → IsNamed names place name → IsWaitedFor e k place r.checked (is_waiting q') name) → new ≡ rs ++ r ∷ [] → IsDecided e after (is_waiting q') new (k + 1)
 decided_anew e after waits q q' rs new r k high d names decided here has are found adds stay told pushed =
     subst (λ l. IsDecided e after (is_waiting q') l (k + 1)) (sym pushed)
     (subst (IsDecided e after (is_waiting q') (rs ++ r ∷ [])) (sym (add-one k))

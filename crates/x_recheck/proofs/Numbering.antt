@@ -7,7 +7,7 @@ use Rattle.std.proofs.lemmas.List.{length-take-le}
 use Rattle.std.proofs.lemmas.Option.{same_Some, slice_get_within}
 use Rattle.x_trees.specs.Tree.{Definition}
 use Rattle.x_text.proofs.ListLemmas.{get_drop}
-use Rattle.x_uses.specs.declared.uses.Place.{Place}
+use Rattle.x_uses.specs.declared.uses.ItemSplice.{ItemSplice}
 use Rattle.x_recheck.specs.Editing.{TextEdit, definitions_after, IsEdit, definition_at, old_number}
 use Rattle.x_names.specs.Declarers.{AreShort, IsShort}
 use Rattle.x_recheck.specs.Rechecking.{IsFormer}
@@ -35,10 +35,10 @@ get_take (suc n) (x ∷ xs) (suc i) lt = get_take n xs i (omega (arith, lt))
 -- ---- numbers
 
 -- a kept item stands before the place or behind it
-abbrev pub IsKeptAs : Place → ℕ → ℕ → Type 0
+abbrev pub IsKeptAs : ItemSplice → ℕ → ℕ → Type 0
 IsKeptAs p k j = ((k < p.at) × (j ≡ k)) ⊎ ((p.at + p.added ≤ k) × (j + p.added ≡ k + p.removed))
 
-pub kept_cases : (p : Place) (k j : ℕ) → old_number p k ≡ Some j → IsKeptAs p k j
+pub kept_cases : (p : ItemSplice) (k j : ℕ) → old_number p k ≡ Some j → IsKeptAs p k j
 kept_cases p k j h = by (nat_lt k p.at) refl (nat_lt k (p.at + p.added)) refl h
   where
     by : (b : Bool) → nat_lt k p.at ≡ b → (c : Bool) → nat_lt k (p.at + p.added) ≡ c → cond b (Some k) (cond c None (Some (k - p.added + p.removed))) ≡ Some j → IsKeptAs p k j
@@ -49,7 +49,7 @@ kept_cases p k j h = by (nat_lt k p.at) refl (nat_lt k (p.at + p.added)) refl h
         let is : k - p.added + p.removed ≡ j = same_Some (k - p.added + p.removed) j h in
         inr (behind, omega (arith, behind, is))
 
-pub fresh_cases : (p : Place) (k : ℕ) → old_number p k ≡ None → (p.at ≤ k) × (k < p.at + p.added)
+pub fresh_cases : (p : ItemSplice) (k : ℕ) → old_number p k ≡ None → (p.at ≤ k) × (k < p.at + p.added)
 fresh_cases p k h = by (nat_lt k p.at) refl (nat_lt k (p.at + p.added)) refl h
   where
     by : (b : Bool) → nat_lt k p.at ≡ b → (c : Bool) → nat_lt k (p.at + p.added) ≡ c → cond b (Some k) (cond c None (Some (k - p.added + p.removed))) ≡ None → (p.at ≤ k) × (k < p.at + p.added)
@@ -57,10 +57,10 @@ fresh_cases p k h = by (nat_lt k p.at) refl (nat_lt k (p.at + p.added)) refl h
     by false e true d h = (ltb-false k p.at e, ltb-true k (p.at + p.added) d)
     by false e false d h = absurd (cc)
 
-pub number_front : (p : Place) (k : ℕ) → k < p.at → old_number p k ≡ Some k
+pub number_front : (p : ItemSplice) (k : ℕ) → k < p.at → old_number p k ≡ Some k
 number_front p k lt = ap (λ b. cond b (Some k) (cond (nat_lt k (p.at + p.added)) None (Some (k - p.added + p.removed)))) (lt-ltb k p.at lt)
 
-pub number_rear : (p : Place) (k : ℕ) → p.at + p.added ≤ k → old_number p k ≡ Some (k - p.added + p.removed)
+pub number_rear : (p : ItemSplice) (k : ℕ) → p.at + p.added ≤ k → old_number p k ≡ Some (k - p.added + p.removed)
 number_rear p k le =
     let front : p.at ≤ k = omega (arith, le) in
     ap (λ b. cond b (Some k) (cond (nat_lt k (p.at + p.added)) None (Some (k - p.added + p.removed)))) (le-ltb k p.at front)
@@ -69,7 +69,7 @@ number_rear p k le =
 -- ---- what stands there
 
 -- the edit leaves what a kept item is
-pub spliced_kept : {X : Type 0} (old put : List X) (p : Place) (k j : ℕ) → p.at + p.removed ≤ length old → p.added ≡ length put → IsKeptAs p k j
+pub spliced_kept : {X : Type 0} (old put : List X) (p : ItemSplice) (k j : ℕ) → p.at + p.removed ≤ length old → p.added ≡ length put → IsKeptAs p k j
     → slice_get (splice old p.at (p.at + p.removed) put) k ≡ slice_get old j
 spliced_kept old put p k j within added (inl h) =
     let long : length (take p.at old) ≡ p.at = length-take-le p.at old (omega (arith, within)) in
@@ -86,7 +86,7 @@ spliced_kept old put p k j within added (inr h) =
     ∙ ap (slice_get old) same
 
 -- a fresh item is one of those that are put in
-pub spliced_fresh : {X : Type 0} (old put : List X) (p : Place) (k : ℕ) → p.at + p.removed ≤ length old → p.added ≡ length put → p.at ≤ k → k < p.at + p.added
+pub spliced_fresh : {X : Type 0} (old put : List X) (p : ItemSplice) (k : ℕ) → p.at + p.removed ≤ length old → p.added ≡ length put → p.at ≤ k → k < p.at + p.added
     → slice_get (splice old p.at (p.at + p.removed) put) k ≡ slice_get put (k - p.at)
 spliced_fresh old put p k within added le lt =
     let long : length (take p.at old) ≡ p.at = length-take-le p.at old (omega (arith, within)) in
@@ -127,10 +127,10 @@ short_after e is item d h = by (old_number e.place item) refl
 
 -- ---- who stood where
 
-abbrev IsPlaced : Place → ℕ → ℕ → Type 0
+abbrev IsPlaced : ItemSplice → ℕ → ℕ → Type 0
 IsPlaced p o f = ((f < p.at) × (o ≡ f)) ⊎ (((p.at ≤ f) × (f < p.at + p.added) × (p.at ≤ o) × (o < p.at + p.removed)) ⊎ ((p.at + p.added ≤ f) × (o + p.added ≡ f + p.removed)))
 
-former_cases : (p : Place) (o f : ℕ) → IsFormer p o (old_number p f) → IsPlaced p o f
+former_cases : (p : ItemSplice) (o f : ℕ) → IsFormer p o (old_number p f) → IsPlaced p o f
 former_cases p o f h = by (old_number p f) refl h
   where
     kept : (j : ℕ) → o ≡ j → IsKeptAs p f j → IsPlaced p o f
@@ -141,10 +141,10 @@ former_cases p o f h = by (old_number p f) refl h
     by None e h = let c = fresh_cases p f e in inr (inl (c.0, c.1, h.0, h.1))
     by (Some j) e h = kept j h (kept_cases p f j e)
 
-pub former_front : (p : Place) (k : ℕ) → k < p.at → IsFormer p k (old_number p k)
+pub former_front : (p : ItemSplice) (k : ℕ) → k < p.at → IsFormer p k (old_number p k)
 former_front p k lt = subst (IsFormer p k) (sym (number_front p k lt)) refl
 
-pub former_rear : (p : Place) (o f : ℕ) → p.at + p.removed ≤ o → o + (p.at + p.added) ≡ f + (p.at + p.removed) → IsFormer p o (old_number p f)
+pub former_rear : (p : ItemSplice) (o f : ℕ) → p.at + p.removed ≤ o → o + (p.at + p.added) ≡ f + (p.at + p.removed) → IsFormer p o (old_number p f)
 former_rear p o f le sum =
     let behind : p.at + p.added ≤ f = omega (arith, le, sum) in
     let same : o ≡ f - p.added + p.removed = omega (arith, behind, sum) in
@@ -157,7 +157,7 @@ pub record IsSameOrder (o was f k : ℕ) : Type 0 where
   pub behind : was < o → k < f
   pub behind' : k < f → was < o
 
-order_at : (p : Place) (o was f k : ℕ) → IsKeptAs p k was → IsPlaced p o f → IsSameOrder o was f k
+order_at : (p : ItemSplice) (o was f k : ℕ) → IsKeptAs p k was → IsPlaced p o f → IsSameOrder o was f k
 order_at p o was f k (inl c) (inl x) =
     let a = c.1 in
     let b = x.1 in
@@ -192,5 +192,5 @@ order_at p o was f k (inr c) (inr (inr x)) =
     record { before = λ l. omega (arith, a, b, l); before' = λ l. omega (arith, a, b, l); behind = λ l. omega (arith, a, b, l); behind' = λ l. omega (arith, a, b, l) }
 
 -- a kept item stands to a declarer as it did
-pub same_order : (p : Place) (o was f k : ℕ) → old_number p k ≡ Some was → IsFormer p o (old_number p f) → IsSameOrder o was f k
+pub same_order : (p : ItemSplice) (o was f k : ℕ) → old_number p k ≡ Some was → IsFormer p o (old_number p f) → IsSameOrder o was f k
 same_order p o was f k kept former = order_at p o was f k (kept_cases p k was kept) (former_cases p o f former)

@@ -3,7 +3,7 @@ use Rattle.std.proofs.Common.{◌≡◌, ◌<◌, ◌≤◌, ℕ, Bool, true, fa
 use Rattle.std.proofs.lemmas.Bool.{true≢false}
 use Rattle.x_rules.specs.Results.{Outcome}
 use Rattle.x_recheck.specs.Editing.{TextEdit}
-use Rattle.x_recheck.specs.Rechecking.{AddsItems, IsCovered, IsTold, is_waiting}
+use Rattle.x_recheck.specs.Rechecking.{AddsItems, IsCovered, IsWaitedFor, is_waiting}
 use Rattle.x_recheck.specs.declared.rechecking.queue.Queue.{Queue}
 
 pub rests_before : (a b : Queue) (low high k : ℕ) → AddsItems a b low high → is_waiting b k ≡ false → is_waiting a k ≡ false
@@ -29,5 +29,5 @@ adds_more a b c low high h m = record {
 pub covered_more : (e : TextEdit) (a b : Queue) (low high : ℕ) (name : List ℕ) → AddsItems a b low high → IsCovered e (is_waiting a) name → IsCovered e (is_waiting b) name
 covered_more e a b low high name adds h k lt u rests = h k lt u (rests_before a b low high k adds rests)
 
-pub told_more : (e : TextEdit) (item place : ℕ) (found : Outcome) (a b : Queue) (low high : ℕ) (name : List ℕ) → AddsItems a b low high → IsTold e item place found (is_waiting a) name → IsTold e item place found (is_waiting b) name
+pub told_more : (e : TextEdit) (item place : ℕ) (found : Outcome) (a b : Queue) (low high : ℕ) (name : List ℕ) → AddsItems a b low high → IsWaitedFor e item place found (is_waiting a) name → IsWaitedFor e item place found (is_waiting b) name
 told_more e item place found a b low high name adds h k lt within u rests = h k lt within u (rests_before a b low high k adds rests)

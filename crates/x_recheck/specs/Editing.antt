@@ -5,26 +5,26 @@ use Rattle.std.specs.List.{splice}
 use Rattle.x_trees.specs.Tree.{Definition}
 use Rattle.x_names.specs.Declarers.{AreShort}
 use Rattle.x_rules.specs.Results.{Outcome, AreResults, result_at}
-use Rattle.x_uses.specs.declared.uses.Place.{Place}
+use Rattle.x_uses.specs.declared.uses.ItemSplice.{ItemSplice}
 
 -- what a list of definitions has for an item
 abbrev pub definition_at : List (Option Definition) → ℕ → Option Definition
 definition_at definitions item = option_and_then (λ d. d) (slice_get definitions item)
 
 -- the number that an item had before the edit, unless it is fresh
-abbrev pub old_number : Place → ℕ → Option ℕ
+abbrev pub old_number : ItemSplice → ℕ → Option ℕ
 old_number place k =
     if nat_lt k place.at then Some k
     else (if nat_lt k (place.at + place.added) then None else Some (k - place.added + place.removed))
 
 -- the number that an item has after the edit, unless it goes
-abbrev pub new_number : Place → ℕ → Option ℕ
+abbrev pub new_number : ItemSplice → ℕ → Option ℕ
 new_number place j =
     if nat_lt j place.at then Some j
     else (if nat_lt j (place.at + place.removed) then None else Some (j - place.removed + place.added))
 
 -- the result that an item had before the edit, unless it is fresh
-abbrev pub old_result : Place → List (Option Outcome) → ℕ → Option Outcome
+abbrev pub old_result : ItemSplice → List (Option Outcome) → ℕ → Option Outcome
 old_result place outcomes k = option_and_then (result_at outcomes) (old_number place k)
 
 -- The definitions of the items of a text, and what checking them found.
@@ -37,11 +37,11 @@ pub record CheckedText : Type 0 where
 pub record TextEdit : Type 0 where
   pub old : List (Option Definition)
   pub outcomes : List (Option Outcome)
-  pub place : Place
+  pub place : ItemSplice
   pub put : List (Option Definition)
 
 -- an edit of this text, which puts these definitions in at the place
-abbrev pub edit_at : CheckedText → Place → List (Option Definition) → TextEdit
+abbrev pub edit_at : CheckedText → ItemSplice → List (Option Definition) → TextEdit
 edit_at text place put = record { old = text.definitions; outcomes = text.outcomes; place = place; put = put }
 
 -- the definitions after the edit

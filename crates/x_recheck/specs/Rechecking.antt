@@ -13,7 +13,7 @@ use Rattle.x_names.specs.Declarers.{first_declarer}
 use Rattle.x_names.specs.declared.names.Declarer.{Declarer}
 use Rattle.x_rules.specs.Results.{Outcome, AreResults, result_at, meaning_at, meaning_in, view_by}
 use Rattle.x_trees.specs.Seen.{names_of}
-use Rattle.x_uses.specs.declared.uses.Place.{Place}
+use Rattle.x_uses.specs.declared.uses.ItemSplice.{ItemSplice}
 use Rattle.x_recheck.specs.Editing.{CheckedText, TextEdit, edit_at, count_after, definitions_after, IsEdit}
 use Rattle.x_recheck.specs.Editing.{definition_at, old_number}
 use Rattle.x_uses.specs.Occurrences.{Definitions, UseTable, IsUsesOf}
@@ -47,12 +47,12 @@ abbrev pub SeesOther : TextEdit → (ℕ → Option Outcome) → ℕ → ℕ →
 SeesOther e results was k names = (name : List ℕ) × IsAmong names name × (SeesSame e results was k name → ⊥)
 
 -- the item o of the text before is that of this old number; it went, where the item now is fresh
-abbrev pub IsFormer : Place → ℕ → Option ℕ → Type 0
+abbrev pub IsFormer : ItemSplice → ℕ → Option ℕ → Type 0
 IsFormer place o None = (place.at ≤ o) × (o < place.at + place.removed)
 IsFormer place o (Some j) = o ≡ j
 
 -- first declarers before and after the edit are alike to each kept item, but for what the name means
-abbrev pub IsAlike : Place → Option Declarer → Option Declarer → Type 0
+abbrev pub IsAlike : ItemSplice → Option Declarer → Option Declarer → Type 0
 IsAlike place None None = Unit {0}
 IsAlike place None (Some f) = ⊥
 IsAlike place (Some o) None = ⊥
@@ -191,6 +191,6 @@ IsMeantAs e item place found name = (o f : Declarer) → first_declarer e.old na
     → meaning_at (result_at e.outcomes) o ≡ meaning_in found place
 
 -- so it is where a kept user of the name behind the item does not wait
-abbrev pub IsTold : TextEdit → ℕ → ℕ → Outcome → (ℕ → Bool) → List ℕ → Type 0
-IsTold e item place found waits name = (k : ℕ) → item < k → k < count_after e → IsKeptUser e k name
+abbrev pub IsWaitedFor : TextEdit → ℕ → ℕ → Outcome → (ℕ → Bool) → List ℕ → Type 0
+IsWaitedFor e item place found waits name = (k : ℕ) → item < k → k < count_after e → IsKeptUser e k name
     → waits k ≡ false → IsMeantAs e item place found name

@@ -22,7 +22,7 @@ use std::alloc::Global;
 use x_rules::Checked;
 use x_text::{Meter, NoMemory};
 use x_trees::Definition;
-use x_uses::{Place, Uses};
+use x_uses::{ItemSplice, Uses};
 
 /// The items of a text, with what checking them found.
 pub trait CheckedItems {
@@ -61,7 +61,7 @@ pub fn recheck<L: CheckedItems>(
     alloc: Global,
     old: &L,
     put: &[Option<&Definition>],
-    place: Place,
+    place: ItemSplice,
     uses: &Uses,
     fresh: &Uses,
     meter: &mut Meter,

@@ -18,7 +18,7 @@ use Rattle.x_rules.specs.Found.{fault_at}
 use Rattle.x_numbers.specs.Numbers.{is_enum_number, is_word_number}
 use Rattle.x_rules.specs.Rules.{Breaks, IsOutside, IsBadCase, HasNoFault}
 use Rattle.x_rules.specs.Types.{declaration_class}
-use Rattle.x_rules.specs.Views.{View, Class, NoClass, Signed, Unsigned, Boolean, Enumeration}
+use Rattle.x_rules.specs.Views.{View, Class, Other, Signed, Unsigned, Boolean, Enumeration}
 use Rattle.x_rules.specs.declared.fault.RuleCode.{RuleCode}
 use Rattle.x_rules.specs.declared.fault.RuleCode.TheVariants as codes
 use Rattle.x_rules.specs.declared.fault.WordFault.{WordFault}
@@ -58,7 +58,7 @@ not_same z n other = by (int_eq z n) refl
     by false e = refl
 
 outside_is : (class : Class) (z : ℤ) → is_outside class z ≡ true → IsOutside class z
-outside_is NoClass z e = absurd (cc)
+outside_is Other z e = absurd (cc)
 outside_is Signed z e = not_true (is_enum_number z) e
 outside_is Unsigned z e = not_true (is_word_number z) e
 outside_is Boolean z e =
@@ -68,7 +68,7 @@ outside_is (Enumeration numbers) z e =
     λ k. let is : false ≡ true = sym (not_true (list_any (int_eq z) numbers) e) ∙ any_found (int_eq z) numbers z k (int_eq_equiv.refl z) in absurd (cc)
 
 is_outside_of : (class : Class) (z : ℤ) → IsOutside class z → is_outside class z ≡ true
-is_outside_of NoClass z h = absurd h
+is_outside_of Other z h = absurd h
 is_outside_of Signed z h = ap not h
 is_outside_of Unsigned z h = ap not h
 is_outside_of Boolean z h = ap (λ b. not b && not (int_eq z (pos 1))) (not_same z (pos 0) h.0) ∙ ap not (not_same z (pos 1) h.1)

@@ -5,7 +5,7 @@ use Rattle.x_trees.specs.Spell.{spell_type, spell_body, spell_argument, spell_pa
 use Rattle.x_trees.proofs.CollectLemmas.{finds_none, finds_then, finds_as}
 use Rattle.x_rules.specs.Bodies.{Members, no_members, procedures_from, procedures_of, versions_from}
 use Rattle.x_names.specs.Declarers.{IsShort}
-use Rattle.x_rules.specs.MemberWalks.{Skips, Place, Adds, AddsName, AddsNumber, AddsProcedure, AddsProcedures, AddsVersions, AddsVersion, place, start}
+use Rattle.x_rules.specs.MemberWalks.{Skips, WalkState, Adds, AddsName, AddsNumber, AddsProcedure, AddsProcedures, AddsVersions, AddsVersion, place, start}
 use Rattle.x_rules.specs.Tables.{view_name_at, view_number_at, view_members}
 use Rattle.x_rules.specs.declared.outline.bodies.BodyWalk.{BodyWalk}
 use Rattle.x_rules.specs.declared.outline.parts.Members as rust
@@ -15,13 +15,13 @@ use Rattle.x_text.proofs.ListLemmas.{map_append}
 abbrev joined : Members → Members → Members
 joined a b = record { names = a.names ++ b.names; numbers = a.numbers ++ b.numbers }
 
-pub adds_none : (a : Place) → Adds a a 0 (λ k. []) (λ k. no_members)
+pub adds_none : (a : WalkState) → Adds a a 0 (λ k. []) (λ k. no_members)
 adds_none a = record { groups = finds_none _; names = finds_none _; numbers = finds_none _ }
 
-adds_then : {a b c : Place} {n m : ℕ} {f g : ℕ → List Members} {p q : ℕ → Members} → Adds a b n f p → Adds b c m g q → Adds a c (n + m) (λ k. f k ++ g (k + n)) (λ k. joined (p k) (q (k + n)))
+adds_then : {a b c : WalkState} {n m : ℕ} {f g : ℕ → List Members} {p q : ℕ → Members} → Adds a b n f p → Adds b c m g q → Adds a c (n + m) (λ k. f k ++ g (k + n)) (λ k. joined (p k) (q (k + n)))
 adds_then x y = record { groups = finds_then x.groups y.groups; names = finds_then x.names y.names; numbers = finds_then x.numbers y.numbers }
 
-adds_as : {a b : Place} {n m : ℕ} {f g : ℕ → List Members} {p q : ℕ → Members} → Adds a b n f p → n ≡ m → ((k : ℕ) → f k ≡ g k) → ((k : ℕ) → (p k).names ≡ (q k).names) → ((k : ℕ) → (p k).numbers ≡ (q k).numbers)
+adds_as : {a b : WalkState} {n m : ℕ} {f g : ℕ → List Members} {p q : ℕ → Members} → Adds a b n f p → n ≡ m → ((k : ℕ) → f k ≡ g k) → ((k : ℕ) → (p k).names ≡ (q k).names) → ((k : ℕ) → (p k).numbers ≡ (q k).numbers)
     → Adds a b m g q
 adds_as x same groups names numbers = record { groups = finds_as _ _ x.groups same groups; names = finds_as _ _ x.names same names; numbers = finds_as _ _ x.numbers same numbers }
 
@@ -84,7 +84,7 @@ adds_procedure a b c d m n o p x name y number z =
     there : (k r f o : ℕ) → ((k + r) + 0) + (2 + (f + (o + 2))) ≡ ((k + r) + 2) + (f + o) + 2
     there k r f o = omega arith
 
-pub adds_procedures : {a b c : Place} (p : tree.Procedure) (ps : List tree.Procedure) → AddsProcedure a b p → AddsProcedures b c ps → AddsProcedures a c (p ∷ ps)
+pub adds_procedures : {a b c : WalkState} (p : tree.Procedure) (ps : List tree.Procedure) → AddsProcedure a b p → AddsProcedures b c ps → AddsProcedures a c (p ∷ ps)
 adds_procedures p ps x y = adds_as (adds_then x y) (sym (length-append (spell_procedure p) (spell_procedures ps))) (λ k. refl) (λ k. refl) (λ k. refl)
 
 -- where nothing was found yet
@@ -93,10 +93,10 @@ place_start word m names numbers =
     ap (λ l. record { word = word; groups = []; names = map view_name_at l; numbers = map view_number_at m.numbers.items }) names
     ∙ ap (λ l. record { word = word; groups = []; names = []; numbers = map view_number_at l }) numbers
 
-pub procedures_start : (word : ℕ) (m : rust.Members) (to : Place) (ps : List tree.Procedure) → m.names.items ≡ [] → m.numbers.items ≡ [] → AddsProcedures (place word [] m) to ps → AddsProcedures (start word) to ps
+pub procedures_start : (word : ℕ) (m : rust.Members) (to : WalkState) (ps : List tree.Procedure) → m.names.items ≡ [] → m.numbers.items ≡ [] → AddsProcedures (place word [] m) to ps → AddsProcedures (start word) to ps
 procedures_start word m to ps names numbers x = subst (λ a. AddsProcedures a to ps) (place_start word m names numbers) x
 
-pub versions_start : (word : ℕ) (groups : List rust.Members) (m : rust.Members) (to : Place) (vs : List tree.Version) → groups ≡ [] → m.names.items ≡ [] → m.numbers.items ≡ [] → AddsVersions (place word groups m) to vs
+pub versions_start : (word : ℕ) (groups : List rust.Members) (m : rust.Members) (to : WalkState) (vs : List tree.Version) → groups ≡ [] → m.names.items ≡ [] → m.numbers.items ≡ [] → AddsVersions (place word groups m) to vs
     → AddsVersions (start word) to vs
 versions_start word groups m to vs none names numbers x = subst (λ a. AddsVersions a to vs) (ap (λ l. place word l m) none ∙ place_start word m names numbers) x
 

@@ -7,7 +7,7 @@ use Rattle.std.specs.List.{IsAmong}
 use Rattle.x_trees.specs.Tree as tree
 use Rattle.x_trees.specs.Gloss as gloss
 use Rattle.x_trees.specs.Gloss.{Role}
-use Rattle.x_rules.specs.Views.{View, Class, NoClass, Signed, Unsigned, Boolean, Enumeration}
+use Rattle.x_rules.specs.Views.{View, Class, Other, Signed, Unsigned, Boolean, Enumeration}
 use Rattle.x_rules.specs.Bodies.{enumerators}
 use Rattle.x_numbers.specs.Numbers.{magnitude, is_negative, in_range, value, is_word_number, is_enum_number, is_zero}
 use Rattle.x_rules.specs.Constants.{knowns, limit_of, number_by}
@@ -53,9 +53,9 @@ where_false : (b : Bool) (a code : RuleCode) → cond b no_code (Some a) ≡ Som
 where_false true a code h = absurd (cc)
 where_false false a code h = (refl, same_Some a code h)
 
-class_none : (class : Option Class) → has_no_class class ≡ true → class ≡ Some NoClass
+class_none : (class : Option Class) → has_no_class class ≡ true → class ≡ Some Other
 class_none None h = absurd (cc)
-class_none (Some NoClass) h = refl
+class_none (Some Other) h = refl
 class_none (Some Signed) h = absurd (cc)
 class_none (Some Unsigned) h = absurd (cc)
 class_none (Some Boolean) h = absurd (cc)

@@ -5,7 +5,7 @@ use Rattle.std.specs.List.{flat_map, list_any}
 use Rattle.std.specs.Ordering.{int_eq}
 use Rattle.x_trees.specs.Tree as tree
 use Rattle.x_trees.specs.View.{view_body}
-use Rattle.x_rules.specs.Views.{View, Class, NoClass, Signed, Unsigned, Boolean, Enumeration}
+use Rattle.x_rules.specs.Views.{View, Class, Other, Signed, Unsigned, Boolean, Enumeration}
 use Rattle.x_rules.specs.Bodies.{ValueAt}
 use Rattle.x_rules.specs.Constants.{Known, limit_of, number_by}
 use Rattle.x_rules.specs.Found.{fault_at}
@@ -19,7 +19,7 @@ use Rattle.x_rules.specs.declared.outline.parts.BodyAt.{BodyAt}
 
 -- whether the discriminant has no value of the number
 abbrev pub is_outside : Class → ℤ → Bool
-is_outside NoClass z = false
+is_outside Other z = false
 is_outside Signed z = not (is_enum_number z)
 is_outside Unsigned z = not (is_word_number z)
 is_outside Boolean z = not (int_eq z (pos 0)) && not (int_eq z (pos 1))

@@ -7,7 +7,7 @@ use Rattle.x_trees.specs.Tree.{Definition, Value, Number, Named}
 use Rattle.x_trees.specs.Names.{Declared, declared}
 use Rattle.x_trees.specs.Mentions.{Mention, mentioned}
 use Rattle.x_rules.specs.Views as views
-use Rattle.x_rules.specs.Views.{View, Class, NoClass}
+use Rattle.x_rules.specs.Views.{View, Class, Other}
 use Rattle.x_trees.specs.Seen.{names_of}
 use Rattle.x_rules.specs.Bodies.{EnumeratorAt, NameAt, ValueAt, NumberAt, Members, bodies, enumerators}
 use Rattle.x_rules.specs.Bodies.{cases_of, fields_of, members}
@@ -99,7 +99,7 @@ spelled_fault None = Some codes.Range
 spelled_fault (Some z) = if is_word_number z then None else Some codes.Range
 
 abbrev pub has_no_class : Option Class → Bool
-has_no_class (Some NoClass) = true
+has_no_class (Some Other) = true
 has_no_class class = false
 
 abbrev pub discriminant_fault : Option Class → Option RuleCode

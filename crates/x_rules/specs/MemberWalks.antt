@@ -15,13 +15,13 @@ Skips from to n = Covers (view_walk from) (view_walk to) n (λ k. [])
 
 -- the word to which a walk has come; the members of the versions that it has gone over; the names and the
 -- numbers that it has found of those that it is among
-pub record Place : Type 0 where
+pub record WalkState : Type 0 where
   pub word : ℕ
   pub groups : List bodies.Members
   pub names : List bodies.NameAt
   pub numbers : List bodies.NumberAt
 
-abbrev pub place : ℕ → List Members → Members → Place
+abbrev pub place : ℕ → List Members → Members → WalkState
 place word groups m = record {
   word = word;
   groups = map view_members groups;
@@ -30,7 +30,7 @@ place word groups m = record {
 }
 
 -- the walk has gone over n words more, and found these from the word on where it was
-pub record Adds (a b : Place) (n : ℕ) (more : ℕ → List bodies.Members)
+pub record Adds (a b : WalkState) (n : ℕ) (more : ℕ → List bodies.Members)
     (found : ℕ → bodies.Members) : Type 0 where
   pub groups : Covers (record { word = a.word; list = a.groups })
       (record { word = b.word; list = b.groups }) n more
@@ -52,7 +52,7 @@ AddsNumber word from to text =
     (λ k. record { names = []; numbers = record { word = k; text = text } ∷ [] })
 
 -- nothing is found yet
-abbrev pub start : ℕ → Place
+abbrev pub start : ℕ → WalkState
 start word = record { word = word; groups = []; names = []; numbers = [] }
 
 -- a procedure alone
@@ -61,16 +61,16 @@ procedure_at at p =
     bodies.member (record { word = bodies.procedure_name at p; name = p.name })
     (record { word = bodies.procedure_number at p; text = p.number }) bodies.no_members
 
-abbrev pub AddsProcedure : Place → Place → tree.Procedure → Type 0
+abbrev pub AddsProcedure : WalkState → WalkState → tree.Procedure → Type 0
 AddsProcedure a b p = Adds a b (length (spell_procedure p)) (λ k. []) (λ k. procedure_at k p)
 
-abbrev pub AddsProcedures : Place → Place → List tree.Procedure → Type 0
+abbrev pub AddsProcedures : WalkState → WalkState → List tree.Procedure → Type 0
 AddsProcedures a b ps = Adds a b (length (spell_procedures ps)) (λ k. []) (λ k. bodies.procedures_from k ps)
 
-abbrev pub AddsVersions : Place → Place → List tree.Version → Type 0
+abbrev pub AddsVersions : WalkState → WalkState → List tree.Version → Type 0
 AddsVersions a b vs =
     Adds a b (length (spell_versions vs)) (λ k. bodies.procedures_of k vs) (λ k. bodies.versions_from k vs)
 
 -- a version, whatever is found of those behind it
-abbrev pub AddsVersion : Place → Place → tree.Version → Type 0
-AddsVersion a b v = (to : Place) (vs : List tree.Version) → AddsVersions b to vs → AddsVersions a to (v ∷ vs)
+abbrev pub AddsVersion : WalkState → WalkState → tree.Version → Type 0
+AddsVersion a b v = (to : WalkState) (vs : List tree.Version) → AddsVersions b to vs → AddsVersions a to (v ∷ vs)

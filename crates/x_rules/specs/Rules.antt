@@ -13,7 +13,7 @@ use Rattle.x_trees.specs.Mentions.{Mention, mentioned}
 use Rattle.x_trees.specs.Spell.{spell_declaration}
 use Rattle.x_numbers.specs.Numbers.{in_range, value, is_word_number, is_enum_number, number_spelled}
 use Rattle.x_rules.specs.Views as views
-use Rattle.x_rules.specs.Views.{View, Class, NoClass, Signed, Unsigned, Boolean, Enumeration}
+use Rattle.x_rules.specs.Views.{View, Class, Other, Signed, Unsigned, Boolean, Enumeration}
 use Rattle.x_rules.specs.Bodies.{BodyAt, EnumeratorAt, NameAt, ValueAt, NumberAt, Members, bodies}
 use Rattle.x_rules.specs.Bodies.{enumerators, cases_of, members, name_groups}
 use Rattle.x_rules.specs.Constants.{Known, knowns, number_at}
@@ -167,7 +167,7 @@ pub record IsVoidPlace (d : Definition) (word : ℕ) : Type 0 where
 pub record IsBadDiscriminant (d : Definition) (see : List ℕ → View) (word : ℕ) : Type 0 where
   pub discriminant : Declaration
   pub has_role : HasRole d word (gloss.Discriminant discriminant)
-  pub no_class : declaration_class see (knowns see (enumerators d)) discriminant ≡ Some NoClass
+  pub no_class : declaration_class see (knowns see (enumerators d)) discriminant ≡ Some Other
 
 -- ---- 31
 
@@ -259,7 +259,7 @@ Breaks d see word codes.UsesFaulty = HasMentionFault (mentioned d) see (enumerat
 
 -- the discriminant has no value of the number
 abbrev pub IsOutside : Class → ℤ → Type 0
-IsOutside NoClass z = ⊥
+IsOutside Other z = ⊥
 IsOutside Signed z = is_enum_number z ≡ false
 IsOutside Unsigned z = is_word_number z ≡ false
 IsOutside Boolean z = (z ≡ pos 0 → ⊥) × (z ≡ pos 1 → ⊥)

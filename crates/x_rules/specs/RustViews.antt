@@ -8,7 +8,7 @@ use Rattle.x_rules.specs.declared.views.View.{View}
 use Rattle.x_rules.specs.declared.views.View.TheVariants as seen
 
 abbrev pub view_class : Class → views.Class
-view_class classes.Other = views.NoClass
+view_class classes.Other = views.Other
 view_class classes.Signed = views.Signed
 view_class classes.Unsigned = views.Unsigned
 view_class classes.Boolean = views.Boolean

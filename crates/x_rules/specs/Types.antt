@@ -11,7 +11,7 @@ use Rattle.x_trees.specs.declared.trees.declaration.Tag.{Tag}
 use Rattle.x_trees.specs.declared.names.mention.Use.{Use}
 use Rattle.x_trees.specs.declared.names.mention.Use.TheVariants as uses
 use Rattle.x_rules.specs.Views as views
-use Rattle.x_rules.specs.Views.{View, Class, NoClass, Signed, Unsigned, Boolean, Enumeration}
+use Rattle.x_rules.specs.Views.{View, Class, Other, Signed, Unsigned, Boolean, Enumeration}
 use Rattle.x_numbers.specs.Numbers.{is_enum_number}
 use Rattle.x_rules.specs.Bodies.{bodies}
 use Rattle.x_rules.specs.Constants.{Known, number_named}
@@ -54,7 +54,7 @@ basic_class basics.Unsigned = Unsigned
 basic_class basics.UnsignedInt = Unsigned
 basic_class basics.UnsignedLong = Unsigned
 basic_class basics.Bool = Boolean
-basic_class basic = NoClass
+basic_class basic = Other
 
 -- the number, if an enum may have it
 abbrev pub enum_number : Option ℤ → Option ℤ
@@ -69,7 +69,7 @@ enum_class known es =
 
 abbrev pub body_class : List Known → tree.Body → Option Class
 body_class known (tree.Enum es) = enum_class known es
-body_class known body = Some NoClass
+body_class known body = Some Other
 
 -- the class of a type; none is known where the use of a name has a fault
 abbrev pub type_class : (List ℕ → View) → List Known → tree.DataType → Option Class
@@ -82,7 +82,7 @@ type_class see known (tree.Inline body) = body_class known body
 abbrev pub declaration_class : (List ℕ → View) → List Known → tree.Declaration → Option Class
 declaration_class see known tree.Void = None
 declaration_class see known (tree.Of type name tree.Plain) = type_class see known type
-declaration_class see known declaration = Some NoClass
+declaration_class see known declaration = Some Other
 
 -- ---- heights
 

@@ -7,7 +7,7 @@ use Rattle.x_trees.specs.declared.names.declared_name.NameKind.{NameKind}
 
 -- what a type is as the discriminant of a union; an enum's numbers ascend, and each stands once
 pub data Class : Type 0 where
-  NoClass : Class
+  Other : Class
   Signed : Class
   Unsigned : Class
   Boolean : Class

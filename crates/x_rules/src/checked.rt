@@ -15,7 +15,7 @@ use x_text::NoMemory;
 
 /// A class, with numbers that it shares.
 #[derive(Debug, Drop)]
-pub enum KeptClass {
+pub enum OwnedClass {
     Other,
     Signed,
     Unsigned,
@@ -23,17 +23,17 @@ pub enum KeptClass {
     Enumeration(Numbers),
 }
 
-impl KeptClass {
+impl OwnedClass {
     /// The class that is lent.
-    pub fn of(class: Class) -> Result<KeptClass, NoMemory>
+    pub fn of(class: Class) -> Result<OwnedClass, NoMemory>
         ensures { IfOk result (λ kept. kept_class kept ≡ view_class class.entry) }
     {
         Ok(match class {
-            Class::Other => KeptClass::Other,
-            Class::Signed => KeptClass::Signed,
-            Class::Unsigned => KeptClass::Unsigned,
-            Class::Boolean => KeptClass::Boolean,
-            Class::Enumeration(numbers) => KeptClass::Enumeration(numbers.share()?),
+            Class::Other => OwnedClass::Other,
+            Class::Signed => OwnedClass::Signed,
+            Class::Unsigned => OwnedClass::Unsigned,
+            Class::Boolean => OwnedClass::Boolean,
+            Class::Enumeration(numbers) => OwnedClass::Enumeration(numbers.share()?),
         })
     }
 
@@ -41,43 +41,43 @@ impl KeptClass {
         ensures { view_class result ≡ kept_class self.now }
     {
         match self {
-            KeptClass::Other => Class::Other,
-            KeptClass::Signed => Class::Signed,
-            KeptClass::Unsigned => Class::Unsigned,
-            KeptClass::Boolean => Class::Boolean,
-            KeptClass::Enumeration(numbers) => Class::Enumeration(numbers),
+            OwnedClass::Other => Class::Other,
+            OwnedClass::Signed => Class::Signed,
+            OwnedClass::Unsigned => Class::Unsigned,
+            OwnedClass::Boolean => Class::Boolean,
+            OwnedClass::Enumeration(numbers) => Class::Enumeration(numbers),
         }
     }
 }
 
 /// What a name means.
 #[derive(Debug, Default, Drop)]
-pub enum KeptMeaning {
+pub enum OwnedMeaning {
     Constant(i128),
-    Type { class: KeptClass, height: u32 },
+    Type { class: OwnedClass, height: u32 },
     Program,
     #[default]
     Bad,
 }
 
-impl KeptMeaning {
+impl OwnedMeaning {
     fn lent(&self) -> Meaning<'_>
         ensures { view_meaning result ≡ kept_meaning self.now }
     {
         match self {
-            KeptMeaning::Constant(number) => Meaning::Constant(*number),
-            KeptMeaning::Type { class, height } => Meaning::Type {
+            OwnedMeaning::Constant(number) => Meaning::Constant(*number),
+            OwnedMeaning::Type { class, height } => Meaning::Type {
                 class: class.lent(),
                 height: *height,
             },
-            KeptMeaning::Program => Meaning::Program,
-            KeptMeaning::Bad => Meaning::Bad,
+            OwnedMeaning::Program => Meaning::Program,
+            OwnedMeaning::Bad => Meaning::Bad,
         }
     }
 }
 
 /// What the names mean that an item declares. Most items declare one, whose meaning lies in the value itself.
-pub type KeptMeanings = SmallVec<KeptMeaning, 1>;
+pub type KeptMeanings = SmallVec<OwnedMeaning, 1>;
 
 /// What checking an item found: its faults, and what the names mean that it declares. Only a check makes one.
 #[derive(Drop)]

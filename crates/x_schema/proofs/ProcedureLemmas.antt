@@ -19,7 +19,7 @@ use Rattle.x_schema.specs.Sound.{AreSoundFields, IsSoundField}
 use Rattle.x_schema.specs.declared.form.Field.{Field}
 use Rattle.x_schema.specs.declared.form.Form.TheVariants as forms
 use Rattle.x_schema.specs.declared.maker.Maker.{Maker}
-use Rattle.x_schema.specs.declared.procedure.KeptProcedure.{KeptProcedure}
+use Rattle.x_schema.specs.declared.procedure.CompactProcedure.{CompactProcedure}
 use Rattle.x_schema.specs.declared.procedure.ProcedureNumbers.{ProcedureNumbers}
 use Rattle.x_schema.proofs.MakerForms.{held_basic, held_named, held_string, held_void, with_form}
 use Rattle.x_schema.proofs.MakerSteps.{and_then, put_as, puts_name, puts_none}
@@ -120,7 +120,7 @@ arguments_several known a b c first (arg ∷ rest) vec place count is some p add
     (λ s at. s.types ≡ known.types → AreArguments s first (arg ∷ rest) at) (forms.Struct vec) place p add (λ s x. x.1)
     (λ n i s x e types. let all = x.0 types in (vec, all.0, all.1, e, all.2, all.3, all.4)) g
 
-pub procedure_put : (known : Known) (a b c d : Maker) (p : tree.Procedure) (name : List ℕ) (kept : KeptProcedure) → name ≡ p.name
+pub procedure_put : (known : Known) (a b c d : Maker) (p : tree.Procedure) (name : List ℕ) (kept : CompactProcedure) → name ≡ p.name
     → PutsAs known a b kept.arguments (λ s at. AreArguments s p.first p.others at) → PutsAs known b c kept.results (λ s at. IsPassed s p.result at) → AddsName c d name kept.name
     → PutsWithin known a d (λ n i. IsKeptWithin n i kept) (λ s. IsProcedure s p kept)
 procedure_put known a b c d p name kept is arguments results add g =
@@ -141,12 +141,12 @@ procedure_put known a b c d p name kept is arguments results add g =
 
 -- ---- tables
 
-kept_behind : (n i : ℕ) (table : Table) (numbers : ProcedureNumbers) (kept : KeptProcedure) → AreKeptWithin n i table → IsKeptWithin n i kept
+kept_behind : (n i : ℕ) (table : Table) (numbers : ProcedureNumbers) (kept : CompactProcedure) → AreKeptWithin n i table → IsKeptWithin n i kept
     → AreKeptWithin n i (table ++ (numbers, kept) ∷ [])
 kept_behind n i [] numbers kept h one = (one, tt)
 kept_behind n i (e ∷ es) numbers kept h one = (h.0, kept_behind n i es numbers kept h.1 one)
 
-kept_first : (n i : ℕ) (table : Table) (numbers : Option ProcedureNumbers) (kept : KeptProcedure) → AreKeptWithin n i table → IsKeptWithin n i kept
+kept_first : (n i : ℕ) (table : Table) (numbers : Option ProcedureNumbers) (kept : CompactProcedure) → AreKeptWithin n i table → IsKeptWithin n i kept
     → AreKeptWithin n i (with_procedure table numbers kept)
 kept_first n i table None kept h one = h
 kept_first n i table (Some numbers) kept h one = by (is_some (lookup (same_numbers numbers) table))
@@ -156,7 +156,7 @@ kept_first n i table (Some numbers) kept h one = by (is_some (lookup (same_numbe
     by false = kept_behind n i table numbers kept h one
 
 -- what is found in a table is within
-pub kept_found : (n i : ℕ) (test : ProcedureNumbers → Bool) (table : Table) (kept : KeptProcedure) → AreKeptWithin n i table → lookup test table ≡ Some kept → IsKeptWithin n i kept
+pub kept_found : (n i : ℕ) (test : ProcedureNumbers → Bool) (table : Table) (kept : CompactProcedure) → AreKeptWithin n i table → lookup test table ≡ Some kept → IsKeptWithin n i kept
 kept_found n i test [] kept h is = absurd (cc)
 kept_found n i test (e ∷ es) kept h is = by (test e.0) (λ more. kept_found n i test es kept h.1 more) is
   where
@@ -168,7 +168,7 @@ pub grows_none : (known : Known) (m : Maker) (table : Table) → PutsProcedures 
 grows_none known m table g =
     puts_none known m (λ n i s. Grows known n i s table table []) g (λ n i s b. record { procedures = λ e rest h. h; within = λ h. h })
 
-pub grows_one : (known : Known) (a b : Maker) (before after : Table) (p : Numbered) (kept : KeptProcedure)
+pub grows_one : (known : Known) (a b : Maker) (before after : Table) (p : Numbered) (kept : CompactProcedure)
     → PutsWithin known a b (λ n i. IsKeptWithin n i kept) (λ s. IsProcedure s p.procedure kept) → after ≡ with_procedure before (numbers_by p) kept
     → PutsProcedures known a b before after (p ∷ [])
 grows_one known a b before after p kept put is g =

@@ -6,7 +6,7 @@ use Rattle.std.specs.Str.{bytes_eq}
 use Rattle.std.specs.Global.{Global}
 use Rattle.std.specs.declared.vec.Vec.{Vec}
 use Rattle.x_schema.specs.declared.schema.NamedType.{NamedType}
-use Rattle.x_schema.specs.declared.procedure.KeptProcedure.{KeptProcedure}
+use Rattle.x_schema.specs.declared.procedure.CompactProcedure.{CompactProcedure}
 use Rattle.x_schema.specs.declared.procedure.ProcedureNumbers.{ProcedureNumbers}
 use Rattle.x_schema.specs.Schema.{Schema, named_type, named_types, procedure_at, type_id, IsKeptWithin, IsTypeId}
 use Rattle.x_schema.specs.Sound.{IsSound}
@@ -22,7 +22,7 @@ known_named s name None sound is = record {}
 known_named s name (Some t) sound is = let known = sound.types name t (sym is) in record { form = known.0; root = known.1 }
 
 -- what is kept of a procedure is within the schema
-pub known_kept : (s : Schema) (numbers : ProcedureNumbers) (found : Option KeptProcedure) → IsSound s → found ≡ procedure_at s numbers
+pub known_kept : (s : Schema) (numbers : ProcedureNumbers) (found : Option CompactProcedure) → IsSound s → found ≡ procedure_at s numbers
     → IfSome found (λ kept. IsKeptWithin (length s.names) (length s.forms) kept)
 known_kept s numbers None sound is = record {}
 known_kept s numbers (Some kept) sound is = sound.procedures numbers kept (sym is)

@@ -12,7 +12,7 @@ use Rattle.x_schema.specs.Schema.{Schema, form_at, name_at, same_numbers}
 use Rattle.x_schema.specs.SchemaOf.{basic_form, place_named, unsigned_word, with_first}
 use Rattle.x_schema.specs.declared.form.Field.{Field}
 use Rattle.x_schema.specs.declared.form.Form.TheVariants as forms
-use Rattle.x_schema.specs.declared.procedure.KeptProcedure.{KeptProcedure}
+use Rattle.x_schema.specs.declared.procedure.CompactProcedure.{CompactProcedure}
 use Rattle.x_schema.specs.declared.procedure.ProcedureNumbers.{ProcedureNumbers}
 
 -- ---- what is passed
@@ -59,7 +59,7 @@ AreArguments s first (a ∷ rest) place =
     × (fields.items ≡ field ∷ others) × IsArgumentField s 1 first field
     × AreArgumentFields s 2 (a ∷ rest) others
 
-pub record IsProcedure (s : Schema) (p : tree.Procedure) (kept : KeptProcedure) : Type 0 where
+pub record IsProcedure (s : Schema) (p : tree.Procedure) (kept : CompactProcedure) : Type 0 where
   pub name : name_at s kept.name ≡ p.name
   pub arguments : AreArguments s p.first p.others kept.arguments
   pub results : IsPassed s p.result kept.results
@@ -105,10 +105,10 @@ numbers_by p = numbers_from (number_of p.program) (number_of p.version) (number_
 
 -- procedures by their numbers
 abbrev pub Table : Type 0
-Table = List (ProcedureNumbers × KeptProcedure)
+Table = List (ProcedureNumbers × CompactProcedure)
 
 -- with one more; the first of its numbers has them
-abbrev pub with_procedure : Table → Option ProcedureNumbers → KeptProcedure → Table
+abbrev pub with_procedure : Table → Option ProcedureNumbers → CompactProcedure → Table
 with_procedure table None kept = table
 with_procedure table (Some numbers) kept = with_first same_numbers table numbers kept
 
@@ -116,5 +116,5 @@ with_procedure table (Some numbers) kept = with_first same_numbers table numbers
 abbrev pub AreProceduresBehind : Schema → Table → List Numbered → Type 0
 AreProceduresBehind s table [] = s.procedures ≡ table
 AreProceduresBehind s table (p ∷ ps) =
-    (kept : KeptProcedure) × IsProcedure s p.procedure kept
+    (kept : CompactProcedure) × IsProcedure s p.procedure kept
     × AreProceduresBehind s (with_procedure table (numbers_by p) kept) ps

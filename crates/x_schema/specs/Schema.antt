@@ -9,7 +9,7 @@ use Rattle.std.proofs.Common.{get_or}
 use Rattle.x_schema.specs.declared.form.Form.{Form}
 use Rattle.x_schema.specs.declared.form.Form.TheVariants as forms
 use Rattle.x_schema.specs.declared.schema.NamedType.{NamedType}
-use Rattle.x_schema.specs.declared.procedure.KeptProcedure.{KeptProcedure}
+use Rattle.x_schema.specs.declared.procedure.CompactProcedure.{CompactProcedure}
 use Rattle.x_schema.specs.declared.procedure.ProcedureNumbers.{ProcedureNumbers}
 use Rattle.x_schema.specs.declared.schema.Root.{Root}
 use Rattle.x_schema.specs.declared.schema.Root.TheVariants as roots
@@ -23,7 +23,7 @@ pub record Schema : Type 0 where
   -- the names of types, with what they stand for
   pub types : List (List ℕ × NamedType)
   -- the procedures by their numbers
-  pub procedures : List (ProcedureNumbers × KeptProcedure)
+  pub procedures : List (ProcedureNumbers × CompactProcedure)
 
 -- the names of types as lists of bytes
 abbrev pub named_types : List (Vec ℕ Global × NamedType) → List (List ℕ × NamedType)
@@ -65,27 +65,27 @@ same_numbers a b =
     nat_eq a.program b.program && (nat_eq a.version b.version && nat_eq a.procedure b.procedure)
 
 -- the procedure of these numbers
-abbrev pub procedure_at : Schema → ProcedureNumbers → Option KeptProcedure
+abbrev pub procedure_at : Schema → ProcedureNumbers → Option CompactProcedure
 procedure_at s numbers = lookup (same_numbers numbers) s.procedures
 
 -- what it is called with, and what it answers
-abbrev pub arguments_id : KeptProcedure → TypeId
+abbrev pub arguments_id : CompactProcedure → TypeId
 arguments_id kept = record { root = roots.Arguments; form = kept.arguments }
 
-abbrev pub results_id : KeptProcedure → TypeId
+abbrev pub results_id : CompactProcedure → TypeId
 results_id kept = record { root = roots.Results; form = kept.results }
 
 -- the schema has the procedure, of this name, with these arguments and results
 pub record IsProcedureAt (s : Schema) (numbers : ProcedureNumbers) (name : List ℕ)
     (arg res : TypeId) : Type 0 where
-  pub kept : KeptProcedure
+  pub kept : CompactProcedure
   pub found : procedure_at s numbers ≡ Some kept
   pub name_is : name ≡ name_at s kept.name
   pub arg_is : arg ≡ arguments_id kept
   pub res_is : res ≡ results_id kept
 
 -- its parts are within the schema
-pub record IsKeptWithin (names forms : ℕ) (kept : KeptProcedure) : Type 0 where
+pub record IsKeptWithin (names forms : ℕ) (kept : CompactProcedure) : Type 0 where
   pub name : kept.name < names
   pub arguments : kept.arguments < forms
   pub results : kept.results < forms

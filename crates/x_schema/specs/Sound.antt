@@ -11,7 +11,7 @@ use Rattle.x_schema.specs.declared.form.Form.TheVariants.{Int, UnsignedInt, Bool
 use Rattle.x_schema.specs.declared.form.Form.TheVariants.{Array, Optional, Struct, Union}
 use Rattle.x_schema.specs.declared.schema.NamedType.{NamedType}
 use Rattle.x_schema.specs.Choices.{Choice, arm_for, name_for}
-use Rattle.x_schema.specs.declared.procedure.KeptProcedure.{KeptProcedure}
+use Rattle.x_schema.specs.declared.procedure.CompactProcedure.{CompactProcedure}
 use Rattle.x_schema.specs.declared.procedure.ProcedureNumbers.{ProcedureNumbers}
 use Rattle.x_schema.specs.Schema.{Schema, IsKeptWithin, form_at, named_type, procedure_at, target_at}
 
@@ -70,5 +70,5 @@ pub record IsSound (s : Schema) : Type 0 where
   pub links : (l : ℕ) → l < length s.links → target_at s l < length s.forms
   pub types : (name : List ℕ) (t : NamedType) → named_type s name ≡ Some t
       → (t.form < length s.forms) × (t.name < length s.names)
-  pub procedures : (numbers : ProcedureNumbers) (kept : KeptProcedure) → procedure_at s numbers ≡ Some kept
+  pub procedures : (numbers : ProcedureNumbers) (kept : CompactProcedure) → procedure_at s numbers ≡ Some kept
       → IsKeptWithin (length s.names) (length s.forms) kept

@@ -268,7 +268,7 @@ impl<'d> Maker<'d> {
     }
 
     /// Takes in a type that the item declares.
-    fn found(&mut self, alloc: Global, name: &[u8], form: FormIndex) -> Result<(), NoMemory>
+    fn add_named_type(&mut self, alloc: Global, name: &[u8], form: FormIndex) -> Result<(), NoMemory>
         ensures { OnOk result (AddsFound self.old self.new name.now form) }
     {
         let name = self.name(alloc, name)?;
@@ -371,7 +371,7 @@ impl<'d> Maker<'d> {
 
     /// The place of a type that is used by value; an inline one has the name of the type around it, and this.
     #[cycle(maker)]
-    fn held(
+    fn inner_type(
         &mut self,
         alloc: Global,
         known: &Known<'d>,
@@ -455,7 +455,7 @@ impl<'d> Maker<'d> {
             (λ s at. IsBody s (view_known known.now) (view_body body.now) at)) }
     {
         let place = self.body(alloc, known, name, body)?;
-        self.found(alloc, name, place)?;
+        self.add_named_type(alloc, name, place)?;
         Ok(place)
     }
 
@@ -641,14 +641,14 @@ impl<'d> Maker<'d> {
             (λ s at. IsDeclared s (view_known known.now) (tree.Of type name.now (view_shape shape.now)) at)) }
     {
         match shape {
-            Shape::Plain => self.held(alloc, known, around, name, held),
+            Shape::Plain => self.inner_type(alloc, known, around, name, held),
             Shape::Optional => {
                 let link = self.linked(alloc, known, around, name, held)?;
                 self.form(Form::Optional(link))
             }
             Shape::Array(length) => match length {
                 Length::Fixed(size) => {
-                    let of = self.held(alloc, known, around, name, held)?;
+                    let of = self.inner_type(alloc, known, around, name, held)?;
                     self.form(Form::FixedArray(of, known.constants.size(size)))
                 }
                 Length::Variable(most) => {
@@ -694,7 +694,7 @@ impl<'d> Maker<'d> {
         }
         let name = declaration.name();
         let place = self.declaration(alloc, known, name, declaration)?;
-        self.found(alloc, name, place)
+        self.add_named_type(alloc, name, place)
     }
 
     /// The name in a place.

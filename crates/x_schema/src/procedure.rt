@@ -17,7 +17,7 @@ pub struct ProcedureNumbers {
 
 /// A procedure, its parts by their places.
 #[derive(Clone, Copy, Debug, PartialEq, Eq)]
-pub(crate) struct KeptProcedure {
+pub(crate) struct CompactProcedure {
     /// Its name.
     pub(crate) name: NameIndex,
     /// What its arguments are.

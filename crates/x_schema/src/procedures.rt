@@ -16,7 +16,7 @@ ghost use Rattle.x_schema.specs.SchemaMaking.{AddsName, view_known};
 use crate::constants::unsigned_word;
 use crate::form::{Field, Form, FormIndex, NameIndex};
 use crate::maker::{Known, Maker, basic_form};
-use crate::procedure::{KeptProcedure, ProcedureNumbers};
+use crate::procedure::{CompactProcedure, ProcedureNumbers};
 use indexmap::IndexMap;
 use itoa::Buffer;
 use std::alloc::Global;
@@ -25,7 +25,7 @@ use x_text::NoMemory;
 use x_trees::{Argument, DataType, Definition, Procedure, Version};
 
 /// Procedures by their numbers.
-pub type ProcedureTable = IndexMap<ProcedureNumbers, KeptProcedure>;
+pub type ProcedureTable = IndexMap<ProcedureNumbers, CompactProcedure>;
 
 /// A number of 32 bits as it is spelled.
 fn number_of(text: &[u8]) -> Option<u32>
@@ -72,7 +72,7 @@ fn numbers_by(program: &[u8], version: &[u8], procedure: &Procedure) -> Option<P
 fn put_procedure(
     table: &mut ProcedureTable,
     numbers: Option<ProcedureNumbers>,
-    kept: KeptProcedure,
+    kept: CompactProcedure,
 ) -> Result<(), NoMemory>
     ensures { OnOk result (table.new.entries ≡ with_procedure table.old.entries numbers kept) }
 {
@@ -231,14 +231,14 @@ impl<'d> Maker<'d> {
         alloc: Global,
         known: &Known<'d>,
         procedure: &Procedure,
-    ) -> Result<KeptProcedure, NoMemory>
+    ) -> Result<CompactProcedure, NoMemory>
         ensures { IfOk result (λ kept. PutsWithin (view_known known.now) self.old self.new
             (λ n i. IsKeptWithin n i kept) (λ s. IsProcedure s (view_procedure procedure.now) kept)) }
     {
         let arguments = self.arguments(alloc, known, procedure)?;
         let results = self.passed(known, &procedure.result)?;
         let name = self.name(alloc, &procedure.name)?;
-        Ok(KeptProcedure {
+        Ok(CompactProcedure {
             name,
             arguments,
             results,

@@ -5,7 +5,7 @@ ghost use Rattle.x_schema.specs.Schema.{procedure_at, IsProcedureAt, IsKeptWithi
 ghost use Rattle.x_schema.specs.Sound.{IsSound};
 
 use crate::form::{Form, FormIndex, LinkIndex, NameIndex};
-use crate::procedure::{KeptProcedure, Procedure, ProcedureNumbers};
+use crate::procedure::{CompactProcedure, Procedure, ProcedureNumbers};
 use indexmap::IndexMap;
 use std::marker::Model;
 
@@ -61,7 +61,7 @@ pub struct Schema {
     /// The forms that links lead to: a link may look ahead.
     pub(crate) links: Vec<FormIndex>,
     pub(crate) types: IndexMap<Vec<u8>, NamedType>,
-    pub(crate) procedures: IndexMap<ProcedureNumbers, KeptProcedure>,
+    pub(crate) procedures: IndexMap<ProcedureNumbers, CompactProcedure>,
 }
 
 impl Model for Schema {
@@ -135,7 +135,7 @@ impl Schema {
     }
 
     /// What is kept of the procedure of these numbers.
-    fn kept(&self, numbers: ProcedureNumbers) -> Option<KeptProcedure>
+    fn kept(&self, numbers: ProcedureNumbers) -> Option<CompactProcedure>
         ensures kept { result ≡ procedure_at self.now numbers }
         ensures within { IfSome result
             (λ kept. IsKeptWithin (length self.now.names) (length self.now.forms) kept) }
@@ -144,7 +144,7 @@ impl Schema {
     }
 
     /// A procedure of which this is kept.
-    fn shown(&self, kept: KeptProcedure) -> Procedure<'_>
+    fn shown(&self, kept: CompactProcedure) -> Procedure<'_>
         requires { IsKeptWithin (length self.now.names) (length self.now.forms) kept }
         ensures name { result.name.now ≡ name_at self.now kept.name }
         ensures arg { result.arg ≡ arguments_id kept }

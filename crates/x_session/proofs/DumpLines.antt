@@ -7,7 +7,7 @@ use Rattle.x_text.specs.Writing.{Inked}
 use Rattle.x_session.specs.Answers.{Answer, answer}
 use Rattle.x_session.specs.Commands.{command_of, dump_asked}
 use Rattle.x_session.specs.LineAnswers.{within, shows}
-use Rattle.x_session.specs.Script.{IsGiven, IsTold, LineAnswers}
+use Rattle.x_session.specs.Script.{IsGiven, AddsAnswer, LineAnswers}
 use Rattle.x_session.specs.Session.{Compiles, Document}
 use Rattle.x_session.specs.Showing.{IsDumpAnswer}
 use Rattle.x_lines.specs.declared.lines.TheConstants.{LONGEST}
@@ -15,7 +15,7 @@ use Rattle.x_lines.specs.declared.lines.TheConstants.{LONGEST}
 -- what was told of a value is the answer to the line
 pub dump_given : (old : Document) (line name message : List ℕ) (p q : Inked) (now now' : Stream) (r : Result Bool NoMemory) → length line ≤ LONGEST
     → dump_asked line ≡ Some (name, message)
-    → IfOk r (λ refused. Compiles old.text (λ items. (a : Answer) × IsDumpAnswer old.text items name message a × IsTold a old.text refused p now q now'))
+    → IfOk r (λ refused. Compiles old.text (λ items. (a : Answer) × IsDumpAnswer old.text items name message a × AddsAnswer a old.text refused p now q now'))
     → IfOk r (λ refused. LineAnswers old.base old.text line (λ a. IsGiven a old old refused p now q now'))
 dump_given old line name message p q now now' (Ok refused) short asked h =
     let told = h.3 in (

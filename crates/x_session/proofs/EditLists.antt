@@ -1,8 +1,8 @@
 -- One edit after another.
 use Rattle.std.proofs.Common.{◌≡◌, ℕ, ◌+◌, Err, List, [], ◌∷◌, ◌++◌, length, arith, append_assoc, append-nil, length-append, refl, sym, ap, subst, ◌∙◌}
-use Rattle.x_text.specs.Edits.{change_of, edited_by, Fits, Judges}
-use Rattle.x_text.specs.declared.edit.Edit.{Edit}
-use Rattle.x_text.specs.declared.fault.TextFault.{TextFault}
+use Rattle.x_text.specs.Edits.{change_of, edited_by, FitsText, Judges}
+use Rattle.x_text.specs.declared.text.edit.Edit.{Edit}
+use Rattle.x_text.specs.declared.text.fault.TextFault.{TextFault}
 use Rattle.x_session.specs.Session.{edited_by_all, TakesAll, StopsAt}
 use Rattle.x_session.specs.declared.session.work.Work.{Work}
 
@@ -21,18 +21,18 @@ edited_more : (text : List ℕ) (es : List Edit) (e : Edit) → edited_by_all te
 edited_more text [] e = refl
 edited_more text (d ∷ ds) e = edited_more (edited_by (change_of text d)) ds e
 
-takes_more : (text : List ℕ) (es : List Edit) (e : Edit) → TakesAll text es → Fits (change_of (edited_by_all text es) e)
+takes_more : (text : List ℕ) (es : List Edit) (e : Edit) → TakesAll text es → FitsText (change_of (edited_by_all text es) e)
     → TakesAll text (es ++ e ∷ [])
 takes_more text [] e all fits = (fits, tt)
 takes_more text (d ∷ ds) e all fits = (all.0, takes_more (edited_by (change_of text d)) ds e all.1 fits)
 
 pub taken_more : (text : List ℕ) (edits left : List Edit) (e : Edit) (now new : List ℕ) (count : ℕ) → HasTaken text edits (e ∷ left) now count
-    → Fits (change_of now e) → new ≡ edited_by (change_of now e) → HasTaken text edits left new (count + 1)
+    → FitsText (change_of now e) → new ≡ edited_by (change_of now e) → HasTaken text edits left new (count + 1)
 taken_more text edits left e now new count h fits is = record {
   before = h.before ++ e ∷ [];
   split = append_assoc h.before (e ∷ []) left ∙ h.split;
   counted = let n = h.counted in omega (arith, n, length-append h.before (e ∷ []));
-  takes = takes_more text h.before e h.takes (subst (λ t. Fits (change_of t e)) h.now_is fits);
+  takes = takes_more text h.before e h.takes (subst (λ t. FitsText (change_of t e)) h.now_is fits);
   now_is = is ∙ ap (λ t. edited_by (change_of t e)) h.now_is ∙ sym (edited_more text h.before e);
 }
 

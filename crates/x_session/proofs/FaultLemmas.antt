@@ -5,7 +5,7 @@ use Rattle.std.proofs.lemmas.Bool.Decides.{nat_tests}
 use Rattle.x_lex.specs.Places.{Lexeme}
 use Rattle.x_trees.specs.Words.{is_significant}
 use Rattle.x_item.specs.Parse.{Parse, Nothing, Def, Fault}
-use Rattle.x_cutting.specs.declared.cutting.entry.Entry.{Entry}
+use Rattle.x_cutting.specs.declared.cutting.item_entry.ItemEntry.{ItemEntry}
 use Rattle.x_rules.specs.Rules.{Ascends, IsBefore}
 use Rattle.x_rules.specs.declared.fault.WordFault.{WordFault}
 use Rattle.x_session.specs.Compile.{at_token, faults_at, faults_from, item_faults, placed, start_of, token_of_word}
@@ -13,9 +13,9 @@ use Rattle.x_session.specs.FaultWalk.{AreOrdered, IsToldBy, fault_at, faults_her
 use Rattle.x_session.specs.KeptView.{item_with, items_with}
 use Rattle.x_session.specs.ItemReading.{ItemReading, behind, place_of, unread, word_place}
 use Rattle.x_session.specs.declared.compile.fault.FaultCode.TheVariants as codes
-use Rattle.x_session.specs.declared.compile.kept.Kept.{Kept}
-use Rattle.x_session.specs.declared.compile.kept.Told.{Told}
-use Rattle.x_session.specs.declared.compile.kept.Told.TheVariants.{Syntax, Rules}
+use Rattle.x_session.specs.declared.compile.item_content.ItemContent.{ItemContent}
+use Rattle.x_session.specs.declared.compile.item_content.Verdict.{Verdict}
+use Rattle.x_session.specs.declared.compile.item_content.Verdict.TheVariants.{Syntax, Rules}
 use Rattle.x_session.specs.declared.session.item_faults.ItemFaults.{ItemFaults}
 
 -- ---- one token more is read
@@ -113,7 +113,7 @@ begun_each text n r (f ∷ fs) read words =
     let others = begun_each text n r fs read words in
     λ i. fault_at text n (here i, codes.Rule f.code) ∷ others i
 
-pub begun : (text : List ℕ) (n : ℕ) (r : ItemReading) (p : Parse) (fs : List WordFault) (t : Told) → r.read ≡ 0 → r.words ≡ 0 → IsToldBy p fs t
+pub begun : (text : List ℕ) (n : ℕ) (r : ItemReading) (p : Parse) (fs : List WordFault) (t : Verdict) → r.read ≡ 0 → r.words ≡ 0 → IsToldBy p fs t
     → map (fault_at text n) (places_left r t) ≡ map (placed text n (unread r)) (faults_at (unread r) p fs)
 begun text n r (Fault token code) fs (Syntax at why) read words is = λ i. placed text n (unread r) (record { token = is.0 i; code = codes.Syntax (is.1 i) }) ∷ []
 begun text n r (Fault token code) fs (Rules ruled) read words is = absurd is
@@ -146,7 +146,7 @@ behind_first f fs up = from f.word f fs (omega arith) up
 -- ---- item by item
 
 -- no fault of the item is left, and the next item begins
-pub next_item : (text : List ℕ) (old new : ItemFaults) (n : ℕ) (e : Entry Kept) (entries es : List (Entry Kept)) → entries ≡ e ∷ es → places_left old.reader old.told ≡ []
+pub next_item : (text : List ℕ) (old new : ItemFaults) (n : ℕ) (e : ItemEntry ItemContent) (entries es : List (ItemEntry ItemContent)) → entries ≡ e ∷ es → places_left old.reader old.told ≡ []
     → faults_here text new ≡ item_faults text n (item_with (behind old.reader) e) → behind new.reader ≡ drop e.tokens (behind old.reader)
     → faults_left text new (n + 1) es ≡ faults_left text old n entries
 next_item text old new n e entries es all none here there =
@@ -155,5 +155,5 @@ next_item text old new n e entries es all none here there =
     ∙ sym (ap (λ l. faults_from text n (items_with (behind old.reader) l)) all)
     ∙ sym (ap (λ ps. map (fault_at text old.number) ps ++ faults_from text n (items_with (behind old.reader) entries)) none)
 
-pub ordered_rest : (e : Entry Kept) (entries es : List (Entry Kept)) → entries ≡ e ∷ es → AreOrdered entries → AreOrdered es
+pub ordered_rest : (e : ItemEntry ItemContent) (entries es : List (ItemEntry ItemContent)) → entries ≡ e ∷ es → AreOrdered entries → AreOrdered es
 ordered_rest e entries es all ordered k d lt = subst AreOrdered all ordered (suc k) d (omega (arith, lt))

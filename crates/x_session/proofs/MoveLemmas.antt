@@ -5,7 +5,7 @@ use Rattle.std.proofs.lemmas.Bool.{lt-ltb, le-ltb, cases_lt}
 use Rattle.x_text.specs.Counts.{raised}
 use Rattle.x_text.specs.Seqs.{distance}
 use Rattle.x_recheck.specs.Staleness.{Ascending}
-use Rattle.x_uses.specs.declared.uses.Place.{Place}
+use Rattle.x_uses.specs.declared.uses.ItemSplice.{ItemSplice}
 use Rattle.x_session.specs.Moves.{Changed, HasMoved, changed_before, changed_behind, changed_entry, changed_items, changed_place, moves, seat_behind, unchanged_between}
 
 -- ---- lists of numbers
@@ -48,7 +48,7 @@ from_joined : (n : ℕ) (cs ds : List Changed) → AreFrom n cs → AreFrom n ds
 from_joined n [] ds all more = more
 from_joined n (c ∷ cs) ds all more = (all.0, all.1, from_joined n cs ds all.2 more)
 
-from_before : (p : Place) (n : ℕ) (ks : List ℕ) → AreAbove n ks → AreFrom n (changed_before p ks)
+from_before : (p : ItemSplice) (n : ℕ) (ks : List ℕ) → AreAbove n ks → AreFrom n (changed_before p ks)
 from_before p n [] all = tt
 from_before p n (k ∷ ks) all = by (from_before p n ks all.1) (nat_lt k p.at)
   where
@@ -56,14 +56,14 @@ from_before p n (k ∷ ks) all = by (from_before p n ks all.1) (nat_lt k p.at)
     by rest true = (all.0, omega arith, rest)
     by rest false = rest
 
-from_place : (p : Place) (n : ℕ) → n ≤ p.at → AreFrom n (changed_place p)
+from_place : (p : ItemSplice) (n : ℕ) → n ≤ p.at → AreFrom n (changed_place p)
 from_place p n le = by (nat_lt 0 (p.removed + p.added))
   where
     by : (b : Bool) → AreFrom n (cond b (record { from = p.at; to = p.at + p.removed; end = p.at + p.added } ∷ []) [])
     by true = (le, omega arith, tt)
     by false = tt
 
-from_behind : (p : Place) (n : ℕ) (ks : List ℕ) → n ≤ p.at → AreFrom n (changed_behind p ks)
+from_behind : (p : ItemSplice) (n : ℕ) (ks : List ℕ) → n ≤ p.at → AreFrom n (changed_behind p ks)
 from_behind p n [] le = tt
 from_behind p n (k ∷ ks) le = by (from_behind p n ks le) (cases_lt k (p.at + p.added))
   where
@@ -77,7 +77,7 @@ from_behind p n (k ∷ ks) le = by (from_behind p n ks le) (cases_lt k (p.at + p
     by rest (inl lt) = subst (λ l. AreFrom n (map put l)) (sym (filter_off test k ks (le-ltb (p.at + p.added) (k + 1) (omega (arith, lt))))) rest
     by rest (inr ge) = subst (λ l. AreFrom n (map put l)) (sym (filter_on test k ks (lt-ltb (p.at + p.added) (k + 1) (omega (arith, ge))))) (omega (arith, le, ge), omega arith, rest)
 
-from_items : (p : Place) (n : ℕ) (ks : List ℕ) → n ≤ p.at → AreAbove n ks → AreFrom n (changed_items p ks)
+from_items : (p : ItemSplice) (n : ℕ) (ks : List ℕ) → n ≤ p.at → AreAbove n ks → AreFrom n (changed_items p ks)
 from_items p n ks le all = from_joined n (changed_before p ks) (changed_place p ++ changed_behind p ks) (from_before p n ks all) (from_joined n (changed_place p) (changed_behind p ks) (from_place p n le) (from_behind p n ks le))
 
 from_own : (n : ℕ) (ks : List ℕ) → AreAbove n ks → AreFrom n (map (λ k. changed_entry k k) ks)
@@ -98,27 +98,27 @@ moved_entry seat was k cs all same = record {
 
 -- ---- the item that comes next
 
-before_step : (p : Place) (k : ℕ) (ks : List ℕ) → k < p.at → changed_items p (k ∷ ks) ≡ changed_entry k k ∷ changed_items p ks
+before_step : (p : ItemSplice) (k : ℕ) (ks : List ℕ) → k < p.at → changed_items p (k ∷ ks) ≡ changed_entry k k ∷ changed_items p ks
 before_step p k ks lt =
     let on = filter_on (λ j. nat_lt j p.at) k ks (lt-ltb k p.at lt) in
     let off = filter_off (λ j. nat_lt (p.at + p.added) (j + 1)) k ks (le-ltb (p.at + p.added) (k + 1) (omega (arith, lt))) in
     λ i. map (λ j. changed_entry j j) (on i) ++ (changed_place p ++ map (λ j. changed_entry (j - p.added + p.removed) j) (off i))
 
-fresh_step : (p : Place) (k : ℕ) (ks : List ℕ) → p.at ≤ k → k < p.at + p.added → changed_items p (k ∷ ks) ≡ changed_items p ks
+fresh_step : (p : ItemSplice) (k : ℕ) (ks : List ℕ) → p.at ≤ k → k < p.at + p.added → changed_items p (k ∷ ks) ≡ changed_items p ks
 fresh_step p k ks le lt =
     let off = filter_off (λ j. nat_lt j p.at) k ks (le-ltb k p.at le) in
     let none = filter_off (λ j. nat_lt (p.at + p.added) (j + 1)) k ks (le-ltb (p.at + p.added) (k + 1) (omega (arith, lt))) in
     λ i. map (λ j. changed_entry j j) (off i) ++ (changed_place p ++ map (λ j. changed_entry (j - p.added + p.removed) j) (none i))
 
 -- one that stays before the place
-pub moved_before : (p : Place) (seat k moved : ℕ) (ks : List ℕ) → k < p.at → Ascending (k + 1) ks → moved ≡ distance seat k (k + 1) → HasMoved seat (changed_items p (k ∷ ks)) (raised 0 moved) (k + 1) (changed_items p ks)
+pub moved_before : (p : ItemSplice) (seat k moved : ℕ) (ks : List ℕ) → k < p.at → Ascending (k + 1) ks → moved ≡ distance seat k (k + 1) → HasMoved seat (changed_items p (k ∷ ks)) (raised 0 moved) (k + 1) (changed_items p ks)
 moved_before p seat k moved ks lt up is =
     let all = from_items p (k + 1) ks (omega (arith, lt)) (ascending_above (k + 1) ks up) in
     subst (λ m. HasMoved seat (changed_items p (k ∷ ks)) (raised 0 m) (k + 1) (changed_items p ks)) (sym is)
     (subst (λ cs. HasMoved seat cs (raised 0 (distance seat k (k + 1))) (k + 1) (changed_items p ks)) (sym (before_step p k ks lt)) (moved_entry seat k k (changed_items p ks) all refl))
 
 -- a fresh one
-pub moved_fresh : (p : Place) (seat k : ℕ) (ks : List ℕ) → p.at ≤ k → k < p.at + p.added → HasMoved seat (changed_items p (k ∷ ks)) 0 seat (changed_items p ks)
+pub moved_fresh : (p : ItemSplice) (seat k : ℕ) (ks : List ℕ) → p.at ≤ k → k < p.at + p.added → HasMoved seat (changed_items p (k ∷ ks)) 0 seat (changed_items p ks)
 moved_fresh p seat k ks le lt = subst (λ cs. HasMoved seat cs 0 seat (changed_items p ks)) (sym (fresh_step p k ks le lt)) (record { moves_are = refl; seat_is = refl })
 
 -- one of which all stand in place
@@ -154,7 +154,7 @@ same_numbers removed added (k ∷ ks) none empty =
     λ i. changed_entry (same i) k ∷ rest i
 
 -- what is left where all before the place is done
-left_behind : (p : Place) (ks : List ℕ) → Ascending (p.at + p.added) ks → changed_items p ks ≡ changed_place p ++ map (λ k. changed_entry (k - p.added + p.removed) k) ks
+left_behind : (p : ItemSplice) (ks : List ℕ) → Ascending (p.at + p.added) ks → changed_items p ks ≡ changed_place p ++ map (λ k. changed_entry (k - p.added + p.removed) k) ks
 left_behind p ks up =
     let all = ascending_above (p.at + p.added) ks up in
     let none = none_below p.at ks (ascending_above p.at ks (lower p.at (p.at + p.added) ks (omega arith) up)) in
@@ -166,7 +166,7 @@ left_behind p ks up =
     lower a b (j ∷ js) le h = ((let here = h.0 in omega (arith, le, here)), h.1)
 
 -- the place is put
-pub moved_place : (p : Place) (seat moved now : ℕ) (ks : List ℕ) → Ascending (p.at + p.added) ks → 0 < p.removed + p.added → moved ≡ distance seat p.at (p.at + p.removed) → now ≡ p.at + p.added
+pub moved_place : (p : ItemSplice) (seat moved now : ℕ) (ks : List ℕ) → Ascending (p.at + p.added) ks → 0 < p.removed + p.added → moved ≡ distance seat p.at (p.at + p.removed) → now ≡ p.at + p.added
     → HasMoved seat (changed_items p ks) (raised 0 moved) now (map (λ k. changed_entry k k) ks)
 moved_place p seat moved now ks up some is at =
     let olds = map (λ k. changed_entry (k - p.added + p.removed) k) ks in
@@ -186,7 +186,7 @@ moved_place p seat moved now ks up some is at =
     (subst (λ cs. HasMoved seat cs (raised 0 (distance seat p.at (p.at + p.removed))) (p.at + p.added) owns) (sym all) there))
 
 -- nothing goes and nothing comes
-pub moved_nothing : (p : Place) (seat : ℕ) (ks : List ℕ) → Ascending (p.at + p.added) ks → p.removed ≡ 0 → p.added ≡ 0 → HasMoved seat (changed_items p ks) 0 seat (map (λ k. changed_entry k k) ks)
+pub moved_nothing : (p : ItemSplice) (seat : ℕ) (ks : List ℕ) → Ascending (p.at + p.added) ks → p.removed ≡ 0 → p.added ≡ 0 → HasMoved seat (changed_items p ks) 0 seat (map (λ k. changed_entry k k) ks)
 moved_nothing p seat ks up none empty =
     let olds = map (λ k. changed_entry (k - p.added + p.removed) k) ks in
     let nothing : changed_place p ≡ [] = ap (λ b. cond b (record { from = p.at; to = p.at + p.removed; end = p.at + p.added } ∷ []) []) (le-ltb 0 (p.removed + p.added) (omega (arith, none, empty))) in
@@ -235,7 +235,7 @@ ascending_less : (a b : ℕ) (ks : List ℕ) → a ≤ b → Ascending b ks → 
 ascending_less a b [] le up = tt
 ascending_less a b (k ∷ ks) le up = ((let here = up.0 in omega (arith, le, here)), up.1)
 
-before_ordered : (p : Place) (from : ℕ) (ks : List ℕ) → from ≤ p.at → Ascending from ks → AreOrdered from p.at (changed_before p ks)
+before_ordered : (p : ItemSplice) (from : ℕ) (ks : List ℕ) → from ≤ p.at → Ascending from ks → AreOrdered from p.at (changed_before p ks)
 before_ordered p from [] le up = le
 before_ordered p from (k ∷ ks) le up =
     let here = up.0 in
@@ -249,7 +249,7 @@ before_ordered p from (k ∷ ks) le up =
     by rest more (inl lt) = subst (λ l. AreOrdered from p.at (map put l)) (sym (filter_on (λ j. nat_lt j p.at) k ks (lt-ltb k p.at lt))) (up.0, omega arith, more lt)
     by rest more (inr ge) = subst (λ l. AreOrdered from p.at (map put l)) (sym (filter_off (λ j. nat_lt j p.at) k ks (le-ltb k p.at ge))) rest
 
-place_ordered : (p : Place) → AreOrdered p.at (p.at + p.removed) (changed_place p)
+place_ordered : (p : ItemSplice) → AreOrdered p.at (p.at + p.removed) (changed_place p)
 place_ordered p = by (nat_lt 0 (p.removed + p.added))
   where
     by : (b : Bool) → AreOrdered p.at (p.at + p.removed) (cond b (record { from = p.at; to = p.at + p.removed; end = p.at + p.added } ∷ []) [])
@@ -261,7 +261,7 @@ abbrev pub AreBelow : ℕ → List ℕ → Type 0
 AreBelow high [] = Unit {0}
 AreBelow high (k ∷ ks) = (k < high) × AreBelow high ks
 
-behind_ordered : (p : Place) (most from low : ℕ) (ks : List ℕ) → p.removed ≤ most → from ≤ most → Ascending low ks → AreBelow (most - p.removed + p.added) ks
+behind_ordered : (p : ItemSplice) (most from low : ℕ) (ks : List ℕ) → p.removed ≤ most → from ≤ most → Ascending low ks → AreBelow (most - p.removed + p.added) ks
     → ((k : ℕ) → low ≤ k → p.at + p.added ≤ k → from ≤ k - p.added + p.removed) → AreOrdered from most (changed_behind p ks)
 behind_ordered p most from low [] within le up below order = le
 behind_ordered p most from low (k ∷ ks) within le up below order =
@@ -283,7 +283,7 @@ behind_ordered p most from low (k ∷ ks) within le up below order =
     by rest more (inr ge) = subst (λ l. AreOrdered from most (map put l)) (sym (filter_on test k ks (lt-ltb (p.at + p.added) (k + 1) (omega (arith, ge))))) (order k up.0 ge, omega arith, more ge)
 
 -- of so many entries, where the seat is among them
-pub items_most : (p : Place) (seat count : ℕ) (ks : List ℕ) → p.at + p.removed ≤ count → Ascending 0 ks → AreBelow (count - p.removed + p.added) ks → moves seat (changed_items p ks) ≤ seat + count
+pub items_most : (p : ItemSplice) (seat count : ℕ) (ks : List ℕ) → p.at + p.removed ≤ count → Ascending 0 ks → AreBelow (count - p.removed + p.added) ks → moves seat (changed_items p ks) ≤ seat + count
 items_most p seat count ks within up below =
     moves_most seat count (changed_items p ks)
     (ordered_joined 0 p.at count (changed_before p ks) (changed_place p ++ changed_behind p ks) (before_ordered p 0 ks (omega arith) up)

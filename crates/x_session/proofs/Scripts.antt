@@ -4,8 +4,8 @@ use Rattle.std.specs.Prelude.{MatchResult}
 use Rattle.std.specs.Io.KnownBytes.{Consumes, IsAtEnd}
 use Rattle.x_session.specs.Answers.{Answer}
 use Rattle.x_session.specs.Script.{then_answer, LineAnswers, AreAnswered, HasGiven}
-use Rattle.x_lines.specs.declared.lines.Found.{Found}
-use Rattle.x_lines.specs.declared.lines.Found.TheVariants.{Line, TooLong, End}
+use Rattle.x_lines.specs.declared.lines.LineEvent.{LineEvent}
+use Rattle.x_lines.specs.declared.lines.LineEvent.TheVariants.{Line, TooLong, End}
 use Rattle.x_lines.specs.declared.lines.State.{State}
 use Rattle.x_lines.specs.declared.lines.State.TheVariants.{Ended}
 use Rattle.x_lines.specs.declared.lines.LineFault.{LineFault}
@@ -50,7 +50,7 @@ come_split None later come h = absurd h
 come_split (Some rest) later come h = (rest, refl, h)
 
 -- the reader read on behind the lines that it gave
-pub record HasRead (script : List ℕ) (given : List (List ℕ)) (old reader : Reading) (left : Option (List ℕ)) (result : Result Found LineFault) : Type 0 where
+pub record HasRead (script : List ℕ) (given : List (List ℕ)) (old reader : Reading) (left : Option (List ℕ)) (result : Result LineEvent LineFault) : Type 0 where
   pub read : List ℕ
   pub text : List ℕ
   pub rest : List ℕ
@@ -62,7 +62,7 @@ pub record HasRead (script : List ℕ) (given : List (List ℕ)) (old reader : R
   pub whole_are : (old.state ≡ Ended → ⊥) → (next : List ℕ) → whole_lines (read ++ next) ≡ given ++ whole_lines (text ++ next)
   pub told : MatchResult result (λ found. Tells found reader text rest (Some later)) (λ _. HasNoLine text rest)
 
-pub has_read : (script : List ℕ) (given : List (List ℕ)) (old new : Reading) (before left : Option (List ℕ)) (result : Result Found LineFault) → HasGiven script old before given → Advances old new before left result
+pub has_read : (script : List ℕ) (given : List (List ℕ)) (old new : Reading) (before left : Option (List ℕ)) (result : Result LineEvent LineFault) → HasGiven script old before given → Advances old new before left result
     → HasRead script given old new left result
 has_read script given old new before left result h on =
     let goes = on h.unread h.unread_is in
@@ -82,7 +82,7 @@ has_read script given old new before left result h on =
     }
 
 -- a line was found
-pub line_given : (script : List ℕ) (given : List (List ℕ)) (old reader : Reading) (left : Option (List ℕ)) (result : Result Found LineFault) (line : List ℕ) → (h : HasRead script given old reader left result)
+pub line_given : (script : List ℕ) (given : List (List ℕ)) (old reader : Reading) (left : Option (List ℕ)) (result : Result LineEvent LineFault) (line : List ℕ) → (h : HasRead script given old reader left result)
     → (old.state ≡ Ended → ⊥) → IsNextLine h.text line h.rest reader.state (Some h.later) → HasGiven script reader left (given ++ line ∷ [])
 line_given script given old reader left result line h before_end next = record {
   read = h.read;
@@ -101,23 +101,23 @@ pub all_given : (script : List ℕ) (given : List (List ℕ)) (text later : List
 all_given script given text later lines feeds end = lines ∙ ap (λ l. given ++ l) (given_end text later feeds end) ∙ append-nil given
 
 -- what is told where something was found
-pub found_as : (script : List ℕ) (given : List (List ℕ)) (old reader : Reading) (left : Option (List ℕ)) (result : Result Found LineFault) (found : Found)
+pub found_as : (script : List ℕ) (given : List (List ℕ)) (old reader : Reading) (left : Option (List ℕ)) (result : Result LineEvent LineFault) (found : LineEvent)
     → (h : HasRead script given old reader left result) → result ≡ Ok found → Tells found reader h.text h.rest (Some h.later)
 found_as script given old reader left result found h is =
     subst (λ r. MatchResult r (λ f. Tells f reader h.text h.rest (Some h.later)) (λ _. HasNoLine h.text h.rest)) is h.told
 
 -- a reader that found anything but the end was not at the end
-pub before_line : (state : State) (result : Result Found LineFault) → (state ≡ Ended → result ≡ Ok End) → result ≡ Ok Line → state ≡ Ended → ⊥
+pub before_line : (state : State) (result : Result LineEvent LineFault) → (state ≡ Ended → result ≡ Ok End) → result ≡ Ok Line → state ≡ Ended → ⊥
 before_line state result ended is e = let end = ended e in absurd (cc)
 
-pub before_long : (state : State) (result : Result Found LineFault) → (state ≡ Ended → result ≡ Ok End) → result ≡ Ok TooLong → state ≡ Ended → ⊥
+pub before_long : (state : State) (result : Result LineEvent LineFault) → (state ≡ Ended → result ≡ Ok End) → result ≡ Ok TooLong → state ≡ Ended → ⊥
 before_long state result ended is e = let end = ended e in absurd (cc)
 
-pub before_fault : (state : State) (result : Result Found LineFault) (fault : LineFault) → (state ≡ Ended → result ≡ Ok End) → result ≡ Err fault → state ≡ Ended → ⊥
+pub before_fault : (state : State) (result : Result LineEvent LineFault) (fault : LineFault) → (state ≡ Ended → result ≡ Ok End) → result ≡ Err fault → state ≡ Ended → ⊥
 before_fault state result fault ended is e = let end = ended e in absurd (cc)
 
 -- where a fault leaves a script
-pub stops_behind : (script : List ℕ) (given : List (List ℕ)) (old reader : Reading) (left : Option (List ℕ)) (result : Result Found LineFault) (fault : LineFault)
+pub stops_behind : (script : List ℕ) (given : List (List ℕ)) (old reader : Reading) (left : Option (List ℕ)) (result : Result LineEvent LineFault) (fault : LineFault)
     → HasRead script given old reader left result → (old.state ≡ Ended → ⊥) → result ≡ Err fault → StopsBehind fault script left given
 stops_behind script given old reader left result fault h before_end is = on fault (subst (λ r. MatchResult r (λ f. Tells f reader h.text h.rest (Some h.later)) (λ _. HasNoLine h.text h.rest)) is h.told)
   where
@@ -130,5 +130,5 @@ stops_behind script given old reader left result fault h before_end is = on faul
     on NoMemory none = (script_lines (h.text ++ h.later), h.lines_are)
 
 -- memory ran out behind some lines of a script
-pub some_given : (script : List ℕ) (given : List (List ℕ)) (old reader : Reading) (left : Option (List ℕ)) (result : Result Found LineFault) → HasRead script given old reader left result → StopsBehind NoMemory script left given
+pub some_given : (script : List ℕ) (given : List (List ℕ)) (old reader : Reading) (left : Option (List ℕ)) (result : Result LineEvent LineFault) → HasRead script given old reader left result → StopsBehind NoMemory script left given
 some_given script given old reader left result h = (script_lines (h.text ++ h.later), h.lines_are)

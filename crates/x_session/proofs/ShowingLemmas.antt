@@ -6,14 +6,14 @@ use Rattle.x_text.specs.Streams.{Stream}
 use Rattle.x_text.specs.Writing.{Inked, Adds}
 use Rattle.x_schema.specs.Schema.{Schema, id_named}
 use Rattle.x_schema.specs.declared.schema.TypeId.{TypeId}
-use Rattle.x_value.specs.Dumps.{IsFault, IsShown}
+use Rattle.x_value.specs.Dumps.{IsReadFault, IsShown}
 use Rattle.x_value.specs.FaultTexts.{fault_line}
 use Rattle.x_value.specs.Shown.{Node}
 use Rattle.x_value.specs.declared.fault.ReadCode.{ReadCode}
 use Rattle.x_value.specs.declared.fault.ReadCode.TheVariants as codes_of
 use Rattle.x_session.specs.Answers.{Answer, answered, refused}
 use Rattle.x_session.specs.Compile.{Item}
-use Rattle.x_session.specs.Script.{IsTold, TellsOver}
+use Rattle.x_session.specs.Script.{AddsAnswer, TellsOver}
 use Rattle.x_session.specs.Session.{Compiles}
 use Rattle.x_session.specs.Showing.{IsMessageAnswer, IsTypedAnswer, IsDumpAnswer, shown, stuck, no_type, typed, faulty, faultless, value_answer}
 use Rattle.x_session.specs.Typed.{GivesSchema}
@@ -26,7 +26,7 @@ module _ (p q : Inked) (now now' : Stream) where
   tells_shown s id message nodes is added text =
       (answered text (value_answer nodes), shown nodes is refl, record { added = added; refused_is = refl; text_is = refl })
 
-  pub tells_stuck : (s : Schema) (id : TypeId) (message : List ℕ) (at : ℕ) (code : ReadCode) → IsFault s id message at code
+  pub tells_stuck : (s : Schema) (id : TypeId) (message : List ℕ) (at : ℕ) (code : ReadCode) → IsReadFault s id message at code
       → (code ≡ codes_of.NoMemory → ⊥) → Adds p now q now' (fault_line at code) → TellsOver (IsMessageAnswer s id message) true p now q now'
   tells_stuck s id message at code is other added text =
       (refused text (fault_line at code), stuck at code is other refl, record { added = added; refused_is = refl; text_is = refl })
@@ -44,14 +44,14 @@ module _ (p q : Inked) (now now' : Stream) where
 
   pub tells_faulty : (text : List ℕ) (items : List Item) (name message : List ℕ) (r : Result Schema SchemaFault) → r ≡ Err Faulty → GivesSchema text items r
       → Adds p now q now' (codes "refused 40 Faulty\n")
-      → (a : Answer) × IsDumpAnswer text items name message a × IsTold a text true p now q now'
+      → (a : Answer) × IsDumpAnswer text items name message a × AddsAnswer a text true p now q now'
   tells_faulty text items name message r is gives added =
       (refused text (codes "refused 40 Faulty\n"), faulty (subst (GivesSchema text items) is gives) refl, record { added = added; refused_is = refl; text_is = refl })
 
   pub tells_faultless : (text name message : List ℕ) (s : Schema) (r : Result Schema SchemaFault) (t : Result Bool NoMemory) → r ≡ Ok s
       → Compiles text (λ items. GivesSchema text items r)
       → IfOk t (λ refused. TellsOver (IsTypedAnswer s name message) refused p now q now')
-      → IfOk t (λ refused. Compiles text (λ items. (a : Answer) × IsDumpAnswer text items name message a × IsTold a text refused p now q now'))
+      → IfOk t (λ refused. Compiles text (λ items. (a : Answer) × IsDumpAnswer text items name message a × AddsAnswer a text refused p now q now'))
   tells_faultless text name message s r (Ok b) is gives h =
       let given = subst (GivesSchema text gives.1) is gives.3 in
       let told = h text in

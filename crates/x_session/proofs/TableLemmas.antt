@@ -4,7 +4,7 @@ use Rattle.std.specs.Prelude.{All}
 use Rattle.x_lex.specs.declared.kind.Kind.{Kind}
 use Rattle.x_lex.specs.Places.{lexemes}
 use Rattle.x_cutting.specs.ItemList as items
-use Rattle.x_cutting.specs.declared.cutting.entry.Entry.{Entry}
+use Rattle.x_cutting.specs.declared.cutting.item_entry.ItemEntry.{ItemEntry}
 use Rattle.x_names.specs.Declarers.{AreShort}
 use Rattle.x_rules.specs.Results.{AreResults}
 use Rattle.x_uses.specs.Occurrences.{UseTable}
@@ -12,10 +12,10 @@ use Rattle.x_session.specs.Checking.{IsSound}
 use Rattle.x_session.specs.Counting.{own_faults}
 use Rattle.x_session.specs.Following.{AreUsed, IsCheckedTable}
 use Rattle.x_session.specs.KeptView.{entry_definitions, entry_results}
-use Rattle.x_session.specs.Planned.{overlaid}
+use Rattle.x_session.specs.PlannedResult.{overlaid}
 use Rattle.x_session.specs.SessionState.{IsKept}
 use Rattle.x_session.specs.declared.compile.item_table.ItemTable.{ItemTable}
-use Rattle.x_session.specs.declared.compile.kept.Kept.{Kept}
+use Rattle.x_session.specs.declared.compile.item_content.ItemContent.{ItemContent}
 use Rattle.x_session.proofs.KeptLemmas.{count_found}
 use Rattle.x_session.proofs.PlannedLemmas.{faults_own, with_none}
 
@@ -41,5 +41,5 @@ table_same t u h list faults used = record {
   uses = subst (λ es. AreUsed es u.uses) (sym list) used;
 }
 
-pub used_of : (es fs : List (Entry Kept)) (uses : Option UseTable) → fs ≡ es → AreUsed fs uses → AreUsed es uses
+pub used_of : (es fs : List (ItemEntry ItemContent)) (uses : Option UseTable) → fs ≡ es → AreUsed fs uses → AreUsed es uses
 used_of es fs uses same used = subst (λ l. AreUsed l uses) same used

@@ -2,7 +2,7 @@
 use Rattle.std.proofs.Common.{◌≡◌, ℕ, zero, suc, ◌+◌, ◌-◌, ◌<◌, List, [], ◌∷◌, ◌++◌, ◌≤◌, take, drop, map, length, arith, sym, ap, ◌∙◌, append_assoc}
 use Rattle.std.proofs.lemmas.List.{length-map, length-drop}
 use Rattle.x_lex.specs.Places.{Lexeme, lexeme}
-use Rattle.x_lex.specs.declared.token.Token.{Token}
+use Rattle.x_lex.specs.declared.tokens.token.Token.{Token}
 
 step_take : {X : Type 0} (x : X) (next : List X) (k m : ℕ) → k ≡ suc m → take k (x ∷ next) ≡ x ∷ take m next
 step_take x next k m e = ap (λ n. take n (x ∷ next)) e

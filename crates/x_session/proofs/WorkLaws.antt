@@ -5,7 +5,7 @@ use Rattle.std.specs.Prelude.{sum_by}
 use Rattle.std.proofs.lemmas.List.{length-map}
 use Rattle.std.proofs.lemmas.List.Sums.{sum_by-append}
 use Rattle.x_text.specs.Edits.{Change, edited_by, LiesWithin}
-use Rattle.x_text.specs.declared.edit.Edit.{Edit}
+use Rattle.x_text.specs.declared.text.edit.Edit.{Edit}
 use Rattle.x_text.specs.Seqs.{distance}
 use Rattle.x_lex.specs.declared.kind.Kind.{Kind}
 use Rattle.x_lex.specs.Places.{lexemes}
@@ -17,7 +17,7 @@ use Rattle.x_lex.proofs.TilingLemmas.{same_tiles}
 use Rattle.x_cutting.specs.ItemList.{ItemChange, counts, tokens_in}
 use Rattle.x_cutting.specs.Items.{IsCut}
 use Rattle.x_cutting.specs.Recut.{AreOne, IsItemPatch}
-use Rattle.x_cutting.specs.declared.cutting.entry.Entry.{Entry}
+use Rattle.x_cutting.specs.declared.cutting.item_entry.ItemEntry.{ItemEntry}
 use Rattle.x_cutting.proofs.CuttingLemmas.{same_cut}
 use Rattle.x_cutting.proofs.RecutLaws.{same_item_patch}
 use Rattle.x_recheck.specs.Staleness.{AreStale}
@@ -30,7 +30,7 @@ use Rattle.x_session.specs.declared.session.work.Work.{Work}
 use Rattle.x_session.proofs.Compiled.{one_compilation}
 
 -- items of which nothing is kept are told by their counts
-bare_items : (xs ys : List (Entry (Unit {0}))) → counts xs ≡ counts ys → xs ≡ ys
+bare_items : (xs ys : List (ItemEntry (Unit {0}))) → counts xs ≡ counts ys → xs ≡ ys
 bare_items [] [] same = refl
 bare_items [] (y ∷ ys) same = absurd (cc)
 bare_items (x ∷ xs) [] same = absurd (cc)

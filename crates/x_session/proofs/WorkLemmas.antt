@@ -9,8 +9,8 @@ use Rattle.std.proofs.lemmas.List.Sums.{sum_by-append}
 use Rattle.x_text.specs.Counts.{raised}
 use Rattle.x_text.specs.Edits.{Change, change_of, edited_by}
 use Rattle.x_text.specs.Seqs.{distance}
-use Rattle.x_text.specs.declared.edit.Edit.{Edit}
-use Rattle.x_text.specs.declared.source.TheConstants.{MAX_TEXT}
+use Rattle.x_text.specs.declared.text.edit.Edit.{Edit}
+use Rattle.x_text.specs.declared.text.source.TheConstants.{MAX_TEXT}
 use Rattle.x_text.proofs.ListLemmas.{map_append}
 use Rattle.x_lex.specs.declared.kind.Kind.{Kind}
 use Rattle.x_lex.specs.Places.{lexemes}
@@ -22,7 +22,7 @@ use Rattle.x_cutting.specs.ItemList as items
 use Rattle.x_cutting.specs.ItemList.{AreOfText, ItemChange, counts, patched, tokens_before, tokens_in}
 use Rattle.x_cutting.specs.Items.{IsCut}
 use Rattle.x_cutting.specs.Recut.{EndsBefore, IsAmong, IsBehind, IsItemPatch, IsRecut, IsRejoining, start_of}
-use Rattle.x_cutting.specs.declared.cutting.entry.Entry.{Entry}
+use Rattle.x_cutting.specs.declared.cutting.item_entry.ItemEntry.{ItemEntry}
 use Rattle.x_cutting.proofs.CountLemmas.{counts-splice}
 use Rattle.x_rules.specs.Results.{Outcome}
 use Rattle.x_rules.proofs.AmongLemmas.{among_first, among_more}
@@ -33,13 +33,13 @@ use Rattle.x_session.specs.Checking.{AreChecked}
 use Rattle.x_session.specs.Following.{AreUsed, IsPlan, behind, edit_of}
 use Rattle.x_session.specs.KeptView.{AreWith, entry_definitions, found_result, kept_definition}
 use Rattle.x_session.specs.Moves.{changed_items, moves, place_of, seat_behind}
-use Rattle.x_session.specs.Planned.{numbers_of}
+use Rattle.x_session.specs.PlannedResult.{numbers_of}
 use Rattle.x_session.specs.Session.{Document, LeavesText}
 use Rattle.x_session.specs.SessionState.{IsKept, items_of}
 use Rattle.x_session.specs.Work.{AreStaleItems, AreWorks, IsWork, IsWorkOfAll, definitions_edit}
-use Rattle.x_session.specs.declared.compile.kept.Found.{Found}
-use Rattle.x_session.specs.declared.compile.kept.Kept.{Kept}
-use Rattle.x_session.specs.declared.compile.kept.Planned.{Planned}
+use Rattle.x_session.specs.declared.compile.item_content.CheckResult.{CheckResult}
+use Rattle.x_session.specs.declared.compile.item_content.ItemContent.{ItemContent}
+use Rattle.x_session.specs.declared.compile.item_content.PlannedResult.{PlannedResult}
 use Rattle.x_session.specs.declared.following.Plan.{Plan}
 use Rattle.x_session.specs.declared.session.work.Work.{Work}
 use Rattle.x_session.proofs.AlongLemmas.{cut_of}
@@ -48,7 +48,7 @@ use Rattle.x_session.proofs.KeptLemmas.{definitions_with, kept_is, results_with}
 
 -- ---- what an edit does to items, whatever is kept with them
 
-module _ {K L : Type 0} (change : Change) (ts us : List (Kind × ℕ)) (es : List (Entry K)) (fs : List (Entry L)) (p : ItemChange K) (q : ItemChange L) (olds : counts es ≡ counts fs) (at : p.at ≡ q.at) (removed : p.removed ≡ q.removed)
+module _ {K L : Type 0} (change : Change) (ts us : List (Kind × ℕ)) (es : List (ItemEntry K)) (fs : List (ItemEntry L)) (p : ItemChange K) (q : ItemChange L) (olds : counts es ≡ counts fs) (at : p.at ≡ q.at) (removed : p.removed ≡ q.removed)
     (start : p.start ≡ q.start) (news : counts p.fresh ≡ counts q.fresh) where
   long : length es ≡ length fs
   long = sym (length-map es tokens_in) ∙ ap length olds ∙ length-map fs tokens_in
@@ -94,10 +94,10 @@ module _ {K L : Type 0} (change : Change) (ts us : List (Kind × ℕ)) (es : Lis
 
 -- ---- the work of an edit
 
-abbrev pub bare : Entry Kept → Entry (Unit {0})
+abbrev pub bare : ItemEntry ItemContent → ItemEntry (Unit {0})
 bare e = record { tokens = e.tokens; kept = tt }
 
-counts_bare : (es : List (Entry Kept)) → counts es ≡ counts (map bare es)
+counts_bare : (es : List (ItemEntry ItemContent)) → counts es ≡ counts (map bare es)
 counts_bare [] = refl
 counts_bare (e ∷ es) = ap (λ cs. e.tokens ∷ cs) (counts_bare es)
 
@@ -122,15 +122,15 @@ stale_few e after ks h =
     omega (arith, few)
 
 -- an edit of items is one of their definitions
-pub definitions_splice : (es : List (Entry Kept)) (p : ItemChange Kept) → entry_definitions (patched es p) ≡ splice (entry_definitions es) p.at (p.at + p.removed) (entry_definitions p.fresh)
+pub definitions_splice : (es : List (ItemEntry ItemContent)) (p : ItemChange ItemContent) → entry_definitions (patched es p) ≡ splice (entry_definitions es) p.at (p.at + p.removed) (entry_definitions p.fresh)
 definitions_splice es p =
-    let f = λ (e : Entry Kept). kept_definition e.kept in
+    let f = λ (e : ItemEntry ItemContent). kept_definition e.kept in
     map_append f (take p.at es) (p.fresh ++ drop (p.at + p.removed) es)
     ∙ ap (λ l. map f (take p.at es) ++ l) (map_append f p.fresh (drop (p.at + p.removed) es))
     ∙ (λ i. (sym (take-map f p.at es)) i ++ (map f p.fresh ++ (sym (drop-map f (p.at + p.removed) es)) i))
 
 -- the items that an edit makes stale, by what is kept of both texts
-pub stale_items : (change : Change) (ts us : List (Kind × ℕ)) (es fs : List (Entry Kept)) (p : ItemChange Kept) (m n : ℕ) (v w : Option UseTable) (rs : List (Option (Box Found))) (ks : List ℕ)
+pub stale_items : (change : Change) (ts us : List (Kind × ℕ)) (es fs : List (ItemEntry ItemContent)) (p : ItemChange ItemContent) (m n : ℕ) (v w : Option UseTable) (rs : List (Option (Box CheckResult))) (ks : List ℕ)
     → IsKept change.old ts es m v → IsKept (edited_by change) us fs n w → AreWith (patched es p) rs fs → AreStale (edit_of es p) (map found_result rs) ks
     → AreStaleItems change ts us (record { at = p.at; removed = p.removed; start = p.start; fresh = map bare p.fresh }) ks
 stale_items change ts us es fs p m n v w rs ks old new with are =
@@ -154,7 +154,7 @@ stale_items change ts us es fs p m n v w rs ks old new with are =
       are = subst (λ a. AreStale (definitions_edit olds recut put) a ks) after (subst (λ e. AreStale e (map found_result rs) ks) edit_is are);
     }
 
-pub work_of : (change : Change) (before new : Document) (ts : List (Kind × ℕ)) (es : List (Entry Kept)) (p : TokenPatch) (ip : ItemChange Kept) (w : Work) (ks : List ℕ) → AreTokens change.old ts → IsPatch change ts p
+pub work_of : (change : Change) (before new : Document) (ts : List (Kind × ℕ)) (es : List (ItemEntry ItemContent)) (p : TokenPatch) (ip : ItemChange ItemContent) (w : Work) (ks : List ℕ) → AreTokens change.old ts → IsPatch change ts p
     → IsCut (lexemes change.old ts) (counts es) → IsItemPatch change ts (tokens.patched ts p) es ip → w.lexed ≡ length p.fresh → w.parsed ≡ length ip.fresh → w.checked ≡ length ks
     → AreStaleItems change ts (tokens.patched ts p) (record { at = ip.at; removed = ip.removed; start = ip.start; fresh = map bare ip.fresh }) ks
     → w.moved ≡ distance before.token_seat p.at (p.at + p.removed) + moves before.item_seat (changed_items (place_of ip) ks) → new.token_seat ≡ p.at + length p.fresh
@@ -184,7 +184,7 @@ work_of change before new ts es p ip w ks are patch cut recut lexed parsed check
 -- ---- what an edit leaves that was planned
 
 -- all that is kept of the edited text
-pub kept_edited : (change : Change) (ts : List (Kind × ℕ)) (es : List (Entry Kept)) (p : Plan) (text : List ℕ) (us : List (Kind × ℕ)) (fs : List (Entry Kept)) (faults : ℕ) (uses : Option UseTable) → IsPlan change ts es p
+pub kept_edited : (change : Change) (ts : List (Kind × ℕ)) (es : List (ItemEntry ItemContent)) (p : Plan) (text : List ℕ) (us : List (Kind × ℕ)) (fs : List (ItemEntry ItemContent)) (faults : ℕ) (uses : Option UseTable) → IsPlan change ts es p
     → text ≡ edited_by change → us ≡ tokens.patched ts p.tokens → AreOfText (counts (patched es p.items)) → AreWith (patched es p.items) (behind es p.items p.found.items) fs → faults ≡ p.faults
     → AreUsed (patched es p.items) uses → IsKept text us fs faults uses
 kept_edited change ts es p text us fs faults uses h edited same few with count used =
@@ -206,7 +206,7 @@ fresh_few : {T : Type 0} (xs ys : List T) (i j : ℕ) → length ys ≤ length (
 fresh_few xs ys i j = let a = length-append (take i xs) (ys ++ drop j xs) in let b = length-append ys (drop j xs) in omega (arith, a, b)
 
 -- the work that it took
-pub work_edited : (change : Change) (before new : Document) (ts us : List (Kind × ℕ)) (es fs : List (Entry Kept)) (m n : ℕ) (u v : Option UseTable) (p : Plan) (w : Work) → IsPlan change ts es p → IsKept change.old ts es m u
+pub work_edited : (change : Change) (before new : Document) (ts us : List (Kind × ℕ)) (es fs : List (ItemEntry ItemContent)) (m n : ℕ) (u v : Option UseTable) (p : Plan) (w : Work) → IsPlan change ts es p → IsKept change.old ts es m u
     → IsKept (edited_by change) us fs n v → us ≡ tokens.patched ts p.tokens → AreWith (patched es p.items) (behind es p.items p.found.items) fs → IsOfText (tokens.patched ts p.tokens) → AreOfText (counts (patched es p.items))
     → w.lexed ≡ raised 0 (length p.tokens.fresh) → w.parsed ≡ raised 0 (length p.items.fresh) → w.checked ≡ raised 0 (length p.found.items)
     → w.moved ≡ distance before.token_seat p.tokens.at (p.tokens.at + p.tokens.removed) + moves before.item_seat (changed_items (place_of p.items) (numbers_of p.found.items))
@@ -218,12 +218,12 @@ work_edited change before new ts us es fs m n u v p w h old made same with few f
     let b = few_items.few in
     let l = length-map (patched es p.items) tokens_in in
     let rs = behind es p.items p.found.items in
-    let ks = map (λ (q : Planned). q.item) p.found.items in
+    let ks = map (λ (q : PlannedResult). q.item) p.found.items in
     let stale = h.checked.stale in
     let many = stale_few (edit_of es p.items) (map found_result rs) ks stale in
     let long = ap length (definitions_splice es p.items) in
     let all = length-map (patched es p.items) (λ e. kept_definition e.kept) in
-    let some = length-map p.found.items (λ (q : Planned). q.item) in
+    let some = length-map p.found.items (λ (q : PlannedResult). q.item) in
     let once : w.checked ≡ length p.found.items = counted_few w.checked (length p.found.items) checked (omega (arith, many, long, all, some, b, l)) in
     work_of change before new ts es p.tokens p.items w ks old.are_tokens h.patch (cut_of (lexemes change.old ts) es old.parsed) h.recut
     (counted_few w.lexed (length p.tokens.fresh) lexed (omega (arith, f, a))) (counted_few w.parsed (length p.items.fresh) counted (omega (arith, g, b, l))) (once ∙ sym some)

@@ -3,24 +3,24 @@ use Rattle.std.specs.Prelude.{ℕ, ◌+◌, List, [], ◌∷◌, length, None, O
 use Rattle.std.specs.Global.{Box}
 use Rattle.x_session.specs.Compile.{faults_at, rule_faults}
 use Rattle.x_session.specs.KeptView.{found_result, kept_found, kept_parse}
-use Rattle.x_cutting.specs.declared.cutting.entry.Entry.{Entry}
-use Rattle.x_session.specs.declared.compile.kept.Found.{Found}
-use Rattle.x_session.specs.declared.compile.kept.Kept.{Kept}
+use Rattle.x_cutting.specs.declared.cutting.item_entry.ItemEntry.{ItemEntry}
+use Rattle.x_session.specs.declared.compile.item_content.CheckResult.{CheckResult}
+use Rattle.x_session.specs.declared.compile.item_content.ItemContent.{ItemContent}
 
 -- how many an item has, of which this was found
-abbrev pub faults_with : Kept → Option (Box Found) → ℕ
+abbrev pub faults_with : ItemContent → Option (Box CheckResult) → ℕ
 faults_with k r = length (faults_at [] (kept_parse k) (rule_faults (found_result r)))
 
-abbrev pub faults_found : List Kept → List (Option (Box Found)) → ℕ
+abbrev pub faults_found : List ItemContent → List (Option (Box CheckResult)) → ℕ
 faults_found (k ∷ ks) (r ∷ rs) = faults_with k r + faults_found ks rs
 faults_found ks rs = 0
 
 -- how many items have by what is kept with each
-abbrev pub own_faults : List Kept → ℕ
+abbrev pub own_faults : List ItemContent → ℕ
 own_faults [] = 0
 own_faults (k ∷ ks) = faults_with k (kept_found k) + own_faults ks
 
 -- how many an item has, if there is one
-abbrev pub entry_faults : Option (Entry Kept) → ℕ
+abbrev pub entry_faults : Option (ItemEntry ItemContent) → ℕ
 entry_faults None = 0
 entry_faults (Some e) = faults_with e.kept (kept_found e.kept)

@@ -2,7 +2,7 @@
 use Rattle.std.specs.Prelude.{ℕ, ◌+◌, ◌-◌, ◌==◌, List, take, drop, if◌then◌else◌}
 use Rattle.x_lex.specs.Places.{Lexeme}
 use Rattle.x_session.specs.Compile.{start_of, token_of_word}
-use Rattle.x_session.specs.declared.session.reader.Place.{Place}
+use Rattle.x_session.specs.declared.session.reader.WordPlace.{WordPlace}
 
 -- Tokens of an item are read: `walk` are those that are not read yet, `left` of the item and all behind it;
 -- `words` of the `read` ones are words, of which the last stands at `last`.
@@ -11,10 +11,10 @@ pub record ItemReading : Type 0 where
   pub left : ℕ
   pub read : ℕ
   pub words : ℕ
-  pub last : Place
+  pub last : WordPlace
 
 -- the place of a word, of tokens behind the first so many of the item
-abbrev pub word_place : List Lexeme → ℕ → ℕ → Place
+abbrev pub word_place : List Lexeme → ℕ → ℕ → WordPlace
 word_place left read word = record {
   token = read + token_of_word left word;
   start = start_of left (token_of_word left word);
@@ -25,7 +25,7 @@ abbrev pub unread : ItemReading → List Lexeme
 unread r = take r.left r.walk
 
 -- the place of a word that is the last one that was read, or was not read yet
-abbrev pub place_of : ItemReading → ℕ → Place
+abbrev pub place_of : ItemReading → ℕ → WordPlace
 place_of r word = if word + 1 == r.words then r.last else word_place (unread r) r.read (word - r.words)
 
 -- the tokens behind the item

@@ -12,7 +12,7 @@ pub mod ItemReading
 pub mod KeptView
 pub mod LineAnswers
 pub mod Moves
-pub mod Planned
+pub mod PlannedResult
 pub mod Rendered
 pub mod Script
 pub mod Session

@@ -5,7 +5,7 @@ use Rattle.std.specs.List.{filter}
 use Rattle.x_text.specs.Counts.{raised}
 use Rattle.x_text.specs.Seqs.{distance}
 use Rattle.x_cutting.specs.ItemList.{ItemChange}
-use Rattle.x_uses.specs.declared.uses.Place.{Place}
+use Rattle.x_uses.specs.declared.uses.ItemSplice.{ItemSplice}
 
 -- ---- what changes
 
@@ -21,28 +21,28 @@ abbrev pub changed_entry : ℕ → ℕ → Changed
 changed_entry was k = record { from = was; to = was + 1; end = k + 1 }
 
 -- where a patch puts its items
-abbrev pub place_of : {K : Type 0} → ItemChange K → Place
+abbrev pub place_of : {K : Type 0} → ItemChange K → ItemSplice
 place_of p = record { at = p.at; removed = p.removed; added = length p.fresh }
 
 -- the items of these numbers that stay before the place
-abbrev pub changed_before : Place → List ℕ → List Changed
+abbrev pub changed_before : ItemSplice → List ℕ → List Changed
 changed_before p ks = map (λ k. changed_entry k k) (filter (λ k. nat_lt k p.at) ks)
 
 -- the place itself, unless nothing goes and nothing comes there
-abbrev pub changed_place : Place → List Changed
+abbrev pub changed_place : ItemSplice → List Changed
 changed_place p =
     if nat_lt 0 (p.removed + p.added)
     then record { from = p.at; to = p.at + p.removed; end = p.at + p.added } ∷ []
     else []
 
 -- the items of these numbers that stay behind the place
-abbrev pub changed_behind : Place → List ℕ → List Changed
+abbrev pub changed_behind : ItemSplice → List ℕ → List Changed
 changed_behind p ks = map (λ k. changed_entry (k - p.added + p.removed) k)
     (filter (λ k. nat_lt (p.at + p.added) (k + 1)) ks)
 
 -- What an edit changes of the items, in order: the recut place, and each item that stays and is stale, where
 -- these are the numbers of the stale items after the edit.
-abbrev pub changed_items : Place → List ℕ → List Changed
+abbrev pub changed_items : ItemSplice → List ℕ → List Changed
 changed_items p ks = changed_before p ks ++ (changed_place p ++ changed_behind p ks)
 
 -- ---- what moves

@@ -3,29 +3,29 @@ use Rattle.std.specs.Prelude.{◌≡◌, ℕ, List, [], ◌∷◌, Some, slice_g
 use Rattle.x_trees.specs.Tree.{Definition}
 use Rattle.x_recheck.specs.declared.rechecking.Rechecked.{Rechecked}
 use Rattle.x_session.specs.KeptView.{kept_definition}
-use Rattle.x_session.specs.Planned.{IsPlannedOf}
-use Rattle.x_session.specs.declared.compile.kept.Kept.{Kept}
-use Rattle.x_session.specs.declared.compile.kept.Planned.{Planned}
+use Rattle.x_session.specs.PlannedResult.{IsPlannedOf}
+use Rattle.x_session.specs.declared.compile.item_content.ItemContent.{ItemContent}
+use Rattle.x_session.specs.declared.compile.item_content.PlannedResult.{PlannedResult}
 
 -- the item at an index has a definition
-pub record HasDefinitionAt (ks : List Kept) (n : ℕ) : Type 0 where
-  pub item : Kept
+pub record HasDefinitionAt (ks : List ItemContent) (n : ℕ) : Type 0 where
+  pub item : ItemContent
   pub at : slice_get ks n ≡ Some item
   pub definition : Definition
   pub defined : kept_definition item ≡ Some definition
 
-abbrev pub HaveDefinitions : List Kept → List Rechecked → Type 0
+abbrev pub HaveDefinitions : List ItemContent → List Rechecked → Type 0
 HaveDefinitions ks [] = Unit {0}
 HaveDefinitions ks (r ∷ rs) = HasDefinitionAt ks r.item × HaveDefinitions ks rs
 
 -- what was found of the item, with what is generated of it where that has no fault
-pub record IsRendering (ks : List Kept) (r : Rechecked) (p : Planned) : Type 0 where
+pub record IsRendering (ks : List ItemContent) (r : Rechecked) (p : PlannedResult) : Type 0 where
   pub item_is : p.item ≡ r.item
   pub checked_is : p.found.value.checked ≡ r.checked
   pub planned : IsPlannedOf ks p
 
 -- so it is with each of them
-abbrev pub AreRenderings : List Kept → List Rechecked → List Planned → Type 0
+abbrev pub AreRenderings : List ItemContent → List Rechecked → List PlannedResult → Type 0
 AreRenderings ks [] [] = Unit {0}
 AreRenderings ks (r ∷ rs) (p ∷ ps) = IsRendering ks r p × AreRenderings ks rs ps
 AreRenderings ks rs ps = ⊥

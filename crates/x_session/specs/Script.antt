@@ -8,10 +8,10 @@ use Rattle.x_session.specs.Answers.{Answer}
 use Rattle.x_session.specs.LineAnswers.{IsLineAnswer}
 use Rattle.x_lines.specs.declared.lines.LineFault.{LineFault}
 use Rattle.x_lines.specs.declared.lines.State.TheVariants.{Ended}
-use Rattle.x_text.specs.declared.outcome.Outcome.{Outcome}
+use Rattle.x_text.specs.declared.streams.outcome.Outcome.{Outcome}
 use Rattle.x_text.specs.Engines.{is_refused}
-use Rattle.x_text.specs.declared.outcome.EngineFault.{EngineFault}
-use Rattle.x_text.specs.declared.outcome.EngineFault.TheVariants.{Read, Write, NoMemory}
+use Rattle.x_text.specs.declared.streams.outcome.EngineFault.{EngineFault}
+use Rattle.x_text.specs.declared.streams.outcome.EngineFault.TheVariants.{Read, Write, NoMemory}
 use Rattle.x_lines.specs.Lines.{Reading, IsUnread, StopsBehind, script_lines, whole_lines}
 use Rattle.std.specs.Io.KnownBytes.{Appends, Consumes}
 
@@ -33,7 +33,7 @@ AreAnswered base text (line ∷ lines) all =
     (λ first. (rest : Answer) × AreAnswered base first.text lines rest × (all ≡ then_answer first rest))
 
 -- an answer was added to what is written, and it leaves this text
-pub record IsTold (a : Answer) (text : List ℕ) (refused : Bool) (p : Inked) (now : Stream) (q : Inked)
+pub record AddsAnswer (a : Answer) (text : List ℕ) (refused : Bool) (p : Inked) (now : Stream) (q : Inked)
     (now' : Stream) : Type 0 where
   pub added : Adds p now q now' a.told
   pub refused_is : refused ≡ a.refused
@@ -42,7 +42,7 @@ pub record IsTold (a : Answer) (text : List ℕ) (refused : Bool) (p : Inked) (n
 -- over any text, an answer of which this holds was added, and it leaves the text
 abbrev pub TellsOver : (List ℕ → Answer → Type 0) → Bool → Inked → Stream → Inked → Stream → Type 0
 TellsOver P refused p now q now' =
-    (text : List ℕ) → (a : Answer) × P text a × IsTold a text refused p now q now'
+    (text : List ℕ) → (a : Answer) × P text a × AddsAnswer a text refused p now q now'
 
 -- an answer was given: it was added to what is written, and the session has the text that it leaves
 pub record IsGiven (a : Answer) (old new : Document) (refused : Bool) (p : Inked) (now : Stream) (q : Inked)

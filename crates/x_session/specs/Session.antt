@@ -1,9 +1,9 @@
 -- What a session is a view of: the text, the base of the names in what is generated of it, and the seats of
 -- its tokens and items.
 use Rattle.std.specs.Prelude.{◌≡◌, ℕ, List, [], ◌∷◌, ◌++◌, length, Err}
-use Rattle.x_text.specs.Edits.{change_of, edited_by, Fits, Judges}
-use Rattle.x_text.specs.declared.edit.Edit.{Edit}
-use Rattle.x_text.specs.declared.fault.TextFault.{TextFault}
+use Rattle.x_text.specs.Edits.{change_of, edited_by, FitsText, Judges}
+use Rattle.x_text.specs.declared.text.edit.Edit.{Edit}
+use Rattle.x_text.specs.declared.text.fault.TextFault.{TextFault}
 use Rattle.x_lex.specs.declared.kind.Kind.{Kind}
 use Rattle.x_session.specs.Compile.{Item, IsCompilation}
 use Rattle.x_session.specs.declared.session.work.Work.{Work}
@@ -37,7 +37,7 @@ edited_by_all text (e ∷ es) = edited_by_all (edited_by (change_of text e)) es
 -- the text takes each of the edits in its turn
 abbrev pub TakesAll : List ℕ → List Edit → Type 0
 TakesAll text [] = Unit {0}
-TakesAll text (e ∷ es) = Fits (change_of text e) × TakesAll (edited_by (change_of text e)) es
+TakesAll text (e ∷ es) = FitsText (change_of text e) × TakesAll (edited_by (change_of text e)) es
 
 -- The text takes the edits before the one at the index, which leave this text, and refuses that one as it
 -- would alone.

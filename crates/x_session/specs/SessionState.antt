@@ -1,24 +1,24 @@
 -- What a session keeps beside its text.
 use Rattle.std.specs.Prelude.{◌≡◌, ◌≤◌, ◌+◌, ℕ, List, Option, IfSome, length, map, All}
-use Rattle.x_text.specs.declared.source.TheConstants.{MAX_TEXT}
+use Rattle.x_text.specs.declared.text.source.TheConstants.{MAX_TEXT}
 use Rattle.x_lex.specs.declared.kind.Kind.{Kind}
 use Rattle.x_lex.specs.Tiling.{AreTokens}
 use Rattle.x_lex.specs.Places.{lexemes}
-use Rattle.x_cutting.specs.declared.cutting.entry.Entry.{Entry}
+use Rattle.x_cutting.specs.declared.cutting.item_entry.ItemEntry.{ItemEntry}
 use Rattle.x_names.specs.Declarers.{AreShort}
 use Rattle.x_rules.specs.Results.{AreResults}
 use Rattle.x_uses.specs.Occurrences.{IsUsesOf, UseTable}
 use Rattle.x_session.specs.Checking.{IsSound}
 use Rattle.x_session.specs.Compile.{Item, faults_of}
 use Rattle.x_session.specs.KeptView.{AreParsed, entry_definitions, entry_results, items_with, kept_part}
-use Rattle.x_session.specs.declared.compile.kept.Kept.{Kept}
+use Rattle.x_session.specs.declared.compile.item_content.ItemContent.{ItemContent}
 
 -- the items of a text by what the program keeps of them
-abbrev pub items_of : List ℕ → List (Kind × ℕ) → List (Entry Kept) → List Item
+abbrev pub items_of : List ℕ → List (Kind × ℕ) → List (ItemEntry ItemContent) → List Item
 items_of text tokens entries = items_with (lexemes text tokens) entries
 
 -- All that is kept of a text is what compiling it from scratch gives.
-pub record IsKept (text : List ℕ) (tokens : List (Kind × ℕ)) (entries : List (Entry Kept)) (faults : ℕ)
+pub record IsKept (text : List ℕ) (tokens : List (Kind × ℕ)) (entries : List (ItemEntry ItemContent)) (faults : ℕ)
     (uses : Option UseTable) : Type 0 where
   pub are_tokens : AreTokens text tokens
   pub parsed : AreParsed (lexemes text tokens) entries

@@ -3,7 +3,7 @@ use Rattle.std.specs.Prelude.{◌≡◌, ◌<◌, ℕ, List, [], ◌++◌, Some,
 use Rattle.x_schema.specs.Schema.{Schema, id_named}
 use Rattle.x_schema.specs.Schemas.{IsSchemaOf}
 use Rattle.x_schema.specs.declared.schema.TypeId.{TypeId}
-use Rattle.x_value.specs.Dumps.{IsFault, IsShown}
+use Rattle.x_value.specs.Dumps.{IsReadFault, IsShown}
 use Rattle.x_value.specs.FaultTexts.{fault_line}
 use Rattle.x_value.specs.Lines.{node_lines}
 use Rattle.x_value.specs.Shown.{Node}
@@ -21,7 +21,7 @@ value_answer nodes = counted_line (codes "value") (length nodes) ++ node_lines n
 pub data IsMessageAnswer (s : Schema) (id : TypeId) (message text : List ℕ) (a : Answer) : Type 0 where
   shown : (nodes : List Node) → IsShown s id message nodes → a ≡ answered text (value_answer nodes)
       → IsMessageAnswer s id message text a
-  stuck : (at : ℕ) (code : ReadCode) → IsFault s id message at code → (code ≡ NoMemory → ⊥)
+  stuck : (at : ℕ) (code : ReadCode) → IsReadFault s id message at code → (code ≡ NoMemory → ⊥)
       → a ≡ refused text (fault_line at code)
       → IsMessageAnswer s id message text a
 

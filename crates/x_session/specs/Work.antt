@@ -3,7 +3,7 @@ use Rattle.std.specs.Prelude.{◌≡◌, ◌≤◌, ℕ, ◌+◌, List, [], ◌�
 use Rattle.x_text.specs.Counts.{raised}
 use Rattle.x_text.specs.Edits.{Change, change_of, edited_by}
 use Rattle.x_text.specs.Seqs.{distance}
-use Rattle.x_text.specs.declared.edit.Edit.{Edit}
+use Rattle.x_text.specs.declared.text.edit.Edit.{Edit}
 use Rattle.x_lex.specs.declared.kind.Kind.{Kind}
 use Rattle.x_lex.specs.Places.{lexemes}
 use Rattle.x_lex.specs.Relex.{IsPatch}
@@ -13,7 +13,7 @@ use Rattle.x_cutting.specs.ItemList.{ItemChange, counts}
 use Rattle.x_cutting.specs.Items.{IsCut}
 use Rattle.x_cutting.specs.Recut.{IsItemPatch}
 use Rattle.x_trees.specs.Tree.{Definition}
-use Rattle.x_cutting.specs.declared.cutting.entry.Entry.{Entry}
+use Rattle.x_cutting.specs.declared.cutting.item_entry.ItemEntry.{ItemEntry}
 use Rattle.x_recheck.specs.Editing.{TextEdit, definitions_after}
 use Rattle.x_recheck.specs.Staleness.{AreStale}
 use Rattle.x_session.specs.Compile.{Item, IsCompilation, definitions_of}
@@ -55,7 +55,7 @@ pub record IsWork (change : Change) (old new : Document) (w : Work) : Type 0 whe
   pub are_tokens : AreTokens change.old tokens
   pub patch : TokenPatch
   pub is_patch : IsPatch change tokens patch
-  pub items : List (Entry (Unit {0}))
+  pub items : List (ItemEntry (Unit {0}))
   pub are_items : IsCut (lexemes change.old tokens) (counts items)
   pub recut : ItemChange (Unit {0})
   pub is_recut : IsItemPatch change tokens (patched tokens patch) items recut

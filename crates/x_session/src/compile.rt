@@ -7,7 +7,7 @@ mod checking;
 mod fault;
 mod item_table;
 mod keeping;
-mod kept;
+mod item_content;
 mod lines;
 mod parsing;
 
@@ -16,10 +16,10 @@ use checking::{Checks, check_all};
 pub use fault::{Fault, FaultCode};
 pub(crate) use item_table::ItemTable;
 use keeping::keep_results;
-pub(crate) use kept::{Found, Kept, Planned, Told};
+pub(crate) use item_content::{CheckResult, ItemContent, PlannedResult, Verdict};
 use parsing::parse_items;
 use std::alloc::Global;
-use x_item::Entry;
+use x_item::ItemEntry;
 use x_lex::{Tokens, lex};
 use x_text::{Meter, NoMemory, Source};
 
@@ -46,7 +46,7 @@ pub fn compile(alloc: Global, source: &Source, meter: &mut Meter) -> Result<Comp
 }
 
 /// What is kept with each item.
-fn kept_of(alloc: Global, entries: &[Entry<Kept>]) -> Result<Vec<&Kept>, NoMemory>
+fn kept_of(alloc: Global, entries: &[ItemEntry<ItemContent>]) -> Result<Vec<&ItemContent>, NoMemory>
     ensures { IfOk result (λ items. map (λ k. k.now) items.items ≡ map (λ e. e.kept) entries.now) }
 {
     let mut items = Vec::with_capacity(alloc, entries.len())?;

@@ -14,7 +14,7 @@ ghost use Rattle.x_cutting.specs.Recut.{IsRelexed, IsItemPatch};
 ghost use Rattle.x_session.specs.Following.{AreFollowed, AreUsed, CanCarryOut, IsPlan, IsToFollow, behind};
 ghost use Rattle.x_session.specs.KeptView.{AreParsed, AreWith, kept_found};
 ghost use Rattle.x_session.specs.Moves.{changed_items, moves, place_of, seat_behind};
-ghost use Rattle.x_session.specs.Planned.{numbers_of};
+ghost use Rattle.x_session.specs.PlannedResult.{numbers_of};
 
 mod counting;
 mod fresh;
@@ -22,7 +22,7 @@ mod naming;
 mod placing;
 mod stale;
 
-use crate::compile::{ItemTable, Kept, Planned};
+use crate::compile::{ItemTable, ItemContent, PlannedResult};
 use counting::faults_behind;
 use fresh::parse_fresh;
 use naming::{NameChange, change_names, fresh_definitions};
@@ -39,11 +39,11 @@ pub struct Plan {
     /// What becomes of the tokens.
     pub tokens: Patch,
     /// What becomes of the items: each fresh one has what it parses to.
-    pub items: ItemPatch<Kept>,
+    pub items: ItemPatch<ItemContent>,
     /// What becomes of the table of names.
     pub names: NameChange,
     /// What checking finds of the items that the edit makes stale, in their order.
-    pub found: Vec<Planned>,
+    pub found: Vec<PlannedResult>,
     /// How many faults the items have then.
     pub faults: usize,
 }
@@ -127,9 +127,9 @@ fn next_items(
     tokens: &Tokens,
     patch: &Patch,
     text: &Source,
-    items: &mut Items<Kept>,
+    items: &mut Items<ItemContent>,
     meter: &mut Meter,
-) -> Result<ItemPatch<Kept>, NoMemory>
+) -> Result<ItemPatch<ItemContent>, NoMemory>
     requires { AreFollowed text.now tokens.now.list items.old.list patch.now }
     ensures recut { IfOk result (λ fresh. (change : Change)
         → IsRelexed change text.now tokens.now.list (items_of.counts items.old.list) patch.now

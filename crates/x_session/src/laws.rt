@@ -3,7 +3,7 @@
 
 ghost use Rattle.std.specs.Prelude.{◌≡◌, ◌≤◌, ◌*◌, ℕ, List, length, sum_by};
 ghost use Rattle.x_text.specs.Edits.{Change, LiesWithin};
-ghost use Rattle.x_text.specs.declared.edit.Edit as edit;
+ghost use Rattle.x_text.specs.declared.text.edit.Edit as edit;
 ghost use Rattle.x_lex.specs.declared.kind.Kind.{Kind};
 ghost use Rattle.x_session.specs.Compile.{Item, IsCompilation};
 ghost use Rattle.x_session.specs.Session.{Document};

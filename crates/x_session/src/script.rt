@@ -20,7 +20,7 @@ use answer::{add_counted, add_definitions, add_faults, add_text, add_tokens};
 pub use command::{Command, Insert, dump_words, parse_command};
 use showing::answer_dump;
 use std::alloc::Global;
-use x_lines::{Found, LineFault, LineReader};
+use x_lines::{LineEvent, LineFault, LineReader};
 use x_text::{Edit, EngineFault, NoMemory, Outcome, Pen, Sink, Tap, TextFault};
 
 /// Carries out the script that a tap gives, line by line, and writes the answer to each line before it
@@ -93,12 +93,12 @@ fn next_answer<R: Tap, S: Sink>(
     // asks nothing.
     let _items = session.item_count();
     let refused = match reader.next(tap)? {
-        Found::End => return Ok(None),
-        Found::TooLong => {
+        LineEvent::End => return Ok(None),
+        LineEvent::TooLong => {
             pen.add(b"refused 44 LongLine\n", sink);
             true
         }
-        Found::Line => match answer_line(alloc, session, reader.line(), pen, sink) {
+        LineEvent::Line => match answer_line(alloc, session, reader.line(), pen, sink) {
             Ok(refused) => refused,
             Err(NoMemory) => return Err(LineFault::NoMemory),
         },

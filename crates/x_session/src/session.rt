@@ -28,7 +28,7 @@ use std::alloc::Global;
 use std::marker::Model;
 pub use work::Work;
 use x_item::Definition;
-use x_lex::{Token, Tokens, Walk};
+use x_lex::{Token, Tokens, TokenIter};
 use x_sema::Schema;
 use x_text::{Edit, Meter, NoMemory, Source, TextBuffers, TextFault};
 
@@ -172,7 +172,7 @@ impl Session {
     }
 
     /// The tokens of the text, one after another.
-    pub fn tokens(&self) -> Walk<'_>
+    pub fn tokens(&self) -> TokenIter<'_>
         ensures { Compiles self.now.text (λ items. result ≡ tokens_of items) }
     {
         self.tokens.iter(self.texts.text())

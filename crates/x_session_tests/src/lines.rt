@@ -4,12 +4,12 @@ ghost use Rattle.x_lines.specs.Lines.{script_lines};
 use std::alloc::Global;
 use std::process::Abort;
 use std::test::Fail;
-use x_session::{Found, LineFault, LineReader};
+use x_session::{LineEvent, LineFault, LineReader};
 use x_text::{MemTap, Tap};
 
 /// Checks that the reader finds a line next.
 fn expect_line(rt: &impl Abort, reader: &mut LineReader, tap: &mut impl Tap, line: &[u8]) {
-    assert_eq!(rt; reader.next(tap), Ok(Found::Line));
+    assert_eq!(rt; reader.next(tap), Ok(LineEvent::Line));
     assert_eq!(rt; reader.line(), line);
 }
 
@@ -18,7 +18,7 @@ fn expect_none(
     rt: &impl Abort,
     reader: &mut LineReader,
     tap: &mut impl Tap,
-    wanted: Result<Found, LineFault>,
+    wanted: Result<LineEvent, LineFault>,
 ) {
     assert_eq!(rt; reader.next(tap), wanted);
 }
@@ -30,7 +30,7 @@ fn lines_come_by_pieces_of_each_length(rt: HostRuntime) {
         let mut reader = LineReader::new(rt.alloc());
         expect_line(&rt, &mut reader, &mut tap, b"a");
         expect_line(&rt, &mut reader, &mut tap, b"bc d");
-        expect_none(&rt, &mut reader, &mut tap, Ok(Found::End));
+        expect_none(&rt, &mut reader, &mut tap, Ok(LineEvent::End));
     }
 }
 
@@ -51,7 +51,7 @@ fn count_lines<R: Tap>(alloc: Global, tap: &mut R) -> Result<u64, LineFault>
     let mut reader = LineReader::new(alloc);
     'lines: for count in 0..u64::MAX {
         let found = reader.next(tap)?;
-        if let Found::End = found {
+        if let LineEvent::End = found {
             return Ok(count);
         }
     }

@@ -1,8 +1,8 @@
 -- Edits of a text.
 use Rattle.std.specs.Prelude.{◌↔◌, ℕ, ◌<◌, ◌≤◌, List, ◌++◌, take, drop, length, Result, OnOk, IsErrOf}
-use Rattle.x_text.specs.declared.edit.Edit.{Edit}
-use Rattle.x_text.specs.declared.fault.TextFault.{TextFault}
-use Rattle.x_text.specs.declared.fault.TextFault.TheVariants.{BadRange, TooLarge, NoMemory}
+use Rattle.x_text.specs.declared.text.edit.Edit.{Edit}
+use Rattle.x_text.specs.declared.text.fault.TextFault.{TextFault}
+use Rattle.x_text.specs.declared.text.fault.TextFault.TheVariants.{BadRange, TooLarge, NoMemory}
 use Rattle.x_text.specs.Limits.{most_text}
 
 -- the bytes from `start` to before `end` of the text `old` go, and those of `insert` come in their place
@@ -26,7 +26,7 @@ pub record LiesWithin (change : Change) : Type 0 where
   pub within : change.end ≤ length change.old
 
 -- its range lies within the text, and the text that it leaves isn't too large
-pub record Fits (change : Change) : Type 0 where
+pub record FitsText (change : Change) : Type 0 where
   pub lies_within : LiesWithin change
   pub small : length (edited_by change) ≤ most_text
 
@@ -38,6 +38,6 @@ Refuses change NoMemory = Unit {0}
 
 -- the result is `Ok` only of a change that fits, and where it doesn't, an error says why
 pub record Judges {T : Type 0} (change : Change) (result : Result T TextFault) : Type 0 where
-  pub fits : OnOk result (Fits change)
+  pub fits : OnOk result (FitsText change)
   pub bad_range : IsErrOf result BadRange ↔ Refuses change BadRange
   pub too_large : IsErrOf result TooLarge ↔ Refuses change TooLarge

@@ -1,9 +1,9 @@
 -- How runs of engines end: what reads a tap and writes its answers to a sink.
 use Rattle.std.specs.Prelude.{◌≡◌, ℕ, Bool, true, false, Result, Ok, Err}
-use Rattle.x_text.specs.declared.outcome.EngineFault.{EngineFault}
-use Rattle.x_text.specs.declared.outcome.EngineFault.TheVariants.{Read, Write, NoMemory}
-use Rattle.x_text.specs.declared.outcome.Outcome.{Outcome}
-use Rattle.x_text.specs.declared.outcome.Outcome.TheVariants.{Clean, Refused}
+use Rattle.x_text.specs.declared.streams.outcome.EngineFault.{EngineFault}
+use Rattle.x_text.specs.declared.streams.outcome.EngineFault.TheVariants.{Read, Write, NoMemory}
+use Rattle.x_text.specs.declared.streams.outcome.Outcome.{Outcome}
+use Rattle.x_text.specs.declared.streams.outcome.Outcome.TheVariants.{Clean, Refused}
 
 abbrev pub is_refused : Outcome → Bool
 is_refused Clean = false

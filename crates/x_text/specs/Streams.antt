@@ -2,7 +2,7 @@
 use Rattle.std.specs.Prelude.{◌≡◌, ◌<◌, ◌≤◌, ℕ, List, Option, Bool, Result, IsTrue, IfOk, IsErr, is_err}
 use Rattle.std.specs.Prelude.{length}
 use Rattle.std.specs.Io.KnownBytes.{WriteAppends, ReadConsumes}
-use Rattle.x_text.specs.declared.sink.Broken.{Broken}
+use Rattle.x_text.specs.declared.streams.sink.Broken.{Broken}
 
 -- the bytes that a sink holds or a tap has left, where it tells them, and whether it has failed
 pub record Stream : Type 0 where

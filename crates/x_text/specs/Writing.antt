@@ -3,7 +3,7 @@ use Rattle.std.specs.Prelude.{◌≡◌, ℕ, ◌-◌, ◌^◌, ◌≤◌, min, 
 use Rattle.std.specs.Prelude.{MatchResult, Result}
 use Rattle.std.specs.Io.KnownBytes.{Appends}
 use Rattle.x_text.specs.Streams.{Stream}
-use Rattle.x_text.specs.declared.pen.WriteFault.{WriteFault}
+use Rattle.x_text.specs.declared.streams.pen.WriteFault.{WriteFault}
 
 -- a number of bytes as it is counted, which stays at the greatest number of 64 bits
 abbrev pub counted : ℕ → ℕ

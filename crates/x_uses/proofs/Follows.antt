@@ -12,7 +12,7 @@ use Rattle.x_names.specs.Declarers.{declarer_at, place_of_name, declarer_in, fir
 use Rattle.x_names.specs.declared.names.Declarer.{Declarer}
 use Rattle.x_uses.specs.Occurrences.{Definitions, UseTable, declarers_in, sees, put_before, declarers_of, users_of, declarer_of, declarers_at, users_at, HasRoom, IsUsesOf, slot_in}
 use Rattle.x_uses.specs.Slots.{front_of, rear_of, sum_of, number_after, stays, renumbered, filled, declarer_item, put_declarer, user_item, put_user, slot_stays, slot_renumbered, slot_filled, Entries, slot_at, by_slot, going, coming, ChangesEach, HasSameSlots, HasSameLists, RoomFor, item_of_declarer, with_item, first_of, first_after, names_of_entries}
-use Rattle.x_uses.specs.declared.uses.Place.{Place}
+use Rattle.x_uses.specs.declared.uses.ItemSplice.{ItemSplice}
 use Rattle.x_uses.specs.declared.uses.slot.CompactDeclarer.{CompactDeclarer}
 use Rattle.x_uses.specs.declared.uses.slot.Slot.{Slot}
 use Rattle.x_uses.proofs.OccurrenceLaws as laws
@@ -86,8 +86,8 @@ user_picks name = record { at = λ i d y h. at (sees d name) i y h; moves = λ i
 
 pub record IsShown {Y : Type 0} (item_of : Y → ℕ) (put : ℕ → Y → Y) (at : Option Slot → List Y) : Type 0 where
   pub none : at None ≡ []
-  pub staying : (p : Place) (s : Slot) → at (Some (slot_stays p s)) ≡ stays item_of p (at (Some s))
-  pub numbered : (p : Place) (s : Slot) → at (Some (slot_renumbered p s)) ≡ renumbered item_of put p (at (Some s))
+  pub staying : (p : ItemSplice) (s : Slot) → at (Some (slot_stays p s)) ≡ stays item_of p (at (Some s))
+  pub numbered : (p : ItemSplice) (s : Slot) → at (Some (slot_renumbered p s)) ≡ renumbered item_of put p (at (Some s))
   pub full : (n : ℕ) (f s : Slot) → at (Some (slot_filled n f s)) ≡ filled item_of put n (at (Some f)) (at (Some s))
 
 put_seen : (f : ℕ → ℕ) (xs : List CompactDeclarer) → map declarer_of (map (λ x. put_declarer (f x.item) x) xs) ≡ map (λ y. put_item (f y.item) y) (map declarer_of xs)
@@ -116,11 +116,11 @@ pub users_shown : IsShown user_item put_user users_at
 users_shown = record { none = refl; staying = λ p s. refl; numbered = λ p s. refl; full = λ n f s. refl }
 
 module _ {Y : Type 0} (item_of : Y → ℕ) (put : ℕ → Y → Y) (at : Option Slot → List Y) (shown : IsShown item_of put at) where
-  staying_in : (p : Place) (s : Option Slot) → at (option_map (slot_stays p) s) ≡ stays item_of p (at s)
+  staying_in : (p : ItemSplice) (s : Option Slot) → at (option_map (slot_stays p) s) ≡ stays item_of p (at s)
   staying_in p None = shown.none ∙ sym (ap (stays item_of p) shown.none)
   staying_in p (Some s) = shown.staying p s
 
-  numbered_in : (p : Place) (s : Option Slot) → at (option_map (slot_renumbered p) s) ≡ renumbered item_of put p (at s)
+  numbered_in : (p : ItemSplice) (s : Option Slot) → at (option_map (slot_renumbered p) s) ≡ renumbered item_of put p (at s)
   numbered_in p None = shown.none ∙ sym (ap (renumbered item_of put p) shown.none)
   numbered_in p (Some s) = shown.numbered p s
 
@@ -129,7 +129,7 @@ module _ {Y : Type 0} (item_of : Y → ℕ) (put : ℕ → Y → Y) (at : Option
   full_in n f (Some s) room = shown.full n f s
 
   -- the list of a name is that of the text after the edit
-  pub follows : {D : Type 0} (pick : ℕ → D → Option Y) → Picks item_of put pick → (p : Place) (old fresh : List D) → IsEdit p old fresh
+  pub follows : {D : Type 0} (pick : ℕ → D → Option Y) → Picks item_of put pick → (p : ItemSplice) (old fresh : List D) → IsEdit p old fresh
       → (s t u v gone come : Option Slot) → at s ≡ found pick 0 old → at gone ≡ found pick 0 (take p.removed (drop p.at old)) → at come ≡ found pick 0 fresh
       → t ≡ by_slot (going p) gone s → (p.removed ≡ p.added → u ≡ t) → ((p.removed ≡ p.added → ⊥) → u ≡ option_map (slot_renumbered p) t)
       → v ≡ by_slot (coming p.at) come u → ((f : Slot) → come ≡ Some f → HasRoom u f)
@@ -159,7 +159,7 @@ module _ {Y : Type 0} (item_of : Y → ℕ) (put : ℕ → Y → Y) (at : Option
 
 -- ---- room through the steps
 
-stays_room : (p : Place) → p.at < 2 ^ 64 → (s : Option Slot) (f : Slot) → HasRoom s f → HasRoom (option_map (slot_stays p) s) f
+stays_room : (p : ItemSplice) → p.at < 2 ^ 64 → (s : Option Slot) (f : Slot) → HasRoom s f → HasRoom (option_map (slot_stays p) s) f
 stays_room p small None f room = room
 stays_room p small (Some s) f room =
     let a = length_stays declarer_item p s.declarers.items small in
@@ -168,14 +168,14 @@ stays_room p small (Some s) f room =
     let y = room.1 in
     (omega (arith, a, x), omega (arith, b, y))
 
-pub room_stays : (p : Place) → p.at < 2 ^ 64 → (old new gone fresh : Entries) → ChangesEach old new gone (going p) → RoomFor old fresh → RoomFor new fresh
+pub room_stays : (p : ItemSplice) → p.at < 2 ^ 64 → (old new gone fresh : Entries) → ChangesEach old new gone (going p) → RoomFor old fresh → RoomFor new fresh
 room_stays p small old new gone fresh step room name f there = subst (λ o. HasRoom o f) (sym (step name)) (by (slot_at gone name))
   where
     by : (g : Option Slot) → HasRoom (by_slot (going p) g (slot_at old name)) f
     by None = room name f there
     by (Some g) = stays_room p small (slot_at old name) f (room name f there)
 
-numbered_room : (p : Place) (s : Option Slot) (f : Slot) → HasRoom s f → HasRoom (option_map (slot_renumbered p) s) f
+numbered_room : (p : ItemSplice) (s : Option Slot) (f : Slot) → HasRoom s f → HasRoom (option_map (slot_renumbered p) s) f
 numbered_room p None f room = room
 numbered_room p (Some s) f room =
     let a = length-map s.declarers.items (λ x. put_declarer (number_after p (declarer_item x)) x) in
@@ -184,7 +184,7 @@ numbered_room p (Some s) f room =
     let y = room.1 in
     (omega (arith, a, x), omega (arith, b, y))
 
-pub room_numbered : (p : Place) (old new fresh : Entries) → (p.removed ≡ p.added → HasSameSlots old new)
+pub room_numbered : (p : ItemSplice) (old new fresh : Entries) → (p.removed ≡ p.added → HasSameSlots old new)
     → ((p.removed ≡ p.added → ⊥) → (name : List ℕ) → slot_at new name ≡ option_map (slot_renumbered p) (slot_at old name)) → RoomFor old fresh → RoomFor new fresh
 room_numbered p old new fresh same moved room name f there = by (cases_eq p.removed p.added)
   where
@@ -194,7 +194,7 @@ room_numbered p old new fresh same moved room name f there = by (cases_eq p.remo
 
 -- ---- the table
 
-pub table_follows : (p : Place) (a b c d e gone fresh : Entries) → ChangesEach a b gone (going p) → (p.removed ≡ p.added → HasSameSlots b c)
+pub table_follows : (p : ItemSplice) (a b c d e gone fresh : Entries) → ChangesEach a b gone (going p) → (p.removed ≡ p.added → HasSameSlots b c)
     → ((p.removed ≡ p.added → ⊥) → (name : List ℕ) → slot_at c name ≡ option_map (slot_renumbered p) (slot_at b name))
     → RoomFor c fresh → ChangesEach c d fresh (coming p.at) → HasSameLists d e
     → (old put : Definitions) → IsUsesOf old (names_of_entries a) → IsUsesOf (take p.removed (drop p.at old)) (names_of_entries gone) → IsUsesOf put (names_of_entries fresh)
@@ -231,7 +231,7 @@ first_of_declarers i (d ∷ ds) name = by (declarer_in i name d) (first_of_decla
     by (Some y) h = refl
 
 -- the first after the edit is the first before the place, of what is put in, or behind the place
-pub first_follows : (p : Place) (old put : Definitions) → IsEdit p old put → (es fs : Entries) (t u : UseTable) → names_of_entries es ≡ t → names_of_entries fs ≡ u → IsUsesOf old t → IsUsesOf put u
+pub first_follows : (p : ItemSplice) (old put : Definitions) → IsEdit p old put → (es fs : Entries) (t u : UseTable) → names_of_entries es ≡ t → names_of_entries fs ≡ u → IsUsesOf old t → IsUsesOf put u
     → (name : List ℕ) → first_after p (declarers_at (slot_at fs name)) (declarers_at (slot_at es name)) ≡ first_from 0 (splice old p.at (p.at + p.removed) put) name
 first_follows p old put edit es fs t u seen seen' is_old is_put name =
     ap (λ l. first_after p l (declarers_at (slot_at es name))) (ap declarers_at (sym (slot_seen fs name)) ∙ ap (λ v. declarers_in v name) seen' ∙ is_put.declarers name ∙ declarers_found 0 put name)

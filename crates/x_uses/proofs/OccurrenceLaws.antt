@@ -7,7 +7,7 @@ use Rattle.std.proofs.lemmas.Bool.{lt-ltb, le-ltb}
 use Rattle.std.proofs.lemmas.List.{map-append, take-append-drop, length-take-le}
 use Rattle.x_uses.specs.Occurrences.{put_before}
 use Rattle.x_uses.specs.Slots.{front_of, rear_of, sum_of, number_after, stays, renumbered, filled, first_of}
-use Rattle.x_uses.specs.declared.uses.Place.{Place}
+use Rattle.x_uses.specs.declared.uses.ItemSplice.{ItemSplice}
 use Rattle.x_uses.proofs.PlaceLists.{drop_drop}
 
 -- what is found at the items, of which the first has this number
@@ -80,19 +80,19 @@ module _ {D Y : Type 0} (item_of : Y → ℕ) (put : ℕ → Y → Y) (pick : �
 
 -- ---- an edit
 
-number_before : (p : Place) (k : ℕ) → k < p.at → number_after p k ≡ k
+number_before : (p : ItemSplice) (k : ℕ) → k < p.at → number_after p k ≡ k
 number_before p k lt = ap (λ b. cond b k (sum_of (k - p.removed) p.added)) (lt-ltb k p.at lt)
 
-number_behind : (p : Place) (k : ℕ) → p.at ≤ k → k - p.removed + p.added < 2 ^ 64 → number_after p k ≡ k - p.removed + p.added
+number_behind : (p : ItemSplice) (k : ℕ) → p.at ≤ k → k - p.removed + p.added < 2 ^ 64 → number_after p k ≡ k - p.removed + p.added
 number_behind p k le few = ap (λ b. cond b k (sum_of (k - p.removed) p.added)) (le-ltb k p.at le) ∙ omega arith
 
 -- the definitions of a text and of what an edit puts in, and the place
-pub record IsEdit {D : Type 0} (p : Place) (old fresh : List D) : Type 0 where
+pub record IsEdit {D : Type 0} (p : ItemSplice) (old fresh : List D) : Type 0 where
   pub within : p.at + p.removed ≤ length old
   pub added_is : p.added ≡ length fresh
   pub few : length old + p.added < 2 ^ 32
 
-module _ {D Y : Type 0} (item_of : Y → ℕ) (put : ℕ → Y → Y) (pick : ℕ → D → Option Y) (is : Picks item_of put pick) (p : Place) (old fresh : List D) (edit : IsEdit p old fresh) where
+module _ {D Y : Type 0} (item_of : Y → ℕ) (put : ℕ → Y → Y) (pick : ℕ → D → Option Y) (is : Picks item_of put pick) (p : ItemSplice) (old fresh : List D) (edit : IsEdit p old fresh) where
   abbrev pub end : ℕ
   end = p.at + p.removed
 

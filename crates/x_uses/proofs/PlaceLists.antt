@@ -4,7 +4,7 @@ use Rattle.std.proofs.lemmas.List.{take_all, take_at, drop_at, drop_all, drop-ap
 use Rattle.std.specs.List.{refill}
 use Rattle.std.proofs.lemmas.Bool.Decides.{nat_tests}
 use Rattle.x_uses.specs.Slots.{front_of, rear_of, sum_of, stays}
-use Rattle.x_uses.specs.declared.uses.Place.{Place}
+use Rattle.x_uses.specs.declared.uses.ItemSplice.{ItemSplice}
 
 -- a list that is written over as a whole
 refilled : {X : Type 0} (n : ℕ) (xs ws : List X) → length ws ≡ n → n ≡ length xs → refill n xs ws ≡ ws
@@ -133,7 +133,7 @@ parts_length item_of to (x ∷ xs) = by (nat_lt (item_of x) to) (parts_length it
     by false h = omega arith
 
 -- what stays is no longer
-pub length_stays : {X : Type 0} (item_of : X → ℕ) (p : Place) (xs : List X) → p.at < 2 ^ 64 → length (stays item_of p xs) ≤ length xs
+pub length_stays : {X : Type 0} (item_of : X → ℕ) (p : ItemSplice) (xs : List X) → p.at < 2 ^ 64 → length (stays item_of p xs) ≤ length xs
 length_stays item_of p xs small =
     let to = sum_of p.at p.removed in
     let longer = front_longer item_of p.at to xs (omega (arith, small)) in

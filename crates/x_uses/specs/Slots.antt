@@ -9,7 +9,7 @@ use Rattle.x_trees.specs.Tree.{Definition}
 use Rattle.x_names.specs.Declarers.{IsShort}
 use Rattle.x_names.specs.declared.names.Declarer.{Declarer}
 use Rattle.x_uses.specs.Occurrences.{declarers_at, users_at, HasRoom}
-use Rattle.x_uses.specs.declared.uses.Place.{Place}
+use Rattle.x_uses.specs.declared.uses.ItemSplice.{ItemSplice}
 use Rattle.x_uses.specs.declared.uses.slot.CompactDeclarer.{CompactDeclarer}
 use Rattle.x_uses.specs.declared.uses.slot.Slot.{Slot}
 
@@ -30,15 +30,15 @@ abbrev pub sum_of : ℕ → ℕ → ℕ
 sum_of a b = min (a + b) (2 ^ 64 - 1)
 
 -- the number after the edit of an item that stays
-abbrev pub number_after : Place → ℕ → ℕ
+abbrev pub number_after : ItemSplice → ℕ → ℕ
 number_after p k = if nat_lt k p.at then k else sum_of (k - p.removed) p.added
 
 -- what stays, before and behind the place
-abbrev pub stays : {X : Type 0} → (X → ℕ) → Place → List X → List X
+abbrev pub stays : {X : Type 0} → (X → ℕ) → ItemSplice → List X → List X
 stays item_of p xs = front_of item_of p.at xs ++ rear_of item_of (sum_of p.at p.removed) xs
 
 -- with the numbers after the edit
-abbrev pub renumbered : {X : Type 0} → (X → ℕ) → (ℕ → X → X) → Place → List X → List X
+abbrev pub renumbered : {X : Type 0} → (X → ℕ) → (ℕ → X → X) → ItemSplice → List X → List X
 renumbered item_of put p xs = map (λ x. put (number_after p (item_of x)) x) xs
 
 -- with others between, whose items are counted from `at`
@@ -80,13 +80,13 @@ user_item k = k
 abbrev pub put_user : ℕ → ℕ → ℕ
 put_user item k = min item (2 ^ 32 - 1)
 
-abbrev pub slot_stays : Place → Slot → Slot
+abbrev pub slot_stays : ItemSplice → Slot → Slot
 slot_stays p s = record {
   declarers = record { items = stays declarer_item p s.declarers.items; capacity = s.declarers.capacity };
   users = record { items = stays user_item p s.users.items; capacity = s.users.capacity };
 }
 
-abbrev pub slot_renumbered : Place → Slot → Slot
+abbrev pub slot_renumbered : ItemSplice → Slot → Slot
 slot_renumbered p s = record {
   declarers = record {
     items = renumbered declarer_item put_declarer p s.declarers.items;
@@ -141,7 +141,7 @@ by_slot change None s = s
 by_slot change (Some f) s = change f s
 
 -- the items that an edit takes out go, and what another table has is put in
-abbrev pub going : Place → Slot → Option Slot → Option Slot
+abbrev pub going : ItemSplice → Slot → Option Slot → Option Slot
 going p g = option_map (slot_stays p)
 
 abbrev pub coming : ℕ → Slot → Option Slot → Option Slot
@@ -191,7 +191,7 @@ abbrev pub with_item : ℕ → Declarer → Declarer
 with_item item d = record { item = item; word = d.word; place = d.place; kind = d.kind; lifted = d.lifted }
 
 -- the first of the old ones before the place, of the fresh ones, or of the old ones behind the place
-abbrev pub first_after : Place → List Declarer → List Declarer → Option Declarer
+abbrev pub first_after : ItemSplice → List Declarer → List Declarer → Option Declarer
 first_after p fresh old =
     option_or (first_of (front_of item_of_declarer p.at old))
     (option_or (option_map (λ d. with_item (sum_of p.at d.item) d) (first_of fresh))

@@ -3,4 +3,4 @@
 
 mod uses;
 
-pub use uses::{Place, Uses};
+pub use uses::{ItemSplice, Uses};

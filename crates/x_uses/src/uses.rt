@@ -24,7 +24,7 @@ use x_trees::Definition;
 
 /// The items that an edit takes out, from one on, and how many it puts in there.
 #[derive(Clone, Copy, Debug)]
-pub struct Place {
+pub struct ItemSplice {
     /// The first of the items that are taken out, counted from 0.
     pub at: usize,
     /// How many are taken out.
@@ -76,7 +76,7 @@ impl Uses {
     }
 
     /// As [`Uses::first`], once an edit puts the items of `fresh` in at the place.
-    pub fn first_after(&self, fresh: &Uses, place: Place, name: &[u8]) -> Option<Declarer>
+    pub fn first_after(&self, fresh: &Uses, place: ItemSplice, name: &[u8]) -> Option<Declarer>
         ensures { (old put : Definitions) → IsUsesOf old self.now → IsUsesOf put fresh.now
             → place.at + place.removed ≤ length old → place.added ≡ length put
             → length old + place.added < 2 ^ 32
@@ -111,7 +111,7 @@ impl Uses {
 
     /// Follows an edit that takes out the items at the place, with the uses `gone`, and puts in those of
     /// `fresh`. It takes no memory.
-    pub fn replace(&mut self, place: Place, gone: &Uses, fresh: &Uses)
+    pub fn replace(&mut self, place: ItemSplice, gone: &Uses, fresh: &Uses)
         requires room { HasRoomFor self.old fresh.now }
         ensures { (old put : Definitions) → IsUsesOf old self.old
             → IsUsesOf (take place.removed (drop place.at old)) gone.now → IsUsesOf put fresh.now

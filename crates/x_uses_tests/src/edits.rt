@@ -5,7 +5,7 @@ use x_item::{Definition, Parsed, parse_item};
 use x_lex::lex;
 use x_sema::Names;
 use x_text::{Meter, NoMemory, Source};
-use x_uses::{Place, Uses};
+use x_uses::{ItemSplice, Uses};
 
 /// The definition that the text is.
 fn definition_of(rt: &impl Abort, alloc: Global, text: &[u8]) -> Result<Definition, NoMemory> {
@@ -30,7 +30,7 @@ fn follow(
     rt: &impl Abort,
     alloc: Global,
     uses: &mut Uses,
-    place: Place,
+    place: ItemSplice,
     gone: &[Option<&Definition>],
     fresh: &[Option<&Definition>],
 ) -> Result<(), NoMemory> {
@@ -68,7 +68,7 @@ fn take_away(
     uses: &mut Uses,
     [first, using, second]: [Option<&Definition>; 3],
 ) -> Result<(), NoMemory> {
-    let place = Place {
+    let place = ItemSplice {
         at: 0,
         removed: 1,
         added: 0,
@@ -84,7 +84,7 @@ fn put_back(
     uses: &mut Uses,
     [first, using, second]: [Option<&Definition>; 3],
 ) -> Result<(), NoMemory> {
-    let place = Place {
+    let place = ItemSplice {
         at: 1,
         removed: 1,
         added: 2,

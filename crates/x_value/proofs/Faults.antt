@@ -15,11 +15,11 @@ use Rattle.x_value.specs.declared.fault.ReadCode.TheVariants as codes
 use Rattle.x_value.specs.Shown.{Node}
 use Rattle.x_value.specs.Values.{Value, Values, body, group, headed, end, more, enc, encs}
 use Rattle.x_units.specs.Units.{word, are_zeros}
-use Rattle.x_value.specs.Layouts.{Layout, Fixed, Fields, Elements, Flag, Named, Sized, Counted, Optional, Chosen, Place, Job, most_links, members, behind, arm_fault, head_fault, open_fault, illegal_code}
-use Rattle.x_value.specs.Readings.{Fits, Suits, Role, Free, Padded, Head, fault_of, roles, roles_each, nodes, nodes_each}
+use Rattle.x_value.specs.Layouts.{Layout, Fixed, Fields, Elements, Flag, Named, Sized, Counted, Optional, Chosen, Spot, Job, most_links, members, behind, arm_fault, head_fault, open_fault, illegal_code}
+use Rattle.x_value.specs.Readings.{Fits, Suits, UnitRole, Free, Padded, Head, fault_of, roles, roles_each, nodes, nodes_each}
 use Rattle.x_value.specs.Language.{Leads, Begins, NotIn, IsOfUnits, Stuck, Short}
 use Rattle.x_value.specs.Jobs.{Spells, Faulty, Refused, no_memory, ends, trails, stops, Moves}
-use Rattle.x_value.specs.Dumps.{root_job, IsEncoding, IsShown, BeginsEncoding, NoFrontIsEncoding, IsFault, no_memory_left, trailing, bad_unit, cut_short}
+use Rattle.x_value.specs.Dumps.{root_job, IsEncoding, IsShown, BeginsEncoding, NoFrontIsEncoding, IsReadFault, no_memory_left, trailing, bad_unit, cut_short}
 use Rattle.x_value.proofs.Fronts.{leads_nowhere, leads_then, stuck_behind, short_behind, none_in_short, none_in_stuck}
 use Rattle.x_value.proofs.Bytes.{word_length, body_length, body_units}
 use Rattle.x_value.proofs.Unique.{one_values}
@@ -27,7 +27,7 @@ use Rattle.x_value.proofs.Unique.{one_values}
 -- ---- an encoding has as many units as roles
 
 mutual
-  units_value : (s : Schema) (l : Layout) (p : Place) (v : Value) → Fits s l p v → length (enc v) ≡ 4 * length (roles s l p v)
+  units_value : (s : Schema) (l : Layout) (p : Spot) (v : Value) → Fits s l p v → length (enc v) ≡ 4 * length (roles s l p v)
   units_value s l p (body bs) h = body_length bs ∙ body_units (length bs)
   units_value s l p (group vs) h = units_values s (members s l p) vs h.1
   units_value s l p (headed w vs) h =
@@ -38,7 +38,7 @@ mutual
   units_values s [] (more v vs) h = absurd h
   units_values s (j ∷ js) end h = absurd h
   units_values s (j ∷ js) (more v vs) h =
-      length-append (enc v) (encs vs) ∙ (let a = units_value s j.layout j.place v h.0 in let b = units_values s js vs h.1 in let l = length-append (roles s j.layout j.place v) (roles_each s js vs) in omega arith)
+      length-append (enc v) (encs vs) ∙ (let a = units_value s j.layout j.spot v h.0 in let b = units_values s js vs h.1 in let l = length-append (roles s j.layout j.spot v) (roles_each s js vs) in omega arith)
 
 pub of_units : (s : Schema) (js : List Job) → IsOfUnits (Spells s js)
 of_units s js = record {
@@ -48,24 +48,24 @@ of_units s js = record {
 
 -- ---- one value
 
-pub spelled : (s : Schema) (j : Job) (v : Value) (x : List ℕ) → Fits s j.layout j.place v → x ≡ enc v → Spells s (j ∷ []) x (roles s j.layout j.place v) (nodes s j.layout j.place v)
+pub spelled : (s : Schema) (j : Job) (v : Value) (x : List ℕ) → Fits s j.layout j.spot v → x ≡ enc v → Spells s (j ∷ []) x (roles s j.layout j.spot v) (nodes s j.layout j.spot v)
 spelled s j v x h e = record {
   values = more v end;
   suits = (h, tt);
   bytes = e ∙ sym (append-nil (enc v));
-  told = sym (append-nil (roles s j.layout j.place v));
-  shown = sym (append-nil (nodes s j.layout j.place v));
+  told = sym (append-nil (roles s j.layout j.spot v));
+  shown = sym (append-nil (nodes s j.layout j.spot v));
 }
 
-shown_value : (s : Schema) (j : Job) (vs : Values) (x : List ℕ) (n : List Node) → Suits s (j ∷ []) vs → x ≡ encs vs → n ≡ nodes_each s (j ∷ []) vs → (v : Value) × Fits s j.layout j.place v × (x ≡ enc v) × (n ≡ nodes s j.layout j.place v)
+shown_value : (s : Schema) (j : Job) (vs : Values) (x : List ℕ) (n : List Node) → Suits s (j ∷ []) vs → x ≡ encs vs → n ≡ nodes_each s (j ∷ []) vs → (v : Value) × Fits s j.layout j.spot v × (x ≡ enc v) × (n ≡ nodes s j.layout j.spot v)
 shown_value s j end x n h e t = absurd h
-shown_value s j (more v end) x n h e t = (v, h.0, e ∙ append-nil (enc v), t ∙ append-nil (nodes s j.layout j.place v))
+shown_value s j (more v end) x n h e t = (v, h.0, e ∙ append-nil (enc v), t ∙ append-nil (nodes s j.layout j.spot v))
 shown_value s j (more v (more w ws)) x n h e t = absurd h.1
 
-pub shown_of : (s : Schema) (id : TypeId) (x : List ℕ) (r : List Role) (n : List Node) → Spells s (root_job s id ∷ []) x r n → IsShown s id x n
+pub shown_of : (s : Schema) (id : TypeId) (x : List ℕ) (r : List UnitRole) (n : List Node) → Spells s (root_job s id ∷ []) x r n → IsShown s id x n
 shown_of s id x r n h = shown_value s (root_job s id) h.values x n h.suits h.bytes h.shown
 
-pub encoding_of : (s : Schema) (id : TypeId) (x : List ℕ) (r : List Role) (n : List Node) → Spells s (root_job s id ∷ []) x r n → IsEncoding s id x
+pub encoding_of : (s : Schema) (id : TypeId) (x : List ℕ) (r : List UnitRole) (n : List Node) → Spells s (root_job s id ∷ []) x r n → IsEncoding s id x
 encoding_of s id x r n h = let v = shown_of s id x r n h in (v.0, v.1, v.2)
 
 -- ---- refusals
@@ -123,7 +123,7 @@ never_head s (Optional of) n w e =
 never_head s (Chosen d choice) n w e =
     elim (if_else (is_legal (form_at s d.form) w) (illegal_code (form_at s d.form)) codes.NoMemory (arm_fault (arm_for choice w)) e) [ inl h ↦ never_illegal (form_at s d.form) h | inr h ↦ never_arm (arm_for choice w) h ]
 
-never_memory : (s : Schema) (r : Role) (u : List ℕ) → fault_of s r u ≡ some_code codes.NoMemory → ⊥
+never_memory : (s : Schema) (r : UnitRole) (u : List ℕ) → fault_of s r u ≡ some_code codes.NoMemory → ⊥
 never_memory s Free u e = cc
 never_memory s (Padded k) u e = (let h : codes.BadPad ≡ codes.NoMemory = if_none (are_zeros (drop k u)) codes.BadPad codes.NoMemory e in cc)
 never_memory s (Head l n) u e = never_head s l n (from_be_bytes w32 u) e
@@ -188,7 +188,7 @@ no_front s id m h a b e k = h a b e (roles s (root_job s id).layout (root_job s 
 begins_of : (s : Schema) (id : TypeId) (x : List ℕ) → Begins (Spells s (root_job s id ∷ [])) x → BeginsEncoding s id x
 begins_of s id x b = (b.rest, encoding_of s id (x ++ b.rest) b.told b.shown b.is_in)
 
-pub fault_is : (s : Schema) (id : TypeId) (m : List ℕ) (at : ℕ) (code : ReadCode) → Refused s (root_job s id ∷ []) m at code → IsFault s id m at code
+pub fault_is : (s : Schema) (id : TypeId) (m : List ℕ) (at : ℕ) (code : ReadCode) → Refused s (root_job s id ∷ []) m at code → IsReadFault s id m at code
 fault_is s id m at code (no_memory c p) = no_memory_left c p
 fault_is s id m at code (ends c k) = cut_short c (record {
   none = no_front s id m (none_in_short (Spells s (root_job s id ∷ [])) m at (of_units s (root_job s id ∷ [])) k);

@@ -3,7 +3,7 @@ use Rattle.std.proofs.Common.{◌≡◌, ℕ, ◌+◌, ◌*◌, ◌<◌, ◌≤�
 use Rattle.std.proofs.lemmas.List.{append-nil, length-append}
 use Rattle.std.proofs.lemmas.Bool.{cases_lt}
 use Rattle.x_value.specs.Shown.{Node}
-use Rattle.x_value.specs.Readings.{Role}
+use Rattle.x_value.specs.Readings.{UnitRole}
 use Rattle.x_value.specs.Language.{Language, Leads, Begins, NotIn, IsOfUnits, Stuck, Short}
 
 -- ---- lists
@@ -37,7 +37,7 @@ append_is_nil (x ∷ a) b e = absurd cc
 pub leads_nowhere : (L : Language) → Leads L [] [] [] L
 leads_nowhere L = record { on = λ x y n h. h; back = λ x z m h. (z, m, refl, refl, h) }
 
-pub leads_then : (L M N : Language) (p q : List ℕ) (s t : List Role) (a b : List Node) → Leads L p s a M → Leads M q t b N → Leads L (p ++ q) (s ++ t) (a ++ b) N
+pub leads_then : (L M N : Language) (p q : List ℕ) (s t : List UnitRole) (a b : List Node) → Leads L p s a M → Leads M q t b N → Leads L (p ++ q) (s ++ t) (a ++ b) N
 leads_then L M N p q s t a b f g = record {
   on = λ x y n h. rw (append_assoc, append_assoc, append_assoc) (f.on (q ++ x) (t ++ y) (b ++ n) (g.on x y n h));
   back = λ x z m h.
@@ -52,7 +52,7 @@ leads_then L M N p q s t a b f g = record {
       );
 }
 
-pub begins_behind : (L M : Language) (p q : List ℕ) (s : List Role) (a : List Node) → Leads L p s a M → Begins M q → Begins L (p ++ q)
+pub begins_behind : (L M : Language) (p q : List ℕ) (s : List UnitRole) (a : List Node) → Leads L p s a M → Begins M q → Begins L (p ++ q)
 begins_behind L M p q s a f b = record {
   rest = b.rest;
   told = s ++ b.told;
@@ -60,10 +60,10 @@ begins_behind L M p q s a f b = record {
   is_in = rw append_assoc (f.on (q ++ b.rest) b.told b.shown b.is_in);
 }
 
-pub not_in_behind : (L M : Language) (p q : List ℕ) (s : List Role) (a : List Node) → Leads L p s a M → NotIn M q → NotIn L (p ++ q)
+pub not_in_behind : (L M : Language) (p q : List ℕ) (s : List UnitRole) (a : List Node) → Leads L p s a M → NotIn M q → NotIn L (p ++ q)
 not_in_behind L M p q s a f n z m h = let one = f.back q z m h in n one.0 one.1 one.4
 
-pub stuck_behind : (L M : Language) (faulty : Role → List ℕ → Type 0) (p m : List ℕ) (s : List Role) (a : List Node) (at : ℕ) →
+pub stuck_behind : (L M : Language) (faulty : UnitRole → List ℕ → Type 0) (p m : List ℕ) (s : List UnitRole) (a : List Node) (at : ℕ) →
     Leads L p s a M → length p ≡ 4 * length s → Stuck M faulty m at → Stuck L faulty (p ++ m) (length p + at)
 stuck_behind L M faulty p m s a at f len k = record {
   front = p ++ k.front;
@@ -89,7 +89,7 @@ stuck_behind L M faulty p m s a at f len k = record {
       );
 }
 
-pub short_behind : (L M : Language) (p m : List ℕ) (s : List Role) (a : List Node) (at : ℕ) →
+pub short_behind : (L M : Language) (p m : List ℕ) (s : List UnitRole) (a : List Node) (at : ℕ) →
     Leads L p s a M → length p ≡ 4 * length s → Short M m at → Short L (p ++ m) (length p + at)
 short_behind L M p m s a at f len k = record {
   front = p ++ k.front;
@@ -127,7 +127,7 @@ none_in_short L m at one k a b e y n h =
           between_units k.units (length y) (length c.0) (sym units ∙ split ∙ ap (λ v. v + length c.0) k.whole) (omega arith) (let p = k.part in omega arith))
     ]
 
-pub none_in_stuck : (L : Language) (faulty : Role → List ℕ → Type 0) (m : List ℕ) (at : ℕ) → IsOfUnits L → Stuck L faulty m at → (a b : List ℕ) → m ≡ a ++ b → NotIn L a
+pub none_in_stuck : (L : Language) (faulty : UnitRole → List ℕ → Type 0) (m : List ℕ) (at : ℕ) → IsOfUnits L → Stuck L faulty m at → (a b : List ℕ) → m ≡ a ++ b → NotIn L a
 none_in_stuck L faulty m at one k a b e y n h =
     let why = k.cause k.begun.rest k.begun.told k.begun.shown k.begun.is_in in
     let place : length k.front ≡ 4 * length why.0 = why.4 in

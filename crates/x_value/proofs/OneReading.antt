@@ -7,8 +7,8 @@ use Rattle.x_schema.specs.Schema.{Schema}
 use Rattle.x_schema.specs.declared.schema.TypeId.{TypeId}
 use Rattle.x_value.specs.declared.fault.ReadCode.{ReadCode}
 use Rattle.x_value.specs.declared.fault.ReadCode.TheVariants.{NoMemory}
-use Rattle.x_value.specs.Dumps.{root_job, IsOf, IsEncoding, IsShown, BeginsEncoding, IsBadUnit, IsCut, HasTrailing, IsFault, no_memory_left, trailing, bad_unit, cut_short}
-use Rattle.x_value.specs.Readings.{Role, fault_of, nodes}
+use Rattle.x_value.specs.Dumps.{root_job, IsOf, IsEncoding, IsShown, BeginsEncoding, IsBadUnit, IsTruncated, HasTrailing, IsReadFault, no_memory_left, trailing, bad_unit, cut_short}
+use Rattle.x_value.specs.Readings.{UnitRole, fault_of, nodes}
 use Rattle.x_value.specs.Shown.{Node}
 use Rattle.x_value.specs.Values.{Value, enc}
 use Rattle.x_value.proofs.Fronts.{cut_longer, cut_same}
@@ -42,7 +42,7 @@ not_behind s id bytes at n code front rest k e even begins lt =
 not_shorter : (s : Schema) (id : TypeId) (bytes : List ℕ) (at at' : ℕ) (code code' : ReadCode) → (x : IsBadUnit s id bytes at code) → (y : IsBadUnit s id bytes at' code') → length x.front < length y.front → ⊥
 not_shorter s id bytes at at' code code' x y lt = let two = aligned s id bytes at' code' y in not_behind s id bytes at two.0 code y.front (y.unit ++ y.rest) x y.parts two.1 y.begins lt
 
-same_role : (k l : Role) (xs ys : List Role) → k ∷ xs ≡ l ∷ ys → k ≡ l
+same_role : (k l : UnitRole) (xs ys : List UnitRole) → k ∷ xs ≡ l ∷ ys → k ≡ l
 same_role k l xs ys e = cc
 
 same_code : (c d : ReadCode) (x : Option ReadCode) → x ≡ Some c → x ≡ Some d → c ≡ d
@@ -71,7 +71,7 @@ bad_bad s id bytes at at' code code' x y =
       ]
     ]
 
-bad_cut : (s : Schema) (id : TypeId) (bytes : List ℕ) (at at' : ℕ) (code : ReadCode) → IsBadUnit s id bytes at code → IsCut s id bytes at' → ⊥
+bad_cut : (s : Schema) (id : TypeId) (bytes : List ℕ) (at at' : ℕ) (code : ReadCode) → IsBadUnit s id bytes at code → IsTruncated s id bytes at' → ⊥
 bad_cut s id bytes at at' code x y =
     elim (cases_lt (length x.front) (length y.front)) [
       | inl lt ↦ not_behind s id bytes at y.units code y.front y.tail x y.parts y.whole y.begins lt
@@ -89,7 +89,7 @@ behind_same s id bytes at at' x y =
 
 -- want of memory aside
 pub one_refusal : (s : Schema) (id : TypeId) (bytes : List ℕ) (at at' : ℕ) (code code' : ReadCode) → (code ≡ NoMemory → ⊥) → (code' ≡ NoMemory → ⊥)
-    → IsFault s id bytes at code → IsFault s id bytes at' code' → (at ≡ at') × (code ≡ code')
+    → IsReadFault s id bytes at code → IsReadFault s id bytes at' code' → (at ≡ at') × (code ≡ code')
 one_refusal s id bytes at at' code code' m n (no_memory_left c z) y = absurd (m c)
 one_refusal s id bytes at at' code code' m n x (no_memory_left d z) = absurd (n d)
 one_refusal s id bytes at at' code code' m n (trailing c x) (trailing d y) = (behind_same s id bytes at at' x y, c ∙ sym d)
@@ -115,7 +115,7 @@ none_behind s id bytes front more some parts x y =
     let none : length more ≡ 0 = ap length one.1 in
     omega (arith, some, none)
 
-pub not_both : (s : Schema) (id : TypeId) (bytes : List ℕ) (at : ℕ) (code : ReadCode) → (code ≡ NoMemory → ⊥) → IsEncoding s id bytes → IsFault s id bytes at code → ⊥
+pub not_both : (s : Schema) (id : TypeId) (bytes : List ℕ) (at : ℕ) (code : ReadCode) → (code ≡ NoMemory → ⊥) → IsEncoding s id bytes → IsReadFault s id bytes at code → ⊥
 not_both s id bytes at code m v (no_memory_left c z) = m c
 not_both s id bytes at code m v (trailing c x) = none_behind s id bytes x.front x.more x.some x.parts x.is_encoding v
 not_both s id bytes at code m v (bad_unit x) = x.none bytes [] (sym (append-nil bytes)) v

@@ -5,8 +5,8 @@ use Rattle.x_schema.specs.Schema.{Schema}
 use Rattle.x_schema.specs.Sound.{IsSound}
 use Rattle.x_value.specs.Shown.{Node}
 use Rattle.x_value.specs.Values.{Value, Values, end, more, enc, encs}
-use Rattle.x_value.specs.Layouts.{Layout, Place, Job, placed}
-use Rattle.x_value.specs.Readings.{Fits, Suits, Role, roles, roles_each, nodes, nodes_each}
+use Rattle.x_value.specs.Layouts.{Layout, Spot, Job, placed}
+use Rattle.x_value.specs.Readings.{Fits, Suits, UnitRole, roles, roles_each, nodes, nodes_each}
 use Rattle.x_value.specs.Language.{Leads, Begins}
 use Rattle.x_value.specs.Jobs.{Spells, AreReady, Moves}
 use Rattle.x_value.proofs.Sound.{some_values}
@@ -34,14 +34,14 @@ unfolding join
 roles_join s [] ks end w h = refl
 roles_join s [] ks (more a v) w h = absurd h
 roles_join s (j ∷ js) ks end w h = absurd h
-roles_join s (j ∷ js) ks (more a v) w h = ap (λ t. roles s j.layout j.place a ++ t) (roles_join s js ks v w h.1) ∙ sym (append_assoc (roles s j.layout j.place a) (roles_each s js v) (roles_each s ks w))
+roles_join s (j ∷ js) ks (more a v) w h = ap (λ t. roles s j.layout j.spot a ++ t) (roles_join s js ks v w h.1) ∙ sym (append_assoc (roles s j.layout j.spot a) (roles_each s js v) (roles_each s ks w))
 
 pub nodes_join : (s : Schema) (js ks : List Job) (v w : Values) → Suits s js v → nodes_each s (js ++ ks) (join v w) ≡ nodes_each s js v ++ nodes_each s ks w
 unfolding join
 nodes_join s [] ks end w h = refl
 nodes_join s [] ks (more a v) w h = absurd h
 nodes_join s (j ∷ js) ks end w h = absurd h
-nodes_join s (j ∷ js) ks (more a v) w h = ap (λ t. nodes s j.layout j.place a ++ t) (nodes_join s js ks v w h.1) ∙ sym (append_assoc (nodes s j.layout j.place a) (nodes_each s js v) (nodes_each s ks w))
+nodes_join s (j ∷ js) ks (more a v) w h = ap (λ t. nodes s j.layout j.spot a ++ t) (nodes_join s js ks v w h.1) ∙ sym (append_assoc (nodes s j.layout j.spot a) (nodes_each s js v) (nodes_each s ks w))
 
 pub record Parts (s : Schema) (js ks : List Job) (v : Values) : Type 0 where
   pub one : Values
@@ -66,19 +66,19 @@ begins_any s js sound ready =
 -- ---- the front of a value
 
 -- behind the front of a value of the layout stand values of these types
-pub record Opens (s : Schema) (l : Layout) (p : Place) (js : List Job) (front : List ℕ) (told : List Role) (shown : List Node) : Type 0 where
+pub record Opens (s : Schema) (l : Layout) (p : Spot) (js : List Job) (front : List ℕ) (told : List UnitRole) (shown : List Node) : Type 0 where
   pub on : (vs : Values) → Suits s js vs → (v : Value) × Fits s l p v × (enc v ≡ front ++ encs vs) × (roles s l p v ≡ told ++ roles_each s js vs) × (nodes s l p v ≡ shown ++ nodes_each s js vs)
   pub back : (v : Value) (x y : List ℕ) → Fits s l p v → enc v ++ y ≡ front ++ x → (vs : Values) × Suits s js vs × (enc v ≡ front ++ encs vs) × (roles s l p v ≡ told ++ roles_each s js vs) × (nodes s l p v ≡ shown ++ nodes_each s js vs)
 
-opened_back : (s : Schema) (j : Job) (js ks : List Job) (front : List ℕ) (told : List Role) (shown : List Node) (x : List ℕ) (z : List Role) (m : List Node) → Opens s j.layout j.place js front told shown →
+opened_back : (s : Schema) (j : Job) (js ks : List Job) (front : List ℕ) (told : List UnitRole) (shown : List Node) (x : List ℕ) (z : List UnitRole) (m : List Node) → Opens s j.layout j.spot js front told shown →
     (vs : Values) → Suits s (j ∷ ks) vs → front ++ x ≡ encs vs → z ≡ roles_each s (j ∷ ks) vs → m ≡ nodes_each s (j ∷ ks) vs →
-    (y : List Role) × (n : List Node) × (z ≡ told ++ y) × (m ≡ shown ++ n) × Spells s (js ++ ks) x y n
+    (y : List UnitRole) × (n : List Node) × (z ≡ told ++ y) × (m ≡ shown ++ n) × Spells s (js ++ ks) x y n
 opened_back s j js ks front told shown x z m o end h b t d = absurd h
 opened_back s j js ks front told shown x z m o (more v ws) h b t d =
     let p = o.back v x (encs ws) h.0 (sym b) in
     let bytes : enc v ≡ front ++ encs p.0 = p.2 in
-    let tells : roles s j.layout j.place v ≡ told ++ roles_each s js p.0 = p.3 in
-    let shows : nodes s j.layout j.place v ≡ shown ++ nodes_each s js p.0 = p.4 in
+    let tells : roles s j.layout j.spot v ≡ told ++ roles_each s js p.0 = p.3 in
+    let shows : nodes s j.layout j.spot v ≡ shown ++ nodes_each s js p.0 = p.4 in
     let beyond : front ++ x ≡ front ++ (encs p.0 ++ encs ws) = b ∙ ap (λ u. u ++ encs ws) bytes ∙ append_assoc front (encs p.0) (encs ws) in (
       roles_each s (js ++ ks) (join p.0 ws),
       nodes_each s (js ++ ks) (join p.0 ws),
@@ -93,7 +93,7 @@ opened_back s j js ks front told shown x z m o (more v ws) h b t d =
       },
     )
 
-pub opened : (s : Schema) (j : Job) (js ks : List Job) (front : List ℕ) (told : List Role) (shown : List Node) → Opens s j.layout j.place js front told shown → Leads (Spells s (j ∷ ks)) front told shown (Spells s (js ++ ks))
+pub opened : (s : Schema) (j : Job) (js ks : List Job) (front : List ℕ) (told : List UnitRole) (shown : List Node) → Opens s j.layout j.spot js front told shown → Leads (Spells s (j ∷ ks)) front told shown (Spells s (js ++ ks))
 opened s j js ks front told shown o = record {
   on = λ x y n h.
       let p = suits_split s js ks h.values h.suits in
@@ -118,7 +118,7 @@ opened s j js ks front told shown o = record {
   back = λ x z m h. opened_back s j js ks front told shown x z m o h.values h.suits h.bytes h.told h.shown;
 }
 
-pub moves_of : (s : Schema) (l : Layout) (p : Place) (js : List Job) (front : List ℕ) (told : List Role) (shown : List Node) (m rest : List ℕ) → Opens s l p js front told shown → m ≡ front ++ rest → length front ≡ 4 * length told → (ks : List Job) → Moves s (placed l p ∷ ks) m shown (js ++ ks) rest
+pub moves_of : (s : Schema) (l : Layout) (p : Spot) (js : List Job) (front : List ℕ) (told : List UnitRole) (shown : List Node) (m rest : List ℕ) → Opens s l p js front told shown → m ≡ front ++ rest → length front ≡ 4 * length told → (ks : List Job) → Moves s (placed l p ∷ ks) m shown (js ++ ks) rest
 moves_of s l p js front told shown m rest o parts even ks = record {
   front = front;
   told = told;

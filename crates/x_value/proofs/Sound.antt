@@ -14,7 +14,7 @@ use Rattle.x_value.specs.declared.fault.ReadCode.{ReadCode}
 use Rattle.x_value.specs.declared.fault.ReadCode.TheVariants as codes
 use Rattle.x_value.specs.Values.{Value, Values, body, group, headed, end, more}
 use Rattle.x_units.specs.Units.{copies}
-use Rattle.x_value.specs.Layouts.{Layout, Fixed, Fields, Elements, Flag, Named, Sized, Counted, Optional, Chosen, Place, Job, layout_of, layout_at, field_job, field_jobs, element_jobs, arm_jobs, job, arm_fault, illegal_code}
+use Rattle.x_value.specs.Layouts.{Layout, Fixed, Fields, Elements, Flag, Named, Sized, Counted, Optional, Chosen, Spot, Job, layout_of, layout_at, field_job, field_jobs, element_jobs, arm_jobs, job, arm_fault, illegal_code}
 use Rattle.x_value.specs.Shown.{Index}
 use Rattle.x_value.specs.Readings.{Fits, Suits}
 use Rattle.x_value.specs.Jobs.{IsSoundLayout, IsReady, AreReady}
@@ -73,7 +73,7 @@ sized_none most = rw (lt_false most 0 (omega arith)) refl
 -- ---- values
 
 abbrev SomeBelow : Schema → ℕ → Type 0
-SomeBelow s i = (j : ℕ) → j < i → (q : Place) → (v : Value) × Fits s (layout_at s j) q v
+SomeBelow s i = (j : ℕ) → j < i → (q : Spot) → (v : Value) × Fits s (layout_at s j) q v
 
 some_fields : (s : Schema) (n i level links : ℕ) (fs : List Field) → AreSoundFields n i fs → SomeBelow s i → (vs : Values) × Suits s (field_jobs s level links fs) vs
 some_fields s n i level links [] h below = (end, tt)
@@ -82,7 +82,7 @@ some_fields s n i level links (f ∷ fs) h below =
     let rest = some_fields s n i level links fs h.1 below in
     (more one.0 rest.0, (one.1, rest.1))
 
-some_elements : (s : Schema) (of level links at n : ℕ) → ((q : Place) → (v : Value) × Fits s (layout_at s of) q v) → (vs : Values) × Suits s (element_jobs s of level links at n) vs
+some_elements : (s : Schema) (of level links at n : ℕ) → ((q : Spot) → (v : Value) × Fits s (layout_at s of) q v) → (vs : Values) × Suits s (element_jobs s of level links at n) vs
 some_elements s of level links at zero one = (end, tt)
 some_elements s of level links at (suc n) one =
     let first = one (job (layout_at s of) (Index at) level links).place in
@@ -97,7 +97,7 @@ some_arm s n i level links (Some (arms.Of f)) h below =
 some_arm s n i level links (Some arms.Void) h below = (end, tt)
 some_arm s n i level links None h below = (end, tt)
 
-some_of : (s : Schema) (l : Layout) (i : ℕ) (p : Place) → IsSoundLayout s i l → SomeBelow s i → (v : Value) × Fits s l p v
+some_of : (s : Schema) (l : Layout) (i : ℕ) (p : Spot) → IsSoundLayout s i l → SomeBelow s i → (v : Value) × Fits s l p v
 some_of s (Fixed leaf n) i p sound below = (body (copies n 0), (copies_length n 0, IsByteList-zeros n))
 some_of s (Fields fs) i p sound below = let each = some_fields s (length s.names) i (suc p.level) p.links fs sound below in (group each.0, (tt, each.1))
 some_of s (Elements of n) i p sound below = let each = some_elements s of (suc p.level) p.links 0 n (below of sound) in (group each.0, (tt, each.1))
@@ -110,21 +110,21 @@ some_of s (Chosen d choice) i p sound below =
     let each = some_arm s (length s.names) i (suc p.level) p.links (arm_for choice sound.word) (sound.arms sound.word) below in
     (headed sound.word each.0, (tt, sound.fits, chosen_fine (is_legal (form_at s d.form) sound.word) (arm_for choice sound.word) (illegal_code (form_at s d.form)) sound.legal sound.chosen, each.1))
 
-some_below : (s : Schema) (k : ℕ) → IsSound s → (i : ℕ) → i < length s.forms → i < k → (p : Place) → (v : Value) × Fits s (layout_at s i) p v
+some_below : (s : Schema) (k : ℕ) → IsSound s → (i : ℕ) → i < length s.forms → i < k → (p : Spot) → (v : Value) × Fits s (layout_at s i) p v
 some_below s zero sound i lt b p = absurd (omega arith)
 some_below s (suc k) sound i lt b p =
     some_of s (layout_at s i) i p (layout_sound s i sound lt) (λ j l q. some_below s k sound j (omega arith) (omega arith) q)
 
 -- every type has a value that fits with as many links open as may be
-pub some_value : (s : Schema) (i : ℕ) (p : Place) → IsSound s → i < length s.forms → (v : Value) × Fits s (layout_at s i) p v
+pub some_value : (s : Schema) (i : ℕ) (p : Spot) → IsSound s → i < length s.forms → (v : Value) × Fits s (layout_at s i) p v
 some_value s i p sound lt = some_below s (suc i) sound i lt (omega arith) p
 
-pub some_ready : (s : Schema) (l : Layout) (p : Place) → IsSound s → IsReady s l → (v : Value) × Fits s l p v
+pub some_ready : (s : Schema) (l : Layout) (p : Spot) → IsSound s → IsReady s l → (v : Value) × Fits s l p v
 some_ready s l p sound r = some_of s l r.0 p r.2 (λ j lt q. some_value s j q sound (omega (arith, r.1)))
 
 pub some_values : (s : Schema) (js : List Job) → IsSound s → AreReady s js → (vs : Values) × Suits s js vs
 some_values s [] sound ready = (end, tt)
 some_values s (j ∷ js) sound ready =
-    let one = some_ready s j.layout j.place sound ready.0 in
+    let one = some_ready s j.layout j.spot sound ready.0 in
     let rest = some_values s js sound ready.1 in
     (more one.0 rest.0, (one.1, rest.1))

@@ -11,21 +11,21 @@ use Rattle.x_schema.specs.declared.form.Form.TheVariants as forms
 use Rattle.x_schema.specs.Choices.{Choice, arm_for}
 use Rattle.x_schema.specs.Schema.{Schema, form_at, target_at}
 use Rattle.x_schema.specs.Sound.{IsSound, IsSoundForm, IsSoundUnion, IsSoundArm}
-use Rattle.x_value.specs.declared.entry.Entry.{Entry}
-use Rattle.x_value.specs.declared.entry.Kept.{Kept}
-use Rattle.x_value.specs.declared.entry.Kept.TheVariants as kepts
+use Rattle.x_value.specs.declared.nodes.compact_node.CompactNode.{CompactNode}
+use Rattle.x_value.specs.declared.nodes.compact_node.CompactLeaf.{CompactLeaf}
+use Rattle.x_value.specs.declared.nodes.compact_node.CompactLeaf.TheVariants as leaves
 use Rattle.x_value.specs.declared.fault.ReadCode.{ReadCode}
 use Rattle.x_value.specs.declared.fault.ReadCode.TheVariants as codes
-use Rattle.x_value.specs.declared.task.Spot.{Spot}
-use Rattle.x_value.specs.declared.task.Task.{Task}
-use Rattle.x_value.specs.declared.task.Task.TheVariants.{Fields, Elements}
+use Rattle.x_value.specs.declared.reading.task.Spot as compact
+use Rattle.x_value.specs.declared.reading.task.Task.{Task}
+use Rattle.x_value.specs.declared.reading.task.Task.TheVariants.{Fields, Elements}
 use Rattle.x_value.specs.Shown.{Leaf, Node, Hex, Text}
 use Rattle.x_units.specs.Units.{word, padding, copies}
-use Rattle.x_value.specs.Layouts.{field_jobs, element_jobs, Layout, Fixed, Sized, Place, Job, placed, layout_of, layout_at, behind, members, head_nodes, group_nodes, body_nodes, body_leaf, fixed_size, at_place, signed_word, unsigned_word, signed_words, unsigned_words, nothing}
+use Rattle.x_value.specs.Layouts.{field_jobs, element_jobs, Layout, Fixed, Sized, Spot, Job, placed, layout_of, layout_at, behind, members, head_nodes, group_nodes, body_nodes, body_leaf, fixed_size, at_spot, signed_word, unsigned_word, signed_words, unsigned_words, nothing}
 use Rattle.x_value.specs.Readings.{IsByteList, IsHeaded, IsGroup}
 use Rattle.x_value.specs.Entries.{node_of, nodes_of, leaf_of, body_at, IsCalled, IsKept, AreNamed}
 use Rattle.x_value.specs.Jobs.{AreReady, Moves, HeadTaken, HeadFault, BodyTaken, BodyFault, cut_body, bad_pad, Refused}
-use Rattle.x_value.specs.Work.{IsSpot, fields, place_of, value_job, jobs_of_option, IsNamedForm, IsHeadedForm, IsSizedForm, IsKnownArm, IsRear, IsTypedOption, shown_entries, Begun, weight_of_option, most_weight, base, weight}
+use Rattle.x_value.specs.Work.{IsSpot, fields, spot_of, value_job, jobs_of_option, IsNamedForm, IsHeadedForm, IsSizedForm, IsKnownArm, IsRear, IsTypedOption, shown_entries, Begun, weight_of_option, most_weight, base, weight}
 use Rattle.x_value.proofs.Bytes.{word_length, IsByteList-right}
 use Rattle.x_value.proofs.Sound.{ready_at}
 use Rattle.x_value.proofs.Opening.{group_moves, head_moves, head_refused}
@@ -81,8 +81,8 @@ union_named s i f g d c sound lt e is at =
     let u : IsSoundUnion s i d c = form_sound s i f (forms.Union d c) sound lt e is in
     (subst (IsNamedForm (length s.names)) (sym at) (named_form s d.form (form_at s d.form) (sound.forms d.form (omega (arith, lt, u.discriminates.form)))), u.discriminates.name)
 
-pub node_named : (n : ℕ) (spot : Spot) (kept : Kept) (e : Entry) → e ≡ record { level = spot.level; called = spot.called; kept = kept } → IsCalled n spot.called → IsKept n kept → IsCalled n e.called × IsKept n e.kept
-node_named n spot kept e is h k = (subst (λ t. IsCalled n t.called) (sym is) h, subst (λ t. IsKept n t.kept) (sym is) k)
+pub node_named : (n : ℕ) (spot : compact.Spot) (kept : CompactLeaf) (e : CompactNode) → e ≡ record { level = spot.level; label = spot.label; leaf = kept } → IsCalled n spot.label → IsKept n kept → IsCalled n e.label × IsKept n e.leaf
+node_named n spot kept e is h k = (subst (λ t. IsCalled n t.label) (sym is) h, subst (λ t. IsKept n t.leaf) (sym is) k)
 
 -- ---- kinds of forms
 
@@ -94,7 +94,7 @@ headed_layout s (forms.Optional link) h = tt
 headed_layout s (forms.Union d c) h = tt
 headed_layout s _ h = absurd h
 
-pub behind_none : (s : Schema) (i : ℕ) (f : Form) (p : Place) (w : ℕ) → IsHeadedForm (form_at s i) → f ≡ form_at s i → ((link most : ℕ) → f ≡ forms.Array link most → ⊥) → ((link : ℕ) → f ≡ forms.Optional link → ⊥) → ((d : Field) (c : Choice) → f ≡ forms.Union d c → ⊥) → [] ≡ behind s (layout_at s i) p w
+pub behind_none : (s : Schema) (i : ℕ) (f : Form) (p : Spot) (w : ℕ) → IsHeadedForm (form_at s i) → f ≡ form_at s i → ((link most : ℕ) → f ≡ forms.Array link most → ⊥) → ((link : ℕ) → f ≡ forms.Optional link → ⊥) → ((d : Field) (c : Choice) → f ≡ forms.Union d c → ⊥) → [] ≡ behind s (layout_at s i) p w
 behind_none s i f p w h e a b c = subst (λ t. [] ≡ behind s (layout_of s t) p w) e (by_form f (subst IsHeadedForm (sym e) h) a b c)
   where
     by_form : (g : Form) → IsHeadedForm g → ((link most : ℕ) → g ≡ forms.Array link most → ⊥) → ((link : ℕ) → g ≡ forms.Optional link → ⊥) → ((d : Field) (c : Choice) → g ≡ forms.Union d c → ⊥) → [] ≡ behind s (layout_of s g) p w
@@ -174,17 +174,17 @@ body_less len m bs rest taken =
     let c = taken.long in
     omega arith
 
-pub body_shown : (s : Schema) (leaf : List ℕ → Leaf) (f : Form) (len : ℕ) (spot : Spot) (kept : Kept) (e : Entry) (message m bs rest : List ℕ) →
-    e ≡ record { level = spot.level; called = spot.called; kept = kept } → leaf_of s message kept ≡ body_leaf f bs → body_leaf f bs ≡ leaf bs → IsByteList m → BodyTaken len m bs rest → (ks : List Job) →
-    Moves s (placed (Fixed leaf len) (place_of s spot) ∷ ks) m (node_of s message e ∷ []) ks rest
+pub body_shown : (s : Schema) (leaf : List ℕ → Leaf) (f : Form) (len : ℕ) (spot : compact.Spot) (kept : CompactLeaf) (e : CompactNode) (message m bs rest : List ℕ) →
+    e ≡ record { level = spot.level; label = spot.label; leaf = kept } → leaf_of s message kept ≡ body_leaf f bs → body_leaf f bs ≡ leaf bs → IsByteList m → BodyTaken len m bs rest → (ks : List Job) →
+    Moves s (placed (Fixed leaf len) (spot_of s spot) ∷ ks) m (node_of s message e ∷ []) ks rest
 body_shown s leaf f len spot kept e message m bs rest is shows same bytes taken ks =
-    let nodes : node_of s message e ∷ [] ≡ body_nodes (Fixed leaf len) (place_of s spot) bs =
-    ap (λ t. node_of s message t ∷ []) is ∙ ap (λ t. at_place (place_of s spot) t ∷ []) (shows ∙ same) in
-    subst (λ t. Moves s (placed (Fixed leaf len) (place_of s spot) ∷ ks) m t ks rest) (sym nodes) (body_moves s leaf len (place_of s spot) m bs rest bytes taken ks)
+    let nodes : node_of s message e ∷ [] ≡ body_nodes (Fixed leaf len) (spot_of s spot) bs =
+    ap (λ t. node_of s message t ∷ []) is ∙ ap (λ t. at_spot (spot_of s spot) t ∷ []) (shows ∙ same) in
+    subst (λ t. Moves s (placed (Fixed leaf len) (spot_of s spot) ∷ ks) m t ks rest) (sym nodes) (body_moves s leaf len (spot_of s spot) m bs rest bytes taken ks)
 
 -- ---- words and bodies
 
-pub sized_moves : (s : Schema) (l : Layout) (leaf : List ℕ → Leaf) (most : ℕ) (p : Place) (m rest rest' : List ℕ) (w : ℕ) (shown : List Node) (ks : List Job) → l ≡ Sized leaf most → HeadTaken s l p.links m w rest →
+pub sized_moves : (s : Schema) (l : Layout) (leaf : List ℕ → Leaf) (most : ℕ) (p : Spot) (m rest rest' : List ℕ) (w : ℕ) (shown : List Node) (ks : List Job) → l ≡ Sized leaf most → HeadTaken s l p.links m w rest →
     Moves s (placed (Fixed leaf w) p ∷ ks) rest shown ks rest' → Moves s (placed l p ∷ ks) m shown ks rest'
 sized_moves s l leaf most p m rest rest' w shown ks e taken moves =
     let taken' : HeadTaken s (Sized leaf most) p.links m w rest = subst (λ t. HeadTaken s t p.links m w rest) e taken in
@@ -195,7 +195,7 @@ body_isnt_memory : (w : ℕ) (m : List ℕ) (at : ℕ) (code : ReadCode) → Bod
 body_isnt_memory w m at code (cut_body c a b) e = (let h : codes.Short ≡ codes.NoMemory = sym c ∙ e in cc)
 body_isnt_memory w m at code (bad_pad a b d x y z u v c) e = (let h : codes.BadPad ≡ codes.NoMemory = sym c ∙ e in cc)
 
-pub sized_refused : (s : Schema) (l : Layout) (leaf : List ℕ → Leaf) (most : ℕ) (p : Place) (m rest : List ℕ) (w at at' : ℕ) (code code' : ReadCode) (ks : List Job) → l ≡ Sized leaf most → IsSound s → HeadTaken s l p.links m w rest → IsByteList m →
+pub sized_refused : (s : Schema) (l : Layout) (leaf : List ℕ → Leaf) (most : ℕ) (p : Spot) (m rest : List ℕ) (w at at' : ℕ) (code code' : ReadCode) (ks : List Job) → l ≡ Sized leaf most → IsSound s → HeadTaken s l p.links m w rest → IsByteList m →
     BodyFault w rest at code → code' ≡ code → ((code ≡ codes.NoMemory → ⊥) → at' ≡ 4 + at) → AreReady s ks → Refused s (placed l p ∷ ks) m at' code'
 sized_refused s l leaf most p m rest w at at' code code' ks e sound taken bytes fault same place ready =
     let taken' : HeadTaken s (Sized leaf most) p.links m w rest = subst (λ t. HeadTaken s t p.links m w rest) e taken in
@@ -208,30 +208,30 @@ sized_refused s l leaf most p m rest w at at' code code' ks e sound taken bytes 
     (refused_behind s (placed (Sized leaf most) p ∷ ks) (placed (Fixed leaf w) p ∷ ks) m rest [] at at' code (head_moves s (Sized leaf most) p m rest w tt taken' ks)
     (body_refused s leaf w p rest at code sound fit fault ks ready) (λ h. absurd (isnt h)) (λ h. (omega arith))))
 
-pub fixed_refused : (s : Schema) (l : Layout) (leaf : List ℕ → Leaf) (n : ℕ) (p : Place) (m : List ℕ) (at : ℕ) (code : ReadCode) (ks : List Job) → l ≡ Fixed leaf n → IsSound s → IsByteList m → BodyFault n m at code → AreReady s ks → Refused s (placed l p ∷ ks) m at code
+pub fixed_refused : (s : Schema) (l : Layout) (leaf : List ℕ → Leaf) (n : ℕ) (p : Spot) (m : List ℕ) (at : ℕ) (code : ReadCode) (ks : List Job) → l ≡ Fixed leaf n → IsSound s → IsByteList m → BodyFault n m at code → AreReady s ks → Refused s (placed l p ∷ ks) m at code
 fixed_refused s l leaf n p m at code ks e sound bytes fault ready =
     subst (λ t. Refused s (placed t p ∷ ks) m at code) (sym e) (body_refused s leaf n p m at code sound bytes fault ks ready)
 
-pub value_refused : (s : Schema) (form : ℕ) (spot : Spot) (m : List ℕ) (at : ℕ) (code : ReadCode) (ks : List Job) → IsSound s → form < length s.forms → IsHeaded (layout_at s form) → HeadFault s (layout_at s form) spot.links m at code → AreReady s ks → Refused s (value_job s form spot ∷ ks) m at code
+pub value_refused : (s : Schema) (form : ℕ) (spot : compact.Spot) (m : List ℕ) (at : ℕ) (code : ReadCode) (ks : List Job) → IsSound s → form < length s.forms → IsHeaded (layout_at s form) → HeadFault s (layout_at s form) spot.links m at code → AreReady s ks → Refused s (value_job s form spot ∷ ks) m at code
 value_refused s form spot m at code ks sound lt g fault ready =
-    head_refused s (layout_at s form) (place_of s spot) m at code sound g fault ks (ready_at s form sound lt, ready)
+    head_refused s (layout_at s form) (spot_of s spot) m at code sound g fault ks (ready_at s form sound lt, ready)
 
 pub read_less : (m rest : List ℕ) (w : ℕ) → m ≡ word w ++ rest → length rest < length m
 read_less m rest w e = let l : length m ≡ length (word w) + length rest = ap length e ∙ length-append (word w) rest in let four = word_length w in omega arith
 
-pub head_begun : (s : Schema) (message : List ℕ) (form : ℕ) (spot : Spot) (bytes rest : List ℕ) (w : ℕ) (first : Entry) (second : Option Entry) (next : Option Task) → IsHeaded (layout_at s form) → HeadTaken s (layout_at s form) spot.links bytes w rest →
-    nodes_of s message (shown_entries first second) ≡ head_nodes s (layout_at s form) (place_of s spot) w → AreNamed (length s.names) (shown_entries first second) →
-    jobs_of_option s next ≡ behind s (layout_at s form) (place_of s spot) w → IsTypedOption s next → weight_of_option s next < most_weight s → Begun s message form spot bytes first second next rest
+pub head_begun : (s : Schema) (message : List ℕ) (form : ℕ) (spot : compact.Spot) (bytes rest : List ℕ) (w : ℕ) (first : CompactNode) (second : Option CompactNode) (next : Option Task) → IsHeaded (layout_at s form) → HeadTaken s (layout_at s form) spot.links bytes w rest →
+    nodes_of s message (shown_entries first second) ≡ head_nodes s (layout_at s form) (spot_of s spot) w → AreNamed (length s.names) (shown_entries first second) →
+    jobs_of_option s next ≡ behind s (layout_at s form) (spot_of s spot) w → IsTypedOption s next → weight_of_option s next < most_weight s → Begun s message form spot bytes first second next rest
 head_begun s message form spot bytes rest w first second next g taken shown named jobs typed light = record {
   moves = λ ks. subst (λ t. Moves s (value_job s form spot ∷ ks) bytes t (jobs_of_option s next ++ ks) rest) (sym shown)
-      (subst (λ t. Moves s (value_job s form spot ∷ ks) bytes (head_nodes s (layout_at s form) (place_of s spot) w) (t ++ ks) rest) (sym jobs)
-      (head_moves s (layout_at s form) (place_of s spot) bytes rest w g taken ks));
+      (subst (λ t. Moves s (value_job s form spot ∷ ks) bytes (head_nodes s (layout_at s form) (spot_of s spot) w) (t ++ ks) rest) (sym jobs)
+      (head_moves s (layout_at s form) (spot_of s spot) bytes rest w g taken ks));
   named = named;
   typed = typed;
   light = inl (read_less bytes rest w taken.parts, light);
 }
 
-pub body_begun : (s : Schema) (message : List ℕ) (form : ℕ) (spot : Spot) (bytes rest : List ℕ) (first : Entry) → ((ks : List Job) → Moves s (value_job s form spot ∷ ks) bytes (nodes_of s message (first ∷ [])) ks rest) → AreNamed (length s.names) (first ∷ []) → length rest ≤ length bytes → Begun s message form spot bytes first None None rest
+pub body_begun : (s : Schema) (message : List ℕ) (form : ℕ) (spot : compact.Spot) (bytes rest : List ℕ) (first : CompactNode) → ((ks : List Job) → Moves s (value_job s form spot ∷ ks) bytes (nodes_of s message (first ∷ [])) ks rest) → AreNamed (length s.names) (first ∷ []) → length rest ≤ length bytes → Begun s message form spot bytes first None None rest
 body_begun s message form spot bytes rest first moves named le = record {
   moves = moves;
   named = named;
@@ -244,13 +244,13 @@ body_begun s message form spot bytes rest first moves named le = record {
 abbrev group_of : Schema → Form → Type 0
 group_of s f = IsGroup (layout_of s f)
 
-pub group_begun : (s : Schema) (message : List ℕ) (form : ℕ) (f : Form) (spot : Spot) (bytes : List ℕ) (first : Entry) (task : Task) → f ≡ form_at s form → IsGroup (layout_of s f) → nodes_of s message (first ∷ []) ≡ group_nodes (layout_of s f) (place_of s spot) →
-    AreNamed (length s.names) (first ∷ []) → jobs_of_option s (Some task) ≡ members s (layout_of s f) (place_of s spot) → IsTypedOption s (Some task) → weight s task < base s ^ suc form → Begun s message form spot bytes first None (Some task) bytes
+pub group_begun : (s : Schema) (message : List ℕ) (form : ℕ) (f : Form) (spot : compact.Spot) (bytes : List ℕ) (first : CompactNode) (task : Task) → f ≡ form_at s form → IsGroup (layout_of s f) → nodes_of s message (first ∷ []) ≡ group_nodes (layout_of s f) (spot_of s spot) →
+    AreNamed (length s.names) (first ∷ []) → jobs_of_option s (Some task) ≡ members s (layout_of s f) (spot_of s spot) → IsTypedOption s (Some task) → weight s task < base s ^ suc form → Begun s message form spot bytes first None (Some task) bytes
 group_begun s message form f spot bytes first task e g shown named jobs typed light = record {
-  moves = λ ks. subst (λ t. Moves s (placed (layout_of s t) (place_of s spot) ∷ ks) bytes (nodes_of s message (first ∷ [])) (jobs_of_option s (Some task) ++ ks) bytes) e
-      (subst (λ t. Moves s (placed (layout_of s f) (place_of s spot) ∷ ks) bytes t (jobs_of_option s (Some task) ++ ks) bytes) (sym shown)
-      (subst (λ t. Moves s (placed (layout_of s f) (place_of s spot) ∷ ks) bytes (group_nodes (layout_of s f) (place_of s spot)) (t ++ ks) bytes) (sym jobs)
-      (group_moves s (layout_of s f) (place_of s spot) bytes g ks)));
+  moves = λ ks. subst (λ t. Moves s (placed (layout_of s t) (spot_of s spot) ∷ ks) bytes (nodes_of s message (first ∷ [])) (jobs_of_option s (Some task) ++ ks) bytes) e
+      (subst (λ t. Moves s (placed (layout_of s f) (spot_of s spot) ∷ ks) bytes t (jobs_of_option s (Some task) ++ ks) bytes) (sym shown)
+      (subst (λ t. Moves s (placed (layout_of s f) (spot_of s spot) ∷ ks) bytes (group_nodes (layout_of s f) (spot_of s spot)) (t ++ ks) bytes) (sym jobs)
+      (group_moves s (layout_of s f) (spot_of s spot) bytes g ks)));
   named = named;
   typed = typed;
   light = inr (omega arith, light);
@@ -264,21 +264,21 @@ headed_sized s (forms.Opaque most) h = tt
 headed_sized s (forms.String most) h = tt
 headed_sized s _ h = absurd h
 
-pub struct_begun : (s : Schema) (message : List ℕ) (form : ℕ) (f : Form) (fs : Vec Field _) (spot : Spot) (bytes : List ℕ) (first : Entry) (level : ℕ) → form < length s.forms → f ≡ form_at s form → f ≡ forms.Struct fs → IsSpot s spot →
-    level ≡ suc spot.level → first ≡ record { level = spot.level; called = spot.called; kept = kepts.Struct } → Begun s message form spot bytes first None (Some (Fields form 0 level spot.links)) bytes
+pub struct_begun : (s : Schema) (message : List ℕ) (form : ℕ) (f : Form) (fs : Vec Field _) (spot : compact.Spot) (bytes : List ℕ) (first : CompactNode) (level : ℕ) → form < length s.forms → f ≡ form_at s form → f ≡ forms.Struct fs → IsSpot s spot →
+    level ≡ suc spot.level → first ≡ record { level = spot.level; label = spot.label; leaf = leaves.Struct } → Begun s message form spot bytes first None (Some (Fields form 0 level spot.links)) bytes
 struct_begun s message form f fs spot bytes first level lt e is ready up first_is =
-    let n = node_named (length s.names) spot kepts.Struct first first_is ready.0 tt in
+    let n = node_named (length s.names) spot leaves.Struct first first_is ready.0 tt in
     group_begun s message form (forms.Struct fs) spot bytes first (Fields form 0 level spot.links) (sym is ∙ e) tt (ap (λ t. node_of s message t ∷ []) first_is) (n.0, n.1, tt)
     (ap (λ t. field_jobs s t spot.links (drop 0 (fields (form_at s form)))) up ∙ ap (λ t. field_jobs s (suc spot.level) spot.links (fields t)) (sym e ∙ is)) (lt, ready.1) (light_struct s form level spot.links)
 
 zero_less : (n : ℕ) → n - 0 ≡ n
 zero_less n = omega arith
 
-pub array_begun : (s : Schema) (message : List ℕ) (form : ℕ) (f : Form) (of n : ℕ) (spot : Spot) (bytes : List ℕ) (first : Entry) (level : ℕ) (task : Task) → IsSound s → form < length s.forms → f ≡ form_at s form → f ≡ forms.FixedArray of n → IsSpot s spot →
-    level ≡ suc spot.level → first ≡ record { level = spot.level; called = spot.called; kept = kepts.Array n } → n < 2 ^ 32 → task ≡ Elements of 0 n level spot.links → Begun s message form spot bytes first None (Some task) bytes
+pub array_begun : (s : Schema) (message : List ℕ) (form : ℕ) (f : Form) (of n : ℕ) (spot : compact.Spot) (bytes : List ℕ) (first : CompactNode) (level : ℕ) (task : Task) → IsSound s → form < length s.forms → f ≡ form_at s form → f ≡ forms.FixedArray of n → IsSpot s spot →
+    level ≡ suc spot.level → first ≡ record { level = spot.level; label = spot.label; leaf = leaves.Array n } → n < 2 ^ 32 → task ≡ Elements of 0 n level spot.links → Begun s message form spot bytes first None (Some task) bytes
 array_begun s message form f of n spot bytes first level task sound lt e is ready up first_is fits task_is =
     let below = fixed_array_known s form f of n sound lt e is in
-    let k = node_named (length s.names) spot (kepts.Array n) first first_is ready.0 tt in
+    let k = node_named (length s.names) spot (leaves.Array n) first first_is ready.0 tt in
     subst (λ t. Begun s message form spot bytes first None (Some t) bytes) (sym task_is)
     (group_begun s message form (forms.FixedArray of n) spot bytes first (Elements of 0 n level spot.links) (sym is ∙ e) tt (ap (λ t. node_of s message t ∷ []) first_is) (k.0, k.1, tt)
     (ap (λ t. element_jobs s of t spot.links 0 (n - 0)) up ∙ ap (λ t. element_jobs s of (suc spot.level) spot.links 0 t) (zero_less n)) (omega (arith, below, lt), ready.1) (light_array s form of n level spot.links below fits))

@@ -10,15 +10,15 @@ use Rattle.x_schema.specs.declared.schema.TypeId.{TypeId}
 use Rattle.x_schema.specs.declared.schema.Root.{Root}
 use Rattle.x_schema.specs.Schema.{Schema, form_at, IsTypeId, IsRoot}
 use Rattle.x_schema.specs.Sound.{IsSound, IsSoundForm, AreSoundFields}
-use Rattle.x_value.specs.declared.entry.Entry.{Entry}
-use Rattle.x_value.specs.declared.entry.Called.TheVariants as called
+use Rattle.x_value.specs.declared.nodes.compact_node.CompactNode.{CompactNode}
+use Rattle.x_value.specs.declared.nodes.compact_node.CompactLabel.TheVariants as labels
 use Rattle.x_value.specs.declared.fault.ReadCode.{ReadCode}
 use Rattle.x_value.specs.declared.fault.ReadCode.TheVariants as codes
-use Rattle.x_value.specs.declared.task.Spot.{Spot}
-use Rattle.x_value.specs.declared.task.Task.{Task}
-use Rattle.x_value.specs.declared.task.Task.TheVariants.{One, Fields, Elements}
+use Rattle.x_value.specs.declared.reading.task.Spot as compact
+use Rattle.x_value.specs.declared.reading.task.Task.{Task}
+use Rattle.x_value.specs.declared.reading.task.Task.TheVariants.{One, Fields, Elements}
 use Rattle.x_value.specs.Layouts.{Job, job, layout_at, field_jobs, element_jobs, most_links}
-use Rattle.x_value.specs.declared.entry.Called.{Called}
+use Rattle.x_value.specs.declared.nodes.compact_node.CompactLabel.{CompactLabel}
 use Rattle.x_value.specs.Entries.{nodes_of, node_of, label_of, IsCalled, AreNamed}
 use Rattle.x_value.specs.Dumps.{root_job, root_label}
 use Rattle.x_value.specs.Jobs.{AreReady, Moves, Refused}
@@ -41,7 +41,7 @@ tasks_parts : (s : Schema) (old : List Task) (task : Task) → AreTasks s (old +
 tasks_parts s [] task h = (tt, h.0)
 tasks_parts s (t ∷ old) task h = let p = tasks_parts s old task h.1 in ((h.0, p.0), p.1)
 
-pub shown_two : (a b c : List Entry) (x y : Entry) → b ≡ a ++ (x ∷ []) → c ≡ b ++ (y ∷ []) → c ≡ a ++ shown_entries x (Some y)
+pub shown_two : (a b c : List CompactNode) (x y : CompactNode) → b ≡ a ++ (x ∷ []) → c ≡ b ++ (y ∷ []) → c ≡ a ++ shown_entries x (Some y)
 shown_two a b c x y e f = f ∙ ap (λ t. t ++ (y ∷ [])) e ∙ append_assoc a (x ∷ []) (y ∷ [])
 
 -- ---- what is pending is of the schema
@@ -128,15 +128,15 @@ no_field s form place level links f old e none tasks =
     stacked_none s (Fields form place level links) old (ap (λ t. field_jobs s level links t) none') (fields_weight s form place level links) tasks
 
 pub one_field : (s : Schema) (form place next level links : ℕ) (f : Form) (x : Field) (old mid new : List Task) → IsSound s → f ≡ form_at s form → next ≡ place + 1 → drop place (fields f) ≡ x ∷ drop (place + 1) (fields f) →
-    IsTyped s (Fields form place level links) → AreTasks s old → mid ≡ old ++ (Fields form next level links ∷ []) → new ≡ mid ++ (One x.form (record { called = called.Name x.name; level = level; links = links }) ∷ []) → Stacked s (Fields form place level links) old new
+    IsTyped s (Fields form place level links) → AreTasks s old → mid ≡ old ++ (Fields form next level links ∷ []) → new ≡ mid ++ (One x.form (record { label = labels.Name x.name; level = level; links = links }) ∷ []) → Stacked s (Fields form place level links) old new
 one_field s form place next level links f x old mid new sound e up is typed tasks em en =
     let up' : place + 1 ≡ suc place = omega arith in
     let is' : drop place (fields (form_at s form)) ≡ x ∷ drop (suc place) (fields (form_at s form)) = subst (λ t. drop place (fields t) ≡ x ∷ drop (suc place) (fields t)) e (subst (λ t. drop place (fields f) ≡ x ∷ drop t (fields f)) up' is) in
     let sounds : AreSoundFields (length s.names) form (x ∷ drop (suc place) (fields (form_at s form))) = subst (AreSoundFields (length s.names) form) is' (drop_sound s form place sound typed.0) in
     let below = sounds.0.form in
-    stacked_two s (Fields form place level links) (Fields form (suc place) level links) (One x.form (record { called = called.Name x.name; level = level; links = links })) old mid new
+    stacked_two s (Fields form place level links) (Fields form (suc place) level links) (One x.form (record { label = labels.Name x.name; level = level; links = links })) old mid new
     (em ∙ ap (λ t. old ++ (Fields form t level links ∷ [])) (up ∙ up')) en (ap (λ t. field_jobs s level links t) is')
-    (fields_step s form place level links x.form (record { called = called.Name x.name; level = level; links = links }) x is' below) tasks (typed.0, typed.1) (omega (arith, typed.0, below), (sounds.0.name, typed.1))
+    (fields_step s form place level links x.form (record { label = labels.Name x.name; level = level; links = links }) x is' below) tasks (typed.0, typed.1) (omega (arith, typed.0, below), (sounds.0.name, typed.1))
 
 left_none : (next end : ℕ) → end ≤ next → end - next ≡ 0
 left_none next end le = omega arith
@@ -149,26 +149,26 @@ no_element s form next end level links old le tasks =
     stacked_none s (Elements form next end level links) old (ap (λ t. element_jobs s form level links next t) (left_none next end le)) (elements_weight s form next end level links) tasks
 
 pub one_element : (s : Schema) (form next after end level links : ℕ) (old mid new : List Task) → next < end → after ≡ suc next → IsTyped s (Elements form next end level links) → AreTasks s old →
-    mid ≡ old ++ (Elements form after end level links ∷ []) → new ≡ mid ++ (One form (record { called = called.Index next; level = level; links = links }) ∷ []) → Stacked s (Elements form next end level links) old new
+    mid ≡ old ++ (Elements form after end level links ∷ []) → new ≡ mid ++ (One form (record { label = labels.Index next; level = level; links = links }) ∷ []) → Stacked s (Elements form next end level links) old new
 one_element s form next after end level links old mid new lt up typed tasks em en =
-    stacked_two s (Elements form next end level links) (Elements form (suc next) end level links) (One form (record { called = called.Index next; level = level; links = links })) old mid new
+    stacked_two s (Elements form next end level links) (Elements form (suc next) end level links) (One form (record { label = labels.Index next; level = level; links = links })) old mid new
     (em ∙ ap (λ t. old ++ (Elements form t end level links ∷ [])) up) en (ap (λ t. element_jobs s form level links next t) (left_some next end lt))
-    (elements_step s form next end level links (record { called = called.Index next; level = level; links = links }) lt) tasks (typed.0, typed.1) (typed.0, (tt, typed.1))
+    (elements_step s form next end level links (record { label = labels.Index next; level = level; links = links }) lt) tasks (typed.0, typed.1) (typed.0, (tt, typed.1))
 
 pub stacked_same : (s : Schema) (task : Task) (old new : List Task) → Stacked s task old new → Stacked s task old (new ++ [])
 stacked_same s task old new h = subst (λ t. Stacked s task old t) (sym (append-nil new)) h
 
-pub opened_stacked : (s : Schema) (task : Task) (old new : List Task) (value : Option (ℕ × Spot)) → Stacked s task old (new ++ tasks_of_value value) → Opened s task old new value
+pub opened_stacked : (s : Schema) (task : Task) (old new : List Task) (value : Option (ℕ × compact.Spot)) → Stacked s task old (new ++ tasks_of_value value) → Opened s task old new value
 opened_stacked s task old new value h = record { jobs = h.jobs; tasks = h.tasks; less = (let l = h.less in omega arith) }
 
-pub opened_one : (s : Schema) (form : ℕ) (spot : Spot) (old : List Task) → AreTasks s old → IsTyped s (One form spot) → Opened s (One form spot) old old (Some (form, spot))
+pub opened_one : (s : Schema) (form : ℕ) (spot : compact.Spot) (old : List Task) → AreTasks s old → IsTyped s (One form spot) → Opened s (One form spot) old old (Some (form, spot))
 opened_one s form spot old tasks typed = record {
   jobs = sym (pending_push s old (One form spot));
   tasks = tasks_push s old (One form spot) tasks typed;
   less = omega arith;
 }
 
-pub turn_closed : (s : Schema) (message : List ℕ) (task : Task) (old new : List Task) (entries : List Entry) (bytes : List ℕ) → Opened s task old new None → Turn s message task old entries bytes new entries bytes
+pub turn_closed : (s : Schema) (message : List ℕ) (task : Task) (old new : List Task) (entries : List CompactNode) (bytes : List ℕ) → Opened s task old new None → Turn s message task old entries bytes new entries bytes
 turn_closed s message task old new entries bytes o = record {
   added = [];
   appended = sym (append-nil entries);
@@ -192,15 +192,15 @@ weights_next : (s : Schema) (old new : List Task) (next : Option Task) → new �
 weights_next s old new None e = ap (λ t. weights s t) (e ∙ append-nil old) ∙ omega arith
 weights_next s old new (Some t) e = ap (λ t. weights s t) e ∙ weights_append s old (t ∷ []) ∙ omega arith
 
-one_weight : (s : Schema) (form : ℕ) (spot : Spot) → weight s (One form spot) ≡ base s ^ suc form
+one_weight : (s : Schema) (form : ℕ) (spot : compact.Spot) → weight s (One form spot) ≡ base s ^ suc form
 unfolding weight
 one_weight s form spot = refl
 
-less_begun : (s : Schema) (form : ℕ) (spot : Spot) (bytes rest : List ℕ) (next : Option Task) (old new : List Task) → weights s new ≡ weights s old + weight_of_option s next → IsLighter s form bytes next rest → work s rest new < work s bytes (old ++ (One form spot ∷ []))
+less_begun : (s : Schema) (form : ℕ) (spot : compact.Spot) (bytes rest : List ℕ) (next : Option Task) (old new : List Task) → weights s new ≡ weights s old + weight_of_option s next → IsLighter s form bytes next rest → work s rest new < work s bytes (old ++ (One form spot ∷ []))
 less_begun s form spot bytes rest next old new e (inl h) = work_read s bytes rest (old ++ (One form spot ∷ [])) new h.0 (let w = weights_append s old (One form spot ∷ []) in let k = h.1 in omega arith)
 less_begun s form spot bytes rest next old new e (inr h) = work_not_more s bytes rest (old ++ (One form spot ∷ [])) new h.0 (let w = weights_append s old (One form spot ∷ []) in let k = h.1 in let o = one_weight s form spot in omega arith)
 
-pub turn_begun : (s : Schema) (message : List ℕ) (form : ℕ) (spot : Spot) (bytes rest : List ℕ) (first : Entry) (second : Option Entry) (next : Option Task) (old new : List Task) (entries more : List Entry) → Begun s message form spot bytes first second next rest →
+pub turn_begun : (s : Schema) (message : List ℕ) (form : ℕ) (spot : compact.Spot) (bytes rest : List ℕ) (first : CompactNode) (second : Option CompactNode) (next : Option Task) (old new : List Task) (entries more : List CompactNode) → Begun s message form spot bytes first second next rest →
     more ≡ entries ++ shown_entries first second → new ≡ old ++ tasks_of_option next → AreTasks s old → Turn s message (One form spot) old entries bytes new more rest
 turn_begun s message form spot bytes rest first second next old new entries more b em en tasks = record {
   added = shown_entries first second;
@@ -212,13 +212,13 @@ turn_begun s message form spot bytes rest first second next old new entries more
 }
 
 -- what is to be read of a task's first value, and behind it
-jobs_opened : (s : Schema) (task : Task) (old new : List Task) (form : ℕ) (spot : Spot) → Opened s task old new (Some (form, spot)) → value_job s form spot ∷ pending s new ≡ jobs_of_task s task ++ pending s old
+jobs_opened : (s : Schema) (task : Task) (old new : List Task) (form : ℕ) (spot : compact.Spot) → Opened s task old new (Some (form, spot)) → value_job s form spot ∷ pending s new ≡ jobs_of_task s task ++ pending s old
 jobs_opened s task old new form spot o = sym (o.jobs ∙ pending_push s new (One form spot))
 
-pub opened_parts : (s : Schema) (task : Task) (old new : List Task) (form : ℕ) (spot : Spot) → Opened s task old new (Some (form, spot)) → AreTasks s new × IsTyped s (One form spot)
+pub opened_parts : (s : Schema) (task : Task) (old new : List Task) (form : ℕ) (spot : compact.Spot) → Opened s task old new (Some (form, spot)) → AreTasks s new × IsTyped s (One form spot)
 opened_parts s task old new form spot o = tasks_parts s new (One form spot) o.tasks
 
-pub turn_opened : (s : Schema) (message : List ℕ) (task : Task) (old new last : List Task) (form : ℕ) (spot : Spot) (entries more : List Entry) (bytes rest : List ℕ) → Opened s task old new (Some (form, spot)) →
+pub turn_opened : (s : Schema) (message : List ℕ) (task : Task) (old new last : List Task) (form : ℕ) (spot : compact.Spot) (entries more : List CompactNode) (bytes rest : List ℕ) → Opened s task old new (Some (form, spot)) →
     Turn s message (One form spot) new entries bytes last more rest → Turn s message task old entries bytes last more rest
 turn_opened s message task old new last form spot entries more bytes rest o t = record {
   added = t.added;
@@ -232,28 +232,28 @@ turn_opened s message task old new last form spot entries more bytes rest o t = 
       omega arith);
 }
 
-pub refused_opened : (s : Schema) (task : Task) (old new : List Task) (form : ℕ) (spot : Spot) (bytes : List ℕ) (at : ℕ) (code : ReadCode) → Opened s task old new (Some (form, spot)) →
+pub refused_opened : (s : Schema) (task : Task) (old new : List Task) (form : ℕ) (spot : compact.Spot) (bytes : List ℕ) (at : ℕ) (code : ReadCode) → Opened s task old new (Some (form, spot)) →
     Refused s (value_job s form spot ∷ pending s new) bytes at code → Refused s (jobs_of_task s task ++ pending s old) bytes at code
 refused_opened s task old new form spot bytes at code o r = subst (λ js. Refused s js bytes at code) (jobs_opened s task old new form spot o) r
 
 -- ---- the loop
 
-nodes_append : (s : Schema) (m : List ℕ) (a b : List Entry) → nodes_of s m (a ++ b) ≡ nodes_of s m a ++ nodes_of s m b
+nodes_append : (s : Schema) (m : List ℕ) (a b : List CompactNode) → nodes_of s m (a ++ b) ≡ nodes_of s m a ++ nodes_of s m b
 nodes_append s m [] b = refl
 nodes_append s m (e ∷ a) b = ap (λ t. node_of s m e ∷ t) (nodes_append s m a b)
 
-named_append : (n : ℕ) (a b : List Entry) → AreNamed n a → AreNamed n b → AreNamed n (a ++ b)
+named_append : (n : ℕ) (a b : List CompactNode) → AreNamed n a → AreNamed n b → AreNamed n (a ++ b)
 named_append n [] b h k = k
 named_append n (e ∷ a) b h k = (h.0, h.1, named_append n a b h.2 k)
 
-pub first_reading : (s : Schema) (job : Job) (message : List ℕ) (stack : List Task) (entries : List Entry) (form : ℕ) (spot : Spot) → stack ≡ One form spot ∷ [] → entries ≡ [] → job ≡ value_job s form spot → form < length s.forms → IsSpot s spot → Reading s job message stack entries message
+pub first_reading : (s : Schema) (job : Job) (message : List ℕ) (stack : List Task) (entries : List CompactNode) (form : ℕ) (spot : compact.Spot) → stack ≡ One form spot ∷ [] → entries ≡ [] → job ≡ value_job s form spot → form < length s.forms → IsSpot s spot → Reading s job message stack entries message
 first_reading s job message stack entries form spot e none is lt ready = record {
   moves = subst (λ t. Moves s (job ∷ []) message (nodes_of s message t) (pending s stack) message) (sym none) (moves_same s (job ∷ []) (pending s stack) message (ap (λ t. t ∷ []) is ∙ sym (ap (λ t. pending s t) e)));
   tasks = subst (AreTasks s) (sym e) ((lt, ready), tt);
   named = subst (AreNamed (length s.names)) (sym none) tt;
 }
 
-pub next_reading : (s : Schema) (job : Job) (message : List ℕ) (stack old new : List Task) (task : Task) (entries more : List Entry) (rest rest' : List ℕ) → Reading s job message stack entries rest → stack ≡ old ++ (task ∷ []) → Turn s message task old entries rest new more rest' → Reading s job message new more rest'
+pub next_reading : (s : Schema) (job : Job) (message : List ℕ) (stack old new : List Task) (task : Task) (entries more : List CompactNode) (rest rest' : List ℕ) → Reading s job message stack entries rest → stack ≡ old ++ (task ∷ []) → Turn s message task old entries rest new more rest' → Reading s job message new more rest'
 next_reading s job message stack old new task entries more rest rest' r e t =
     let here : pending s stack ≡ jobs_of_task s task ++ pending s old = ap (λ v. pending s v) e ∙ pending_push s old task in
     let nodes : nodes_of s message more ≡ nodes_of s message entries ++ nodes_of s message t.added = ap (λ v. nodes_of s message v) t.appended ∙ nodes_append s message entries t.added in
@@ -265,7 +265,7 @@ next_reading s job message stack old new task entries more rest rest' r e t =
       named = subst (AreNamed (length s.names)) (sym t.appended) (named_append (length s.names) entries t.added r.named t.named);
     }
 
-pub next_less : (s : Schema) (message : List ℕ) (stack old new : List Task) (task : Task) (entries more : List Entry) (rest rest' : List ℕ) → stack ≡ old ++ (task ∷ []) → Turn s message task old entries rest new more rest' → work s rest' new < work s rest stack
+pub next_less : (s : Schema) (message : List ℕ) (stack old new : List Task) (task : Task) (entries more : List CompactNode) (rest rest' : List ℕ) → stack ≡ old ++ (task ∷ []) → Turn s message task old entries rest new more rest' → work s rest' new < work s rest stack
 next_less s message stack old new task entries more rest rest' e t = subst (λ v. work s rest' new < work s rest v) (sym e) t.less
 
 pub last_task : (s : Schema) (items old : List Task) (task : Task) → items ≡ old ++ (task ∷ []) → AreTasks s items → IsTyped s task
@@ -274,16 +274,16 @@ last_task s items old task e h = (tasks_parts s old task (subst (AreTasks s) e h
 pub other_tasks : (s : Schema) (items old : List Task) (task : Task) → items ≡ old ++ (task ∷ []) → AreTasks s items → AreTasks s old
 other_tasks s items old task e h = (tasks_parts s old task (subst (AreTasks s) e h)).0
 
-pub rear_of : (s : Schema) (job : Job) (message : List ℕ) (stack : List Task) (entries : List Entry) (rest : List ℕ) → Reading s job message stack entries rest → IsRear message rest
+pub rear_of : (s : Schema) (job : Job) (message : List ℕ) (stack : List Task) (entries : List CompactNode) (rest : List ℕ) → Reading s job message stack entries rest → IsRear message rest
 rear_of s job message stack entries rest r = (r.moves.front, r.moves.parts)
 
-pub turn_refused : (s : Schema) (job : Job) (message rest : List ℕ) (stack old : List Task) (entries : List Entry) (task : Task) (at at' : ℕ) (code code' : ReadCode) → Reading s job message stack entries rest → stack ≡ old ++ (task ∷ []) →
+pub turn_refused : (s : Schema) (job : Job) (message rest : List ℕ) (stack old : List Task) (entries : List CompactNode) (task : Task) (at at' : ℕ) (code code' : ReadCode) → Reading s job message stack entries rest → stack ≡ old ++ (task ∷ []) →
     Refused s (jobs_of_task s task ++ pending s old) rest at code → code' ≡ code → (code ≡ codes.NoMemory → at' ≡ at) → ((code ≡ codes.NoMemory → ⊥) → at' ≡ length message - length rest + at) → Refused s (job ∷ []) message at' code'
 turn_refused s job message rest stack old entries task at at' code code' r e refused same a b =
     let here : Refused s (pending s stack) rest at code = subst (λ t. Refused s t rest at code) (sym (ap (λ t. pending s t) e ∙ pending_push s old task)) refused in
     subst (λ t. Refused s (job ∷ []) message at' t) (sym same) (refused_behind s (job ∷ []) (pending s stack) message rest (nodes_of s message entries) at at' code r.moves here a b)
 
-pub refused_fits : (s : Schema) (job : Job) (message rest : List ℕ) (stack : List Task) (entries : List Entry) (js : List Job) (at : ℕ) (code : ReadCode) → Reading s job message stack entries rest → Refused s js rest at code → at + (length message - length rest) ≤ length message
+pub refused_fits : (s : Schema) (job : Job) (message rest : List ℕ) (stack : List Task) (entries : List CompactNode) (js : List Job) (at : ℕ) (code : ReadCode) → Reading s job message stack entries rest → Refused s js rest at code → at + (length message - length rest) ≤ length message
 refused_fits s job message rest stack entries js at code r refused =
     let w = refused_within s js rest at code refused in
     let l : length message ≡ length r.moves.front + length rest = ap length r.moves.parts ∙ length-append r.moves.front rest in
@@ -311,10 +311,10 @@ pub is_some_test : (xs : List ℕ) (b : Bool) → b ≡ (length xs == 0) → b �
 is_some_test [] b e h = absurd (zero_is_zero (sym e ∙ h))
 is_some_test (x ∷ xs) b e h = omega arith
 
-pub root_is : (s : Schema) (id : TypeId) (form : ℕ) (c : Called) (root : Root) → form ≡ id.form → root ≡ id.root → label_of s c ≡ root_label s root → root_job s id ≡ value_job s form (record { called = c; level = 0; links = 0 })
+pub root_is : (s : Schema) (id : TypeId) (form : ℕ) (c : CompactLabel) (root : Root) → form ≡ id.form → root ≡ id.root → label_of s c ≡ root_label s root → root_job s id ≡ value_job s form (record { label = c; level = 0; links = 0 })
 root_is s id form c root e r h = ap (λ t. job (layout_at s id.form) t 0 0) (sym (h ∙ ap (λ t. root_label s t) r)) ∙ ap (λ t. job (layout_at s t) (label_of s c) 0 0) (sym e)
 
-pub root_spot : (s : Schema) (id : TypeId) (c : Called) (root : Root) → IsTypeId s id → root ≡ id.root → (IsRoot s root → IsCalled (length s.names) c) → IsSpot s (record { called = c; level = 0; links = 0 })
+pub root_spot : (s : Schema) (id : TypeId) (c : CompactLabel) (root : Root) → IsTypeId s id → root ≡ id.root → (IsRoot s root → IsCalled (length s.names) c) → IsSpot s (record { label = c; level = 0; links = 0 })
 root_spot s id c root known r h = (h (subst (IsRoot s) (sym r) known.root), zero_links most_links)
   where
     zero_links : (n : ℕ) → 0 ≤ n

@@ -6,9 +6,9 @@ use Rattle.x_schema.specs.declared.form.Field.{Field}
 use Rattle.x_schema.specs.declared.form.Form.{Form}
 use Rattle.x_schema.specs.declared.form.Form.TheVariants as forms
 use Rattle.x_schema.specs.Schema.{Schema, form_at}
-use Rattle.x_value.specs.declared.task.Spot.{Spot}
-use Rattle.x_value.specs.declared.task.Task.{Task}
-use Rattle.x_value.specs.declared.task.Task.TheVariants.{One, Fields, Elements}
+use Rattle.x_value.specs.declared.reading.task.Spot as compact
+use Rattle.x_value.specs.declared.reading.task.Task.{Task}
+use Rattle.x_value.specs.declared.reading.task.Task.TheVariants.{One, Fields, Elements}
 use Rattle.x_value.specs.Work.{fields, field_count, base, weight, most_weight, weights, work}
 
 base_pos : (s : Schema) → 1 ≤ base s
@@ -24,7 +24,7 @@ power_le s i j le = pow-le-pow_right {n = base s} (base_pos s) {i = i} {j = j} l
 all_left : (n : ℕ) → n - 0 ≡ n
 all_left n = omega arith
 
-pub light_one : (s : Schema) (of : ℕ) (spot : Spot) → of < length s.forms → weight s (One of spot) < most_weight s
+pub light_one : (s : Schema) (of : ℕ) (spot : compact.Spot) → of < length s.forms → weight s (One of spot) < most_weight s
 unfolding weight most_weight
 light_one s of spot lt = let p = power_le s (suc of) (length s.forms) (omega arith) in omega arith
 
@@ -78,7 +78,7 @@ light_array s id of n level links lt fits =
     let h = elements_bound n (field_count s.forms) (base s) (base s ^ id) fits refl (power_pos s id) in
     omega arith
 
-pub fields_step : (s : Schema) (id next level links : ℕ) (f : ℕ) (spot : Spot) (x : Field) → drop next (fields (form_at s id)) ≡ x ∷ drop (suc next) (fields (form_at s id)) → f < id →
+pub fields_step : (s : Schema) (id next level links : ℕ) (f : ℕ) (spot : compact.Spot) (x : Field) → drop next (fields (form_at s id)) ≡ x ∷ drop (suc next) (fields (form_at s id)) → f < id →
     weight s (Fields id (suc next) level links) + weight s (One f spot) < weight s (Fields id next level links)
 unfolding weight
 fields_step s id next level links f spot x e lt =
@@ -87,7 +87,7 @@ fields_step s id next level links f spot x e lt =
     let m = ap (λ t. t * suc (base s ^ id)) l in
     omega arith
 
-pub elements_step : (s : Schema) (id next end level links : ℕ) (spot : Spot) → next < end → weight s (Elements id (suc next) end level links) + weight s (One id spot) < weight s (Elements id next end level links)
+pub elements_step : (s : Schema) (id next end level links : ℕ) (spot : compact.Spot) → next < end → weight s (Elements id (suc next) end level links) + weight s (One id spot) < weight s (Elements id next end level links)
 unfolding weight
 elements_step s id next end level links spot lt =
     let e : end - next ≡ suc (end - suc next) = omega arith in

@@ -9,7 +9,7 @@ use Rattle.x_value.specs.declared.fault.ReadCode.TheVariants as codes
 use Rattle.x_value.specs.Shown.{Label, Name, Arguments, Results, Node}
 use Rattle.x_value.specs.Values.{Value, enc}
 use Rattle.x_value.specs.Layouts.{Job, job, layout_at}
-use Rattle.x_value.specs.Readings.{Fits, Role, fault_of, roles, nodes}
+use Rattle.x_value.specs.Readings.{Fits, UnitRole, fault_of, roles, nodes}
 
 abbrev pub root_label : Schema → Root → Label
 root_label s (roots.Type name) = Name (name_at s name)
@@ -43,7 +43,7 @@ NoFrontIsEncoding s id bytes = (a b : List ℕ) → bytes ≡ a ++ b → IsEncod
 abbrev pub IsCause : Schema → TypeId → List ℕ → List ℕ → ReadCode → Type 0
 IsCause s id front unit code =
     (v : Value) (y : List ℕ) → IsOf s id v → front ++ y ≡ enc v →
-    (before : List Role) × (role : Role) × (after : List Role) ×
+    (before : List UnitRole) × (role : UnitRole) × (after : List UnitRole) ×
     (roles s (root_job s id).layout (root_job s id).place v ≡ before ++ (role ∷ after)) ×
     (length front ≡ 4 * length before) ×
     (fault_of s role unit ≡ Some code)
@@ -62,7 +62,7 @@ pub record IsBadUnit (s : Schema) (id : TypeId) (bytes : List ℕ) (at : ℕ) (c
   pub cause : IsCause s id front unit code
 
 -- all whole units begin an encoding, but the bytes are none and none is a front of them
-pub record IsCut (s : Schema) (id : TypeId) (bytes : List ℕ) (at : ℕ) : Type 0 where
+pub record IsTruncated (s : Schema) (id : TypeId) (bytes : List ℕ) (at : ℕ) : Type 0 where
   pub none : NoFrontIsEncoding s id bytes
   pub place : at ≡ length bytes
   pub front : List ℕ
@@ -82,8 +82,8 @@ pub record HasTrailing (s : Schema) (id : TypeId) (bytes : List ℕ) (at : ℕ) 
   pub place : at ≡ length front
 
 -- the one fault of bytes that are no encoding, or want of memory
-pub data IsFault (s : Schema) (id : TypeId) (bytes : List ℕ) (at : ℕ) (code : ReadCode) : Type 0 where
-  no_memory_left : code ≡ codes.NoMemory → at ≡ 0 → IsFault s id bytes at code
-  trailing : code ≡ codes.Trailing → HasTrailing s id bytes at → IsFault s id bytes at code
-  bad_unit : IsBadUnit s id bytes at code → IsFault s id bytes at code
-  cut_short : code ≡ codes.Short → IsCut s id bytes at → IsFault s id bytes at code
+pub data IsReadFault (s : Schema) (id : TypeId) (bytes : List ℕ) (at : ℕ) (code : ReadCode) : Type 0 where
+  no_memory_left : code ≡ codes.NoMemory → at ≡ 0 → IsReadFault s id bytes at code
+  trailing : code ≡ codes.Trailing → HasTrailing s id bytes at → IsReadFault s id bytes at code
+  bad_unit : IsBadUnit s id bytes at code → IsReadFault s id bytes at code
+  cut_short : code ≡ codes.Short → IsTruncated s id bytes at → IsReadFault s id bytes at code

@@ -1,11 +1,11 @@
 -- Nodes as they are kept: names by their places in the schema, bodies by their places in the message.
 use Rattle.std.specs.Prelude.{ℕ, ◌<◌, List, [], ◌∷◌, map, take, drop}
 use Rattle.x_schema.specs.Schema.{Schema, name_at}
-use Rattle.x_value.specs.declared.entry.Called.{Called}
-use Rattle.x_value.specs.declared.entry.Called.TheVariants as called
-use Rattle.x_value.specs.declared.entry.Kept.{Kept}
-use Rattle.x_value.specs.declared.entry.Kept.TheVariants as kept
-use Rattle.x_value.specs.declared.entry.Entry.{Entry}
+use Rattle.x_value.specs.declared.nodes.compact_node.CompactLabel.{CompactLabel}
+use Rattle.x_value.specs.declared.nodes.compact_node.CompactLabel.TheVariants as labels
+use Rattle.x_value.specs.declared.nodes.compact_node.CompactLeaf.{CompactLeaf}
+use Rattle.x_value.specs.declared.nodes.compact_node.CompactLeaf.TheVariants as leaves
+use Rattle.x_value.specs.declared.nodes.compact_node.CompactNode.{CompactNode}
 use Rattle.x_value.specs.Shown.{Label, Name, Index, Star, Arguments, Results, Leaf, Signed, Unsigned, Truth}
 use Rattle.x_value.specs.Shown.{Enumerator, Hex, Text, Array, Null, Link, Struct, Union, Void, Node, node}
 
@@ -13,43 +13,43 @@ use Rattle.x_value.specs.Shown.{Enumerator, Hex, Text, Array, Null, Link, Struct
 abbrev pub body_at : List ℕ → ℕ → ℕ → List ℕ
 body_at message at length = take length (drop at message)
 
-abbrev pub label_of : Schema → Called → Label
-label_of s (called.Name name) = Name (name_at s name)
-label_of s (called.Index at) = Index at
-label_of s called.Star = Star
-label_of s called.Arguments = Arguments
-label_of s called.Results = Results
+abbrev pub label_of : Schema → CompactLabel → Label
+label_of s (labels.Name name) = Name (name_at s name)
+label_of s (labels.Index at) = Index at
+label_of s labels.Star = Star
+label_of s labels.Arguments = Arguments
+label_of s labels.Results = Results
 
-abbrev pub leaf_of : Schema → List ℕ → Kept → Leaf
-leaf_of s message (kept.Signed n) = Signed n
-leaf_of s message (kept.Unsigned n) = Unsigned n
-leaf_of s message (kept.Truth b) = Truth b
-leaf_of s message (kept.Enumerator name n) = Enumerator (name_at s name) n
-leaf_of s message (kept.Hex length at) = Hex (body_at message at length)
-leaf_of s message (kept.Text length at) = Text (body_at message at length)
-leaf_of s message (kept.Array n) = Array n
-leaf_of s message kept.Null = Null
-leaf_of s message kept.Link = Link
-leaf_of s message kept.Struct = Struct
-leaf_of s message kept.Union = Union
-leaf_of s message kept.Void = Void
+abbrev pub leaf_of : Schema → List ℕ → CompactLeaf → Leaf
+leaf_of s message (leaves.Signed n) = Signed n
+leaf_of s message (leaves.Unsigned n) = Unsigned n
+leaf_of s message (leaves.Truth b) = Truth b
+leaf_of s message (leaves.Enumerator name n) = Enumerator (name_at s name) n
+leaf_of s message (leaves.Hex length at) = Hex (body_at message at length)
+leaf_of s message (leaves.Text length at) = Text (body_at message at length)
+leaf_of s message (leaves.Array n) = Array n
+leaf_of s message leaves.Null = Null
+leaf_of s message leaves.Link = Link
+leaf_of s message leaves.Struct = Struct
+leaf_of s message leaves.Union = Union
+leaf_of s message leaves.Void = Void
 
-abbrev pub node_of : Schema → List ℕ → Entry → Node
-node_of s message e = node e.level (label_of s e.called) (leaf_of s message e.kept)
+abbrev pub node_of : Schema → List ℕ → CompactNode → Node
+node_of s message e = node e.level (label_of s e.label) (leaf_of s message e.leaf)
 
-abbrev pub nodes_of : Schema → List ℕ → List Entry → List Node
+abbrev pub nodes_of : Schema → List ℕ → List CompactNode → List Node
 nodes_of s message entries = map (node_of s message) entries
 
 -- ---- names that the schema has, of so many
 
-abbrev pub IsCalled : ℕ → Called → Type 0
-IsCalled n (called.Name name) = name < n
+abbrev pub IsCalled : ℕ → CompactLabel → Type 0
+IsCalled n (labels.Name name) = name < n
 IsCalled n _ = Unit {0}
 
-abbrev pub IsKept : ℕ → Kept → Type 0
-IsKept n (kept.Enumerator name number) = name < n
+abbrev pub IsKept : ℕ → CompactLeaf → Type 0
+IsKept n (leaves.Enumerator name number) = name < n
 IsKept n _ = Unit {0}
 
-abbrev pub AreNamed : ℕ → List Entry → Type 0
+abbrev pub AreNamed : ℕ → List CompactNode → Type 0
 AreNamed n [] = Unit {0}
-AreNamed n (e ∷ es) = IsCalled n e.called × IsKept n e.kept × AreNamed n es
+AreNamed n (e ∷ es) = IsCalled n e.label × IsKept n e.leaf × AreNamed n es

@@ -9,11 +9,11 @@ use Rattle.x_value.specs.Shown.{Node}
 use Rattle.x_value.specs.Values.{Values, encs}
 use Rattle.x_units.specs.Units.{word, padding, copies, are_zeros}
 use Rattle.x_value.specs.Layouts.{Layout, Fields, Elements, Named, Counted, Optional, Chosen, Job, head_fault}
-use Rattle.x_value.specs.Readings.{Suits, Role, fault_of, roles_each, nodes_each}
+use Rattle.x_value.specs.Readings.{Suits, UnitRole, fault_of, roles_each, nodes_each}
 use Rattle.x_value.specs.Language.{Leads, Stuck, Short, Trailing}
 
 -- the bytes of values of these types, one behind another, with what each unit is, and what is shown
-pub record Spells (s : Schema) (js : List Job) (x : List ℕ) (r : List Role) (n : List Node) : Type 0 where
+pub record Spells (s : Schema) (js : List Job) (x : List ℕ) (r : List UnitRole) (n : List Node) : Type 0 where
   pub values : Values
   pub suits : Suits s js values
   pub bytes : x ≡ encs values
@@ -41,7 +41,7 @@ AreReady s (j ∷ js) = IsReady s j.layout × AreReady s js
 
 -- ---- answers
 
-abbrev pub Faulty : Schema → ReadCode → Role → List ℕ → Type 0
+abbrev pub Faulty : Schema → ReadCode → UnitRole → List ℕ → Type 0
 Faulty s code role unit = fault_of s role unit ≡ Some code
 
 -- what is answered for bytes that spell no values of these types
@@ -55,7 +55,7 @@ pub data Refused (s : Schema) (js : List Job) (m : List ℕ) (at : ℕ) (code : 
 pub record Moves (s : Schema) (js : List Job) (m : List ℕ) (shown : List Node) (ks : List Job)
     (rest : List ℕ) : Type 0 where
   pub front : List ℕ
-  pub told : List Role
+  pub told : List UnitRole
   pub parts : m ≡ front ++ rest
   pub even : length front ≡ 4 * length told
   pub leads : Leads (Spells s js) front told shown (Spells s ks)

@@ -114,7 +114,7 @@ layout_at s id = layout_of s (form_at s id)
 -- ---- what stands in a value
 
 -- where a value stands: how many links are open around it, and how its first node is shown
-pub record Place : Type 0 where
+pub record Spot : Type 0 where
   pub label : Label
   pub level : ℕ
   pub links : ℕ
@@ -122,10 +122,10 @@ pub record Place : Type 0 where
 -- a value that is to be read
 pub record Job : Type 0 where
   pub layout : Layout
-  pub place : Place
+  pub spot : Spot
 
-abbrev pub placed : Layout → Place → Job
-placed layout p = record { layout = layout; place = p }
+abbrev pub placed : Layout → Spot → Job
+placed layout p = record { layout = layout; spot = p }
 
 abbrev pub job : Layout → Label → ℕ → ℕ → Job
 job layout label level links = placed layout (record { label = label; level = level; links = links })
@@ -149,14 +149,14 @@ arm_jobs s level links (Some arms.Void) = []
 arm_jobs s level links None = []
 
 -- what stands in a value that begins with no word of its own
-abbrev pub members : Schema → Layout → Place → List Job
+abbrev pub members : Schema → Layout → Spot → List Job
 members s (Fields fs) p = field_jobs s (suc p.level) p.links fs
 members s (Elements of n) p = element_jobs s of (suc p.level) p.links 0 n
 members s _ p = []
 
 -- what stands behind the word that a value begins with: what a link leads to, and each element that a word
 -- counts, has one more link open around it
-abbrev pub behind : Schema → Layout → Place → ℕ → List Job
+abbrev pub behind : Schema → Layout → Spot → ℕ → List Job
 behind s (Sized leaf most) p w = placed (Fixed leaf w) p ∷ []
 behind s (Counted of most) p w = element_jobs s of (suc p.level) (suc p.links) 0 w
 behind s (Optional of) p w =
@@ -209,25 +209,25 @@ discriminant_leaf s _ w = Signed (cast_signed w32 w)
 abbrev pub link_leaf : ℕ → Leaf
 link_leaf w = if nat_eq w 0 then Null else Link
 
-abbrev pub at_place : Place → Leaf → Node
-at_place p leaf = node p.level p.label leaf
+abbrev pub at_spot : Spot → Leaf → Node
+at_spot p leaf = node p.level p.label leaf
 
-abbrev pub body_nodes : Layout → Place → List ℕ → List Node
-body_nodes (Fixed leaf n) p bs = at_place p (leaf bs) ∷ []
+abbrev pub body_nodes : Layout → Spot → List ℕ → List Node
+body_nodes (Fixed leaf n) p bs = at_spot p (leaf bs) ∷ []
 body_nodes _ p bs = []
 
-abbrev pub group_nodes : Layout → Place → List Node
-group_nodes (Fields fs) p = at_place p Struct ∷ []
-group_nodes (Elements of n) p = at_place p (Array n) ∷ []
+abbrev pub group_nodes : Layout → Spot → List Node
+group_nodes (Fields fs) p = at_spot p Struct ∷ []
+group_nodes (Elements of n) p = at_spot p (Array n) ∷ []
 group_nodes _ p = []
 
 -- of a length nothing is shown: its bytes are
-abbrev pub head_nodes : Schema → Layout → Place → ℕ → List Node
-head_nodes s Flag p w = at_place p (Truth (nat_eq w 1)) ∷ []
-head_nodes s (Named names) p w = at_place p (enumerator s names w) ∷ []
-head_nodes s (Counted of most) p w = at_place p (Array w) ∷ []
-head_nodes s (Optional of) p w = at_place p (link_leaf w) ∷ []
+abbrev pub head_nodes : Schema → Layout → Spot → ℕ → List Node
+head_nodes s Flag p w = at_spot p (Truth (nat_eq w 1)) ∷ []
+head_nodes s (Named names) p w = at_spot p (enumerator s names w) ∷ []
+head_nodes s (Counted of most) p w = at_spot p (Array w) ∷ []
+head_nodes s (Optional of) p w = at_spot p (link_leaf w) ∷ []
 head_nodes s (Chosen d choice) p w =
-    at_place p Union
+    at_spot p Union
     ∷ node (suc p.level) (Name (name_at s d.name)) (discriminant_leaf s (form_at s d.form) w) ∷ []
 head_nodes s _ p w = []

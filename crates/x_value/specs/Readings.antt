@@ -8,16 +8,16 @@ use Rattle.x_value.specs.declared.fault.ReadCode.{ReadCode}
 use Rattle.x_value.specs.declared.fault.ReadCode.TheVariants as codes
 use Rattle.x_value.specs.Shown.{Node}
 use Rattle.x_value.specs.Values.{Value, Values, body, group, headed, end, more}
-use Rattle.x_value.specs.Layouts.{Layout, Fixed, Fields, Elements, Place, Job, members, behind, head_fault}
+use Rattle.x_value.specs.Layouts.{Layout, Fixed, Fields, Elements, Spot, Job, members, behind, head_fault}
 use Rattle.x_value.specs.Layouts.{body_nodes, group_nodes, head_nodes}
 
 abbrev pub IsByteList : List ℕ → Type 0
 IsByteList [] = Unit {0}
 IsByteList (b ∷ bs) = (b < 256) × IsByteList bs
 
-abbrev pub IsBody : Layout → List ℕ → Type 0
-IsBody (Fixed leaf n) bs = (length bs ≡ n) × IsByteList bs
-IsBody _ bs = ⊥
+abbrev pub IsLeafBody : Layout → List ℕ → Type 0
+IsLeafBody (Fixed leaf n) bs = (length bs ≡ n) × IsByteList bs
+IsLeafBody _ bs = ⊥
 
 -- values of it stand behind one another
 abbrev pub IsGroup : Layout → Type 0
@@ -34,8 +34,8 @@ IsHeaded _ = Unit {0}
 
 abbrev mutual
   -- the value is of the layout, with so many links open around it
-  pub Fits : Schema → Layout → Place → Value → Type 0
-  Fits s layout p (body bs) = IsBody layout bs
+  pub Fits : Schema → Layout → Spot → Value → Type 0
+  Fits s layout p (body bs) = IsLeafBody layout bs
   Fits s layout p (group vs) = IsGroup layout × Suits s (members s layout p) vs
   Fits s layout p (headed w vs) =
       IsHeaded layout × (w < 2 ^ 32) × (head_fault s layout p.links w ≡ None) ×
@@ -44,27 +44,27 @@ abbrev mutual
   -- the values are of these types, one for each
   pub Suits : Schema → List Job → Values → Type 0
   Suits s [] end = Unit {0}
-  Suits s (j ∷ js) (more v vs) = Fits s j.layout j.place v × Suits s js vs
+  Suits s (j ∷ js) (more v vs) = Fits s j.layout j.spot v × Suits s js vs
   Suits s [] (more v vs) = ⊥
   Suits s (j ∷ js) end = ⊥
 
 -- ---- what each unit of four bytes is
 
-pub data Role : Type 0 where
-  Free : Role
+pub data UnitRole : Type 0 where
+  Free : UnitRole
   -- so many bytes of a body, and zeros
-  Padded : ℕ → Role
+  Padded : ℕ → UnitRole
   -- the first word of a value with so many links open around it
-  Head : Layout → ℕ → Role
+  Head : Layout → ℕ → UnitRole
 
 -- why the unit may not stand there, if it may not
-abbrev pub fault_of : Schema → Role → List ℕ → Option ReadCode
+abbrev pub fault_of : Schema → UnitRole → List ℕ → Option ReadCode
 fault_of s Free unit = None
 fault_of s (Padded k) unit = if are_zeros (drop k unit) then None else Some codes.BadPad
 fault_of s (Head layout links) unit = head_fault s layout links (from_be_bytes w32 unit)
 
 -- the units of a body of n bytes
-abbrev pub body_roles : ℕ → List Role
+abbrev pub body_roles : ℕ → List UnitRole
 body_roles zero = []
 body_roles (suc zero) = Padded 1 ∷ []
 body_roles (suc (suc zero)) = Padded 2 ∷ []
@@ -72,23 +72,23 @@ body_roles (suc (suc (suc zero))) = Padded 3 ∷ []
 body_roles (suc (suc (suc (suc n)))) = Free ∷ body_roles n
 
 abbrev mutual
-  pub roles : Schema → Layout → Place → Value → List Role
+  pub roles : Schema → Layout → Spot → Value → List UnitRole
   roles s layout p (body bs) = body_roles (length bs)
   roles s layout p (group vs) = roles_each s (members s layout p) vs
   roles s layout p (headed w vs) = Head layout p.links ∷ roles_each s (behind s layout p w) vs
 
-  pub roles_each : Schema → List Job → Values → List Role
-  roles_each s (j ∷ js) (more v vs) = roles s j.layout j.place v ++ roles_each s js vs
+  pub roles_each : Schema → List Job → Values → List UnitRole
+  roles_each s (j ∷ js) (more v vs) = roles s j.layout j.spot v ++ roles_each s js vs
   roles_each s _ _ = []
 
 -- ---- nodes
 
 abbrev mutual
-  pub nodes : Schema → Layout → Place → Value → List Node
+  pub nodes : Schema → Layout → Spot → Value → List Node
   nodes s layout p (body bs) = body_nodes layout p bs
   nodes s layout p (group vs) = group_nodes layout p ++ nodes_each s (members s layout p) vs
   nodes s layout p (headed w vs) = head_nodes s layout p w ++ nodes_each s (behind s layout p w) vs
 
   pub nodes_each : Schema → List Job → Values → List Node
-  nodes_each s (j ∷ js) (more v vs) = nodes s j.layout j.place v ++ nodes_each s js vs
+  nodes_each s (j ∷ js) (more v vs) = nodes s j.layout j.spot v ++ nodes_each s js vs
   nodes_each s _ _ = []

@@ -5,22 +5,22 @@ use Rattle.x_text.specs.Streams.{Stream}
 use Rattle.x_text.specs.Writing.{StopsWithin}
 use Rattle.x_schema.specs.Schema.{Schema}
 use Rattle.x_schema.specs.declared.schema.TypeId.{TypeId}
-use Rattle.x_value.specs.Dumps.{IsFault, IsShown}
+use Rattle.x_value.specs.Dumps.{IsReadFault, IsShown}
 use Rattle.x_value.specs.FaultTexts.{fault_line}
 use Rattle.x_value.specs.Lines.{node_lines}
 use Rattle.x_value.specs.Shown.{Node}
 use Rattle.x_value.specs.declared.fault.ReadCode.{ReadCode}
 use Rattle.x_value.specs.declared.fault.ReadCode.TheVariants as codes
-use Rattle.x_text.specs.declared.outcome.Outcome.{Outcome}
-use Rattle.x_text.specs.declared.outcome.Outcome.TheVariants.{Clean, Refused}
-use Rattle.x_text.specs.declared.outcome.EngineFault.{EngineFault}
-use Rattle.x_text.specs.declared.outcome.EngineFault.TheVariants.{Read, Write, NoMemory}
+use Rattle.x_text.specs.declared.streams.outcome.Outcome.{Outcome}
+use Rattle.x_text.specs.declared.streams.outcome.Outcome.TheVariants.{Clean, Refused}
+use Rattle.x_text.specs.declared.streams.outcome.EngineFault.{EngineFault}
+use Rattle.x_text.specs.declared.streams.outcome.EngineFault.TheVariants.{Read, Write, NoMemory}
 
 -- the lines of the value whose encoding the bytes are, or that of the fault of bytes that are none
 pub data IsValueText (s : Schema) (id : TypeId) (bytes text : List ℕ) (outcome : Outcome) : Type 0 where
   shown : (nodes : List Node) → IsShown s id bytes nodes → text ≡ node_lines nodes → outcome ≡ Clean
       → IsValueText s id bytes text outcome
-  stuck : (at : ℕ) (code : ReadCode) → IsFault s id bytes at code → (code ≡ codes.NoMemory → ⊥)
+  stuck : (at : ℕ) (code : ReadCode) → IsReadFault s id bytes at code → (code ≡ codes.NoMemory → ⊥)
       → text ≡ fault_line at code
       → outcome ≡ Refused → IsValueText s id bytes text outcome
 

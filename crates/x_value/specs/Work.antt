@@ -8,23 +8,23 @@ use Rattle.x_schema.specs.declared.form.Form.{Form}
 use Rattle.x_schema.specs.declared.form.Form.TheVariants as forms
 use Rattle.x_schema.specs.Schema.{Schema, form_at}
 use Rattle.x_schema.specs.Sound.{AreSoundEnumerators}
-use Rattle.x_value.specs.declared.entry.Entry.{Entry}
-use Rattle.x_value.specs.declared.task.Spot.{Spot}
-use Rattle.x_value.specs.declared.task.Task.{Task}
-use Rattle.x_value.specs.declared.task.Task.TheVariants.{One, Fields, Elements}
+use Rattle.x_value.specs.declared.nodes.compact_node.CompactNode.{CompactNode}
+use Rattle.x_value.specs.declared.reading.task.Spot as compact
+use Rattle.x_value.specs.declared.reading.task.Task.{Task}
+use Rattle.x_value.specs.declared.reading.task.Task.TheVariants.{One, Fields, Elements}
 use Rattle.x_value.specs.Entries.{label_of, nodes_of, IsCalled, AreNamed}
-use Rattle.x_value.specs.Layouts.{Place, Job, placed, layout_at, most_links, field_jobs, element_jobs}
+use Rattle.x_value.specs.Layouts.{Spot, Job, placed, layout_at, most_links, field_jobs, element_jobs}
 use Rattle.x_value.specs.Jobs.{Moves}
 
 abbrev pub fields : Form → List Field
 fields (forms.Struct fs) = fs.items
 fields _ = []
 
-abbrev pub place_of : Schema → Spot → Place
-place_of s spot = record { label = label_of s spot.called; level = spot.level; links = spot.links }
+abbrev pub spot_of : Schema → compact.Spot → Spot
+spot_of s spot = record { label = label_of s spot.label; level = spot.level; links = spot.links }
 
-abbrev pub value_job : Schema → ℕ → Spot → Job
-value_job s form spot = placed (layout_at s form) (place_of s spot)
+abbrev pub value_job : Schema → ℕ → compact.Spot → Job
+value_job s form spot = placed (layout_at s form) (spot_of s spot)
 
 abbrev pub jobs_of_task : Schema → Task → List Job
 jobs_of_task s (One form spot) = value_job s form spot ∷ []
@@ -40,8 +40,8 @@ abbrev pub pending : Schema → List Task → List Job
 pending s [] = []
 pending s (task ∷ tasks) = pending s tasks ++ jobs_of_task s task
 
-abbrev pub IsSpot : Schema → Spot → Type 0
-IsSpot s spot = IsCalled (length s.names) spot.called × (spot.links ≤ most_links)
+abbrev pub IsSpot : Schema → compact.Spot → Type 0
+IsSpot s spot = IsCalled (length s.names) spot.label × (spot.links ≤ most_links)
 
 -- a task that the reader may carry out
 abbrev pub IsTyped : Schema → Task → Type 0
@@ -99,13 +99,13 @@ IsLighter s form bytes task rest =
 abbrev pub IsRear : List ℕ → List ℕ → Type 0
 IsRear message rest = (front : List ℕ) × (message ≡ front ++ rest)
 
-abbrev pub shown_entries : Entry → Option Entry → List Entry
+abbrev pub shown_entries : CompactNode → Option CompactNode → List CompactNode
 shown_entries first (Some second) = first ∷ second ∷ []
 shown_entries first None = first ∷ []
 
 -- a value was begun, or read whole
-pub record Begun (s : Schema) (message : List ℕ) (form : ℕ) (spot : Spot) (bytes : List ℕ)
-    (first : Entry) (second : Option Entry) (next : Option Task) (rest : List ℕ) : Type 0 where
+pub record Begun (s : Schema) (message : List ℕ) (form : ℕ) (spot : compact.Spot) (bytes : List ℕ)
+    (first : CompactNode) (second : Option CompactNode) (next : Option Task) (rest : List ℕ) : Type 0 where
   pub moves : (ks : List Job) → Moves s (value_job s form spot ∷ ks) bytes (nodes_of s message
       (shown_entries first second)) (jobs_of_option s next ++ ks) rest
   pub named : AreNamed (length s.names) (shown_entries first second)
@@ -113,9 +113,9 @@ pub record Begun (s : Schema) (message : List ℕ) (form : ℕ) (spot : Spot) (b
   pub light : IsLighter s form bytes next rest
 
 -- a task was taken from the old stack and carried out
-pub record Turn (s : Schema) (message : List ℕ) (task : Task) (old : List Task) (entries : List Entry)
-    (bytes : List ℕ) (new : List Task) (more : List Entry) (rest : List ℕ) : Type 0 where
-  pub added : List Entry
+pub record Turn (s : Schema) (message : List ℕ) (task : Task) (old : List Task) (entries : List CompactNode)
+    (bytes : List ℕ) (new : List Task) (more : List CompactNode) (rest : List ℕ) : Type 0 where
+  pub added : List CompactNode
   pub appended : more ≡ entries ++ added
   pub named : AreNamed (length s.names) added
   pub moves : Moves s (jobs_of_task s task ++ pending s old) bytes (nodes_of s message added)
@@ -151,7 +151,7 @@ abbrev pub tasks_of_option : Option Task → List Task
 tasks_of_option (Some task) = task ∷ []
 tasks_of_option None = []
 
-abbrev pub tasks_of_value : Option (ℕ × Spot) → List Task
+abbrev pub tasks_of_value : Option (ℕ × compact.Spot) → List Task
 tasks_of_value (Some value) = One value.0 value.1 ∷ []
 tasks_of_value None = []
 
@@ -162,7 +162,7 @@ pub record Stacked (s : Schema) (task : Task) (old new : List Task) : Type 0 whe
   pub less : weights s new < weights s (old ++ (task ∷ []))
 
 -- a task was taken from the old stack, and its first value, if it has one, is to be read next
-pub record Opened (s : Schema) (task : Task) (old new : List Task) (value : Option (ℕ × Spot)) : Type 0 where
+pub record Opened (s : Schema) (task : Task) (old new : List Task) (value : Option (ℕ × compact.Spot)) : Type 0 where
   pub jobs : jobs_of_task s task ++ pending s old ≡ pending s (new ++ tasks_of_value value)
   pub tasks : AreTasks s (new ++ tasks_of_value value)
   pub less : weights s (new ++ tasks_of_value value) < weights s (old ++ (task ∷ [])) + length
@@ -170,7 +170,7 @@ pub record Opened (s : Schema) (task : Task) (old new : List Task) (value : Opti
 
 -- what was read before the rest, and what is still to be read
 pub record Reading (s : Schema) (job : Job) (message : List ℕ) (stack : List Task)
-    (entries : List Entry) (rest : List ℕ) : Type 0 where
+    (entries : List CompactNode) (rest : List ℕ) : Type 0 where
   pub moves : Moves s (job ∷ []) message (nodes_of s message entries) (pending s stack) rest
   pub tasks : AreTasks s stack
   pub named : AreNamed (length s.names) entries

@@ -1,5 +1,14 @@
 //! What a value is shown as.
 
+mod compact_leaf;
+mod compact_node;
+mod lines;
+
+pub(crate) use compact_leaf::{compact_body, compact_discriminant, compact_enumerator};
+pub use compact_node::{Dump, Nodes};
+pub(crate) use compact_node::{CompactLabel, CompactLeaf, CompactNode};
+pub use lines::{add_hex, add_number};
+
 /// What stands before a node's text.
 #[derive(Clone, Copy, Debug)]
 pub enum Label<'a> {

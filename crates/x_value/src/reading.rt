@@ -1,15 +1,22 @@
 //! Reads a value.
 ghost use Rattle.std.specs.Prelude.{◌≡◌, ◌⊎◌, ◌∷◌, [], length, IfErr, IfOk};
 ghost use Rattle.x_schema.specs.Schema.{Schema, IsTypeId, IsRoot};
-ghost use Rattle.x_value.specs.Dumps.{root_label, IsEncoding, IsFault, IsShown};
+ghost use Rattle.x_value.specs.Dumps.{root_label, IsEncoding, IsReadFault, IsShown};
 ghost use Rattle.x_value.specs.Entries.{label_of, IsCalled};
 
-use crate::entry::{Called, Dump};
+mod heads;
+mod steps;
+mod task;
+mod turns;
+mod words;
+
 use crate::fault::{ReadCode, ReadFault};
-use crate::steps::counted_from;
-use crate::task::{Spot, Task};
-use crate::turns::{carry_out, put};
+use crate::nodes::{CompactLabel, Dump};
+pub use heads::MOST_LINKS;
 use std::alloc::Global;
+use steps::counted_from;
+use task::{Spot, Task};
+use turns::{carry_out, put};
 use x_schema::{Root, Schema, TypeId};
 
 /// For how many tasks there is room at first.
@@ -19,14 +26,14 @@ const FIRST_TASKS: usize = 16;
 const FIRST_ENTRIES: usize = 64;
 
 /// What the root of a value is called.
-fn called(root: Root) -> Called
+fn root_label(root: Root) -> CompactLabel
     ensures label { (s : Schema) → label_of s result ≡ root_label s root }
     ensures known { (s : Schema) → IsRoot s root → IsCalled (length s.names) result }
 {
     match root {
-        Root::Type(name) => Called::Name(name),
-        Root::Arguments => Called::Arguments,
-        Root::Results => Called::Results,
+        Root::Type(name) => CompactLabel::Name(name),
+        Root::Arguments => CompactLabel::Arguments,
+        Root::Results => CompactLabel::Results,
     }
 }
 
@@ -40,13 +47,13 @@ pub fn dump<'a>(
 ) -> Result<Dump<'a>, ReadFault>
     requires { IsTypeId schema.now id }
     ensures ok { IfOk result (λ d. IsShown schema.now id bytes.now d) }
-    ensures err { IfErr result (λ e. IsFault schema.now id bytes.now e.at e.code) }
+    ensures err { IfErr result (λ e. IsReadFault schema.now id bytes.now e.at e.code) }
     ensures only { IfErr result (λ e. e.code ≡ ReadCode.NoMemory ⊎ (IsEncoding schema.now id bytes.now → ⊥)) }
 {
     let form = id.form();
     let _form = schema.form_at(form);
     let spot = Spot {
-        called: called(id.root()),
+        label: root_label(id.root()),
         level: 0,
         links: 0,
     };

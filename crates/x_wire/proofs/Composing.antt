@@ -1,4 +1,4 @@
--- Calls of `feed` one after another, and the end of a stream. A reader keeps `IsRead stream given kept`: the
+-- Calls of `feed` one after another, and the end of a stream. A reader keeps `IsStreamSoFar stream given kept`: the
 -- bytes that it fed so far are the stream, the records that it was answered are those of the stream, and what
 -- its `Records` keeps is what the stream leaves.
 use Rattle.std.proofs.Common.{◌≡◌, ℕ, ◌+◌, ◌-◌, List, [], ◌∷◌, ◌++◌, length, take, drop, refl, sym}
@@ -8,19 +8,19 @@ use Rattle.std.proofs.lemmas.List.{append-nil, take_all, take_rest, take-append-
 use Rattle.x_wire.specs.Records.{Phase, InHeader, InData, TooLong, Left, Moved, quiet, told}
 use Rattle.x_wire.specs.Records.{left, records, nothing_left}
 use Rattle.x_wire.specs.RecordFaults.{fault_at, end_at, end_fault}
-use Rattle.x_wire.specs.Framing.{Leads, in_list, Feeds, Overflows, IsRead}
+use Rattle.x_wire.specs.Framing.{Leads, in_list, Feeds, Overflows, IsStreamSoFar}
 use Rattle.x_wire.proofs.Moves.{stands, run}
 use Rattle.x_wire.proofs.FragmentLemmas.{run_long}
 use Rattle.x_wire.proofs.Feeding.{left_append, records_append}
 
 -- nothing was fed
-pub read_none : IsRead [] [] nothing_left
+pub read_none : IsStreamSoFar [] [] nothing_left
 read_none = record { left_is = refl; records_are = refl }
 
 -- bytes lead a stream on
 pub read_led : (stream bytes : List ℕ) (given whole : List (List ℕ)) (old new : Left) →
-    IsRead stream given old → Leads old bytes new whole →
-    IsRead (stream ++ bytes) (given ++ whole) new
+    IsStreamSoFar stream given old → Leads old bytes new whole →
+    IsStreamSoFar (stream ++ bytes) (given ++ whole) new
 read_led stream bytes given whole old new read leads = record {
   left_is = (leads stream read.left_is).0;
   records_are = (leads stream read.left_is).1 ∙ ap (λ r. r ++ whole) read.records_are;
@@ -28,19 +28,19 @@ read_led stream bytes given whole old new read leads = record {
 
 -- `feed` answered a record
 pub read_whole : (stream piece : List ℕ) (given : List (List ℕ)) (used : ℕ) (whole : List ℕ)
-    (old new : Left) → IsRead stream given old → Feeds old piece used (Some whole) new →
-    IsRead (stream ++ take used piece) (given ++ whole ∷ []) new
+    (old new : Left) → IsStreamSoFar stream given old → Feeds old piece used (Some whole) new →
+    IsStreamSoFar (stream ++ take used piece) (given ++ whole ∷ []) new
 read_whole stream piece given used whole old new read feeds =
     read_led stream (take used piece) given (whole ∷ []) old new read feeds.leads
 
 -- `feed` answered no record
 pub read_piece : (stream piece : List ℕ) (given : List (List ℕ)) (used : ℕ) (old new : Left) →
-    IsRead stream given old → Feeds old piece used None new →
-    IsRead (stream ++ piece) given new
+    IsStreamSoFar stream given old → Feeds old piece used None new →
+    IsStreamSoFar (stream ++ piece) given new
 read_piece stream piece given used old new read feeds =
     let all : take used piece ≡ piece = let e = feeds.all refl in take_all used piece (omega arith) in
-    subst (λ g. IsRead (stream ++ piece) g new) (append-nil given)
-    (subst (λ p. IsRead (stream ++ p) (given ++ []) new) all
+    subst (λ g. IsStreamSoFar (stream ++ piece) g new) (append-nil given)
+    (subst (λ p. IsStreamSoFar (stream ++ p) (given ++ []) new) all
     (read_led stream (take used piece) given [] old new read feeds.leads))
 
 -- the rest of a block, from its byte i on, was fed: as a slice is seen
@@ -53,34 +53,34 @@ block_at stream block i used =
 
 -- the same, whether `feed` answered a record or not
 pub block_led : (stream block : List ℕ) (given : List (List ℕ)) (i used : ℕ) (whole : Option (List ℕ))
-    (old new : Left) → IsRead (stream ++ take i block) given old →
+    (old new : Left) → IsStreamSoFar (stream ++ take i block) given old →
     Feeds old (take (length block - i) (drop i block)) used whole new →
-    IsRead (stream ++ take (i + used) block) (given ++ in_list whole) new
+    IsStreamSoFar (stream ++ take (i + used) block) (given ++ in_list whole) new
 block_led stream block given i used whole old new read feeds =
-    subst (λ s. IsRead s (given ++ in_list whole) new) (block_at stream block i used)
+    subst (λ s. IsStreamSoFar s (given ++ in_list whole) new) (block_at stream block i used)
     (read_led (stream ++ take i block) (take used (take (length block - i) (drop i block))) given
     (in_list whole) old new read feeds.leads)
 
 -- `feed` answered a record of the rest of a block
 pub block_whole : (stream block : List ℕ) (given : List (List ℕ)) (i used : ℕ) (whole : List ℕ)
-    (old new : Left) → IsRead (stream ++ take i block) given old →
+    (old new : Left) → IsStreamSoFar (stream ++ take i block) given old →
     Feeds old (take (length block - i) (drop i block)) used (Some whole) new →
-    IsRead (stream ++ take (i + used) block) (given ++ whole ∷ []) new
+    IsStreamSoFar (stream ++ take (i + used) block) (given ++ whole ∷ []) new
 block_whole stream block given i used whole old new read feeds =
-    subst (λ s. IsRead s (given ++ whole ∷ []) new) (block_at stream block i used)
+    subst (λ s. IsStreamSoFar s (given ++ whole ∷ []) new) (block_at stream block i used)
     (read_whole (stream ++ take i block) (take (length block - i) (drop i block)) given used whole old new
     read feeds)
 
 -- `feed` answered no record of the rest of a block
 pub block_rest : (stream block : List ℕ) (given : List (List ℕ)) (i used : ℕ) (old new : Left) →
-    IsRead (stream ++ take i block) given old →
-    Feeds old (take (length block - i) (drop i block)) used None new → IsRead (stream ++ block) given new
+    IsStreamSoFar (stream ++ take i block) given old →
+    Feeds old (take (length block - i) (drop i block)) used None new → IsStreamSoFar (stream ++ block) given new
 block_rest stream block given i used old new read feeds =
     let e : (stream ++ take i block) ++ take (length block - i) (drop i block) ≡ stream ++ block =
     append_assoc stream (take i block) (take (length block - i) (drop i block))
     ∙ ap (λ t. stream ++ (take i block ++ t)) (take_rest block i)
     ∙ ap (λ t. stream ++ t) (take-append-drop i block) in
-    subst (λ s. IsRead s given new) e (read_piece (stream ++ take i block)
+    subst (λ s. IsStreamSoFar s given new) e (read_piece (stream ++ take i block)
     (take (length block - i) (drop i block)) given used old new read feeds)
 
 -- ---- the end of a stream
@@ -130,11 +130,11 @@ no_fault_front stream more h =
 
 -- `feed` answered that a record is too long: whatever follows, the stream has these records and this fault
 pub read_refused : (stream piece more : List ℕ) (given : List (List ℕ)) (at : ℕ) (old new : Left) →
-    IsRead stream given old → Overflows old piece at new →
-    IsRead (stream ++ (piece ++ more)) given new × (fault_at new.phase ≡ Some at)
+    IsStreamSoFar stream given old → Overflows old piece at new →
+    IsStreamSoFar (stream ++ (piece ++ more)) given new × (fault_at new.phase ≡ Some at)
 read_refused stream piece more given at old new read over =
-    let front : IsRead (stream ++ take over.used piece) given new =
-    subst (λ g. IsRead (stream ++ take over.used piece) g new) (append-nil given)
+    let front : IsStreamSoFar (stream ++ take over.used piece) given new =
+    subst (λ g. IsStreamSoFar (stream ++ take over.used piece) g new) (append-nil given)
     (read_led stream (take over.used piece) given [] old new read over.leads) in
     let fault : fault_at (left (stream ++ take over.used piece)).phase
     ≡ Some at = ap (λ (l : Left). fault_at l.phase) front.left_is ∙ over.fault in
@@ -143,7 +143,7 @@ read_refused stream piece more given at old new read over =
     append_assoc stream (take over.used piece) (drop over.used piece ++ more)
     ∙ ap (λ t. stream ++ t) (sym (append_assoc (take over.used piece) (drop over.used piece) more)
     ∙ ap (λ t. t ++ more) (take-append-drop over.used piece)) in (
-      subst (λ s. IsRead s given new) e (record {
+      subst (λ s. IsStreamSoFar s given new) e (record {
         left_is = stays.0 ∙ front.left_is;
         records_are = stays.1
             ∙ front.records_are;
@@ -153,9 +153,9 @@ read_refused stream piece more given at old new read over =
 
 -- the same of the rest of a block
 pub block_refused : (stream block more : List ℕ) (given : List (List ℕ)) (i at : ℕ) (old new : Left) →
-    IsRead (stream ++ take i block) given old →
+    IsStreamSoFar (stream ++ take i block) given old →
     Overflows old (take (length block - i) (drop i block)) at new →
-    IsRead (stream ++ (block ++ more)) given new × (fault_at new.phase ≡ Some at)
+    IsStreamSoFar (stream ++ (block ++ more)) given new × (fault_at new.phase ≡ Some at)
 block_refused stream block more given i at old new read over =
     let r = read_refused (stream ++ take i block) (take (length block - i) (drop i block)) more given at old
     new read over in
@@ -165,10 +165,10 @@ block_refused stream block more given i at old new read over =
     ∙ ap (λ t. stream ++ (take i block ++ (t ++ more))) (take_rest block i)
     ∙ ap (λ t. stream ++ t) (sym (append_assoc (take i block) (drop i block) more)
     ∙ ap (λ t. t ++ more) (take-append-drop i block)) in
-    (subst (λ s. IsRead s given new) e r.0, r.1)
+    (subst (λ s. IsStreamSoFar s given new) e r.0, r.1)
 
 -- what `finish` tells is the end of the stream
-pub read_end : (stream : List ℕ) (given : List (List ℕ)) (kept : Left) → IsRead stream given kept →
+pub read_end : (stream : List ℕ) (given : List (List ℕ)) (kept : Left) → IsStreamSoFar stream given kept →
     end_fault kept ≡ end_fault (left stream)
 read_end stream given kept read = ap end_fault (sym read.left_is)
 

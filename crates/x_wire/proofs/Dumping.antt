@@ -18,7 +18,7 @@ use Rattle.x_wire.specs.declared.records.framer.Framer.{Framer}
 use Rattle.x_wire.specs.declared.records.RecordCode.{RecordCode}
 use Rattle.x_wire.specs.declared.records.RecordCode.TheVariants.{NoMemory, RecordTooLong, Truncated}
 use Rattle.x_wire.specs.declared.telling.dumper.Dumper.{Dumper}
-use Rattle.x_wire.specs.declared.telling.teller.Heard.{Heard}
+use Rattle.x_wire.specs.declared.telling.teller.CallOfXid.{CallOfXid}
 use Rattle.x_wire.specs.declared.telling.teller.Teller.{Teller}
 use Rattle.x_wire.proofs.Composing.{fault_stays}
 use Rattle.x_wire.proofs.Feeding.{left_append, records_append}
@@ -267,7 +267,7 @@ pub record IsAlone (s : Schema) (bytes : List ℕ) (refused : Bool) (start : Str
   pub writes : Writes start text.text pen now
   pub refused_is : refused ≡ text.refused
 
-pub told_alone : (s : Schema) (bytes : List ℕ) (old : Teller) (entries : List (ℕ × Heard)) (refused : Bool) (start : Stream) (p q : Inked) (now : Stream)
+pub told_alone : (s : Schema) (bytes : List ℕ) (old : Teller) (entries : List (ℕ × CallOfXid)) (refused : Bool) (start : Stream) (p q : Inked) (now : Stream)
     → Knows old.calls.entries [] → old.count ≡ 0 → p ≡ record { pending = []; written = 0; stopped = false }
     → TellsMessage s (old.count + 1) old.calls.entries bytes refused entries p start q now → IsAlone s bytes refused start q now
 told_alone s bytes old entries refused start p q now knows count is tells =

@@ -13,8 +13,8 @@ use Rattle.x_wire.specs.Limits.{most_auth_bytes}
 use Rattle.x_wire.specs.declared.messages.parts.AcceptStat.{AcceptStat}
 use Rattle.x_wire.specs.declared.messages.parts.AcceptStat.TheVariants as accepts
 use Rattle.x_wire.specs.declared.messages.parts.Reply.TheVariants as replies
-use Rattle.x_wire.specs.declared.messages.parts.Kind.{Kind}
-use Rattle.x_wire.specs.declared.messages.parts.Kind.TheVariants as kinds
+use Rattle.x_wire.specs.declared.messages.parts.MessageKind.{MessageKind}
+use Rattle.x_wire.specs.declared.messages.parts.MessageKind.TheVariants as kinds
 use Rattle.x_wire.specs.Messages.{auth_of, accept_of, results_of, header_of_kind, body_of_kind}
 use Rattle.x_wire.specs.Headers.{Auth, Accept, Success, ProgUnavail, ProgMismatch, ProcUnavail, GarbageArgs, SystemErr, Reject, RpcMismatch, AuthError, Header, Call, Accepted, Denied, HeaderField, Number, State, Length, Body, AreHeaderFields, fields_bytes, header_fields, header_bytes, IsHeader, IsBare, IsMessage}
 use Rattle.x_wire.specs.HeaderFaults.{UnitKind, AnyUnit, StateUnit, LengthUnit, PaddedUnit, fields_units, unit_fault, BeginsHeader, NoFrontIsHeader, IsHeaderFault, trailing, bad_unit, cut_short}
@@ -378,7 +378,7 @@ bare_accept xid verf accepts.ProcUnavail b = refl
 bare_accept xid verf accepts.GarbageArgs b = refl
 bare_accept xid verf accepts.SystemErr b = refl
 
-pub bare_body : (xid : ℕ) (kind : Kind) → IsBare (header_of_kind xid kind) → body_of_kind kind ≡ []
+pub bare_body : (xid : ℕ) (kind : MessageKind) → IsBare (header_of_kind xid kind) → body_of_kind kind ≡ []
 bare_body xid (kinds.Call call) b = absurd b
 bare_body xid (kinds.Reply (replies.Accepted verf stat)) b = bare_accept xid (auth_of verf) stat b
 bare_body xid (kinds.Reply (replies.Denied stat)) b = refl

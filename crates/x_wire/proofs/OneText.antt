@@ -3,7 +3,7 @@ use Rattle.std.proofs.Common.{◌≡◌, ℕ, ◌+◌, List, [], ◌∷◌, ◌+
 use Rattle.std.specs.Prelude.{Option, Some, None}
 use Rattle.x_schema.specs.Schema.{Schema}
 use Rattle.x_schema.specs.declared.schema.TypeId.{TypeId}
-use Rattle.x_value.specs.Dumps.{IsShown, IsEncoding, IsFault}
+use Rattle.x_value.specs.Dumps.{IsShown, IsEncoding, IsReadFault}
 use Rattle.x_value.specs.FaultTexts.{fault_line}
 use Rattle.x_value.specs.Lines.{node_lines}
 use Rattle.x_wire.specs.Calls.{Calls, calls_behind, numbers_called, numbers_heard, procedure_called, arguments_called, results_called, call_of}
@@ -36,12 +36,12 @@ one_body s type bytes t u (shown id nodes e v x) (shown id' nodes' f w y) =
     let w' = subst (λ i. IsShown s i bytes nodes') (sym (same_id id id' type e f)) w in
     x ∙ ap (λ n. plain (node_lines n)) (one_showing s id bytes nodes nodes' v w') ∙ sym y
 one_body s type bytes t u (shown id nodes e v x) (texts.IsBodyText.stuck id' at code f w m y) =
-    absurd (not_both s id bytes at code m (encoded s id bytes nodes v) (subst (λ i. IsFault s i bytes at code) (sym (same_id id id' type e f)) w))
+    absurd (not_both s id bytes at code m (encoded s id bytes nodes v) (subst (λ i. IsReadFault s i bytes at code) (sym (same_id id id' type e f)) w))
 one_body s type bytes t u (texts.IsBodyText.stuck id at code e v m x) (unread f y) = absurd (none_some id type f e)
 one_body s type bytes t u (texts.IsBodyText.stuck id at code e v m x) (shown id' nodes f w y) =
     absurd (not_both s id bytes at code m (encoded s id bytes nodes (subst (λ i. IsShown s i bytes nodes) (sym (same_id id id' type e f)) w)) v)
 one_body s type bytes t u (texts.IsBodyText.stuck id at code e v m x) (texts.IsBodyText.stuck id' at' code' f w n y) =
-    let w' = subst (λ i. IsFault s i bytes at' code') (sym (same_id id id' type e f)) w in
+    let w' = subst (λ i. IsReadFault s i bytes at' code') (sym (same_id id id' type e f)) w in
     let one = one_refusal s id bytes at at' code code' m n v w' in
     x ∙ ap (λ a. refused (fault_line a code ++ raw_line bytes)) one.0 ∙ ap (λ c. refused (fault_line at' c ++ raw_line bytes)) one.1 ∙ sym y
 

@@ -25,7 +25,7 @@ use Rattle.x_wire.specs.MessageTexts.{IsBehindHead, IsBodyText, accept_details, 
 use Rattle.x_wire.specs.Tellers.{IsFound, Knows, TellsHeader, TellsMessage, TellsReply, arg_found, name_found, res_found}
 use Rattle.x_wire.specs.declared.telling.body.Body.{Body}
 use Rattle.x_wire.specs.declared.telling.body.Body.TheVariants.{Unread, Value, Refused}
-use Rattle.x_wire.specs.declared.telling.teller.Heard.{Heard}
+use Rattle.x_wire.specs.declared.telling.teller.CallOfXid.{CallOfXid}
 
 -- ---- the procedure that was called
 
@@ -75,7 +75,7 @@ flip : (a b : ℕ) → nat_eq a b ≡ nat_eq b a
 flip a b = flip_by a b (nat_eq a b) (nat_eq b a) refl refl
 
 -- a map that a call was put into knows it
-pub knows_call : (old new : List (ℕ × Heard)) (xid : ℕ) (heard : Heard) (calls : Calls)
+pub knows_call : (old new : List (ℕ × CallOfXid)) (xid : ℕ) (heard : CallOfXid) (calls : Calls)
     → ((q : ℕ) → lookup (nat_eq q) new ≡ cond (nat_eq xid q) (Some heard) (lookup (nat_eq q) old))
     → Knows old calls → Knows new ((xid, heard) ∷ calls)
 knows_call old new xid heard calls updates knows q =
@@ -83,7 +83,7 @@ knows_call old new xid heard calls updates knows q =
 
 -- the lines of a call and of its arguments, and the map that it was put into
 pub tells_call : (s : Schema) (number xid rpcvers prog vers proc : ℕ) (cred verf : Auth) (body : List ℕ) (numbers : Option ProcedureNumbers)
-    (found : Option Procedure) (b : Body) (name : List ℕ) (old new : List (ℕ × Heard)) (refused : Bool) (p q r : Inked) (start mid end : Stream)
+    (found : Option Procedure) (b : Body) (name : List ℕ) (old new : List (ℕ × CallOfXid)) (refused : Bool) (p q r : Inked) (start mid end : Stream)
     → numbers ≡ numbers_called rpcvers prog vers proc → IsFound s numbers found → IsReadAs s (arg_found found) body b
     → ((x : ℕ) → lookup (nat_eq x) new ≡ cond (nat_eq xid x) (Some (record { number = number; procedure = numbers })) (lookup (nat_eq x) old))
     → name ≡ name_found found
@@ -109,14 +109,14 @@ tells_call s number xid rpcvers prog vers proc cred verf body numbers found b na
 
 -- ---- replies
 
-reply_is : (s : Schema) (number xid : ℕ) (state : List ℕ) (heard : Option Heard) (found : Option Procedure) (name : List ℕ) (calls : Calls)
+reply_is : (s : Schema) (number xid : ℕ) (state : List ℕ) (heard : Option CallOfXid) (found : Option Procedure) (name : List ℕ) (calls : Calls)
     → IsFound s (numbers_heard heard) found → name ≡ name_found found → call_of calls xid ≡ heard
     → reply_line number xid state heard name ≡ reply_text s number xid state (call_of calls xid)
 reply_is s number xid state heard found name calls is_found named is =
     ap (λ n. reply_line number xid state heard n) (named ∙ name_is s (numbers_heard heard) found is_found) ∙ ap (λ h. reply_text s number xid state h) (sym is)
 
 -- a reply that was denied
-pub tells_denied : (s : Schema) (number xid : ℕ) (heard : Option Heard) (found : Option Procedure) (name : List ℕ) (reject : Reject) (p q : Inked) (start end : Stream)
+pub tells_denied : (s : Schema) (number xid : ℕ) (heard : Option CallOfXid) (found : Option Procedure) (name : List ℕ) (reject : Reject) (p q : Inked) (start end : Stream)
     → IsFound s (numbers_heard heard) found → name ≡ name_found found
     → Adds p start q end (reply_line number xid (codes "denied " ++ reject_name reject) heard name ++ reject_details reject)
     → TellsReply s number xid heard (Denied xid reject) [] false p start q end
@@ -130,7 +130,7 @@ tells_denied s number xid heard found name reject p q start end is_found named a
       },
     )
 
-accepted_is : (s : Schema) (number xid : ℕ) (heard : Option Heard) (found : Option Procedure) (name : List ℕ) (verf : Auth) (accept : Accept) (calls : Calls)
+accepted_is : (s : Schema) (number xid : ℕ) (heard : Option CallOfXid) (found : Option Procedure) (name : List ℕ) (verf : Auth) (accept : Accept) (calls : Calls)
     → IsFound s (numbers_heard heard) found → name ≡ name_found found → call_of calls xid ≡ heard
     → reply_line number xid (codes "accepted " ++ accept_name accept) heard name ++ auth_line (codes "verf") verf ++ accept_details accept
     ≡ head_text s number calls (Accepted xid verf accept)
@@ -139,7 +139,7 @@ accepted_is s number xid heard found name verf accept calls is_found named is =
     (reply_is s number xid (codes "accepted " ++ accept_name accept) heard found name calls is_found named is)
 
 -- a reply that was accepted and is no success
-pub tells_bare : (s : Schema) (number xid : ℕ) (heard : Option Heard) (found : Option Procedure) (name : List ℕ) (verf : Auth) (accept : Accept) (body : List ℕ)
+pub tells_bare : (s : Schema) (number xid : ℕ) (heard : Option CallOfXid) (found : Option Procedure) (name : List ℕ) (verf : Auth) (accept : Accept) (body : List ℕ)
     (p q : Inked) (start end : Stream)
     → IsFound s (numbers_heard heard) found → name ≡ name_found found
     → ((calls : Calls) → IsBehindHead s calls (Accepted xid verf accept) body (plain []))
@@ -166,7 +166,7 @@ bare_behind s calls xid verf accepts.GarbageArgs other = refl
 bare_behind s calls xid verf accepts.SystemErr other = refl
 
 -- a success with its results
-pub tells_success : (s : Schema) (number xid : ℕ) (heard : Option Heard) (found : Option Procedure) (name : List ℕ) (verf : Auth) (body : List ℕ) (b : Body)
+pub tells_success : (s : Schema) (number xid : ℕ) (heard : Option CallOfXid) (found : Option Procedure) (name : List ℕ) (verf : Auth) (body : List ℕ) (b : Body)
     (refused : Bool) (p q r : Inked) (start mid end : Stream)
     → IsFound s (numbers_heard heard) found → name ≡ name_found found → IsReadAs s (res_found found) body b
     → Adds p start q mid (reply_line number xid (codes "accepted " ++ accept_name Success) heard name ++ auth_line (codes "verf") verf ++ accept_details Success)
@@ -187,7 +187,7 @@ tells_success s number xid heard found name verf body b refused p q r start mid 
 -- ---- messages
 
 -- a reply, as a message behind the calls that a map knows
-pub tells_reply : (s : Schema) (number xid : ℕ) (entries : List (ℕ × Heard)) (heard : Option Heard) (reply : Reply) (result : Result Bool NoMemory)
+pub tells_reply : (s : Schema) (number xid : ℕ) (entries : List (ℕ × CallOfXid)) (heard : Option CallOfXid) (reply : Reply) (result : Result Bool NoMemory)
     (p q : Inked) (start end : Stream)
     → heard ≡ lookup (nat_eq xid) entries
     → IfOk result (λ refused. TellsReply s number xid heard (header_of_reply xid reply) (body_of_reply reply) refused p start q end)
@@ -199,7 +199,7 @@ tells_reply s number xid entries heard (replies.Denied stat) (Ok refused) p q st
 tells_reply s number xid entries heard reply (Err e) p q start end found told = tt
 
 -- a message whose header is read
-pub tells_read : (s : Schema) (number : ℕ) (old new : List (ℕ × Heard)) (bytes body : List ℕ) (h : Header) (result : Result Bool NoMemory)
+pub tells_read : (s : Schema) (number : ℕ) (old new : List (ℕ × CallOfXid)) (bytes body : List ℕ) (h : Header) (result : Result Bool NoMemory)
     (p q : Inked) (start end : Stream)
     → IsMessage bytes h body → IfOk result (λ refused. TellsHeader s number old h body refused new p start q end)
     → IfOk result (λ refused. TellsMessage s number old bytes refused new p start q end)
@@ -214,7 +214,7 @@ tells_read s number old new bytes body h (Ok refused) p q start end is told = λ
 tells_read s number old new bytes body h (Err e) p q start end is told = tt
 
 -- a message whose header is refused
-pub tells_refused : (s : Schema) (number : ℕ) (entries : List (ℕ × Heard)) (bytes : List ℕ) (at : ℕ) (code : ReadCode) (p q : Inked) (start end : Stream)
+pub tells_refused : (s : Schema) (number : ℕ) (entries : List (ℕ × CallOfXid)) (bytes : List ℕ) (at : ℕ) (code : ReadCode) (p q : Inked) (start end : Stream)
     → IsHeaderFault bytes at code → Adds p start q end (bad_header_line number at code ++ raw_line bytes)
     → TellsMessage s number entries bytes true entries p start q end
 tells_refused s number entries bytes at code p q start end is added calls knows = (

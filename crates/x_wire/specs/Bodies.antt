@@ -2,7 +2,7 @@
 use Rattle.std.specs.Prelude.{◌≡◌, ℕ, List, ◌++◌, Option, Some, None}
 use Rattle.x_schema.specs.Schema.{Schema}
 use Rattle.x_schema.specs.declared.schema.TypeId.{TypeId}
-use Rattle.x_value.specs.Dumps.{IsFault, IsShown}
+use Rattle.x_value.specs.Dumps.{IsReadFault, IsShown}
 use Rattle.x_value.specs.FaultTexts.{fault_line}
 use Rattle.x_value.specs.Lines.{node_lines}
 use Rattle.x_value.specs.declared.fault.ReadCode.TheVariants.{NoMemory}
@@ -15,7 +15,7 @@ abbrev pub IsReadAs : Schema → Option TypeId → List ℕ → Body → Type 0
 IsReadAs s type bytes Unread = type ≡ None
 IsReadAs s type bytes (Value dump) = (id : TypeId) × (type ≡ Some id) × IsShown s id bytes dump
 IsReadAs s type bytes (Refused fault) =
-    (id : TypeId) × (type ≡ Some id) × IsFault s id bytes fault.at fault.code × (fault.code ≡ NoMemory → ⊥)
+    (id : TypeId) × (type ≡ Some id) × IsReadFault s id bytes fault.at fault.code × (fault.code ≡ NoMemory → ⊥)
 
 -- and printed so
 abbrev pub told_of : Body → List ℕ → Told

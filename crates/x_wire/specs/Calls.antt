@@ -4,17 +4,17 @@ use Rattle.std.specs.Prelude.{if◌then◌else◌, codes}
 use Rattle.std.specs.Map.{lookup}
 use Rattle.x_schema.specs.Schema.{Schema, arguments_id, name_at, procedure_at, results_id}
 use Rattle.x_schema.specs.declared.schema.TypeId.{TypeId}
-use Rattle.x_schema.specs.declared.procedure.KeptProcedure.{KeptProcedure}
+use Rattle.x_schema.specs.declared.procedure.CompactProcedure.{CompactProcedure}
 use Rattle.x_schema.specs.declared.procedure.ProcedureNumbers.{ProcedureNumbers}
 use Rattle.x_wire.specs.Headers.{Header, Call, Accepted, Denied}
-use Rattle.x_wire.specs.declared.telling.teller.Heard.{Heard}
+use Rattle.x_wire.specs.declared.telling.teller.CallOfXid.{CallOfXid}
 
 -- The calls so far by their xids, the last one first.
 abbrev pub Calls : Type 0
-Calls = List (ℕ × Heard)
+Calls = List (ℕ × CallOfXid)
 
 -- a reply belongs to the last earlier call with its xid
-abbrev pub call_of : Calls → ℕ → Option Heard
+abbrev pub call_of : Calls → ℕ → Option CallOfXid
 call_of calls xid = lookup (nat_eq xid) calls
 
 -- the procedure that a call names; what stands in a call of another version of the protocol (RFC 5531,
@@ -32,19 +32,19 @@ calls_behind number calls (Denied xid reject) = calls
 
 -- ---- the procedure that was called
 
-abbrev pub procedure_called : Schema → Option ProcedureNumbers → Option KeptProcedure
+abbrev pub procedure_called : Schema → Option ProcedureNumbers → Option CompactProcedure
 procedure_called s numbers = option_and_then (procedure_at s) numbers
 
-abbrev pub numbers_heard : Option Heard → Option ProcedureNumbers
+abbrev pub numbers_heard : Option CallOfXid → Option ProcedureNumbers
 numbers_heard heard = option_and_then (λ h. h.procedure) heard
 
 -- its name, or `?`
-abbrev pub name_called : Schema → Option KeptProcedure → List ℕ
+abbrev pub name_called : Schema → Option CompactProcedure → List ℕ
 name_called s None = codes "?"
 name_called s (Some kept) = name_at s kept.name
 
-abbrev pub arguments_called : Option KeptProcedure → Option TypeId
+abbrev pub arguments_called : Option CompactProcedure → Option TypeId
 arguments_called procedure = option_map arguments_id procedure
 
-abbrev pub results_called : Option KeptProcedure → Option TypeId
+abbrev pub results_called : Option CompactProcedure → Option TypeId
 results_called procedure = option_map results_id procedure

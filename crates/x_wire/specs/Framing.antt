@@ -60,6 +60,6 @@ StaysRefused old result = MatchOption (fault_at old.phase) (Unit {0})
     (λ at. result ≡ Err (record { at = at; code = RecordTooLong }))
 
 -- The bytes taken so far are this stream: these are its records, and this is what it leaves.
-pub record IsRead (stream : List ℕ) (given : List (List ℕ)) (kept : Left) : Type 0 where
+pub record IsStreamSoFar (stream : List ℕ) (given : List (List ℕ)) (kept : Left) : Type 0 where
   pub left_is : left stream ≡ kept
   pub records_are : records stream ≡ given

@@ -3,7 +3,7 @@ use Rattle.std.specs.Prelude.{◌≡◌, ℕ, Bool, true, false, ◌||◌, List,
 use Rattle.std.specs.Fmt.{decimal}
 use Rattle.x_schema.specs.Schema.{Schema}
 use Rattle.x_schema.specs.declared.schema.TypeId.{TypeId}
-use Rattle.x_value.specs.Dumps.{IsFault, IsShown}
+use Rattle.x_value.specs.Dumps.{IsReadFault, IsShown}
 use Rattle.x_value.specs.FaultTexts.{fault_line}
 use Rattle.x_value.specs.Lines.{hex_text, node_lines}
 use Rattle.x_value.specs.Shown.{Node}
@@ -15,7 +15,7 @@ use Rattle.x_wire.specs.HeaderFaults.{IsHeaderFault}
 use Rattle.x_wire.specs.Headers.{Auth, Accept, Success, ProgUnavail, ProgMismatch, ProcUnavail, GarbageArgs}
 use Rattle.x_wire.specs.Headers.{SystemErr, Reject, RpcMismatch, AuthError, Header, Call, Accepted, Denied}
 use Rattle.x_wire.specs.Headers.{IsMessage}
-use Rattle.x_wire.specs.declared.telling.teller.Heard.{Heard}
+use Rattle.x_wire.specs.declared.telling.teller.CallOfXid.{CallOfXid}
 
 -- Lines, and whether a fault is among them.
 pub record Told : Type 0 where
@@ -44,7 +44,7 @@ pub data IsBodyText (s : Schema) (type : Option TypeId) (bytes : List ℕ) (t : 
   shown : (id : TypeId) (nodes : List Node) → type ≡ Some id → IsShown s id bytes nodes
       → t ≡ plain (node_lines nodes)
       → IsBodyText s type bytes t
-  stuck : (id : TypeId) (at : ℕ) (code : ReadCode) → type ≡ Some id → IsFault s id bytes at code
+  stuck : (id : TypeId) (at : ℕ) (code : ReadCode) → type ≡ Some id → IsReadFault s id bytes at code
       → (code ≡ NoMemory → ⊥)
       → t ≡ refused (fault_line at code ++ raw_line bytes) → IsBodyText s type bytes t
 
@@ -63,12 +63,12 @@ call_line number xid rpcvers prog vers proc name =
     ++ (codes " " ++ name ++ codes "\n")
 
 -- the number of the call
-abbrev pub call_number : Option Heard → List ℕ
+abbrev pub call_number : Option CallOfXid → List ℕ
 call_number None = codes "none"
 call_number (Some heard) = decimal heard.number
 
 -- `# K reply xid=X STATE call=J NAME`
-abbrev pub reply_line : (number xid : ℕ) → (state : List ℕ) → Option Heard → (name : List ℕ) → List ℕ
+abbrev pub reply_line : (number xid : ℕ) → (state : List ℕ) → Option CallOfXid → (name : List ℕ) → List ℕ
 reply_line number xid state heard name =
     (codes "# " ++ decimal number ++ codes " reply xid=" ++ decimal xid)
     ++ (codes " " ++ state ++ codes " call=" ++ call_number heard)
@@ -101,7 +101,7 @@ reject_details (RpcMismatch low high) = bounds_line low high
 reject_details (AuthError stat) = codes "auth_stat " ++ decimal stat ++ codes "\n"
 
 -- the lines of a reply that belongs to this call, if to any
-abbrev pub reply_text : Schema → (number xid : ℕ) → (state : List ℕ) → Option Heard → List ℕ
+abbrev pub reply_text : Schema → (number xid : ℕ) → (state : List ℕ) → Option CallOfXid → List ℕ
 reply_text s number xid state heard =
     reply_line number xid state heard (name_called s (procedure_called s (numbers_heard heard)))
 

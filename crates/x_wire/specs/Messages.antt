@@ -7,8 +7,8 @@ use Rattle.x_wire.specs.declared.messages.parts.RejectStat.{RejectStat}
 use Rattle.x_wire.specs.declared.messages.parts.RejectStat.TheVariants as rejects
 use Rattle.x_wire.specs.declared.messages.parts.Reply.{Reply}
 use Rattle.x_wire.specs.declared.messages.parts.Reply.TheVariants as replies
-use Rattle.x_wire.specs.declared.messages.parts.Kind.{Kind}
-use Rattle.x_wire.specs.declared.messages.parts.Kind.TheVariants as kinds
+use Rattle.x_wire.specs.declared.messages.parts.MessageKind.{MessageKind}
+use Rattle.x_wire.specs.declared.messages.parts.MessageKind.TheVariants as kinds
 use Rattle.x_wire.specs.declared.messages.parts.Message.{Message}
 use Rattle.x_wire.specs.Headers.{Auth, Accept, Success, ProgUnavail, ProgMismatch, ProcUnavail, GarbageArgs}
 use Rattle.x_wire.specs.Headers.{SystemErr, Reject, RpcMismatch, AuthError, Header, Call, Accepted, Denied}
@@ -32,7 +32,7 @@ abbrev pub header_of_reply : ℕ → Reply → Header
 header_of_reply xid (replies.Accepted verf stat) = Accepted xid (auth_of verf) (accept_of stat)
 header_of_reply xid (replies.Denied stat) = Denied xid (reject_of stat)
 
-abbrev pub header_of_kind : ℕ → Kind → Header
+abbrev pub header_of_kind : ℕ → MessageKind → Header
 header_of_kind xid (kinds.Call c) = Call xid c.rpcvers c.prog c.vers c.proc (auth_of c.cred) (auth_of c.verf)
 header_of_kind xid (kinds.Reply reply) = header_of_reply xid reply
 
@@ -48,7 +48,7 @@ abbrev pub body_of_reply : Reply → List ℕ
 body_of_reply (replies.Accepted verf stat) = results_of stat
 body_of_reply (replies.Denied stat) = []
 
-abbrev pub body_of_kind : Kind → List ℕ
+abbrev pub body_of_kind : MessageKind → List ℕ
 body_of_kind (kinds.Call c) = c.body.now
 body_of_kind (kinds.Reply reply) = body_of_reply reply
 

@@ -4,20 +4,20 @@ use Rattle.std.specs.Map.{lookup}
 use Rattle.x_text.specs.Streams.{Stream}
 use Rattle.x_text.specs.Writing.{Inked, Adds}
 use Rattle.x_schema.specs.Schema.{Schema, IsTypeId, arguments_id, name_at, results_id}
-use Rattle.x_schema.specs.declared.procedure.KeptProcedure.{KeptProcedure}
+use Rattle.x_schema.specs.declared.procedure.CompactProcedure.{CompactProcedure}
 use Rattle.x_schema.specs.declared.procedure.Procedure.{Procedure}
 use Rattle.x_schema.specs.declared.procedure.ProcedureNumbers.{ProcedureNumbers}
 use Rattle.x_schema.specs.declared.schema.TypeId.{TypeId}
 use Rattle.x_wire.specs.Calls.{Calls, call_of, calls_behind, procedure_called}
 use Rattle.x_wire.specs.Headers.{Header}
 use Rattle.x_wire.specs.MessageTexts.{Told, plain, then_told, head_text, IsBehindHead, IsMessageText}
-use Rattle.x_wire.specs.declared.telling.teller.Heard.{Heard}
+use Rattle.x_wire.specs.declared.telling.teller.CallOfXid.{CallOfXid}
 
 -- ---- procedures
 
 -- a procedure of the schema as it is shown
-pub record IsShownAs (s : Schema) (procedure : Option KeptProcedure) (p : Procedure) : Type 0 where
-  pub kept : KeptProcedure
+pub record IsShownAs (s : Schema) (procedure : Option CompactProcedure) (p : Procedure) : Type 0 where
+  pub kept : CompactProcedure
   pub is_kept : procedure ≡ Some kept
   pub name_is : p.name.now ≡ name_at s kept.name
   pub arg_is : p.arg ≡ arguments_id kept
@@ -43,7 +43,7 @@ res_found found = option_map (λ p. p.res) found
 -- ---- messages
 
 -- of each xid the entries have the last of these calls
-abbrev pub Knows : List (ℕ × Heard) → Calls → Type 0
+abbrev pub Knows : List (ℕ × CallOfXid) → Calls → Type 0
 Knows entries calls = (xid : ℕ) → lookup (nat_eq xid) entries ≡ call_of calls xid
 
 -- lines were added, and it was answered whether a fault is among them
@@ -54,7 +54,7 @@ pub record IsAdded (t : Told) (refused : Bool) (p : Inked) (now : Stream) (q : I
 
 -- Behind any calls that the entries know, the text of the message of this number was added, and the entries
 -- know the calls behind it.
-abbrev pub TellsMessage : Schema → ℕ → List (ℕ × Heard) → List ℕ → Bool → List (ℕ × Heard)
+abbrev pub TellsMessage : Schema → ℕ → List (ℕ × CallOfXid) → List ℕ → Bool → List (ℕ × CallOfXid)
     → Inked → Stream → Inked → Stream → Type 0
 TellsMessage s number old bytes refused new p now q now' =
     (calls : Calls) → Knows old calls
@@ -62,7 +62,7 @@ TellsMessage s number old bytes refused new p now q now' =
     × IsAdded t refused p now q now'
 
 -- the same of a message that is this header and this body
-abbrev pub TellsHeader : Schema → ℕ → List (ℕ × Heard) → Header → List ℕ → Bool → List (ℕ × Heard)
+abbrev pub TellsHeader : Schema → ℕ → List (ℕ × CallOfXid) → Header → List ℕ → Bool → List (ℕ × CallOfXid)
     → Inked → Stream → Inked → Stream → Type 0
 TellsHeader s number old h body refused new p now q now' =
     (calls : Calls) → Knows old calls
@@ -70,7 +70,7 @@ TellsHeader s number old h body refused new p now q now' =
     × IsAdded (then_told (plain (head_text s number calls h)) behind) refused p now q now'
 
 -- the same of a reply, whose xid was last that of this call
-abbrev pub TellsReply : Schema → ℕ → ℕ → Option Heard → Header → List ℕ → Bool → Inked → Stream → Inked
+abbrev pub TellsReply : Schema → ℕ → ℕ → Option CallOfXid → Header → List ℕ → Bool → Inked → Stream → Inked
     → Stream → Type 0
 TellsReply s number xid heard h body refused p now q now' =
     (calls : Calls) → call_of calls xid ≡ heard → (behind : Told) × IsBehindHead s calls h body behind

@@ -8,7 +8,7 @@ mod records;
 mod telling;
 
 pub use messages::{
-    AcceptStat, Auth, Call, Kind, MOST_AUTH_BYTES, Message, RejectStat, Reply, message, one_answer,
+    AcceptStat, Auth, Call, MessageKind, MOST_AUTH_BYTES, Message, RejectStat, Reply, message, one_answer,
     one_fault, one_message,
 };
 pub use nfs2::NFS2_X;

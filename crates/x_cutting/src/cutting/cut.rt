@@ -6,7 +6,7 @@ ghost use Rattle.x_cutting.specs.Items.{IsCut};
 ghost use Rattle.x_cutting.specs.ItemList.{counts};
 
 use super::cutter::Cutter;
-use super::{Entry, Items};
+use super::{ItemEntry, Items};
 use std::alloc::Global;
 use x_lex::Tokens;
 use x_text::{NoMemory, Source};
@@ -29,10 +29,10 @@ pub fn cut<K: Default + Drop>(
     for token in tokens.iter(source) {
         count += 1;
         if cutter.ends(token.kind, token.text) {
-            entries.push(Entry::new(count))?;
+            entries.push(ItemEntry::new(count))?;
             count = 0;
         }
     }
-    entries.push(Entry::new(count))?;
+    entries.push(ItemEntry::new(count))?;
     Items::from_entries(alloc, entries)
 }

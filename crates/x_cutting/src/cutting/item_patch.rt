@@ -3,14 +3,14 @@ ghost use Rattle.std.specs.Prelude.{◌≡◌, ◌<◌, ◌↔◌, [], Some, IsT
 ghost use Rattle.std.specs.Prelude.{option_copied, slice_get, slice_set};
 ghost use Rattle.x_cutting.specs.ItemList.{counts, kept};
 
-use super::Entry;
+use super::ItemEntry;
 use std::marker::Model;
 use x_text::SeqPatch;
 
 /// Fresh items that take the place of some old ones, as [`crate::recut`] finds them.
 #[derive(Debug, Drop)]
 pub struct ItemPatch<K> {
-    entries: SeqPatch<Entry<K>>,
+    entries: SeqPatch<ItemEntry<K>>,
 }
 
 impl<K> Model for ItemPatch<K> {
@@ -24,7 +24,7 @@ impl<K> Model for ItemPatch<K> {
 impl<K> ItemPatch<K> {
     /// The fresh items of these entries, the first of which starts at the token `start`, in place of
     /// `removed` old ones from index `at` on.
-    pub(crate) fn new(at: usize, removed: usize, start: usize, fresh: Vec<Entry<K>>) -> ItemPatch<K>
+    pub(crate) fn new(at: usize, removed: usize, start: usize, fresh: Vec<ItemEntry<K>>) -> ItemPatch<K>
         ensures { result ≡ record { at = at; removed = removed; start = start; fresh = fresh.items } }
     {
         ItemPatch {
@@ -69,7 +69,7 @@ impl<K> ItemPatch<K> {
     }
 
     /// The fresh item at `index`, counted from the first of them.
-    pub fn get(&self, index: usize) -> Option<&Entry<K>>
+    pub fn get(&self, index: usize) -> Option<&ItemEntry<K>>
         ensures { option_copied result ≡ slice_get self.now.fresh index }
     {
         self.entries.get(index)
@@ -84,19 +84,19 @@ impl<K> ItemPatch<K> {
         ensures kept { kept self.new.fresh ≡ slice_set (kept self.old.fresh) index new }
         ensures others { self.new ≡ record self.old { fresh = self.new.fresh } }
     {
-        let entry = Entry::in_place_of(self.entries.get(index), new);
+        let entry = ItemEntry::in_place_of(self.entries.get(index), new);
         self.entries.exchange(index, entry).kept
     }
 
     /// The entries of the fresh items, and what they take the place of, as they are kept.
-    pub(crate) fn entries(&self) -> &SeqPatch<Entry<K>>
+    pub(crate) fn entries(&self) -> &SeqPatch<ItemEntry<K>>
         ensures { result.now ≡ self.now }
     {
         &self.entries
     }
 
     /// The entries of the fresh items, and what they take the place of.
-    pub(crate) fn into_entries(self) -> SeqPatch<Entry<K>>
+    pub(crate) fn into_entries(self) -> SeqPatch<ItemEntry<K>>
         ensures { result ≡ self }
     {
         self.entries

@@ -1,12 +1,12 @@
 //! The items of a text as one value.
 ghost use Rattle.std.specs.Prelude.{◌≡◌, ◌+◌, ◌<◌, ◌≤◌, ◌↔◌, ℕ, Some, IfOk, OnOk, OnErr, length};
 ghost use Rattle.std.specs.Prelude.{option_copied, slice_get, slice_set};
-ghost use Rattle.x_text.specs.declared.source.TheConstants.{MAX_TEXT};
+ghost use Rattle.x_text.specs.declared.text.source.TheConstants.{MAX_TEXT};
 ghost use Rattle.x_text.specs.Seqs.{distance};
 ghost use Rattle.x_cutting.specs.ItemList.{counts, kept, total, tokens_before, patched, LiesAmong, HasRoom};
 ghost use Rattle.x_cutting.specs.ItemList.{AreOfText};
 
-use super::{Entry, ItemPatch};
+use super::{ItemEntry, ItemPatch};
 use std::alloc::Global;
 use std::marker::Model;
 use x_text::{GapIter, MeasuredSeq, NoMemory, PatchedIter};
@@ -17,15 +17,15 @@ use x_text::{GapIter, MeasuredSeq, NoMemory, PatchedIter};
 /// however long the text is.
 #[derive(Debug, Drop)]
 pub struct Items<K> {
-    entries: MeasuredSeq<Entry<K>>,
+    entries: MeasuredSeq<ItemEntry<K>>,
 }
 
 impl<K> Model for Items<K> {
     ghost use Rattle.x_text.specs.Seqs.{Gapped};
-    ghost use Rattle.x_cutting.specs.declared.cutting.entry.Entry.{Entry};
+    ghost use Rattle.x_cutting.specs.declared.cutting.item_entry.ItemEntry.{ItemEntry};
     ghost use Rattle.x_cutting.specs.ItemList.{counts, AreOfText};
 
-    ghost Value = { Gapped (Entry K) };
+    ghost Value = { Gapped (ItemEntry K) };
 
     ghost view = { λ items. items.entries };
 
@@ -36,7 +36,7 @@ impl<K> Model for Items<K> {
 impl<K: Drop> Items<K> {
     /// The items with these entries, with the seat behind the last of them. [`NoMemory`] where memory ran
     /// out.
-    pub fn from_entries(alloc: Global, entries: Vec<Entry<K>>) -> Result<Items<K>, NoMemory>
+    pub fn from_entries(alloc: Global, entries: Vec<ItemEntry<K>>) -> Result<Items<K>, NoMemory>
         requires of_text { AreOfText (counts entries.items) }
         ensures list { IfOk result (λ items. items.list ≡ entries.items) }
         ensures seat { IfOk result (λ items. items.seat ≡ length entries.items) }
@@ -56,14 +56,14 @@ impl<K: Drop> Items<K> {
     }
 
     /// The item at `index`.
-    pub fn get(&self, index: usize) -> Option<&Entry<K>>
+    pub fn get(&self, index: usize) -> Option<&ItemEntry<K>>
         ensures { option_copied result ≡ slice_get self.now.list index }
     {
         self.entries.get(index)
     }
 
     /// Goes over the items.
-    pub fn iter(&self) -> GapIter<'_, Entry<K>>
+    pub fn iter(&self) -> GapIter<'_, ItemEntry<K>>
         ensures list { result ≡ self.now.list }
         ensures small { length result ≤ MAX_TEXT + 1 }
     {
@@ -71,7 +71,7 @@ impl<K: Drop> Items<K> {
     }
 
     /// Goes over the items that the patch will leave.
-    pub fn iter_patched<'a>(&'a self, patch: &'a ItemPatch<K>) -> PatchedIter<'a, Entry<K>>
+    pub fn iter_patched<'a>(&'a self, patch: &'a ItemPatch<K>) -> PatchedIter<'a, ItemEntry<K>>
         requires { LiesAmong self.now.list patch.now }
         ensures { result ≡ patched self.now.list patch.now }
     {
@@ -124,7 +124,7 @@ impl<K: Drop> Items<K> {
         ensures moved { result.1 ≡ distance self.old.seat index (index + 1) }
         ensures room { self.old.spare ≤ self.new.spare }
     {
-        let entry = Entry::in_place_of(self.entries.get(index), new);
+        let entry = ItemEntry::in_place_of(self.entries.get(index), new);
         let (out, moved) = self.entries.exchange(index, entry);
         (out.kept, moved)
     }

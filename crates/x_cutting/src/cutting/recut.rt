@@ -1,7 +1,7 @@
 //! What an edit does to the items of a text.
 ghost use Rattle.std.specs.Prelude.{◌≡◌, ◌+◌, ◌-◌, ◌<◌, ◌≤◌, ◌∷◌, ◌↔◌, [], All, IfOk, cond, length, drop};
 ghost use Rattle.std.specs.Prelude.{slice_get};
-ghost use Rattle.x_text.specs.declared.source.TheConstants.{MAX_TEXT};
+ghost use Rattle.x_text.specs.declared.text.source.TheConstants.{MAX_TEXT};
 ghost use Rattle.x_text.specs.Edits.{Change};
 ghost use Rattle.x_lex.specs.Tiling.{AreTokens, end_of};
 ghost use Rattle.x_lex.specs.TokenList.{patched, LiesAmong, IsOfText};
@@ -11,7 +11,7 @@ ghost use Rattle.x_cutting.specs.Cutting.{roles, counts_from};
 ghost use Rattle.x_cutting.specs.Recut.{IsRelexed, AreRelexed, IsItemPatch};
 
 use super::cutter::Cutter;
-use super::{Entry, ItemPatch, Items};
+use super::{ItemEntry, ItemPatch, Items};
 use std::alloc::Global;
 use x_lex::{Kind, Patch, Tokens};
 use x_text::{NoMemory, Source};
@@ -59,7 +59,7 @@ pub fn recut<K: Default + Drop>(
             }
         }
         let (count, end, whole) = item_from(tokens, patch, text, index, place);
-        fresh.push(Entry::new(count))?;
+        fresh.push(ItemEntry::new(count))?;
         if !whole {
             return Ok(ItemPatch::new(kept, items.len() - kept, start, fresh));
         }

@@ -6,11 +6,11 @@ ghost use Rattle.x_trees.specs.View.{view_value};
 ghost use Rattle.x_trees.specs.Gloss.{spell_value};
 ghost use Rattle.x_trees.specs.Spell.{spell_cases, HasOne};
 ghost use Rattle.x_item.specs.Symbols.{Token as OfMark, AnyValue, Declared, AfterCase};
-ghost use Rattle.x_item.specs.Reading.{IsRead, Fails};
+ghost use Rattle.x_item.specs.Reading.{ReadsPart, Fails};
 
 use super::ParseError;
 use super::ending::Ending;
-use super::words::{after, expect, value};
+use super::words::{strip_mark, expect, value};
 use std::alloc::Global;
 use x_lex::{Mark, Token};
 use x_trees::{Value, fitted};
@@ -20,7 +20,7 @@ pub fn cases<'w, 't>(
     alloc: Global,
     tokens: &'w [Token<'t>],
 ) -> Result<(Vec<Value>, &'w [Token<'t>]), ParseError>
-    ensures read { IfOk result (λ x. (n : ℕ) → IsRead (Fixed Mark.Case ∷ [])
+    ensures read { IfOk result (λ x. (n : ℕ) → ReadsPart (Fixed Mark.Case ∷ [])
         (AnyValue ∷ OfMark Mark.Colon ∷ AfterCase n ∷ []) tokens.now
         (spell_cases (map view_value x.0.items)) (Declared n Ending.Semicolon ∷ []) x.1.now) }
     ensures some { IfOk result (λ x. HasOne (map view_value x.0.items)) }
@@ -30,7 +30,7 @@ pub fn cases<'w, 't>(
     let (first_case, mut left) = case(alloc, tokens)?;
     let mut cases = Vec::new(alloc);
     cases.push(first_case)?;
-    while let Some(rest) = after(Mark::Case, left) {
+    while let Some(rest) = strip_mark(Mark::Case, left) {
         let (next, rest) = case(alloc, rest)?;
         cases.push(next)?;
         left = rest;
@@ -43,7 +43,7 @@ fn case<'w, 't>(
     alloc: Global,
     tokens: &'w [Token<'t>],
 ) -> Result<(Value, &'w [Token<'t>]), ParseError>
-    ensures read { IfOk result (λ x. IsRead [] (AnyValue ∷ OfMark Mark.Colon ∷ []) tokens.now
+    ensures read { IfOk result (λ x. ReadsPart [] (AnyValue ∷ OfMark Mark.Colon ∷ []) tokens.now
         (spell_value (view_value x.0) ∷ Fixed Mark.Colon ∷ []) [] x.1.now) }
     ensures stuck { IfErr result (λ e. Fails (AnyValue ∷ OfMark Mark.Colon ∷ []) tokens.now e) }
 {

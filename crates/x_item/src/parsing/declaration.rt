@@ -13,14 +13,14 @@ ghost use Rattle.x_trees.specs.Spell.{BodyFits, DeclarationFits, ArmsFit, Defaul
 ghost use Rattle.x_item.specs.Symbols.{Context, InDeclaration, Token as OfMark, AnyName, AnyValue, AnyLength};
 ghost use Rattle.x_item.specs.Symbols.{AfterLess, Typed, AfterType, AfterTag, AnyBody, Declared};
 ghost use Rattle.x_item.specs.Symbols.{Arms, AfterCase, ending_mark, AfterUnsigned};
-ghost use Rattle.x_item.specs.Reading.{IsRead, IsPart, Fails, spell_ended, spell_arm, HasFirst};
+ghost use Rattle.x_item.specs.Reading.{ReadsPart, IsPart, Fails, spell_ended, spell_arm, HasFirst};
 
 use super::ParseError;
 use super::cases::cases;
-use super::declarator::{array_length, most, named};
+use super::declarator::{array_length, greatest_length, named};
 use super::ending::Ending;
 use super::enumerators::enumerators;
-use super::words::{Word, after, closed, expect, first, name, stuck_at};
+use super::words::{Word, strip_mark, terminated, expect, first, name, stuck_at};
 use std::alloc::Global;
 use x_lex::{Mark, Token};
 use x_trees::{
@@ -34,7 +34,7 @@ pub fn data_type<'w, 't>(
     depth: u32,
     tokens: &'w [Token<'t>],
 ) -> Result<(DataType, &'w [Token<'t>]), ParseError>
-    ensures read { IfOk result (λ x. (c : Context) → IsRead [] (Typed depth c ∷ []) tokens.now
+    ensures read { IfOk result (λ x. (c : Context) → ReadsPart [] (Typed depth c ∷ []) tokens.now
         (spell_type (view_type x.0)) (AfterType c ∷ []) x.1.now) }
     ensures fits { IfOk result (λ x. TypeFits (view_type x.0) depth) }
     ensures stuck { IfErr result (λ e. (c : Context) → Fails (Typed depth c ∷ []) tokens.now e) }
@@ -62,7 +62,7 @@ fn basic<'w, 't>(
     requires no_enum { mark ≢ Mark.Enum }
     requires no_struct { mark ≢ Mark.Struct }
     requires no_union { mark ≢ Mark.Union }
-    ensures read { IfOk result (λ x. (n : ℕ) (c : Context) → IsRead [] (Typed n c ∷ []) tokens.now
+    ensures read { IfOk result (λ x. (n : ℕ) (c : Context) → ReadsPart [] (Typed n c ∷ []) tokens.now
         (spell_type (view_type x.0)) (AfterType c ∷ []) x.1.now) }
     ensures fits { IfOk result (λ x. (n : ℕ) → TypeFits (view_type x.0) n) }
     ensures stuck { IfErr result (λ e. (n : ℕ) (c : Context) → Fails (Typed n c ∷ []) tokens.now e) }
@@ -82,7 +82,7 @@ fn basic<'w, 't>(
 
 /// Reads what may stand after `unsigned`: the type.
 pub fn unsigned<'w, 't>(tokens: &'w [Token<'t>]) -> Result<(DataType, &'w [Token<'t>]), ParseError>
-    ensures read { IfOk result (λ x. (c : Context) → IsRead (Fixed Mark.Unsigned ∷ []) (AfterUnsigned c ∷ [])
+    ensures read { IfOk result (λ x. (c : Context) → ReadsPart (Fixed Mark.Unsigned ∷ []) (AfterUnsigned c ∷ [])
         tokens.now (spell_type (view_type x.0)) (AfterType c ∷ []) x.1.now) }
     ensures fits { IfOk result (λ x. (n : ℕ) → TypeFits (view_type x.0) n) }
     ensures stuck { IfErr result (λ e. (c : Context) → Fails (AfterUnsigned c ∷ []) tokens.now e) }
@@ -107,7 +107,7 @@ fn tagged<'w, 't>(
     depth: u32,
     tokens: &'w [Token<'t>],
 ) -> Result<(DataType, &'w [Token<'t>]), ParseError>
-    ensures read { IfOk result (λ x. IsRead (Fixed (tag_mark tag) ∷ []) (AfterTag tag depth ∷ []) tokens.now
+    ensures read { IfOk result (λ x. ReadsPart (Fixed (tag_mark tag) ∷ []) (AfterTag tag depth ∷ []) tokens.now
         (spell_type (view_type x.0)) [] x.1.now) }
     ensures fits { IfOk result (λ x. TypeFits (view_type x.0) depth) }
     ensures stuck { IfErr result (λ e. Fails (AfterTag tag depth ∷ []) tokens.now e) }
@@ -184,7 +184,7 @@ fn body_of_struct<'w, 't>(
     loop {
         let (member, rest) = declared(alloc, depth, Ending::Semicolon, left)?;
         members.push(member)?;
-        if let Some(rest) = after(Mark::CloseBrace, rest) {
+        if let Some(rest) = strip_mark(Mark::CloseBrace, rest) {
             return Ok((struct_body(members), rest));
         }
         left = rest;
@@ -224,13 +224,13 @@ pub fn declared<'w, 't>(
     ensures fits { IfOk result (λ x. DeclarationFits (view_declaration x.0) depth) }
     ensures stuck { IfErr result (λ e. Fails (Declared depth ending ∷ []) tokens.now e) }
 {
-    if let Some(rest) = after(Mark::Void, tokens) {
+    if let Some(rest) = strip_mark(Mark::Void, tokens) {
         return nothing(ending, rest);
     }
-    if let Some(rest) = after(Mark::Opaque, tokens) {
+    if let Some(rest) = strip_mark(Mark::Opaque, tokens) {
         return opaque(alloc, ending, rest);
     }
-    if let Some(rest) = after(Mark::String, tokens) {
+    if let Some(rest) = strip_mark(Mark::String, tokens) {
         return string(alloc, ending, rest);
     }
     let (data, rest) = data_type(alloc, depth, tokens)?;
@@ -243,7 +243,7 @@ fn nothing<'w, 't>(
     ending: Ending,
     tokens: &'w [Token<'t>],
 ) -> Result<(Declaration, &'w [Token<'t>]), ParseError>
-    ensures read { IfOk result (λ x. IsRead (Fixed Mark.Void ∷ []) (OfMark (ending_mark ending) ∷ [])
+    ensures read { IfOk result (λ x. ReadsPart (Fixed Mark.Void ∷ []) (OfMark (ending_mark ending) ∷ [])
         tokens.now (spell_ended (view_declaration x.0) ending) [] x.1.now) }
     ensures fits { IfOk result (λ x. (n : ℕ) → DeclarationFits (view_declaration x.0) n) }
     ensures stuck { IfErr result (λ e. Fails (OfMark (ending_mark ending) ∷ []) tokens.now e) }
@@ -258,7 +258,7 @@ fn opaque<'w, 't>(
     ending: Ending,
     tokens: &'w [Token<'t>],
 ) -> Result<(Declaration, &'w [Token<'t>]), ParseError>
-    ensures read { IfOk result (λ x. IsRead (Fixed Mark.Opaque ∷ [])
+    ensures read { IfOk result (λ x. ReadsPart (Fixed Mark.Opaque ∷ [])
         (AnyName ∷ AnyLength ∷ OfMark (ending_mark ending) ∷ []) tokens.now
         (spell_ended (view_declaration x.0) ending) [] x.1.now) }
     ensures fits { IfOk result (λ x. (n : ℕ) → DeclarationFits (view_declaration x.0) n) }
@@ -277,7 +277,7 @@ fn string<'w, 't>(
     ending: Ending,
     tokens: &'w [Token<'t>],
 ) -> Result<(Declaration, &'w [Token<'t>]), ParseError>
-    ensures read { IfOk result (λ x. IsRead (Fixed Mark.String ∷ [])
+    ensures read { IfOk result (λ x. ReadsPart (Fixed Mark.String ∷ [])
         (AnyName ∷ OfMark Mark.Less ∷ AfterLess ∷ OfMark (ending_mark ending) ∷ []) tokens.now
         (spell_ended (view_declaration x.0) ending) [] x.1.now) }
     ensures fits { IfOk result (λ x. (n : ℕ) → DeclarationFits (view_declaration x.0) n) }
@@ -287,7 +287,7 @@ fn string<'w, 't>(
 {
     let (name, rest) = name(alloc, tokens)?;
     let rest = expect(Mark::Less, rest)?;
-    let (most, rest) = most(alloc, rest)?;
+    let (most, rest) = greatest_length(alloc, rest)?;
     let rest = expect(ending.mark(), rest)?;
     Ok((Declaration::String { name, most }, rest))
 }
@@ -299,7 +299,7 @@ fn arms<'w, 't>(
     depth: u32,
     tokens: &'w [Token<'t>],
 ) -> Result<(Vec<Arm>, Option<Declaration>, &'w [Token<'t>]), ParseError>
-    ensures read { IfOk result (λ x. IsRead [] (OfMark Mark.OpenBrace ∷ Arms depth ∷ []) tokens.now (Fixed
+    ensures read { IfOk result (λ x. ReadsPart [] (OfMark Mark.OpenBrace ∷ Arms depth ∷ []) tokens.now (Fixed
         Mark.OpenBrace ∷ (spell_arms (view_arms x.0.items) ++ spell_default (view_default x.1))) [] x.2.now) }
     ensures fits { IfOk result (λ x. HasArm (view_arms x.0.items)
         × (ArmsFit (view_arms x.0.items) depth × DefaultFits (view_default x.1) depth)) }
@@ -311,10 +311,10 @@ fn arms<'w, 't>(
     loop {
         let (member, rest) = arm(alloc, depth, left)?;
         arms.push(member)?;
-        if let Some(rest) = after(Mark::CloseBrace, rest) {
+        if let Some(rest) = strip_mark(Mark::CloseBrace, rest) {
             return Ok((arms, None, rest));
         }
-        if let Some(rest) = after(Mark::Default, rest) {
+        if let Some(rest) = strip_mark(Mark::Default, rest) {
             let (default, rest) = default_arm(alloc, depth, rest)?;
             return Ok((arms, Some(default), rest));
         }
@@ -329,7 +329,7 @@ fn default_arm<'w, 't>(
     depth: u32,
     tokens: &'w [Token<'t>],
 ) -> Result<(Declaration, &'w [Token<'t>]), ParseError>
-    ensures read { IfOk result (λ x. IsRead (Fixed Mark.Default ∷ [])
+    ensures read { IfOk result (λ x. ReadsPart (Fixed Mark.Default ∷ [])
         (OfMark Mark.Colon ∷ Declared depth Ending.Semicolon ∷ OfMark Mark.CloseBrace ∷ []) tokens.now
         (spell_default (one_default (view_declaration x.0))) [] x.1.now) }
     ensures fits { IfOk result (λ x. DeclarationFits (view_declaration x.0) depth) }
@@ -338,7 +338,7 @@ fn default_arm<'w, 't>(
 {
     let rest = expect(Mark::Colon, tokens)?;
     let (declaration, rest) = declared(alloc, depth, Ending::Semicolon, rest)?;
-    let (declaration, rest) = closed(declaration, Mark::CloseBrace, rest)?;
+    let (declaration, rest) = terminated(declaration, Mark::CloseBrace, rest)?;
     Ok((declaration, rest))
 }
 
@@ -349,7 +349,7 @@ fn arm<'w, 't>(
     depth: u32,
     tokens: &'w [Token<'t>],
 ) -> Result<(Arm, &'w [Token<'t>]), ParseError>
-    ensures read { IfOk result (λ x. IsRead (Fixed Mark.Case ∷ [])
+    ensures read { IfOk result (λ x. ReadsPart (Fixed Mark.Case ∷ [])
         (AnyValue ∷ OfMark Mark.Colon ∷ AfterCase depth ∷ []) tokens.now
         (spell_arm (map view_value x.0.cases.items) (view_declaration x.0.declaration)) [] x.1.now) }
     ensures some { IfOk result (λ x. HasOne (map view_value x.0.cases.items)) }

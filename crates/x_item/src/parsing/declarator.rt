@@ -6,17 +6,17 @@ ghost use Rattle.x_trees.specs.View.{view_most, view_length, view_shape};
 ghost use Rattle.x_trees.specs.Spell.{spell_most, spell_length, spell_named};
 ghost use Rattle.x_item.specs.Symbols.{InDeclaration, AnyLength, AfterLess, AfterName, AfterType};
 ghost use Rattle.x_item.specs.Symbols.{ending_mark};
-ghost use Rattle.x_item.specs.Reading.{IsRead, IsPart, Fails};
+ghost use Rattle.x_item.specs.Reading.{ReadsPart, IsPart, Fails};
 
 use super::ParseError;
 use super::ending::Ending;
-use super::words::{after, expect, name, value};
+use super::words::{strip_mark, expect, name, value};
 use std::alloc::Global;
 use x_lex::{Mark, Token};
 use x_trees::{Length, Shape, Spelling, Value};
 
 /// Reads what stands between `<` and `>`, and the `>`.
-pub fn most<'w, 't>(
+pub fn greatest_length<'w, 't>(
     alloc: Global,
     tokens: &'w [Token<'t>],
 ) -> Result<(Option<Value>, &'w [Token<'t>]), ParseError>
@@ -24,7 +24,7 @@ pub fn most<'w, 't>(
         (spell_most (view_most x.0) ++ Fixed Mark.Greater ∷ []) x.1.now) }
     ensures stuck { IfErr result (λ e. Fails (AfterLess ∷ []) tokens.now e) }
 {
-    if let Some(rest) = after(Mark::Greater, tokens) {
+    if let Some(rest) = strip_mark(Mark::Greater, tokens) {
         return Ok((None, rest));
     }
     let (size, rest) = value(alloc, tokens)?;
@@ -40,8 +40,8 @@ pub fn array_length<'w, 't>(
     ensures read { IfOk result (λ x. IsPart AnyLength tokens.now (spell_length (view_length x.0)) x.1.now) }
     ensures stuck { IfErr result (λ e. Fails (AnyLength ∷ []) tokens.now e) }
 {
-    if let Some(rest) = after(Mark::Less, tokens) {
-        let (size, rest) = most(alloc, rest)?;
+    if let Some(rest) = strip_mark(Mark::Less, tokens) {
+        let (size, rest) = greatest_length(alloc, rest)?;
         return Ok((Length::Variable(size), rest));
     }
     let rest = expect(Mark::OpenBracket, tokens)?;
@@ -56,7 +56,7 @@ fn suffix<'w, 't>(
     ending: Ending,
     tokens: &'w [Token<'t>],
 ) -> Result<(Shape, &'w [Token<'t>]), ParseError>
-    ensures read { IfOk result (λ x. (name : List ℕ) → IsRead (Name name ∷ []) (AfterName ending ∷ [])
+    ensures read { IfOk result (λ x. (name : List ℕ) → ReadsPart (Name name ∷ []) (AfterName ending ∷ [])
         tokens.now (spell_named name (view_shape x.0) ++ Fixed (ending_mark ending) ∷ []) [] x.1.now) }
     ensures stuck { IfErr result (λ e. Fails (AfterName ending ∷ []) tokens.now e) }
 {
@@ -78,7 +78,7 @@ pub fn named<'w, 't>(
         (spell_named x.0.items (view_shape x.1) ++ Fixed (ending_mark ending) ∷ []) x.2.now) }
     ensures stuck { IfErr result (λ e. Fails (AfterType (InDeclaration ending) ∷ []) tokens.now e) }
 {
-    if let Some(rest) = after(Mark::Star, tokens) {
+    if let Some(rest) = strip_mark(Mark::Star, tokens) {
         let (text, rest) = name(alloc, rest)?;
         let rest = expect(ending.mark(), rest)?;
         return Ok((text, Shape::Optional, rest));

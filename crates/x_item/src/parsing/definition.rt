@@ -6,13 +6,13 @@ ghost use Rattle.x_trees.specs.View.{view_definition};
 ghost use Rattle.x_trees.specs.Gloss.{tag_mark};
 ghost use Rattle.x_trees.specs.Spell.{spell, KeepsLimits};
 ghost use Rattle.x_item.specs.Symbols.{Item, of_constant, of_new_type, of_program};
-ghost use Rattle.x_item.specs.Reading.{IsRead, Fails};
+ghost use Rattle.x_item.specs.Reading.{ReadsPart, Fails};
 
 use super::ParseError;
 use super::declaration::{body, declared};
 use super::ending::Ending;
-use super::program::{numbered, versions};
-use super::words::{Word, closed, expect, first, name, stuck_at, value};
+use super::program::{assigned_number, versions};
+use super::words::{Word, terminated, expect, first, name, stuck_at, value};
 use std::alloc::Global;
 use x_lex::{Mark, Token};
 use x_trees::{Definition, MOST_INLINE, Tag, fitted};
@@ -22,7 +22,7 @@ pub fn definition<'w, 't>(
     alloc: Global,
     tokens: &'w [Token<'t>],
 ) -> Result<(Definition, &'w [Token<'t>]), ParseError>
-    ensures read { IfOk result (λ x. IsRead [] (Item ∷ []) tokens.now
+    ensures read { IfOk result (λ x. ReadsPart [] (Item ∷ []) tokens.now
         (spell (view_definition x.0)) [] x.1.now) }
     ensures fits { IfOk result (λ x. KeepsLimits (view_definition x.0)) }
     ensures stuck { IfErr result (λ e. Fails (Item ∷ []) tokens.now e) }
@@ -50,7 +50,7 @@ fn constant<'w, 't>(
     alloc: Global,
     tokens: &'w [Token<'t>],
 ) -> Result<(Definition, &'w [Token<'t>]), ParseError>
-    ensures read { IfOk result (λ x. IsRead (Fixed Mark.Const ∷ []) of_constant tokens.now
+    ensures read { IfOk result (λ x. ReadsPart (Fixed Mark.Const ∷ []) of_constant tokens.now
         (spell (view_definition x.0)) [] x.1.now) }
     ensures fits { IfOk result (λ x. KeepsLimits (view_definition x.0)) }
     ensures stuck { IfErr result (λ e. Fails of_constant tokens.now e) }
@@ -68,14 +68,14 @@ fn new_type<'w, 't>(
     tag: Tag,
     tokens: &'w [Token<'t>],
 ) -> Result<(Definition, &'w [Token<'t>]), ParseError>
-    ensures read { IfOk result (λ x. IsRead (Fixed (tag_mark tag) ∷ []) (of_new_type tag) tokens.now
+    ensures read { IfOk result (λ x. ReadsPart (Fixed (tag_mark tag) ∷ []) (of_new_type tag) tokens.now
         (spell (view_definition x.0)) [] x.1.now) }
     ensures fits { IfOk result (λ x. KeepsLimits (view_definition x.0)) }
     ensures stuck { IfErr result (λ e. Fails (of_new_type tag) tokens.now e) }
 {
     let (name, rest) = name(alloc, tokens)?;
     let (body, rest) = body(alloc, tag, MOST_INLINE, rest)?;
-    let (body, rest) = closed(body, Mark::Semicolon, rest)?;
+    let (body, rest) = terminated(body, Mark::Semicolon, rest)?;
     Ok((Definition::NewType { name, body }, rest))
 }
 
@@ -84,14 +84,14 @@ fn program<'w, 't>(
     alloc: Global,
     tokens: &'w [Token<'t>],
 ) -> Result<(Definition, &'w [Token<'t>]), ParseError>
-    ensures read { IfOk result (λ x. IsRead (Fixed Mark.Program ∷ []) of_program tokens.now
+    ensures read { IfOk result (λ x. ReadsPart (Fixed Mark.Program ∷ []) of_program tokens.now
         (spell (view_definition x.0)) [] x.1.now) }
     ensures fits { IfOk result (λ x. KeepsLimits (view_definition x.0)) }
     ensures stuck { IfErr result (λ e. Fails of_program tokens.now e) }
 {
     let (name, rest) = name(alloc, tokens)?;
     let (versions, rest) = versions(alloc, rest)?;
-    let (number, rest) = numbered(alloc, rest)?;
+    let (number, rest) = assigned_number(alloc, rest)?;
     let definition = Definition::Program {
         name,
         versions: fitted(versions),

@@ -5,10 +5,10 @@ ghost use Rattle.x_trees.specs.Words.{Fixed, Name};
 ghost use Rattle.x_trees.specs.View.{view_most, view_enumerator};
 ghost use Rattle.x_trees.specs.Spell.{spell_given, spell_enumerator, spell_enumerators, HasOne};
 ghost use Rattle.x_item.specs.Symbols.{Enumerators, AfterEnumerator, MoreEnumerators};
-ghost use Rattle.x_item.specs.Reading.{IsRead, IsPart, Fails};
+ghost use Rattle.x_item.specs.Reading.{ReadsPart, IsPart, Fails};
 
 use super::ParseError;
-use super::words::{after, expect, name, value};
+use super::words::{strip_mark, expect, name, value};
 use std::alloc::Global;
 use x_lex::{Mark, Token};
 use x_trees::{Enumerator, Value};
@@ -27,7 +27,7 @@ pub fn enumerators<'w, 't>(
     let mut members = Vec::new(alloc);
     members.push(member)?;
     loop {
-        if let Some(rest) = after(Mark::CloseBrace, left) {
+        if let Some(rest) = strip_mark(Mark::CloseBrace, left) {
             return Ok((members, rest));
         }
         let rest = expect(Mark::Comma, left)?;
@@ -42,25 +42,25 @@ fn enumerator<'w, 't>(
     alloc: Global,
     tokens: &'w [Token<'t>],
 ) -> Result<(Enumerator, &'w [Token<'t>]), ParseError>
-    ensures read { IfOk result (λ x. IsRead [] (Enumerators ∷ []) tokens.now
+    ensures read { IfOk result (λ x. ReadsPart [] (Enumerators ∷ []) tokens.now
         (spell_enumerator (view_enumerator x.0)) (MoreEnumerators ∷ []) x.1.now) }
     ensures stuck { IfErr result (λ e. Fails (Enumerators ∷ []) tokens.now e) }
 {
     let (name, rest) = name(alloc, tokens)?;
-    let (value, rest) = given(alloc, rest)?;
+    let (value, rest) = given_value(alloc, rest)?;
     Ok((Enumerator { name, value }, rest))
 }
 
 /// Reads the value of an enumerator, if it is given.
-fn given<'w, 't>(
+fn given_value<'w, 't>(
     alloc: Global,
     tokens: &'w [Token<'t>],
 ) -> Result<(Option<Value>, &'w [Token<'t>]), ParseError>
-    ensures read { IfOk result (λ x. (name : List ℕ) → IsRead (Name name ∷ []) (AfterEnumerator ∷ [])
+    ensures read { IfOk result (λ x. (name : List ℕ) → ReadsPart (Name name ∷ []) (AfterEnumerator ∷ [])
         tokens.now (Name name ∷ spell_given (view_most x.0)) (MoreEnumerators ∷ []) x.1.now) }
     ensures stuck { IfErr result (λ e. Fails (AfterEnumerator ∷ []) tokens.now e) }
 {
-    if let Some(rest) = after(Mark::Equals, tokens) {
+    if let Some(rest) = strip_mark(Mark::Equals, tokens) {
         let (value, rest) = value(alloc, rest)?;
         return Ok((Some(value), rest));
     }

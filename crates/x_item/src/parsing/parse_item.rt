@@ -11,7 +11,7 @@ ghost use Rattle.x_item.specs.Parse.{view_parsed};
 ghost use Rattle.x_item.specs.Reading.{IsRefused};
 
 use super::definition::definition;
-use super::words::{is_significant, only};
+use super::words::{is_significant, finish};
 use super::{FaultCode, ParseError};
 use std::alloc::Global;
 use x_lex::Token;
@@ -40,7 +40,7 @@ pub fn parse_item(alloc: Global, tokens: &[Token], meter: &mut Meter) -> Result<
     ensures counted { meter.new ≡ record meter.old { parsed = raised meter.old.parsed 1 } }
 {
     meter.tick_parsed();
-    match whole(alloc, tokens) {
+    match complete_definition(alloc, tokens) {
         Ok(definition) => Ok(Parsed::Def(definition)),
         Err(ParseError::Stuck { left, code }) => Ok(Parsed::Fault {
             token: tokens.len() - left,
@@ -52,13 +52,13 @@ pub fn parse_item(alloc: Global, tokens: &[Token], meter: &mut Meter) -> Result<
 }
 
 /// The definition that all words of the tokens spell.
-fn whole(alloc: Global, tokens: &[Token]) -> Result<Definition, ParseError>
+fn complete_definition(alloc: Global, tokens: &[Token]) -> Result<Definition, ParseError>
     ensures found { IfOk result (λ d. spell (view_definition d) ≡ words_of (map lexeme tokens.now)) }
     ensures fits { IfOk result (λ d. KeepsLimits (view_definition d)) }
     ensures stuck { IfErr result (λ e. IsRefused (map lexeme tokens.now) e) }
 {
     let (definition, rest) = definition(alloc, tokens)?;
-    only(definition, rest)
+    finish(definition, rest)
 }
 
 /// What an item is whose words are a prefix of a spelling: nothing, or a fault at the last of them.

@@ -10,11 +10,11 @@ ghost use Rattle.x_trees.specs.Spell.{VersionsFit};
 ghost use Rattle.x_item.specs.Symbols.{InArguments, AnyName, AfterType, Parameters, Arguments};
 ghost use Rattle.x_item.specs.Symbols.{Result as AnyResult, of_number, of_arguments, of_procedure};
 ghost use Rattle.x_item.specs.Symbols.{of_procedures, of_version, of_versions};
-ghost use Rattle.x_item.specs.Reading.{IsRead, Fails};
+ghost use Rattle.x_item.specs.Reading.{ReadsPart, Fails};
 
 use super::ParseError;
 use super::declaration::data_type;
-use super::words::{after, expect, name, number};
+use super::words::{strip_mark, expect, name, number};
 use std::alloc::Global;
 use x_lex::{Mark, Token};
 use x_trees::{Argument, MOST_INLINE, Procedure, Spelling, Version, fitted};
@@ -24,12 +24,12 @@ fn argument<'w, 't>(
     alloc: Global,
     tokens: &'w [Token<'t>],
 ) -> Result<(Argument, &'w [Token<'t>]), ParseError>
-    ensures read { IfOk result (λ x. IsRead [] (Arguments ∷ []) tokens.now
+    ensures read { IfOk result (λ x. ReadsPart [] (Arguments ∷ []) tokens.now
         (spell_argument (view_argument x.0)) (AfterType InArguments ∷ []) x.1.now) }
     ensures fits { IfOk result (λ x. ArgumentFits (view_argument x.0)) }
     ensures stuck { IfErr result (λ e. Fails (Arguments ∷ []) tokens.now e) }
 {
-    if let Some(rest) = after(Mark::String, tokens) {
+    if let Some(rest) = strip_mark(Mark::String, tokens) {
         return Ok((Argument::String, rest));
     }
     let (data, rest) = data_type(alloc, MOST_INLINE, tokens)?;
@@ -41,12 +41,12 @@ fn first_argument<'w, 't>(
     alloc: Global,
     tokens: &'w [Token<'t>],
 ) -> Result<(Option<Argument>, &'w [Token<'t>]), ParseError>
-    ensures read { IfOk result (λ x. IsRead [] (Parameters ∷ []) tokens.now (spell_passed (view_passed x.0))
+    ensures read { IfOk result (λ x. ReadsPart [] (Parameters ∷ []) tokens.now (spell_passed (view_passed x.0))
         (AfterType InArguments ∷ []) x.1.now) }
     ensures fits { IfOk result (λ x. PassedFits (view_passed x.0)) }
     ensures stuck { IfErr result (λ e. Fails (Parameters ∷ []) tokens.now e) }
 {
-    if let Some(rest) = after(Mark::Void, tokens) {
+    if let Some(rest) = strip_mark(Mark::Void, tokens) {
         return Ok((None, rest));
     }
     let (argument, rest) = argument(alloc, tokens)?;
@@ -58,15 +58,15 @@ fn returned<'w, 't>(
     alloc: Global,
     tokens: &'w [Token<'t>],
 ) -> Result<(Option<Argument>, &'w [Token<'t>]), ParseError>
-    ensures read { IfOk result (λ x. IsRead [] (AnyResult ∷ []) tokens.now (spell_passed (view_passed x.0))
+    ensures read { IfOk result (λ x. ReadsPart [] (AnyResult ∷ []) tokens.now (spell_passed (view_passed x.0))
         (AnyName ∷ []) x.1.now) }
     ensures fits { IfOk result (λ x. PassedFits (view_passed x.0)) }
     ensures stuck { IfErr result (λ e. Fails (AnyResult ∷ []) tokens.now e) }
 {
-    if let Some(rest) = after(Mark::Void, tokens) {
+    if let Some(rest) = strip_mark(Mark::Void, tokens) {
         return Ok((None, rest));
     }
-    if let Some(rest) = after(Mark::String, tokens) {
+    if let Some(rest) = strip_mark(Mark::String, tokens) {
         return Ok((Some(Argument::String), rest));
     }
     let (data, rest) = data_type(alloc, MOST_INLINE, tokens)?;
@@ -78,7 +78,7 @@ fn arguments<'w, 't>(
     alloc: Global,
     tokens: &'w [Token<'t>],
 ) -> Result<(Option<Argument>, Vec<Argument>, &'w [Token<'t>]), ParseError>
-    ensures read { IfOk result (λ x. IsRead [] of_arguments tokens.now (Fixed Mark.OpenParenthesis
+    ensures read { IfOk result (λ x. ReadsPart [] of_arguments tokens.now (Fixed Mark.OpenParenthesis
         ∷ ((spell_passed (view_passed x.0) ++ spell_others (map view_argument x.1.items))
         ++ Fixed Mark.CloseParenthesis ∷ [])) [] x.2.now) }
     ensures first_fits { IfOk result (λ x. PassedFits (view_passed x.0)) }
@@ -89,7 +89,7 @@ fn arguments<'w, 't>(
     let (head, mut left) = first_argument(alloc, rest)?;
     let mut others = Vec::new(alloc);
     loop {
-        if let Some(rest) = after(Mark::CloseParenthesis, left) {
+        if let Some(rest) = strip_mark(Mark::CloseParenthesis, left) {
             return Ok((head, others, rest));
         }
         let rest = expect(Mark::Comma, left)?;
@@ -100,11 +100,11 @@ fn arguments<'w, 't>(
 }
 
 /// Reads `=`, a number and `;`.
-pub fn numbered<'w, 't>(
+pub fn assigned_number<'w, 't>(
     alloc: Global,
     tokens: &'w [Token<'t>],
 ) -> Result<(Spelling, &'w [Token<'t>]), ParseError>
-    ensures read { IfOk result (λ x. IsRead [] of_number tokens.now
+    ensures read { IfOk result (λ x. ReadsPart [] of_number tokens.now
         (Fixed Mark.Equals ∷ Number x.0.items ∷ Fixed Mark.Semicolon ∷ []) [] x.1.now) }
     ensures stuck { IfErr result (λ e. Fails of_number tokens.now e) }
 {
@@ -119,7 +119,7 @@ fn procedure<'w, 't>(
     alloc: Global,
     tokens: &'w [Token<'t>],
 ) -> Result<(Procedure, &'w [Token<'t>]), ParseError>
-    ensures read { IfOk result (λ x. IsRead [] of_procedure tokens.now
+    ensures read { IfOk result (λ x. ReadsPart [] of_procedure tokens.now
         (spell_procedure (view_procedure x.0)) [] x.1.now) }
     ensures fits { IfOk result (λ x. ProcedureFits (view_procedure x.0)) }
     ensures stuck { IfErr result (λ e. Fails of_procedure tokens.now e) }
@@ -127,7 +127,7 @@ fn procedure<'w, 't>(
     let (result, rest) = returned(alloc, tokens)?;
     let (name, rest) = name(alloc, rest)?;
     let (first, others, rest) = arguments(alloc, rest)?;
-    let (number, rest) = numbered(alloc, rest)?;
+    let (number, rest) = assigned_number(alloc, rest)?;
     let procedure = Procedure {
         result,
         name,
@@ -143,7 +143,7 @@ fn procedures<'w, 't>(
     alloc: Global,
     tokens: &'w [Token<'t>],
 ) -> Result<(Vec<Procedure>, &'w [Token<'t>]), ParseError>
-    ensures read { IfOk result (λ x. IsRead [] of_procedures tokens.now (Fixed Mark.OpenBrace
+    ensures read { IfOk result (λ x. ReadsPart [] of_procedures tokens.now (Fixed Mark.OpenBrace
         ∷ (spell_procedures (map view_procedure x.0.items) ++ Fixed Mark.CloseBrace ∷ [])) [] x.1.now) }
     ensures some { IfOk result (λ x. HasOne (map view_procedure x.0.items)) }
     ensures fits { IfOk result (λ x. ProceduresFit (map view_procedure x.0.items)) }
@@ -154,7 +154,7 @@ fn procedures<'w, 't>(
     loop {
         let (member, rest) = procedure(alloc, left)?;
         members.push(member)?;
-        if let Some(rest) = after(Mark::CloseBrace, rest) {
+        if let Some(rest) = strip_mark(Mark::CloseBrace, rest) {
             return Ok((members, rest));
         }
         left = rest;
@@ -166,7 +166,7 @@ fn version<'w, 't>(
     alloc: Global,
     tokens: &'w [Token<'t>],
 ) -> Result<(Version, &'w [Token<'t>]), ParseError>
-    ensures read { IfOk result (λ x. IsRead [] of_version tokens.now
+    ensures read { IfOk result (λ x. ReadsPart [] of_version tokens.now
         (spell_version (view_version x.0)) [] x.1.now) }
     ensures fits { IfOk result (λ x. VersionFits (view_version x.0)) }
     ensures stuck { IfErr result (λ e. Fails of_version tokens.now e) }
@@ -174,7 +174,7 @@ fn version<'w, 't>(
     let rest = expect(Mark::Version, tokens)?;
     let (name, rest) = name(alloc, rest)?;
     let (procedures, rest) = procedures(alloc, rest)?;
-    let (number, rest) = numbered(alloc, rest)?;
+    let (number, rest) = assigned_number(alloc, rest)?;
     let version = Version {
         name,
         procedures: fitted(procedures),
@@ -188,7 +188,7 @@ pub fn versions<'w, 't>(
     alloc: Global,
     tokens: &'w [Token<'t>],
 ) -> Result<(Vec<Version>, &'w [Token<'t>]), ParseError>
-    ensures read { IfOk result (λ x. IsRead [] of_versions tokens.now (Fixed Mark.OpenBrace
+    ensures read { IfOk result (λ x. ReadsPart [] of_versions tokens.now (Fixed Mark.OpenBrace
         ∷ (spell_versions (map view_version x.0.items) ++ Fixed Mark.CloseBrace ∷ [])) [] x.1.now) }
     ensures some { IfOk result (λ x. HasOne (map view_version x.0.items)) }
     ensures fits { IfOk result (λ x. VersionsFit (map view_version x.0.items)) }
@@ -199,7 +199,7 @@ pub fn versions<'w, 't>(
     loop {
         let (member, rest) = version(alloc, left)?;
         members.push(member)?;
-        if let Some(rest) = after(Mark::CloseBrace, rest) {
+        if let Some(rest) = strip_mark(Mark::CloseBrace, rest) {
             return Ok((members, rest));
         }
         left = rest;

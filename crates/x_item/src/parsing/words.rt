@@ -87,7 +87,7 @@ pub fn first<'w, 't>(tokens: &'w [Token<'t>]) -> Result<(Word<'t>, &'w [Token<'t
 }
 
 /// The tokens after the mark, if it is the first word.
-pub fn after<'w, 't>(mark: Mark, tokens: &'w [Token<'t>]) -> Option<&'w [Token<'t>]>
+pub fn strip_mark<'w, 't>(mark: Mark, tokens: &'w [Token<'t>]) -> Option<&'w [Token<'t>]>
     ensures some { IfSome result (λ rest. HasFirst tokens.now (Fixed mark) rest.now) }
     ensures none { IfNone result (LacksFirst tokens.now (Fixed mark)) }
 {
@@ -131,7 +131,7 @@ pub fn expect<'w, 't>(mark: Mark, tokens: &'w [Token<'t>]) -> Result<&'w [Token<
 }
 
 /// Reads the mark behind a value that was read, which it gives back.
-pub fn closed<'w, 't, T: Drop>(
+pub fn terminated<'w, 't, T: Drop>(
     value: T,
     mark: Mark,
     tokens: &'w [Token<'t>],
@@ -145,7 +145,7 @@ pub fn closed<'w, 't, T: Drop>(
 }
 
 /// The value that was read, where no word stands behind it.
-pub fn only<T: Drop>(value: T, tokens: &[Token]) -> Result<T, ParseError>
+pub fn finish<T: Drop>(value: T, tokens: &[Token]) -> Result<T, ParseError>
     ensures value { IfOk result (λ x. x ≡ value) }
     ensures end { IfOk result (λ x. ahead tokens.now ≡ []) }
     ensures stuck { IfErr result (λ e. IsBefore tokens.now e) }

@@ -10,7 +10,7 @@ ghost use Rattle.x_rules.specs.Results.{Outcome, AreResults, meaning_at, result_
 ghost use Rattle.x_rules.specs.RustViews.{view_meaning};
 ghost use Rattle.x_recheck.specs.Editing.{definitions_after, definition_at, count_after};
 ghost use Rattle.x_recheck.specs.Rechecking.{AddsItemsFrom, IsDecided, AreEditedItems, IsFoundAs, IsMeantAs};
-ghost use Rattle.x_recheck.specs.Rechecking.{IsReady, IsNamed, IsTold, HasAdvanced};
+ghost use Rattle.x_recheck.specs.Rechecking.{IsReady, IsNamed, IsWaitedFor, HasAdvanced};
 ghost use Rattle.x_recheck.specs.Rechecking.{CountsOn, counts_found, edit_of, is_waiting};
 ghost use Rattle.x_recheck.specs.Staleness.{Ascending, checked_more, items_of, result_after};
 
@@ -107,7 +107,7 @@ fn tell_name<L: CheckedItems>(
     requires item { item < count_after (edit_of L.text items.now) }
     ensures adds { OnOk result (AddsItemsFrom (edit_of L.text items.now) queue.old queue.new
         (item + 1)) }
-    ensures told { OnOk result (IsTold (edit_of L.text items.now) item place checked.now
+    ensures told { OnOk result (IsWaitedFor (edit_of L.text items.now) item place checked.now
         (is_waiting queue.new) name.now) }
 {
     if means_same(items, item, place, name, checked) {
@@ -129,7 +129,7 @@ fn tell<L: CheckedItems>(
     ensures adds { OnOk result (AddsItemsFrom (edit_of L.text items.now) queue.old queue.new
         (item + 1)) }
     ensures told { OnOk result ((name : List ℕ) (place : ℕ) → IsNamed names.now place name
-        → IsTold (edit_of L.text items.now) item place checked.now (is_waiting queue.new) name) }
+        → IsWaitedFor (edit_of L.text items.now) item place checked.now (is_waiting queue.new) name) }
 {
     for (place, declared) in names.iter().enumerate() {
         tell_name(items, item, place, &declared.name, checked, queue)?;

@@ -16,14 +16,14 @@ use super::{CheckedItems, Rechecked};
 use x_names::Declarer;
 use x_rules::Checked;
 use x_trees::Definition;
-use x_uses::{Place, Uses};
+use x_uses::{ItemSplice, Uses};
 
 /// An edit of a text, with who declares and who uses each name.
 #[derive(Drop)]
 pub struct EditedItems<'s, L> {
     pub old: &'s L,
     pub put: &'s [Option<&'s Definition>],
-    pub place: Place,
+    pub place: ItemSplice,
     pub uses: &'s Uses,
     pub fresh: &'s Uses,
 }

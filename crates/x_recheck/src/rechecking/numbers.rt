@@ -3,10 +3,10 @@
 ghost use Rattle.std.specs.Prelude.{◌≡◌, ◌<◌, ◌+◌, ◌^◌};
 ghost use Rattle.x_recheck.specs.Editing.{new_number, old_number};
 
-use x_uses::Place;
+use x_uses::ItemSplice;
 
 /// The number that an item had before the edit, unless it is fresh.
-pub fn old_number(place: Place, item: usize) -> Option<usize>
+pub fn old_number(place: ItemSplice, item: usize) -> Option<usize>
     requires place { place.at + place.added < 2 ^ 64 }
     requires item { item + place.removed < 2 ^ 64 }
     ensures { result ≡ old_number place item }
@@ -21,7 +21,7 @@ pub fn old_number(place: Place, item: usize) -> Option<usize>
 }
 
 /// The number that an item has after the edit, unless it goes.
-pub fn new_number(place: Place, item: usize) -> Option<usize>
+pub fn new_number(place: ItemSplice, item: usize) -> Option<usize>
     requires place { place.at + place.removed < 2 ^ 64 }
     requires item { item + place.added < 2 ^ 64 }
     ensures { result ≡ new_number place item }

@@ -15,7 +15,7 @@ use super::constants::Constants;
 use super::found::add_fault;
 use super::repeats::{Numbered, add_number, add_repeated_numbers};
 use super::sights::Sights;
-use crate::checked::KeptClass;
+use crate::checked::OwnedClass;
 use crate::fault::{RuleCode, WordFault};
 use crate::outline::parts::{BodyAt, ValueAt};
 use std::alloc::Global;
@@ -63,20 +63,20 @@ pub fn add_repeated_cases(
 }
 
 /// Whether no discriminant of the class has the number.
-fn is_outside(class: &KeptClass, number: i128) -> bool
+fn is_outside(class: &OwnedClass, number: i128) -> bool
     ensures { result ≡ is_outside (kept_class class.now) number }
 {
     match class {
-        KeptClass::Other => false,
-        KeptClass::Signed => !is_enum_number(number),
-        KeptClass::Unsigned => !is_word_number(number),
-        KeptClass::Boolean => number != 0 && number != 1,
-        KeptClass::Enumeration(numbers) => !numbers.has(number),
+        OwnedClass::Other => false,
+        OwnedClass::Signed => !is_enum_number(number),
+        OwnedClass::Unsigned => !is_word_number(number),
+        OwnedClass::Boolean => number != 0 && number != 1,
+        OwnedClass::Enumeration(numbers) => !numbers.has(number),
     }
 }
 
 /// The fault of a case with the number.
-fn case_fault(class: &KeptClass, number: Option<i128>) -> Option<RuleCode>
+fn case_fault(class: &OwnedClass, number: Option<i128>) -> Option<RuleCode>
     ensures { result ≡ case_fault (kept_class class.now) number }
 {
     match number {
@@ -105,7 +105,7 @@ fn has_fault(faults: &[WordFault], from: usize, to: usize) -> bool
 /// Adds the faults of cases of a discriminant of the class.
 fn add_case_faults(
     faults: &mut Vec<WordFault>,
-    class: &KeptClass,
+    class: &OwnedClass,
     cases: &[ValueAt],
     sights: &Sights,
     constants: &Constants,

@@ -14,7 +14,7 @@ ghost use Rattle.x_rules.specs.Tables.{HasNumbers, seen_by, view_sight};
 use super::constants::Constants;
 use super::mentioned::suits;
 use super::sights::Sights;
-use crate::checked::KeptClass;
+use crate::checked::OwnedClass;
 use crate::numbers::Numbers;
 use crate::views::{Class, Meaning, View};
 use std::alloc::Global;
@@ -97,13 +97,13 @@ fn enum_class(
     alloc: Global,
     constants: &Constants,
     enumerators: &[Enumerator],
-) -> Result<Option<KeptClass>, NoMemory>
+) -> Result<Option<OwnedClass>, NoMemory>
     ensures { IfOk result (λ class. (all : List EnumeratorAt) (known : List Known)
         → HasNumbers constants.now all known
         → option_map kept_class class ≡ enum_class known (map view_enumerator enumerators.now)) }
 {
     match enum_numbers(alloc, constants, enumerators)? {
-        Some(numbers) => Ok(Some(KeptClass::Enumeration(Numbers::of(numbers)?))),
+        Some(numbers) => Ok(Some(OwnedClass::Enumeration(Numbers::of(numbers)?))),
         None => Ok(None),
     }
 }
@@ -166,12 +166,12 @@ pub fn has_no_class(sights: &Sights, declaration: &Declaration) -> bool
 }
 
 /// The class of the type that a name is seen to be; none where the use has a fault.
-fn named_class(view: View, tag: Option<Tag>) -> Result<Option<KeptClass>, NoMemory>
+fn named_class(view: View, tag: Option<Tag>) -> Result<Option<OwnedClass>, NoMemory>
     ensures { IfOk result (λ class. option_map kept_class class
         ≡ option_map (λ s. s.class) (type_seen (view_view view.entry) tag)) }
 {
     match type_seen(view, tag) {
-        Some(sight) => Ok(Some(KeptClass::of(sight.class)?)),
+        Some(sight) => Ok(Some(OwnedClass::of(sight.class)?)),
         None => Ok(None),
     }
 }
@@ -181,15 +181,15 @@ pub fn body_class(
     alloc: Global,
     constants: &Constants,
     body: &Body,
-) -> Result<Option<KeptClass>, NoMemory>
+) -> Result<Option<OwnedClass>, NoMemory>
     ensures { IfOk result (λ class. (all : List EnumeratorAt) (known : List Known)
         → HasNumbers constants.now all known
         → option_map kept_class class ≡ body_class known (view_body body.now)) }
 {
     match body {
         Body::Enum(enumerators) => enum_class(alloc, constants, enumerators),
-        Body::Struct(_) => Ok(Some(KeptClass::Other)),
-        Body::Union(_) => Ok(Some(KeptClass::Other)),
+        Body::Struct(_) => Ok(Some(OwnedClass::Other)),
+        Body::Union(_) => Ok(Some(OwnedClass::Other)),
     }
 }
 
@@ -199,13 +199,13 @@ fn type_class(
     sights: &Sights,
     constants: &Constants,
     tree: &DataType,
-) -> Result<Option<KeptClass>, NoMemory>
+) -> Result<Option<OwnedClass>, NoMemory>
     ensures { IfOk result (λ class. (all : List EnumeratorAt) (known : List Known)
         → HasNumbers constants.now all known
         → option_map kept_class class ≡ type_class (seen_by sights.now) known (view_type tree.now)) }
 {
     match tree {
-        DataType::Basic(basic) => Ok(Some(KeptClass::of(basic_class(*basic))?)),
+        DataType::Basic(basic) => Ok(Some(OwnedClass::of(basic_class(*basic))?)),
         DataType::Named(name) => named_class(sights.see(name), None),
         DataType::Tagged { tag, name } => named_class(sights.see(name), Some(*tag)),
         DataType::Inline(body) => body_class(alloc, constants, body),
@@ -218,7 +218,7 @@ pub fn declaration_class(
     sights: &Sights,
     constants: &Constants,
     declaration: &Declaration,
-) -> Result<Option<KeptClass>, NoMemory>
+) -> Result<Option<OwnedClass>, NoMemory>
     ensures { IfOk result (λ class. (all : List EnumeratorAt) (known : List Known)
         → HasNumbers constants.now all known → option_map kept_class class
         ≡ declaration_class (seen_by sights.now) known (view_declaration declaration.now)) }
@@ -227,8 +227,8 @@ pub fn declaration_class(
         Declaration::Void => Ok(None),
         Declaration::Of { data, shape, .. } => match shape {
             Shape::Plain => type_class(alloc, sights, constants, data),
-            _ => Ok(Some(KeptClass::Other)),
+            _ => Ok(Some(OwnedClass::Other)),
         },
-        _ => Ok(Some(KeptClass::Other)),
+        _ => Ok(Some(OwnedClass::Other)),
     }
 }

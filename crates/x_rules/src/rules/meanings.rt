@@ -18,7 +18,7 @@ use super::constants::Constants;
 use super::heights::{body_height, held_height};
 use super::named_bodies::NamedBodies;
 use super::sights::Sights;
-use crate::checked::{KeptClass, KeptMeaning, KeptMeanings};
+use crate::checked::{OwnedClass, OwnedMeaning, KeptMeanings};
 use crate::outline::parts::BodyAt;
 use smallvec::SmallVec;
 use std::alloc::Global;
@@ -26,22 +26,22 @@ use x_text::NoMemory;
 use x_trees::{DeclaredName, Definition, NameKind};
 
 /// What a type means whose class is known.
-fn type_meaning(class: Option<KeptClass>, height: u32) -> KeptMeaning
+fn type_meaning(class: Option<OwnedClass>, height: u32) -> OwnedMeaning
     ensures { kept_meaning result ≡ type_of (option_map kept_class class) height }
 {
     match class {
-        Some(class) => KeptMeaning::Type { class, height },
-        None => KeptMeaning::Bad,
+        Some(class) => OwnedMeaning::Type { class, height },
+        None => OwnedMeaning::Bad,
     }
 }
 
 /// What a constant means whose number is known.
-fn number_meaning(number: Option<i128>) -> KeptMeaning
+fn number_meaning(number: Option<i128>) -> OwnedMeaning
     ensures { kept_meaning result ≡ constant_of number }
 {
     match number {
-        Some(number) => KeptMeaning::Constant(number),
-        None => KeptMeaning::Bad,
+        Some(number) => OwnedMeaning::Constant(number),
+        None => OwnedMeaning::Bad,
     }
 }
 
@@ -51,7 +51,7 @@ fn named_meaning(
     body: Option<&BodyAt>,
     sights: &Sights,
     constants: &Constants,
-) -> Result<KeptMeaning, NoMemory>
+) -> Result<OwnedMeaning, NoMemory>
     ensures { IfOk result (λ kept. (all : List outline.EnumeratorAt) (known : List Known)
         → HasNumbers constants.now all known → kept_meaning kept
         ≡ counted_type (seen_by sights.now) known (option_map (λ b. view_body_at b.now) body.entry)) }
@@ -61,7 +61,7 @@ fn named_meaning(
             body_class(alloc, constants, body.body)?,
             body_height(sights, body.body),
         )),
-        None => Ok(KeptMeaning::Bad),
+        None => Ok(OwnedMeaning::Bad),
     }
 }
 
@@ -71,7 +71,7 @@ fn typedef_meaning(
     definition: &Definition,
     sights: &Sights,
     constants: &Constants,
-) -> Result<KeptMeaning, NoMemory>
+) -> Result<OwnedMeaning, NoMemory>
     ensures { IfOk result (λ kept. (all : List outline.EnumeratorAt) (known : List Known)
         → HasNumbers constants.now all known → kept_meaning kept
         ≡ counted_definition (seen_by sights.now) known (view_definition definition.now)) }
@@ -81,7 +81,7 @@ fn typedef_meaning(
             declaration_class(alloc, sights, constants, declaration)?,
             held_height(sights, declaration).saturating_add(1),
         )),
-        _ => Ok(KeptMeaning::Bad),
+        _ => Ok(OwnedMeaning::Bad),
     }
 }
 
@@ -110,7 +110,7 @@ fn meaning(
     bodies: &NamedBodies,
     sights: &Sights,
     constants: &Constants,
-) -> Result<KeptMeaning, NoMemory>
+) -> Result<OwnedMeaning, NoMemory>
     ensures { IfOk result (λ kept. let d = view_definition definition.now in let see = seen_by sights.now in
         HasNumbers constants.now (outline.enumerators d) (knowns see (outline.enumerators d))
         → HasBodies bodies.now (outline.bodies d)
@@ -122,7 +122,7 @@ fn meaning(
             definition, &name.name, sights, constants,
         ))),
         NameKind::Typedef => typedef_meaning(alloc, definition, sights, constants),
-        NameKind::Program => Ok(KeptMeaning::Program),
+        NameKind::Program => Ok(OwnedMeaning::Program),
         _ => named_meaning(alloc, bodies.get(name.word), sights, constants),
     }
 }

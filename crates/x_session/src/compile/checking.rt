@@ -17,7 +17,7 @@ ghost use Rattle.x_session.specs.Checking.{sound_pieces, view_by_first};
 ghost use Rattle.x_session.specs.KeptView.{found_pieces, found_result};
 ghost use Rattle.x_session.specs.KeptView.{kept_definition, kept_found, renewed_pieces};
 
-use crate::compile::kept::{Found, Kept, faults_of};
+use crate::compile::item_content::{CheckResult, ItemContent, faults_of};
 use std::alloc::Global;
 use x_gen::{Pieces, Renderer};
 use x_item::Definition;
@@ -29,14 +29,14 @@ use x_text::{Meter, NoMemory};
 pub struct Checks {
     /// Of each item, in their order, what was found of its definition if it has one: with its pieces where it
     /// has no fault.
-    pub results: Vec<Option<Box<Found>>>,
+    pub results: Vec<Option<Box<CheckResult>>>,
     /// How many faults the items have.
     pub faults: usize,
 }
 
 /// Checks the items of a text, none of which is checked yet, in their order. Counts each that has a
 /// definition as checked.
-pub fn check_all(alloc: Global, items: &[&Kept], meter: &mut Meter) -> Result<Checks, NoMemory>
+pub fn check_all(alloc: Global, items: &[&ItemContent], meter: &mut Meter) -> Result<Checks, NoMemory>
     requires short { AreShort (kept_definitions (map (λ k. k.now) items.now)) }
     requires unchecked { All (λ k. kept_found k.now ≡ None) items.now }
     ensures checked { IfOk result
@@ -49,7 +49,7 @@ pub fn check_all(alloc: Global, items: &[&Kept], meter: &mut Meter) -> Result<Ch
 }
 
 /// The table of the names that the items declare.
-fn names_of<'i>(alloc: Global, items: &[&'i Kept]) -> Result<Names<'i>, NoMemory>
+fn names_of<'i>(alloc: Global, items: &[&'i ItemContent]) -> Result<Names<'i>, NoMemory>
     ensures { IfOk result (λ names. AreShort (kept_definitions (map (λ k. k.now) items.now))
         → (name : List ℕ)
         → FirstIs (kept_definitions (map (λ k. k.now) items.now)) name (first_in names name)) }
@@ -60,7 +60,7 @@ fn names_of<'i>(alloc: Global, items: &[&'i Kept]) -> Result<Names<'i>, NoMemory
 /// The definition of each item.
 fn definitions_in<'i>(
     alloc: Global,
-    items: &[&'i Kept],
+    items: &[&'i ItemContent],
 ) -> Result<Vec<Option<&'i Definition>>, NoMemory>
     ensures { IfOk result (λ definitions. map tree_at definitions.items
         ≡ kept_definitions (map (λ k. k.now) items.now)) }
@@ -75,7 +75,7 @@ fn definitions_in<'i>(
 /// What checking the items finds, in their order. Each is checked by what was found of the items before it.
 fn check_items(
     alloc: Global,
-    items: &[&Kept],
+    items: &[&ItemContent],
     names: &Names,
     meter: &mut Meter,
 ) -> Result<Checks, NoMemory>
@@ -123,12 +123,12 @@ struct Walk<'i> {
 /// What checking the next item finds, if it has a definition, by what was found of the items before it.
 fn check<'i>(
     alloc: Global,
-    item: &'i Kept,
+    item: &'i ItemContent,
     walk: &mut Walk<'i>,
     names: &Names,
-    results: &[Option<Box<Found>>],
+    results: &[Option<Box<CheckResult>>],
     meter: &mut Meter,
-) -> Result<Option<Box<Found>>, NoMemory>
+) -> Result<Option<Box<CheckResult>>, NoMemory>
     requires { kept_found item.now ≡ None }
     ensures result { IfOk result (λ found. (definitions : List (Option tree.Definition))
         → IsShortAt (kept_definition item.now)
@@ -156,7 +156,7 @@ fn check<'i>(
     walk.declared = walk.declared.saturating_add(outline.declared().len());
     walk.last = Some(outline);
     let pieces = new_pieces(&mut walk.renderer, definition, &checked, false)?;
-    Ok(Some(Box::new(alloc, Found { checked, pieces })?))
+    Ok(Some(Box::new(alloc, CheckResult { checked, pieces })?))
 }
 
 /// The outline of a definition, in the memory of the last, if there is one.
@@ -182,7 +182,7 @@ fn views_of<'v>(
     outline: &Outline,
     before: usize,
     names: &Names,
-    results: &'v [Option<Box<Found>>],
+    results: &'v [Option<Box<CheckResult>>],
 ) -> Result<Vec<View<'v>>, NoMemory>
     ensures { IfOk result (λ views. IsOutline outline.now → map view_view views.items
         ≡ map (view_by_first (first_in names.now) (result_at (map found_result results.now)) item)
@@ -211,7 +211,7 @@ fn view_of<'v>(
     item: usize,
     name: &[u8],
     first: Option<Declarer>,
-    results: &'v [Option<Box<Found>>],
+    results: &'v [Option<Box<CheckResult>>],
 ) -> View<'v>
     ensures { view_view result
         ≡ view_by_first (λ n. first) (result_at (map found_result results.now)) item name.now }
@@ -224,7 +224,7 @@ fn view_of<'v>(
 }
 
 /// What was found of the item at an index.
-fn checked_at(results: &[Option<Box<Found>>], index: usize) -> Option<&Checked>
+fn checked_at(results: &[Option<Box<CheckResult>>], index: usize) -> Option<&Checked>
     ensures { lent_outcome result ≡ result_at (map found_result results.now) index }
 {
     match results.get(index)? {

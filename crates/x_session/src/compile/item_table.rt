@@ -1,17 +1,17 @@
 //! The items of a text.
 
 ghost use Rattle.std.specs.Prelude.{◌≡◌, ◌≤◌, ◌+◌, length, map, IfOk, None, option_and_then, slice_get};
-ghost use Rattle.x_text.specs.declared.source.TheConstants.{MAX_TEXT};
+ghost use Rattle.x_text.specs.declared.text.source.TheConstants.{MAX_TEXT};
 ghost use Rattle.x_cutting.specs.ItemList.{AreOfText, counts};
 ghost use Rattle.x_trees.specs.View.{tree_at};
 ghost use Rattle.x_schema.specs.Schemas.{IsSchemaOf};
 ghost use Rattle.x_session.specs.Definitions.{numbered};
 ghost use Rattle.x_session.specs.KeptView.{entry_definitions, kept_part};
 
-use crate::compile::kept::Kept;
+use crate::compile::item_content::ItemContent;
 use std::alloc::Global;
 use x_gen::{PieceList, Pieces};
-use x_item::{Definition, Entry, Items};
+use x_item::{Definition, ItemEntry, Items};
 use x_recheck::CheckedItems;
 use x_sema::{Checked, Schema};
 use x_text::{GapIter, NoMemory};
@@ -20,7 +20,7 @@ use x_uses::Uses;
 /// The items of a text, in order, each with what is kept with it.
 #[derive(Drop)]
 pub struct ItemTable {
-    pub entries: Items<Kept>,
+    pub entries: Items<ItemContent>,
     /// How many faults they have.
     pub faults: usize,
     /// Which of them declare and use each name: made at the first edit, so that who makes none pays nothing.
@@ -31,7 +31,7 @@ impl ItemTable {
     /// These items, which have so many faults.
     pub fn of(
         alloc: Global,
-        entries: Vec<Entry<Kept>>,
+        entries: Vec<ItemEntry<ItemContent>>,
         faults: usize,
     ) -> Result<ItemTable, NoMemory>
         requires { AreOfText (counts entries.items) }
@@ -56,7 +56,7 @@ impl ItemTable {
     }
 
     /// Goes over the items.
-    pub fn iter(&self) -> GapIter<'_, Entry<Kept>>
+    pub fn iter(&self) -> GapIter<'_, ItemEntry<ItemContent>>
         ensures list { result ≡ self.now.entries.list }
         ensures small { length result ≤ MAX_TEXT + 1 }
     {

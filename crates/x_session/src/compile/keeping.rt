@@ -4,11 +4,11 @@ ghost use Rattle.x_cutting.specs.ItemList.{kept};
 ghost use Rattle.x_session.specs.Checking.{AreKnown};
 ghost use Rattle.x_session.specs.KeptView.{AreWith};
 
-use crate::compile::kept::{Found, Kept};
-use x_item::Entry;
+use crate::compile::item_content::{CheckResult, ItemContent};
+use x_item::ItemEntry;
 
 /// Keeps with each item of a list, before it is a session's, what was found of it.
-pub fn keep_results(entries: &mut Vec<Entry<Kept>>, results: Vec<Option<Box<Found>>>)
+pub fn keep_results(entries: &mut Vec<ItemEntry<ItemContent>>, results: Vec<Option<Box<CheckResult>>>)
     requires { AreKnown (kept entries.old.items) results.items }
     ensures { AreWith entries.old.items results.items entries.new.items }
 {

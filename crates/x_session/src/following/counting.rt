@@ -3,17 +3,17 @@
 ghost use Rattle.std.specs.Prelude.{◌≡◌, ◌<◌, IfOk, drop, length, option_copied, option_map, slice_get, take};
 ghost use Rattle.x_cutting.specs.ItemList.{LiesAmong, kept, patched};
 ghost use Rattle.x_session.specs.Counting.{entry_faults, faults_found, own_faults};
-ghost use Rattle.x_session.specs.Planned.{ArePlanned, overlaid};
+ghost use Rattle.x_session.specs.PlannedResult.{ArePlanned, overlaid};
 
-use crate::compile::{ItemTable, Kept, Planned, sum_of};
-use x_item::{Entry, ItemPatch, Items};
+use crate::compile::{ItemTable, ItemContent, PlannedResult, sum_of};
+use x_item::{ItemEntry, ItemPatch, Items};
 use x_text::NoMemory;
 
 /// How many faults the items have that the patch will leave, once this is kept with those that are stale.
 pub fn faults_behind(
     items: &ItemTable,
-    patch: &ItemPatch<Kept>,
-    found: &[Planned],
+    patch: &ItemPatch<ItemContent>,
+    found: &[PlannedResult],
 ) -> Result<usize, NoMemory>
     requires among { LiesAmong items.now.entries.list patch.now }
     requires count { items.now.faults ≡ own_faults (kept items.now.entries.list) }
@@ -27,7 +27,7 @@ pub fn faults_behind(
 }
 
 /// How many faults the fresh items have before they are checked.
-fn fresh_faults(patch: &ItemPatch<Kept>) -> Result<usize, NoMemory>
+fn fresh_faults(patch: &ItemPatch<ItemContent>) -> Result<usize, NoMemory>
     ensures { IfOk result (λ count. count ≡ own_faults (kept patch.now.fresh)) }
 {
     let mut count = 0;
@@ -38,7 +38,7 @@ fn fresh_faults(patch: &ItemPatch<Kept>) -> Result<usize, NoMemory>
 }
 
 /// How many faults the items have that the patch takes out.
-fn removed_faults(items: &Items<Kept>, patch: &ItemPatch<Kept>) -> Result<usize, NoMemory>
+fn removed_faults(items: &Items<ItemContent>, patch: &ItemPatch<ItemContent>) -> Result<usize, NoMemory>
     requires { LiesAmong items.now.list patch.now }
     ensures { IfOk result
         (λ count. count ≡ own_faults (take patch.now.removed (drop patch.now.at (kept items.now.list)))) }
@@ -55,9 +55,9 @@ fn removed_faults(items: &Items<Kept>, patch: &ItemPatch<Kept>) -> Result<usize,
 /// How many faults the items have once this is kept with those that are stale, where they have `own` before.
 fn faults_with(
     own: usize,
-    items: &Items<Kept>,
-    patch: &ItemPatch<Kept>,
-    found: &[Planned],
+    items: &Items<ItemContent>,
+    patch: &ItemPatch<ItemContent>,
+    found: &[PlannedResult],
 ) -> Result<usize, NoMemory>
     requires among { LiesAmong items.now.list patch.now }
     requires count { own ≡ own_faults (kept (patched items.now.list patch.now)) }
@@ -78,7 +78,7 @@ fn faults_with(
 }
 
 /// How many faults an item has, if there is one.
-fn faults_of(entry: Option<&Entry<Kept>>) -> usize
+fn faults_of(entry: Option<&ItemEntry<ItemContent>>) -> usize
     ensures { result ≡ entry_faults (option_copied entry.entry) }
 {
     match entry {
@@ -89,10 +89,10 @@ fn faults_of(entry: Option<&Entry<Kept>>) -> usize
 
 /// What is kept with an item of those that the patch will leave.
 pub fn kept_behind<'i>(
-    items: &'i Items<Kept>,
-    patch: &'i ItemPatch<Kept>,
+    items: &'i Items<ItemContent>,
+    patch: &'i ItemPatch<ItemContent>,
     index: usize,
-) -> Option<&'i Kept>
+) -> Option<&'i ItemContent>
     requires among { LiesAmong items.now.list patch.now }
     requires within { index < length (patched items.now.list patch.now) }
     ensures { option_copied result ≡ slice_get (kept (patched items.now.list patch.now)) index }
@@ -110,7 +110,7 @@ pub fn kept_behind<'i>(
 }
 
 /// What is kept with an item, if there is one.
-fn kept_of(entry: Option<&Entry<Kept>>) -> Option<&Kept>
+fn kept_of(entry: Option<&ItemEntry<ItemContent>>) -> Option<&ItemContent>
     ensures { option_copied result ≡ option_map (λ e. e.kept) (option_copied entry.entry) }
 {
     Some(&entry?.kept)

@@ -9,10 +9,10 @@ ghost use Rattle.x_lex.specs.TokenList.{LiesAmong, patched};
 ghost use Rattle.x_cutting.specs.ItemList.{counts, total};
 ghost use Rattle.x_session.specs.KeptView.{AreAlong, kept_found};
 
-use crate::compile::Kept;
+use crate::compile::ItemContent;
 use std::alloc::Global;
 use x_item::ItemPatch;
-use x_lex::{Patch, PatchedWalk, Token, Tokens};
+use x_lex::{Patch, PatchedTokenIter, Token, Tokens};
 use x_text::{Meter, NoMemory, Source};
 
 /// Parses the fresh items of a patch, whose tokens are among those that the patch of the tokens will leave,
@@ -22,7 +22,7 @@ pub fn parse_fresh(
     tokens: &Tokens,
     patch: &Patch,
     text: &Source,
-    items: &mut ItemPatch<Kept>,
+    items: &mut ItemPatch<ItemContent>,
     meter: &mut Meter,
 ) -> Result<(), NoMemory>
     requires among { LiesAmong tokens.now.list patch.now }
@@ -44,14 +44,14 @@ pub fn parse_fresh(
     let mut part = Vec::new(alloc);
     for index in 0..items.len() {
         take_tokens(&mut part, &mut walk, token_count(items, index))?;
-        let kept = Kept::parsed(alloc, &part, meter)?;
+        let kept = ItemContent::parsed(alloc, &part, meter)?;
         items.exchange(index, kept);
     }
     Ok(())
 }
 
 /// How many tokens a fresh item has.
-fn token_count(items: &ItemPatch<Kept>, index: usize) -> usize
+fn token_count(items: &ItemPatch<ItemContent>, index: usize) -> usize
     requires { index < length items.now.fresh }
     ensures { slice_get (counts items.now.fresh) index ≡ Some result }
 {
@@ -65,7 +65,7 @@ fn token_count(items: &ItemPatch<Kept>, index: usize) -> usize
 /// fewer.
 fn take_tokens<'a>(
     part: &mut Vec<Token<'a>>,
-    walk: &mut PatchedWalk<'a>,
+    walk: &mut PatchedTokenIter<'a>,
     count: usize,
 ) -> Result<(), NoMemory>
     ensures part { OnOk result (map lexeme part.new.items ≡ take count walk.old) }

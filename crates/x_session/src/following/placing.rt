@@ -1,7 +1,7 @@
 //! What an edit changes of the items, put in place from the first to the last.
 
 ghost use Rattle.std.specs.Prelude.{◌≡◌, ◌+◌, ◌*◌, ◌<◌, ◌≤◌, ℕ, List, ◌∷◌, IfSome, None, Some, length};
-ghost use Rattle.x_text.specs.declared.source.TheConstants.{MAX_TEXT};
+ghost use Rattle.x_text.specs.declared.text.source.TheConstants.{MAX_TEXT};
 ghost use Rattle.x_text.specs.Seqs.{distance};
 ghost use Rattle.x_cutting.specs.ItemList.{counts, kept, patched};
 ghost use Rattle.x_recheck.specs.Staleness.{Ascending};
@@ -9,14 +9,14 @@ ghost use Rattle.x_session.specs.Checking.{IsKnownAt};
 ghost use Rattle.x_session.specs.Following.{CanPut, behind, kept_behind, whole};
 ghost use Rattle.x_session.specs.KeptView.{AreWith, IsWithAt};
 ghost use Rattle.x_session.specs.Moves.{HasMoved, changed_items, left_changes, moves, place_of, seat_behind};
-ghost use Rattle.x_session.specs.Planned.{ArePlanned, numbers_of};
+ghost use Rattle.x_session.specs.PlannedResult.{ArePlanned, numbers_of};
 
-use crate::compile::{Found, Kept, Planned};
+use crate::compile::{CheckResult, ItemContent, PlannedResult};
 use x_item::{ItemPatch, Items};
 
 /// Carries the patch out, and keeps with each stale item of those that it leaves what was found of it, from
 /// the first that changes to the last. Answers how many entries moved. It takes no memory.
-pub fn put_changes(items: &mut Items<Kept>, patch: ItemPatch<Kept>, found: Vec<Planned>) -> u64
+pub fn put_changes(items: &mut Items<ItemContent>, patch: ItemPatch<ItemContent>, found: Vec<PlannedResult>) -> u64
     requires patch { CanPut items.old patch }
     requires planned { ArePlanned (kept_behind items.old.list patch) found.items }
     requires ascending { Ascending 0 (numbers_of found.items) }
@@ -39,7 +39,7 @@ pub fn put_changes(items: &mut Items<Kept>, patch: ItemPatch<Kept>, found: Vec<P
 
 /// Keeps with an item what was found of it, once what the patch puts in before it is in place. The item is
 /// one of those that the patch leaves. Answers how many entries moved.
-fn put_next(items: &mut Items<Kept>, pending: &mut Option<ItemPatch<Kept>>, planned: Planned) -> u64
+fn put_next(items: &mut Items<ItemContent>, pending: &mut Option<ItemPatch<ItemContent>>, planned: PlannedResult) -> u64
     requires pending { IfSome pending.old (CanPut items.old) }
     requires within { planned.item < length (whole items.old.list pending.old) }
     requires known { IsKnownAt (kept (whole items.old.list pending.old)) planned.item (Some planned.found) }
@@ -50,7 +50,7 @@ fn put_next(items: &mut Items<Kept>, pending: &mut Option<ItemPatch<Kept>>, plan
         → HasMoved items.old.seat (left_changes pending.old (planned.item ∷ ks)) result items.new.seat
         (left_changes pending.new ks) }
 {
-    let Planned { item, found } = planned;
+    let PlannedResult { item, found } = planned;
     if let Some(patch) = pending {
         if item < patch.at() {
             return keep_at(items, item, Some(found));
@@ -67,7 +67,7 @@ fn put_next(items: &mut Items<Kept>, pending: &mut Option<ItemPatch<Kept>>, plan
 
 /// Carries the patch out if it is still to be, unless nothing goes by it and nothing comes. Answers how many
 /// entries moved.
-fn put_pending(items: &mut Items<Kept>, pending: &mut Option<ItemPatch<Kept>>) -> u64
+fn put_pending(items: &mut Items<ItemContent>, pending: &mut Option<ItemPatch<ItemContent>>) -> u64
     requires { IfSome pending.old (CanPut items.old) }
     ensures list { items.new.list ≡ whole items.old.list pending.old }
     ensures pending { pending.new ≡ None }
@@ -86,7 +86,7 @@ fn put_pending(items: &mut Items<Kept>, pending: &mut Option<ItemPatch<Kept>>) -
 }
 
 /// Keeps with an item what was found of it, and answers how many entries moved.
-fn keep_at(items: &mut Items<Kept>, index: usize, found: Option<Box<Found>>) -> u64
+fn keep_at(items: &mut Items<ItemContent>, index: usize, found: Option<Box<CheckResult>>) -> u64
     requires within { index < length items.old.list }
     requires known { IsKnownAt (kept items.old.list) index found }
     ensures put { IsWithAt items.old.list index found items.new.list }
@@ -95,21 +95,21 @@ fn keep_at(items: &mut Items<Kept>, index: usize, found: Option<Box<Found>>) -> 
     ensures moved { result ≡ distance items.old.seat index (index + 1) }
     ensures seat { items.new.seat ≡ index + 1 }
 {
-    let (mut kept, out) = items.exchange(index, Kept::Nothing);
+    let (mut kept, out) = items.exchange(index, ItemContent::Nothing);
     kept.keep(found);
     let (_, back) = items.exchange(index, kept);
     out.saturating_add(back)
 }
 
 /// Keeps with a fresh item what was found of it, before the patch is carried out.
-fn keep_fresh(patch: &mut ItemPatch<Kept>, index: usize, found: Option<Box<Found>>)
+fn keep_fresh(patch: &mut ItemPatch<ItemContent>, index: usize, found: Option<Box<CheckResult>>)
     requires within { index < length patch.old.fresh }
     requires known { IsKnownAt (kept patch.old.fresh) index found }
     ensures put { IsWithAt patch.old.fresh index found patch.new.fresh }
     ensures counts { counts patch.new.fresh ≡ counts patch.old.fresh }
     ensures others { patch.new ≡ record patch.old { fresh = patch.new.fresh } }
 {
-    let mut kept = patch.exchange(index, Kept::Nothing);
+    let mut kept = patch.exchange(index, ItemContent::Nothing);
     kept.keep(found);
     patch.exchange(index, kept);
 }

@@ -10,7 +10,7 @@ ghost use Rattle.x_session.specs.Following.{AreStaleChecked, HasRoomForNames, Is
 ghost use Rattle.x_session.specs.KeptView.{entry_definitions, kept_found};
 ghost use Rattle.x_session.specs.Rendered.{AreRenderings, HasDefinitionAt, HaveDefinitions, IsRendering};
 
-use crate::compile::{Found, ItemTable, Kept, Planned, new_pieces};
+use crate::compile::{CheckResult, ItemTable, ItemContent, PlannedResult, new_pieces};
 use crate::following::counting::kept_behind;
 use crate::following::naming::NameChange;
 use std::alloc::Global;
@@ -24,11 +24,11 @@ use x_text::{Meter, NoMemory};
 pub fn check_stale_items(
     alloc: Global,
     items: &ItemTable,
-    patch: &ItemPatch<Kept>,
+    patch: &ItemPatch<ItemContent>,
     put: &[Option<&Definition>],
     names: &NameChange,
     meter: &mut Meter,
-) -> Result<Vec<Planned>, NoMemory>
+) -> Result<Vec<PlannedResult>, NoMemory>
     requires put { map tree_at put.now ≡ entry_definitions patch.now.fresh }
     requires among { LiesAmong items.now.entries.list patch.now }
     requires of_text_behind { AreOfText (counts (patched items.now.entries.list patch.now)) }
@@ -53,10 +53,10 @@ pub fn check_stale_items(
 /// What is to be kept of the stale items.
 fn render_all(
     alloc: Global,
-    items: &Items<Kept>,
-    patch: &ItemPatch<Kept>,
+    items: &Items<ItemContent>,
+    patch: &ItemPatch<ItemContent>,
     stale: Vec<Rechecked>,
-) -> Result<Vec<Planned>, NoMemory>
+) -> Result<Vec<PlannedResult>, NoMemory>
     requires among { LiesAmong items.now.list patch.now }
     requires made { All IsMade (kept (patched items.now.list patch.now)) }
     requires defined { HaveDefinitions (kept (patched items.now.list patch.now)) stale.items }
@@ -76,10 +76,10 @@ fn render_all(
 fn render(
     alloc: Global,
     renderer: &mut Renderer,
-    items: &Items<Kept>,
-    patch: &ItemPatch<Kept>,
+    items: &Items<ItemContent>,
+    patch: &ItemPatch<ItemContent>,
     rechecked: Rechecked,
-) -> Result<Planned, NoMemory>
+) -> Result<PlannedResult, NoMemory>
     requires among { LiesAmong items.now.list patch.now }
     requires made { All IsMade (kept (patched items.now.list patch.now)) }
     requires defined { HasDefinitionAt (kept (patched items.now.list patch.now)) rechecked.item }
@@ -94,8 +94,8 @@ fn render(
     };
     let checked = rechecked.checked;
     let pieces = new_pieces(renderer, definition, &checked, kept.pieces().is_some())?;
-    Ok(Planned {
+    Ok(PlannedResult {
         item: rechecked.item,
-        found: Box::new(alloc, Found { checked, pieces })?,
+        found: Box::new(alloc, CheckResult { checked, pieces })?,
     })
 }

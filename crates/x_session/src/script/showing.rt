@@ -5,7 +5,7 @@ ghost use Rattle.x_text.specs.Writing.{Adds};
 ghost use Rattle.x_schema.specs.Schema.{IsTypeId};
 ghost use Rattle.x_session.specs.Answers.{Answer};
 ghost use Rattle.x_session.specs.Commands.{bytes_of, is_hex};
-ghost use Rattle.x_session.specs.Script.{IsTold, TellsOver};
+ghost use Rattle.x_session.specs.Script.{AddsAnswer, TellsOver};
 ghost use Rattle.x_session.specs.Session.{Compiles};
 ghost use Rattle.x_session.specs.Showing.{IsDumpAnswer, IsMessageAnswer, IsTypedAnswer, value_answer};
 
@@ -91,7 +91,7 @@ pub(crate) fn answer_dump<S: Sink>(
     requires { 0 < length hex.now → is_hex hex.now ≡ true }
     ensures told { IfOk result (λ refused. Compiles session.now.text (λ items. (a : Answer)
         × IsDumpAnswer session.now.text items name.now (bytes_of hex.now) a
-        × IsTold a session.now.text refused pen.old (S.state sink.old) pen.new (S.state sink.new))) }
+        × AddsAnswer a session.now.text refused pen.old (S.state sink.old) pen.new (S.state sink.new))) }
     ensures same { OnErr result ((pen.new ≡ pen.old) × (sink.new ≡ sink.old)) }
 {
     match session.schema() {

@@ -7,11 +7,11 @@ ghost use Rattle.x_session.specs.Compile.{faults_of};
 ghost use Rattle.x_session.specs.FaultWalk.{AreOrdered};
 ghost use Rattle.x_session.specs.SessionState.{items_of};
 
-use crate::compile::{Fault, ItemTable, Kept};
+use crate::compile::{Fault, ItemTable, ItemContent};
 use crate::session::item_faults::ItemFaults;
 use crate::session::reader::Reader;
 use std::marker::Model;
-use x_item::Entry;
+use x_item::ItemEntry;
 use x_lex::Tokens;
 use x_text::{GapIter, Lines, Source};
 
@@ -25,7 +25,7 @@ pub struct Faults<'s> {
     /// The faults of an item.
     item: ItemFaults<'s>,
     /// The items behind it.
-    entries: GapIter<'s, Entry<Kept>>,
+    entries: GapIter<'s, ItemEntry<ItemContent>>,
     /// The number of the first of them.
     next: u32,
     lines: Lines<'s>,
@@ -33,7 +33,7 @@ pub struct Faults<'s> {
 
 impl<'s> Model for Faults<'s> {
     ghost use Rattle.std.specs.Prelude.{List, ◌≡◌, ◌+◌, ◌≤◌, length};
-    ghost use Rattle.x_text.specs.declared.source.TheConstants.{MAX_TEXT};
+    ghost use Rattle.x_text.specs.declared.text.source.TheConstants.{MAX_TEXT};
     ghost use Rattle.x_session.specs.FaultWalk.{AreOrdered, IsTelling, faults_left};
     ghost use Rattle.x_session.specs.declared.compile.fault.Fault.{Fault};
 

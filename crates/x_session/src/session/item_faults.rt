@@ -7,9 +7,9 @@ ghost use Rattle.x_session.specs.FaultWalk.{IsTelling, faults_here, places_left}
 ghost use Rattle.x_session.specs.KeptView.{found_result, item_with, kept_found};
 ghost use Rattle.x_session.specs.ItemReading.{behind};
 
-use crate::compile::{FaultCode, Kept, Told};
-use crate::session::reader::{Place, Reader};
-use x_item::Entry;
+use crate::compile::{FaultCode, ItemContent, Verdict};
+use crate::session::reader::{WordPlace, Reader};
+use x_item::ItemEntry;
 
 /// The faults of an item that are left.
 #[derive(Drop)]
@@ -17,7 +17,7 @@ pub struct ItemFaults<'s> {
     /// The number of the item.
     pub number: u32,
     pub reader: Reader<'s>,
-    pub told: Told<'s>,
+    pub told: Verdict<'s>,
 }
 
 impl<'s> ItemFaults<'s> {
@@ -30,7 +30,7 @@ impl<'s> ItemFaults<'s> {
         ItemFaults {
             number: 0,
             reader,
-            told: Told::Rules(&[]),
+            told: Verdict::Rules(&[]),
         }
     }
 
@@ -39,13 +39,13 @@ impl<'s> ItemFaults<'s> {
         ensures { IsTrue result ↔ (places_left self.now.reader self.now.told ≡ []) }
     {
         match self.told {
-            Told::Syntax { .. } => false,
-            Told::Rules(faults) => faults.is_empty(),
+            Verdict::Syntax { .. } => false,
+            Verdict::Rules(faults) => faults.is_empty(),
         }
     }
 
     /// Goes on to the next item, which has this number.
-    pub fn begin(&mut self, number: u32, entry: &'s Entry<Kept>)
+    pub fn begin(&mut self, number: u32, entry: &'s ItemEntry<ItemContent>)
         requires { Ascends (rule_faults (found_result (kept_found entry.now.kept))) }
         ensures faults { (text : List ℕ) → faults_here text self.new
             ≡ item_faults text number (item_with (behind self.old.reader) entry.now) }
@@ -58,7 +58,7 @@ impl<'s> ItemFaults<'s> {
     }
 
     /// The next fault: its place, and what is wrong.
-    pub fn tell(&mut self) -> Option<(Place, FaultCode)>
+    pub fn tell(&mut self) -> Option<(WordPlace, FaultCode)>
         requires { IsTelling self.old }
         ensures told { MatchOption result (places_left self.old.reader self.old.told ≡ [])
             (λ found. places_left self.old.reader self.old.told
@@ -68,14 +68,14 @@ impl<'s> ItemFaults<'s> {
         ensures telling { IsTelling self.new }
     {
         match self.told {
-            Told::Syntax { token, code } => {
-                self.told = Told::Rules(&[]);
+            Verdict::Syntax { token, code } => {
+                self.told = Verdict::Rules(&[]);
                 let start = self.reader.start_of(token as usize);
-                Some((Place { token, start }, FaultCode::Syntax(code)))
+                Some((WordPlace { token, start }, FaultCode::Syntax(code)))
             }
-            Told::Rules(faults) => {
+            Verdict::Rules(faults) => {
                 let (fault, others) = faults.split_first()?;
-                self.told = Told::Rules(others);
+                self.told = Verdict::Rules(others);
                 Some((self.reader.seek(fault.word), FaultCode::Rule(fault.code)))
             }
         }

@@ -1,17 +1,17 @@
 //! Reading the tokens of an item, word by word.
 
 ghost use Rattle.std.specs.Prelude.{◌≡◌, ◌+◌, ◌<◌, ◌≤◌, ℕ, [], false, length, IsTrue};
-ghost use Rattle.x_text.specs.declared.source.TheConstants.{MAX_TEXT};
+ghost use Rattle.x_text.specs.declared.text.source.TheConstants.{MAX_TEXT};
 ghost use Rattle.x_session.specs.Compile.{start_of};
 ghost use Rattle.x_session.specs.ItemReading.{behind, place_of, unread};
 
 use std::marker::Model;
 use x_item::is_significant;
-use x_lex::Walk;
+use x_lex::TokenIter;
 
 /// A token of an item, counted from 0, and where it starts.
 #[derive(Clone, Copy)]
-pub struct Place {
+pub struct WordPlace {
     pub token: u32,
     pub start: usize,
 }
@@ -20,7 +20,7 @@ pub struct Place {
 #[derive(Drop)]
 pub struct Reader<'s> {
     /// The tokens that are not read yet, of the item and of all behind it.
-    walk: Walk<'s>,
+    walk: TokenIter<'s>,
     /// How many of them are of the item.
     left: usize,
     /// How many of its tokens are read.
@@ -28,12 +28,12 @@ pub struct Reader<'s> {
     /// How many words are among those.
     words: usize,
     /// The last of these words.
-    last: Place,
+    last: WordPlace,
 }
 
 impl<'s> Model for Reader<'s> {
     ghost use Rattle.std.specs.Prelude.{◌+◌, ◌≤◌, length};
-    ghost use Rattle.x_text.specs.declared.source.TheConstants.{MAX_TEXT};
+    ghost use Rattle.x_text.specs.declared.text.source.TheConstants.{MAX_TEXT};
     ghost use Rattle.x_session.specs.ItemReading.{ItemReading};
 
     ghost Value = { ItemReading };
@@ -52,7 +52,7 @@ impl<'s> Model for Reader<'s> {
 
 impl<'s> Reader<'s> {
     /// A reader before the first item of these tokens.
-    pub fn of(walk: Walk<'s>) -> Reader<'s>
+    pub fn of(walk: TokenIter<'s>) -> Reader<'s>
         requires { length walk ≤ MAX_TEXT }
         ensures left { behind result ≡ walk.entry }
     {
@@ -61,7 +61,7 @@ impl<'s> Reader<'s> {
             left: 0,
             read: 0,
             words: 0,
-            last: Place { token: 0, start: 0 },
+            last: WordPlace { token: 0, start: 0 },
         }
     }
 
@@ -111,7 +111,7 @@ impl<'s> Reader<'s> {
             return false;
         };
         if is_significant(token.kind) {
-            self.last = Place {
+            self.last = WordPlace {
                 token: self.read as u32,
                 start: token.start,
             };
@@ -123,7 +123,7 @@ impl<'s> Reader<'s> {
     }
 
     /// The place of a word that is the last one that was read, or is not read yet.
-    pub fn seek(&mut self, word: usize) -> Place
+    pub fn seek(&mut self, word: usize) -> WordPlace
         requires { self.old.words ≤ word + 1 }
         ensures place { result ≡ place_of self.old word }
         ensures same { (later : ℕ) → word ≤ later → place_of self.new later ≡ place_of self.old later }
@@ -132,7 +132,7 @@ impl<'s> Reader<'s> {
     {
         while self.words <= word {
             if !self.step() {
-                return Place {
+                return WordPlace {
                     token: self.read as u32,
                     start: 0,
                 };

@@ -4,12 +4,12 @@ ghost use Rattle.smallvec.specs.SmallVec.{HasRoomFor};
 ghost use Rattle.x_uses.specs.Slots.{front_of, rear_of, number_after, stays, renumbered, filled, sum_of};
 ghost use Rattle.x_uses.specs.Slots.{user_item, put_user, ends_at, noted};
 
-use super::Place;
+use super::ItemSplice;
 use smallvec::SmallVec;
 use x_text::NoMemory;
 
 /// What stands at an item.
-pub trait Placed: Copy + Default + Drop {
+pub trait AtItem: Copy + Default + Drop {
     ghost item_of: { Self → ℕ };
 
     ghost put: { ℕ → Self → Self };
@@ -23,7 +23,7 @@ pub trait Placed: Copy + Default + Drop {
         ensures { result ≡ put item self };
 }
 
-impl Placed for u32 {
+impl AtItem for u32 {
     ghost item_of = { user_item };
 
     ghost put = { put_user };
@@ -38,7 +38,7 @@ impl Placed for u32 {
 }
 
 /// How many of a list stand at items below a bound, from the first on.
-pub fn count_below<T: Placed>(places: &[T], bound: usize) -> usize
+pub fn count_below<T: AtItem>(places: &[T], bound: usize) -> usize
     ensures within { result ≤ length places.now }
     ensures front { take result places.now ≡ front_of T.item_of bound places.now }
     ensures rear { drop result places.now ≡ rear_of T.item_of bound places.now }
@@ -50,7 +50,7 @@ pub fn count_below<T: Placed>(places: &[T], bound: usize) -> usize
     count
 }
 
-impl Place {
+impl ItemSplice {
     /// The number after the edit of an item that stays.
     pub(crate) fn number_after(self, item: usize) -> usize
         ensures { result ≡ number_after self item }
@@ -64,7 +64,7 @@ impl Place {
 }
 
 /// Gives what stands at an item that stays its number after the edit.
-pub fn renumber<T: Placed>(places: &mut [T], place: Place)
+pub fn renumber<T: AtItem>(places: &mut [T], place: ItemSplice)
     ensures { places.new ≡ renumbered T.item_of T.put place places.old }
 {
     for index in 0..places.len() {
@@ -74,7 +74,7 @@ pub fn renumber<T: Placed>(places: &mut [T], place: Place)
 }
 
 /// The same of a vector.
-pub fn renumber_all<T: Placed, const N: usize>(places: &mut SmallVec<T, N>, place: Place)
+pub fn renumber_all<T: AtItem, const N: usize>(places: &mut SmallVec<T, N>, place: ItemSplice)
     ensures items { places.new.items ≡ renumbered T.item_of T.put place places.old.items }
     ensures capacity { places.new.capacity ≡ places.old.capacity }
 {
@@ -82,7 +82,7 @@ pub fn renumber_all<T: Placed, const N: usize>(places: &mut SmallVec<T, N>, plac
 }
 
 /// Takes out what stands at the items that the edit takes out.
-pub fn take_out<T: Placed, const N: usize>(places: &mut SmallVec<T, N>, place: Place)
+pub fn take_out<T: AtItem, const N: usize>(places: &mut SmallVec<T, N>, place: ItemSplice)
     ensures items { places.new.items ≡ stays T.item_of place places.old.items }
     ensures capacity { places.new.capacity ≡ places.old.capacity }
 {
@@ -95,7 +95,7 @@ pub fn take_out<T: Placed, const N: usize>(places: &mut SmallVec<T, N>, place: P
 }
 
 /// Puts others between, whose items are counted from `at`.
-pub fn put_in<T: Placed, const N: usize>(places: &mut SmallVec<T, N>, at: usize, fresh: &[T])
+pub fn put_in<T: AtItem, const N: usize>(places: &mut SmallVec<T, N>, at: usize, fresh: &[T])
     requires { HasRoomFor places.old (length fresh.now) }
     ensures items { places.new.items ≡ filled T.item_of T.put at fresh.now places.old.items }
     ensures capacity { places.new.capacity ≡ places.old.capacity }
@@ -107,7 +107,7 @@ pub fn put_in<T: Placed, const N: usize>(places: &mut SmallVec<T, N>, at: usize,
 }
 
 /// Puts others at the end, whose items are counted from `at`.
-fn push_all<T: Placed, const N: usize>(places: &mut SmallVec<T, N>, at: usize, fresh: &[T])
+fn push_all<T: AtItem, const N: usize>(places: &mut SmallVec<T, N>, at: usize, fresh: &[T])
     requires { HasRoomFor places.old (length fresh.now) }
     ensures items { places.new.items
         ≡ places.old.items ++ map (λ y. T.put (sum_of at (T.item_of y)) y) fresh.now }
@@ -120,7 +120,7 @@ fn push_all<T: Placed, const N: usize>(places: &mut SmallVec<T, N>, at: usize, f
 }
 
 /// Whether a list ends with what stands at this item.
-fn ends_at<T: Placed>(places: &[T], item: usize) -> bool
+fn ends_at<T: AtItem>(places: &[T], item: usize) -> bool
     ensures { result ≡ ends_at T.item_of item places.now }
 {
     match places.last() {
@@ -130,7 +130,7 @@ fn ends_at<T: Placed>(places: &[T], item: usize) -> bool
 }
 
 /// Adds one at the end, but for a second of the same item.
-pub fn note<T: Placed, const N: usize>(places: &mut SmallVec<T, N>, here: T) -> Result<(), NoMemory>
+pub fn note<T: AtItem, const N: usize>(places: &mut SmallVec<T, N>, here: T) -> Result<(), NoMemory>
     ensures { OnOk result (places.new.items ≡ noted T.item_of places.old.items here) }
 {
     if !ends_at(places, here.item()) {

@@ -6,12 +6,12 @@ ghost use Rattle.x_uses.specs.Occurrences.{Definitions, IsUsesOf, HasRoom, decla
 ghost use Rattle.x_uses.specs.Slots.{slot_at, Changes, ChangesEach, HasSameLists, RoomFor, names_of_entries};
 ghost use Rattle.x_uses.specs.Slots.{slot_stays, slot_renumbered, going, coming, HasSameSlots};
 
-use super::Place;
+use super::ItemSplice;
 use super::slot::Slot;
 use super::table::Table;
 
 /// Takes the items that the edit takes out from the name.
-fn take_out_at(table: &mut Table, name: &[u8], place: Place)
+fn take_out_at(table: &mut Table, name: &[u8], place: ItemSplice)
     ensures { Changes table.old.entries table.new.entries name.now (option_map (slot_stays place)) }
 {
     if let Some(slot) = table.get_mut(name) {
@@ -20,7 +20,7 @@ fn take_out_at(table: &mut Table, name: &[u8], place: Place)
 }
 
 /// The same of each name of another table.
-fn take_out_each(table: &mut Table, gone: &Table, place: Place)
+fn take_out_each(table: &mut Table, gone: &Table, place: ItemSplice)
     ensures { ChangesEach table.old.entries table.new.entries gone.now.entries (going place) }
 {
     for (name, _slot) in gone {
@@ -30,7 +30,7 @@ fn take_out_each(table: &mut Table, gone: &Table, place: Place)
 
 /// Gives all items their numbers after the edit. They are others only where it puts in more or fewer items
 /// than it takes out.
-fn renumber(table: &mut Table, place: Place)
+fn renumber(table: &mut Table, place: ItemSplice)
     ensures same { place.removed ≡ place.added → HasSameSlots table.old.entries table.new.entries }
     ensures moved { (place.removed ≡ place.added → ⊥) → (name : List ℕ) → slot_at table.new.entries name
         ≡ option_map (slot_renumbered place) (slot_at table.old.entries name) }
@@ -41,7 +41,7 @@ fn renumber(table: &mut Table, place: Place)
 }
 
 /// The same in any case.
-fn renumber_each(table: &mut Table, place: Place)
+fn renumber_each(table: &mut Table, place: ItemSplice)
     ensures { (name : List ℕ) → slot_at table.new.entries name
         ≡ option_map (slot_renumbered place) (slot_at table.old.entries name) }
 {
@@ -100,7 +100,7 @@ fn forget_each(table: &mut Table, gone: &Table)
 }
 
 /// Follows an edit that takes out the items at the place, with the uses `gone`, and puts in those of `fresh`.
-pub fn replace_in(table: &mut Table, place: Place, gone: &Table, fresh: &Table)
+pub fn replace_in(table: &mut Table, place: ItemSplice, gone: &Table, fresh: &Table)
     requires { RoomFor table.old.entries fresh.now.entries }
     ensures { (old put : Definitions) → IsUsesOf old (names_of_entries table.old.entries)
         → IsUsesOf (take place.removed (drop place.at old)) (names_of_entries gone.now.entries)

@@ -6,8 +6,8 @@ ghost use Rattle.x_uses.specs.Occurrences.{declarer_of, HasRoom};
 ghost use Rattle.x_uses.specs.Slots.{slot_stays, slot_renumbered, slot_filled, empty_slot, Widens};
 ghost use Rattle.x_uses.specs.Slots.{declarer_item, put_declarer, user_item, noted};
 
-use super::Place;
-use super::places::{Placed, note, put_in, renumber_all, take_out};
+use super::ItemSplice;
+use super::places::{AtItem, note, put_in, renumber_all, take_out};
 use smallvec::SmallVec;
 use std::alloc::Global;
 use x_names::Declarer;
@@ -36,7 +36,7 @@ impl Default for CompactDeclarer {
     }
 }
 
-impl Placed for CompactDeclarer {
+impl AtItem for CompactDeclarer {
     ghost item_of = { declarer_item };
 
     ghost put = { put_declarer };
@@ -134,7 +134,7 @@ impl Slot {
     }
 
     /// Takes out the items that the edit takes out.
-    pub fn take_out(&mut self, place: Place)
+    pub fn take_out(&mut self, place: ItemSplice)
         ensures { self.new ≡ slot_stays place self.old }
     {
         take_out(&mut self.declarers, place);
@@ -142,7 +142,7 @@ impl Slot {
     }
 
     /// Gives the items that stay their numbers after the edit.
-    pub fn renumber(&mut self, place: Place)
+    pub fn renumber(&mut self, place: ItemSplice)
         ensures { self.new ≡ slot_renumbered place self.old }
     {
         renumber_all(&mut self.declarers, place);

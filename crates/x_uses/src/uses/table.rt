@@ -4,7 +4,7 @@ ghost use Rattle.x_uses.specs.Occurrences.{declarers_at, users_at, declarer_of};
 ghost use Rattle.x_uses.specs.Slots.{slot_at, number_after, front_of, rear_of, item_of_declarer};
 ghost use Rattle.x_uses.specs.Slots.{with_item, first_of, first_after};
 
-use super::Place;
+use super::ItemSplice;
 use super::places::count_below;
 use super::slot::{CompactDeclarer, Slot};
 use indexmap::IndexMap;
@@ -72,7 +72,7 @@ fn with_item(declarer: Declarer, item: usize) -> Declarer
 }
 
 /// The first declarer of the name once an edit puts the items of `fresh` in at the place.
-pub fn first_after_in(table: &Table, fresh: &Table, place: Place, name: &[u8]) -> Option<Declarer>
+pub fn first_after_in(table: &Table, fresh: &Table, place: ItemSplice, name: &[u8]) -> Option<Declarer>
     ensures { result ≡ first_after place (declarers_at (slot_at fresh.now.entries name.now))
         (declarers_at (slot_at table.now.entries name.now)) }
 {

@@ -91,7 +91,7 @@ pub enum Reply<'a> {
 
 /// A call or a reply (section 9, `msg_type`).
 #[derive(Clone, Copy, Debug)]
-pub enum Kind<'a> {
+pub enum MessageKind<'a> {
     /// A call
     Call(Call<'a>),
     /// A reply
@@ -104,7 +104,7 @@ pub struct Message<'a> {
     /// The number that a call and its reply have in common.
     pub xid: u32,
     /// What it is.
-    pub kind: Kind<'a>,
+    pub kind: MessageKind<'a>,
 }
 
 impl AcceptStat<'_> {

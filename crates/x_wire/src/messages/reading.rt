@@ -9,7 +9,7 @@ ghost use Rattle.x_wire.specs.Messages.{accept_of, results_of, reject_of, header
 ghost use Rattle.x_wire.specs.Messages.{header_of_kind, body_of_kind, header_of, body_of};
 
 use super::fields::{Refusal, auth, number, state};
-use super::parts::{AcceptStat, Call, Kind, Message, RejectStat, Reply};
+use super::parts::{AcceptStat, Call, MessageKind, Message, RejectStat, Reply};
 use x_value::{ReadCode, ReadFault};
 
 /// `msg_type` is 0 for a call and 1 for a reply.
@@ -117,7 +117,7 @@ fn denied(bytes: &[u8]) -> Result<Reply<'_>, Refusal>
 /// A call.
 fn call(bytes: &[u8]) -> Result<Call<'_>, Refusal>
     ensures ok { IfOk result (λ c. (xid : ℕ)
-        → Reads (call_form xid) bytes.now (Whole (header_of_kind xid (Kind.Call c))) c.body.now) }
+        → Reads (call_form xid) bytes.now (Whole (header_of_kind xid (MessageKind.Call c))) c.body.now) }
     ensures err { IfErr result (λ e. (xid : ℕ) → FormFault (call_form xid) bytes.now e.left e.code) }
 {
     let (rpcvers, rest) = number(bytes)?;
@@ -151,20 +151,20 @@ fn reply(number: u32, bytes: &[u8]) -> Result<Reply<'_>, Refusal>
 }
 
 /// A call or a reply, by the number of its type.
-fn kind(number: u32, bytes: &[u8]) -> Result<Kind<'_>, Refusal>
+fn kind(number: u32, bytes: &[u8]) -> Result<MessageKind<'_>, Refusal>
     ensures ok { IfOk result (λ r. (xid : ℕ)
         → Reads (kind_form xid number) bytes.now (Whole (header_of_kind xid r)) (body_of_kind r)) }
     ensures err { IfErr result (λ e. (xid : ℕ) → FormFault (kind_form xid number) bytes.now e.left e.code) }
 {
     if number == 0 {
-        return Ok(Kind::Call(call(bytes)?));
+        return Ok(MessageKind::Call(call(bytes)?));
     }
     let (number, rest) = state(LAST_REPLY_STAT, bytes)?;
-    Ok(Kind::Reply(reply(number, rest)?))
+    Ok(MessageKind::Reply(reply(number, rest)?))
 }
 
 /// A whole message.
-fn whole(bytes: &[u8]) -> Result<Message<'_>, Refusal>
+fn whole_message(bytes: &[u8]) -> Result<Message<'_>, Refusal>
     ensures ok { IfOk result (λ m. Reads header_form bytes.now (Whole (header_of m)) (body_of m)) }
     ensures err { IfErr result (λ e. FormFault header_form bytes.now e.left e.code) }
 {
@@ -187,7 +187,7 @@ pub fn message(bytes: &[u8]) -> Result<Message<'_>, ReadFault>
     ensures err { IfErr result (λ e. IsHeaderFault bytes.now e.at e.code) }
     ensures memory { IfErr result (λ e. e.code ≡ ReadCode.NoMemory → ⊥) }
 {
-    match whole(bytes) {
+    match whole_message(bytes) {
         Ok(message) => Ok(message),
         Err(refusal) => Err(ReadFault {
             at: bytes.len() - refusal.left,

@@ -7,7 +7,7 @@ ghost use Rattle.x_wire.specs.MessageTexts.{auth_line, bad_header_line, call_lin
 ghost use Rattle.x_wire.specs.MessageTexts.{reject_details, reject_name};
 ghost use Rattle.x_wire.specs.StreamTexts.{record_line};
 
-use super::teller::Heard;
+use super::teller::CallOfXid;
 use crate::{AcceptStat, Auth, Call, RecordFault, RejectStat};
 use itoa::Integer;
 use x_text::{Pen, Sink};
@@ -97,7 +97,7 @@ pub(super) fn add_call<S: Sink>(
 }
 
 /// Adds the number of the call that a reply belongs to.
-fn add_call_number<S: Sink>(heard: Option<Heard>, pen: &mut Pen, sink: &mut S)
+fn add_call_number<S: Sink>(heard: Option<CallOfXid>, pen: &mut Pen, sink: &mut S)
     ensures { Adds pen.old (S.state sink.old) pen.new (S.state sink.new) (call_number heard) }
 {
     match heard {
@@ -117,7 +117,7 @@ fn add_words<S: Sink>(first: &str, second: &str, pen: &mut Pen, sink: &mut S)
 
 /// Adds what became of a call, and the number of the call.
 #[tactic(auto, using(x_text::proofs::Adding::four))]
-fn add_state<S: Sink>(word: &str, state: &str, heard: Option<Heard>, pen: &mut Pen, sink: &mut S)
+fn add_state<S: Sink>(word: &str, state: &str, heard: Option<CallOfXid>, pen: &mut Pen, sink: &mut S)
     ensures { Adds pen.old (S.state sink.old) pen.new (S.state sink.new)
         (codes " " ++ (word.now ++ state.now) ++ codes " call=" ++ call_number heard) }
 {
@@ -134,7 +134,7 @@ fn add_reply_line<S: Sink>(
     xid: u32,
     word: &str,
     state: &str,
-    heard: Option<Heard>,
+    heard: Option<CallOfXid>,
     name: &[u8],
     pen: &mut Pen,
     sink: &mut S,
@@ -175,7 +175,7 @@ pub(super) fn add_accepted<S: Sink>(
     xid: u32,
     verf: &Auth,
     stat: &AcceptStat,
-    heard: Option<Heard>,
+    heard: Option<CallOfXid>,
     name: &[u8],
     pen: &mut Pen,
     sink: &mut S,
@@ -226,7 +226,7 @@ pub(super) fn add_denied<S: Sink>(
     number: u64,
     xid: u32,
     stat: &RejectStat,
-    heard: Option<Heard>,
+    heard: Option<CallOfXid>,
     name: &[u8],
     pen: &mut Pen,
     sink: &mut S,

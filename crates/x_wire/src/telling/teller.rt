@@ -4,11 +4,11 @@ ghost use Rattle.x_wire.specs.Calls.{numbers_called, numbers_heard};
 ghost use Rattle.x_wire.specs.Messages.{body_of, body_of_reply, header_of, header_of_kind, header_of_reply};
 ghost use Rattle.x_wire.specs.Tellers.{IsFound, Knows, TellsHeader, TellsMessage, TellsReply};
 ghost use Rattle.x_wire.specs.Tellers.{arg_found, name_found, res_found};
-ghost use Rattle.x_wire.specs.declared.messages.parts.Kind.TheVariants as kinds;
+ghost use Rattle.x_wire.specs.declared.messages.parts.MessageKind.TheVariants as kinds;
 
 use super::body::read_body;
 use super::lines::{add_accepted, add_bad_header, add_call, add_denied};
-use crate::{AcceptStat, Call, Kind, Message, RejectStat, Reply, message};
+use crate::{AcceptStat, Call, MessageKind, Message, RejectStat, Reply, message};
 use indexmap::IndexMap;
 use std::alloc::Global;
 use x_schema::{Procedure, ProcedureNumbers, Schema, TypeId};
@@ -19,7 +19,7 @@ const RPC_VERSION: u32 = 2;
 
 /// A call, as its replies need it.
 #[derive(Clone, Copy, Debug)]
-pub(super) struct Heard {
+pub(super) struct CallOfXid {
     /// Its number among the messages, from 1.
     pub(super) number: u64,
     /// The procedure that it names.
@@ -31,7 +31,7 @@ pub(super) struct Heard {
 pub(super) struct Teller {
     /// How many messages were told.
     count: u64,
-    calls: IndexMap<u32, Heard>,
+    calls: IndexMap<u32, CallOfXid>,
 }
 
 /// The procedure that a call names; what a call of another version of the protocol names is not said.
@@ -57,7 +57,7 @@ fn find(schema: &Schema, numbers: Option<ProcedureNumbers>) -> Option<Procedure<
 }
 
 /// The procedure of a call, if the schema has it.
-fn find_heard(schema: &Schema, heard: Option<Heard>) -> Option<Procedure<'_>>
+fn find_heard(schema: &Schema, heard: Option<CallOfXid>) -> Option<Procedure<'_>>
     ensures { IsFound schema.now (numbers_heard heard) result }
 {
     match heard {
@@ -172,8 +172,8 @@ impl Teller {
         ensures count { self.new.count ≡ self.old.count }
     {
         match &message.kind {
-            Kind::Call(call) => self.tell_call(alloc, schema, number, message.xid, call, pen, sink),
-            Kind::Reply(reply) => {
+            MessageKind::Call(call) => self.tell_call(alloc, schema, number, message.xid, call, pen, sink),
+            MessageKind::Reply(reply) => {
                 let heard = self.calls.get(&message.xid).copied();
                 tell_reply(alloc, schema, number, message.xid, heard, reply, pen, sink)
             }
@@ -200,7 +200,7 @@ impl Teller {
         let numbers = numbers_called(call);
         let procedure = find(schema, numbers);
         let arguments = read_body(alloc, schema, arg_of(&procedure), call.body)?;
-        let heard = Heard {
+        let heard = CallOfXid {
             number,
             procedure: numbers,
         };
@@ -216,7 +216,7 @@ fn tell_reply<S: Sink>(
     schema: &Schema,
     number: u64,
     xid: u32,
-    heard: Option<Heard>,
+    heard: Option<CallOfXid>,
     reply: &Reply,
     pen: &mut Pen,
     sink: &mut S,

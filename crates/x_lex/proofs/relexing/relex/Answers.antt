@@ -1,5 +1,5 @@
 use Rattle.std.proofs.Common.{◌≤◌, length, sym, ap, subst, ◌∙◌}
-use Rattle.x_text.specs.declared.source.TheConstants.{MAX_TEXT}
+use Rattle.x_text.specs.declared.text.source.TheConstants.{MAX_TEXT}
 use Rattle.x_text.specs.Edits.{change_of, edited_by}
 use Rattle.x_lex.specs.TokenList.{patched, IsOfText}
 use Rattle.x_lex.specs.Relex.{IsPatch}

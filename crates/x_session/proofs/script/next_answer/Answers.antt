@@ -3,7 +3,7 @@ use Rattle.std.specs.Prelude.{codes}
 use Rattle.x_session.specs.Answers.{refused}
 use Rattle.x_session.specs.LineAnswers.{too_long}
 use Rattle.x_lines.specs.declared.lines.LineFault.{LineFault}
-use Rattle.x_lines.specs.declared.lines.Found.TheVariants.{Line, TooLong, End}
+use Rattle.x_lines.specs.declared.lines.LineEvent.TheVariants.{Line, TooLong, End}
 use Rattle.x_session.specs.Script.{IsGiven, LineAnswers, GoesOn}
 use Rattle.std.proofs.lemmas.Result.{err_from_is_err_and}
 use Rattle.x_session.proofs.Scripts.{has_read, line_given, all_given, found_as, stops_behind, before_line, before_long, before_fault}

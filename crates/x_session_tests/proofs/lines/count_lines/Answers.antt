@@ -1,6 +1,6 @@
 use Rattle.std.proofs.Common.{◌≡◌, [], ◌∷◌, ◌++◌, ◌+◌, List, ℕ, Ok, refl, subst, ap, ◌∙◌, length, length-append, sym, Option, None, Some}
 use Rattle.std.specs.Option.{IfSome}
-use Rattle.x_lines.specs.declared.lines.Found.TheVariants.{End}
+use Rattle.x_lines.specs.declared.lines.LineEvent.TheVariants.{End}
 use Rattle.x_lines.specs.Lines.{IsUnread, ReadsOn, script_lines}
 use Rattle.x_lines.proofs.LineLemmas.{given_start, given_all, found_more}
 use Rattle.x_session_tests.proofs.lines.count_lines.Goals as goal

@@ -1,6 +1,6 @@
 use Rattle.std.proofs.Common.{vec_len, ◌≡◌, ◌-◌, ◌++◌, ◌∷◌, [], length, refl, ap, ◌∙◌}
 use Rattle.x_value.specs.declared.fault.ReadCode.TheVariants as codes
-use Rattle.x_value.specs.declared.task.Task.TheVariants.{One}
+use Rattle.x_value.specs.declared.reading.task.Task.TheVariants.{One}
 use Rattle.x_value.specs.Dumps.{root_job}
 use Rattle.x_value.specs.Entries.{nodes_of}
 use Rattle.x_value.specs.Work.{pending}
@@ -11,11 +11,11 @@ use Rattle.x_value.proofs.reading.dump.Goals as goal
 pub loop-task-init : goal.loop-task-init
 loop-task-init c = record {
   reading =
-      let e : c.put.new.stack.items ≡ One c.form-form.result (record { called = c.called.result; level = 0; links = 0 }) ∷ [] = c.in_ok-put.ensures.ok ∙ ap (λ t. t ++ (One c.form-form.result (record { called = c.called.result; level = 0; links = 0 }) ∷ [])) c.in_ok-stack.ensures.items in
-      first_reading c.args.schema.now (root_job c.args.schema.now c.args.id) c.args.bytes.now c.put.new.stack.items c.in_ok-entries.entries.items c.form-form.result (record { called = c.called.result; level = 0; links = 0 }) e c.in_ok-entries.ensures.items
-      (root_is c.args.schema.now c.args.id c.form-form.result c.called.result c.root.result c.form-form.ensures c.root.ensures (c.called.ensures.label c.args.schema.now))
+      let e : c.put.new.stack.items ≡ One c.form-form.result (record { label = c.root_label.result; level = 0; links = 0 }) ∷ [] = c.in_ok-put.ensures.ok ∙ ap (λ t. t ++ (One c.form-form.result (record { label = c.root_label.result; level = 0; links = 0 }) ∷ [])) c.in_ok-stack.ensures.items in
+      first_reading c.args.schema.now (root_job c.args.schema.now c.args.id) c.args.bytes.now c.put.new.stack.items c.in_ok-entries.entries.items c.form-form.result (record { label = c.root_label.result; level = 0; links = 0 }) e c.in_ok-entries.ensures.items
+      (root_is c.args.schema.now c.args.id c.form-form.result c.root_label.result c.root.result c.form-form.ensures c.root.ensures (c.root_label.ensures.label c.args.schema.now))
       (root_form c.args.schema.now c.args.id c.form-form.result c.requires c.form-form.ensures)
-      (root_spot c.args.schema.now c.args.id c.called.result c.root.result c.requires c.root.ensures (c.called.ensures.known c.args.schema.now));
+      (root_spot c.args.schema.now c.args.id c.root_label.result c.root.result c.requires c.root.ensures (c.root_label.ensures.known c.args.schema.now));
 }
 
 pub carry_out-requires-clause-task : goal.carry_out-requires-clause-task

@@ -1,7 +1,7 @@
 use Rattle.std.proofs.Common.{◌∙◌, ◌≤◌, refl, sym, subst}
 use Rattle.std.specs.Prelude.{IfErr}
 use Rattle.std.specs.Io.KnownBytes.{Consumes}
-use Rattle.x_text.specs.declared.source.TheConstants.{MAX_TEXT}
+use Rattle.x_text.specs.declared.text.source.TheConstants.{MAX_TEXT}
 use Rattle.rpcx.specs.Dumping.{StopsAt}
 use Rattle.rpcx.proofs.Dumping.{consumes_none, passed_on, reads_all, reads_more, stops_behind}
 use Rattle.rpcx.proofs.program.dumping.read_by_blocks.Goals as goal

@@ -1,6 +1,6 @@
 use Rattle.std.proofs.Common.{◌≡◌, ◌-◌, ◌+◌, length}
 use Rattle.std.specs.Io.KnownBytes.{Consumes}
-use Rattle.x_text.specs.declared.source.TheConstants.{MAX_TEXT}
+use Rattle.x_text.specs.declared.text.source.TheConstants.{MAX_TEXT}
 use Rattle.rpcx.proofs.program.dumping.read_by_blocks.Given as goal
 
 abbrev pub invariant-loop-bytes : goal.invariant-loop-bytes

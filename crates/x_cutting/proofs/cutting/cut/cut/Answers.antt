@@ -3,7 +3,7 @@ use Rattle.std.specs.Prelude.{All}
 use Rattle.std.proofs.lemmas.List.Elements.{All-push}
 use Rattle.std.proofs.lemmas.Result.{IfOk-weaker}
 use Rattle.x_lex.specs.Places.{lexeme, lexemes}
-use Rattle.x_cutting.specs.declared.cutting.entry.Entry.{Entry}
+use Rattle.x_cutting.specs.declared.cutting.item_entry.ItemEntry.{ItemEntry}
 use Rattle.x_cutting.specs.Items.{IsCut}
 use Rattle.x_cutting.specs.ItemList.{counts}
 use Rattle.x_cutting.proofs.CutRun.{cutting_end, cutting_all, cutting_fits, counts_pushed}
@@ -18,8 +18,8 @@ loop-token-preserved-then-ends g c =
           (counts_pushed c.loop-token.entries.items c.push.new.self.items c.new.result (c.loop-token.count + 1) c.in_ok-push.ensures.items c.new.ensures.tokens)
           c.loop-token.invariant.cutting;
       small = c.loop-token.invariant.small;
-      blank = subst (λ l. All (λ (item : Entry g.row.K.Denot). g.K.Default.is_default item.kept) l) (sym c.in_ok-push.ensures.items)
-          (All-push (λ (item : Entry g.row.K.Denot). g.K.Default.is_default item.kept) c.loop-token.entries.items c.new.result c.loop-token.invariant.blank c.new.ensures.blank);
+      blank = subst (λ l. All (λ (item : ItemEntry g.row.K.Denot). g.K.Default.is_default item.kept) l) (sym c.in_ok-push.ensures.items)
+          (All-push (λ (item : ItemEntry g.row.K.Denot). g.K.Default.is_default item.kept) c.loop-token.entries.items c.new.result c.loop-token.invariant.blank c.new.ensures.blank);
     }
 
 pub from_entries-requires : goal.from_entries-requires
@@ -42,7 +42,7 @@ returns-clause-cut g c =
 
 pub returns-clause-blank : goal.returns-clause-blank
 returns-clause-blank g c =
-    let blank : All (λ (item : Entry g.row.K.Denot). g.K.Default.is_default item.kept) c.push-2.new.self.items =
-    subst (λ l. All (λ (item : Entry g.row.K.Denot). g.K.Default.is_default item.kept) l) (sym c.in_ok-push-2.ensures.items)
-    (All-push (λ (item : Entry g.row.K.Denot). g.K.Default.is_default item.kept) c.loop-token.entries.items c.new-2.result c.loop-token.invariant.blank c.new-2.ensures.blank) in
-    IfOk-weaker c.from_entries.result _ _ (λ items is. subst (λ l. All (λ (item : Entry g.row.K.Denot). g.K.Default.is_default item.kept) l) (sym is) blank) c.from_entries.ensures.list
+    let blank : All (λ (item : ItemEntry g.row.K.Denot). g.K.Default.is_default item.kept) c.push-2.new.self.items =
+    subst (λ l. All (λ (item : ItemEntry g.row.K.Denot). g.K.Default.is_default item.kept) l) (sym c.in_ok-push-2.ensures.items)
+    (All-push (λ (item : ItemEntry g.row.K.Denot). g.K.Default.is_default item.kept) c.loop-token.entries.items c.new-2.result c.loop-token.invariant.blank c.new-2.ensures.blank) in
+    IfOk-weaker c.from_entries.result _ _ (λ items is. subst (λ l. All (λ (item : ItemEntry g.row.K.Denot). g.K.Default.is_default item.kept) l) (sym is) blank) c.from_entries.ensures.list

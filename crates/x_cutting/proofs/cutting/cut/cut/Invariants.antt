@@ -1,6 +1,6 @@
 use Rattle.std.proofs.Common.{◌≤◌, length}
 use Rattle.std.specs.Prelude.{All}
-use Rattle.x_text.specs.declared.source.TheConstants.{MAX_TEXT}
+use Rattle.x_text.specs.declared.text.source.TheConstants.{MAX_TEXT}
 use Rattle.x_lex.specs.Places.{lexemes}
 use Rattle.x_cutting.specs.ItemList.{counts}
 use Rattle.x_cutting.proofs.CutRun.{Cutting}

@@ -2,7 +2,7 @@ use Rattle.std.proofs.Common.{◌≡◌, ◌+◌, ◌-◌, ◌≤◌, length, sy
 use Rattle.std.specs.Prelude.{All, ◌↔◌}
 use Rattle.std.proofs.lemmas.List.Elements.{All-push}
 use Rattle.x_text.specs.Edits.{Change}
-use Rattle.x_cutting.specs.declared.cutting.entry.Entry.{Entry}
+use Rattle.x_cutting.specs.declared.cutting.item_entry.ItemEntry.{ItemEntry}
 use Rattle.x_cutting.specs.ItemList.{counts, tokens_before}
 use Rattle.x_cutting.specs.Recut.{IsRelexed}
 use Rattle.x_cutting.proofs.RecutRun.{Moved, moved_not, moved_on, not_both_zero}
@@ -107,7 +107,7 @@ returns-then-index-target g c =
       of_text = one.fits;
       blank =
           let fresh = ap (λ p. p.fresh) c.new.ensures in
-          subst (λ l. All (λ (item : Entry g.row.K.Denot). g.K.Default.is_default item.kept) l) (sym fresh) c.cutting.invariant.blank;
+          subst (λ l. All (λ (item : ItemEntry g.row.K.Denot). g.K.Default.is_default item.kept) l) (sym fresh) c.cutting.invariant.blank;
     }
 
 pub item_from-count-requires-clause-within : goal.item_from-count-requires-clause-within
@@ -164,7 +164,7 @@ returns-then-not-whole g c =
       of_text = one.fits;
       blank =
           let fresh = ap (λ p. p.fresh) c.new-then-not-whole.ensures in
-          subst (λ l. All (λ (item : Entry g.row.K.Denot). g.K.Default.is_default item.kept) l) (sym c.in_ok-push.ensures.items ∙ sym fresh) (All-push (λ (item : Entry g.row.K.Denot). g.K.Default.is_default item.kept) c.cutting.fresh.items c.new-in-cutting.result c.cutting.invariant.blank c.new-in-cutting.ensures.blank);
+          subst (λ l. All (λ (item : ItemEntry g.row.K.Denot). g.K.Default.is_default item.kept) l) (sym c.in_ok-push.ensures.items ∙ sym fresh) (All-push (λ (item : ItemEntry g.row.K.Denot). g.K.Default.is_default item.kept) c.cutting.fresh.items c.new-in-cutting.result c.cutting.invariant.blank c.new-in-cutting.ensures.blank);
     }
 
 pub overflow_add-index : goal.overflow_add-index
@@ -208,5 +208,5 @@ cutting-preserved g c =
       recutting = state_more _ _ _ _ _ _ _ known c.cutting.fresh.items c.push.new.self.items c.new-in-cutting.result c.cutting.index c.item_from-count.result.0 c.cutting.back c.cutting.back_index c.if-behind-index.back c.if-behind-index.back_index c.item_from-count.result.2
           c.cutting.invariant.recutting moved c.item_from-count.ensures.within c.item_from-count.ensures.counts c.if-not-whole.false c.in_ok-push.ensures.items c.new-in-cutting.ensures.tokens;
       place_is = c.item_from-count.ensures.place;
-      blank = subst (λ l. All (λ (item : Entry g.row.K.Denot). g.K.Default.is_default item.kept) l) (sym c.in_ok-push.ensures.items) (All-push (λ (item : Entry g.row.K.Denot). g.K.Default.is_default item.kept) c.cutting.fresh.items c.new-in-cutting.result c.cutting.invariant.blank c.new-in-cutting.ensures.blank);
+      blank = subst (λ l. All (λ (item : ItemEntry g.row.K.Denot). g.K.Default.is_default item.kept) l) (sym c.in_ok-push.ensures.items) (All-push (λ (item : ItemEntry g.row.K.Denot). g.K.Default.is_default item.kept) c.cutting.fresh.items c.new-in-cutting.result c.cutting.invariant.blank c.new-in-cutting.ensures.blank);
     }

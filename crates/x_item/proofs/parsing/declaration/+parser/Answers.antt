@@ -9,7 +9,7 @@ use Rattle.x_lex.specs.declared.mark.Mark.TheVariants as marks
 use Rattle.x_item.specs.declared.parsing.ending.Ending.TheVariants as endings
 use Rattle.x_item.specs.Symbols.{Context, AnyValue, Token, AfterCase, MoreArms, Declared, Declarations, MoreDeclarations, Arms, InDeclaration, AfterType, Typed, ending_mark}
 use Rattle.x_trees.specs.declared.trees.declaration.Tag.TheVariants as tags
-use Rattle.x_item.specs.Reading.{view_word, IsRead, Fails}
+use Rattle.x_item.specs.Reading.{view_word, ReadsPart, Fails}
 use Rattle.x_item.proofs.ReadLemmas.{exit, read_first, fails_alike, fails_more, fails_then, read_alike, read_as, read_more, read_on, read_then, read_after, read_after_word}
 use Rattle.x_item.proofs.LoopLemmas.{of_struct, of_union, union_words, of_declarations, more_declarations, default_symbols, struct_read, arms_read, has_declaration, fits_declaration, of_arms, more_arms, has_arm, fits_arm, no_keyword, no_tag_name, read_tagged, stuck_tagged, fits_one_more, fits_inline}
 use Rattle.x_item.proofs.parsing.declaration.+parser.Goals as goal
@@ -98,32 +98,32 @@ pub arms-returns-in_err-default-clause-stuck : goal.arms-returns-in_err-default-
 arms-returns-in_err-default-clause-stuck t c =
     let n = c.args.depth in
     let read = arms_read n c.loop-arms.arms.items c.in_ok-member.member _ c.in_ok-push.ensures.items c.loop-arms.invariant.read c.in_ok-member.ensures.read in
-    let other = read_then (MoreArms n ∷ []) [] read (read_first {from = MoreArms n ∷ []} {to = default_symbols n} (Fixed marks.Default) c.in-Some-after.ensures.some refl (λ left code ps ss. refl)) in
+    let other = read_then (MoreArms n ∷ []) [] read (read_first {from = MoreArms n ∷ []} {to = default_symbols n} (Fixed marks.Default) c.in-Some-strip_mark.ensures.some refl (λ left code ps ss. refl)) in
     exit _ _ c.from_residual-in_err-default.ensures.1 (fails_then (default_symbols n) [] other c.in_err-default.ensures.stuck)
 
-pub arms-returns-in-Some-after-clause-read : goal.arms-returns-in-Some-after-clause-read
-arms-returns-in-Some-after-clause-read t c =
+pub arms-returns-in-Some-strip_mark-clause-read : goal.arms-returns-in-Some-strip_mark-clause-read
+arms-returns-in-Some-strip_mark-clause-read t c =
     let n = c.args.depth in
     let read = arms_read n c.loop-arms.arms.items c.in_ok-member.member _ c.in_ok-push.ensures.items c.loop-arms.invariant.read c.in_ok-member.ensures.read in
-    let other = read_then (MoreArms n ∷ []) [] read (read_first {from = MoreArms n ∷ []} {to = default_symbols n} (Fixed marks.Default) c.in-Some-after.ensures.some refl (λ left code ps ss. refl)) in
+    let other = read_then (MoreArms n ∷ []) [] read (read_first {from = MoreArms n ∷ []} {to = default_symbols n} (Fixed marks.Default) c.in-Some-strip_mark.ensures.some refl (λ left code ps ss. refl)) in
     read_after (default_symbols n) [] (Fixed marks.OpenBrace ∷ spell_arms (view_arms c.push.new.self.items)) (Fixed marks.Default) other c.in_ok-default.ensures.read
 
-pub arms-returns-in-Some-after-clause-fits : goal.arms-returns-in-Some-after-clause-fits
-arms-returns-in-Some-after-clause-fits t c =
+pub arms-returns-in-Some-strip_mark-clause-fits : goal.arms-returns-in-Some-strip_mark-clause-fits
+arms-returns-in-Some-strip_mark-clause-fits t c =
     (has_arm c.loop-arms.arms.items c.in_ok-member.member _ c.in_ok-push.ensures.items, (fits_arm c.args.depth c.loop-arms.arms.items c.in_ok-member.member _ c.in_ok-push.ensures.items c.loop-arms.invariant.fits c.in_ok-member.ensures.some c.in_ok-member.ensures.fits, c.in_ok-default.ensures.fits))
 
 pub arms-returns-in_err-left-2-clause-stuck : goal.arms-returns-in_err-left-2-clause-stuck
 arms-returns-in_err-left-2-clause-stuck t c =
     let n = c.args.depth in
     let read = arms_read n c.loop-arms.arms.items c.in_ok-member.member _ c.in_ok-push.ensures.items c.loop-arms.invariant.read c.in_ok-member.ensures.read in
-    let on = read_on read (more_arms n c.in_default.ensures.none c.in_default-after.ensures.none) in
+    let on = read_on read (more_arms n c.in_default.ensures.none c.in_default-strip_mark.ensures.none) in
     exit _ _ c.from_residual-in_err-left-2.ensures.1 (fails_then (Token marks.Case ∷ []) (AnyValue ∷ Token marks.Colon ∷ AfterCase n ∷ MoreArms n ∷ []) on c.in_err-left-2.ensures.stuck)
 
 pub arms-loop-arms-preserved : goal.arms-loop-arms-preserved
 arms-loop-arms-preserved t c =
     let n = c.args.depth in
     let read = arms_read n c.loop-arms.arms.items c.in_ok-member.member _ c.in_ok-push.ensures.items c.loop-arms.invariant.read c.in_ok-member.ensures.read in
-    let on = read_on read (more_arms n c.in_default.ensures.none c.in_default-after.ensures.none) in
+    let on = read_on read (more_arms n c.in_default.ensures.none c.in_default-strip_mark.ensures.none) in
     record {
       read = read_then (Token marks.Case ∷ []) (AnyValue ∷ Token marks.Colon ∷ AfterCase n ∷ MoreArms n ∷ []) on c.in_ok-left-2.ensures.read;
       fits = fits_arm c.args.depth c.loop-arms.arms.items c.in_ok-member.member _ c.in_ok-push.ensures.items c.loop-arms.invariant.fits c.in_ok-member.ensures.some c.in_ok-member.ensures.fits;
@@ -172,8 +172,8 @@ data_type-returns-in_default-mark t c =
     let n = c.args.depth in
     let tokens = c.args.tokens.now in
     record {
-      read = IfOk-weaker c.basic.result (λ x. (n : ℕ) (at : Context) → IsRead [] (Typed n at ∷ []) tokens (spell_type (view_type x.0)) (AfterType at ∷ []) x.1.now)
-          (λ x. (at : Context) → IsRead [] (Typed n at ∷ []) tokens (spell_type (view_type x.0)) (AfterType at ∷ []) x.1.now) (λ x r. r n) c.basic.ensures.read;
+      read = IfOk-weaker c.basic.result (λ x. (n : ℕ) (at : Context) → ReadsPart [] (Typed n at ∷ []) tokens (spell_type (view_type x.0)) (AfterType at ∷ []) x.1.now)
+          (λ x. (at : Context) → ReadsPart [] (Typed n at ∷ []) tokens (spell_type (view_type x.0)) (AfterType at ∷ []) x.1.now) (λ x r. r n) c.basic.ensures.read;
       fits = IfOk-weaker c.basic.result (λ x. (n : ℕ) → TypeFits (view_type x.0) n) (λ x. TypeFits (view_type x.0) n) (λ x f. f n) c.basic.ensures.fits;
       stuck = IfErr-weaker c.basic.result (λ e. (n : ℕ) (at : Context) → Fails (Typed n at ∷ []) tokens e) (λ e. (at : Context) → Fails (Typed n at ∷ []) tokens e) (λ e f. f n) c.basic.ensures.stuck;
     }
@@ -182,14 +182,14 @@ pub declared-returns-in_err-data-clause-stuck : goal.declared-returns-in_err-dat
 declared-returns-in_err-data-clause-stuck t c =
     let n = c.args.depth in
     let e = c.args.ending in
-    let same = no_keyword n e c.in_default.ensures.none c.in_default-after.ensures.none c.in_default-after-2.ensures.none in
+    let same = no_keyword n e c.in_default.ensures.none c.in_default-strip_mark.ensures.none c.in_default-strip_mark-2.ensures.none in
     exit _ _ c.from_residual.ensures.1 (fails_alike same (c.in_err-data.ensures.stuck (InDeclaration e)))
 
 pub declared-returns-in_err-name-clause-stuck : goal.declared-returns-in_err-name-clause-stuck
 declared-returns-in_err-name-clause-stuck t c =
     let n = c.args.depth in
     let e = c.args.ending in
-    let same = no_keyword n e c.in_default.ensures.none c.in_default-after.ensures.none c.in_default-after-2.ensures.none in
+    let same = no_keyword n e c.in_default.ensures.none c.in_default-strip_mark.ensures.none c.in_default-strip_mark-2.ensures.none in
     let typed = read_alike same (c.in_ok-data.ensures.read (InDeclaration e)) in
     exit _ _ c.from_residual-in_err-name.ensures.1 (fails_then (AfterType (InDeclaration e) ∷ []) [] typed c.in_err-name.ensures.stuck)
 
@@ -197,7 +197,7 @@ pub declared-returns-clause-read : goal.declared-returns-clause-read
 declared-returns-clause-read t c =
     let n = c.args.depth in
     let e = c.args.ending in
-    let same = no_keyword n e c.in_default.ensures.none c.in_default-after.ensures.none c.in_default-after-2.ensures.none in
+    let same = no_keyword n e c.in_default.ensures.none c.in_default-strip_mark.ensures.none c.in_default-strip_mark-2.ensures.none in
     let typed = read_alike same (c.in_ok-data.ensures.read (InDeclaration e)) in
     read_as (sym (append_assoc (spell_type (view_type c.in_ok-data.data)) (spell_named c.in_ok-name.name.items (view_shape c.in_ok-name.shape)) (Fixed (ending_mark e) ∷ [])))
     (read_then (AfterType (InDeclaration e) ∷ []) [] typed c.in_ok-name.ensures.read)

@@ -4,12 +4,12 @@ use Rattle.x_trees.specs.Words.{Fixed}
 use Rattle.x_trees.specs.Spell.{spell_passed, spell_others, PassedFits, OthersFit}
 use Rattle.x_trees.specs.View.{view_passed, view_argument}
 use Rattle.x_item.specs.Symbols.{InArguments, AfterType, of_arguments}
-use Rattle.x_item.specs.Reading.{IsRead}
+use Rattle.x_item.specs.Reading.{ReadsPart}
 use Rattle.x_item.proofs.parsing.program.arguments.Given as goal
 
 abbrev pub invariant-loop-rest : goal.invariant-loop-rest
 invariant-loop-rest l = record {
-  read : IsRead [] of_arguments l.tokens (Fixed marks.OpenParenthesis ∷ (spell_passed (view_passed l.head) ++ spell_others (map view_argument l.others.items))) (AfterType InArguments ∷ []) l.left;
+  read : ReadsPart [] of_arguments l.tokens (Fixed marks.OpenParenthesis ∷ (spell_passed (view_passed l.head) ++ spell_others (map view_argument l.others.items))) (AfterType InArguments ∷ []) l.left;
   first_fits : PassedFits (view_passed l.head);
   fits : OthersFit (map view_argument l.others.items);
 }

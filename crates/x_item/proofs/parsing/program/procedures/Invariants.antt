@@ -4,12 +4,12 @@ use Rattle.x_trees.specs.Words.{Fixed}
 use Rattle.x_trees.specs.Spell.{spell_procedures, ProceduresFit}
 use Rattle.x_trees.specs.View.{view_procedure}
 use Rattle.x_item.specs.Symbols.{MoreProcedures, of_procedure, of_procedures}
-use Rattle.x_item.specs.Reading.{IsRead}
+use Rattle.x_item.specs.Reading.{ReadsPart}
 use Rattle.x_item.proofs.parsing.program.procedures.Given as goal
 
 abbrev pub invariant-loop-members : goal.invariant-loop-members
 invariant-loop-members l = record {
-  read : IsRead [] of_procedures l.tokens (Fixed marks.OpenBrace ∷ spell_procedures (map view_procedure l.members.items)) (of_procedure ++ MoreProcedures ∷ []) l.left;
+  read : ReadsPart [] of_procedures l.tokens (Fixed marks.OpenBrace ∷ spell_procedures (map view_procedure l.members.items)) (of_procedure ++ MoreProcedures ∷ []) l.left;
   fits : ProceduresFit (map view_procedure l.members.items);
 }
 

@@ -4,12 +4,12 @@ use Rattle.x_trees.specs.Words.{Fixed}
 use Rattle.x_trees.specs.Spell.{spell_versions, VersionsFit}
 use Rattle.x_trees.specs.View.{view_version}
 use Rattle.x_item.specs.Symbols.{MoreVersions, of_version, of_versions}
-use Rattle.x_item.specs.Reading.{IsRead}
+use Rattle.x_item.specs.Reading.{ReadsPart}
 use Rattle.x_item.proofs.parsing.program.versions.Given as goal
 
 abbrev pub invariant-loop-members : goal.invariant-loop-members
 invariant-loop-members l = record {
-  read : IsRead [] of_versions l.tokens (Fixed marks.OpenBrace ∷ spell_versions (map view_version l.members.items)) (of_version ++ MoreVersions ∷ []) l.left;
+  read : ReadsPart [] of_versions l.tokens (Fixed marks.OpenBrace ∷ spell_versions (map view_version l.members.items)) (of_version ++ MoreVersions ∷ []) l.left;
   fits : VersionsFit (map view_version l.members.items);
 }
 

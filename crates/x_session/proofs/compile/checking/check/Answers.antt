@@ -8,7 +8,7 @@ use Rattle.x_rules.specs.Results.{result_at, IsOutcome, IsResult}
 use Rattle.x_rules.specs.RustViews.{view_view}
 use Rattle.x_session.specs.Checking.{view_by_first}
 use Rattle.x_session.specs.KeptView.{found_result, kept_definition}
-use Rattle.x_session.specs.declared.compile.kept.Found.{Found}
+use Rattle.x_session.specs.declared.compile.item_content.CheckResult.{CheckResult}
 use Rattle.x_session.proofs.CheckingLemmas.{some_result}
 use Rattle.x_session.proofs.compile.checking.check.Goals as goal
 
@@ -25,5 +25,5 @@ returns-clause-result c definitions short first =
     let seen = λ (fits : IsShort d). c.in_ok-views.ensures (here fits) ∙ (λ i. map (view_by_first find results index) (names_of (same i))) in
     let checked = λ (fits : IsShort d). subst (λ t. IsOutcome t views c.in_ok-checked.checked) same (subst (λ vs. IsOutcome (outlined outline) (map view_view vs) c.in_ok-checked.checked) c.deref.ensures.value (c.in_ok-checked.ensures.checked (here fits))) in
     let item = kept_definition c.args.item.now in
-    subst (λ (f : Found). IsResult definitions results index item (Some f.checked)) (sym c.in_ok-new.ensures.ok)
+    subst (λ (f : CheckResult). IsResult definitions results index item (Some f.checked)) (sym c.in_ok-new.ensures.ok)
     (some_result definitions find results index d item views c.in_ok-checked.checked c.in-Some.ensures short first seen checked)

@@ -2,13 +2,13 @@ use Rattle.std.proofs.Common.{◌≡◌, ◌-◌, ◌+◌, [], length, Some, dro
 use Rattle.std.specs.Prelude.{option_copied, slice_get}
 use Rattle.std.proofs.lemmas.List.{drop_all, length-map}
 use Rattle.x_cutting.specs.ItemList as items
-use Rattle.x_cutting.specs.declared.cutting.entry.Entry.{Entry}
+use Rattle.x_cutting.specs.declared.cutting.item_entry.ItemEntry.{ItemEntry}
 use Rattle.x_session.specs.Compile.{faults_at}
 use Rattle.x_session.specs.Counting.{faults_found, faults_with}
 use Rattle.x_session.specs.KeptView.{kept_parse}
-use Rattle.x_session.specs.Planned.{overlaid}
-use Rattle.x_session.specs.declared.compile.kept.Found.{Found}
-use Rattle.x_session.specs.declared.compile.kept.Kept.{Kept}
+use Rattle.x_session.specs.PlannedResult.{overlaid}
+use Rattle.x_session.specs.declared.compile.item_content.CheckResult.{CheckResult}
+use Rattle.x_session.specs.declared.compile.item_content.ItemContent.{ItemContent}
 use Rattle.x_session.proofs.PlannedLemmas.{IsPlannedAt, faults_own, not_planned, planned_here, planned_more, planned_within}
 use Rattle.x_session.proofs.following.counting.faults_with.Goals as goal
 use Rattle.x_session.proofs.following.counting.faults_with.Goals.{After-index-found-index, After-own_fault_count}
@@ -29,7 +29,7 @@ pub kept_behind-requires-clause-within : goal.kept_behind-requires-clause-within
 kept_behind-requires-clause-within c =
     let es = items.patched c.args.items.now.list c.args.patch.now in
     let lt = planned_within (items.kept es) c.args.found.now (c.loop-index.index - 1) c.index-found-index.result (here c) in
-    let l = length-map es (λ (e : Entry Kept). e.kept) in
+    let l = length-map es (λ (e : ItemEntry ItemContent). e.kept) in
     omega (arith, lt, l)
 
 pub unreachable-requires : goal.unreachable-requires
@@ -54,7 +54,7 @@ more c =
     let h = planned_here ks all n p c.requires.planned (omega (arith, some, le)) c.index-found-index.is in
     let is : slice_get ks p.item ≡ Some k = sym c.kept_behind.ensures ∙ ap option_copied c.in-Some.is in
     let own = c.own_fault_count.ensures in
-    let with : c.fault_count.result ≡ faults_with k (Some p.found) = c.fault_count.ensures ∙ ap (λ fs. length (faults_at [] (kept_parse k) fs)) (c.faults.ensures ∙ ap (λ (f : Found). f.checked.faults) c.deref.ensures) in
+    let with : c.fault_count.result ≡ faults_with k (Some p.found) = c.fault_count.ensures ∙ ap (λ fs. length (faults_at [] (kept_parse k) fs)) (c.faults.ensures ∙ ap (λ (f : CheckResult). f.checked.faults) c.deref.ensures) in
     let sum = c.in_ok-more.ensures in
     let found = planned_more ks all n c.loop-index.count c.loop-index.index p k h is (omega (arith, some)) c.loop-index.invariant in
     omega (arith, own, with, sum, found)

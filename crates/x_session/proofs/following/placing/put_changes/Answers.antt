@@ -1,12 +1,12 @@
 use Rattle.std.proofs.Common.{◌≡◌, ◌≤◌, ◌+◌, ◌*◌, ◌∷◌, [], length, refl, sym, ap, subst, ◌∙◌, arith}
 use Rattle.std.specs.Vec.Iter.{into_iter_items}
-use Rattle.x_text.specs.declared.source.TheConstants.{MAX_TEXT}
+use Rattle.x_text.specs.declared.text.source.TheConstants.{MAX_TEXT}
 use Rattle.x_recheck.specs.Staleness.{Ascending}
 use Rattle.x_cutting.specs.ItemList as items
 use Rattle.x_session.specs.Following.{whole}
 use Rattle.x_session.specs.KeptView.{AreWith}
 use Rattle.x_session.specs.Moves.{HasMoved, changed_items, moves, place_of}
-use Rattle.x_session.specs.Planned.{numbers_of, overlaid}
+use Rattle.x_session.specs.PlannedResult.{numbers_of, overlaid}
 use Rattle.x_session.proofs.MoveLemmas.{moved_none}
 use Rattle.x_session.proofs.PlacingLemmas.{ascent_rest, moved_all, moved_last, moved_next, moves_few, no_ascent, seat_all}
 use Rattle.x_session.proofs.PlannedLemmas.{ArePut, put_all, put_known, put_more, put_none, put_within}

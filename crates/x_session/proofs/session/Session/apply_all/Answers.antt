@@ -1,5 +1,5 @@
 use Rattle.std.proofs.Common.{◌≡◌, suc, ◌+◌, [], ◌∷◌, ◌++◌, take, drop, get_or, ap, sym, subst, ◌∙◌, arith}
-use Rattle.x_text.specs.declared.edit.Edit.{Edit}
+use Rattle.x_text.specs.declared.text.edit.Edit.{Edit}
 use Rattle.std.proofs.lemmas.List.{take_all}
 use Rattle.x_session.specs.Work.{IsWorkOfAll}
 use Rattle.x_session.proofs.EditLists.{HasTaken, taken_more, stops_at}

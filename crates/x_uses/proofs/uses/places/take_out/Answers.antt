@@ -5,7 +5,7 @@ use Rattle.x_uses.proofs.uses.places.take_out.Goals as goal
 
 pub returns-clause-items : goal.returns-clause-items
 returns-clause-items g c =
-    let item_of = g.T.Placed.item_of in
+    let item_of = g.T.AtItem.item_of in
     let p = c.args.place in
     let to = c.saturating_add.ensures in
     let behind = c.count_below-behind.result in

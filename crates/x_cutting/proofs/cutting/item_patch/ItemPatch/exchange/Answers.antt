@@ -1,6 +1,6 @@
 use Rattle.std.proofs.Common.{◌≡◌, length, sym, ap, subst, ◌∙◌, arith}
 use Rattle.std.specs.Prelude.{IfSome, slice_get, slice_set}
-use Rattle.x_cutting.specs.declared.cutting.entry.Entry.{Entry}
+use Rattle.x_cutting.specs.declared.cutting.item_entry.ItemEntry.{ItemEntry}
 use Rattle.x_cutting.specs.ItemList.{counts, kept}
 use Rattle.x_cutting.proofs.CountLemmas.{counts_set, kept_set, kept_get}
 use Rattle.x_cutting.proofs.cutting.item_patch.ItemPatch.exchange.Goals as goal
@@ -11,7 +11,7 @@ returns-clause-out g c =
 
 pub returns-clause-counts : goal.returns-clause-counts
 returns-clause-counts g c =
-    let same = subst (λ o. IfSome o (λ (e : Entry g.row.K.Denot). c.in_place_of-entry.result.tokens ≡ e.tokens)) c.get.ensures c.in_place_of-entry.ensures.tokens in
+    let same = subst (λ o. IfSome o (λ (e : ItemEntry g.row.K.Denot). c.in_place_of-entry.result.tokens ≡ e.tokens)) c.get.ensures c.in_place_of-entry.ensures.tokens in
     ap (λ p. counts p.fresh) c.exchange.ensures.put
     ∙ counts_set c.self.inside.entries.fresh c.args.index c.in_place_of-entry.result (let lt = c.requires in let e = ap (λ v. length v.fresh) c.self.view_is in omega (arith, lt, e)) same
     ∙ ap (λ v. counts v.fresh) c.self.view_is

@@ -1,6 +1,6 @@
 use Rattle.std.proofs.Common.{◌≡◌, length, sym, ap, subst, ◌∙◌, arith, refl}
 use Rattle.std.specs.Prelude.{IfSome, slice_get, slice_set}
-use Rattle.x_cutting.specs.declared.cutting.entry.Entry.{Entry}
+use Rattle.x_cutting.specs.declared.cutting.item_entry.ItemEntry.{ItemEntry}
 use Rattle.x_cutting.specs.ItemList.{AreOfText, counts, kept, total}
 use Rattle.x_cutting.proofs.CountLemmas.{total_as, counts_set, kept_set, kept_get}
 use Rattle.x_cutting.proofs.cutting.items.Items.exchange.Goals as goal
@@ -10,7 +10,7 @@ use Rattle.x_cutting.proofs.cutting.items.Items.exchange.Goals.{After-in_place_o
 same_counts : (g : _) (c : After-in_place_of-entry g) → counts (slice_set c.self.inside.entries.list c.args.index c.in_place_of-entry.result) ≡ counts c.self.inside.entries.list
 same_counts g c =
     counts_set c.self.inside.entries.list c.args.index c.in_place_of-entry.result (let lt = c.requires in let e = ap (λ v. length v.list) c.self.view_is in omega (arith, lt, e))
-    (subst (λ o. IfSome o (λ (e : Entry g.row.K.Denot). c.in_place_of-entry.result.tokens ≡ e.tokens)) c.get.ensures c.in_place_of-entry.ensures.tokens)
+    (subst (λ o. IfSome o (λ (e : ItemEntry g.row.K.Denot). c.in_place_of-entry.result.tokens ≡ e.tokens)) c.get.ensures c.in_place_of-entry.ensures.tokens)
 
 pub exchange-out-requires-clause-short : goal.exchange-out-requires-clause-short
 exchange-out-requires-clause-short g c =

@@ -1,5 +1,5 @@
 use Rattle.std.proofs.Common.{◌≡◌, ◌+◌, ◌≤◌, length}
-use Rattle.x_text.specs.declared.source.TheConstants.{MAX_TEXT}
+use Rattle.x_text.specs.declared.text.source.TheConstants.{MAX_TEXT}
 use Rattle.x_session.specs.Definitions.{numbered}
 use Rattle.x_session.specs.KeptView.{entry_definitions}
 use Rattle.x_session.proofs.compile.item_table.ItemTable.definition_count.Given as goal

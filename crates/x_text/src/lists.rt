@@ -1,0 +1,20 @@
+//! Lists whose entries go and come by patches.
+
+mod gap_iter;
+mod gap_seq;
+mod measured;
+mod measured_seq;
+mod patched_iter;
+mod plain_seq;
+mod seq;
+mod seq_patch;
+mod shift;
+
+pub use gap_iter::GapIter;
+pub use gap_seq::GapSeq;
+pub use measured::Measured;
+pub use measured_seq::MeasuredSeq;
+pub use patched_iter::PatchedIter;
+pub use plain_seq::PlainSeq;
+pub use seq::Seq;
+pub use seq_patch::SeqPatch;

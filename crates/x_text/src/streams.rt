@@ -1,0 +1,19 @@
+//! Where bytes come from and go to.
+
+mod input;
+mod mem_sink;
+mod mem_tap;
+mod out;
+mod outcome;
+mod pen;
+mod sink;
+mod tap;
+
+pub use input::In;
+pub use mem_sink::MemSink;
+pub use mem_tap::MemTap;
+pub use out::Out;
+pub use outcome::{EngineFault, Outcome};
+pub use pen::{Pen, WriteFault};
+pub use sink::{Broken, Sink};
+pub use tap::Tap;
