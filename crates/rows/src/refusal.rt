@@ -1,3 +1,4 @@
+//! Why a case is refused.
 use std::alloc::AllocError;
 use x_text::{NoMemory, TextFault};
 

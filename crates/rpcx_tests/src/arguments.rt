@@ -1,3 +1,4 @@
+//! Command lines.
 use clap::error::ErrorKind;
 use rpcx::{GenArgs, RPCGEN, Status, answer_words, gen_args, request_first};
 use std::test::Fail;

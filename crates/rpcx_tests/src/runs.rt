@@ -1,3 +1,4 @@
+//! Runs of the programs.
 use rpcx::{
     DumpArgs, EditArgs, GenArgs, Mode, Status, dump_run, edit_run, gen_mode, gen_open, gen_write,
 };

@@ -1,3 +1,4 @@
+//! The status that a program ends with.
 ghost use Rattle.std.specs.Prelude.{◌≡◌};
 ghost use Rattle.x_args.specs.Status.{exit_code};
 

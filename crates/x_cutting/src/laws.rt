@@ -1,3 +1,4 @@
+//! Laws of items. Each is a function that does nothing and ensures the law.
 ghost use Rattle.std.specs.Prelude.{◌≡◌, ℕ, List};
 ghost use Rattle.x_text.specs.Edits.{Change};
 ghost use Rattle.x_lex.specs.declared.kind.Kind.{Kind};

@@ -1,3 +1,4 @@
+//! Laws of definitions. Each is a function that does nothing and ensures the law.
 ghost use Rattle.std.specs.Prelude.{◌≡◌, List};
 ghost use Rattle.x_lex.specs.Places.{Lexeme};
 ghost use Rattle.x_trees.specs.Tree.{Definition};

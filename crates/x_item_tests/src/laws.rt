@@ -1,3 +1,4 @@
+//! Each law called once.
 use x_item::{gloss_law, one_cut, one_parse, one_recut, spell_law};
 
 #[test]

@@ -1,3 +1,4 @@
+//! What items parse to.
 use std::alloc::Global;
 use std::test::Fail;
 use x_item::{Definition, FaultCode, NameKind, Parsed, Use, declares, mentions, parse_item};

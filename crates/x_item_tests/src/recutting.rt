@@ -1,3 +1,4 @@
+//! What an edit does to items.
 ghost use Rattle.std.specs.Prelude.{◌≡◌, length, OnOk, OnErr};
 ghost use Rattle.x_text.specs.Edits.{change_of, edited_by, LiesWithin};
 ghost use Rattle.x_lex.specs.Tiling.{AreTokens};

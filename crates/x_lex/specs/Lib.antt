@@ -7,3 +7,4 @@ pub mod Places
 pub mod Marks
 pub mod TokenList
 pub mod Relex
+pub mod Packed

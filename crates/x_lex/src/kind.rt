@@ -1,3 +1,4 @@
+//! The kinds of tokens.
 ghost use Rattle.std.specs.Prelude.{◌≡◌, Some};
 ghost use Rattle.x_lex.specs.Names.{kind_name};
 

@@ -3,9 +3,8 @@ ghost use Rattle.std.specs.Prelude.{◌≡◌, ◌≤◌, [], length, IfOk, IsOk
 ghost use Rattle.x_text.specs.Counts.{raised};
 ghost use Rattle.x_lex.specs.Tiling.{AreTokens};
 
-use crate::tokens::TokenEntry;
 use crate::scan::lex_one;
-use crate::tokens::Tokens;
+use crate::tokens::{TokenEntry, Tokens};
 use std::alloc::Global;
 use x_text::{Meter, NoMemory, Source};
 

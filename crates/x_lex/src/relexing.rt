@@ -8,8 +8,8 @@ ghost use Rattle.x_lex.specs.Places.{is_line_start};
 ghost use Rattle.x_lex.specs.TokenList.{patched, IsOfText};
 ghost use Rattle.x_lex.specs.Relex.{IsPatch};
 
-use crate::tokens::TokenEntry;
 use crate::scan::lex_one;
+use crate::tokens::TokenEntry;
 use crate::{Patch, Tokens};
 use std::alloc::Global;
 use x_text::{Edit, Meter, NoMemory, SeqPatch, Source};

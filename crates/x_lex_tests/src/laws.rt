@@ -1,3 +1,4 @@
+//! Each law called once.
 use refusals::{ALL, begin, end};
 use std::test::Fail;
 use x_lex::{Kind, has_tokens, lex_one, one_meeting, one_patch, one_tiling, tokens_by_place};

@@ -1,3 +1,4 @@
+//! What an edit does to tokens.
 ghost use Rattle.std.specs.Prelude.{◌≤◌};
 ghost use Rattle.x_lex.specs.Tiling.{AreTokens};
 

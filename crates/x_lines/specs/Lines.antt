@@ -149,7 +149,8 @@ pub record ReadsOn (unread : List ℕ) (new : Reading) (left left' : Option (Lis
       (λ _. HasNoLine (unread ++ come) rest)
 
 -- the same of every text that the reader may stand before
-abbrev pub Advances : Reading → Reading → Option (List ℕ) → Option (List ℕ) → Result LineEvent LineFault → Type 0
+abbrev pub Advances : Reading → Reading → Option (List ℕ) → Option (List ℕ) → Result LineEvent LineFault
+    → Type 0
 Advances old new left left' result =
     (unread : List ℕ) → IsUnread old left unread → ReadsOn unread new left left' result
 

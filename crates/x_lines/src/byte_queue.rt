@@ -1,3 +1,4 @@
+//! Bytes that were read and not used yet.
 ghost use Rattle.std.specs.Prelude.{◌≡◌, ◌+◌, ◌-◌, ◌≤◌, [], length, take, drop, slice_range, IfOk, OnOk};
 ghost use Rattle.std.specs.Prelude.{OnErr, vec_len};
 ghost use Rattle.std.specs.Io.KnownBytes.{Keeps};

@@ -5,4 +5,4 @@
 mod byte_queue;
 mod lines;
 
-pub use lines::{LineEvent, LONGEST, LineFault, LineReader};
+pub use lines::{LONGEST, LineEvent, LineFault, LineReader};

@@ -1,3 +1,4 @@
+//! Reads the lines of a script.
 ghost use Rattle.std.specs.Prelude.{◌≡◌, ◌≤◌, [], ℕ, List, Option, length, take, MatchBool, MatchOption};
 ghost use Rattle.std.specs.Prelude.{MatchResult, Ok};
 ghost use Rattle.std.specs.List.{prefix_len};
@@ -135,7 +136,11 @@ impl LineReader {
                 self.given = len;
                 self.line = len;
                 self.state = State::Ended;
-                Ok(if len == 0 { LineEvent::End } else { LineEvent::Line })
+                Ok(if len == 0 {
+                    LineEvent::End
+                } else {
+                    LineEvent::Line
+                })
             }
             LineEnd::Far => {
                 self.given = LONGEST + 1;

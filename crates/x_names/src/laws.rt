@@ -1,3 +1,4 @@
+//! A law of first declarers: a function that does nothing and ensures it.
 ghost use Rattle.std.specs.Prelude.{◌≡◌, ℕ, List, Option};
 ghost use Rattle.x_trees.specs.Tree.{Definition};
 ghost use Rattle.x_names.specs.Declarers.{FirstIs, first_declarer};

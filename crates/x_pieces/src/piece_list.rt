@@ -1,3 +1,4 @@
+//! The items of a text as the generator sees them.
 ghost use Rattle.std.specs.Prelude.{◌≡◌, ◌<◌, List, length, option_copied};
 ghost use Rattle.x_pieces.specs.Pieces.{Part, lines_at, pieces_at};
 

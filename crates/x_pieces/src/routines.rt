@@ -55,7 +55,8 @@ fn add_checked_call(
     declaration: &Declaration,
 ) -> Result<(), NoMemory>
     ensures { OnOk result (text.new.items ≡ text.old.items
-        ++ checked_call indent.now around.now (view_location place.entry) (view_declaration declaration.now)) }
+        ++ checked_call indent.now around.now (view_location place.entry)
+        (view_declaration declaration.now)) }
 {
     if declaration.is_void() {
         return Ok(());
@@ -76,7 +77,14 @@ fn add_fields(
         ++ field_calls around.now (view_declarations declarations.now)) }
 {
     for declaration in declarations {
-        add_checked_call(alloc, text, b"    ", around, Location::InStruct, declaration)?;
+        add_checked_call(
+            alloc,
+            text,
+            b"    ",
+            around,
+            Location::InStruct,
+            declaration,
+        )?;
     }
     Ok(())
 }

@@ -1,3 +1,5 @@
+//! Which of the four texts is meant.
+
 /// A text that is generated: one for each of `rpcgen`'s letters `-h`, `-c`, `-l` and `-t`.
 #[derive(Clone, Copy, Debug, PartialEq, Eq)]
 pub enum Which {

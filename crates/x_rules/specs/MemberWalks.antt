@@ -73,4 +73,5 @@ AddsVersions a b vs =
 
 -- a version, whatever is found of those behind it
 abbrev pub AddsVersion : WalkState → WalkState → tree.Version → Type 0
-AddsVersion a b v = (to : WalkState) (vs : List tree.Version) → AddsVersions b to vs → AddsVersions a to (v ∷ vs)
+AddsVersion a b v = (to : WalkState) (vs : List tree.Version) → AddsVersions b to vs
+    → AddsVersions a to (v ∷ vs)

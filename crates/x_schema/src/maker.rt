@@ -268,7 +268,12 @@ impl<'d> Maker<'d> {
     }
 
     /// Takes in a type that the item declares.
-    fn add_named_type(&mut self, alloc: Global, name: &[u8], form: FormIndex) -> Result<(), NoMemory>
+    fn add_named_type(
+        &mut self,
+        alloc: Global,
+        name: &[u8],
+        form: FormIndex,
+    ) -> Result<(), NoMemory>
         ensures { OnOk result (AddsFound self.old self.new name.now form) }
     {
         let name = self.name(alloc, name)?;

@@ -1,3 +1,4 @@
+//! The parts of a schema, by its public calls alone.
 use std::alloc::Global;
 use std::process::Abort;
 use std::test::Fail;

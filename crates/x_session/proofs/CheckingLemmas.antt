@@ -30,8 +30,8 @@ use Rattle.std.specs.Prelude.{is_some, option_map, slice_get}
 use Rattle.x_session.specs.Checking.{AreChecked, AreRendered, IsShortAt, counted, kept_definitions, sound, sound_pieces, view_by_first}
 use Rattle.x_session.specs.Counting.{faults_found, faults_with}
 use Rattle.x_session.specs.KeptView.{found_pieces, found_result, kept_definition, kept_found, pieces_behind, renewed_pieces}
-use Rattle.x_session.specs.declared.compile.item_content.CheckResult.{CheckResult}
-use Rattle.x_session.specs.declared.compile.item_content.ItemContent.{ItemContent}
+use Rattle.x_session.specs.declared.compile.content.CheckResult.{CheckResult}
+use Rattle.x_session.specs.declared.compile.content.Content.{Content}
 
 -- ---- one item more
 
@@ -133,7 +133,7 @@ counted_more f before after all xs index x lt at step so =
     ∙ sym (ap (λ is. counted before (map f is)) front) ∙ so
 
 -- what is generated of one item more
-rendered_push : (ks : List ItemContent) (rs : List (Option (Box CheckResult))) (k : ItemContent) (r : Option (Box CheckResult))
+rendered_push : (ks : List Content) (rs : List (Option (Box CheckResult))) (k : Content) (r : Option (Box CheckResult))
     → AreRendered ks rs → renewed_pieces (found_pieces (kept_found k)) r ≡ sound_pieces (kept_definition k) (found_result r) → AreRendered (ks ++ k ∷ []) (rs ++ r ∷ [])
 rendered_push [] [] k r are is = (is, tt)
 rendered_push [] (x ∷ rs) k r are is = absurd are
@@ -147,7 +147,7 @@ front_next f xs index x lt at =
     let next : suc index ≡ index + 1 = omega arith in
     sym (ap (λ n. take n ys) next) ∙ take_next ys index (f x) (drop (suc index) ys) (mapped_one f xs index x lt at)
 
-pub rendered_next : {X : Type 0} (f : X → ItemContent) (xs : List X) (index : ℕ) (x : X) (rs new : List (Option (Box CheckResult))) (r : Option (Box CheckResult))
+pub rendered_next : {X : Type 0} (f : X → Content) (xs : List X) (index : ℕ) (x : X) (rs new : List (Option (Box CheckResult))) (r : Option (Box CheckResult))
     → index < length xs → x ≡ get_or xs index x → new ≡ rs ++ r ∷ [] → AreRendered (take index (map f xs)) rs
     → renewed_pieces (found_pieces (kept_found (f x))) r ≡ sound_pieces (kept_definition (f x)) (found_result r)
     → AreRendered (take (index + 1) (map f xs)) new
@@ -157,13 +157,13 @@ rendered_next f xs index x rs new r lt at pushed are is =
     (subst (λ l. AreRendered l (rs ++ r ∷ [])) (sym (front_next f xs index x lt at)) (rendered_push (take index ks) rs (f x) r are is))
 
 -- the faults of one item more
-faults_push : (ks : List ItemContent) (rs : List (Option (Box CheckResult))) (k : ItemContent) (r : Option (Box CheckResult)) → length ks ≡ length rs → faults_found (ks ++ k ∷ []) (rs ++ r ∷ []) ≡ faults_found ks rs + faults_with k r
+faults_push : (ks : List Content) (rs : List (Option (Box CheckResult))) (k : Content) (r : Option (Box CheckResult)) → length ks ≡ length rs → faults_found (ks ++ k ∷ []) (rs ++ r ∷ []) ≡ faults_found ks rs + faults_with k r
 faults_push [] [] k r many = omega arith
 faults_push [] (x ∷ rs) k r many = absurd (omega (arith, many))
 faults_push (y ∷ ks) [] k r many = absurd (omega (arith, many))
 faults_push (y ∷ ks) (x ∷ rs) k r many = let more = faults_push ks rs k r (omega (arith, many)) in omega (arith, more)
 
-pub faults_next : {X : Type 0} (f : X → ItemContent) (xs : List X) (index faults : ℕ) (x : X) (rs new : List (Option (Box CheckResult))) (r : Option (Box CheckResult))
+pub faults_next : {X : Type 0} (f : X → Content) (xs : List X) (index faults : ℕ) (x : X) (rs new : List (Option (Box CheckResult))) (r : Option (Box CheckResult))
     → index < length xs → x ≡ get_or xs index x → new ≡ rs ++ r ∷ [] → index ≡ length rs → faults ≡ faults_found (take index (map f xs)) rs
     → faults + faults_with (f x) r ≡ faults_found (take (index + 1) (map f xs)) new
 faults_next f xs index faults x rs new r lt at pushed many is =
@@ -175,7 +175,7 @@ faults_next f xs index faults x rs new r lt at pushed many is =
     omega (arith, more, same, is)
 
 -- all items are checked
-pub checked_all : {X : Type 0} (f : X → ItemContent) (xs : List X) (n : ℕ) (rs : List (Option (Box CheckResult))) (faults : ℕ) → length xs ≤ n
+pub checked_all : {X : Type 0} (f : X → Content) (xs : List X) (n : ℕ) (rs : List (Option (Box CheckResult))) (faults : ℕ) → length xs ≤ n
     → AreResultsFrom (map (λ x. kept_definition (f x)) xs) (result_at (map found_result rs)) 0 (take n (map (λ x. kept_definition (f x)) xs)) (map found_result rs)
     → AreRendered (take n (map f xs)) rs → faults ≡ faults_found (take n (map f xs)) rs → AreChecked (map f xs) rs faults
 checked_all f xs n rs faults end are rendered count =
@@ -192,7 +192,7 @@ checked_all f xs n rs faults end are rendered count =
     }
 
 -- all of them are counted
-pub counted_all : {X : Type 0} (f : X → ItemContent) (xs : List X) (n : ℕ) (now all : Counts) → length xs ≤ n → counted now (map (λ x. kept_definition (f x)) (drop n xs)) ≡ all → now ≡ all
+pub counted_all : {X : Type 0} (f : X → Content) (xs : List X) (n : ℕ) (now all : Counts) → length xs ≤ n → counted now (map (λ x. kept_definition (f x)) (drop n xs)) ≡ all → now ≡ all
 counted_all f xs n now all end so = sym (ap (λ l. counted now (map (λ x. kept_definition (f x)) l)) (drop_all n xs end)) ∙ so
 
 -- ---- what is generated of a definition

@@ -18,22 +18,22 @@ use Rattle.x_session.specs.KeptView.{kept_definition, kept_found, kept_parse}
 use Rattle.x_session.proofs.ItemLemmas.{take_part, drop_part}
 use Rattle.x_session.specs.Compile.{Item, parsed_definition, definitions_of, definition_at, tokens_of, IsCompilation, AreParses}
 use Rattle.x_session.specs.SessionState.{IsKept, items_of}
-use Rattle.x_session.specs.declared.compile.item_content.ItemContent.{ItemContent}
+use Rattle.x_session.specs.declared.compile.content.Content.{Content}
 
 pub length-lexemes : (text : List ℕ) (at : ℕ) (ts : List (Kind × ℕ)) → length (lexemes_from text at ts) ≡ length ts
 length-lexemes text at [] = refl
 length-lexemes text at (t ∷ ts) = ap suc (length-lexemes text (at + t.1) ts)
 
-pub length-items : (tokens : List Lexeme) (entries : List (ItemEntry ItemContent)) → length (items_with tokens entries) ≡ length entries
+pub length-items : (tokens : List Lexeme) (entries : List (ItemEntry Content)) → length (items_with tokens entries) ≡ length entries
 length-items tokens [] = refl
 length-items tokens (e ∷ es) = ap suc (length-items (drop e.tokens tokens) es)
 
-pub definitions-items : (tokens : List Lexeme) (entries : List (ItemEntry ItemContent)) → definitions_of (items_with tokens entries) ≡ entry_definitions entries
+pub definitions-items : (tokens : List Lexeme) (entries : List (ItemEntry Content)) → definitions_of (items_with tokens entries) ≡ entry_definitions entries
 definitions-items tokens [] = refl
 definitions-items tokens (e ∷ es) = ap (λ ds. kept_definition e.kept ∷ ds) (definitions-items (drop e.tokens tokens) es)
 
 -- the results are those that are kept
-pub results-items : (tokens : List Lexeme) (entries : List (ItemEntry ItemContent)) → map (λ i. i.result) (items_with tokens entries) ≡ entry_results entries
+pub results-items : (tokens : List Lexeme) (entries : List (ItemEntry Content)) → map (λ i. i.result) (items_with tokens entries) ≡ entry_results entries
 results-items tokens [] = refl
 results-items tokens (e ∷ es) = ap (λ os. found_result (kept_found e.kept) ∷ os) (results-items (drop e.tokens tokens) es)
 
@@ -41,12 +41,12 @@ pub tokens_are : (text : List ℕ) (tokens : List (Kind × ℕ)) (items : List I
 tokens_are text tokens items h = h.are_items.all
 
 -- a definition by its index
-pub definition_found : (tokens : List Lexeme) (entries : List (ItemEntry ItemContent)) (index : ℕ)
+pub definition_found : (tokens : List Lexeme) (entries : List (ItemEntry Content)) (index : ℕ)
     → option_and_then (λ d. d) (slice_get (entry_definitions entries) index) ≡ definition_at (items_with tokens entries) index
 definition_found tokens entries index = ap (λ ds. option_and_then (λ d. d) (slice_get ds index)) (sym (definitions-items tokens entries))
 
 -- the items by their numbers of tokens are those that were cut
-parts_are : (ps : List (List Lexeme)) (entries : List (ItemEntry ItemContent)) (tokens : List Lexeme) → joined ps ≡ tokens → AreEach ps entries
+parts_are : (ps : List (List Lexeme)) (entries : List (ItemEntry Content)) (tokens : List Lexeme) → joined ps ≡ tokens → AreEach ps entries
     → map (λ i. i.tokens) (items_with tokens entries) ≡ ps
 parts_are [] [] tokens e each = refl
 parts_are [] (i ∷ is) tokens e each = absurd each
@@ -57,7 +57,7 @@ parts_are (p ∷ ps) (i ∷ is) tokens e each =
     let others = parts_are ps is (drop i.tokens tokens) (sym rest) each.1 in
     λ k. first k ∷ others k
 
-parses_are : (ps : List (List Lexeme)) (entries : List (ItemEntry ItemContent)) (tokens : List Lexeme) → joined ps ≡ tokens → AreEach ps entries
+parses_are : (ps : List (List Lexeme)) (entries : List (ItemEntry Content)) (tokens : List Lexeme) → joined ps ≡ tokens → AreEach ps entries
     → AreParses (items_with tokens entries)
 parses_are [] [] tokens e each = tt
 parses_are [] (i ∷ is) tokens e each = absurd each
@@ -67,7 +67,7 @@ parses_are (p ∷ ps) (i ∷ is) tokens e each =
     let rest : drop i.tokens tokens ≡ joined ps = ap (drop i.tokens) (sym e) ∙ drop_part p (joined ps) i.tokens each.0.count in
     (subst (λ part. IsParse part (kept_parse i.kept)) (sym first) each.0.parsed, parses_are ps is (drop i.tokens tokens) (sym rest) each.1)
 
-compiles : (text : List ℕ) (tokens : List (Kind × ℕ)) (entries : List (ItemEntry ItemContent)) → AreTokens text tokens → AreParsed (lexemes text tokens) entries
+compiles : (text : List ℕ) (tokens : List (Kind × ℕ)) (entries : List (ItemEntry Content)) → AreTokens text tokens → AreParsed (lexemes text tokens) entries
     → AreResults (entry_definitions entries) (entry_results entries) → IsCompilation text tokens (items_of text tokens entries)
 compiles text tokens entries are cut results =
     let all = lexemes text tokens in
@@ -80,7 +80,7 @@ compiles text tokens entries are cut results =
     }
 
 -- what is kept of a text is its compilation
-pub compilation : {text : List ℕ} {tokens : List (Kind × ℕ)} {entries : List (ItemEntry ItemContent)} {faults : ℕ} {uses : Option UseTable} → IsKept text tokens entries faults uses → IsCompilation text tokens (items_of text tokens entries)
+pub compilation : {text : List ℕ} {tokens : List (Kind × ℕ)} {entries : List (ItemEntry Content)} {faults : ℕ} {uses : Option UseTable} → IsKept text tokens entries faults uses → IsCompilation text tokens (items_of text tokens entries)
 compilation {text} {tokens} {entries} h = compiles text tokens entries h.are_tokens h.parsed h.are_results
 
 -- lists of as many elements each, joined to one list, are the same

@@ -13,9 +13,9 @@ use Rattle.x_session.specs.FaultWalk.{AreOrdered, IsToldBy, fault_at, faults_her
 use Rattle.x_session.specs.KeptView.{item_with, items_with}
 use Rattle.x_session.specs.ItemReading.{ItemReading, behind, place_of, unread, word_place}
 use Rattle.x_session.specs.declared.compile.fault.FaultCode.TheVariants as codes
-use Rattle.x_session.specs.declared.compile.item_content.ItemContent.{ItemContent}
-use Rattle.x_session.specs.declared.compile.item_content.Verdict.{Verdict}
-use Rattle.x_session.specs.declared.compile.item_content.Verdict.TheVariants.{Syntax, Rules}
+use Rattle.x_session.specs.declared.compile.content.Content.{Content}
+use Rattle.x_session.specs.declared.compile.content.Verdict.{Verdict}
+use Rattle.x_session.specs.declared.compile.content.Verdict.TheVariants.{Syntax, Rules}
 use Rattle.x_session.specs.declared.session.item_faults.ItemFaults.{ItemFaults}
 
 -- ---- one token more is read
@@ -146,7 +146,7 @@ behind_first f fs up = from f.word f fs (omega arith) up
 -- ---- item by item
 
 -- no fault of the item is left, and the next item begins
-pub next_item : (text : List ℕ) (old new : ItemFaults) (n : ℕ) (e : ItemEntry ItemContent) (entries es : List (ItemEntry ItemContent)) → entries ≡ e ∷ es → places_left old.reader old.told ≡ []
+pub next_item : (text : List ℕ) (old new : ItemFaults) (n : ℕ) (e : ItemEntry Content) (entries es : List (ItemEntry Content)) → entries ≡ e ∷ es → places_left old.reader old.told ≡ []
     → faults_here text new ≡ item_faults text n (item_with (behind old.reader) e) → behind new.reader ≡ drop e.tokens (behind old.reader)
     → faults_left text new (n + 1) es ≡ faults_left text old n entries
 next_item text old new n e entries es all none here there =
@@ -155,5 +155,5 @@ next_item text old new n e entries es all none here there =
     ∙ sym (ap (λ l. faults_from text n (items_with (behind old.reader) l)) all)
     ∙ sym (ap (λ ps. map (fault_at text old.number) ps ++ faults_from text n (items_with (behind old.reader) entries)) none)
 
-pub ordered_rest : (e : ItemEntry ItemContent) (entries es : List (ItemEntry ItemContent)) → entries ≡ e ∷ es → AreOrdered entries → AreOrdered es
+pub ordered_rest : (e : ItemEntry Content) (entries es : List (ItemEntry Content)) → entries ≡ e ∷ es → AreOrdered entries → AreOrdered es
 ordered_rest e entries es all ordered k d lt = subst AreOrdered all ordered (suc k) d (omega (arith, lt))

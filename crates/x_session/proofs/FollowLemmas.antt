@@ -20,7 +20,7 @@ use Rattle.x_cutting.specs.Items.{IsCut}
 use Rattle.x_cutting.specs.declared.cutting.item_entry.ItemEntry.{ItemEntry}
 use Rattle.x_session.specs.Following.{AreFollowed}
 use Rattle.x_session.specs.KeptView.{AreAlong, AreParsed}
-use Rattle.x_session.specs.declared.compile.item_content.ItemContent.{ItemContent}
+use Rattle.x_session.specs.declared.compile.content.Content.{Content}
 use Rattle.x_session.proofs.LookLemmas.{look}
 use Rattle.x_session.proofs.AlongLemmas.{along_alike, along_append, along_back, along_each, along_front, along_less, along_more, cut_of, parsed_along, total_before, total_counts, total_cut, total_parts}
 
@@ -179,7 +179,7 @@ module _ (change : Change) (new : List ℕ) (ts : List (Kind × ℕ)) (patch : T
 
 -- ---- the items that stay
 
-module _ (olds news : List Lexeme) (front gone fresh : ℕ) (ends : SameEnds olds news front gone fresh) (es new : List (ItemEntry ItemContent)) (at removed : ℕ) (among : at + removed ≤ length es)
+module _ (olds news : List Lexeme) (front gone fresh : ℕ) (ends : SameEnds olds news front gone fresh) (es new : List (ItemEntry Content)) (at removed : ℕ) (among : at + removed ≤ length es)
     (before : tokens_before (counts es) at ≤ front) (behind : at + removed < length es → gone ≤ tokens_before (counts es) (at + removed))
     (cut : IsCut news (counts (splice es at (at + removed) new))) (old : AreParsed olds es) where
   along : AreAlong olds es
@@ -256,7 +256,7 @@ module _ (olds news : List Lexeme) (front gone fresh : ℕ) (ends : SameEnds old
 
 -- ---- the items that an edit leaves
 
-module _ (new : List ℕ) (ts : List (Kind × ℕ)) (es : List (ItemEntry ItemContent)) (patch : TokenPatch) (p : ItemChange ItemContent) (h : AreFollowed new ts es patch) (recut : IsItemPatch h.change ts (patched ts patch) es p) (before : p.start ≤ patch.at)
+module _ (new : List ℕ) (ts : List (Kind × ℕ)) (es : List (ItemEntry Content)) (patch : TokenPatch) (p : ItemChange Content) (h : AreFollowed new ts es patch) (recut : IsItemPatch h.change ts (patched ts patch) es p) (before : p.start ≤ patch.at)
     (behind : p.at + p.removed < length es → patch.at + patch.removed ≤ tokens_before (counts es) (p.at + p.removed)) where
   tiles : AreTokens new (patched ts patch)
   tiles = subst (λ text. AreTokens text (patched ts patch)) (sym h.relexed.edited) h.relexed.patch.tokens
@@ -267,7 +267,7 @@ module _ (new : List ℕ) (ts : List (Kind × ℕ)) (es : List (ItemEntry ItemCo
   first_le : tokens_before (counts es) p.at ≤ patch.at
   first_le = let s = recut.start in let b = before in omega (arith, s, b)
 
-  cut_with : (fresh : List (ItemEntry ItemContent)) → counts fresh ≡ counts p.fresh → IsCut (lexemes new (patched ts patch)) (counts (splice es p.at (p.at + p.removed) fresh))
+  cut_with : (fresh : List (ItemEntry Content)) → counts fresh ≡ counts p.fresh → IsCut (lexemes new (patched ts patch)) (counts (splice es p.at (p.at + p.removed) fresh))
   cut_with fresh same =
       subst (λ text. IsCut (lexemes text (patched ts patch)) (counts (splice es p.at (p.at + p.removed) fresh))) (sym h.relexed.edited)
       (subst (λ cs. IsCut (lexemes (edited_by h.change) (patched ts patch)) cs)
@@ -281,8 +281,8 @@ module _ (new : List ℕ) (ts : List (Kind × ℕ)) (es : List (ItemEntry ItemCo
       let l = length-lexemes_from new 0 (patched ts patch) in
       omega (arith, fit, s, l)
 
-  pub items_followed : (q : ItemChange ItemContent) → counts q.fresh ≡ counts p.fresh → q ≡ record p { fresh = q.fresh } → AreAlong (drop p.start (lexemes new (patched ts patch))) q.fresh → AreParsed (lexemes new (patched ts patch)) (items.patched es q)
+  pub items_followed : (q : ItemChange Content) → counts q.fresh ≡ counts p.fresh → q ≡ record p { fresh = q.fresh } → AreAlong (drop p.start (lexemes new (patched ts patch))) q.fresh → AreParsed (lexemes new (patched ts patch)) (items.patched es q)
   items_followed q same is along_new =
       let parsed = parsed_behind (lexemes h.change.old ts) (lexemes new (patched ts patch)) patch.at (patch.at + patch.removed) (patch.at + length patch.fresh) kept_ends es q.fresh p.at p.removed recut.among first_le behind (cut_with q.fresh same) h.parsed
       (subst (λ n. AreAlong (drop n (lexemes new (patched ts patch))) q.fresh) recut.start along_new) in
-      subst (λ (r : ItemChange ItemContent). AreParsed (lexemes new (patched ts patch)) (splice es r.at (r.at + r.removed) q.fresh)) (sym is) parsed
+      subst (λ (r : ItemChange Content). AreParsed (lexemes new (patched ts patch)) (splice es r.at (r.at + r.removed) q.fresh)) (sym is) parsed

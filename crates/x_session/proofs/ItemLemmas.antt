@@ -20,9 +20,9 @@ use Rattle.x_session.specs.Compile.{parsed_definition}
 use Rattle.x_cutting.specs.ItemList.{AreOfText, counts, total}
 use Rattle.x_cutting.specs.declared.cutting.item_entry.ItemEntry.{ItemEntry}
 use Rattle.x_session.specs.KeptView.{IsItem, kept_parse, kept_definition, entry_definitions, AreEach, AreParsed}
-use Rattle.x_session.specs.declared.compile.item_content.ItemContent.{ItemContent}
+use Rattle.x_session.specs.declared.compile.content.Content.{Content}
 
-each_push : (parts : List (List Lexeme)) (items : List (ItemEntry ItemContent)) (part : List Lexeme) (item : ItemEntry ItemContent) → AreEach parts items → IsItem part item → AreEach (parts ++ part ∷ []) (items ++ item ∷ [])
+each_push : (parts : List (List Lexeme)) (items : List (ItemEntry Content)) (part : List Lexeme) (item : ItemEntry Content) → AreEach parts items → IsItem part item → AreEach (parts ++ part ∷ []) (items ++ item ∷ [])
 each_push [] [] part item each this = (this, tt)
 each_push [] (x ∷ items) part item each this = absurd each
 each_push (p ∷ parts) [] part item each this = absurd each
@@ -35,14 +35,14 @@ pub drop_part : (part rest : List Lexeme) (n : ℕ) → n ≡ length part → dr
 drop_part part rest n e = ap (λ k. drop k (part ++ rest)) e ∙ drop-append_seam part rest
 
 -- whole items of the first tokens are parsed, and those of `left` are not yet
-pub record AreParsedSoFar (all left : List Lexeme) (items : List (ItemEntry ItemContent)) : Type 0 where
+pub record AreParsedSoFar (all left : List Lexeme) (items : List (ItemEntry Content)) : Type 0 where
   pub done : List (List Lexeme)
   pub split : joined done ++ left ≡ all
   pub whole : AreWhole done
   pub each : AreEach done items
 
 -- the same where items are left, and all are parsed where none is
-abbrev pub Parsing : Bool → List Lexeme → List Lexeme → List (ItemEntry ItemContent) → Type 0
+abbrev pub Parsing : Bool → List Lexeme → List Lexeme → List (ItemEntry Content) → Type 0
 Parsing true all left items = AreParsedSoFar all left items
 Parsing false all left items = AreParsed all items
 
@@ -54,7 +54,7 @@ split_more done part left left' all is split =
     ap (λ l. l ++ left') (joined_push done part) ∙ append_assoc (joined done) part left' ∙ ap (λ l. joined done ++ l) (sym is) ∙ split
 
 -- one item more
-pub parsing_more : (whole : Bool) (all left part left' : List Lexeme) (items : List (ItemEntry ItemContent)) (item : ItemEntry ItemContent) → Parsing true all left items → IsNext whole left part left' → IsItem part item
+pub parsing_more : (whole : Bool) (all left part left' : List Lexeme) (items : List (ItemEntry Content)) (item : ItemEntry Content) → Parsing true all left items → IsNext whole left part left' → IsItem part item
     → Parsing whole all left' (items ++ item ∷ [])
 parsing_more true all left part left' items item h next this = record {
   done = h.done ++ part ∷ [];
@@ -97,7 +97,7 @@ fewer_steps true left part left' next =
     omega (arith, l, p)
 fewer_steps false left part left' next = omega arith
 
-same_many : (parts : List (List Lexeme)) (items : List (ItemEntry ItemContent)) → AreEach parts items → length items ≡ length parts
+same_many : (parts : List (List Lexeme)) (items : List (ItemEntry Content)) → AreEach parts items → length items ≡ length parts
 same_many [] [] each = refl
 same_many [] (x ∷ items) each = absurd each
 same_many (p ∷ parts) [] each = absurd each
@@ -113,14 +113,14 @@ many_tokens (part ∷ whole) each =
     omega (arith, p, l, h)
 
 -- there is an item
-pub some_items : (all : List Lexeme) (items : List (ItemEntry ItemContent)) → AreParsed all items → 0 < length items
+pub some_items : (all : List Lexeme) (items : List (ItemEntry Content)) → AreParsed all items → 0 < length items
 some_items all items h =
     let same = same_many h.parts items h.each in
     let parts = ap length h.are.parts ∙ length_push h.are.whole h.are.last in
     omega (arith, same, parts)
 
 -- there is at most one item more than there are tokens
-pub few_items : (all : List Lexeme) (items : List (ItemEntry ItemContent)) → AreParsed all items → length items ≤ length all + 1
+pub few_items : (all : List Lexeme) (items : List (ItemEntry Content)) → AreParsed all items → length items ≤ length all + 1
 few_items all items h =
     let same = same_many h.parts items h.each in
     let parts = ap length h.are.parts ∙ length_push h.are.whole h.are.last in
@@ -128,7 +128,7 @@ few_items all items h =
     let many = many_tokens h.are.whole h.are.each in
     omega (arith, same, parts, tokens, many)
 
-total_tokens : (parts : List (List Lexeme)) (items : List (ItemEntry ItemContent)) → AreEach parts items → total (counts items) ≡ length (joined parts)
+total_tokens : (parts : List (List Lexeme)) (items : List (ItemEntry Content)) → AreEach parts items → total (counts items) ≡ length (joined parts)
 total_tokens [] [] each = refl
 total_tokens [] (x ∷ items) each = absurd each
 total_tokens (p ∷ parts) [] each = absurd each
@@ -139,7 +139,7 @@ total_tokens (p ∷ parts) (x ∷ items) each =
     omega (arith, first, others, l)
 
 -- the items are no more than a text can have
-pub items_of_text : (all : List Lexeme) (items : List (ItemEntry ItemContent)) → AreParsed all items → length all ≤ MAX_TEXT → AreOfText (counts items)
+pub items_of_text : (all : List Lexeme) (items : List (ItemEntry Content)) → AreParsed all items → length all ≤ MAX_TEXT → AreOfText (counts items)
 items_of_text all items h short =
     let same = length-map items (λ e. e.tokens) in
     let some = some_items all items h in
@@ -164,7 +164,7 @@ counted_on old new next (suc n) h is =
     let more : raised (raised old.parsed (suc n)) 1 ≡ raised old.parsed (suc (suc n)) = omega arith in
     is ∙ ap (λ (c : Counts). let d : Counts = record c { parsed = raised c.parsed 1 } in d) h ∙ ap (λ k. let d : Counts = record old { parsed = k } in d) more
 
-pub counted_push : (old new next : Counts) (items : List (ItemEntry ItemContent)) (item : ItemEntry ItemContent) → HasCounted old new (length items) → next ≡ record new { parsed = raised new.parsed 1 } → HasCounted old next (length (items ++ item ∷ []))
+pub counted_push : (old new next : Counts) (items : List (ItemEntry Content)) (item : ItemEntry Content) → HasCounted old new (length items) → next ≡ record new { parsed = raised new.parsed 1 } → HasCounted old next (length (items ++ item ∷ []))
 counted_push old new next items item h is = subst (HasCounted old next) (sym (length_push items item)) (let n : length items + 1 ≡ suc (length items) = omega arith in subst (HasCounted old next) (sym n) (counted_on old new next (length items) h is))
 
 pub counted_all : (old new : Counts) (n : ℕ) → 0 < n → HasCounted old new n → new ≡ record old { parsed = raised old.parsed n }
@@ -189,7 +189,7 @@ short_parse part (Def e) d parsed is =
     omega (arith, words, few)
 short_parse part (Fault token code) d parsed is = absurd (cc)
 
-short_each : (parts : List (List Lexeme)) (items : List (ItemEntry ItemContent)) (index : ℕ) (d : Definition) → AreEach parts items → slice_get (entry_definitions items) index ≡ Some (Some d) → length (spell d) ≤ length (joined parts)
+short_each : (parts : List (List Lexeme)) (items : List (ItemEntry Content)) (index : ℕ) (d : Definition) → AreEach parts items → slice_get (entry_definitions items) index ≡ Some (Some d) → length (spell d) ≤ length (joined parts)
 short_each [] [] index d each is = absurd (cc)
 short_each [] (x ∷ items) index d each is = absurd each
 short_each (p ∷ parts) [] index d each is = absurd each
@@ -206,7 +206,7 @@ most_words : MAX_TEXT < 2 ^ 64
 most_words = lit< tt
 
 -- no definition has as many words as a text may have bytes, and one more
-pub short_items : (all : List Lexeme) (items : List (ItemEntry ItemContent)) → AreParsed all items → length all ≤ MAX_TEXT → AreShort (entry_definitions items)
+pub short_items : (all : List Lexeme) (items : List (ItemEntry Content)) → AreParsed all items → length all ≤ MAX_TEXT → AreShort (entry_definitions items)
 short_items all items h few index d is =
     let words = short_each h.parts items index d h.each is in
     let tokens = ap length h.are.all in

@@ -10,21 +10,21 @@ use Rattle.x_cutting.specs.ItemList as items
 use Rattle.x_cutting.specs.declared.cutting.item_entry.ItemEntry.{ItemEntry}
 use Rattle.x_session.specs.Checking.{AreKnown, IsKnownAt}
 use Rattle.x_session.specs.KeptView.{AreWith, IsWith, IsWithAt, found_pieces, found_result, kept_definition, kept_found, kept_lines, kept_parse, renewed_pieces}
-use Rattle.x_session.specs.declared.compile.item_content.Found.{Found}
-use Rattle.x_session.specs.declared.compile.item_content.ItemContent.{ItemContent}
+use Rattle.x_session.specs.declared.compile.content.Found.{Found}
+use Rattle.x_session.specs.declared.compile.content.Content.{Content}
 
 set_seam : {X : Type 0} (front : List X) (x y : X) (rest : List X) (m : ℕ) → m ≡ length front → slice_set (front ++ x ∷ rest) m y ≡ front ++ y ∷ rest
 set_seam [] x y rest m e = ap (λ n. slice_set (x ∷ rest) n y) e
 set_seam (z ∷ front) x y rest zero e = absurd (omega (arith, e))
 set_seam (z ∷ front) x y rest (suc m) e = ap (λ l. z ∷ l) (set_seam front x y rest m (omega (arith, e)))
 
-many_known : (es : List (ItemEntry ItemContent)) (rs : List (Option (Box Found))) → AreKnown (items.kept es) rs → length es ≡ length rs
+many_known : (es : List (ItemEntry Content)) (rs : List (Option (Box Found))) → AreKnown (items.kept es) rs → length es ≡ length rs
 many_known [] [] known = refl
 many_known [] (r ∷ rs) known = absurd known
 many_known (e ∷ es) [] known = absurd known
 many_known (e ∷ es) (r ∷ rs) known = ap suc (many_known es rs known.1)
 
-known_at : (front back : List (ItemEntry ItemContent)) (e : ItemEntry ItemContent) (rs left : List (Option (Box Found))) (r : Option (Box Found)) → length front ≡ length rs
+known_at : (front back : List (ItemEntry Content)) (e : ItemEntry Content) (rs left : List (Option (Box Found))) (r : Option (Box Found)) → length front ≡ length rs
     → AreKnown (items.kept (front ++ e ∷ back)) (rs ++ r ∷ left) → kept_definition e.kept ≡ None → r ≡ None
 known_at [] back e [] left r many known = known.0
 known_at [] back e (s ∷ rs) left r many known = absurd (omega (arith, many))
@@ -32,10 +32,10 @@ known_at (f ∷ front) back e [] left r many known = absurd (omega (arith, many)
 known_at (f ∷ front) back e (s ∷ rs) left r many known = known_at front back e rs left r (omega (arith, many)) known.1
 
 -- the last items have what was found of them, and `rs` is left for those before
-pub record AreKept (olds : List (ItemEntry ItemContent)) (all : List (Option (Box Found))) (news : List (ItemEntry ItemContent)) (rs : List (Option (Box Found))) : Type 0 where
-  pub front : List (ItemEntry ItemContent)
-  pub back : List (ItemEntry ItemContent)
-  pub done : List (ItemEntry ItemContent)
+pub record AreKept (olds : List (ItemEntry Content)) (all : List (Option (Box Found))) (news : List (ItemEntry Content)) (rs : List (Option (Box Found))) : Type 0 where
+  pub front : List (ItemEntry Content)
+  pub back : List (ItemEntry Content)
+  pub done : List (ItemEntry Content)
   pub left : List (Option (Box Found))
   pub olds_are : olds ≡ front ++ back
   pub news_are : news ≡ front ++ done
@@ -43,7 +43,7 @@ pub record AreKept (olds : List (ItemEntry ItemContent)) (all : List (Option (Bo
   pub many : length front ≡ length rs
   pub with : AreWith back left done
 
-pub kept_none : (olds : List (ItemEntry ItemContent)) (all : List (Option (Box Found))) → AreKnown (items.kept olds) all → AreKept olds all olds all
+pub kept_none : (olds : List (ItemEntry Content)) (all : List (Option (Box Found))) → AreKnown (items.kept olds) all → AreKept olds all olds all
 kept_none olds all known = record {
   front = olds;
   back = [];
@@ -57,11 +57,11 @@ kept_none olds all known = record {
 }
 
 -- the item that is next, and those before it
-pub record IsLast (olds : List (ItemEntry ItemContent)) (all : List (Option (Box Found))) (news : List (ItemEntry ItemContent)) (rs : List (Option (Box Found))) (r : Option (Box Found)) : Type 0 where
-  pub front : List (ItemEntry ItemContent)
-  pub item : ItemEntry ItemContent
-  pub back : List (ItemEntry ItemContent)
-  pub done : List (ItemEntry ItemContent)
+pub record IsLast (olds : List (ItemEntry Content)) (all : List (Option (Box Found))) (news : List (ItemEntry Content)) (rs : List (Option (Box Found))) (r : Option (Box Found)) : Type 0 where
+  pub front : List (ItemEntry Content)
+  pub item : ItemEntry Content
+  pub back : List (ItemEntry Content)
+  pub done : List (ItemEntry Content)
   pub left : List (Option (Box Found))
   pub olds_are : olds ≡ front ++ item ∷ back
   pub news_are : news ≡ front ++ item ∷ done
@@ -69,7 +69,7 @@ pub record IsLast (olds : List (ItemEntry ItemContent)) (all : List (Option (Box
   pub many : length front ≡ length rs
   pub with : AreWith back left done
 
-pub last_item : (olds : List (ItemEntry ItemContent)) (all : List (Option (Box Found))) (news : List (ItemEntry ItemContent)) (before rs : List (Option (Box Found))) (r : Option (Box Found))
+pub last_item : (olds : List (ItemEntry Content)) (all : List (Option (Box Found))) (news : List (ItemEntry Content)) (before rs : List (Option (Box Found))) (r : Option (Box Found))
     → before ≡ rs ++ r ∷ [] → AreKept olds all news before → IsLast olds all news rs r
 last_item olds all news before rs r popped h =
     let m = length rs in
@@ -91,7 +91,7 @@ last_item olds all news before rs r popped h =
       with = h.with;
     }
 
-pub last_known : (olds : List (ItemEntry ItemContent)) (all : List (Option (Box Found))) (news : List (ItemEntry ItemContent)) (rs : List (Option (Box Found))) (r : Option (Box Found))
+pub last_known : (olds : List (ItemEntry Content)) (all : List (Option (Box Found))) (news : List (ItemEntry Content)) (rs : List (Option (Box Found))) (r : Option (Box Found))
     → (h : IsLast olds all news rs r) → AreKnown (items.kept olds) all → kept_definition h.item.kept ≡ None → r ≡ None
 last_known olds all news rs r h known =
     known_at h.front h.back h.item rs h.left r h.many (subst (λ l. AreKnown (items.kept l) (rs ++ r ∷ h.left)) h.olds_are (subst (λ l. AreKnown (items.kept olds) l) h.all_are known))
@@ -102,12 +102,12 @@ get_seam (z ∷ front) x d rest zero e = absurd (omega (arith, e))
 get_seam (z ∷ front) x d rest (suc m) e = get_seam front x d rest m (omega (arith, e))
 
 -- it stands where what is left of the list ends
-pub last_is : (olds : List (ItemEntry ItemContent)) (all : List (Option (Box Found))) (news : List (ItemEntry ItemContent)) (rs : List (Option (Box Found))) (r : Option (Box Found)) (h : IsLast olds all news rs r) (m : ℕ) (e : ItemEntry ItemContent)
+pub last_is : (olds : List (ItemEntry Content)) (all : List (Option (Box Found))) (news : List (ItemEntry Content)) (rs : List (Option (Box Found))) (r : Option (Box Found)) (h : IsLast olds all news rs r) (m : ℕ) (e : ItemEntry Content)
     → m ≡ length rs → e ≡ get_or news m e → e ≡ h.item
 last_is olds all news rs r h m e at is = is ∙ ap (λ l. get_or l m e) h.news_are ∙ get_seam h.front h.item e h.done m (at ∙ sym h.many)
 
 -- it has what was found of it
-pub kept_more : (olds : List (ItemEntry ItemContent)) (all : List (Option (Box Found))) (news next : List (ItemEntry ItemContent)) (rs : List (Option (Box Found))) (r : Option (Box Found)) (m : ℕ) (f : ItemEntry ItemContent)
+pub kept_more : (olds : List (ItemEntry Content)) (all : List (Option (Box Found))) (news next : List (ItemEntry Content)) (rs : List (Option (Box Found))) (r : Option (Box Found)) (m : ℕ) (f : ItemEntry Content)
     → (h : IsLast olds all news rs r) → m ≡ length rs → next ≡ slice_set news m f → IsWith h.item r f → AreKept olds all next rs
 kept_more olds all news next rs r m f h at set is = record {
   front = h.front;
@@ -125,7 +125,7 @@ no_items : {X : Type 0} (xs : List X) → length xs ≡ 0 → xs ≡ []
 no_items [] none = refl
 no_items (x ∷ xs) none = absurd (omega (arith, none))
 
-pub kept_all : (olds : List (ItemEntry ItemContent)) (all : List (Option (Box Found))) (news : List (ItemEntry ItemContent)) (rs : List (Option (Box Found))) → rs ≡ [] → AreKept olds all news rs → AreWith olds all news
+pub kept_all : (olds : List (ItemEntry Content)) (all : List (Option (Box Found))) (news : List (ItemEntry Content)) (rs : List (Option (Box Found))) → rs ≡ [] → AreKept olds all news rs → AreWith olds all news
 kept_all olds all news rs none h =
     let front = no_items h.front (h.many ∙ ap length none) in
     let olds_are : h.back ≡ olds = sym (h.olds_are ∙ ap (λ l. l ++ h.back) front) in
@@ -135,30 +135,30 @@ kept_all olds all news rs none h =
 
 -- ---- an item of a list in place
 
-here_at : (front : List (ItemEntry ItemContent)) (x : ItemEntry ItemContent) (rest : List (ItemEntry ItemContent)) (m : ℕ) → m ≡ length front → slice_get (front ++ x ∷ rest) m ≡ Some x
+here_at : (front : List (ItemEntry Content)) (x : ItemEntry Content) (rest : List (ItemEntry Content)) (m : ℕ) → m ≡ length front → slice_get (front ++ x ∷ rest) m ≡ Some x
 here_at [] x rest m e = ap (λ n. slice_get (x ∷ rest) n) e
 here_at (z ∷ front) x rest zero e = absurd (omega (arith, e))
 here_at (z ∷ front) x rest (suc m) e = here_at front x rest m (omega (arith, e))
 
-pub last_within : (olds : List (ItemEntry ItemContent)) (all : List (Option (Box Found))) (news : List (ItemEntry ItemContent)) (rs : List (Option (Box Found))) (r : Option (Box Found)) (h : IsLast olds all news rs r) (m : ℕ) → m ≡ length rs → m < length news
+pub last_within : (olds : List (ItemEntry Content)) (all : List (Option (Box Found))) (news : List (ItemEntry Content)) (rs : List (Option (Box Found))) (r : Option (Box Found)) (h : IsLast olds all news rs r) (m : ℕ) → m ≡ length rs → m < length news
 last_within olds all news rs r h m at =
     let l = ap length h.news_are ∙ length-append h.front (h.item ∷ h.done) in
     let many = h.many in
     omega (arith, l, many, at)
 
-pub kept_get : (es : List (ItemEntry ItemContent)) (i : ℕ) (e : ItemEntry ItemContent) → slice_get es i ≡ Some e → slice_get (items.kept es) i ≡ Some e.kept
+pub kept_get : (es : List (ItemEntry Content)) (i : ℕ) (e : ItemEntry Content) → slice_get es i ≡ Some e → slice_get (items.kept es) i ≡ Some e.kept
 kept_get [] i e is = absurd (cc)
-kept_get (x ∷ es) zero e is = let same : x ≡ e = same_Some x e is in ap (λ (y : ItemEntry ItemContent). Some y.kept) same
+kept_get (x ∷ es) zero e is = let same : x ≡ e = same_Some x e is in ap (λ (y : ItemEntry Content). Some y.kept) same
 kept_get (x ∷ es) (suc i) e is = kept_get es i e is
 
-pub last_known_at : (olds : List (ItemEntry ItemContent)) (all : List (Option (Box Found))) (news : List (ItemEntry ItemContent)) (rs : List (Option (Box Found))) (r : Option (Box Found)) (h : IsLast olds all news rs r) (m : ℕ) → m ≡ length rs
+pub last_known_at : (olds : List (ItemEntry Content)) (all : List (Option (Box Found))) (news : List (ItemEntry Content)) (rs : List (Option (Box Found))) (r : Option (Box Found)) (h : IsLast olds all news rs r) (m : ℕ) → m ≡ length rs
     → AreKnown (items.kept olds) all → IsKnownAt (items.kept news) m r
 last_known_at olds all news rs r h m at known k is none =
     let here : slice_get news m ≡ Some h.item = ap (λ l. slice_get l m) h.news_are ∙ here_at h.front h.item h.done m (at ∙ sym h.many) in
     let same : h.item.kept ≡ k = same_Some h.item.kept k (sym (kept_get news m h.item here) ∙ is) in
     last_known olds all news rs r h known (ap kept_definition same ∙ none)
 
-pub kept_on : (olds : List (ItemEntry ItemContent)) (all : List (Option (Box Found))) (news next : List (ItemEntry ItemContent)) (rs : List (Option (Box Found))) (r : Option (Box Found)) (m : ℕ) → (h : IsLast olds all news rs r) → m ≡ length rs
+pub kept_on : (olds : List (ItemEntry Content)) (all : List (Option (Box Found))) (news next : List (ItemEntry Content)) (rs : List (Option (Box Found))) (r : Option (Box Found)) (m : ℕ) → (h : IsLast olds all news rs r) → m ≡ length rs
     → IsWithAt news m r next → AreKept olds all next rs
 kept_on olds all news next rs r m h at with =
     let here : slice_get news m ≡ Some h.item = ap (λ l. slice_get l m) h.news_are ∙ here_at h.front h.item h.done m (at ∙ sym h.many) in
@@ -167,7 +167,7 @@ kept_on olds all news next rs r m h at with =
 
 -- ---- one thing is kept in place of another, the tokens stay
 
-entry_in : (es fs : List (ItemEntry ItemContent)) (i : ℕ) (k : ItemContent) (e : ItemEntry ItemContent) → counts fs ≡ counts es → items.kept fs ≡ slice_set (items.kept es) i k → slice_get es i ≡ Some e
+entry_in : (es fs : List (ItemEntry Content)) (i : ℕ) (k : Content) (e : ItemEntry Content) → counts fs ≡ counts es → items.kept fs ≡ slice_set (items.kept es) i k → slice_get es i ≡ Some e
     → fs ≡ slice_set es i (record { tokens = e.tokens; kept = k })
 entry_in [] fs i k e many set is = absurd (cc)
 entry_in (x ∷ es) [] i k e many set is = absurd (cc)
@@ -178,9 +178,9 @@ entry_in (x ∷ es) (f ∷ fs) zero k e many set is =
     let kept : f.kept ≡ k = cc in
     let rest : items.kept fs ≡ items.kept es = cc in
     let tail = same_entries fs es others rest in
-    λ j. record { tokens = (tokens ∙ ap (λ (y : ItemEntry ItemContent). y.tokens) same) j; kept = kept j } ∷ tail j
+    λ j. record { tokens = (tokens ∙ ap (λ (y : ItemEntry Content). y.tokens) same) j; kept = kept j } ∷ tail j
   where
-    same_entries : (xs ys : List (ItemEntry ItemContent)) → counts xs ≡ counts ys → items.kept xs ≡ items.kept ys → xs ≡ ys
+    same_entries : (xs ys : List (ItemEntry Content)) → counts xs ≡ counts ys → items.kept xs ≡ items.kept ys → xs ≡ ys
     same_entries [] [] c k = refl
     same_entries [] (y ∷ ys) c k = absurd (cc)
     same_entries (x ∷ xs) [] c k = absurd (cc)
@@ -199,7 +199,7 @@ entry_in (x ∷ es) (f ∷ fs) (suc i) k e many set is =
     let tail = entry_in es fs i k e others rest is in
     λ j. record { tokens = tokens j; kept = kept j } ∷ tail j
 
-pub entry_set : (es fs : List (ItemEntry ItemContent)) (i : ℕ) (k : ItemContent) (e : ItemEntry ItemContent) → counts fs ≡ counts es → items.kept fs ≡ slice_set (items.kept es) i k → slice_get es i ≡ Some e
+pub entry_set : (es fs : List (ItemEntry Content)) (i : ℕ) (k : Content) (e : ItemEntry Content) → counts fs ≡ counts es → items.kept fs ≡ slice_set (items.kept es) i k → slice_get es i ≡ Some e
     → fs ≡ slice_set es i (record { tokens = e.tokens; kept = k })
 entry_set es fs i k e many set is = entry_in es fs i k e many set is
 
@@ -208,13 +208,13 @@ set_twice [] i x y = refl
 set_twice (z ∷ xs) zero x y = refl
 set_twice (z ∷ xs) (suc i) x y = ap (λ l. z ∷ l) (set_twice xs i x y)
 
-pub entry_of : (es : List (ItemEntry ItemContent)) (i : ℕ) (k : ItemContent) → slice_get (items.kept es) i ≡ Some k → (e : ItemEntry ItemContent) × (slice_get es i ≡ Some e) × (e.kept ≡ k)
+pub entry_of : (es : List (ItemEntry Content)) (i : ℕ) (k : Content) → slice_get (items.kept es) i ≡ Some k → (e : ItemEntry Content) × (slice_get es i ≡ Some e) × (e.kept ≡ k)
 entry_of [] i k is = absurd (cc)
 entry_of (x ∷ es) zero k is = (x, refl, same_Some x.kept k is)
 entry_of (x ∷ es) (suc i) k is = entry_of es i k is
 
 -- the same item, whatever the number of its tokens, with which what was found is kept
-pub kept_with : (out new : ItemContent) (r : Option (Box Found)) → kept_parse new ≡ kept_parse out → kept_lines new ≡ kept_lines out → found_result (kept_found new) ≡ found_result r
+pub kept_with : (out new : Content) (r : Option (Box Found)) → kept_parse new ≡ kept_parse out → kept_lines new ≡ kept_lines out → found_result (kept_found new) ≡ found_result r
     → found_pieces (kept_found new) ≡ renewed_pieces (found_pieces (kept_found out)) r → (n : ℕ) → IsWith (record { tokens = n; kept = out }) r (record { tokens = n; kept = new })
 kept_with out new r parse lines result pieces n = record {
   tokens = refl;
@@ -225,7 +225,7 @@ kept_with out new r parse lines result pieces n = record {
 }
 
 -- what was kept with an item is exchanged, and then again
-pub with_at : (es fs gs : List (ItemEntry ItemContent)) (i : ℕ) (out none new : ItemContent) (r : Option (Box Found)) → slice_get (items.kept es) i ≡ Some out → counts fs ≡ counts es → items.kept fs ≡ slice_set (items.kept es) i none
+pub with_at : (es fs gs : List (ItemEntry Content)) (i : ℕ) (out none new : Content) (r : Option (Box Found)) → slice_get (items.kept es) i ≡ Some out → counts fs ≡ counts es → items.kept fs ≡ slice_set (items.kept es) i none
     → counts gs ≡ counts fs → items.kept gs ≡ slice_set (items.kept fs) i new → ((n : ℕ) → IsWith (record { tokens = n; kept = out }) r (record { tokens = n; kept = new })) → IsWithAt es i r gs
 with_at es fs gs i out none new r was c1 k1 c2 k2 with =
     let at = entry_of es i out was in

@@ -21,9 +21,9 @@ use Rattle.x_session.specs.Following.{CanPut}
 use Rattle.x_session.specs.KeptView.{IsWithAt}
 use Rattle.x_session.specs.Moves.{Changed, HasMoved, changed_entry, changed_items, left_changes, moves, place_of, seat_behind}
 use Rattle.x_session.specs.PlannedResult.{ArePlanned, numbers_of}
-use Rattle.x_session.specs.declared.compile.item_content.Found.{Found}
-use Rattle.x_session.specs.declared.compile.item_content.ItemContent.{ItemContent}
-use Rattle.x_session.specs.declared.compile.item_content.PlannedResult.{PlannedResult}
+use Rattle.x_session.specs.declared.compile.content.Found.{Found}
+use Rattle.x_session.specs.declared.compile.content.Content.{Content}
+use Rattle.x_session.specs.declared.compile.content.PlannedResult.{PlannedResult}
 use Rattle.x_session.proofs.KeepingLemmas.{entry_of, kept_get}
 use Rattle.x_session.proofs.MoveLemmas.{AreBelow, items_most, moved_before, moved_fresh, moved_nothing, moved_own, moved_place, moved_then}
 
@@ -52,16 +52,16 @@ set_behind (x ∷ front) xs at i (suc n) y is sum = ap (λ l. x ∷ l) (set_behi
 
 -- ---- what was found of an item is kept with it
 
-known_of : (es fs : List (ItemEntry ItemContent)) (i n : ℕ) (r : Option (Box Found)) → slice_get es i ≡ slice_get fs n → IsKnownAt (items.kept es) i r → IsKnownAt (items.kept fs) n r
+known_of : (es fs : List (ItemEntry Content)) (i n : ℕ) (r : Option (Box Found)) → slice_get es i ≡ slice_get fs n → IsKnownAt (items.kept es) i r → IsKnownAt (items.kept fs) n r
 known_of es fs i n r same known k is none =
     let e = entry_of fs n k is in
     known k (kept_get es i e.0 (same ∙ e.1) ∙ ap Some e.2) none
 
 -- before the place
-pub known_before : (es : List (ItemEntry ItemContent)) (p : ItemChange ItemContent) (i : ℕ) (r : Option (Box Found)) → items.LiesAmong es p → i < p.at → IsKnownAt (items.kept (patched es p)) i r → IsKnownAt (items.kept es) i r
+pub known_before : (es : List (ItemEntry Content)) (p : ItemChange Content) (i : ℕ) (r : Option (Box Found)) → items.LiesAmong es p → i < p.at → IsKnownAt (items.kept (patched es p)) i r → IsKnownAt (items.kept es) i r
 known_before es p i r among lt known = known_of (patched es p) es i i r (get_before es p.fresh p.at (p.at + p.removed) i (omega (arith, among)) (omega arith) lt) known
 
-pub with_before : (es fs : List (ItemEntry ItemContent)) (p : ItemChange ItemContent) (i : ℕ) (r : Option (Box Found)) → items.LiesAmong es p → i < p.at → IsWithAt es i r fs → IsWithAt (patched es p) i r (patched fs p)
+pub with_before : (es fs : List (ItemEntry Content)) (p : ItemChange Content) (i : ℕ) (r : Option (Box Found)) → items.LiesAmong es p → i < p.at → IsWithAt es i r fs → IsWithAt (patched es p) i r (patched fs p)
 with_before es fs p i r among lt h =
     let a : p.at ≤ length es = omega (arith, among) in
     let b : p.at ≤ p.at + p.removed = omega arith in
@@ -74,17 +74,17 @@ with_before es fs p i r among lt h =
     }
 
 -- with a fresh one
-get_fresh : (es : List (ItemEntry ItemContent)) (p : ItemChange ItemContent) (n i : ℕ) → items.LiesAmong es p → n ≡ p.at + i → i < length p.fresh → slice_get (patched es p) n ≡ slice_get p.fresh i
+get_fresh : (es : List (ItemEntry Content)) (p : ItemChange Content) (n i : ℕ) → items.LiesAmong es p → n ≡ p.at + i → i < length p.fresh → slice_get (patched es p) n ≡ slice_get p.fresh i
 get_fresh es p n i among sum lt =
     let rear = drop (p.at + p.removed) es in
     let front = length-take-le p.at es (omega (arith, among)) in
     let index : n - length (take p.at es) ≡ i = omega (arith, front, sum) in
     get_rear (take p.at es) (p.fresh ++ rear) n (omega (arith, front, sum)) ∙ ap (slice_get (p.fresh ++ rear)) index ∙ get_front p.fresh rear i lt
 
-pub known_fresh : (es : List (ItemEntry ItemContent)) (p : ItemChange ItemContent) (n i : ℕ) (r : Option (Box Found)) → items.LiesAmong es p → n ≡ p.at + i → i < length p.fresh → IsKnownAt (items.kept (patched es p)) n r → IsKnownAt (items.kept p.fresh) i r
+pub known_fresh : (es : List (ItemEntry Content)) (p : ItemChange Content) (n i : ℕ) (r : Option (Box Found)) → items.LiesAmong es p → n ≡ p.at + i → i < length p.fresh → IsKnownAt (items.kept (patched es p)) n r → IsKnownAt (items.kept p.fresh) i r
 known_fresh es p n i r among sum lt known = known_of (patched es p) p.fresh n i r (get_fresh es p n i among sum lt) known
 
-pub with_fresh : (es : List (ItemEntry ItemContent)) (p q : ItemChange ItemContent) (n i : ℕ) (r : Option (Box Found)) → items.LiesAmong es p → n ≡ p.at + i → i < length p.fresh → IsWithAt p.fresh i r q.fresh → q ≡ record p { fresh = q.fresh }
+pub with_fresh : (es : List (ItemEntry Content)) (p q : ItemChange Content) (n i : ℕ) (r : Option (Box Found)) → items.LiesAmong es p → n ≡ p.at + i → i < length p.fresh → IsWithAt p.fresh i r q.fresh → q ≡ record p { fresh = q.fresh }
     → IsWithAt (patched es p) n r (patched es q)
 with_fresh es p q n i r among sum lt h same =
     let rear = drop (p.at + p.removed) es in
@@ -100,7 +100,7 @@ with_fresh es p q n i r among sum lt h same =
 
 -- ---- the patch can be carried out
 
-pub can_before : (g h : Gapped (ItemEntry ItemContent)) (p : ItemChange ItemContent) → counts h.list ≡ counts g.list → g.spare ≤ h.spare → CanPut g p → CanPut h p
+pub can_before : (g h : Gapped (ItemEntry Content)) (p : ItemChange Content) → counts h.list ≡ counts g.list → g.spare ≤ h.spare → CanPut g p → CanPut h p
 can_before g h p same room can =
     let a = length-map h.list tokens_in in
     let b = length-map g.list tokens_in in
@@ -113,7 +113,7 @@ can_before g h p same room can =
       of_text = subst AreOfText (counts-splice g.list p.fresh p.at (p.at + p.removed) ∙ sym (ap (λ cs. splice cs p.at (p.at + p.removed) (counts p.fresh)) same) ∙ sym (counts-splice h.list p.fresh p.at (p.at + p.removed))) can.of_text;
     }
 
-pub can_fresh : (g : Gapped (ItemEntry ItemContent)) (p q : ItemChange ItemContent) → counts q.fresh ≡ counts p.fresh → q ≡ record p { fresh = q.fresh } → CanPut g p → CanPut g q
+pub can_fresh : (g : Gapped (ItemEntry Content)) (p q : ItemChange Content) → counts q.fresh ≡ counts p.fresh → q ≡ record p { fresh = q.fresh } → CanPut g p → CanPut g q
 can_fresh g p q many same can =
     let a = length-map q.fresh tokens_in in
     let b = length-map p.fresh tokens_in in
@@ -127,7 +127,7 @@ can_fresh g p q many same can =
     subst (CanPut g) (sym same) c
 
 -- one by which nothing goes and nothing comes
-pub patched_nothing : (es : List (ItemEntry ItemContent)) (p : ItemChange ItemContent) → p.removed ≡ 0 → p.fresh ≡ [] → es ≡ patched es p
+pub patched_nothing : (es : List (ItemEntry Content)) (p : ItemChange Content) → p.removed ≡ 0 → p.fresh ≡ [] → es ≡ patched es p
 patched_nothing es p none empty =
     let end : p.at + p.removed ≡ p.at = omega (arith, none) in
     sym (take-append-drop p.at es) ∙ sym (λ i. take p.at es ++ (empty i ++ drop (end i) es))
@@ -138,12 +138,12 @@ patched_nothing es p none empty =
 pub moved_fits : (h : ℕ) → h < 2 ^ 64 → h ≡ raised 0 h
 moved_fits h fits = omega (arith, fits)
 
-planned_below : (ks : List ItemContent) (ps : List PlannedResult) → ArePlanned ks ps → AreBelow (length ks) (numbers_of ps)
+planned_below : (ks : List Content) (ps : List PlannedResult) → ArePlanned ks ps → AreBelow (length ks) (numbers_of ps)
 planned_below ks [] are = tt
 planned_below ks (p ∷ ps) are = (slice_get_within ks p.item are.0.item are.0.at, planned_below ks ps are.2)
 
 -- no more than twice as many as there are
-pub moves_few : (g : Gapped (ItemEntry ItemContent)) (p : ItemChange ItemContent) (ps : List PlannedResult) (most : ℕ) → CanPut g p → ArePlanned (items.kept (patched g.list p)) ps → Ascending 0 (numbers_of ps) → g.seat ≤ length g.list → length g.list ≤ most
+pub moves_few : (g : Gapped (ItemEntry Content)) (p : ItemChange Content) (ps : List PlannedResult) (most : ℕ) → CanPut g p → ArePlanned (items.kept (patched g.list p)) ps → Ascending 0 (numbers_of ps) → g.seat ≤ length g.list → length g.list ≤ most
     → moves g.seat (changed_items (place_of p) (numbers_of ps)) ≤ 2 * most
 moves_few g p ps most can planned up seat few =
     let among = can.among in
@@ -171,7 +171,7 @@ moved_exactly : (seat moved now : ℕ) (all left : List Changed) → moved < 2 ^
 moved_exactly seat moved now all left fits h = subst (λ m. HasMoved seat all m now left) (sym (moved_fits moved fits)) h
 
 -- nothing goes by the patch and nothing comes
-pub pending_nothing : (o n : Option (ItemChange ItemContent)) (p : ItemChange ItemContent) (seat : ℕ) (ks : List ℕ) → o ≡ Some p → n ≡ None → p.removed ≡ 0 → p.fresh ≡ [] → IfSome o (λ q. Ascending (q.at + length q.fresh) ks)
+pub pending_nothing : (o n : Option (ItemChange Content)) (p : ItemChange Content) (seat : ℕ) (ks : List ℕ) → o ≡ Some p → n ≡ None → p.removed ≡ 0 → p.fresh ≡ [] → IfSome o (λ q. Ascending (q.at + length q.fresh) ks)
     → HasMoved seat (left_changes o ks) 0 seat (left_changes n ks)
 pending_nothing o n p seat ks is none removed fresh up =
     subst (λ x. HasMoved seat (left_changes o ks) 0 seat (left_changes x ks)) (sym none)
@@ -179,7 +179,7 @@ pending_nothing o n p seat ks is none removed fresh up =
     (moved_nothing (place_of p) seat ks (subst (λ x. IfSome x (λ q. Ascending (q.at + length q.fresh) ks)) is up) removed (ap length fresh)))
 
 -- the patch is put
-pub pending_place : (o n : Option (ItemChange ItemContent)) (p : ItemChange ItemContent) (seat moved now : ℕ) (ks : List ℕ) → o ≡ Some p → n ≡ None → 0 < p.removed + length p.fresh → moved ≡ distance seat p.at (p.at + p.removed)
+pub pending_place : (o n : Option (ItemChange Content)) (p : ItemChange Content) (seat moved now : ℕ) (ks : List ℕ) → o ≡ Some p → n ≡ None → 0 < p.removed + length p.fresh → moved ≡ distance seat p.at (p.at + p.removed)
     → now ≡ p.at + length p.fresh → moved < 2 ^ 64 → IfSome o (λ q. Ascending (q.at + length q.fresh) ks) → HasMoved seat (left_changes o ks) moved now (left_changes n ks)
 pending_place o n p seat moved now ks is none some far at fits up =
     subst (λ x. HasMoved seat (left_changes o ks) moved now (left_changes x ks)) (sym none)
@@ -192,7 +192,7 @@ some_fresh [] some = absurd (some refl)
 some_fresh (x ∷ xs) some = omega arith
 
 -- an item that stays before the place is put
-pub pending_before : (o : Option (ItemChange ItemContent)) (p : ItemChange ItemContent) (seat k moved now : ℕ) (ks : List ℕ) → o ≡ Some p → k < p.at → Ascending (k + 1) ks → moved ≡ distance seat k (k + 1) → now ≡ k + 1 → moved < 2 ^ 64
+pub pending_before : (o : Option (ItemChange Content)) (p : ItemChange Content) (seat k moved now : ℕ) (ks : List ℕ) → o ≡ Some p → k < p.at → Ascending (k + 1) ks → moved ≡ distance seat k (k + 1) → now ≡ k + 1 → moved < 2 ^ 64
     → HasMoved seat (left_changes o (k ∷ ks)) moved now (changed_items (place_of p) ks)
 pending_before o p seat k moved now ks is lt up far at fits =
     subst (λ x. HasMoved seat (left_changes x (k ∷ ks)) moved now (changed_items (place_of p) ks)) (sym is)
@@ -200,7 +200,7 @@ pending_before o p seat k moved now ks is lt up far at fits =
     (moved_exactly seat moved (k + 1) (changed_items (place_of p) (k ∷ ks)) (changed_items (place_of p) ks) fits (moved_before (place_of p) seat k moved ks lt up far)))
 
 -- a fresh item is put
-pub pending_fresh : (o : Option (ItemChange ItemContent)) (p q : ItemChange ItemContent) (seat k : ℕ) (ks : List ℕ) → o ≡ Some p → p.at ≤ k → k < p.at + length p.fresh → counts q.fresh ≡ counts p.fresh → q ≡ record p { fresh = q.fresh }
+pub pending_fresh : (o : Option (ItemChange Content)) (p q : ItemChange Content) (seat k : ℕ) (ks : List ℕ) → o ≡ Some p → p.at ≤ k → k < p.at + length p.fresh → counts q.fresh ≡ counts p.fresh → q ≡ record p { fresh = q.fresh }
     → HasMoved seat (left_changes o (k ∷ ks)) 0 seat (changed_items (place_of q) ks)
 pending_fresh o p q seat k ks is le lt many same =
     let a = length-map q.fresh tokens_in in
@@ -212,7 +212,7 @@ pending_fresh o p q seat k ks is le lt many same =
     (subst (λ r. HasMoved seat (changed_items (place_of p) (k ∷ ks)) 0 seat (changed_items r ks)) place (moved_fresh (place_of p) seat k ks le lt))
 
 -- an item is put, where the patch was carried out
-pub pending_none : (o : Option (ItemChange ItemContent)) (seat k moved now : ℕ) (ks : List ℕ) → o ≡ None → Ascending (k + 1) ks → moved ≡ distance seat k (k + 1) → now ≡ k + 1 → moved < 2 ^ 64
+pub pending_none : (o : Option (ItemChange Content)) (seat k moved now : ℕ) (ks : List ℕ) → o ≡ None → Ascending (k + 1) ks → moved ≡ distance seat k (k + 1) → now ≡ k + 1 → moved < 2 ^ 64
     → HasMoved seat (left_changes o (k ∷ ks)) moved now (left_changes o ks)
 pending_none o seat k moved now ks none up far at fits =
     subst (λ x. HasMoved seat (left_changes x (k ∷ ks)) moved now (left_changes x ks)) (sym none)
@@ -220,27 +220,27 @@ pending_none o seat k moved now ks none up far at fits =
     (moved_exactly seat moved (k + 1) (map (λ j. changed_entry j j) (k ∷ ks)) (map (λ j. changed_entry j j) ks) fits (moved_own seat k moved ks up far)))
 
 -- an item is put once the patch was carried out
-pub pending_behind : (o m : Option (ItemChange ItemContent)) (seat mid k first more moved now : ℕ) (ks : List ℕ) → m ≡ None
+pub pending_behind : (o m : Option (ItemChange Content)) (seat mid k first more moved now : ℕ) (ks : List ℕ) → m ≡ None
     → ((ls : List ℕ) → IfSome o (λ q. Ascending (q.at + length q.fresh) ls) → HasMoved seat (left_changes o ls) first mid (left_changes m ls)) → IfSome o (λ q. q.at + length q.fresh ≤ k) → Ascending (k + 1) ks
     → more ≡ distance mid k (k + 1) → now ≡ k + 1 → more < 2 ^ 64 → moved ≡ raised first more → HasMoved seat (left_changes o (k ∷ ks)) moved now (left_changes m ks)
 pending_behind o m seat mid k first more moved now ks none put behind up far at fits sum =
     let next : k + 1 ≡ suc k = omega arith in
-    let order : (x : Option (ItemChange ItemContent)) → IfSome x (λ q. q.at + length q.fresh ≤ k) → IfSome x (λ q. Ascending (q.at + length q.fresh) (k ∷ ks)) = λ x h. ordered x h (subst (λ n. Ascending n ks) next up) in
+    let order : (x : Option (ItemChange Content)) → IfSome x (λ q. q.at + length q.fresh ≤ k) → IfSome x (λ q. Ascending (q.at + length q.fresh) (k ∷ ks)) = λ x h. ordered x h (subst (λ n. Ascending n ks) next up) in
     subst (λ r. HasMoved seat (left_changes o (k ∷ ks)) r now (left_changes m ks)) (sym sum)
     (moved_then seat first more mid now (left_changes o (k ∷ ks)) (left_changes m (k ∷ ks)) (left_changes m ks) (put (k ∷ ks) (order o behind)) (pending_none m mid k more now ks none up far at fits))
   where
-    ordered : (x : Option (ItemChange ItemContent)) → IfSome x (λ q. q.at + length q.fresh ≤ k) → Ascending (suc k) ks → IfSome x (λ q. Ascending (q.at + length q.fresh) (k ∷ ks))
+    ordered : (x : Option (ItemChange Content)) → IfSome x (λ q. q.at + length q.fresh ≤ k) → Ascending (suc k) ks → IfSome x (λ q. Ascending (q.at + length q.fresh) (k ∷ ks))
     ordered None h u = tt
     ordered (Some q) h u = (h, u)
 
 -- a fresh item, and where it stands among them
-pub record IsFreshAt (g : Gapped (ItemEntry ItemContent)) (p : ItemChange ItemContent) (n i : ℕ) : Type 0 where
+pub record IsFreshAt (g : Gapped (ItemEntry Content)) (p : ItemChange Content) (n i : ℕ) : Type 0 where
   pub can : CanPut g p
   pub le : p.at ≤ n
   pub sum : n ≡ p.at + i
   pub lt : i < length p.fresh
 
-pub fresh_at : (g : Gapped (ItemEntry ItemContent)) (o : Option (ItemChange ItemContent)) (p : ItemChange ItemContent) (n at from count : ℕ) → o ≡ Some p → IfSome o (CanPut g) → at ≡ p.at → from ≡ p.at → at ≤ n → count ≡ length p.fresh → n - from < count
+pub fresh_at : (g : Gapped (ItemEntry Content)) (o : Option (ItemChange Content)) (p : ItemChange Content) (n at from count : ℕ) → o ≡ Some p → IfSome o (CanPut g) → at ≡ p.at → from ≡ p.at → at ≤ n → count ≡ length p.fresh → n - from < count
     → IsFreshAt g p n (n - from)
 fresh_at g o p n at from count is can a b le c lt = record {
   can = subst (λ x. IfSome x (CanPut g)) is can;
@@ -251,7 +251,7 @@ fresh_at g o p n at from count is can a b le c lt = record {
 
 -- ---- one after another
 
-pub no_ascent : (o : Option (ItemChange ItemContent)) (ks : List ℕ) → ks ≡ [] → IfSome o (λ q. Ascending (q.at + length q.fresh) ks)
+pub no_ascent : (o : Option (ItemChange Content)) (ks : List ℕ) → ks ≡ [] → IfSome o (λ q. Ascending (q.at + length q.fresh) ks)
 no_ascent None ks none = tt
 no_ascent (Some q) ks none = subst (Ascending (q.at + length q.fresh)) (sym none) tt
 
@@ -261,13 +261,13 @@ ascent_rest ps left p is up =
     let all : Ascending up.0 (p.item ∷ numbers_of left) = subst (λ l. Ascending up.0 (numbers_of l)) is up.1 in
     subst (λ n. Ascending n (numbers_of left)) next all.1
 
-pub moved_next : (seat moved mid now more next : ℕ) (all : List Changed) (o m : Option (ItemChange ItemContent)) (ps left : List PlannedResult) (p : PlannedResult) → ps ≡ p ∷ left → HasMoved seat all moved mid (left_changes o (numbers_of ps))
+pub moved_next : (seat moved mid now more next : ℕ) (all : List Changed) (o m : Option (ItemChange Content)) (ps left : List PlannedResult) (p : PlannedResult) → ps ≡ p ∷ left → HasMoved seat all moved mid (left_changes o (numbers_of ps))
     → HasMoved mid (left_changes o (p.item ∷ numbers_of left)) more now (left_changes m (numbers_of left)) → next ≡ raised moved more → HasMoved seat all next now (left_changes m (numbers_of left))
 moved_next seat moved mid now more next all o m ps left p is h k sum =
     subst (λ n. HasMoved seat all n now (left_changes m (numbers_of left))) (sym sum)
     (moved_then seat moved more mid now all (left_changes o (p.item ∷ numbers_of left)) (left_changes m (numbers_of left)) (subst (λ l. HasMoved seat all moved mid (left_changes o (numbers_of l))) is h) k)
 
-pub moved_last : (seat moved mid now more last : ℕ) (all : List Changed) (o m : Option (ItemChange ItemContent)) (ks : List ℕ) → ks ≡ [] → m ≡ None → HasMoved seat all moved mid (left_changes o ks) → HasMoved mid (left_changes o ks) more now (left_changes m ks)
+pub moved_last : (seat moved mid now more last : ℕ) (all : List Changed) (o m : Option (ItemChange Content)) (ks : List ℕ) → ks ≡ [] → m ≡ None → HasMoved seat all moved mid (left_changes o ks) → HasMoved mid (left_changes o ks) more now (left_changes m ks)
     → last ≡ raised moved more → HasMoved seat all last now []
 moved_last seat moved mid now more last all o m ks empty none h k sum =
     subst (λ n. HasMoved seat all n now []) (sym sum)

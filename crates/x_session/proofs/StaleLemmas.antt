@@ -34,9 +34,9 @@ use Rattle.x_session.specs.Following.{AreStaleChecked, IsNameChange, behind, edi
 use Rattle.x_session.specs.KeptView.{AreParsed, entry_definitions, entry_results, found_pieces, found_result, kept_definition, kept_found}
 use Rattle.x_session.specs.PlannedResult.{ArePlanned, overlaid, planned_at}
 use Rattle.x_session.specs.Rendered.{AreRenderings, HasDefinitionAt, HaveDefinitions, IsRendering}
-use Rattle.x_session.specs.declared.compile.item_content.CheckResult.{CheckResult}
-use Rattle.x_session.specs.declared.compile.item_content.ItemContent.{ItemContent}
-use Rattle.x_session.specs.declared.compile.item_content.PlannedResult.{PlannedResult}
+use Rattle.x_session.specs.declared.compile.content.CheckResult.{CheckResult}
+use Rattle.x_session.specs.declared.compile.content.Content.{Content}
+use Rattle.x_session.specs.declared.compile.content.PlannedResult.{PlannedResult}
 use Rattle.x_session.specs.declared.following.naming.NameChange.{NameChange}
 use Rattle.x_session.proofs.ItemLemmas.{short_items}
 use Rattle.x_session.proofs.KeptLemmas.{definitions_kept}
@@ -49,23 +49,23 @@ pub nothing_left : {X : Type 0} (xs : List X) → length xs ≡ 0 → xs ≡ []
 nothing_left [] none = refl
 nothing_left (x ∷ xs) none = absurd (omega (arith, none))
 
-pub defined_among : (ks : List ItemContent) (xs : List Rechecked) (r : Rechecked) (ys : List Rechecked) → HaveDefinitions ks (xs ++ r ∷ ys) → HasDefinitionAt ks r.item
+pub defined_among : (ks : List Content) (xs : List Rechecked) (r : Rechecked) (ys : List Rechecked) → HaveDefinitions ks (xs ++ r ∷ ys) → HasDefinitionAt ks r.item
 defined_among ks [] r ys have = have.0
 defined_among ks (x ∷ xs) r ys have = defined_among ks xs r ys have.1
 
-pub rendered_more : (ks : List ItemContent) (rs : List Rechecked) (ps : List PlannedResult) (r : Rechecked) (p : PlannedResult) → AreRenderings ks rs ps → IsRendering ks r p → AreRenderings ks (rs ++ r ∷ []) (ps ++ p ∷ [])
+pub rendered_more : (ks : List Content) (rs : List Rechecked) (ps : List PlannedResult) (r : Rechecked) (p : PlannedResult) → AreRenderings ks rs ps → IsRendering ks r p → AreRenderings ks (rs ++ r ∷ []) (ps ++ p ∷ [])
 rendered_more ks [] [] r p are is = (is, tt)
 rendered_more ks [] (q ∷ ps) r p are is = absurd are
 rendered_more ks (s ∷ rs) [] r p are is = absurd are
 rendered_more ks (s ∷ rs) (q ∷ ps) r p are is = (are.0, rendered_more ks rs ps r p are.1 is)
 
-pub rendered_long : (ks : List ItemContent) (rs : List Rechecked) (ps : List PlannedResult) → AreRenderings ks rs ps → length ps ≡ length rs
+pub rendered_long : (ks : List Content) (rs : List Rechecked) (ps : List PlannedResult) → AreRenderings ks rs ps → length ps ≡ length rs
 rendered_long ks [] [] are = refl
 rendered_long ks [] (q ∷ ps) are = absurd are
 rendered_long ks (s ∷ rs) [] are = absurd are
 rendered_long ks (s ∷ rs) (q ∷ ps) are = ap suc (rendered_long ks rs ps are.1)
 
-same_numbers : (ks : List ItemContent) (rs : List Rechecked) (ps : List PlannedResult) → AreRenderings ks rs ps → map (λ (p : PlannedResult). p.item) ps ≡ map (λ (r : Rechecked). r.item) rs
+same_numbers : (ks : List Content) (rs : List Rechecked) (ps : List PlannedResult) → AreRenderings ks rs ps → map (λ (p : PlannedResult). p.item) ps ≡ map (λ (r : Rechecked). r.item) rs
 same_numbers ks [] [] are = refl
 same_numbers ks [] (q ∷ ps) are = absurd are
 same_numbers ks (s ∷ rs) [] are = absurd are
@@ -80,7 +80,7 @@ planned_none low n (p ∷ ps) up lt =
     let other : nat_eq n p.item ≡ false = ne_eqb n p.item (λ same. omega (arith, same, lt, le)) in
     ap (λ b. cond b (Some p.found) (planned_at n ps)) other ∙ planned_none (suc p.item) n ps up.1 (omega (arith, lt, le))
 
-planned_are : (low : ℕ) (ks : List ItemContent) (rs : List Rechecked) (ps : List PlannedResult) → Ascending low (map (λ (p : PlannedResult). p.item) ps) → AreRenderings ks rs ps → ArePlanned ks ps
+planned_are : (low : ℕ) (ks : List Content) (rs : List Rechecked) (ps : List PlannedResult) → Ascending low (map (λ (p : PlannedResult). p.item) ps) → AreRenderings ks rs ps → ArePlanned ks ps
 planned_are low ks [] [] up are = tt
 planned_are low ks [] (q ∷ ps) up are = absurd are
 planned_are low ks (s ∷ rs) [] up are = absurd are
@@ -90,7 +90,7 @@ pick : (b : Bool) (f : Box CheckResult) (q : Option (Box CheckResult)) (o : Outc
 pick true f q o m is rest = ap Some is
 pick false f q o m is rest = rest
 
-planned_new : (ks : List ItemContent) (rs : List Rechecked) (ps : List PlannedResult) (n : ℕ) → AreRenderings ks rs ps → found_result (planned_at n ps) ≡ new_result rs n
+planned_new : (ks : List Content) (rs : List Rechecked) (ps : List PlannedResult) (n : ℕ) → AreRenderings ks rs ps → found_result (planned_at n ps) ≡ new_result rs n
 planned_new ks [] [] n are = refl
 planned_new ks [] (q ∷ ps) n are = absurd are
 planned_new ks (s ∷ rs) [] n are = absurd are
@@ -118,40 +118,40 @@ all_at P [] n x all is = absurd (cc)
 all_at P (y ∷ xs) zero x all is = let same : y ≡ x = same_Some y x is in subst P same (All-head P y xs all)
 all_at P (y ∷ xs) (suc n) x all is = all_at P xs n x (All-tail P y xs all) is
 
-entry_at : (es : List (ItemEntry ItemContent)) (n : ℕ) (k : ItemContent) → slice_get (items.kept es) n ≡ Some k → (e : ItemEntry ItemContent) × (slice_get es n ≡ Some e) × (e.kept ≡ k)
+entry_at : (es : List (ItemEntry Content)) (n : ℕ) (k : Content) → slice_get (items.kept es) n ≡ Some k → (e : ItemEntry Content) × (slice_get es n ≡ Some e) × (e.kept ≡ k)
 entry_at [] n k is = absurd (cc)
 entry_at (e ∷ es) zero k is = (e, refl, same_Some e.kept k is)
 entry_at (e ∷ es) (suc n) k is = entry_at es n k is
 
-result_here : (es : List (ItemEntry ItemContent)) (n : ℕ) (e : ItemEntry ItemContent) → slice_get es n ≡ Some e → result_at (entry_results es) n ≡ found_result (kept_found e.kept)
+result_here : (es : List (ItemEntry Content)) (n : ℕ) (e : ItemEntry Content) → slice_get es n ≡ Some e → result_at (entry_results es) n ≡ found_result (kept_found e.kept)
 result_here [] n e is = absurd (cc)
-result_here (x ∷ es) zero e is = let same : x ≡ e = same_Some x e is in ap (λ (y : ItemEntry ItemContent). found_result (kept_found y.kept)) same
+result_here (x ∷ es) zero e is = let same : x ≡ e = same_Some x e is in ap (λ (y : ItemEntry Content). found_result (kept_found y.kept)) same
 result_here (x ∷ es) (suc n) e is = result_here es n e is
 
 -- what is kept with an item that was there before, and with one that is fresh
-data Origin (es : List (ItemEntry ItemContent)) (p : ItemChange ItemContent) (place : ItemSplice) (n : ℕ) (k : ItemContent) : Type 0 where
-  Stayed : (was : ℕ) (e : ItemEntry ItemContent) → old_number place n ≡ Some was → slice_get es was ≡ Some e → e.kept ≡ k → Origin es p place n k
-  Came : (j : ℕ) (e : ItemEntry ItemContent) → old_number place n ≡ None → slice_get p.fresh j ≡ Some e → e.kept ≡ k → Origin es p place n k
+data Origin (es : List (ItemEntry Content)) (p : ItemChange Content) (place : ItemSplice) (n : ℕ) (k : Content) : Type 0 where
+  Stayed : (was : ℕ) (e : ItemEntry Content) → old_number place n ≡ Some was → slice_get es was ≡ Some e → e.kept ≡ k → Origin es p place n k
+  Came : (j : ℕ) (e : ItemEntry Content) → old_number place n ≡ None → slice_get p.fresh j ≡ Some e → e.kept ≡ k → Origin es p place n k
 
-place_of : ItemChange ItemContent → ItemSplice
+place_of : ItemChange Content → ItemSplice
 place_of p = record { at = p.at; removed = p.removed; added = length p.fresh }
 
-origin : (es : List (ItemEntry ItemContent)) (p : ItemChange ItemContent) (n : ℕ) (k : ItemContent) → LiesAmong es p → slice_get (items.kept (patched es p)) n ≡ Some k → Origin es p (place_of p) n k
+origin : (es : List (ItemEntry Content)) (p : ItemChange Content) (n : ℕ) (k : Content) → LiesAmong es p → slice_get (items.kept (patched es p)) n ≡ Some k → Origin es p (place_of p) n k
 unfolding place_of
 origin es p n k among is = by (old_number (place_of p) n) refl
   where
-    at : (e : ItemEntry ItemContent) × (slice_get (patched es p) n ≡ Some e) × (e.kept ≡ k)
+    at : (e : ItemEntry Content) × (slice_get (patched es p) n ≡ Some e) × (e.kept ≡ k)
     at = entry_at (patched es p) n k is
 
     by : (o : Option ℕ) → old_number (place_of p) n ≡ o → Origin es p (place_of p) n k
     by None e = let c = fresh_cases (place_of p) n e in Came (n - p.at) at.0 e (sym (spliced_fresh es p.fresh (place_of p) n among refl c.0 c.1) ∙ at.1) at.2
     by (Some j) e = Stayed j at.0 e (sym (spliced_kept es p.fresh (place_of p) n j among refl (kept_cases (place_of p) n j e)) ∙ at.1) at.2
 
-had : (es : List (ItemEntry ItemContent)) (p : ItemChange ItemContent) (n : ℕ) (k : ItemContent) → All (λ (e : ItemEntry ItemContent). kept_found e.kept ≡ None) p.fresh → Origin es p (place_of p) n k → found_result (kept_found k) ≡ old_result (place_of p) (entry_results es) n
+had : (es : List (ItemEntry Content)) (p : ItemChange Content) (n : ℕ) (k : Content) → All (λ (e : ItemEntry Content). kept_found e.kept ≡ None) p.fresh → Origin es p (place_of p) n k → found_result (kept_found k) ≡ old_result (place_of p) (entry_results es) n
 had es p n k unchecked (Stayed was e number is same) =
     ap (λ x. found_result (kept_found x)) (sym same) ∙ sym (result_here es was e is) ∙ sym (ap (option_and_then (result_at (entry_results es))) number)
 had es p n k unchecked (Came j e number is same) =
-    ap (λ x. found_result (kept_found x)) (sym same) ∙ ap found_result (all_at (λ (e : ItemEntry ItemContent). kept_found e.kept ≡ None) p.fresh j e unchecked is) ∙ sym (ap (option_and_then (result_at (entry_results es))) number)
+    ap (λ x. found_result (kept_found x)) (sym same) ∙ ap found_result (all_at (λ (e : ItemEntry Content). kept_found e.kept ≡ None) p.fresh j e unchecked is) ∙ sym (ap (option_and_then (result_at (entry_results es))) number)
 
 -- ---- the results behind the edit
 
@@ -184,31 +184,31 @@ results_long definitions results n [] (o ∷ os) are = absurd are
 results_long definitions results n (d ∷ ds) [] are = absurd are
 results_long definitions results n (d ∷ ds) (o ∷ os) are = ap suc (results_long definitions results (suc n) ds os are.1)
 
-overlaid_long : (n : ℕ) (ks : List ItemContent) (ps : List PlannedResult) → length (overlaid n ks ps) ≡ length ks
+overlaid_long : (n : ℕ) (ks : List Content) (ps : List PlannedResult) → length (overlaid n ks ps) ≡ length ks
 overlaid_long n [] ps = refl
 overlaid_long n (k ∷ ks) ps = ap suc (overlaid_long (suc n) ks ps)
 
 -- ---- a stale item has a definition
 
-defined_at : (ks : List ItemContent) (n : ℕ) (d : Definition) → definition_at (kept_definitions ks) n ≡ Some d → HasDefinitionAt ks n
+defined_at : (ks : List Content) (n : ℕ) (d : Definition) → definition_at (kept_definitions ks) n ≡ Some d → HasDefinitionAt ks n
 defined_at [] n d is = absurd (cc)
 defined_at (k ∷ ks) zero d is = record { item = k; at = refl; definition = d; defined = is }
 defined_at (k ∷ ks) (suc n) d is = let rest = defined_at ks n d is in record { item = rest.item; at = rest.at; definition = rest.definition; defined = rest.defined }
 
-definition_here : (ks : List ItemContent) (n : ℕ) (k : ItemContent) → slice_get ks n ≡ Some k → definition_at (kept_definitions ks) n ≡ kept_definition k
+definition_here : (ks : List Content) (n : ℕ) (k : Content) → slice_get ks n ≡ Some k → definition_at (kept_definitions ks) n ≡ kept_definition k
 definition_here [] n k is = absurd (cc)
 definition_here (x ∷ ks) zero k is = ap kept_definition (same_Some x k is)
 definition_here (x ∷ ks) (suc n) k is = definition_here ks n k is
 
 -- the definitions behind the edit
-pub edited_definitions : (es : List (ItemEntry ItemContent)) (p : ItemChange ItemContent) → definitions_after (edit_of es p) ≡ kept_definitions (items.kept (patched es p))
+pub edited_definitions : (es : List (ItemEntry Content)) (p : ItemChange Content) → definitions_after (edit_of es p) ≡ kept_definitions (items.kept (patched es p))
 edited_definitions es p = sym (definitions_splice es p) ∙ sym (definitions_kept (patched es p))
 
-have_all : (ks : List ItemContent) (rs : List Rechecked) → ((n : ℕ) → IsAmong (map (λ (r : Rechecked). r.item) rs) n → HasDefinitionAt ks n) → HaveDefinitions ks rs
+have_all : (ks : List Content) (rs : List Rechecked) → ((n : ℕ) → IsAmong (map (λ (r : Rechecked). r.item) rs) n → HasDefinitionAt ks n) → HaveDefinitions ks rs
 have_all ks [] each = tt
 have_all ks (r ∷ rs) each = (each r.item (among_first r.item (map (λ (x : Rechecked). x.item) rs)), have_all ks rs (λ n is. each n (among_more r.item n (map (λ (x : Rechecked). x.item) rs) is)))
 
-pub have_definitions : (es : List (ItemEntry ItemContent)) (p : ItemChange ItemContent) (rs : List Rechecked) → IsRecheck (edit_of es p) rs → HaveDefinitions (items.kept (patched es p)) rs
+pub have_definitions : (es : List (ItemEntry Content)) (p : ItemChange Content) (rs : List Rechecked) → IsRecheck (edit_of es p) rs → HaveDefinitions (items.kept (patched es p)) rs
 have_definitions es p rs h =
     let ks = items.kept (patched es p) in
     have_all ks rs (λ n is.
@@ -223,12 +223,12 @@ fresh_few xs ys i j = let a = length-append (take i xs) (ys ++ drop j xs) in let
 most_items : MAX_TEXT + 1 + (MAX_TEXT + 1) ≤ 2 ^ 32 - 1
 most_items = lit≤ tt
 
-pub is_edit : (es : List (ItemEntry ItemContent)) (p : ItemChange ItemContent) → LiesAmong es p → length es ≤ MAX_TEXT + 1 → AreOfText (counts (patched es p)) → AreResults (entry_definitions es) (entry_results es)
+pub is_edit : (es : List (ItemEntry Content)) (p : ItemChange Content) → LiesAmong es p → length es ≤ MAX_TEXT + 1 → AreOfText (counts (patched es p)) → AreResults (entry_definitions es) (entry_results es)
     → AreShort (entry_definitions es) → AreShort (entry_definitions p.fresh) → IsEdit (edit_of es p)
 is_edit es p among few new results short fresh =
-    let b = length-map (patched es p) (λ (e : ItemEntry ItemContent). e.tokens) in
-    let c = length-map es (λ (e : ItemEntry ItemContent). kept_definition e.kept) in
-    let d = length-map p.fresh (λ (e : ItemEntry ItemContent). kept_definition e.kept) in
+    let b = length-map (patched es p) (λ (e : ItemEntry Content). e.tokens) in
+    let c = length-map es (λ (e : ItemEntry Content). kept_definition e.kept) in
+    let d = length-map p.fresh (λ (e : ItemEntry Content). kept_definition e.kept) in
     let f = fresh_few es p.fresh p.at (p.at + p.removed) in
     let few_behind = new.few in
     let most = most_items in
@@ -243,9 +243,9 @@ is_edit es p among few new results short fresh =
 
 -- ---- all of it
 
-module _ (es : List (ItemEntry ItemContent)) (p : ItemChange ItemContent) (rs : List Rechecked) (ps : List PlannedResult) (among : LiesAmong es p) (h : IsRecheck (edit_of es p) rs) (are : AreRenderings (items.kept (patched es p)) rs ps)
-    (sound : All (λ (e : ItemEntry ItemContent). IsSound e.kept) es) (unchecked : All (λ (e : ItemEntry ItemContent). kept_found e.kept ≡ None) p.fresh) where
-  ks : List ItemContent
+module _ (es : List (ItemEntry Content)) (p : ItemChange Content) (rs : List Rechecked) (ps : List PlannedResult) (among : LiesAmong es p) (h : IsRecheck (edit_of es p) rs) (are : AreRenderings (items.kept (patched es p)) rs ps)
+    (sound : All (λ (e : ItemEntry Content). IsSound e.kept) es) (unchecked : All (λ (e : ItemEntry Content). kept_found e.kept ≡ None) p.fresh) where
+  ks : List Content
   ks = items.kept (patched es p)
 
   same_after : map found_result (behind es p ps) ≡ h.after
@@ -265,10 +265,10 @@ module _ (es : List (ItemEntry ItemContent)) (p : ItemChange ItemContent) (rs : 
       let old = had es p n k unchecked (origin es p n k among some.1) in
       result_mapped (behind es p ps) n (option_or (planned_at n ps) (kept_found k)) got ∙ found_or (planned_at n ps) (kept_found k) ∙ (λ i. option_or (new i) (old i)) ∙ h.each n (omega (arith, long, lt)))
 
-  sound_bare : (k : ItemContent) → kept_found k ≡ None → kept_definition k ≡ None → IsSound k
+  sound_bare : (k : Content) → kept_found k ≡ None → kept_definition k ≡ None → IsSound k
   sound_bare k none bare = ap found_pieces none ∙ sym (λ i. sound_pieces (bare i) (found_result (none i)))
 
-  not_planned_sound : (n : ℕ) (k : ItemContent) → slice_get ks n ≡ Some k → planned_at n ps ≡ None → IsSound k
+  not_planned_sound : (n : ℕ) (k : Content) → slice_get ks n ≡ Some k → planned_at n ps ≡ None → IsSound k
   unfolding ks place_of
   not_planned_sound n k is none = by (origin es p n k among is)
     where
@@ -285,9 +285,9 @@ module _ (es : List (ItemEntry ItemContent)) (p : ItemChange ItemContent) (rs : 
           })))
 
       by : Origin es p (place_of p) n k → IsSound k
-      by (Stayed was e number at same) = subst IsSound same (all_at (λ (e : ItemEntry ItemContent). IsSound e.kept) es was e sound at)
+      by (Stayed was e number at same) = subst IsSound same (all_at (λ (e : ItemEntry Content). IsSound e.kept) es was e sound at)
       by (Came j e number at same) =
-          sound_bare k (ap kept_found (sym same) ∙ all_at (λ (e : ItemEntry ItemContent). kept_found e.kept ≡ None) p.fresh j e unchecked at) (bare (kept_definition k) refl number)
+          sound_bare k (ap kept_found (sym same) ∙ all_at (λ (e : ItemEntry Content). kept_found e.kept ≡ None) p.fresh j e unchecked at) (bare (kept_definition k) refl number)
 
   pub stale_checked : AreStaleChecked es p ps
   unfolding ks
@@ -302,7 +302,7 @@ module _ (es : List (ItemEntry ItemContent)) (p : ItemChange ItemContent) (rs : 
       }
 
 -- the edit as the check sees it
-pub edit_is : (es : List (ItemEntry ItemContent)) (p : ItemChange ItemContent) (n : NameChange) (put : List (Option Definition)) → IsNameChange es p n → put ≡ entry_definitions p.fresh
+pub edit_is : (es : List (ItemEntry Content)) (p : ItemChange Content) (n : NameChange) (put : List (Option Definition)) → IsNameChange es p n → put ≡ entry_definitions p.fresh
     → edit_at (record { definitions = entry_definitions es; outcomes = entry_results es }) n.place put ≡ edit_of es p
 edit_is es p n put h same = λ i. record {
   old = entry_definitions es;
@@ -312,12 +312,12 @@ edit_is es p n put h same = λ i. record {
 }
 
 -- of the definitions behind an edit none is too long, so none of those that it puts in
-pub short_fresh : (es : List (ItemEntry ItemContent)) (p : ItemChange ItemContent) → LiesAmong es p → AreShort (entry_definitions (patched es p)) → AreShort (entry_definitions p.fresh)
+pub short_fresh : (es : List (ItemEntry Content)) (p : ItemChange Content) → LiesAmong es p → AreShort (entry_definitions (patched es p)) → AreShort (entry_definitions p.fresh)
 short_fresh es p among short item d is =
     let olds = entry_definitions es in
     let put = entry_definitions p.fresh in
     let place : ItemSplice = record { at = p.at; removed = p.removed; added = length put } in
-    let l = length-map es (λ (e : ItemEntry ItemContent). kept_definition e.kept) in
+    let l = length-map es (λ (e : ItemEntry Content). kept_definition e.kept) in
     let lt = slice_get_within put item (Some d) is in
     let here : p.at + item - p.at ≡ item = omega arith in
     let at = spliced_fresh olds put place (p.at + item) (omega (arith, among, l)) refl (omega arith) (omega (arith, lt)) in
@@ -329,7 +329,7 @@ pub if_ok : {A E : Type 0} (r : Result A E) (P Q : A → Type 0) → ((a : A) �
 if_ok (Ok a) P Q step h = step a h
 if_ok (Err e) P Q step h = tt
 
-pub short_behind : (text : List ℕ) (ts us : List (Kind × ℕ)) (patch : TokenPatch) (fs : List (ItemEntry ItemContent)) → us ≡ ts → IsOfText (tokens.patched ts patch) → AreParsed (lexemes text (tokens.patched us patch)) fs → AreShort (entry_definitions fs)
+pub short_behind : (text : List ℕ) (ts us : List (Kind × ℕ)) (patch : TokenPatch) (fs : List (ItemEntry Content)) → us ≡ ts → IsOfText (tokens.patched ts patch) → AreParsed (lexemes text (tokens.patched us patch)) fs → AreShort (entry_definitions fs)
 short_behind text ts us patch fs same few parsed =
     let l = length-lexemes_from text 0 (tokens.patched us patch) in
     let f = few.few in
@@ -338,25 +338,25 @@ short_behind text ts us patch fs same few parsed =
 
 -- ---- the table of names
 
-few_items : (es : List (ItemEntry ItemContent)) (p : ItemChange ItemContent) → length es ≤ MAX_TEXT + 1 → AreOfText (counts (patched es p)) → length (entry_definitions es) + length p.fresh < 2 ^ 32
+few_items : (es : List (ItemEntry Content)) (p : ItemChange Content) → length es ≤ MAX_TEXT + 1 → AreOfText (counts (patched es p)) → length (entry_definitions es) + length p.fresh < 2 ^ 32
 few_items es p few new =
-    let b = length-map (patched es p) (λ (e : ItemEntry ItemContent). e.tokens) in
-    let c = length-map es (λ (e : ItemEntry ItemContent). kept_definition e.kept) in
+    let b = length-map (patched es p) (λ (e : ItemEntry Content). e.tokens) in
+    let c = length-map es (λ (e : ItemEntry Content). kept_definition e.kept) in
     let f = fresh_few es p.fresh p.at (p.at + p.removed) in
     let few_behind = new.few in
     let most = most_items in
     omega (arith, b, c, f, few, few_behind, most)
 
 -- it follows the patch where it follows each edit of definitions at the place
-pub uses_followed : (es : List (ItemEntry ItemContent)) (p : ItemChange ItemContent) (n : NameChange) (u v : UseTable) → LiesAmong es p → length es ≤ MAX_TEXT + 1 → AreOfText (counts (patched es p)) → IsNameChange es p n → IsUsesOf (entry_definitions es) u
+pub uses_followed : (es : List (ItemEntry Content)) (p : ItemChange Content) (n : NameChange) (u v : UseTable) → LiesAmong es p → length es ≤ MAX_TEXT + 1 → AreOfText (counts (patched es p)) → IsNameChange es p n → IsUsesOf (entry_definitions es) u
     → ((old put : List (Option Definition)) → IsUsesOf old u → IsUsesOf (take n.place.removed (drop n.place.at old)) n.gone → IsUsesOf put n.fresh → n.place.at + n.place.removed ≤ length old → n.place.added ≡ length put
     → length old + n.place.added < 2 ^ 32 → IsUsesOf (splice old n.place.at (n.place.at + n.place.removed) put) v)
     → IsUsesOf (entry_definitions (patched es p)) v
 uses_followed es p n u v among old new h used follow =
     let ds = entry_definitions es in
     let put = entry_definitions p.fresh in
-    let l = length-map es (λ (e : ItemEntry ItemContent). kept_definition e.kept) in
-    let m = length-map p.fresh (λ (e : ItemEntry ItemContent). kept_definition e.kept) in
+    let l = length-map es (λ (e : ItemEntry Content). kept_definition e.kept) in
+    let m = length-map p.fresh (λ (e : ItemEntry Content). kept_definition e.kept) in
     let at = h.at in
     let removed = h.removed in
     let added = h.added in

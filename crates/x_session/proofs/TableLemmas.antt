@@ -15,7 +15,7 @@ use Rattle.x_session.specs.KeptView.{entry_definitions, entry_results}
 use Rattle.x_session.specs.PlannedResult.{overlaid}
 use Rattle.x_session.specs.SessionState.{IsKept}
 use Rattle.x_session.specs.declared.compile.item_table.ItemTable.{ItemTable}
-use Rattle.x_session.specs.declared.compile.item_content.ItemContent.{ItemContent}
+use Rattle.x_session.specs.declared.compile.content.Content.{Content}
 use Rattle.x_session.proofs.KeptLemmas.{count_found}
 use Rattle.x_session.proofs.PlannedLemmas.{faults_own, with_none}
 
@@ -41,5 +41,5 @@ table_same t u h list faults used = record {
   uses = subst (λ es. AreUsed es u.uses) (sym list) used;
 }
 
-pub used_of : (es fs : List (ItemEntry ItemContent)) (uses : Option UseTable) → fs ≡ es → AreUsed fs uses → AreUsed es uses
+pub used_of : (es fs : List (ItemEntry Content)) (uses : Option UseTable) → fs ≡ es → AreUsed fs uses → AreUsed es uses
 used_of es fs uses same used = subst (λ l. AreUsed l uses) same used

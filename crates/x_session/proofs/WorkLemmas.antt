@@ -37,9 +37,9 @@ use Rattle.x_session.specs.PlannedResult.{numbers_of}
 use Rattle.x_session.specs.Session.{Document, LeavesText}
 use Rattle.x_session.specs.SessionState.{IsKept, items_of}
 use Rattle.x_session.specs.Work.{AreStaleItems, AreWorks, IsWork, IsWorkOfAll, definitions_edit}
-use Rattle.x_session.specs.declared.compile.item_content.CheckResult.{CheckResult}
-use Rattle.x_session.specs.declared.compile.item_content.ItemContent.{ItemContent}
-use Rattle.x_session.specs.declared.compile.item_content.PlannedResult.{PlannedResult}
+use Rattle.x_session.specs.declared.compile.content.CheckResult.{CheckResult}
+use Rattle.x_session.specs.declared.compile.content.Content.{Content}
+use Rattle.x_session.specs.declared.compile.content.PlannedResult.{PlannedResult}
 use Rattle.x_session.specs.declared.following.Plan.{Plan}
 use Rattle.x_session.specs.declared.session.work.Work.{Work}
 use Rattle.x_session.proofs.AlongLemmas.{cut_of}
@@ -94,10 +94,10 @@ module _ {K L : Type 0} (change : Change) (ts us : List (Kind × ℕ)) (es : Lis
 
 -- ---- the work of an edit
 
-abbrev pub bare : ItemEntry ItemContent → ItemEntry (Unit {0})
+abbrev pub bare : ItemEntry Content → ItemEntry (Unit {0})
 bare e = record { tokens = e.tokens; kept = tt }
 
-counts_bare : (es : List (ItemEntry ItemContent)) → counts es ≡ counts (map bare es)
+counts_bare : (es : List (ItemEntry Content)) → counts es ≡ counts (map bare es)
 counts_bare [] = refl
 counts_bare (e ∷ es) = ap (λ cs. e.tokens ∷ cs) (counts_bare es)
 
@@ -122,15 +122,15 @@ stale_few e after ks h =
     omega (arith, few)
 
 -- an edit of items is one of their definitions
-pub definitions_splice : (es : List (ItemEntry ItemContent)) (p : ItemChange ItemContent) → entry_definitions (patched es p) ≡ splice (entry_definitions es) p.at (p.at + p.removed) (entry_definitions p.fresh)
+pub definitions_splice : (es : List (ItemEntry Content)) (p : ItemChange Content) → entry_definitions (patched es p) ≡ splice (entry_definitions es) p.at (p.at + p.removed) (entry_definitions p.fresh)
 definitions_splice es p =
-    let f = λ (e : ItemEntry ItemContent). kept_definition e.kept in
+    let f = λ (e : ItemEntry Content). kept_definition e.kept in
     map_append f (take p.at es) (p.fresh ++ drop (p.at + p.removed) es)
     ∙ ap (λ l. map f (take p.at es) ++ l) (map_append f p.fresh (drop (p.at + p.removed) es))
     ∙ (λ i. (sym (take-map f p.at es)) i ++ (map f p.fresh ++ (sym (drop-map f (p.at + p.removed) es)) i))
 
 -- the items that an edit makes stale, by what is kept of both texts
-pub stale_items : (change : Change) (ts us : List (Kind × ℕ)) (es fs : List (ItemEntry ItemContent)) (p : ItemChange ItemContent) (m n : ℕ) (v w : Option UseTable) (rs : List (Option (Box CheckResult))) (ks : List ℕ)
+pub stale_items : (change : Change) (ts us : List (Kind × ℕ)) (es fs : List (ItemEntry Content)) (p : ItemChange Content) (m n : ℕ) (v w : Option UseTable) (rs : List (Option (Box CheckResult))) (ks : List ℕ)
     → IsKept change.old ts es m v → IsKept (edited_by change) us fs n w → AreWith (patched es p) rs fs → AreStale (edit_of es p) (map found_result rs) ks
     → AreStaleItems change ts us (record { at = p.at; removed = p.removed; start = p.start; fresh = map bare p.fresh }) ks
 stale_items change ts us es fs p m n v w rs ks old new with are =
@@ -154,7 +154,7 @@ stale_items change ts us es fs p m n v w rs ks old new with are =
       are = subst (λ a. AreStale (definitions_edit olds recut put) a ks) after (subst (λ e. AreStale e (map found_result rs) ks) edit_is are);
     }
 
-pub work_of : (change : Change) (before new : Document) (ts : List (Kind × ℕ)) (es : List (ItemEntry ItemContent)) (p : TokenPatch) (ip : ItemChange ItemContent) (w : Work) (ks : List ℕ) → AreTokens change.old ts → IsPatch change ts p
+pub work_of : (change : Change) (before new : Document) (ts : List (Kind × ℕ)) (es : List (ItemEntry Content)) (p : TokenPatch) (ip : ItemChange Content) (w : Work) (ks : List ℕ) → AreTokens change.old ts → IsPatch change ts p
     → IsCut (lexemes change.old ts) (counts es) → IsItemPatch change ts (tokens.patched ts p) es ip → w.lexed ≡ length p.fresh → w.parsed ≡ length ip.fresh → w.checked ≡ length ks
     → AreStaleItems change ts (tokens.patched ts p) (record { at = ip.at; removed = ip.removed; start = ip.start; fresh = map bare ip.fresh }) ks
     → w.moved ≡ distance before.token_seat p.at (p.at + p.removed) + moves before.item_seat (changed_items (place_of ip) ks) → new.token_seat ≡ p.at + length p.fresh
@@ -184,7 +184,7 @@ work_of change before new ts es p ip w ks are patch cut recut lexed parsed check
 -- ---- what an edit leaves that was planned
 
 -- all that is kept of the edited text
-pub kept_edited : (change : Change) (ts : List (Kind × ℕ)) (es : List (ItemEntry ItemContent)) (p : Plan) (text : List ℕ) (us : List (Kind × ℕ)) (fs : List (ItemEntry ItemContent)) (faults : ℕ) (uses : Option UseTable) → IsPlan change ts es p
+pub kept_edited : (change : Change) (ts : List (Kind × ℕ)) (es : List (ItemEntry Content)) (p : Plan) (text : List ℕ) (us : List (Kind × ℕ)) (fs : List (ItemEntry Content)) (faults : ℕ) (uses : Option UseTable) → IsPlan change ts es p
     → text ≡ edited_by change → us ≡ tokens.patched ts p.tokens → AreOfText (counts (patched es p.items)) → AreWith (patched es p.items) (behind es p.items p.found.items) fs → faults ≡ p.faults
     → AreUsed (patched es p.items) uses → IsKept text us fs faults uses
 kept_edited change ts es p text us fs faults uses h edited same few with count used =
@@ -206,7 +206,7 @@ fresh_few : {T : Type 0} (xs ys : List T) (i j : ℕ) → length ys ≤ length (
 fresh_few xs ys i j = let a = length-append (take i xs) (ys ++ drop j xs) in let b = length-append ys (drop j xs) in omega (arith, a, b)
 
 -- the work that it took
-pub work_edited : (change : Change) (before new : Document) (ts us : List (Kind × ℕ)) (es fs : List (ItemEntry ItemContent)) (m n : ℕ) (u v : Option UseTable) (p : Plan) (w : Work) → IsPlan change ts es p → IsKept change.old ts es m u
+pub work_edited : (change : Change) (before new : Document) (ts us : List (Kind × ℕ)) (es fs : List (ItemEntry Content)) (m n : ℕ) (u v : Option UseTable) (p : Plan) (w : Work) → IsPlan change ts es p → IsKept change.old ts es m u
     → IsKept (edited_by change) us fs n v → us ≡ tokens.patched ts p.tokens → AreWith (patched es p.items) (behind es p.items p.found.items) fs → IsOfText (tokens.patched ts p.tokens) → AreOfText (counts (patched es p.items))
     → w.lexed ≡ raised 0 (length p.tokens.fresh) → w.parsed ≡ raised 0 (length p.items.fresh) → w.checked ≡ raised 0 (length p.found.items)
     → w.moved ≡ distance before.token_seat p.tokens.at (p.tokens.at + p.tokens.removed) + moves before.item_seat (changed_items (place_of p.items) (numbers_of p.found.items))

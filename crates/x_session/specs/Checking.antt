@@ -15,8 +15,8 @@ use Rattle.x_pieces.specs.Rendering.{pieces_of}
 use Rattle.x_session.specs.Compile.{rule_faults}
 use Rattle.x_session.specs.Counting.{faults_found}
 use Rattle.x_session.specs.KeptView.{found_pieces, found_result, kept_definition, kept_found, renewed_pieces}
-use Rattle.x_session.specs.declared.compile.item_content.CheckResult.{CheckResult}
-use Rattle.x_session.specs.declared.compile.item_content.ItemContent.{ItemContent}
+use Rattle.x_session.specs.declared.compile.content.CheckResult.{CheckResult}
+use Rattle.x_session.specs.declared.compile.content.Content.{Content}
 
 -- the definition of an item, if it has one, has fewer than 2^64 words
 abbrev pub IsShortAt : Option Definition → Type 0
@@ -44,20 +44,20 @@ abbrev pub sound_pieces : Option Definition → Option Outcome → Option Pieces
 sound_pieces d o = option_map pieces_of (sound d (rule_faults o))
 
 -- the definitions of items, by what is kept with each
-abbrev pub kept_definitions : List ItemContent → List (Option Definition)
+abbrev pub kept_definitions : List Content → List (Option Definition)
 kept_definitions ks = map kept_definition ks
 
 -- of the definition the pieces that it has, if any, are generated
-abbrev pub IsMade : ItemContent → Type 0
+abbrev pub IsMade : Content → Type 0
 IsMade k =
     (p : Pieces) → found_pieces (kept_found k) ≡ Some p → option_map pieces_of (kept_definition k) ≡ Some p
 
 -- the item has pieces exactly where its definition has no fault, and they are generated of it
-abbrev pub IsSound : ItemContent → Type 0
+abbrev pub IsSound : Content → Type 0
 IsSound k = found_pieces (kept_found k) ≡ sound_pieces (kept_definition k) (found_result (kept_found k))
 
 -- so it will be with each of these items, once it has what was found of it
-abbrev pub AreRendered : List ItemContent → List (Option (Box CheckResult)) → Type 0
+abbrev pub AreRendered : List Content → List (Option (Box CheckResult)) → Type 0
 AreRendered [] [] = Unit {0}
 AreRendered (k ∷ ks) (r ∷ rs) =
     (renewed_pieces (found_pieces (kept_found k)) r ≡ sound_pieces (kept_definition k) (found_result r))
@@ -65,17 +65,17 @@ AreRendered (k ∷ ks) (r ∷ rs) =
 AreRendered ks rs = ⊥
 
 -- each item has what was found of it, and nothing was found of one without a definition
-abbrev pub AreKnown : List ItemContent → List (Option (Box CheckResult)) → Type 0
+abbrev pub AreKnown : List Content → List (Option (Box CheckResult)) → Type 0
 AreKnown [] [] = Unit {0}
 AreKnown (k ∷ ks) (r ∷ rs) = (kept_definition k ≡ None → r ≡ None) × AreKnown ks rs
 AreKnown ks rs = ⊥
 
 -- nothing was found of the item at an index where it has no definition
-abbrev pub IsKnownAt : List ItemContent → ℕ → Option (Box CheckResult) → Type 0
-IsKnownAt ks index r = (k : ItemContent) → slice_get ks index ≡ Some k → kept_definition k ≡ None → r ≡ None
+abbrev pub IsKnownAt : List Content → ℕ → Option (Box CheckResult) → Type 0
+IsKnownAt ks index r = (k : Content) → slice_get ks index ≡ Some k → kept_definition k ≡ None → r ≡ None
 
 -- this is what checking these items gives, and so many faults
-pub record AreChecked (ks : List ItemContent) (rs : List (Option (Box CheckResult))) (faults : ℕ) : Type 0 where
+pub record AreChecked (ks : List Content) (rs : List (Option (Box CheckResult))) (faults : ℕ) : Type 0 where
   pub results : AreResults (kept_definitions ks) (map found_result rs)
   pub rendered : AreRendered ks rs
   pub count : faults ≡ faults_found ks rs

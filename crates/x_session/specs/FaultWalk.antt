@@ -12,9 +12,9 @@ use Rattle.x_session.specs.ItemReading.{ItemReading, behind, place_of, unread}
 use Rattle.x_session.specs.declared.compile.fault.Fault.{Fault}
 use Rattle.x_session.specs.declared.compile.fault.FaultCode.{FaultCode}
 use Rattle.x_session.specs.declared.compile.fault.FaultCode.TheVariants as codes
-use Rattle.x_session.specs.declared.compile.item_content.ItemContent.{ItemContent}
-use Rattle.x_session.specs.declared.compile.item_content.Verdict.{Verdict}
-use Rattle.x_session.specs.declared.compile.item_content.Verdict.TheVariants.{Syntax, Rules}
+use Rattle.x_session.specs.declared.compile.content.Content.{Content}
+use Rattle.x_session.specs.declared.compile.content.Verdict.{Verdict}
+use Rattle.x_session.specs.declared.compile.content.Verdict.TheVariants.{Syntax, Rules}
 use Rattle.x_session.specs.declared.session.item_faults.ItemFaults.{ItemFaults}
 use Rattle.x_session.specs.declared.session.reader.WordPlace.{WordPlace}
 
@@ -61,10 +61,10 @@ abbrev pub IsTelling : ItemFaults → Type 0
 IsTelling i = TellsOn i.reader i.told
 
 -- the faults of these items by the rules come in order
-abbrev pub AreOrdered : List (ItemEntry ItemContent) → Type 0
+abbrev pub AreOrdered : List (ItemEntry Content) → Type 0
 AreOrdered entries = All (λ e. Ascends (rule_faults (found_result (kept_found e.kept)))) entries
 
 -- the faults that are left: of an item, and of those behind it, of which the first has this number
-abbrev pub faults_left : List ℕ → ItemFaults → ℕ → List (ItemEntry ItemContent) → List Fault
+abbrev pub faults_left : List ℕ → ItemFaults → ℕ → List (ItemEntry Content) → List Fault
 faults_left text item next entries =
     faults_here text item ++ faults_from text next (items_with (behind item.reader) entries)

@@ -25,14 +25,14 @@ use Rattle.x_session.specs.KeptView.{AreParsed, entry_definitions, entry_results
 use Rattle.x_session.specs.Moves.{place_of}
 use Rattle.x_session.specs.PlannedResult.{ArePlanned, numbers_of, overlaid}
 use Rattle.x_session.specs.declared.compile.item_table.ItemTable.{ItemTable}
-use Rattle.x_session.specs.declared.compile.item_content.CheckResult.{CheckResult}
-use Rattle.x_session.specs.declared.compile.item_content.ItemContent.{ItemContent}
-use Rattle.x_session.specs.declared.compile.item_content.PlannedResult.{PlannedResult}
+use Rattle.x_session.specs.declared.compile.content.CheckResult.{CheckResult}
+use Rattle.x_session.specs.declared.compile.content.Content.{Content}
+use Rattle.x_session.specs.declared.compile.content.PlannedResult.{PlannedResult}
 use Rattle.x_session.specs.declared.following.Plan.{Plan}
 use Rattle.x_session.specs.declared.following.naming.NameChange.{NameChange}
 
 -- the table of names, where there is one, is that of the items
-abbrev pub AreUsed : List (ItemEntry ItemContent) → Option UseTable → Type 0
+abbrev pub AreUsed : List (ItemEntry Content) → Option UseTable → Type 0
 AreUsed es uses = IfSome uses (IsUsesOf (entry_definitions es))
 
 -- What checking each item gives is kept with it, what is generated of it, how many faults all have, and the
@@ -54,15 +54,16 @@ pub record IsToFollow (change : Change) (new : List ℕ) (ts : List (Kind × ℕ
 
 -- Some change makes `new` of a text that has these tokens and items, and does this to the tokens: those that
 -- stay behind the patch stand behind the bytes that the change takes out.
-pub record AreFollowed (new : List ℕ) (ts : List (Kind × ℕ)) (es : List (ItemEntry ItemContent)) (patch : TokenPatch)
-    : Type 0 where
+pub record AreFollowed (new : List ℕ) (ts : List (Kind × ℕ)) (es : List (ItemEntry Content))
+    (patch : TokenPatch) : Type 0 where
   pub change : Change
   pub relexed : IsRelexed change new ts (counts es) patch
   pub parsed : AreParsed (lexemes change.old ts) es
   pub behind : change.end ≤ end_of ts (patch.at + patch.removed)
 
 -- What becomes of the table of names: the names of the items that go, and of the fresh ones.
-pub record IsNameChange (es : List (ItemEntry ItemContent)) (p : ItemChange ItemContent) (n : NameChange) : Type 0 where
+pub record IsNameChange (es : List (ItemEntry Content)) (p : ItemChange Content)
+    (n : NameChange) : Type 0 where
   pub at : n.place.at ≡ p.at
   pub removed : n.place.removed ≡ p.removed
   pub added : n.place.added ≡ length p.fresh
@@ -76,7 +77,7 @@ pub record HasRoomForNames (uses : Option UseTable) (n : NameChange) : Type 0 wh
   pub room : HasRoomFor table n.fresh
 
 -- the edit of the items, which the patch makes, as an edit of their definitions
-abbrev pub edit_of : List (ItemEntry ItemContent) → ItemChange ItemContent → TextEdit
+abbrev pub edit_of : List (ItemEntry Content) → ItemChange Content → TextEdit
 edit_of es p = record {
   old = entry_definitions es;
   outcomes = entry_results es;
@@ -85,15 +86,17 @@ edit_of es p = record {
 }
 
 -- what is kept with the items that the patch leaves, before the stale ones are checked
-abbrev pub kept_behind : List (ItemEntry ItemContent) → ItemChange ItemContent → List ItemContent
+abbrev pub kept_behind : List (ItemEntry Content) → ItemChange Content → List Content
 kept_behind es p = items.kept (items.patched es p)
 
 -- what will be kept of the items that the patch leaves
-abbrev pub behind : List (ItemEntry ItemContent) → ItemChange ItemContent → List PlannedResult → List (Option (Box CheckResult))
+abbrev pub behind : List (ItemEntry Content) → ItemChange Content → List PlannedResult
+    → List (Option (Box CheckResult))
 behind es p ps = overlaid 0 (kept_behind es p) ps
 
 -- Each stale item is planned, and no other; with what it has then, each item has what checking it gives.
-pub record AreStaleChecked (es : List (ItemEntry ItemContent)) (p : ItemChange ItemContent) (ps : List PlannedResult) : Type 0 where
+pub record AreStaleChecked (es : List (ItemEntry Content)) (p : ItemChange Content)
+    (ps : List PlannedResult) : Type 0 where
   pub planned : ArePlanned (kept_behind es p) ps
   pub results : AreResults (kept_definitions (kept_behind es p)) (map found_result (behind es p ps))
   pub rendered : AreRendered (kept_behind es p) (behind es p ps)
@@ -101,7 +104,8 @@ pub record AreStaleChecked (es : List (ItemEntry ItemContent)) (p : ItemChange I
 
 -- The plan has what the change does to the tokens and items, what the fresh items parse to, and what checking
 -- the stale items gives then.
-pub record IsPlan (change : Change) (ts : List (Kind × ℕ)) (es : List (ItemEntry ItemContent)) (p : Plan) : Type 0 where
+pub record IsPlan (change : Change) (ts : List (Kind × ℕ)) (es : List (ItemEntry Content))
+    (p : Plan) : Type 0 where
   pub patch : IsPatch change ts p.tokens
   pub recut : IsItemPatch change ts (tokens.patched ts p.tokens) es p.items
   pub parsed : AreParsed (lexemes (edited_by change) (tokens.patched ts p.tokens)) (items.patched es p.items)
@@ -110,7 +114,7 @@ pub record IsPlan (change : Change) (ts : List (Kind × ℕ)) (es : List (ItemEn
   pub count : p.faults ≡ faults_found (kept_behind es p.items) (behind es p.items p.found.items)
 
 -- the patch can be carried out in room that is there
-pub record CanPut (entries : Gapped (ItemEntry ItemContent)) (p : ItemChange ItemContent) : Type 0 where
+pub record CanPut (entries : Gapped (ItemEntry Content)) (p : ItemChange Content) : Type 0 where
   pub among : items.LiesAmong entries.list p
   pub room : items.HasRoom entries p
   pub of_text : AreOfText (counts (items.patched entries.list p))
@@ -127,6 +131,6 @@ pub record CanCarryOut (ts : TokenList) (t : ItemTable) (p : Plan) : Type 0 wher
   pub name_room : HasRoomForNames t.uses p.names
 
 -- the items that the patch will leave where it is still to be carried out, and else these
-abbrev pub whole : List (ItemEntry ItemContent) → Option (ItemChange ItemContent) → List (ItemEntry ItemContent)
+abbrev pub whole : List (ItemEntry Content) → Option (ItemChange Content) → List (ItemEntry Content)
 whole es None = es
 whole es (Some p) = items.patched es p

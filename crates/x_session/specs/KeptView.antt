@@ -15,11 +15,11 @@ use Rattle.x_pieces.specs.Pieces as pieces
 use Rattle.x_session.specs.Compile as compile
 use Rattle.x_session.specs.Compile.{parsed_definition}
 use Rattle.x_session.specs.Generated.{lines_of}
-use Rattle.x_session.specs.declared.compile.item_content.CheckResult.{CheckResult}
-use Rattle.x_session.specs.declared.compile.item_content.ItemContent.{ItemContent}
-use Rattle.x_session.specs.declared.compile.item_content.ItemContent.TheVariants as items
-use Rattle.x_session.specs.declared.compile.item_content.Parse.{Parse}
-use Rattle.x_session.specs.declared.compile.item_content.Parse.TheVariants as kept
+use Rattle.x_session.specs.declared.compile.content.CheckResult.{CheckResult}
+use Rattle.x_session.specs.declared.compile.content.Content.{Content}
+use Rattle.x_session.specs.declared.compile.content.Content.TheVariants as items
+use Rattle.x_session.specs.declared.compile.content.Parse.{Parse}
+use Rattle.x_session.specs.declared.compile.content.Parse.TheVariants as kept
 
 -- what an item parses to
 abbrev pub view_parse : Parse → parse.Parse
@@ -37,38 +37,38 @@ abbrev pub found_pieces : Option (Box CheckResult) → Option pieces.Pieces
 found_pieces None = None
 found_pieces (Some found) = found.value.pieces
 
-abbrev pub kept_parse : ItemContent → parse.Parse
+abbrev pub kept_parse : Content → parse.Parse
 kept_parse items.Nothing = parse.Nothing
 kept_parse (items.Fault token code) = parse.Fault token code
 kept_parse (items.Body body) = view_parse body.value.parse
 
 -- the lines that pass through
-abbrev pub kept_lines : ItemContent → List ℕ
+abbrev pub kept_lines : Content → List ℕ
 kept_lines (items.Body body) = body.value.lines.items
 kept_lines k = []
 
-abbrev pub kept_found : ItemContent → Option (Box CheckResult)
+abbrev pub kept_found : Content → Option (Box CheckResult)
 kept_found (items.Body body) = body.value.found
 kept_found k = None
 
 -- the definition of an item
-abbrev pub kept_definition : ItemContent → Option tree.Definition
+abbrev pub kept_definition : Content → Option tree.Definition
 kept_definition k = parsed_definition (kept_parse k)
 
 -- what is generated of an item
-abbrev pub kept_part : ItemContent → pieces.Part
+abbrev pub kept_part : Content → pieces.Part
 kept_part k = record { lines = kept_lines k; pieces = found_pieces (kept_found k) }
 
 -- the definitions of items
-abbrev pub entry_definitions : List (ItemEntry ItemContent) → List (Option tree.Definition)
+abbrev pub entry_definitions : List (ItemEntry Content) → List (Option tree.Definition)
 entry_definitions entries = map (λ e. kept_definition e.kept) entries
 
 -- what was found of items
-abbrev pub entry_results : List (ItemEntry ItemContent) → List (Option Outcome)
+abbrev pub entry_results : List (ItemEntry Content) → List (Option Outcome)
 entry_results entries = map (λ e. found_result (kept_found e.kept)) entries
 
 -- the item that has the first of these tokens
-abbrev pub item_with : List Lexeme → ItemEntry ItemContent → compile.Item
+abbrev pub item_with : List Lexeme → ItemEntry Content → compile.Item
 item_with tokens e = record {
   tokens = take e.tokens tokens;
   parse = kept_parse e.kept;
@@ -76,31 +76,31 @@ item_with tokens e = record {
 }
 
 -- the items of these tokens
-abbrev pub items_with : List Lexeme → List (ItemEntry ItemContent) → List compile.Item
+abbrev pub items_with : List Lexeme → List (ItemEntry Content) → List compile.Item
 items_with tokens [] = []
 items_with tokens (e ∷ es) = item_with tokens e ∷ items_with (drop e.tokens tokens) es
 
 -- the number of an item's tokens, what they parse to, and the lines that pass through
-pub record IsItem (tokens : List Lexeme) (e : ItemEntry ItemContent) : Type 0 where
+pub record IsItem (tokens : List Lexeme) (e : ItemEntry Content) : Type 0 where
   pub count : e.tokens ≡ length tokens
   pub parsed : IsParse tokens (kept_parse e.kept)
   pub lines : kept_lines e.kept ≡ lines_of tokens
 
 -- so each of them is
-abbrev pub AreEach : List (List Lexeme) → List (ItemEntry ItemContent) → Type 0
+abbrev pub AreEach : List (List Lexeme) → List (ItemEntry Content) → Type 0
 AreEach [] [] = Unit {0}
 AreEach [] (e ∷ es) = ⊥
 AreEach (part ∷ parts) [] = ⊥
 AreEach (part ∷ parts) (e ∷ es) = IsItem part e × AreEach parts es
 
 -- the items of the tokens, each with what it parses to
-pub record AreParsed (tokens : List Lexeme) (entries : List (ItemEntry ItemContent)) : Type 0 where
+pub record AreParsed (tokens : List Lexeme) (entries : List (ItemEntry Content)) : Type 0 where
   pub parts : List (List Lexeme)
   pub are : AreItems tokens parts
   pub each : AreEach parts entries
 
 -- items one behind another, which have the first of these tokens
-abbrev pub AreAlong : List Lexeme → List (ItemEntry ItemContent) → Type 0
+abbrev pub AreAlong : List Lexeme → List (ItemEntry Content) → Type 0
 AreAlong tokens [] = Unit {0}
 AreAlong tokens (e ∷ es) = IsItem (take e.tokens tokens) e × AreAlong (drop e.tokens tokens) es
 
@@ -117,7 +117,8 @@ renewed_pieces had None = None
 renewed_pieces had (Some found) = pieces_behind had found.value.pieces found.value.checked.faults
 
 -- the same item, of which this was found
-pub record IsWith (e : ItemEntry ItemContent) (r : Option (Box CheckResult)) (f : ItemEntry ItemContent) : Type 0 where
+pub record IsWith (e : ItemEntry Content) (r : Option (Box CheckResult))
+    (f : ItemEntry Content) : Type 0 where
   pub tokens : f.tokens ≡ e.tokens
   pub parse : kept_parse f.kept ≡ kept_parse e.kept
   pub lines : kept_lines f.kept ≡ kept_lines e.kept
@@ -125,16 +126,17 @@ pub record IsWith (e : ItemEntry ItemContent) (r : Option (Box CheckResult)) (f 
   pub pieces : found_pieces (kept_found f.kept) ≡ renewed_pieces (found_pieces (kept_found e.kept)) r
 
 -- so each of them is
-abbrev pub AreWith : List (ItemEntry ItemContent) → List (Option (Box CheckResult)) → List (ItemEntry ItemContent) → Type 0
+abbrev pub AreWith : List (ItemEntry Content) → List (Option (Box CheckResult)) → List (ItemEntry Content)
+    → Type 0
 AreWith [] [] [] = Unit {0}
 AreWith (e ∷ es) (r ∷ rs) (f ∷ fs) = IsWith e r f × AreWith es rs fs
 AreWith es rs fs = ⊥
 
 -- this was found of the item at an index, and the others are as they were
-pub record IsWithAt (es : List (ItemEntry ItemContent)) (index : ℕ) (r : Option (Box CheckResult)) (fs : List (ItemEntry ItemContent))
-    : Type 0 where
-  pub old : ItemEntry ItemContent
+pub record IsWithAt (es : List (ItemEntry Content)) (index : ℕ) (r : Option (Box CheckResult))
+    (fs : List (ItemEntry Content)) : Type 0 where
+  pub old : ItemEntry Content
   pub was : slice_get es index ≡ Some old
-  pub item : ItemEntry ItemContent
+  pub item : ItemEntry Content
   pub put : fs ≡ slice_set es index item
   pub with : IsWith old r item

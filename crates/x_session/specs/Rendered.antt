@@ -4,28 +4,28 @@ use Rattle.x_trees.specs.Tree.{Definition}
 use Rattle.x_recheck.specs.declared.rechecking.Rechecked.{Rechecked}
 use Rattle.x_session.specs.KeptView.{kept_definition}
 use Rattle.x_session.specs.PlannedResult.{IsPlannedOf}
-use Rattle.x_session.specs.declared.compile.item_content.ItemContent.{ItemContent}
-use Rattle.x_session.specs.declared.compile.item_content.PlannedResult.{PlannedResult}
+use Rattle.x_session.specs.declared.compile.content.Content.{Content}
+use Rattle.x_session.specs.declared.compile.content.PlannedResult.{PlannedResult}
 
 -- the item at an index has a definition
-pub record HasDefinitionAt (ks : List ItemContent) (n : ℕ) : Type 0 where
-  pub item : ItemContent
+pub record HasDefinitionAt (ks : List Content) (n : ℕ) : Type 0 where
+  pub item : Content
   pub at : slice_get ks n ≡ Some item
   pub definition : Definition
   pub defined : kept_definition item ≡ Some definition
 
-abbrev pub HaveDefinitions : List ItemContent → List Rechecked → Type 0
+abbrev pub HaveDefinitions : List Content → List Rechecked → Type 0
 HaveDefinitions ks [] = Unit {0}
 HaveDefinitions ks (r ∷ rs) = HasDefinitionAt ks r.item × HaveDefinitions ks rs
 
 -- what was found of the item, with what is generated of it where that has no fault
-pub record IsRendering (ks : List ItemContent) (r : Rechecked) (p : PlannedResult) : Type 0 where
+pub record IsRendering (ks : List Content) (r : Rechecked) (p : PlannedResult) : Type 0 where
   pub item_is : p.item ≡ r.item
   pub checked_is : p.found.value.checked ≡ r.checked
   pub planned : IsPlannedOf ks p
 
 -- so it is with each of them
-abbrev pub AreRenderings : List ItemContent → List Rechecked → List PlannedResult → Type 0
+abbrev pub AreRenderings : List Content → List Rechecked → List PlannedResult → Type 0
 AreRenderings ks [] [] = Unit {0}
 AreRenderings ks (r ∷ rs) (p ∷ ps) = IsRendering ks r p × AreRenderings ks rs ps
 AreRenderings ks rs ps = ⊥

@@ -11,14 +11,14 @@ use Rattle.x_uses.specs.Occurrences.{IsUsesOf, UseTable}
 use Rattle.x_session.specs.Checking.{IsSound}
 use Rattle.x_session.specs.Compile.{Item, faults_of}
 use Rattle.x_session.specs.KeptView.{AreParsed, entry_definitions, entry_results, items_with, kept_part}
-use Rattle.x_session.specs.declared.compile.item_content.ItemContent.{ItemContent}
+use Rattle.x_session.specs.declared.compile.content.Content.{Content}
 
 -- the items of a text by what the program keeps of them
-abbrev pub items_of : List ℕ → List (Kind × ℕ) → List (ItemEntry ItemContent) → List Item
+abbrev pub items_of : List ℕ → List (Kind × ℕ) → List (ItemEntry Content) → List Item
 items_of text tokens entries = items_with (lexemes text tokens) entries
 
 -- All that is kept of a text is what compiling it from scratch gives.
-pub record IsKept (text : List ℕ) (tokens : List (Kind × ℕ)) (entries : List (ItemEntry ItemContent)) (faults : ℕ)
+pub record IsKept (text : List ℕ) (tokens : List (Kind × ℕ)) (entries : List (ItemEntry Content)) (faults : ℕ)
     (uses : Option UseTable) : Type 0 where
   pub are_tokens : AreTokens text tokens
   pub parsed : AreParsed (lexemes text tokens) entries

@@ -4,19 +4,19 @@ ghost use Rattle.std.specs.Prelude.{◌≡◌, IfOk, length, map};
 ghost use Rattle.x_session.specs.SessionState.{IsKept};
 
 mod checking;
+mod content;
 mod fault;
 mod item_table;
 mod keeping;
-mod item_content;
 mod lines;
 mod parsing;
 
 pub use checking::{new_pieces, sum_of};
 use checking::{Checks, check_all};
+pub(crate) use content::{CheckResult, Content, PlannedResult, Verdict};
 pub use fault::{Fault, FaultCode};
 pub(crate) use item_table::ItemTable;
 use keeping::keep_results;
-pub(crate) use item_content::{CheckResult, ItemContent, PlannedResult, Verdict};
 use parsing::parse_items;
 use std::alloc::Global;
 use x_item::ItemEntry;
@@ -46,7 +46,7 @@ pub fn compile(alloc: Global, source: &Source, meter: &mut Meter) -> Result<Comp
 }
 
 /// What is kept with each item.
-fn kept_of(alloc: Global, entries: &[ItemEntry<ItemContent>]) -> Result<Vec<&ItemContent>, NoMemory>
+fn kept_of(alloc: Global, entries: &[ItemEntry<Content>]) -> Result<Vec<&Content>, NoMemory>
     ensures { IfOk result (λ items. map (λ k. k.now) items.items ≡ map (λ e. e.kept) entries.now) }
 {
     let mut items = Vec::with_capacity(alloc, entries.len())?;

@@ -22,7 +22,7 @@ mod naming;
 mod placing;
 mod stale;
 
-use crate::compile::{ItemTable, ItemContent, PlannedResult};
+use crate::compile::{Content, ItemTable, PlannedResult};
 use counting::faults_behind;
 use fresh::parse_fresh;
 use naming::{NameChange, change_names, fresh_definitions};
@@ -39,7 +39,7 @@ pub struct Plan {
     /// What becomes of the tokens.
     pub tokens: Patch,
     /// What becomes of the items: each fresh one has what it parses to.
-    pub items: ItemPatch<ItemContent>,
+    pub items: ItemPatch<Content>,
     /// What becomes of the table of names.
     pub names: NameChange,
     /// What checking finds of the items that the edit makes stale, in their order.
@@ -127,9 +127,9 @@ fn next_items(
     tokens: &Tokens,
     patch: &Patch,
     text: &Source,
-    items: &mut Items<ItemContent>,
+    items: &mut Items<Content>,
     meter: &mut Meter,
-) -> Result<ItemPatch<ItemContent>, NoMemory>
+) -> Result<ItemPatch<Content>, NoMemory>
     requires { AreFollowed text.now tokens.now.list items.old.list patch.now }
     ensures recut { IfOk result (λ fresh. (change : Change)
         → IsRelexed change text.now tokens.now.list (items_of.counts items.old.list) patch.now

@@ -28,7 +28,7 @@ use std::alloc::Global;
 use std::marker::Model;
 pub use work::Work;
 use x_item::Definition;
-use x_lex::{Token, Tokens, TokenIter};
+use x_lex::{Token, TokenIter, Tokens};
 use x_sema::Schema;
 use x_text::{Edit, Meter, NoMemory, Source, TextBuffers, TextFault};
 

@@ -1,3 +1,4 @@
+//! Lines of scripts.
 ghost use Rattle.std.specs.Prelude.{◌≡◌, length, IfOk, IfSome};
 ghost use Rattle.x_lines.specs.Lines.{script_lines};
 

@@ -1,3 +1,4 @@
+//! Scripts.
 use std::alloc::Global;
 use std::io::{self, Write};
 use std::process::Abort;

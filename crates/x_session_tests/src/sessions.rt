@@ -1,3 +1,4 @@
+//! Sessions and their answers.
 use refusals::{ALL, begin, end};
 use std::process::Abort;
 use std::test::Fail;

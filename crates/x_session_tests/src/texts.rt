@@ -1,3 +1,4 @@
+//! The four texts of a session.
 use std::alloc::Global;
 use std::fmt::Display;
 use std::process::Abort;

@@ -1,3 +1,4 @@
+//! Want of memory.
 use std::alloc::{AllocError, AllocFailed};
 use thiserror::Error;
 

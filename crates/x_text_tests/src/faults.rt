@@ -1,3 +1,4 @@
+//! The texts of error types.
 use refusals::{ALL, begin, end};
 use std::test::Fail;
 use x_text::{Broken, Meter, NoMemory, TextFault, WriteFault};

@@ -1,3 +1,4 @@
+//! Readers that fail.
 use std::io::{self, Read};
 use x_text::{Broken, In, MemTap, Tap};
 

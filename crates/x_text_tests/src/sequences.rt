@@ -1,3 +1,4 @@
+//! Lists, and their wants of memory.
 ghost use Rattle.std.specs.Prelude.{◌≡◌, ◌+◌, ◌≤◌, OnOk, OnErr, IfOk, length};
 ghost use Rattle.std.specs.List.{splice};
 

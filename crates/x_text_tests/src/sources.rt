@@ -1,3 +1,4 @@
+//! Texts and edits, and their wants of memory.
 use refusals::{ALL, begin, end};
 use std::process::Abort;
 use std::test::Fail;

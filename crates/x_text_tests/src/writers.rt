@@ -1,3 +1,4 @@
+//! Writers that fail.
 use std::io::{self, Write};
 use std::process::Abort;
 use x_text::{Broken, MemSink, Out, Pen, Sink, WriteFault};

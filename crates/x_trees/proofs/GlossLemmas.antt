@@ -5,7 +5,7 @@ use Rattle.x_trees.specs.Tree as tree
 use Rattle.x_trees.specs.Words.{Word, Fixed}
 use Rattle.x_lex.specs.declared.mark.Mark.{Mark}
 use Rattle.x_trees.specs.declared.names.mention.Use.{Use}
-use Rattle.x_trees.specs.Gloss.{Role, Gloss, Context, InTypedef, AsField, AsDiscriminant, AsArm, glossed, worded, basic_marks, leading_roles, usage_at, name_inside, name_roles, lifted_roles, place_in, roles_where, argument_roles, VoidResult, VoidArgument, marks_by, most_by, length_by, named_by, given_by, enumerator_by, other_enumerators_by, enumerators_by, cases_by, type_by, body_by, declaration_by, declarations_by, arms_by, default_by, argument_by, passed_by, others_by, procedure_by, procedures_by, version_by, versions_by, gloss, told_of}
+use Rattle.x_trees.specs.Gloss.{Role, Gloss, Site, InTypedef, AsField, AsDiscriminant, AsArm, glossed, worded, basic_marks, leading_roles, usage_at, name_inside, name_roles, lifted_roles, place_in, roles_where, argument_roles, VoidResult, VoidArgument, marks_by, most_by, length_by, named_by, given_by, enumerator_by, other_enumerators_by, enumerators_by, cases_by, type_by, body_by, declaration_by, declarations_by, arms_by, default_by, argument_by, passed_by, others_by, procedure_by, procedures_by, version_by, versions_by, gloss, told_of}
 use Rattle.x_trees.specs.Spell.{spell, spell_most, spell_length, spell_named, spell_given, spell_enumerator, spell_other_enumerators, spell_enumerators, spell_cases, spell_type, spell_body, spell_declaration, spell_declarations, spell_arms, spell_default, spell_argument, spell_passed, spell_others, spell_procedure, spell_procedures, spell_version, spell_versions}
 
 -- ---- the words
@@ -74,7 +74,7 @@ mutual
       next (next (both (declaration_by glossed (place_in AsDiscriminant around) d) _ (words_declaration (place_in AsDiscriminant around) d)
       (next (next (both (arms_by glossed around arms) _ (words_arms around arms) (words_default around other))))))
 
-  pub words_declaration : (place : Option Context) (d : tree.Declaration) → words (declaration_by glossed place d) ≡ spell_declaration d
+  pub words_declaration : (place : Option Site) (d : tree.Declaration) → words (declaration_by glossed place d) ≡ spell_declaration d
   words_declaration place tree.Void = refl
   words_declaration place (tree.Of type name shape) =
       both (type_by glossed (leading_roles place (tree.Of type name shape)) (usage_at place shape) (name_inside place name) type) _

@@ -3,7 +3,7 @@ use Rattle.std.proofs.Common.{◌≡◌, ℕ, ◌+◌, ◌^◌, ◌<◌, List, [
 use Rattle.std.proofs.lemmas.List.{take-map, length-map, append-nil}
 use Rattle.x_trees.specs.Tree as tree
 use Rattle.x_trees.specs.Gloss as gloss
-use Rattle.x_trees.specs.Gloss.{Role, Context, InTypedef, Inside, AsField, AsDiscriminant, AsArm, InlineArgument, Gloss, glossed, body_mark, body_kind, basic_marks, use_by, leading_roles, name_inside, name_roles, lifted_roles, value_roles, spell_value, named_by, type_by, body_by, declaration_by, argument_by, told_of}
+use Rattle.x_trees.specs.Gloss.{Role, Site, InTypedef, Inside, AsField, AsDiscriminant, AsArm, InlineArgument, Gloss, glossed, body_mark, body_kind, basic_marks, use_by, leading_roles, name_inside, name_roles, lifted_roles, value_roles, spell_value, named_by, type_by, body_by, declaration_by, argument_by, told_of}
 use Rattle.x_lex.specs.declared.mark.Mark.{Mark}
 use Rattle.x_trees.specs.Words.{Word, Name, Fixed}
 use Rattle.x_trees.specs.Spell.{spell, spell_type}
@@ -109,13 +109,13 @@ reads_name roles.GreatestSize t x = reads x
 abbrev IsSilent : {A : Type 0} → (ℕ → List Role → List A) → List Role → Type 0
 IsSilent tell roles = (k : ℕ) → tell k roles ≡ []
 
-leading_declares : (place : Context) (d : tree.Declaration) → IsSilent declared_at (leading_roles (Some place) d)
+leading_declares : (place : Site) (d : tree.Declaration) → IsSilent declared_at (leading_roles (Some place) d)
 leading_declares InTypedef d k = refl
 leading_declares (Inside AsField around) d k = refl
 leading_declares (Inside AsDiscriminant around) d k = refl
 leading_declares (Inside AsArm around) d k = refl
 
-leading_mentions : (place : Context) (d : tree.Declaration) → IsSilent mentioned_at (leading_roles (Some place) d)
+leading_mentions : (place : Site) (d : tree.Declaration) → IsSilent mentioned_at (leading_roles (Some place) d)
 leading_mentions InTypedef d k = refl
 leading_mentions (Inside AsField around) d k = refl
 leading_mentions (Inside AsDiscriminant around) d k = refl
@@ -165,7 +165,7 @@ led_told tell first usage inside (tree.Inline body) none named k = front_bare te
 led_told tell first usage inside (tree.Name t) none named k =
     sym (append_assoc (tell k first) (tell k (gloss.Mentions t usage None ∷ [])) []) ∙ ap (λ l. l ++ []) (named t k)
 
-pub reads_led_type : {a b c : Walk} (place : Context) (d : tree.Declaration) (usage : Use) (inside : Option (List ℕ)) (type : tree.DataType) → Finds a b 0 (λ k. []) (λ k. []) (λ k. noted_at k (leading_roles (Some place) d))
+pub reads_led_type : {a b c : Walk} (place : Site) (d : tree.Declaration) (usage : Use) (inside : Option (List ℕ)) (type : tree.DataType) → Finds a b 0 (λ k. []) (λ k. []) (λ k. noted_at k (leading_roles (Some place) d))
     → Reads b c (type_by glossed [] (Some usage) inside type) → Reads a c (type_by glossed (leading_roles (Some place) d) (Some usage) inside type)
 reads_led_type place d usage inside type x y = record {
   names_in = covers_led (λ k. []) plain words long
@@ -193,7 +193,7 @@ reads_led_type place d usage inside type x y = record {
         ap (λ l. l ++ m ∷ []) (leading_mentions place d k) ∙ ap (λ l. m ∷ l) (sym (leading_mentions place d k))
 
 -- a keyword that is the first word of a declaration
-pub reads_first : {a b c : Walk} (place : Context) (d : tree.Declaration) (keyword : Word) → Finds a b 0 (λ k. []) (λ k. []) (λ k. noted_at k (leading_roles (Some place) d)) → Finds b c 1 (λ k. []) (λ k. []) (λ k. [])
+pub reads_first : {a b c : Walk} (place : Site) (d : tree.Declaration) (keyword : Word) → Finds a b 0 (λ k. []) (λ k. []) (λ k. noted_at k (leading_roles (Some place) d)) → Finds b c 1 (λ k. []) (λ k. []) (λ k. [])
     → Reads a c (glossed keyword (leading_roles (Some place) d) ∷ [])
 reads_first place d keyword x y = record {
   names_in = covers_led (λ k. []) (glossed keyword [] ∷ []) _ refl (λ k. ap (λ l. l ++ []) (sym (leading_declares place d k))) x.names_in record { all = y.names_in };
@@ -203,7 +203,7 @@ reads_first place d keyword x y = record {
 
 -- ---- the names of declarations
 
-pub reads_declared : {a b c e : Walk} (place : Context) (name : List ℕ) (lifted : Option Lifted) → Finds a b 0 (λ k. declared_at k (name_roles (Some place) name)) (λ k. []) (λ k. [])
+pub reads_declared : {a b c e : Walk} (place : Site) (name : List ℕ) (lifted : Option Lifted) → Finds a b 0 (λ k. declared_at k (name_roles (Some place) name)) (λ k. []) (λ k. [])
     → Finds b c 0 (λ k. declared_at k (roles_of_lifted lifted)) (λ k. []) (λ k. []) → Finds c e 1 (λ k. []) (λ k. []) (λ k. [])
     → Reads a e (glossed (Name name) (name_roles (Some place) name ++ roles_of_lifted lifted) ∷ [])
 reads_declared InTypedef name None x y z = reads (found_here x (found_here y z))
@@ -212,7 +212,7 @@ reads_declared (Inside position around) name None x y z = reads (found_here x (f
 reads_declared (Inside position around) name (Some lifted) x y z = reads (found_here x (found_here y z))
 
 -- one that is not that of an inline type
-pub reads_own : {a b : Walk} (place : Context) (name : List ℕ) → Reads a b (glossed (Name name) (name_roles (Some place) name ++ []) ∷ []) → Reads a b (glossed (Name name) (name_roles (Some place) name) ∷ [])
+pub reads_own : {a b : Walk} (place : Site) (name : List ℕ) → Reads a b (glossed (Name name) (name_roles (Some place) name ++ []) ∷ []) → Reads a b (glossed (Name name) (name_roles (Some place) name) ∷ [])
 reads_own place name x = reads_as x (ap (λ roles. glossed (Name name) roles ∷ []) (append-nil (name_roles (Some place) name)))
 
 pub outside_lifts : (type : tree.DataType) → IsOutside type → (inside : Option (List ℕ)) → lifted_roles inside type ≡ []
@@ -223,7 +223,7 @@ outside_lifts (tree.Tagged tag t) out (Some lifted) = refl
 outside_lifts (tree.Inline body) out (Some lifted) = absurd out
 
 -- a type, and the name of a declaration with what stands around it
-pub reads_typed : {a b c e : Walk} (place : Context) (type : tree.DataType) (name : List ℕ) (shape : tree.Shape) (lifted : List Role) → lifted ≡ lifted_roles (name_inside (Some place) name) type
+pub reads_typed : {a b c e : Walk} (place : Site) (type : tree.DataType) (name : List ℕ) (shape : tree.Shape) (lifted : List Role) → lifted ≡ lifted_roles (name_inside (Some place) name) type
     → Finds a b 0 (λ k. []) (λ k. []) (λ k. noted_at k (leading_roles (Some place) (tree.Of type name shape)))
     → Reads b c (type_by glossed [] (Some (use_by shape)) (name_inside (Some place) name) type)
     → Reads c e (named_by glossed true (name_roles (Some place) name ++ lifted) name shape)
@@ -233,11 +233,11 @@ reads_typed {c = c} {e} place type name shape lifted is lead x y =
     (subst (λ l. Reads c e (named_by glossed true (name_roles (Some place) name ++ l) name shape)) is y)
 
 -- what is found of a declaration as it is written
-pub reads_declaration : {a b : Walk} {d e : tree.Declaration} (place : Context) → d ≡ e → Reads a b (declaration_by glossed (Some place) e) → Reads a b (declaration_by glossed (Some place) d)
+pub reads_declaration : {a b : Walk} {d e : tree.Declaration} (place : Site) → d ≡ e → Reads a b (declaration_by glossed (Some place) e) → Reads a b (declaration_by glossed (Some place) d)
 reads_declaration {a} {b} place is x = subst (λ d. Reads a b (declaration_by glossed (Some place) d)) (sym is) x
 
 -- what is found in front of a declaration as it is written
-pub led_as : {a b : Walk} {d e : tree.Declaration} (place : Context) → d ≡ e → Finds a b 0 (λ k. []) (λ k. []) (λ k. noted_at k (leading_roles (Some place) d)) → Finds a b 0 (λ k. []) (λ k. []) (λ k. noted_at k (leading_roles (Some place) e))
+pub led_as : {a b : Walk} {d e : tree.Declaration} (place : Site) → d ≡ e → Finds a b 0 (λ k. []) (λ k. []) (λ k. noted_at k (leading_roles (Some place) d)) → Finds a b 0 (λ k. []) (λ k. []) (λ k. noted_at k (leading_roles (Some place) e))
 led_as {a} {b} place is x = subst (λ d. Finds a b 0 (λ k. []) (λ k. []) (λ k. noted_at k (leading_roles (Some place) d))) is x
 
 -- ---- types

@@ -14,8 +14,8 @@ use Rattle.x_trees.specs.declared.names.declared_name.DeclaredName.{DeclaredName
 use Rattle.x_trees.specs.declared.names.mention.Mention.{Mention}
 use Rattle.x_trees.specs.declared.names.note.ValueRole.{ValueRole}
 use Rattle.x_trees.specs.declared.names.note.ValueRole.TheVariants as roles
-use Rattle.x_trees.specs.declared.names.glossary.Context.{Context}
-use Rattle.x_trees.specs.declared.names.glossary.Context.TheVariants as places
+use Rattle.x_trees.specs.declared.names.glossary.Site.{Site}
+use Rattle.x_trees.specs.declared.names.glossary.Site.TheVariants as places
 use Rattle.x_trees.specs.declared.names.glossary.Lifted.{Lifted}
 use Rattle.x_trees.specs.declared.names.glossary.Walk.{Walk}
 
@@ -83,7 +83,7 @@ pub record ReadsAll (from to : Walk) (d : tree.Definition) : Type 0 where
 -- ---- what the walk is told
 
 -- the place, inside the type of the name if it is inside a type
-abbrev pub place_in : Context → List ℕ → gloss.Context
+abbrev pub place_in : Site → List ℕ → gloss.Site
 place_in places.Typedef around = gloss.InTypedef
 place_in places.Field around = gloss.Inside gloss.AsField around
 place_in places.Discriminant around = gloss.Inside gloss.AsDiscriminant around

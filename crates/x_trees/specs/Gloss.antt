@@ -29,9 +29,9 @@ pub data Position : Type 0 where
   AsArm : Position
 
 -- where a declaration stands: behind `typedef`, or inside the type that `around` names
-pub data Context : Type 0 where
-  InTypedef : Context
-  Inside : (position : Position) (around : List ℕ) → Context
+pub data Site : Type 0 where
+  InTypedef : Site
+  Inside : (position : Position) (around : List ℕ) → Site
 
 -- what a word is to the definition that it stands in; a word may have several roles, or none
 pub data Role : Type 0 where
@@ -56,7 +56,7 @@ pub data Role : Type 0 where
   VersionNumber : (text : List ℕ) → Role
   ProcedureNumber : (text : List ℕ) → Role
   -- it is `void`, in place of a declaration, of a result or of arguments, of which so many stand behind it
-  VoidDeclaration : (place : Context) → Role
+  VoidDeclaration : (place : Site) → Role
   VoidResult : Role
   VoidArgument : (others : ℕ) → Role
   -- it is the first word of the declaration of a discriminant
@@ -126,18 +126,18 @@ roles_where true roles = roles
 roles_where false roles = []
 
 -- where a declaration stands inside a type
-abbrev pub place_in : Position → Option (List ℕ) → Option Context
+abbrev pub place_in : Position → Option (List ℕ) → Option Site
 place_in position None = None
 place_in position (Some around) = Some (Inside position around)
 
 -- the name of an inline type in a declaration of the name
-abbrev pub name_inside : Option Context → List ℕ → Option (List ℕ)
+abbrev pub name_inside : Option Site → List ℕ → Option (List ℕ)
 name_inside None name = None
 name_inside (Some InTypedef) name = Some (lifted_name name name)
 name_inside (Some (Inside position around)) name = Some (lifted_name around name)
 
 -- what the type of a declaration of the shape is used as
-abbrev pub usage_at : Option Context → tree.Shape → Option Use
+abbrev pub usage_at : Option Site → tree.Shape → Option Use
 usage_at None shape = None
 usage_at (Some place) shape = Some (use_by shape)
 
@@ -151,16 +151,16 @@ mention_roles None tag name = []
 mention_roles (Some usage) tag name = Mentions name usage tag ∷ []
 
 -- the roles of the first word of a declaration
-abbrev pub leading_roles : Option Context → tree.Declaration → List Role
+abbrev pub leading_roles : Option Site → tree.Declaration → List Role
 leading_roles (Some (Inside AsDiscriminant around)) d = Discriminant d ∷ []
 leading_roles place d = []
 
-abbrev pub void_roles : Option Context → List Role
+abbrev pub void_roles : Option Site → List Role
 void_roles None = []
 void_roles (Some place) = VoidDeclaration place ∷ leading_roles (Some place) tree.Void
 
 -- the roles of the name of a declaration
-abbrev pub name_roles : Option Context → List ℕ → List Role
+abbrev pub name_roles : Option Site → List ℕ → List Role
 name_roles None name = []
 name_roles (Some InTypedef) name = Declares name kinds.Typedef false ∷ []
 name_roles (Some (Inside position around)) name = FieldName name ∷ []
@@ -263,7 +263,7 @@ abbrev mutual
       ++ make (Fixed marks.CloseParenthesis) []
       ∷ make (Fixed marks.OpenBrace) [] ∷ (arms_by make around arms ++ default_by make around other))
 
-  pub declaration_by : {A : Type 0} → (Word → List Role → A) → Option Context → tree.Declaration → List A
+  pub declaration_by : {A : Type 0} → (Word → List Role → A) → Option Site → tree.Declaration → List A
   declaration_by make place tree.Void = make (Fixed marks.Void) (void_roles place) ∷ []
   declaration_by make place (tree.Of type name shape) =
       type_by make (leading_roles place (tree.Of type name shape)) (usage_at place shape)

@@ -1,3 +1,4 @@
+//! A law of glosses: a function that does nothing and ensures it.
 ghost use Rattle.std.specs.Prelude.{◌≡◌, map};
 ghost use Rattle.x_trees.specs.Tree.{Definition};
 ghost use Rattle.x_trees.specs.Gloss.{gloss};

@@ -1,3 +1,4 @@
+//! What an edit leaves of the table of names.
 use std::alloc::Global;
 use std::process::Abort;
 use std::test::Fail;

@@ -1,3 +1,4 @@
+//! Each law called once.
 use x_recheck::one_stale_list;
 use x_sema::{
     has_results, one_first_declarer, one_list_of_faults, one_list_of_results, one_outcome,

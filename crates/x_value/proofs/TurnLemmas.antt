@@ -22,7 +22,7 @@ use Rattle.x_value.specs.declared.nodes.compact_node.CompactLabel.{CompactLabel}
 use Rattle.x_value.specs.Entries.{nodes_of, node_of, label_of, IsCalled, AreNamed}
 use Rattle.x_value.specs.Dumps.{root_job, root_label}
 use Rattle.x_value.specs.Jobs.{AreReady, Moves, Refused}
-use Rattle.x_value.specs.Work.{fields, value_job, jobs_of_task, jobs_of_option, pending, tasks_of_option, tasks_of_value, shown_entries, IsTyped, IsTypedOption, AreTasks, IsSpot, IsRear, IsLighter, weight, weight_of_option, weights, work, base, Begun, Stacked, Opened, Turn, Reading}
+use Rattle.x_value.specs.Work.{fields, value_job, jobs_of_task, jobs_of_option, pending, tasks_of_option, tasks_of_value, shown_entries, IsTyped, IsTypedOption, AreTasks, IsSpot, IsRear, IsLighter, weight, weight_of_option, weights, work, base, Begun, Stacked, TakesTask, Turn, Reading}
 use Rattle.x_value.proofs.Sound.{ready_at}
 use Rattle.x_value.proofs.Faults.{moves_same, moves_then, refused_behind, refused_within}
 use Rattle.x_value.proofs.Weights.{weights_append, work_same, work_at_most, work_read, work_not_more, fields_step, elements_step, fields_weight, elements_weight}
@@ -158,17 +158,17 @@ one_element s form next after end level links old mid new lt up typed tasks em e
 pub stacked_same : (s : Schema) (task : Task) (old new : List Task) → Stacked s task old new → Stacked s task old (new ++ [])
 stacked_same s task old new h = subst (λ t. Stacked s task old t) (sym (append-nil new)) h
 
-pub opened_stacked : (s : Schema) (task : Task) (old new : List Task) (value : Option (ℕ × compact.Spot)) → Stacked s task old (new ++ tasks_of_value value) → Opened s task old new value
+pub opened_stacked : (s : Schema) (task : Task) (old new : List Task) (value : Option (ℕ × compact.Spot)) → Stacked s task old (new ++ tasks_of_value value) → TakesTask s task old new value
 opened_stacked s task old new value h = record { jobs = h.jobs; tasks = h.tasks; less = (let l = h.less in omega arith) }
 
-pub opened_one : (s : Schema) (form : ℕ) (spot : compact.Spot) (old : List Task) → AreTasks s old → IsTyped s (One form spot) → Opened s (One form spot) old old (Some (form, spot))
+pub opened_one : (s : Schema) (form : ℕ) (spot : compact.Spot) (old : List Task) → AreTasks s old → IsTyped s (One form spot) → TakesTask s (One form spot) old old (Some (form, spot))
 opened_one s form spot old tasks typed = record {
   jobs = sym (pending_push s old (One form spot));
   tasks = tasks_push s old (One form spot) tasks typed;
   less = omega arith;
 }
 
-pub turn_closed : (s : Schema) (message : List ℕ) (task : Task) (old new : List Task) (entries : List CompactNode) (bytes : List ℕ) → Opened s task old new None → Turn s message task old entries bytes new entries bytes
+pub turn_closed : (s : Schema) (message : List ℕ) (task : Task) (old new : List Task) (entries : List CompactNode) (bytes : List ℕ) → TakesTask s task old new None → Turn s message task old entries bytes new entries bytes
 turn_closed s message task old new entries bytes o = record {
   added = [];
   appended = sym (append-nil entries);
@@ -212,13 +212,13 @@ turn_begun s message form spot bytes rest first second next old new entries more
 }
 
 -- what is to be read of a task's first value, and behind it
-jobs_opened : (s : Schema) (task : Task) (old new : List Task) (form : ℕ) (spot : compact.Spot) → Opened s task old new (Some (form, spot)) → value_job s form spot ∷ pending s new ≡ jobs_of_task s task ++ pending s old
+jobs_opened : (s : Schema) (task : Task) (old new : List Task) (form : ℕ) (spot : compact.Spot) → TakesTask s task old new (Some (form, spot)) → value_job s form spot ∷ pending s new ≡ jobs_of_task s task ++ pending s old
 jobs_opened s task old new form spot o = sym (o.jobs ∙ pending_push s new (One form spot))
 
-pub opened_parts : (s : Schema) (task : Task) (old new : List Task) (form : ℕ) (spot : compact.Spot) → Opened s task old new (Some (form, spot)) → AreTasks s new × IsTyped s (One form spot)
+pub opened_parts : (s : Schema) (task : Task) (old new : List Task) (form : ℕ) (spot : compact.Spot) → TakesTask s task old new (Some (form, spot)) → AreTasks s new × IsTyped s (One form spot)
 opened_parts s task old new form spot o = tasks_parts s new (One form spot) o.tasks
 
-pub turn_opened : (s : Schema) (message : List ℕ) (task : Task) (old new last : List Task) (form : ℕ) (spot : compact.Spot) (entries more : List CompactNode) (bytes rest : List ℕ) → Opened s task old new (Some (form, spot)) →
+pub turn_opened : (s : Schema) (message : List ℕ) (task : Task) (old new last : List Task) (form : ℕ) (spot : compact.Spot) (entries more : List CompactNode) (bytes rest : List ℕ) → TakesTask s task old new (Some (form, spot)) →
     Turn s message (One form spot) new entries bytes last more rest → Turn s message task old entries bytes last more rest
 turn_opened s message task old new last form spot entries more bytes rest o t = record {
   added = t.added;
@@ -232,7 +232,7 @@ turn_opened s message task old new last form spot entries more bytes rest o t = 
       omega arith);
 }
 
-pub refused_opened : (s : Schema) (task : Task) (old new : List Task) (form : ℕ) (spot : compact.Spot) (bytes : List ℕ) (at : ℕ) (code : ReadCode) → Opened s task old new (Some (form, spot)) →
+pub refused_opened : (s : Schema) (task : Task) (old new : List Task) (form : ℕ) (spot : compact.Spot) (bytes : List ℕ) (at : ℕ) (code : ReadCode) → TakesTask s task old new (Some (form, spot)) →
     Refused s (value_job s form spot ∷ pending s new) bytes at code → Refused s (jobs_of_task s task ++ pending s old) bytes at code
 refused_opened s task old new form spot bytes at code o r = subst (λ js. Refused s js bytes at code) (jobs_opened s task old new form spot o) r
 

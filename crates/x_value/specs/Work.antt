@@ -162,7 +162,8 @@ pub record Stacked (s : Schema) (task : Task) (old new : List Task) : Type 0 whe
   pub less : weights s new < weights s (old ++ (task ∷ []))
 
 -- a task was taken from the old stack, and its first value, if it has one, is to be read next
-pub record Opened (s : Schema) (task : Task) (old new : List Task) (value : Option (ℕ × compact.Spot)) : Type 0 where
+pub record TakesTask (s : Schema) (task : Task) (old new : List Task)
+    (value : Option (ℕ × compact.Spot)) : Type 0 where
   pub jobs : jobs_of_task s task ++ pending s old ≡ pending s (new ++ tasks_of_value value)
   pub tasks : AreTasks s (new ++ tasks_of_value value)
   pub less : weights s (new ++ tasks_of_value value) < weights s (old ++ (task ∷ [])) + length

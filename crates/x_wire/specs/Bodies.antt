@@ -15,7 +15,8 @@ abbrev pub IsReadAs : Schema → Option TypeId → List ℕ → Body → Type 0
 IsReadAs s type bytes Unread = type ≡ None
 IsReadAs s type bytes (Value dump) = (id : TypeId) × (type ≡ Some id) × IsShown s id bytes dump
 IsReadAs s type bytes (Refused fault) =
-    (id : TypeId) × (type ≡ Some id) × IsReadFault s id bytes fault.at fault.code × (fault.code ≡ NoMemory → ⊥)
+    (id : TypeId) × (type ≡ Some id) × IsReadFault s id bytes fault.at fault.code
+    × (fault.code ≡ NoMemory → ⊥)
 
 -- and printed so
 abbrev pub told_of : Body → List ℕ → Told

@@ -8,8 +8,8 @@ mod records;
 mod telling;
 
 pub use messages::{
-    AcceptStat, Auth, Call, MessageKind, MOST_AUTH_BYTES, Message, RejectStat, Reply, message, one_answer,
-    one_fault, one_message,
+    AcceptStat, Auth, Call, MOST_AUTH_BYTES, Message, MessageKind, RejectStat, Reply, message,
+    one_answer, one_fault, one_message,
 };
 pub use nfs2::NFS2_X;
 pub use records::{Fed, MAX_RECORD, RecordCode, RecordFault, Records, records_law};

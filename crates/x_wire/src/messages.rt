@@ -6,5 +6,5 @@ mod parts;
 mod reading;
 
 pub use laws::{one_answer, one_fault, one_message};
-pub use parts::{AcceptStat, Auth, Call, MessageKind, MOST_AUTH_BYTES, Message, RejectStat, Reply};
+pub use parts::{AcceptStat, Auth, Call, MOST_AUTH_BYTES, Message, MessageKind, RejectStat, Reply};
 pub use reading::message;

@@ -1,3 +1,4 @@
+//! Each law called once.
 use x_wire::{enc_law, one_answer, one_fault, one_message, one_reading, one_text, records_law};
 
 #[test]

@@ -1,3 +1,4 @@
+//! Records of streams.
 use crate::streams::{NULL_CALL, READDIR};
 use refusals::{ALL, MOST_TURNS, begin, end};
 use std::alloc::{AllocError, Global};

@@ -1,3 +1,4 @@
+//! Streams as they are shown.
 ghost use Rattle.std.specs.Prelude.{◌≤◌};
 
 use crate::records::feed_cut;

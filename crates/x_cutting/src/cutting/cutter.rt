@@ -1,3 +1,4 @@
+//! Where items end.
 ghost use Rattle.std.specs.Prelude.{◌≡◌, ◌<◌, ◌≤◌, ◌+◌};
 ghost use Rattle.x_cutting.specs.Items.{is_punct};
 ghost use Rattle.x_cutting.specs.Cutting.{role_by, depth_after, ends_at};

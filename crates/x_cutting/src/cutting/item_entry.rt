@@ -1,3 +1,4 @@
+//! An item as it is kept.
 ghost use Rattle.std.specs.Prelude.{◌≡◌, ◌≤◌, IfSome, option_copied};
 ghost use Rattle.x_text.specs.declared.text.source.TheConstants.{MAX_TEXT};
 

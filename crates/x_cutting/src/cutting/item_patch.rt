@@ -24,7 +24,12 @@ impl<K> Model for ItemPatch<K> {
 impl<K> ItemPatch<K> {
     /// The fresh items of these entries, the first of which starts at the token `start`, in place of
     /// `removed` old ones from index `at` on.
-    pub(crate) fn new(at: usize, removed: usize, start: usize, fresh: Vec<ItemEntry<K>>) -> ItemPatch<K>
+    pub(crate) fn new(
+        at: usize,
+        removed: usize,
+        start: usize,
+        fresh: Vec<ItemEntry<K>>,
+    ) -> ItemPatch<K>
         ensures { result ≡ record { at = at; removed = removed; start = start; fresh = fresh.items } }
     {
         ItemPatch {

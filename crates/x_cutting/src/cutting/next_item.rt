@@ -10,7 +10,10 @@ use x_text::NoMemory;
 /// Takes the next item of the tokens that a walk has left into the buffer, and answers whether it ends with
 /// its own `;`: one that does not is the last, even if it is empty. After [`NoMemory`] the walk is somewhere
 /// within the item.
-pub fn next_item<'a>(tokens: &mut Vec<Token<'a>>, walk: &mut TokenIter<'a>) -> Result<bool, NoMemory>
+pub fn next_item<'a>(
+    tokens: &mut Vec<Token<'a>>,
+    walk: &mut TokenIter<'a>,
+) -> Result<bool, NoMemory>
     ensures { IfOk result (λ whole. IsNext whole walk.old (map lexeme tokens.new.items) walk.new) }
 {
     tokens.clear();

@@ -10,7 +10,7 @@ ghost use Rattle.x_item.specs.Reading.{ReadsPart, Fails};
 
 use super::ParseError;
 use super::ending::Ending;
-use super::words::{strip_mark, expect, value};
+use super::words::{expect, strip_mark, value};
 use std::alloc::Global;
 use x_lex::{Mark, Token};
 use x_trees::{Value, fitted};

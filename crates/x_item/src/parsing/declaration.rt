@@ -20,7 +20,7 @@ use super::cases::cases;
 use super::declarator::{array_length, greatest_length, named};
 use super::ending::Ending;
 use super::enumerators::enumerators;
-use super::words::{Word, strip_mark, terminated, expect, first, name, stuck_at};
+use super::words::{Word, expect, first, name, strip_mark, stuck_at, terminated};
 use std::alloc::Global;
 use x_lex::{Mark, Token};
 use x_trees::{
@@ -82,8 +82,8 @@ fn basic<'w, 't>(
 
 /// Reads what may stand after `unsigned`: the type.
 pub fn unsigned<'w, 't>(tokens: &'w [Token<'t>]) -> Result<(DataType, &'w [Token<'t>]), ParseError>
-    ensures read { IfOk result (λ x. (c : Context) → ReadsPart (Fixed Mark.Unsigned ∷ []) (AfterUnsigned c ∷ [])
-        tokens.now (spell_type (view_type x.0)) (AfterType c ∷ []) x.1.now) }
+    ensures read { IfOk result (λ x. (c : Context) → ReadsPart (Fixed Mark.Unsigned ∷ [])
+        (AfterUnsigned c ∷ []) tokens.now (spell_type (view_type x.0)) (AfterType c ∷ []) x.1.now) }
     ensures fits { IfOk result (λ x. (n : ℕ) → TypeFits (view_type x.0) n) }
     ensures stuck { IfErr result (λ e. (c : Context) → Fails (AfterUnsigned c ∷ []) tokens.now e) }
 {
@@ -107,8 +107,8 @@ fn tagged<'w, 't>(
     depth: u32,
     tokens: &'w [Token<'t>],
 ) -> Result<(DataType, &'w [Token<'t>]), ParseError>
-    ensures read { IfOk result (λ x. ReadsPart (Fixed (tag_mark tag) ∷ []) (AfterTag tag depth ∷ []) tokens.now
-        (spell_type (view_type x.0)) [] x.1.now) }
+    ensures read { IfOk result (λ x. ReadsPart (Fixed (tag_mark tag) ∷ []) (AfterTag tag depth ∷ [])
+        tokens.now (spell_type (view_type x.0)) [] x.1.now) }
     ensures fits { IfOk result (λ x. TypeFits (view_type x.0) depth) }
     ensures stuck { IfErr result (λ e. Fails (AfterTag tag depth ∷ []) tokens.now e) }
 {

@@ -10,7 +10,7 @@ ghost use Rattle.x_item.specs.Reading.{ReadsPart, IsPart, Fails};
 
 use super::ParseError;
 use super::ending::Ending;
-use super::words::{strip_mark, expect, name, value};
+use super::words::{expect, name, strip_mark, value};
 use std::alloc::Global;
 use x_lex::{Mark, Token};
 use x_trees::{Length, Shape, Spelling, Value};

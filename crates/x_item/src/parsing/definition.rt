@@ -12,7 +12,7 @@ use super::ParseError;
 use super::declaration::{body, declared};
 use super::ending::Ending;
 use super::program::{assigned_number, versions};
-use super::words::{Word, terminated, expect, first, name, stuck_at, value};
+use super::words::{Word, expect, first, name, stuck_at, terminated, value};
 use std::alloc::Global;
 use x_lex::{Mark, Token};
 use x_trees::{Definition, MOST_INLINE, Tag, fitted};

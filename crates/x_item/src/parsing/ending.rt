@@ -1,3 +1,4 @@
+//! How a declaration ends.
 ghost use Rattle.std.specs.Prelude.{◌≡◌};
 ghost use Rattle.x_item.specs.Symbols.{ending_mark};
 

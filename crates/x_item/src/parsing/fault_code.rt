@@ -1,3 +1,4 @@
+//! The faults of an item that spells no definition.
 ghost use Rattle.std.specs.Prelude.{◌≡◌, ◌<◌, [], map, length, slice_index_or};
 ghost use denote.Enum.Declared.{tag_of};
 ghost use Rattle.x_item.specs.contracts.parsing.fault_code.FaultCode.{the_type};

@@ -11,7 +11,7 @@ ghost use Rattle.x_item.specs.Parse.{view_parsed};
 ghost use Rattle.x_item.specs.Reading.{IsRefused};
 
 use super::definition::definition;
-use super::words::{is_significant, finish};
+use super::words::{finish, is_significant};
 use super::{FaultCode, ParseError};
 use std::alloc::Global;
 use x_lex::Token;

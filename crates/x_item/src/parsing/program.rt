@@ -14,7 +14,7 @@ ghost use Rattle.x_item.specs.Reading.{ReadsPart, Fails};
 
 use super::ParseError;
 use super::declaration::data_type;
-use super::words::{strip_mark, expect, name, number};
+use super::words::{expect, name, number, strip_mark};
 use std::alloc::Global;
 use x_lex::{Mark, Token};
 use x_trees::{Argument, MOST_INLINE, Procedure, Spelling, Version, fitted};
@@ -41,8 +41,8 @@ fn first_argument<'w, 't>(
     alloc: Global,
     tokens: &'w [Token<'t>],
 ) -> Result<(Option<Argument>, &'w [Token<'t>]), ParseError>
-    ensures read { IfOk result (λ x. ReadsPart [] (Parameters ∷ []) tokens.now (spell_passed (view_passed x.0))
-        (AfterType InArguments ∷ []) x.1.now) }
+    ensures read { IfOk result (λ x. ReadsPart [] (Parameters ∷ []) tokens.now
+        (spell_passed (view_passed x.0)) (AfterType InArguments ∷ []) x.1.now) }
     ensures fits { IfOk result (λ x. PassedFits (view_passed x.0)) }
     ensures stuck { IfErr result (λ e. Fails (Parameters ∷ []) tokens.now e) }
 {

@@ -4,8 +4,8 @@ ghost use Rattle.std.specs.List.{list_all};
 ghost use Rattle.x_lex.specs.Bytes.{is_digit, is_octal_digit, is_hex_digit, is_decimal, is_negative};
 ghost use Rattle.x_lex.specs.Bytes.{is_octal, is_hex, is_number, is_marker, is_keyword};
 
-use crate::Mark;
 use super::classes::{blank_len, is_digit};
+use crate::Mark;
 
 pub(crate) fn is_keyword(word: &[u8]) -> bool
     ensures { result ≡ is_keyword word.now }

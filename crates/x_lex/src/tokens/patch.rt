@@ -1,8 +1,8 @@
 //! What an edit does to the tokens of a text.
 ghost use Rattle.std.specs.Prelude.{◌≡◌, ◌↔◌, [], IsTrue, length, slice_get};
 
-use crate::Kind;
 use super::token_entry::TokenEntry;
+use crate::Kind;
 use std::marker::Model;
 use x_text::SeqPatch;
 

@@ -4,8 +4,8 @@ ghost use Rattle.std.specs.Iterator.{YieldsFirstBy, item_count};
 ghost use Rattle.x_lex.specs.Places.{lexeme, lexemes_from};
 ghost use Rattle.x_lex.specs.Tiling.{span};
 
-use crate::Token;
 use super::token_entry::TokenEntry;
+use crate::Token;
 use std::marker::Model;
 use x_text::PatchedIter;
 
@@ -32,7 +32,11 @@ impl<'a> Model for PatchedTokenIter<'a> {
 
 impl<'a> PatchedTokenIter<'a> {
     /// Goes over these entries, the first of which starts at the place `at` of the text.
-    pub(crate) fn new(entries: PatchedIter<'a, TokenEntry>, text: &'a [u8], at: usize) -> PatchedTokenIter<'a>
+    pub(crate) fn new(
+        entries: PatchedIter<'a, TokenEntry>,
+        text: &'a [u8],
+        at: usize,
+    ) -> PatchedTokenIter<'a>
         requires { at + span entries ≤ length text.now }
         ensures { result ≡ lexemes_from text.now at entries.entry }
     {

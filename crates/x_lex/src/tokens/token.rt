@@ -1,3 +1,4 @@
+//! A token as it is lent.
 use crate::Kind;
 
 /// A token, where it stands in its text, and its bytes.

@@ -1,29 +1,49 @@
 //! A token as it is kept.
-ghost use Rattle.std.specs.Prelude.{◌≡◌, ◌≤◌};
+ghost use Rattle.std.specs.Prelude.{◌≡◌, ◌≤◌, ◌<◌, ◌/◌, ◌%◌};
 ghost use Rattle.x_text.specs.declared.text.source.TheConstants.{MAX_TEXT};
+ghost use Rattle.x_lex.specs.Packed.{kind_of};
 
 use crate::Kind;
 use std::marker::Model;
 use x_text::{MAX_TEXT, Measured};
 
+/// The kinds in the order of their numbers.
+pub(crate) const KINDS: [Kind; 12] = [
+    Kind::Space,
+    Kind::Comment,
+    Kind::OpenComment,
+    Kind::Percent,
+    Kind::Marker,
+    Kind::Directive,
+    Kind::Keyword,
+    Kind::Name,
+    Kind::Number,
+    Kind::BadNumber,
+    Kind::Punct,
+    Kind::BadByte,
+];
+
 /// One token of a list, seen as its kind and length: where it stands follows from the ones before it.
-#[derive(Clone, Copy, Debug)]
+///
+/// It has four bytes, as a text may have 16 million tokens: 16 times the length, and the number of the kind.
+#[derive(Debug, Drop)]
 pub(crate) struct TokenEntry {
-    kind: Kind,
-    length: u32,
+    packed: u32,
 }
 
-const _: () = prove!(size_of::<TokenEntry>() == 8);
+const _: () = prove!(size_of::<TokenEntry>() == 4);
 
 impl Model for TokenEntry {
-    ghost use Rattle.std.specs.Prelude.{ℕ};
+    ghost use Rattle.std.specs.Prelude.{ℕ, ◌<◌, ◌/◌, ◌%◌};
     ghost use Rattle.x_lex.specs.declared.kind.Kind.{Kind};
+    ghost use Rattle.x_lex.specs.Packed.{kind_of};
 
     ghost Value = { Kind × ℕ };
 
-    ghost view = { λ entry. (entry.kind, entry.length) };
+    ghost view = { λ entry. (kind_of (entry.packed % 16), entry.packed / 16) };
 
-    ghost inverse = { λ token. record { kind = token.0; length = token.1 } };
+    // So that the number is a kind's.
+    ghost invariant = { λ entry. entry.packed % 16 < 12 };
 }
 
 impl TokenEntry {
@@ -33,8 +53,7 @@ impl TokenEntry {
         ensures { result ≡ (kind, length) }
     {
         TokenEntry {
-            kind,
-            length: length as u32,
+            packed: (length as u32) * 16 + kind as u32,
         }
     }
 
@@ -42,7 +61,7 @@ impl TokenEntry {
     pub(crate) fn kind_and_length(&self) -> (Kind, usize)
         ensures { result ≡ self.now }
     {
-        (self.kind, self.length as usize)
+        (KINDS[(self.packed % 16) as usize], self.length())
     }
 }
 
@@ -52,6 +71,6 @@ impl Measured for TokenEntry {
     ghost length = { bytes_of };
 
     fn length(&self) -> usize {
-        self.length as usize
+        (self.packed / 16) as usize
     }
 }

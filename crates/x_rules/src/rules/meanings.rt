@@ -18,7 +18,7 @@ use super::constants::Constants;
 use super::heights::{body_height, held_height};
 use super::named_bodies::NamedBodies;
 use super::sights::Sights;
-use crate::checked::{OwnedClass, OwnedMeaning, KeptMeanings};
+use crate::checked::{KeptMeanings, OwnedClass, OwnedMeaning};
 use crate::outline::parts::BodyAt;
 use smallvec::SmallVec;
 use std::alloc::Global;

@@ -17,7 +17,7 @@ ghost use Rattle.x_session.specs.Checking.{sound_pieces, view_by_first};
 ghost use Rattle.x_session.specs.KeptView.{found_pieces, found_result};
 ghost use Rattle.x_session.specs.KeptView.{kept_definition, kept_found, renewed_pieces};
 
-use crate::compile::item_content::{CheckResult, ItemContent, faults_of};
+use crate::compile::content::{CheckResult, Content, faults_of};
 use std::alloc::Global;
 use x_gen::{Pieces, Renderer};
 use x_item::Definition;
@@ -36,7 +36,7 @@ pub struct Checks {
 
 /// Checks the items of a text, none of which is checked yet, in their order. Counts each that has a
 /// definition as checked.
-pub fn check_all(alloc: Global, items: &[&ItemContent], meter: &mut Meter) -> Result<Checks, NoMemory>
+pub fn check_all(alloc: Global, items: &[&Content], meter: &mut Meter) -> Result<Checks, NoMemory>
     requires short { AreShort (kept_definitions (map (λ k. k.now) items.now)) }
     requires unchecked { All (λ k. kept_found k.now ≡ None) items.now }
     ensures checked { IfOk result
@@ -49,7 +49,7 @@ pub fn check_all(alloc: Global, items: &[&ItemContent], meter: &mut Meter) -> Re
 }
 
 /// The table of the names that the items declare.
-fn names_of<'i>(alloc: Global, items: &[&'i ItemContent]) -> Result<Names<'i>, NoMemory>
+fn names_of<'i>(alloc: Global, items: &[&'i Content]) -> Result<Names<'i>, NoMemory>
     ensures { IfOk result (λ names. AreShort (kept_definitions (map (λ k. k.now) items.now))
         → (name : List ℕ)
         → FirstIs (kept_definitions (map (λ k. k.now) items.now)) name (first_in names name)) }
@@ -60,7 +60,7 @@ fn names_of<'i>(alloc: Global, items: &[&'i ItemContent]) -> Result<Names<'i>, N
 /// The definition of each item.
 fn definitions_in<'i>(
     alloc: Global,
-    items: &[&'i ItemContent],
+    items: &[&'i Content],
 ) -> Result<Vec<Option<&'i Definition>>, NoMemory>
     ensures { IfOk result (λ definitions. map tree_at definitions.items
         ≡ kept_definitions (map (λ k. k.now) items.now)) }
@@ -75,7 +75,7 @@ fn definitions_in<'i>(
 /// What checking the items finds, in their order. Each is checked by what was found of the items before it.
 fn check_items(
     alloc: Global,
-    items: &[&ItemContent],
+    items: &[&Content],
     names: &Names,
     meter: &mut Meter,
 ) -> Result<Checks, NoMemory>
@@ -123,7 +123,7 @@ struct Walk<'i> {
 /// What checking the next item finds, if it has a definition, by what was found of the items before it.
 fn check<'i>(
     alloc: Global,
-    item: &'i ItemContent,
+    item: &'i Content,
     walk: &mut Walk<'i>,
     names: &Names,
     results: &[Option<Box<CheckResult>>],

@@ -8,7 +8,7 @@ ghost use Rattle.x_schema.specs.Schemas.{IsSchemaOf};
 ghost use Rattle.x_session.specs.Definitions.{numbered};
 ghost use Rattle.x_session.specs.KeptView.{entry_definitions, kept_part};
 
-use crate::compile::item_content::ItemContent;
+use crate::compile::content::Content;
 use std::alloc::Global;
 use x_gen::{PieceList, Pieces};
 use x_item::{Definition, ItemEntry, Items};
@@ -20,7 +20,7 @@ use x_uses::Uses;
 /// The items of a text, in order, each with what is kept with it.
 #[derive(Drop)]
 pub struct ItemTable {
-    pub entries: Items<ItemContent>,
+    pub entries: Items<Content>,
     /// How many faults they have.
     pub faults: usize,
     /// Which of them declare and use each name: made at the first edit, so that who makes none pays nothing.
@@ -31,7 +31,7 @@ impl ItemTable {
     /// These items, which have so many faults.
     pub fn of(
         alloc: Global,
-        entries: Vec<ItemEntry<ItemContent>>,
+        entries: Vec<ItemEntry<Content>>,
         faults: usize,
     ) -> Result<ItemTable, NoMemory>
         requires { AreOfText (counts entries.items) }
@@ -56,7 +56,7 @@ impl ItemTable {
     }
 
     /// Goes over the items.
-    pub fn iter(&self) -> GapIter<'_, ItemEntry<ItemContent>>
+    pub fn iter(&self) -> GapIter<'_, ItemEntry<Content>>
         ensures list { result ≡ self.now.entries.list }
         ensures small { length result ≤ MAX_TEXT + 1 }
     {

@@ -4,11 +4,11 @@ ghost use Rattle.x_cutting.specs.ItemList.{kept};
 ghost use Rattle.x_session.specs.Checking.{AreKnown};
 ghost use Rattle.x_session.specs.KeptView.{AreWith};
 
-use crate::compile::item_content::{CheckResult, ItemContent};
+use crate::compile::content::{CheckResult, Content};
 use x_item::ItemEntry;
 
 /// Keeps with each item of a list, before it is a session's, what was found of it.
-pub fn keep_results(entries: &mut Vec<ItemEntry<ItemContent>>, results: Vec<Option<Box<CheckResult>>>)
+pub fn keep_results(entries: &mut Vec<ItemEntry<Content>>, results: Vec<Option<Box<CheckResult>>>)
     requires { AreKnown (kept entries.old.items) results.items }
     ensures { AreWith entries.old.items results.items entries.new.items }
 {

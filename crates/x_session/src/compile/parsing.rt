@@ -8,7 +8,7 @@ ghost use Rattle.x_cutting.specs.ItemList.{AreOfText, counts};
 ghost use Rattle.x_names.specs.Declarers.{AreShort};
 ghost use Rattle.x_session.specs.KeptView.{AreParsed, entry_definitions, kept_found};
 
-use crate::compile::item_content::{ItemContent, entry_of};
+use crate::compile::content::{Content, entry_of};
 use std::alloc::Global;
 use x_item::{ItemEntry, next_item};
 use x_lex::Tokens;
@@ -20,7 +20,7 @@ pub fn parse_items(
     tokens: &Tokens,
     source: &Source,
     meter: &mut Meter,
-) -> Result<Vec<ItemEntry<ItemContent>>, NoMemory>
+) -> Result<Vec<ItemEntry<Content>>, NoMemory>
     requires { AreTokens source.now tokens.now.list }
     ensures parsed { IfOk result (λ entries. AreParsed (lexemes source.now tokens.now.list) entries.items) }
     ensures unchecked { IfOk result (λ entries. All (λ e. kept_found e.kept ≡ None) entries.items) }

@@ -5,14 +5,14 @@ ghost use Rattle.x_cutting.specs.ItemList.{LiesAmong, kept, patched};
 ghost use Rattle.x_session.specs.Counting.{entry_faults, faults_found, own_faults};
 ghost use Rattle.x_session.specs.PlannedResult.{ArePlanned, overlaid};
 
-use crate::compile::{ItemTable, ItemContent, PlannedResult, sum_of};
+use crate::compile::{Content, ItemTable, PlannedResult, sum_of};
 use x_item::{ItemEntry, ItemPatch, Items};
 use x_text::NoMemory;
 
 /// How many faults the items have that the patch will leave, once this is kept with those that are stale.
 pub fn faults_behind(
     items: &ItemTable,
-    patch: &ItemPatch<ItemContent>,
+    patch: &ItemPatch<Content>,
     found: &[PlannedResult],
 ) -> Result<usize, NoMemory>
     requires among { LiesAmong items.now.entries.list patch.now }
@@ -27,7 +27,7 @@ pub fn faults_behind(
 }
 
 /// How many faults the fresh items have before they are checked.
-fn fresh_faults(patch: &ItemPatch<ItemContent>) -> Result<usize, NoMemory>
+fn fresh_faults(patch: &ItemPatch<Content>) -> Result<usize, NoMemory>
     ensures { IfOk result (λ count. count ≡ own_faults (kept patch.now.fresh)) }
 {
     let mut count = 0;
@@ -38,7 +38,7 @@ fn fresh_faults(patch: &ItemPatch<ItemContent>) -> Result<usize, NoMemory>
 }
 
 /// How many faults the items have that the patch takes out.
-fn removed_faults(items: &Items<ItemContent>, patch: &ItemPatch<ItemContent>) -> Result<usize, NoMemory>
+fn removed_faults(items: &Items<Content>, patch: &ItemPatch<Content>) -> Result<usize, NoMemory>
     requires { LiesAmong items.now.list patch.now }
     ensures { IfOk result
         (λ count. count ≡ own_faults (take patch.now.removed (drop patch.now.at (kept items.now.list)))) }
@@ -55,8 +55,8 @@ fn removed_faults(items: &Items<ItemContent>, patch: &ItemPatch<ItemContent>) ->
 /// How many faults the items have once this is kept with those that are stale, where they have `own` before.
 fn faults_with(
     own: usize,
-    items: &Items<ItemContent>,
-    patch: &ItemPatch<ItemContent>,
+    items: &Items<Content>,
+    patch: &ItemPatch<Content>,
     found: &[PlannedResult],
 ) -> Result<usize, NoMemory>
     requires among { LiesAmong items.now.list patch.now }
@@ -78,7 +78,7 @@ fn faults_with(
 }
 
 /// How many faults an item has, if there is one.
-fn faults_of(entry: Option<&ItemEntry<ItemContent>>) -> usize
+fn faults_of(entry: Option<&ItemEntry<Content>>) -> usize
     ensures { result ≡ entry_faults (option_copied entry.entry) }
 {
     match entry {
@@ -89,10 +89,10 @@ fn faults_of(entry: Option<&ItemEntry<ItemContent>>) -> usize
 
 /// What is kept with an item of those that the patch will leave.
 pub fn kept_behind<'i>(
-    items: &'i Items<ItemContent>,
-    patch: &'i ItemPatch<ItemContent>,
+    items: &'i Items<Content>,
+    patch: &'i ItemPatch<Content>,
     index: usize,
-) -> Option<&'i ItemContent>
+) -> Option<&'i Content>
     requires among { LiesAmong items.now.list patch.now }
     requires within { index < length (patched items.now.list patch.now) }
     ensures { option_copied result ≡ slice_get (kept (patched items.now.list patch.now)) index }
@@ -110,7 +110,7 @@ pub fn kept_behind<'i>(
 }
 
 /// What is kept with an item, if there is one.
-fn kept_of(entry: Option<&ItemEntry<ItemContent>>) -> Option<&ItemContent>
+fn kept_of(entry: Option<&ItemEntry<Content>>) -> Option<&Content>
     ensures { option_copied result ≡ option_map (λ e. e.kept) (option_copied entry.entry) }
 {
     Some(&entry?.kept)

@@ -9,7 +9,7 @@ ghost use Rattle.x_lex.specs.TokenList.{LiesAmong, patched};
 ghost use Rattle.x_cutting.specs.ItemList.{counts, total};
 ghost use Rattle.x_session.specs.KeptView.{AreAlong, kept_found};
 
-use crate::compile::ItemContent;
+use crate::compile::Content;
 use std::alloc::Global;
 use x_item::ItemPatch;
 use x_lex::{Patch, PatchedTokenIter, Token, Tokens};
@@ -22,7 +22,7 @@ pub fn parse_fresh(
     tokens: &Tokens,
     patch: &Patch,
     text: &Source,
-    items: &mut ItemPatch<ItemContent>,
+    items: &mut ItemPatch<Content>,
     meter: &mut Meter,
 ) -> Result<(), NoMemory>
     requires among { LiesAmong tokens.now.list patch.now }
@@ -44,14 +44,14 @@ pub fn parse_fresh(
     let mut part = Vec::new(alloc);
     for index in 0..items.len() {
         take_tokens(&mut part, &mut walk, token_count(items, index))?;
-        let kept = ItemContent::parsed(alloc, &part, meter)?;
+        let kept = Content::parsed(alloc, &part, meter)?;
         items.exchange(index, kept);
     }
     Ok(())
 }
 
 /// How many tokens a fresh item has.
-fn token_count(items: &ItemPatch<ItemContent>, index: usize) -> usize
+fn token_count(items: &ItemPatch<Content>, index: usize) -> usize
     requires { index < length items.now.fresh }
     ensures { slice_get (counts items.now.fresh) index ≡ Some result }
 {

@@ -10,9 +10,9 @@ ghost use Rattle.x_names.specs.Declarers.{AreShort};
 ghost use Rattle.x_uses.specs.Occurrences.{IsUsesOf};
 ghost use Rattle.x_session.specs.Following.{AreUsed, HasRoomForNames, IsNameChange};
 ghost use Rattle.x_session.specs.KeptView.{entry_definitions, kept_definition};
-ghost use Rattle.x_session.specs.declared.compile.item_content.ItemContent as kept;
+ghost use Rattle.x_session.specs.declared.compile.content.Content as kept;
 
-use crate::compile::{ItemTable, ItemContent};
+use crate::compile::{Content, ItemTable};
 use std::alloc::Global;
 use x_item::{Definition, ItemEntry, ItemPatch, Items};
 use x_text::NoMemory;
@@ -31,7 +31,7 @@ pub struct NameChange {
 pub fn change_names(
     alloc: Global,
     items: &mut ItemTable,
-    patch: &ItemPatch<ItemContent>,
+    patch: &ItemPatch<Content>,
     put: &[Option<&Definition>],
 ) -> Result<NameChange, NoMemory>
     requires put { map tree_at put.now ≡ entry_definitions patch.now.fresh }
@@ -80,8 +80,8 @@ fn take_table(alloc: Global, items: &mut ItemTable) -> Result<Uses, NoMemory>
 /// The definitions of the items that the patch takes out.
 fn removed_definitions<'i>(
     alloc: Global,
-    items: &'i Items<ItemContent>,
-    patch: &ItemPatch<ItemContent>,
+    items: &'i Items<Content>,
+    patch: &ItemPatch<Content>,
 ) -> Result<Vec<Option<&'i Definition>>, NoMemory>
     requires { LiesAmong items.now.list patch.now }
     ensures { IfOk result (λ definitions. map tree_at definitions.items
@@ -99,7 +99,7 @@ fn removed_definitions<'i>(
 /// The definitions of the fresh items.
 pub fn fresh_definitions(
     alloc: Global,
-    patch: &ItemPatch<ItemContent>,
+    patch: &ItemPatch<Content>,
 ) -> Result<Vec<Option<&Definition>>, NoMemory>
     ensures { IfOk result
         (λ definitions. map tree_at definitions.items ≡ entry_definitions patch.now.fresh) }
@@ -112,7 +112,7 @@ pub fn fresh_definitions(
 }
 
 /// The definition of an item, if there is one with a definition.
-fn definition_of(entry: Option<&ItemEntry<ItemContent>>) -> Option<&Definition>
+fn definition_of(entry: Option<&ItemEntry<Content>>) -> Option<&Definition>
     ensures { tree_at result ≡ option_and_then (λ e. kept_definition e.kept) (option_copied entry.entry) }
 {
     entry?.kept.definition()
@@ -122,7 +122,7 @@ impl NameChange {
     /// Carries it out in the table, which takes no memory.
     pub fn carry_out(self, uses: &mut Option<Uses>)
         requires { HasRoomForNames uses.old self }
-        ensures { (es : List (entries.ItemEntry kept.ItemContent)) (patch : ItemChange kept.ItemContent)
+        ensures { (es : List (entries.ItemEntry kept.Content)) (patch : ItemChange kept.Content)
             → LiesAmong es patch → length es ≤ MAX_TEXT + 1 → AreOfText (counts (patched es patch))
             → IsNameChange es patch self → AreUsed es uses.old → AreUsed (patched es patch) uses.new }
     {

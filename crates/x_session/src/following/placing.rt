@@ -11,12 +11,16 @@ ghost use Rattle.x_session.specs.KeptView.{AreWith, IsWithAt};
 ghost use Rattle.x_session.specs.Moves.{HasMoved, changed_items, left_changes, moves, place_of, seat_behind};
 ghost use Rattle.x_session.specs.PlannedResult.{ArePlanned, numbers_of};
 
-use crate::compile::{CheckResult, ItemContent, PlannedResult};
+use crate::compile::{CheckResult, Content, PlannedResult};
 use x_item::{ItemPatch, Items};
 
 /// Carries the patch out, and keeps with each stale item of those that it leaves what was found of it, from
 /// the first that changes to the last. Answers how many entries moved. It takes no memory.
-pub fn put_changes(items: &mut Items<ItemContent>, patch: ItemPatch<ItemContent>, found: Vec<PlannedResult>) -> u64
+pub fn put_changes(
+    items: &mut Items<Content>,
+    patch: ItemPatch<Content>,
+    found: Vec<PlannedResult>,
+) -> u64
     requires patch { CanPut items.old patch }
     requires planned { ArePlanned (kept_behind items.old.list patch) found.items }
     requires ascending { Ascending 0 (numbers_of found.items) }
@@ -39,7 +43,11 @@ pub fn put_changes(items: &mut Items<ItemContent>, patch: ItemPatch<ItemContent>
 
 /// Keeps with an item what was found of it, once what the patch puts in before it is in place. The item is
 /// one of those that the patch leaves. Answers how many entries moved.
-fn put_next(items: &mut Items<ItemContent>, pending: &mut Option<ItemPatch<ItemContent>>, planned: PlannedResult) -> u64
+fn put_next(
+    items: &mut Items<Content>,
+    pending: &mut Option<ItemPatch<Content>>,
+    planned: PlannedResult,
+) -> u64
     requires pending { IfSome pending.old (CanPut items.old) }
     requires within { planned.item < length (whole items.old.list pending.old) }
     requires known { IsKnownAt (kept (whole items.old.list pending.old)) planned.item (Some planned.found) }
@@ -67,7 +75,7 @@ fn put_next(items: &mut Items<ItemContent>, pending: &mut Option<ItemPatch<ItemC
 
 /// Carries the patch out if it is still to be, unless nothing goes by it and nothing comes. Answers how many
 /// entries moved.
-fn put_pending(items: &mut Items<ItemContent>, pending: &mut Option<ItemPatch<ItemContent>>) -> u64
+fn put_pending(items: &mut Items<Content>, pending: &mut Option<ItemPatch<Content>>) -> u64
     requires { IfSome pending.old (CanPut items.old) }
     ensures list { items.new.list ≡ whole items.old.list pending.old }
     ensures pending { pending.new ≡ None }
@@ -86,7 +94,7 @@ fn put_pending(items: &mut Items<ItemContent>, pending: &mut Option<ItemPatch<It
 }
 
 /// Keeps with an item what was found of it, and answers how many entries moved.
-fn keep_at(items: &mut Items<ItemContent>, index: usize, found: Option<Box<CheckResult>>) -> u64
+fn keep_at(items: &mut Items<Content>, index: usize, found: Option<Box<CheckResult>>) -> u64
     requires within { index < length items.old.list }
     requires known { IsKnownAt (kept items.old.list) index found }
     ensures put { IsWithAt items.old.list index found items.new.list }
@@ -95,21 +103,21 @@ fn keep_at(items: &mut Items<ItemContent>, index: usize, found: Option<Box<Check
     ensures moved { result ≡ distance items.old.seat index (index + 1) }
     ensures seat { items.new.seat ≡ index + 1 }
 {
-    let (mut kept, out) = items.exchange(index, ItemContent::Nothing);
+    let (mut kept, out) = items.exchange(index, Content::Nothing);
     kept.keep(found);
     let (_, back) = items.exchange(index, kept);
     out.saturating_add(back)
 }
 
 /// Keeps with a fresh item what was found of it, before the patch is carried out.
-fn keep_fresh(patch: &mut ItemPatch<ItemContent>, index: usize, found: Option<Box<CheckResult>>)
+fn keep_fresh(patch: &mut ItemPatch<Content>, index: usize, found: Option<Box<CheckResult>>)
     requires within { index < length patch.old.fresh }
     requires known { IsKnownAt (kept patch.old.fresh) index found }
     ensures put { IsWithAt patch.old.fresh index found patch.new.fresh }
     ensures counts { counts patch.new.fresh ≡ counts patch.old.fresh }
     ensures others { patch.new ≡ record patch.old { fresh = patch.new.fresh } }
 {
-    let mut kept = patch.exchange(index, ItemContent::Nothing);
+    let mut kept = patch.exchange(index, Content::Nothing);
     kept.keep(found);
     patch.exchange(index, kept);
 }

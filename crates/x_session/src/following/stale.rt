@@ -10,7 +10,7 @@ ghost use Rattle.x_session.specs.Following.{AreStaleChecked, HasRoomForNames, Is
 ghost use Rattle.x_session.specs.KeptView.{entry_definitions, kept_found};
 ghost use Rattle.x_session.specs.Rendered.{AreRenderings, HasDefinitionAt, HaveDefinitions, IsRendering};
 
-use crate::compile::{CheckResult, ItemTable, ItemContent, PlannedResult, new_pieces};
+use crate::compile::{CheckResult, Content, ItemTable, PlannedResult, new_pieces};
 use crate::following::counting::kept_behind;
 use crate::following::naming::NameChange;
 use std::alloc::Global;
@@ -24,7 +24,7 @@ use x_text::{Meter, NoMemory};
 pub fn check_stale_items(
     alloc: Global,
     items: &ItemTable,
-    patch: &ItemPatch<ItemContent>,
+    patch: &ItemPatch<Content>,
     put: &[Option<&Definition>],
     names: &NameChange,
     meter: &mut Meter,
@@ -53,8 +53,8 @@ pub fn check_stale_items(
 /// What is to be kept of the stale items.
 fn render_all(
     alloc: Global,
-    items: &Items<ItemContent>,
-    patch: &ItemPatch<ItemContent>,
+    items: &Items<Content>,
+    patch: &ItemPatch<Content>,
     stale: Vec<Rechecked>,
 ) -> Result<Vec<PlannedResult>, NoMemory>
     requires among { LiesAmong items.now.list patch.now }
@@ -76,8 +76,8 @@ fn render_all(
 fn render(
     alloc: Global,
     renderer: &mut Renderer,
-    items: &Items<ItemContent>,
-    patch: &ItemPatch<ItemContent>,
+    items: &Items<Content>,
+    patch: &ItemPatch<Content>,
     rechecked: Rechecked,
 ) -> Result<PlannedResult, NoMemory>
     requires among { LiesAmong items.now.list patch.now }

@@ -1,3 +1,4 @@
+//! The commands of a script.
 ghost use Rattle.std.specs.Prelude.{◌≡◌, ◌<◌, ◌∷◌, [], true, length, IfOk, IfSome, OnErr, IsTrue};
 ghost use Rattle.std.specs.Prelude.{MatchOption, SomeIff, nat_lt, option_map};
 ghost use Rattle.std.specs.Char.{is_ascii_hexdigit, is_ascii_digit, digit_value};

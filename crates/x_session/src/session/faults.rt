@@ -7,7 +7,7 @@ ghost use Rattle.x_session.specs.Compile.{faults_of};
 ghost use Rattle.x_session.specs.FaultWalk.{AreOrdered};
 ghost use Rattle.x_session.specs.SessionState.{items_of};
 
-use crate::compile::{Fault, ItemTable, ItemContent};
+use crate::compile::{Content, Fault, ItemTable};
 use crate::session::item_faults::ItemFaults;
 use crate::session::reader::Reader;
 use std::marker::Model;
@@ -25,7 +25,7 @@ pub struct Faults<'s> {
     /// The faults of an item.
     item: ItemFaults<'s>,
     /// The items behind it.
-    entries: GapIter<'s, ItemEntry<ItemContent>>,
+    entries: GapIter<'s, ItemEntry<Content>>,
     /// The number of the first of them.
     next: u32,
     lines: Lines<'s>,

@@ -7,8 +7,8 @@ ghost use Rattle.x_session.specs.FaultWalk.{IsTelling, faults_here, places_left}
 ghost use Rattle.x_session.specs.KeptView.{found_result, item_with, kept_found};
 ghost use Rattle.x_session.specs.ItemReading.{behind};
 
-use crate::compile::{FaultCode, ItemContent, Verdict};
-use crate::session::reader::{WordPlace, Reader};
+use crate::compile::{Content, FaultCode, Verdict};
+use crate::session::reader::{Reader, WordPlace};
 use x_item::ItemEntry;
 
 /// The faults of an item that are left.
@@ -45,7 +45,7 @@ impl<'s> ItemFaults<'s> {
     }
 
     /// Goes on to the next item, which has this number.
-    pub fn begin(&mut self, number: u32, entry: &'s ItemEntry<ItemContent>)
+    pub fn begin(&mut self, number: u32, entry: &'s ItemEntry<Content>)
         requires { Ascends (rule_faults (found_result (kept_found entry.now.kept))) }
         ensures faults { (text : List ℕ) → faults_here text self.new
             ≡ item_faults text number (item_with (behind self.old.reader) entry.now) }

@@ -1,3 +1,4 @@
+//! Why a text has no schema.
 use thiserror::Error;
 
 /// Why a text has no schema.

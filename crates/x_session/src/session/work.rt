@@ -1,3 +1,4 @@
+//! The work of an edit.
 ghost use Rattle.std.specs.Prelude.{◌≡◌};
 ghost use Rattle.x_text.specs.Counts.{raised};
 

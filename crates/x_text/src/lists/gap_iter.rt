@@ -1,9 +1,10 @@
+//! Goes over a list with a gap.
 ghost use Rattle.std.specs.Prelude.{◌≡◌, ◌<◌, ◌^◌, ◌++◌, reverse, drop};
 ghost use Rattle.std.specs.Iterator.{YieldsFirstRef, item_count};
 ghost use Rattle.x_text.specs.Lengths.{total_length, length_before};
 
-use crate::Measured;
 use super::measured::total_length;
+use crate::Measured;
 use std::marker::Model;
 
 /// Goes over the entries of a [`crate::GapSeq`] in order, seen as the list of those that are left.

@@ -1,3 +1,4 @@
+//! A list with a gap at its seat.
 ghost use Rattle.std.specs.Prelude.{◌≡◌, ◌↔◌, ◌+◌, ◌<◌, ◌≤◌, ◌^◌, [], Some, IfOk, IsOk, OnOk, OnErr, length};
 ghost use Rattle.std.specs.Prelude.{drop, slice_get, slice_set, option_copied};
 ghost use Rattle.std.specs.List.{splice};

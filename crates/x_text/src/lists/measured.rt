@@ -1,3 +1,4 @@
+//! What has a length.
 ghost use Rattle.std.specs.Prelude.{◌≡◌, ℕ, ◌^◌, ◌<◌};
 ghost use Rattle.x_text.specs.Lengths.{total_length};
 

@@ -1,3 +1,4 @@
+//! Goes over a list as a patch will leave it.
 ghost use Rattle.std.specs.Prelude.{◌≡◌, ◌≤◌, ◌++◌, length, take};
 ghost use Rattle.std.specs.Iterator.{YieldsFirstRef, item_count};
 

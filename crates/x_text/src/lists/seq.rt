@@ -1,3 +1,4 @@
+//! What a list can do whose entries are replaced.
 ghost use Rattle.std.specs.Prelude.{◌≡◌, ◌↔◌, ◌+◌, ◌<◌, ◌≤◌, ℕ, List, [], IsTrue, OnOk, OnErr, length};
 ghost use Rattle.std.specs.Prelude.{slice_get, option_copied};
 ghost use Rattle.std.specs.List.{splice};

@@ -1,3 +1,4 @@
+//! What takes the place of some entries of a list.
 ghost use Rattle.std.specs.Prelude.{◌≡◌, ◌↔◌, ◌<◌, [], Some, IsTrue, length};
 ghost use Rattle.std.specs.Prelude.{option_copied, slice_get, slice_set};
 

@@ -1,3 +1,4 @@
+//! A tap over a reader.
 ghost use Rattle.std.specs.Prelude.{◌≡◌, false};
 
 use crate::{Broken, Tap};

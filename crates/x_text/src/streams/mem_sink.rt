@@ -1,3 +1,4 @@
+//! A sink that keeps what it takes.
 ghost use Rattle.std.specs.Prelude.{◌≡◌, ◌↔◌, ◌+◌, ◌<◌, [], false, min, length, IfOk, MatchResult, IsErr};
 ghost use Rattle.std.specs.Io.KnownBytes.{Keeps};
 ghost use Rattle.x_text.specs.Memory.{in_memory, share, Fails};

@@ -1,3 +1,4 @@
+//! A tap that gives bytes from memory.
 ghost use Rattle.std.specs.Prelude.{◌≡◌, ◌↔◌, ◌+◌, ◌<◌, false, min, length, IfOk, MatchResult, IsErr};
 ghost use Rattle.x_text.specs.Memory.{in_memory, share, Fails};
 ghost use Rattle.x_text.specs.Streams.{FailsForGood, Takes};

@@ -1,3 +1,4 @@
+//! A sink over a writer.
 ghost use Rattle.std.specs.Prelude.{◌≡◌, false};
 
 use crate::{Broken, Sink};

@@ -1,3 +1,4 @@
+//! A buffer before a sink.
 ghost use Rattle.std.specs.Prelude.{◌≡◌, ◌≤◌, [], false, ℕ, List, IsTrue, OnOk, IfErr, take, length};
 ghost use Rattle.std.specs.Io.KnownBytes.{Appends};
 ghost use Rattle.x_text.specs.Counts.{raised};

@@ -1,3 +1,4 @@
+//! Where bytes go to.
 ghost use Rattle.x_text.specs.Streams.{Stream, FailsForGood, Puts};
 ghost use Rattle.std.specs.Io.KnownBytes.{Keeps};
 

@@ -1,3 +1,4 @@
+//! Where bytes come from.
 ghost use Rattle.x_text.specs.Streams.{Stream, FailsForGood, Takes};
 
 use crate::Broken;

@@ -1,3 +1,4 @@
+//! An edit of a text.
 ghost use Rattle.std.specs.Prelude.{◌≡◌, ◌+◌, ◌-◌, ◌≤◌, ◌++◌, IfOk, OnOk, OnErr, length, take, drop};
 ghost use Rattle.std.specs.Prelude.{vec_len, vec_capacity};
 ghost use Rattle.x_text.specs.Edits.{change_of, edited_by, LiesWithin, FitsText};

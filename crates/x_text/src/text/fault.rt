@@ -1,3 +1,4 @@
+//! Why a text or an edit is refused.
 use thiserror::Error;
 
 /// Why a text was not taken. The number of each is its code.

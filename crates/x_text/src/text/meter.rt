@@ -1,3 +1,4 @@
+//! How much work was done.
 ghost use Rattle.std.specs.Prelude.{◌≡◌, ◌+◌};
 ghost use Rattle.x_text.specs.Counts.{raised};
 

@@ -1,3 +1,4 @@
+//! The bytes of a text.
 ghost use Rattle.std.specs.Prelude.{◌≡◌, ◌↔◌, ◌<◌, ◌≤◌, [], length, take, IfOk, OnOk, OnErr, IsErrOf};
 ghost use Rattle.x_text.specs.Edits.{change_of, edited_by, FitsText, Judges};
 ghost use Rattle.x_text.specs.Limits.{most_text};

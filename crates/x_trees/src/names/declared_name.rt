@@ -1,3 +1,4 @@
+//! A name that a definition declares.
 ghost use Rattle.std.specs.Prelude.{◌≡◌, IfOk};
 ghost use Rattle.x_trees.specs.View.{view_body};
 ghost use Rattle.x_trees.specs.Gloss.{body_kind, lifted_name};

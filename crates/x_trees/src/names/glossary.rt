@@ -49,7 +49,11 @@ pub struct Glossary<'d> {
 
 impl<'d> Glossary<'d> {
     /// One in which nothing stands.
-    pub fn new(alloc: Global) -> Glossary<'d> {
+    pub fn new(alloc: Global) -> Glossary<'d>
+        ensures declared { result.declared.items ≡ [] }
+        ensures mentioned { result.mentioned.items ≡ [] }
+        ensures notes { result.notes.items ≡ [] }
+    {
         Glossary {
             declared: Vec::new(alloc),
             mentioned: Vec::new(alloc),
@@ -116,7 +120,7 @@ pub fn mentions(alloc: Global, definition: &Definition) -> Result<Vec<Mention<'_
 
 /// Where a declaration stands.
 #[derive(Clone, Copy, Debug, PartialEq, Eq)]
-enum Context {
+enum Site {
     Typedef,
     Field,
     Discriminant,
@@ -132,12 +136,12 @@ struct Lifted {
 
 /// The name of an inline type in a declaration of the name, which stands in the type that `around` names or
 /// behind `typedef`.
-fn name_inside(alloc: Global, place: Context, around: &[u8], name: &[u8]) -> Result<Vec<u8>, NoMemory>
+fn name_inside(alloc: Global, place: Site, around: &[u8], name: &[u8]) -> Result<Vec<u8>, NoMemory>
     ensures { IfOk result
         (λ lifted. name_inside (Some (place_in place around.now)) name.now ≡ Some lifted.items) }
 {
     match place {
-        Context::Typedef => lifted_name(alloc, name, name),
+        Site::Typedef => lifted_name(alloc, name, name),
         _ => lifted_name(alloc, around, name),
     }
 }
@@ -248,12 +252,12 @@ impl<'d> Walk<'d> {
     }
 
     /// Takes in the name of a declaration, if that declares it.
-    fn own_name(&mut self, place: Context, name: &'d [u8]) -> Result<(), NoMemory>
+    fn own_name(&mut self, place: Site, name: &'d [u8]) -> Result<(), NoMemory>
         ensures { OnOk result ((around : List ℕ) → Finds self.old self.new 0
             (λ k. declared_at k (name_roles (Some (place_in place around)) name.now)) (λ k. []) (λ k. [])) }
     {
         match place {
-            Context::Typedef => { self.declare(CowSlice::Borrowed(name), NameKind::Typedef, false) }
+            Site::Typedef => { self.declare(CowSlice::Borrowed(name), NameKind::Typedef, false) }
             _ => Ok(()),
         }
     }
@@ -272,7 +276,7 @@ impl<'d> Walk<'d> {
     /// Goes over the name of a declaration.
     fn name_word(
         &mut self,
-        place: Context,
+        place: Site,
         name: &'d [u8],
         lifted: Option<Lifted>,
     ) -> Result<(), NoMemory>
@@ -288,7 +292,7 @@ impl<'d> Walk<'d> {
     /// Goes over the name of a declaration and what stands around it.
     fn declarator(
         &mut self,
-        place: Context,
+        place: Site,
         name: &'d [u8],
         lifted: Option<Lifted>,
         shape: &'d Shape,
@@ -367,7 +371,7 @@ impl<'d> Walk<'d> {
     fn data_type(
         &mut self,
         alloc: Global,
-        place: Context,
+        place: Site,
         around: &[u8],
         name: &[u8],
         usage: Use,
@@ -428,7 +432,7 @@ impl<'d> Walk<'d> {
             Body::Union(body) => {
                 let body: &UnionBody = body;
                 self.skip(2);
-                self.declaration(alloc, Context::Discriminant, around, &body.discriminant)?;
+                self.declaration(alloc, Site::Discriminant, around, &body.discriminant)?;
                 self.skip(2);
                 self.arms(alloc, around, &body.arms)?;
                 self.default(alloc, around, &body.default)
@@ -437,25 +441,25 @@ impl<'d> Walk<'d> {
     }
 
     /// Takes note of the first word of a declaration.
-    fn leading(&mut self, place: Context, declaration: &'d Declaration) -> Result<(), NoMemory>
+    fn leading(&mut self, place: Site, declaration: &'d Declaration) -> Result<(), NoMemory>
         ensures { OnOk result ((around : List ℕ) → Finds self.old self.new 0 (λ k. []) (λ k. [])
             (λ k. noted_at k (leading_roles (Some (place_in place around))
             (view_declaration declaration.now)))) }
     {
         match place {
-            Context::Discriminant => self.note(Note::Discriminant(declaration)),
+            Site::Discriminant => self.note(Note::Discriminant(declaration)),
             _ => Ok(()),
         }
     }
 
     /// Goes over a `void`.
-    fn void(&mut self, place: Context, declaration: &'d Declaration) -> Result<(), NoMemory>
+    fn void(&mut self, place: Site, declaration: &'d Declaration) -> Result<(), NoMemory>
         ensures { OnOk result ((around : List ℕ) → view_declaration declaration.now ≡ Void
             → Reads self.old self.new (declaration_by glossed (Some (place_in place around)) Void)) }
     {
         match place {
-            Context::Arm => {}
-            Context::Discriminant => {
+            Site::Arm => {}
+            Site::Discriminant => {
                 self.note(Note::Misplaced)?;
                 self.note(Note::Discriminant(declaration))?;
             }
@@ -469,7 +473,7 @@ impl<'d> Walk<'d> {
     fn declaration(
         &mut self,
         alloc: Global,
-        place: Context,
+        place: Site,
         around: &[u8],
         declaration: &'d Declaration,
     ) -> Result<(), NoMemory>
@@ -514,7 +518,7 @@ impl<'d> Walk<'d> {
             (declarations_by glossed (Some around.now) (view_declarations declarations.now))) }
     {
         for declaration in declarations {
-            self.declaration(alloc, Context::Field, around, declaration)?;
+            self.declaration(alloc, Site::Field, around, declaration)?;
             self.skip(1);
         }
         Ok(())
@@ -527,7 +531,7 @@ impl<'d> Walk<'d> {
     {
         for arm in arms {
             self.cases(&arm.cases)?;
-            self.declaration(alloc, Context::Arm, around, &arm.declaration)?;
+            self.declaration(alloc, Site::Arm, around, &arm.declaration)?;
             self.skip(1);
         }
         Ok(())
@@ -547,7 +551,7 @@ impl<'d> Walk<'d> {
         match default {
             Some(declaration) => {
                 self.skip(2);
-                self.declaration(alloc, Context::Arm, around, declaration)?;
+                self.declaration(alloc, Site::Arm, around, declaration)?;
                 self.skip(2);
                 Ok(())
             }
@@ -605,7 +609,7 @@ impl<'d> Walk<'d> {
         ensures { OnOk result (IsOutside (view_type tree.now) → Reads self.old self.new
             (argument_by glossed true (Typed (view_type tree.now)))) }
     {
-        self.data_type(alloc, Context::Typedef, b"", b"", Use::ByValue, tree)?;
+        self.data_type(alloc, Site::Typedef, b"", b"", Use::ByValue, tree)?;
         Ok(())
     }
 
@@ -730,7 +734,7 @@ impl<'d> Walk<'d> {
             }
             Definition::Typedef(declaration) => {
                 self.skip(1);
-                self.declaration(alloc, Context::Typedef, b"", declaration)
+                self.declaration(alloc, Site::Typedef, b"", declaration)
             }
             Definition::NewType { name, body } => {
                 self.head(name, NameKind::of_body(body))?;

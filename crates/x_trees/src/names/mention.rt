@@ -1,3 +1,4 @@
+//! A name that a definition uses.
 ghost use Rattle.std.specs.Prelude.{◌≡◌, length, Option};
 ghost use Rattle.x_trees.specs.View.{view_shape};
 ghost use Rattle.x_trees.specs.Gloss.{use_by};

@@ -1,3 +1,4 @@
+//! What an item defines.
 use super::{Body, Declaration, Spelling, Value, Version};
 
 /// A definition of the language.

@@ -1,3 +1,4 @@
+//! A number or the name of a constant.
 use super::Spelling;
 
 /// A number, or the name of a constant.

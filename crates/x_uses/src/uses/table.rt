@@ -72,7 +72,12 @@ fn with_item(declarer: Declarer, item: usize) -> Declarer
 }
 
 /// The first declarer of the name once an edit puts the items of `fresh` in at the place.
-pub fn first_after_in(table: &Table, fresh: &Table, place: ItemSplice, name: &[u8]) -> Option<Declarer>
+pub fn first_after_in(
+    table: &Table,
+    fresh: &Table,
+    place: ItemSplice,
+    name: &[u8],
+) -> Option<Declarer>
     ensures { result ≡ first_after place (declarers_at (slot_at fresh.now.entries name.now))
         (declarers_at (slot_at table.now.entries name.now)) }
 {

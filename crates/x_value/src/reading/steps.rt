@@ -12,12 +12,13 @@ ghost use Rattle.x_value.specs.Work.{spot_of, value_job, jobs_of_option, IsSpot,
 ghost use Rattle.x_value.specs.Work.{shown_entries, Begun, weight_of_option, most_weight, IsHeadedForm};
 ghost use Rattle.x_value.specs.Work.{IsSizedForm, IsKnownArm};
 
-use crate::nodes::{CompactLabel, CompactNode, CompactLeaf};
-use crate::fault::{OUT_OF_MEMORY, ReadCode, ReadFault};
 use super::heads::head;
-use crate::nodes::{compact_body, compact_discriminant, compact_enumerator};
 use super::task::{Spot, Task};
 use super::words::body;
+use crate::fault::{OUT_OF_MEMORY, ReadCode, ReadFault};
+use crate::nodes::{
+    CompactLabel, CompactLeaf, CompactNode, compact_body, compact_discriminant, compact_enumerator,
+};
 use x_schema::{Arm, Form, FormIndex, Schema};
 
 /// A value that was begun: the nodes that it shows so far, what is to be read behind them, and the bytes
@@ -122,7 +123,11 @@ fn shown_head(
         Form::Enum(names) => (node(spot, compact_enumerator(names, word)), None),
         Form::Array(_, _) => (node(spot, CompactLeaf::Array(word)), None),
         Form::Optional(_) => {
-            let leaf = if word == 0 { CompactLeaf::Null } else { CompactLeaf::Link };
+            let leaf = if word == 0 {
+                CompactLeaf::Null
+            } else {
+                CompactLeaf::Link
+            };
             (node(spot, leaf), None)
         }
         Form::Union(discriminant, _) => {

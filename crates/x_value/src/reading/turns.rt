@@ -6,12 +6,12 @@ ghost use Rattle.x_schema.specs.Sound.{IsSound};
 ghost use Rattle.x_value.specs.Jobs.{Refused};
 ghost use Rattle.x_value.specs.Work.{fields, value_job, jobs_of_task, pending, tasks_of_option};
 ghost use Rattle.x_value.specs.Work.{tasks_of_value, shown_entries, IsTyped, AreTasks, IsSpot, IsRear};
-ghost use Rattle.x_value.specs.Work.{Stacked, Opened, Turn};
+ghost use Rattle.x_value.specs.Work.{Stacked, TakesTask, Turn};
 
-use crate::nodes::{CompactLabel, CompactNode};
-use crate::fault::{ReadCode, ReadFault};
 use super::steps::value;
 use super::task::{Spot, Task};
+use crate::fault::{ReadCode, ReadFault};
+use crate::nodes::{CompactLabel, CompactNode};
 use x_schema::{Field, Form, FormIndex, Schema};
 
 #[inline(always)]
@@ -45,7 +45,11 @@ fn show(entries: &mut Vec<CompactNode>, entry: CompactNode) -> Result<(), ReadFa
 
 #[tactic(auto, using(crate::proofs::TurnLemmas::shown_two))]
 #[inline(always)]
-fn show_all(entries: &mut Vec<CompactNode>, first: CompactNode, second: Option<CompactNode>) -> Result<(), ReadFault>
+fn show_all(
+    entries: &mut Vec<CompactNode>,
+    first: CompactNode,
+    second: Option<CompactNode>,
+) -> Result<(), ReadFault>
     ensures ok { OnOk result (entries.new.items ≡ entries.old.items ++ shown_entries first second) }
     ensures err { IfErr result (λ e. (e.code ≡ ReadCode.NoMemory) × (e.at ≡ 0)) }
 {
@@ -174,7 +178,7 @@ fn next_value(
     requires sound { IsSound schema.now }
     requires task { IsTyped schema.now task }
     requires tasks { AreTasks schema.now stack.old.items }
-    ensures ok { IfOk result (λ value. Opened schema.now task stack.old.items stack.new.items value) }
+    ensures ok { IfOk result (λ value. TakesTask schema.now task stack.old.items stack.new.items value) }
     ensures err { IfErr result (λ e. (e.code ≡ ReadCode.NoMemory) × (e.at ≡ 0)) }
 {
     match task {

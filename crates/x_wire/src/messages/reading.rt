@@ -9,7 +9,7 @@ ghost use Rattle.x_wire.specs.Messages.{accept_of, results_of, reject_of, header
 ghost use Rattle.x_wire.specs.Messages.{header_of_kind, body_of_kind, header_of, body_of};
 
 use super::fields::{Refusal, auth, number, state};
-use super::parts::{AcceptStat, Call, MessageKind, Message, RejectStat, Reply};
+use super::parts::{AcceptStat, Call, Message, MessageKind, RejectStat, Reply};
 use x_value::{ReadCode, ReadFault};
 
 /// `msg_type` is 0 for a call and 1 for a reply.

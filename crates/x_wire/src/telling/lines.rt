@@ -117,7 +117,13 @@ fn add_words<S: Sink>(first: &str, second: &str, pen: &mut Pen, sink: &mut S)
 
 /// Adds what became of a call, and the number of the call.
 #[tactic(auto, using(x_text::proofs::Adding::four))]
-fn add_state<S: Sink>(word: &str, state: &str, heard: Option<CallOfXid>, pen: &mut Pen, sink: &mut S)
+fn add_state<S: Sink>(
+    word: &str,
+    state: &str,
+    heard: Option<CallOfXid>,
+    pen: &mut Pen,
+    sink: &mut S,
+)
     ensures { Adds pen.old (S.state sink.old) pen.new (S.state sink.new)
         (codes " " ++ (word.now ++ state.now) ++ codes " call=" ++ call_number heard) }
 {

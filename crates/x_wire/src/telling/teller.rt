@@ -8,7 +8,7 @@ ghost use Rattle.x_wire.specs.declared.messages.parts.MessageKind.TheVariants as
 
 use super::body::read_body;
 use super::lines::{add_accepted, add_bad_header, add_call, add_denied};
-use crate::{AcceptStat, Call, MessageKind, Message, RejectStat, Reply, message};
+use crate::{AcceptStat, Call, Message, MessageKind, RejectStat, Reply, message};
 use indexmap::IndexMap;
 use std::alloc::Global;
 use x_schema::{Procedure, ProcedureNumbers, Schema, TypeId};
@@ -172,7 +172,15 @@ impl Teller {
         ensures count { self.new.count ≡ self.old.count }
     {
         match &message.kind {
-            MessageKind::Call(call) => self.tell_call(alloc, schema, number, message.xid, call, pen, sink),
+            MessageKind::Call(call) => self.tell_call(
+                alloc,
+                schema,
+                number,
+                message.xid,
+                call,
+                pen,
+                sink,
+            ),
             MessageKind::Reply(reply) => {
                 let heard = self.calls.get(&message.xid).copied();
                 tell_reply(alloc, schema, number, message.xid, heard, reply, pen, sink)

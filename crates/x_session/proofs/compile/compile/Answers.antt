@@ -6,25 +6,25 @@ use Rattle.x_names.specs.Declarers.{AreShort}
 use Rattle.x_session.specs.Checking.{AreChecked, kept_definitions}
 use Rattle.x_session.specs.KeptView.{kept_found}
 use Rattle.x_session.specs.SessionState.{IsKept}
-use Rattle.x_session.specs.declared.compile.item_content.ItemContent.{ItemContent}
+use Rattle.x_session.specs.declared.compile.content.Content.{Content}
 use Rattle.x_session.proofs.KeptLemmas.{are_known, counts_with, definitions_kept, kept_is, all_lent, none_kept}
 use Rattle.x_session.proofs.compile.compile.Goals as goal
 
 pub check_all-requires-clause-short : goal.check_all-requires-clause-short
 check_all-requires-clause-short c =
-    let same = ap (map (λ (k : Bor ItemContent). k.now)) c.deref-2.ensures.value ∙ c.in_ok-kept_of.ensures ∙ ap items.kept c.deref.ensures.value in
+    let same = ap (map (λ (k : Bor Content). k.now)) c.deref-2.ensures.value ∙ c.in_ok-kept_of.ensures ∙ ap items.kept c.deref.ensures.value in
     subst (λ ks. AreShort (kept_definitions ks)) (sym same) (subst AreShort (sym (definitions_kept c.in_ok-entries.entries.items)) c.in_ok-entries.ensures.short)
 
 pub check_all-requires-clause-unchecked : goal.check_all-requires-clause-unchecked
 check_all-requires-clause-unchecked c =
-    let same = ap (map (λ (k : Bor ItemContent). k.now)) c.deref-2.ensures.value ∙ c.in_ok-kept_of.ensures ∙ ap items.kept c.deref.ensures.value in
+    let same = ap (map (λ (k : Bor Content). k.now)) c.deref-2.ensures.value ∙ c.in_ok-kept_of.ensures ∙ ap items.kept c.deref.ensures.value in
     all_lent (λ k. kept_found k ≡ None) c.deref-2.result.now (items.kept c.in_ok-entries.entries.items) same (none_kept c.in_ok-entries.entries.items c.in_ok-entries.ensures.unchecked)
 
 pub keep_results-requires : goal.keep_results-requires
 keep_results-requires c =
     let ks = items.kept c.in_ok-entries.entries.items in
     let checks = c.in_ok-results.field-0 in
-    let same = ap (map (λ (k : Bor ItemContent). k.now)) c.deref-2.ensures.value ∙ c.in_ok-kept_of.ensures ∙ ap items.kept c.deref.ensures.value in
+    let same = ap (map (λ (k : Bor Content). k.now)) c.deref-2.ensures.value ∙ c.in_ok-kept_of.ensures ∙ ap items.kept c.deref.ensures.value in
     are_known ks checks.results.items checks.faults (subst (λ l. AreChecked l checks.results.items checks.faults) same c.in_ok-results.ensures.checked)
 
 pub of-requires : goal.of-requires
@@ -38,7 +38,7 @@ returns-clause-kept c =
     let es = c.in_ok-entries.entries.items in
     let checks = c.in_ok-results.field-0 in
     let made = c.in_ok-items.items in
-    let same = ap (map (λ (k : Bor ItemContent). k.now)) c.deref-2.ensures.value ∙ c.in_ok-kept_of.ensures ∙ ap items.kept c.deref.ensures.value in
+    let same = ap (map (λ (k : Bor Content). k.now)) c.deref-2.ensures.value ∙ c.in_ok-kept_of.ensures ∙ ap items.kept c.deref.ensures.value in
     let checked = subst (λ l. AreChecked l checks.results.items checks.faults) same c.in_ok-results.ensures.checked in
     subst (λ u. IsKept text tokens made.entries.list made.faults u) (sym c.in_ok-items.ensures.uses)
     (subst (λ n. IsKept text tokens made.entries.list n None) (sym c.in_ok-items.ensures.faults)

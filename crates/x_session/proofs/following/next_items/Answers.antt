@@ -1,7 +1,7 @@
 use Rattle.std.proofs.Common.{refl, sym, ap}
 use Rattle.x_cutting.specs.ItemList.{ItemChange}
 use Rattle.x_lex.specs.TokenList.{patched}
-use Rattle.x_session.specs.declared.compile.item_content.ItemContent.{ItemContent}
+use Rattle.x_session.specs.declared.compile.content.Content.{Content}
 use Rattle.x_session.proofs.FollowLemmas.{fresh_within, items_followed}
 use Rattle.x_session.proofs.WorkLemmas.{same_patch}
 use Rattle.x_session.proofs.following.next_items.Goals as goal
@@ -15,7 +15,7 @@ pub returns-clause-recut : goal.returns-clause-recut
 returns-clause-recut c change rel =
     let is = c.in_ok-parse_fresh.ensures.others in
     same_patch change c.args.tokens.now.list (patched c.args.tokens.now.list c.args.patch.now) c.args.items.now.list c.args.items.now.list c.in_ok-fresh.fresh c.parse_fresh.new.items refl
-    (sym (ap (λ (p : ItemChange ItemContent). p.at) is)) (sym (ap (λ (p : ItemChange ItemContent). p.removed) is)) (sym (ap (λ (p : ItemChange ItemContent). p.start) is)) (sym c.in_ok-parse_fresh.ensures.counts)
+    (sym (ap (λ (p : ItemChange Content). p.at) is)) (sym (ap (λ (p : ItemChange Content). p.removed) is)) (sym (ap (λ (p : ItemChange Content). p.start) is)) (sym c.in_ok-parse_fresh.ensures.counts)
     (c.in_ok-fresh.ensures.patch change rel)
 
 pub returns-clause-parsed : goal.returns-clause-parsed

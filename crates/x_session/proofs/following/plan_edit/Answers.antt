@@ -11,7 +11,7 @@ use Rattle.x_session.specs.Counting.{faults_found}
 use Rattle.x_session.specs.Following.{AreFollowed, AreStaleChecked, AreUsed, IsNameChange, behind}
 use Rattle.x_session.specs.KeptView.{AreParsed}
 use Rattle.x_session.specs.PlannedResult.{ArePlanned}
-use Rattle.x_session.specs.declared.compile.item_content.ItemContent.{ItemContent}
+use Rattle.x_session.specs.declared.compile.content.Content.{Content}
 use Rattle.x_session.proofs.AlongLemmas.{cut_of}
 use Rattle.x_session.proofs.StaleLemmas.{short_behind, short_fresh}
 use Rattle.x_session.proofs.TableLemmas.{table_same}
@@ -54,7 +54,7 @@ check_stale_items-requires-clause-short c =
 pub check_stale_items-requires-clause-checked : goal.check_stale_items-requires-clause-checked
 check_stale_items-requires-clause-checked c =
     let es = c.args.items.now.entries.list in
-    let same = ap (λ (g : Gapped (ItemEntry ItemContent)). g.list) c.in_ok-names.ensures.entries ∙ c.in_ok-fresh.ensures.list in
+    let same = ap (λ (g : Gapped (ItemEntry Content)). g.list) c.in_ok-names.ensures.entries ∙ c.in_ok-fresh.ensures.list in
     table_same c.args.items.now c.change_names.new.items c.requires.checked same c.in_ok-names.ensures.faults (subst (λ l. AreUsed l c.change_names.new.items.uses) c.in_ok-fresh.ensures.list c.in_ok-names.ensures.uses)
 
 pub faults_behind-requires-clause-planned : goal.faults_behind-requires-clause-planned
@@ -69,7 +69,7 @@ returns-clause-plan c =
     let fresh = c.in_ok-fresh.fresh in
     let ts = c.next_tokens.new.tokens.list in
     let list = c.in_ok-patch.ensures.list in
-    let same = ap (λ (g : Gapped (ItemEntry ItemContent)). g.list) c.in_ok-names.ensures.entries ∙ c.in_ok-fresh.ensures.list in
+    let same = ap (λ (g : Gapped (ItemEntry Content)). g.list) c.in_ok-names.ensures.entries ∙ c.in_ok-fresh.ensures.list in
     let rel : IsRelexed change c.args.new.now ts (counts es) patch = subst (λ l. IsRelexed change c.args.new.now l (counts es) patch) (sym list) (record {
       within = c.requires.within;
       edited = c.requires.edited;
@@ -91,8 +91,8 @@ pub returns-clause-room : goal.returns-clause-room
 returns-clause-room c =
     let patch = c.in_ok-patch.patch in
     let fresh = c.in_ok-fresh.fresh in
-    let same = ap (λ (g : Gapped (ItemEntry ItemContent)). g.list) c.in_ok-names.ensures.entries ∙ c.in_ok-fresh.ensures.list in
-    let names = ap (λ (g : Gapped (ItemEntry ItemContent)). g.list) c.in_ok-names.ensures.entries in
+    let same = ap (λ (g : Gapped (ItemEntry Content)). g.list) c.in_ok-names.ensures.entries ∙ c.in_ok-fresh.ensures.list in
+    let names = ap (λ (g : Gapped (ItemEntry Content)). g.list) c.in_ok-names.ensures.entries in
     record {
       tokens_among = subst (λ l. tokens.LiesAmong l patch) (sym c.in_ok-patch.ensures.list) c.in_ok-patch.ensures.patch.among;
       token_room = c.in_ok-patch.ensures.room;

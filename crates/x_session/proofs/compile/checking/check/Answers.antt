@@ -8,7 +8,7 @@ use Rattle.x_rules.specs.Results.{result_at, IsOutcome, IsResult}
 use Rattle.x_rules.specs.RustViews.{view_view}
 use Rattle.x_session.specs.Checking.{view_by_first}
 use Rattle.x_session.specs.KeptView.{found_result, kept_definition}
-use Rattle.x_session.specs.declared.compile.item_content.CheckResult.{CheckResult}
+use Rattle.x_session.specs.declared.compile.content.CheckResult.{CheckResult}
 use Rattle.x_session.proofs.CheckingLemmas.{some_result}
 use Rattle.x_session.proofs.compile.checking.check.Goals as goal
 

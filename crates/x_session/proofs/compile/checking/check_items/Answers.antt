@@ -9,14 +9,14 @@ use Rattle.x_rules.specs.Results.{IsResult, result_at}
 use Rattle.x_session.specs.Checking.{counted}
 use Rattle.x_session.specs.Compile.{faults_at}
 use Rattle.x_session.specs.KeptView.{found_result, kept_definition, kept_parse}
-use Rattle.x_session.specs.declared.compile.item_content.ItemContent.{ItemContent}
+use Rattle.x_session.specs.declared.compile.content.Content.{Content}
 use Rattle.x_session.proofs.CheckingLemmas.{checked_all, counted_all, counted_more, faults_next, many_more, rendered_next, results_next, short_here}
 use Rattle.x_session.proofs.compile.checking.check_items.Goals as goal
 
-abbrev lent : Bor ItemContent → ItemContent
+abbrev lent : Bor Content → Content
 lent k = k.now
 
-abbrev defined : Bor ItemContent → Option Definition
+abbrev defined : Bor Content → Option Definition
 defined k = kept_definition k.now
 
 pub loop-item-preserved : goal.loop-item-preserved

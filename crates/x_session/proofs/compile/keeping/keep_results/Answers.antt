@@ -1,7 +1,7 @@
 use Rattle.std.proofs.Common.{◌≡◌, length, refl, sym, ap, subst, ◌∙◌}
 use Rattle.x_session.specs.KeptView.{IsWith, kept_definition}
 use Rattle.x_cutting.specs.declared.cutting.item_entry.ItemEntry.{ItemEntry}
-use Rattle.x_session.specs.declared.compile.item_content.ItemContent.{ItemContent}
+use Rattle.x_session.specs.declared.compile.content.Content.{Content}
 use Rattle.x_session.proofs.KeepingLemmas.{kept_none, kept_more, last_item, last_known, last_is}
 use Rattle.x_session.proofs.compile.keeping.keep_results.Goals as goal
 
@@ -16,7 +16,7 @@ keep-requires c none =
     let at : c.len.result ≡ length rs = c.len.ensures ∙ c.pop.new.self.ok.0 in
     let is = last_is c.args.entries.now.items c.args.results.items c.loop-found.entries.items rs c.in-Some.found last c.len.result c.index_mut.result.now at c.index_mut.ensures.value in
     last_known c.args.entries.now.items c.args.results.items c.loop-found.entries.items rs c.in-Some.found last c.requires
-    (sym (ap (λ (e : ItemEntry ItemContent). kept_definition e.kept) is) ∙ none)
+    (sym (ap (λ (e : ItemEntry Content). kept_definition e.kept) is) ∙ none)
 
 pub loop-found-preserved : goal.loop-found-preserved
 loop-found-preserved c =
@@ -25,7 +25,7 @@ loop-found-preserved c =
     let last = last_item c.args.entries.now.items c.args.results.items c.loop-found.entries.items before rs c.in-Some.found c.in-Some.ensures.items c.loop-found.invariant in
     let at : c.len.result ≡ length rs = c.len.ensures ∙ c.pop.new.self.ok.0 in
     let is = last_is c.args.entries.now.items c.args.results.items c.loop-found.entries.items rs c.in-Some.found last c.len.result c.index_mut.result.now at c.index_mut.ensures.value in
-    let f : ItemEntry ItemContent = record { tokens = c.index_mut.result.now.tokens; kept = c.keep.new.self } in
+    let f : ItemEntry Content = record { tokens = c.index_mut.result.now.tokens; kept = c.keep.new.self } in
     let now : IsWith c.index_mut.result.now c.in-Some.found f = record {
       tokens = refl;
       parse = c.keep.ensures.parse;

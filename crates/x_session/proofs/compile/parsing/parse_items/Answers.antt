@@ -7,7 +7,7 @@ use Rattle.x_lex.specs.Places.{lexeme, lexemes}
 use Rattle.x_cutting.specs.Items.{IsNext}
 use Rattle.x_cutting.specs.declared.cutting.item_entry.ItemEntry.{ItemEntry}
 use Rattle.x_session.specs.KeptView.{IsItem, kept_found}
-use Rattle.x_session.specs.declared.compile.item_content.ItemContent.{ItemContent}
+use Rattle.x_session.specs.declared.compile.content.Content.{Content}
 use Rattle.x_session.proofs.ItemLemmas.{Parsing, HasCounted, steps_left, parsing_none, parsing_more, part_short, rest_short, fewer_steps, items_of_text, short_items, some_items, counted_push, counted_all}
 use Rattle.x_session.proofs.compile.parsing.parse_items.Goals as goal
 
@@ -19,7 +19,7 @@ loop-whole-init c =
       parsed = subst (λ is. Parsing true all c.iter-walk.result is) (sym c.new-entries.ensures.items) (parsing_none all c.iter-walk.result c.iter-walk.ensures.tokens);
       short = short;
       small = c.iter-walk.ensures.small;
-      unchecked = subst (λ is. All (λ e. kept_found e.kept ≡ None) is) (sym c.new-entries.ensures.items) (All-nil (λ (e : ItemEntry ItemContent). kept_found e.kept ≡ None));
+      unchecked = subst (λ is. All (λ e. kept_found e.kept ≡ None) is) (sym c.new-entries.ensures.items) (All-nil (λ (e : ItemEntry Content). kept_found e.kept ≡ None));
       counted = subst (λ is. HasCounted c.args.meter.now c.args.meter.now (length is)) (sym c.new-entries.ensures.items) refl;
     }
 
@@ -55,7 +55,7 @@ loop-whole-preserved c =
       short = c.loop-whole.invariant.short;
       small = omega (arith, fewer, small);
       unchecked = subst (λ is. All (λ e. kept_found e.kept ≡ None) is) (sym c.in_ok-push.ensures.items)
-          (All-push (λ (e : ItemEntry ItemContent). kept_found e.kept ≡ None) items item c.loop-whole.invariant.unchecked c.in_ok-entry_of.ensures.unchecked);
+          (All-push (λ (e : ItemEntry Content). kept_found e.kept ≡ None) items item c.loop-whole.invariant.unchecked c.in_ok-entry_of.ensures.unchecked);
       counted = subst (λ is. HasCounted c.args.meter.now c.entry_of.new.meter (length is)) (sym c.in_ok-push.ensures.items)
           (counted_push c.args.meter.now c.loop-whole.meter c.entry_of.new.meter items item c.loop-whole.invariant.counted c.in_ok-entry_of.ensures.counted);
     }

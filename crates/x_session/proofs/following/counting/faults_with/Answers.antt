@@ -7,8 +7,8 @@ use Rattle.x_session.specs.Compile.{faults_at}
 use Rattle.x_session.specs.Counting.{faults_found, faults_with}
 use Rattle.x_session.specs.KeptView.{kept_parse}
 use Rattle.x_session.specs.PlannedResult.{overlaid}
-use Rattle.x_session.specs.declared.compile.item_content.CheckResult.{CheckResult}
-use Rattle.x_session.specs.declared.compile.item_content.ItemContent.{ItemContent}
+use Rattle.x_session.specs.declared.compile.content.CheckResult.{CheckResult}
+use Rattle.x_session.specs.declared.compile.content.Content.{Content}
 use Rattle.x_session.proofs.PlannedLemmas.{IsPlannedAt, faults_own, not_planned, planned_here, planned_more, planned_within}
 use Rattle.x_session.proofs.following.counting.faults_with.Goals as goal
 use Rattle.x_session.proofs.following.counting.faults_with.Goals.{After-index-found-index, After-own_fault_count}
@@ -29,7 +29,7 @@ pub kept_behind-requires-clause-within : goal.kept_behind-requires-clause-within
 kept_behind-requires-clause-within c =
     let es = items.patched c.args.items.now.list c.args.patch.now in
     let lt = planned_within (items.kept es) c.args.found.now (c.loop-index.index - 1) c.index-found-index.result (here c) in
-    let l = length-map es (λ (e : ItemEntry ItemContent). e.kept) in
+    let l = length-map es (λ (e : ItemEntry Content). e.kept) in
     omega (arith, lt, l)
 
 pub unreachable-requires : goal.unreachable-requires

@@ -4,7 +4,7 @@ use Rattle.std.proofs.lemmas.List.{map-append}
 use Rattle.x_trees.specs.View.{tree_at}
 use Rattle.x_cutting.specs.declared.cutting.item_entry.ItemEntry.{ItemEntry}
 use Rattle.x_session.specs.KeptView.{kept_definition}
-use Rattle.x_session.specs.declared.compile.item_content.ItemContent.{ItemContent}
+use Rattle.x_session.specs.declared.compile.content.Content.{Content}
 use Rattle.x_session.proofs.CountingLemmas.{definitions_next}
 use Rattle.x_session.proofs.following.naming.fresh_definitions.Goals as goal
 
@@ -16,4 +16,4 @@ loop-index-preserved c =
     let o = c.definition_of.result in
     definitions_next es c.loop-index.index (map tree_at c.loop-index.definitions.items) (map tree_at c.push.new.self.items) (tree_at o) (omega (arith, lt, end)) c.loop-index.invariant
     (ap (map tree_at) c.in_ok-push.ensures.items ∙ map-append tree_at c.loop-index.definitions.items (o ∷ []))
-    (c.definition_of.ensures ∙ ap (option_and_then (λ (e : ItemEntry ItemContent). kept_definition e.kept)) c.get.ensures)
+    (c.definition_of.ensures ∙ ap (option_and_then (λ (e : ItemEntry Content). kept_definition e.kept)) c.get.ensures)

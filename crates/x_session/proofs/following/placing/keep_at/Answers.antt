@@ -1,4 +1,4 @@
-use Rattle.x_session.specs.declared.compile.item_content.ItemContent.TheVariants as kept
+use Rattle.x_session.specs.declared.compile.content.Content.TheVariants as kept
 use Rattle.x_session.proofs.KeepingLemmas.{kept_with, with_at}
 use Rattle.x_session.proofs.following.placing.keep_at.Goals as goal
 

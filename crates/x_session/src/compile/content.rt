@@ -17,7 +17,7 @@ ghost use Rattle.x_session.specs.KeptView.{kept_definition, kept_found, kept_lin
 use crate::compile::lines::lines_of;
 use std::alloc::Global;
 use x_gen::Pieces;
-use x_item::{Definition, ItemEntry, FaultCode, Parsed, parse_item};
+use x_item::{Definition, FaultCode, ItemEntry, Parsed, parse_item};
 use x_lex::Token;
 use x_sema::{Checked, WordFault};
 use x_text::{Meter, NoMemory};
@@ -67,7 +67,7 @@ pub struct ItemBody {
 /// What is kept with an item, in few bytes where it has neither a definition nor lines: a text may be 16
 /// million `;`.
 #[derive(Default, Drop)]
-pub enum ItemContent {
+pub enum Content {
     /// It has neither words nor lines.
     #[default]
     Nothing,
@@ -82,7 +82,7 @@ pub enum ItemContent {
     ItemBody(Box<ItemBody>),
 }
 
-const _: () = prove!(size_of::<ItemEntry<ItemContent>>() == 24);
+const _: () = prove!(size_of::<ItemEntry<Content>>() == 24);
 
 /// The faults of an item.
 #[derive(Clone, Copy)]
@@ -99,22 +99,26 @@ pub enum Verdict<'k> {
 }
 
 /// The item that these tokens are, with what they parse to. Counts it as parsed.
-pub fn entry_of(alloc: Global, tokens: &[Token], meter: &mut Meter) -> Result<ItemEntry<ItemContent>, NoMemory>
+pub fn entry_of(
+    alloc: Global,
+    tokens: &[Token],
+    meter: &mut Meter,
+) -> Result<ItemEntry<Content>, NoMemory>
     requires { length tokens.now ≤ MAX_TEXT }
     ensures item { IfOk result (λ entry. IsItem (map lexeme tokens.now) entry) }
     ensures unchecked { IfOk result (λ entry. kept_found entry.kept ≡ None) }
     ensures counted { meter.new ≡ record meter.old { parsed = raised meter.old.parsed 1 } }
 {
-    let kept = ItemContent::parsed(alloc, tokens, meter)?;
+    let kept = Content::parsed(alloc, tokens, meter)?;
     Ok(ItemEntry {
         tokens: tokens.len() as u32,
         kept,
     })
 }
 
-impl ItemContent {
+impl Content {
     /// What is kept of the item that these tokens are, before it is checked. Counts it as parsed.
-    pub fn parsed(alloc: Global, tokens: &[Token], meter: &mut Meter) -> Result<ItemContent, NoMemory>
+    pub fn parsed(alloc: Global, tokens: &[Token], meter: &mut Meter) -> Result<Content, NoMemory>
         requires { length tokens.now ≤ MAX_TEXT }
         ensures parse { IfOk result (λ kept. IsParse (map lexeme tokens.now) (kept_parse kept)) }
         ensures lines { IfOk result (λ kept. kept_lines kept ≡ lines_of (map lexeme tokens.now)) }
@@ -129,20 +133,20 @@ impl ItemContent {
                 code,
             },
         };
-        ItemContent::of(alloc, parse, lines_of(alloc, tokens)?)
+        Content::of(alloc, parse, lines_of(alloc, tokens)?)
     }
 
     /// What is kept of an item that parses so, with these lines.
-    fn of(alloc: Global, parse: Parse, lines: Vec<u8>) -> Result<ItemContent, NoMemory>
+    fn of(alloc: Global, parse: Parse, lines: Vec<u8>) -> Result<Content, NoMemory>
         ensures parse { IfOk result (λ kept. kept_parse kept ≡ view_parse parse) }
         ensures lines { IfOk result (λ kept. kept_lines kept ≡ lines.items) }
         ensures unchecked { IfOk result (λ kept. kept_found kept ≡ None) }
     {
         if lines.is_empty() {
             match &parse {
-                Parse::Nothing => return Ok(ItemContent::Nothing),
+                Parse::Nothing => return Ok(Content::Nothing),
                 Parse::Fault { token, code } => {
-                    return Ok(ItemContent::Fault {
+                    return Ok(Content::Fault {
                         token: *token,
                         code: *code,
                     });
@@ -155,7 +159,7 @@ impl ItemContent {
             lines,
             found: None,
         };
-        Ok(ItemContent::ItemBody(Box::new(alloc, body)?))
+        Ok(Content::ItemBody(Box::new(alloc, body)?))
     }
 
     /// The definition of the item, if it has one.
@@ -163,7 +167,7 @@ impl ItemContent {
         ensures { tree_at result ≡ kept_definition self.now }
     {
         match self {
-            ItemContent::ItemBody(body) => match &body.parse {
+            Content::ItemBody(body) => match &body.parse {
                 Parse::Def(definition) => Some(definition),
                 _ => None,
             },
@@ -176,7 +180,7 @@ impl ItemContent {
         ensures { result.now ≡ kept_lines self.now }
     {
         match self {
-            ItemContent::ItemBody(body) => &body.lines,
+            Content::ItemBody(body) => &body.lines,
             _ => &[],
         }
     }
@@ -186,7 +190,7 @@ impl ItemContent {
         ensures { option_copied result ≡ found_pieces (kept_found self.now) }
     {
         match self {
-            ItemContent::ItemBody(body) => body.found.as_ref()?.pieces.as_ref(),
+            Content::ItemBody(body) => body.found.as_ref()?.pieces.as_ref(),
             _ => None,
         }
     }
@@ -196,12 +200,12 @@ impl ItemContent {
         ensures { IsToldBy (kept_parse self.now) (rule_faults (found_result (kept_found self.now))) result }
     {
         match self {
-            ItemContent::Nothing => Verdict::Rules(&[]),
-            ItemContent::Fault { token, code } => Verdict::Syntax {
+            Content::Nothing => Verdict::Rules(&[]),
+            Content::Fault { token, code } => Verdict::Syntax {
                 token: *token,
                 code: *code,
             },
-            ItemContent::ItemBody(body) => match body.parse {
+            Content::ItemBody(body) => match body.parse {
                 Parse::Fault { token, code } => Verdict::Syntax { token, code },
                 _ => Verdict::Rules(faults_of(&body.found)),
             },
@@ -213,7 +217,7 @@ impl ItemContent {
         ensures { lent_outcome result ≡ found_result (kept_found self.now) }
     {
         match self {
-            ItemContent::ItemBody(body) => Some(&body.found.as_ref()?.checked),
+            Content::ItemBody(body) => Some(&body.found.as_ref()?.checked),
             _ => None,
         }
     }
@@ -233,7 +237,7 @@ impl ItemContent {
         ensures { result ≡ faults_with self.now (kept_found self.now) }
     {
         match self {
-            ItemContent::ItemBody(body) => self.fault_count(faults_of(&body.found)),
+            Content::ItemBody(body) => self.fault_count(faults_of(&body.found)),
             _ => self.fault_count(&[]),
         }
     }
@@ -248,7 +252,7 @@ impl ItemContent {
         ensures pieces { found_pieces (kept_found self.new)
             ≡ renewed_pieces (found_pieces (kept_found self.old)) found }
     {
-        if let ItemContent::ItemBody(body) = self {
+        if let Content::ItemBody(body) = self {
             let old = body.found.take();
             body.found = renewed(old, found);
         }
