@@ -20,7 +20,7 @@ use Rattle.x_session.specs.Checking.{IsKnownAt}
 use Rattle.x_session.specs.Following.{CanPut}
 use Rattle.x_session.specs.KeptView.{IsWithAt}
 use Rattle.x_session.specs.Moves.{Changed, HasMoved, changed_entry, changed_items, left_changes, moves, place_of, seat_behind}
-use Rattle.x_session.specs.PlannedResult.{ArePlanned, numbers_of}
+use Rattle.x_session.specs.Planned.{ArePlanned, numbers_of}
 use Rattle.x_session.specs.declared.compile.content.Found.{Found}
 use Rattle.x_session.specs.declared.compile.content.Content.{Content}
 use Rattle.x_session.specs.declared.compile.content.PlannedResult.{PlannedResult}

@@ -15,7 +15,7 @@ use Rattle.x_session.specs.Checking.{AreRendered, IsKnownAt, IsSound, sound_piec
 use Rattle.x_session.specs.Compile.{parsed_definition}
 use Rattle.x_session.specs.Counting.{faults_found, faults_with, own_faults}
 use Rattle.x_session.specs.KeptView.{AreWith, IsWith, IsWithAt, found_pieces, found_result, kept_definition, kept_found, pieces_behind, renewed_pieces}
-use Rattle.x_session.specs.PlannedResult.{ArePlanned, IsPlannedOf, overlaid, planned_at}
+use Rattle.x_session.specs.Planned.{ArePlanned, IsPlannedOf, overlaid, planned_at}
 use Rattle.x_session.specs.declared.compile.content.Found.{Found}
 use Rattle.x_session.specs.declared.compile.content.Content.{Content}
 use Rattle.x_session.specs.declared.compile.content.PlannedResult.{PlannedResult}

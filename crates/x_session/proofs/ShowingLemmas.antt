@@ -11,9 +11,11 @@ use Rattle.x_value.specs.FaultTexts.{fault_line}
 use Rattle.x_value.specs.Shown.{Node}
 use Rattle.x_value.specs.declared.fault.ReadCode.{ReadCode}
 use Rattle.x_value.specs.declared.fault.ReadCode.TheVariants as codes_of
-use Rattle.x_session.specs.Answers.{Answer, answered, refused}
+use Rattle.x_session.specs.Answers.{Answer, answered, refused, refused_by}
 use Rattle.x_session.specs.Compile.{Item}
+use Rattle.x_session.specs.Refusals.{refusal_line}
 use Rattle.x_session.specs.Script.{AddsAnswer, TellsOver}
+use Rattle.x_session.specs.declared.script.refusal.LineRefusal.TheVariants as refusals
 use Rattle.x_session.specs.Session.{Compiles}
 use Rattle.x_session.specs.Showing.{IsMessageAnswer, IsTypedAnswer, IsDumpAnswer, shown, stuck, no_type, typed, faulty, faultless, value_answer}
 use Rattle.x_session.specs.Typed.{GivesSchema}
@@ -32,9 +34,9 @@ module _ (p q : Inked) (now now' : Stream) where
       (refused text (fault_line at code), stuck at code is other refl, record { added = added; refused_is = refl; text_is = refl })
 
   pub tells_no_type : (s : Schema) (name message : List ℕ) → id_named s name ≡ None
-      → Adds p now q now' (codes "refused 42 NoType\n") → TellsOver (IsTypedAnswer s name message) true p now q now'
+      → Adds p now q now' (refusal_line refusals.NoType) → TellsOver (IsTypedAnswer s name message) true p now q now'
   tells_no_type s name message none added text =
-      (refused text (codes "refused 42 NoType\n"), no_type none refl, record { added = added; refused_is = refl; text_is = refl })
+      (refused_by text refusals.NoType, no_type none refl, record { added = added; refused_is = refl; text_is = refl })
 
   pub tells_typed : (s : Schema) (id : TypeId) (name message : List ℕ) (r : Result Bool NoMemory) → id_named s name ≡ Some id
       → IfOk r (λ refused. TellsOver (IsMessageAnswer s id message) refused p now q now')
@@ -43,10 +45,10 @@ module _ (p q : Inked) (now now' : Stream) where
   tells_typed s id name message (Err e) is h = h
 
   pub tells_faulty : (text : List ℕ) (items : List Item) (name message : List ℕ) (r : Result Schema SchemaFault) → r ≡ Err Faulty → GivesSchema text items r
-      → Adds p now q now' (codes "refused 40 Faulty\n")
+      → Adds p now q now' (refusal_line refusals.Faulty)
       → (a : Answer) × IsDumpAnswer text items name message a × AddsAnswer a text true p now q now'
   tells_faulty text items name message r is gives added =
-      (refused text (codes "refused 40 Faulty\n"), faulty (subst (GivesSchema text items) is gives) refl, record { added = added; refused_is = refl; text_is = refl })
+      (refused_by text refusals.Faulty, faulty (subst (GivesSchema text items) is gives) refl, record { added = added; refused_is = refl; text_is = refl })
 
   pub tells_faultless : (text name message : List ℕ) (s : Schema) (r : Result Schema SchemaFault) (t : Result Bool NoMemory) → r ≡ Ok s
       → Compiles text (λ items. GivesSchema text items r)

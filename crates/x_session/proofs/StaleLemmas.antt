@@ -32,7 +32,7 @@ use Rattle.x_recheck.proofs.Numbering.{fresh_cases, kept_cases, spliced_fresh, s
 use Rattle.x_session.specs.Checking.{IsSound, kept_definitions, sound_pieces}
 use Rattle.x_session.specs.Following.{AreStaleChecked, IsNameChange, behind, edit_of}
 use Rattle.x_session.specs.KeptView.{AreParsed, entry_definitions, entry_results, found_pieces, found_result, kept_definition, kept_found}
-use Rattle.x_session.specs.PlannedResult.{ArePlanned, overlaid, planned_at}
+use Rattle.x_session.specs.Planned.{ArePlanned, overlaid, planned_at}
 use Rattle.x_session.specs.Rendered.{AreRenderings, HasDefinitionAt, HaveDefinitions, IsRendering}
 use Rattle.x_session.specs.declared.compile.content.CheckResult.{CheckResult}
 use Rattle.x_session.specs.declared.compile.content.Content.{Content}

@@ -12,7 +12,7 @@ use Rattle.x_session.specs.Checking.{IsSound}
 use Rattle.x_session.specs.Counting.{own_faults}
 use Rattle.x_session.specs.Following.{AreUsed, IsCheckedTable}
 use Rattle.x_session.specs.KeptView.{entry_definitions, entry_results}
-use Rattle.x_session.specs.PlannedResult.{overlaid}
+use Rattle.x_session.specs.Planned.{overlaid}
 use Rattle.x_session.specs.SessionState.{IsKept}
 use Rattle.x_session.specs.declared.compile.item_table.ItemTable.{ItemTable}
 use Rattle.x_session.specs.declared.compile.content.Content.{Content}

@@ -33,7 +33,7 @@ use Rattle.x_session.specs.Checking.{AreChecked}
 use Rattle.x_session.specs.Following.{AreUsed, IsPlan, behind, edit_of}
 use Rattle.x_session.specs.KeptView.{AreWith, entry_definitions, found_result, kept_definition}
 use Rattle.x_session.specs.Moves.{changed_items, moves, place_of, seat_behind}
-use Rattle.x_session.specs.PlannedResult.{numbers_of}
+use Rattle.x_session.specs.Planned.{numbers_of}
 use Rattle.x_session.specs.Session.{Document, LeavesText}
 use Rattle.x_session.specs.SessionState.{IsKept, items_of}
 use Rattle.x_session.specs.Work.{AreStaleItems, AreWorks, IsWork, IsWorkOfAll, definitions_edit}

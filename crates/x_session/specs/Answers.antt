@@ -17,6 +17,9 @@ use Rattle.x_trees.specs.Declarations.{name_of, is_void}
 use Rattle.x_trees.specs.Tree.{Body, Enum, Struct, Union, Declaration, Definition}
 use Rattle.x_trees.specs.Tree.{Const, Typedef, NewType, Program}
 use Rattle.x_session.specs.Generated.{text_of}
+use Rattle.x_session.specs.Refusals.{refusal_line}
+use Rattle.x_session.specs.declared.script.refusal.LineRefusal.{LineRefusal}
+use Rattle.x_session.specs.declared.script.refusal.LineRefusal.TheVariants as refusals
 
 -- what a line is answered, whether that refuses it, and the text that it leaves
 pub record Answer : Type 0 where
@@ -97,14 +100,17 @@ answered text told = record { told = told; refused = false; text = text }
 abbrev pub refused : List ℕ → List ℕ → Answer
 refused text told = record { told = told; refused = true; text = text }
 
+abbrev pub refused_by : List ℕ → LineRefusal → Answer
+refused_by text refusal = refused text (refusal_line refusal)
+
 -- what an edit is answered; its range is tested first
 abbrev pub edit_answer : Change → Answer
 edit_answer change =
     if nat_le change.start change.end && nat_le change.end (length change.old)
     then (if nat_le (length (edited_by change)) most_text
     then answered (edited_by change) (counted_line (codes "ok") (length (edited_by change)))
-    else refused change.old (codes "refused 2 TooLarge\n"))
-    else refused change.old (codes "refused 1 BadRange\n")
+    else refused_by change.old refusals.TooLarge)
+    else refused_by change.old refusals.BadRange
 
 abbrev pub answer : List ℕ → List ℕ → List Item → Command → Answer
 answer base text items (commands.Edit start end insert) =
@@ -113,4 +119,4 @@ answer base text items commands.Tokens = answered text (tokens_answer (tokens_of
 answer base text items commands.Definitions = answered text (definitions_answer (definitions_of items))
 answer base text items commands.Faults = answered text (faults_answer (faults_of text items))
 answer base text items (commands.Text which) = answered text (text_answer (text_of which base items))
-answer base text items commands.Bad = refused text (codes "refused 43 BadLine\n")
+answer base text items commands.Bad = refused_by text refusals.BadLine

@@ -23,7 +23,7 @@ use Rattle.x_session.specs.Checking.{AreRendered, IsSound, kept_definitions}
 use Rattle.x_session.specs.Counting.{faults_found, own_faults}
 use Rattle.x_session.specs.KeptView.{AreParsed, entry_definitions, entry_results, found_result}
 use Rattle.x_session.specs.Moves.{place_of}
-use Rattle.x_session.specs.PlannedResult.{ArePlanned, numbers_of, overlaid}
+use Rattle.x_session.specs.Planned.{ArePlanned, numbers_of, overlaid}
 use Rattle.x_session.specs.declared.compile.item_table.ItemTable.{ItemTable}
 use Rattle.x_session.specs.declared.compile.content.CheckResult.{CheckResult}
 use Rattle.x_session.specs.declared.compile.content.Content.{Content}

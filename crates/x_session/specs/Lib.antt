@@ -12,7 +12,8 @@ pub mod ItemReading
 pub mod KeptView
 pub mod LineAnswers
 pub mod Moves
-pub mod PlannedResult
+pub mod Planned
+pub mod Refusals
 pub mod Rendered
 pub mod Script
 pub mod Session

@@ -1,9 +1,10 @@
 -- What a line of a script is answered, over a text and its items.
-use Rattle.std.specs.Prelude.{◌≡◌, ◌<◌, ◌≤◌, ℕ, List, length, Some, None, codes}
-use Rattle.x_session.specs.Answers.{Answer, answer, refused}
+use Rattle.std.specs.Prelude.{◌≡◌, ◌<◌, ◌≤◌, ℕ, List, length, Some, None}
+use Rattle.x_session.specs.Answers.{Answer, answer, refused_by}
 use Rattle.x_session.specs.Commands.{command_of, dump_asked}
 use Rattle.x_session.specs.Compile.{Item}
 use Rattle.x_session.specs.Showing.{IsDumpAnswer}
+use Rattle.x_session.specs.declared.script.refusal.LineRefusal.TheVariants.{LongLine}
 use Rattle.x_lines.specs.Limits.{most_line}
 
 -- A line is answered so, over a text that has these items: it may ask to show a value, or be any other
@@ -14,5 +15,5 @@ pub data IsLineAnswer (base text : List ℕ) (items : List Item) (line : List �
   shows : (name message : List ℕ) → length line ≤ most_line → dump_asked line ≡ Some (name, message)
       → IsDumpAnswer text items name message a
       → IsLineAnswer base text items line a
-  too_long : most_line < length line → a ≡ refused text (codes "refused 44 LongLine\n")
+  too_long : most_line < length line → a ≡ refused_by text LongLine
       → IsLineAnswer base text items line a

@@ -3,7 +3,7 @@ use Rattle.std.specs.Prelude.{◌≡◌, ℕ, List, [], ◌∷◌, Some, slice_g
 use Rattle.x_trees.specs.Tree.{Definition}
 use Rattle.x_recheck.specs.declared.rechecking.Rechecked.{Rechecked}
 use Rattle.x_session.specs.KeptView.{kept_definition}
-use Rattle.x_session.specs.PlannedResult.{IsPlannedOf}
+use Rattle.x_session.specs.Planned.{IsPlannedOf}
 use Rattle.x_session.specs.declared.compile.content.Content.{Content}
 use Rattle.x_session.specs.declared.compile.content.PlannedResult.{PlannedResult}
 

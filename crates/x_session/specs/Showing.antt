@@ -9,8 +9,9 @@ use Rattle.x_value.specs.Lines.{node_lines}
 use Rattle.x_value.specs.Shown.{Node}
 use Rattle.x_value.specs.declared.fault.ReadCode.{ReadCode}
 use Rattle.x_value.specs.declared.fault.ReadCode.TheVariants.{NoMemory}
-use Rattle.x_session.specs.Answers.{Answer, answered, refused, counted_line}
+use Rattle.x_session.specs.Answers.{Answer, answered, refused, refused_by, counted_line}
 use Rattle.x_session.specs.Compile.{Item, definitions_of, faults_of}
+use Rattle.x_session.specs.declared.script.refusal.LineRefusal.TheVariants.{Faulty, NoType}
 
 -- the nodes of a value
 abbrev pub value_answer : List Node → List ℕ
@@ -27,14 +28,14 @@ pub data IsMessageAnswer (s : Schema) (id : TypeId) (message text : List ℕ) (a
 
 -- the name may be that of no type
 pub data IsTypedAnswer (s : Schema) (name message text : List ℕ) (a : Answer) : Type 0 where
-  no_type : id_named s name ≡ None → a ≡ refused text (codes "refused 42 NoType\n")
+  no_type : id_named s name ≡ None → a ≡ refused_by text NoType
       → IsTypedAnswer s name message text a
   typed : (id : TypeId) → id_named s name ≡ Some id → IsMessageAnswer s id message text a
       → IsTypedAnswer s name message text a
 
 -- a text with a fault has no types
 pub data IsDumpAnswer (text : List ℕ) (items : List Item) (name message : List ℕ) (a : Answer) : Type 0 where
-  faulty : 0 < length (faults_of text items) → a ≡ refused text (codes "refused 40 Faulty\n")
+  faulty : 0 < length (faults_of text items) → a ≡ refused_by text Faulty
       → IsDumpAnswer text items name message a
   faultless : (s : Schema) → faults_of text items ≡ [] → IsSchemaOf (definitions_of items) s
       → IsTypedAnswer s name message text a

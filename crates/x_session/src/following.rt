@@ -14,7 +14,7 @@ ghost use Rattle.x_cutting.specs.Recut.{IsRelexed, IsItemPatch};
 ghost use Rattle.x_session.specs.Following.{AreFollowed, AreUsed, CanCarryOut, IsPlan, IsToFollow, behind};
 ghost use Rattle.x_session.specs.KeptView.{AreParsed, AreWith, kept_found};
 ghost use Rattle.x_session.specs.Moves.{changed_items, moves, place_of, seat_behind};
-ghost use Rattle.x_session.specs.PlannedResult.{numbers_of};
+ghost use Rattle.x_session.specs.Planned.{numbers_of};
 
 mod counting;
 mod fresh;

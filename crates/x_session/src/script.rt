@@ -12,12 +12,14 @@ ghost use Rattle.x_lines.specs.Lines.{FailsBy};
 
 mod answer;
 mod command;
+mod refusal;
 mod showing;
 
 use crate::Session;
 pub use answer::add_place;
 use answer::{add_counted, add_definitions, add_faults, add_text, add_tokens};
 pub use command::{Command, Insert, dump_words, parse_command};
+use refusal::LineRefusal;
 use showing::answer_dump;
 use std::alloc::Global;
 use x_lines::{LineEvent, LineFault, LineReader};
@@ -95,7 +97,7 @@ fn next_answer<R: Tap, S: Sink>(
     let refused = match reader.next(tap)? {
         LineEvent::End => return Ok(None),
         LineEvent::TooLong => {
-            pen.add(b"refused 44 LongLine\n", sink);
+            LineRefusal::LongLine.add_line(pen, sink);
             true
         }
         LineEvent::Line => match answer_line(alloc, session, reader.line(), pen, sink) {
@@ -136,7 +138,7 @@ fn carry_out<S: Sink>(
         Command::Faults => add_faults(session, pen, sink),
         Command::Text(which) => add_text(*which, session, pen, sink),
         Command::Bad => {
-            pen.add(b"refused 43 BadLine\n", sink);
+            LineRefusal::BadLine.add_line(pen, sink);
             return Ok(true);
         }
     }
@@ -183,11 +185,11 @@ fn carry_out_edit<S: Sink>(
             Ok(false)
         }
         Err(TextFault::BadRange) => {
-            pen.add(b"refused 1 BadRange\n", sink);
+            LineRefusal::BadRange.add_line(pen, sink);
             Ok(true)
         }
         Err(TextFault::TooLarge) => {
-            pen.add(b"refused 2 TooLarge\n", sink);
+            LineRefusal::TooLarge.add_line(pen, sink);
             Ok(true)
         }
         Err(TextFault::NoMemory) => Err(NoMemory),

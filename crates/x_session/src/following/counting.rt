@@ -3,7 +3,7 @@
 ghost use Rattle.std.specs.Prelude.{◌≡◌, ◌<◌, IfOk, drop, length, option_copied, option_map, slice_get, take};
 ghost use Rattle.x_cutting.specs.ItemList.{LiesAmong, kept, patched};
 ghost use Rattle.x_session.specs.Counting.{entry_faults, faults_found, own_faults};
-ghost use Rattle.x_session.specs.PlannedResult.{ArePlanned, overlaid};
+ghost use Rattle.x_session.specs.Planned.{ArePlanned, overlaid};
 
 use crate::compile::{Content, ItemTable, PlannedResult, sum_of};
 use x_item::{ItemEntry, ItemPatch, Items};

@@ -9,7 +9,7 @@ ghost use Rattle.x_session.specs.Checking.{IsKnownAt};
 ghost use Rattle.x_session.specs.Following.{CanPut, behind, kept_behind, whole};
 ghost use Rattle.x_session.specs.KeptView.{AreWith, IsWithAt};
 ghost use Rattle.x_session.specs.Moves.{HasMoved, changed_items, left_changes, moves, place_of, seat_behind};
-ghost use Rattle.x_session.specs.PlannedResult.{ArePlanned, numbers_of};
+ghost use Rattle.x_session.specs.Planned.{ArePlanned, numbers_of};
 
 use crate::compile::{CheckResult, Content, PlannedResult};
 use x_item::{ItemPatch, Items};

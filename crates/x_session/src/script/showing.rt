@@ -11,6 +11,7 @@ ghost use Rattle.x_session.specs.Showing.{IsDumpAnswer, IsMessageAnswer, IsTyped
 
 use super::answer::add_counted;
 use super::command::message_bytes;
+use super::refusal::LineRefusal;
 use crate::{SchemaFault, Session};
 use std::alloc::Global;
 use x_sema::{Schema, TypeId};
@@ -72,7 +73,7 @@ fn answer_typed<S: Sink>(
     ensures same { OnErr result ((pen.new ≡ pen.old) × (sink.new ≡ sink.old)) }
 {
     let Some(id) = schema.type_named(name) else {
-        pen.add(b"refused 42 NoType\n", sink);
+        LineRefusal::NoType.add_line(pen, sink);
         return Ok(true);
     };
     let message = message_bytes(alloc, hex)?;
@@ -97,7 +98,7 @@ pub(crate) fn answer_dump<S: Sink>(
     match session.schema() {
         Ok(schema) => answer_typed(alloc, &schema, name, hex, pen, sink),
         Err(SchemaFault::Faulty) => {
-            pen.add(b"refused 40 Faulty\n", sink);
+            LineRefusal::Faulty.add_line(pen, sink);
             Ok(true)
         }
         Err(SchemaFault::NoMemory) => Err(NoMemory),

@@ -10,7 +10,7 @@ use Rattle.x_cutting.specs.declared.cutting.item_entry.ItemEntry.{ItemEntry}
 use Rattle.x_session.specs.Counting.{faults_found}
 use Rattle.x_session.specs.Following.{AreFollowed, AreStaleChecked, AreUsed, IsNameChange, behind}
 use Rattle.x_session.specs.KeptView.{AreParsed}
-use Rattle.x_session.specs.PlannedResult.{ArePlanned}
+use Rattle.x_session.specs.Planned.{ArePlanned}
 use Rattle.x_session.specs.declared.compile.content.Content.{Content}
 use Rattle.x_session.proofs.AlongLemmas.{cut_of}
 use Rattle.x_session.proofs.StaleLemmas.{short_behind, short_fresh}

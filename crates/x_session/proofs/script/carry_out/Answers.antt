@@ -33,9 +33,9 @@ returns-in-Bad-clause-given g c =
     let text = c.args.session.now.text in
     let base = c.args.session.now.base in
     let given : Answer → Type 0 = λ a. IsGiven a c.args.session.now c.args.session.now true c.args.pen.now (g.S.Sink.state c.args.sink.now)
-    c.add.new.self (g.S.Sink.state c.add.new.sink) in (
+    c.add_line.new.pen (g.S.Sink.state c.add_line.new.sink) in (
       c.item_count-items.ensures.0,
       items,
       c.item_count-items.ensures.2,
-      subst given (sym (ap (λ command. answer base text items command) c.in-Bad.is)) (record { added = c.add.ensures; refused_is = refl; session_is = record { text_is = refl; base_is = refl } }),
+      subst given (sym (ap (λ command. answer base text items command) c.in-Bad.is)) (record { added = c.add_line.ensures; refused_is = refl; session_is = record { text_is = refl; base_is = refl } }),
     )

@@ -1,7 +1,7 @@
 use Rattle.std.proofs.Common.{ℕ, Bool, Option, Result, Err, List, Ok, refl, sym, ap, subst, ◌∙◌}
-use Rattle.std.specs.Prelude.{codes}
-use Rattle.x_session.specs.Answers.{refused}
+use Rattle.x_session.specs.Answers.{refused_by}
 use Rattle.x_session.specs.LineAnswers.{too_long}
+use Rattle.x_session.specs.declared.script.refusal.LineRefusal.TheVariants.{LongLine}
 use Rattle.x_lines.specs.declared.lines.LineFault.{LineFault}
 use Rattle.x_lines.specs.declared.lines.LineEvent.TheVariants.{Line, TooLong, End}
 use Rattle.x_session.specs.Script.{IsGiven, LineAnswers, GoesOn}
@@ -23,14 +23,14 @@ returns-in-TooLong-clause-given g c script given h =
     let told = found_as script given c.args.reader.now c.next.new.self left c.next.result TooLong read (c.in_ok-next.was ∙ ap Ok c.in-TooLong.is) in
     let text = c.args.session.now.text in
     let items = c.item_count-items.ensures.1 in
-    let a = refused text (codes "refused 44 LongLine\n") in (
+    let a = refused_by text LongLine in (
       told.0,
       line_given script given c.args.reader.now c.next.new.self left c.next.result told.0 read (before_long c.args.reader.now.state c.next.result c.next.ensures.ended (c.in_ok-next.was ∙ ap Ok c.in-TooLong.is)) told.2,
       (
         c.item_count-items.ensures.0,
         items,
         c.item_count-items.ensures.2,
-        (a, too_long told.1 refl, record { added = c.add.ensures; refused_is = refl; session_is = record { text_is = refl; base_is = refl } }),
+        (a, too_long told.1 refl, record { added = c.add_line.ensures; refused_is = refl; session_is = record { text_is = refl; base_is = refl } }),
       ),
     )
 

@@ -6,7 +6,7 @@ use Rattle.x_cutting.specs.declared.cutting.item_entry.ItemEntry.{ItemEntry}
 use Rattle.x_session.specs.Compile.{faults_at}
 use Rattle.x_session.specs.Counting.{faults_found, faults_with}
 use Rattle.x_session.specs.KeptView.{kept_parse}
-use Rattle.x_session.specs.PlannedResult.{overlaid}
+use Rattle.x_session.specs.Planned.{overlaid}
 use Rattle.x_session.specs.declared.compile.content.CheckResult.{CheckResult}
 use Rattle.x_session.specs.declared.compile.content.Content.{Content}
 use Rattle.x_session.proofs.PlannedLemmas.{IsPlannedAt, faults_own, not_planned, planned_here, planned_more, planned_within}

@@ -1,7 +1,7 @@
 use Rattle.std.proofs.Common.{◌≡◌, drop}
 use Rattle.x_cutting.specs.ItemList as items
 use Rattle.x_session.specs.Counting.{faults_found}
-use Rattle.x_session.specs.PlannedResult.{overlaid}
+use Rattle.x_session.specs.Planned.{overlaid}
 use Rattle.x_session.proofs.following.counting.faults_with.Given as goal
 
 -- the faults with what is planned from this one on

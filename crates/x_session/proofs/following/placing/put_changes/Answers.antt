@@ -6,7 +6,7 @@ use Rattle.x_cutting.specs.ItemList as items
 use Rattle.x_session.specs.Following.{whole}
 use Rattle.x_session.specs.KeptView.{AreWith}
 use Rattle.x_session.specs.Moves.{HasMoved, changed_items, moves, place_of}
-use Rattle.x_session.specs.PlannedResult.{numbers_of, overlaid}
+use Rattle.x_session.specs.Planned.{numbers_of, overlaid}
 use Rattle.x_session.proofs.MoveLemmas.{moved_none}
 use Rattle.x_session.proofs.PlacingLemmas.{ascent_rest, moved_all, moved_last, moved_next, moves_few, no_ascent, seat_all}
 use Rattle.x_session.proofs.PlannedLemmas.{ArePut, put_all, put_known, put_more, put_none, put_within}

@@ -5,7 +5,7 @@ use Rattle.x_cutting.specs.ItemList as items
 use Rattle.x_recheck.specs.Staleness.{Ascending}
 use Rattle.x_session.specs.Following.{CanPut, whole}
 use Rattle.x_session.specs.Moves.{HasMoved, changed_items, left_changes, place_of}
-use Rattle.x_session.specs.PlannedResult.{numbers_of}
+use Rattle.x_session.specs.Planned.{numbers_of}
 use Rattle.x_session.proofs.PlannedLemmas.{ArePut}
 use Rattle.x_session.proofs.following.placing.put_changes.Given as goal
 

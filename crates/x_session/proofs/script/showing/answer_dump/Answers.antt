@@ -9,8 +9,8 @@ returns-in-Err-Faulty-clause-told g c =
       h.0,
       h.1,
       h.2,
-      tells_faulty c.args.pen.now c.add.new.self (g.S.Sink.state c.args.sink.now) (g.S.Sink.state c.add.new.sink) c.args.session.now.text h.1 c.args.name.now
-          (bytes_of c.args.hex.now) c.schema.result (c.in-Err-Faulty.is ∙ ap Err c.in-Err-Faulty.field-0-is) h.3 c.add.ensures,
+      tells_faulty c.args.pen.now c.add_line.new.pen (g.S.Sink.state c.args.sink.now) (g.S.Sink.state c.add_line.new.sink) c.args.session.now.text h.1 c.args.name.now
+          (bytes_of c.args.hex.now) c.schema.result (c.in-Err-Faulty.is ∙ ap Err c.in-Err-Faulty.field-0-is) h.3 c.add_line.ensures,
     )
 
 pub returns-in-Ok-clause-told : goal.returns-in-Ok-clause-told

@@ -9,8 +9,8 @@ use Rattle.x_session.proofs.script.showing.answer_typed.Goals as goal
 
 pub returns-in_default-clause-told : goal.returns-in_default-clause-told
 returns-in_default-clause-told g c =
-    tells_no_type c.args.pen.now c.add.new.self (g.S.Sink.state c.args.sink.now) (g.S.Sink.state c.add.new.sink) c.args.schema.now c.args.name.now
-    (bytes_of c.args.hex.now) (sym c.type_named.ensures.named ∙ c.in_default.is) c.add.ensures
+    tells_no_type c.args.pen.now c.add_line.new.pen (g.S.Sink.state c.args.sink.now) (g.S.Sink.state c.add_line.new.sink) c.args.schema.now c.args.name.now
+    (bytes_of c.args.hex.now) (sym c.type_named.ensures.named ∙ c.in_default.is) c.add_line.ensures
 
 pub returns-clause-told : goal.returns-clause-told
 returns-clause-told g c =

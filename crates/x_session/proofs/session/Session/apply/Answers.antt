@@ -8,7 +8,7 @@ use Rattle.x_cutting.specs.ItemList.{AreOfText, counts}
 use Rattle.x_session.specs.Following.{AreUsed, IsPlan, IsToFollow, behind}
 use Rattle.x_session.specs.KeptView.{AreWith}
 use Rattle.x_session.specs.Moves.{changed_items, moves, place_of, seat_behind}
-use Rattle.x_session.specs.PlannedResult.{numbers_of}
+use Rattle.x_session.specs.Planned.{numbers_of}
 use Rattle.x_session.specs.Session.{Document}
 use Rattle.x_session.specs.SessionState.{IsKept}
 use Rattle.x_session.specs.Work.{IsWork}
