@@ -5,7 +5,7 @@ use Rattle.x_trees.specs.Tree as tree
 use Rattle.x_trees.specs.Words.{Word, Fixed}
 use Rattle.x_lex.specs.declared.mark.Mark.{Mark}
 use Rattle.x_trees.specs.declared.names.mention.Use.{Use}
-use Rattle.x_trees.specs.Gloss.{Role, Gloss, Site, InTypedef, AsField, AsDiscriminant, AsArm, glossed, worded, basic_marks, leading_roles, usage_at, name_inside, name_roles, lifted_roles, place_in, roles_where, argument_roles, VoidResult, VoidArgument, marks_by, most_by, length_by, named_by, given_by, enumerator_by, other_enumerators_by, enumerators_by, cases_by, type_by, body_by, declaration_by, declarations_by, arms_by, default_by, argument_by, passed_by, others_by, procedure_by, procedures_by, version_by, versions_by, gloss, told_of}
+use Rattle.x_trees.specs.Gloss.{Role, Gloss, Site, InTypedef, AsField, AsDiscriminant, AsArm, glossed, worded, basic_marks, leading_roles, usage_at, name_inside, name_roles, lifted_roles, site_in, roles_where, argument_roles, VoidResult, VoidArgument, marks_by, most_by, length_by, named_by, given_by, enumerator_by, other_enumerators_by, enumerators_by, cases_by, type_by, body_by, declaration_by, declarations_by, arms_by, default_by, argument_by, passed_by, others_by, procedure_by, procedures_by, version_by, versions_by, gloss, told_of}
 use Rattle.x_trees.specs.Spell.{spell, spell_most, spell_length, spell_named, spell_given, spell_enumerator, spell_other_enumerators, spell_enumerators, spell_cases, spell_type, spell_body, spell_declaration, spell_declarations, spell_arms, spell_default, spell_argument, spell_passed, spell_others, spell_procedure, spell_procedures, spell_version, spell_versions}
 
 -- ---- the words
@@ -71,33 +71,33 @@ mutual
   words_body around (tree.Enum es) = next (both (enumerators_by glossed (is_some around) es) _ (words_enumerators (is_some around) es) refl)
   words_body around (tree.Struct ds) = next (both (declarations_by glossed around ds) _ (words_declarations around ds) refl)
   words_body around (tree.Union d arms other) =
-      next (next (both (declaration_by glossed (place_in AsDiscriminant around) d) _ (words_declaration (place_in AsDiscriminant around) d)
+      next (next (both (declaration_by glossed (site_in AsDiscriminant around) d) _ (words_declaration (site_in AsDiscriminant around) d)
       (next (next (both (arms_by glossed around arms) _ (words_arms around arms) (words_default around other))))))
 
-  pub words_declaration : (place : Option Site) (d : tree.Declaration) → words (declaration_by glossed place d) ≡ spell_declaration d
-  words_declaration place tree.Void = refl
-  words_declaration place (tree.Of type name shape) =
-      both (type_by glossed (leading_roles place (tree.Of type name shape)) (usage_at place shape) (name_inside place name) type) _
-      (words_type (leading_roles place (tree.Of type name shape)) (usage_at place shape) (name_inside place name) type)
-      (words_named (is_some place) (name_roles place name ++ lifted_roles (name_inside place name) type) name shape)
-  words_declaration place (tree.Opaque name l) = next (next (words_length (is_some place) l))
-  words_declaration place (tree.String name most) = next (next (words_length (is_some place) (tree.Variable most)))
+  pub words_declaration : (site : Option Site) (d : tree.Declaration) → words (declaration_by glossed site d) ≡ spell_declaration d
+  words_declaration site tree.Void = refl
+  words_declaration site (tree.Of type name shape) =
+      both (type_by glossed (leading_roles site (tree.Of type name shape)) (usage_at site shape) (name_inside site name) type) _
+      (words_type (leading_roles site (tree.Of type name shape)) (usage_at site shape) (name_inside site name) type)
+      (words_named (is_some site) (name_roles site name ++ lifted_roles (name_inside site name) type) name shape)
+  words_declaration site (tree.Opaque name l) = next (next (words_length (is_some site) l))
+  words_declaration site (tree.String name most) = next (next (words_length (is_some site) (tree.Variable most)))
 
   words_declarations : (around : Option (List ℕ)) (ds : tree.Declarations) → words (declarations_by glossed around ds) ≡ spell_declarations ds
   words_declarations around tree.none = refl
   words_declarations around (tree.more d ds) =
-      both (declaration_by glossed (place_in AsField around) d) _ (words_declaration (place_in AsField around) d) (next (words_declarations around ds))
+      both (declaration_by glossed (site_in AsField around) d) _ (words_declaration (site_in AsField around) d) (next (words_declarations around ds))
 
   words_arms : (around : Option (List ℕ)) (arms : tree.Arms) → words (arms_by glossed around arms) ≡ spell_arms arms
   words_arms around tree.no_arm = refl
   words_arms around (tree.arm cases d rest) =
       both (cases_by glossed (is_some around) cases) _ (words_cases (is_some around) cases)
-      (both (declaration_by glossed (place_in AsArm around) d) _ (words_declaration (place_in AsArm around) d) (next (words_arms around rest)))
+      (both (declaration_by glossed (site_in AsArm around) d) _ (words_declaration (site_in AsArm around) d) (next (words_arms around rest)))
 
   words_default : (around : Option (List ℕ)) (other : tree.Default) → words (default_by glossed around other) ≡ spell_default other
   words_default around tree.no_default = refl
   words_default around (tree.default d) =
-      next (next (both (declaration_by glossed (place_in AsArm around) d) _ (words_declaration (place_in AsArm around) d) refl))
+      next (next (both (declaration_by glossed (site_in AsArm around) d) _ (words_declaration (site_in AsArm around) d) refl))
 
 words_argument : (told : Bool) (a : tree.Argument) → words (argument_by glossed told a) ≡ spell_argument a
 words_argument told tree.Text = refl

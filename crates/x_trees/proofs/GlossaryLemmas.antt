@@ -109,13 +109,13 @@ reads_name roles.GreatestSize t x = reads x
 abbrev IsSilent : {A : Type 0} → (ℕ → List Role → List A) → List Role → Type 0
 IsSilent tell roles = (k : ℕ) → tell k roles ≡ []
 
-leading_declares : (place : Site) (d : tree.Declaration) → IsSilent declared_at (leading_roles (Some place) d)
+leading_declares : (site : Site) (d : tree.Declaration) → IsSilent declared_at (leading_roles (Some site) d)
 leading_declares InTypedef d k = refl
 leading_declares (Inside AsField around) d k = refl
 leading_declares (Inside AsDiscriminant around) d k = refl
 leading_declares (Inside AsArm around) d k = refl
 
-leading_mentions : (place : Site) (d : tree.Declaration) → IsSilent mentioned_at (leading_roles (Some place) d)
+leading_mentions : (site : Site) (d : tree.Declaration) → IsSilent mentioned_at (leading_roles (Some site) d)
 leading_mentions InTypedef d k = refl
 leading_mentions (Inside AsField around) d k = refl
 leading_mentions (Inside AsDiscriminant around) d k = refl
@@ -165,18 +165,18 @@ led_told tell first usage inside (tree.Inline body) none named k = front_bare te
 led_told tell first usage inside (tree.Name t) none named k =
     sym (append_assoc (tell k first) (tell k (gloss.Mentions t usage None ∷ [])) []) ∙ ap (λ l. l ++ []) (named t k)
 
-pub reads_led_type : {a b c : Walk} (place : Site) (d : tree.Declaration) (usage : Use) (inside : Option (List ℕ)) (type : tree.DataType) → Finds a b 0 (λ k. []) (λ k. []) (λ k. noted_at k (leading_roles (Some place) d))
-    → Reads b c (type_by glossed [] (Some usage) inside type) → Reads a c (type_by glossed (leading_roles (Some place) d) (Some usage) inside type)
-reads_led_type place d usage inside type x y = record {
+pub reads_led_type : {a b c : Walk} (site : Site) (d : tree.Declaration) (usage : Use) (inside : Option (List ℕ)) (type : tree.DataType) → Finds a b 0 (λ k. []) (λ k. []) (λ k. noted_at k (leading_roles (Some site) d))
+    → Reads b c (type_by glossed [] (Some usage) inside type) → Reads a c (type_by glossed (leading_roles (Some site) d) (Some usage) inside type)
+reads_led_type site d usage inside type x y = record {
   names_in = covers_led (λ k. []) plain words long
-      (λ k. ap (λ l. l ++ told_of declared_at k plain) (sym (leading_declares place d k)) ∙ led_told declared_at first usage inside type (λ j. refl) (λ t j. append-nil (declared_at j first)) k) x.names_in y.names_in;
+      (λ k. ap (λ l. l ++ told_of declared_at k plain) (sym (leading_declares site d k)) ∙ led_told declared_at first usage inside type (λ j. refl) (λ t j. append-nil (declared_at j first)) k) x.names_in y.names_in;
   mentions_in = covers_led (λ k. []) plain words long
-      (λ k. ap (λ l. l ++ told_of mentioned_at k plain) (sym (leading_mentions place d k)) ∙ led_told mentioned_at first usage inside type (λ j. refl) named k) x.mentions_in y.mentions_in;
+      (λ k. ap (λ l. l ++ told_of mentioned_at k plain) (sym (leading_mentions site d k)) ∙ led_told mentioned_at first usage inside type (λ j. refl) named k) x.mentions_in y.mentions_in;
   notes_in = covers_led (λ k. noted_at k first) plain words long (led_told noted_at first usage inside type (λ j. refl) (λ t j. append-nil (noted_at j first))) x.notes_in y.notes_in;
 }
   where
     first : List Role
-    first = leading_roles (Some place) d
+    first = leading_roles (Some site) d
 
     plain : List Gloss
     plain = type_by glossed [] (Some usage) inside type
@@ -190,30 +190,30 @@ reads_led_type place d usage inside type x y = record {
     named : (t : List ℕ) (k : ℕ) → mentioned_at k first ++ mentioned_at k (gloss.Mentions t usage None ∷ []) ≡ mentioned_at k (gloss.Mentions t usage None ∷ first)
     named t k =
         let m : Mention = record { name = t; word = k; usage = usage; tag = None } in
-        ap (λ l. l ++ m ∷ []) (leading_mentions place d k) ∙ ap (λ l. m ∷ l) (sym (leading_mentions place d k))
+        ap (λ l. l ++ m ∷ []) (leading_mentions site d k) ∙ ap (λ l. m ∷ l) (sym (leading_mentions site d k))
 
 -- a keyword that is the first word of a declaration
-pub reads_first : {a b c : Walk} (place : Site) (d : tree.Declaration) (keyword : Word) → Finds a b 0 (λ k. []) (λ k. []) (λ k. noted_at k (leading_roles (Some place) d)) → Finds b c 1 (λ k. []) (λ k. []) (λ k. [])
-    → Reads a c (glossed keyword (leading_roles (Some place) d) ∷ [])
-reads_first place d keyword x y = record {
-  names_in = covers_led (λ k. []) (glossed keyword [] ∷ []) _ refl (λ k. ap (λ l. l ++ []) (sym (leading_declares place d k))) x.names_in record { all = y.names_in };
-  mentions_in = covers_led (λ k. []) (glossed keyword [] ∷ []) _ refl (λ k. ap (λ l. l ++ []) (sym (leading_mentions place d k))) x.mentions_in record { all = y.mentions_in };
-  notes_in = covers_led (λ k. noted_at k (leading_roles (Some place) d)) (glossed keyword [] ∷ []) _ refl (λ k. refl) x.notes_in record { all = y.notes_in };
+pub reads_first : {a b c : Walk} (site : Site) (d : tree.Declaration) (keyword : Word) → Finds a b 0 (λ k. []) (λ k. []) (λ k. noted_at k (leading_roles (Some site) d)) → Finds b c 1 (λ k. []) (λ k. []) (λ k. [])
+    → Reads a c (glossed keyword (leading_roles (Some site) d) ∷ [])
+reads_first site d keyword x y = record {
+  names_in = covers_led (λ k. []) (glossed keyword [] ∷ []) _ refl (λ k. ap (λ l. l ++ []) (sym (leading_declares site d k))) x.names_in record { all = y.names_in };
+  mentions_in = covers_led (λ k. []) (glossed keyword [] ∷ []) _ refl (λ k. ap (λ l. l ++ []) (sym (leading_mentions site d k))) x.mentions_in record { all = y.mentions_in };
+  notes_in = covers_led (λ k. noted_at k (leading_roles (Some site) d)) (glossed keyword [] ∷ []) _ refl (λ k. refl) x.notes_in record { all = y.notes_in };
 }
 
 -- ---- the names of declarations
 
-pub reads_declared : {a b c e : Walk} (place : Site) (name : List ℕ) (lifted : Option Lifted) → Finds a b 0 (λ k. declared_at k (name_roles (Some place) name)) (λ k. []) (λ k. [])
+pub reads_declared : {a b c e : Walk} (site : Site) (name : List ℕ) (lifted : Option Lifted) → Finds a b 0 (λ k. declared_at k (name_roles (Some site) name)) (λ k. []) (λ k. [])
     → Finds b c 0 (λ k. declared_at k (roles_of_lifted lifted)) (λ k. []) (λ k. []) → Finds c e 1 (λ k. []) (λ k. []) (λ k. [])
-    → Reads a e (glossed (Name name) (name_roles (Some place) name ++ roles_of_lifted lifted) ∷ [])
+    → Reads a e (glossed (Name name) (name_roles (Some site) name ++ roles_of_lifted lifted) ∷ [])
 reads_declared InTypedef name None x y z = reads (found_here x (found_here y z))
 reads_declared InTypedef name (Some lifted) x y z = reads (found_here x (found_here y z))
 reads_declared (Inside position around) name None x y z = reads (found_here x (found_here y z))
 reads_declared (Inside position around) name (Some lifted) x y z = reads (found_here x (found_here y z))
 
 -- one that is not that of an inline type
-pub reads_own : {a b : Walk} (place : Site) (name : List ℕ) → Reads a b (glossed (Name name) (name_roles (Some place) name ++ []) ∷ []) → Reads a b (glossed (Name name) (name_roles (Some place) name) ∷ [])
-reads_own place name x = reads_as x (ap (λ roles. glossed (Name name) roles ∷ []) (append-nil (name_roles (Some place) name)))
+pub reads_own : {a b : Walk} (site : Site) (name : List ℕ) → Reads a b (glossed (Name name) (name_roles (Some site) name ++ []) ∷ []) → Reads a b (glossed (Name name) (name_roles (Some site) name) ∷ [])
+reads_own site name x = reads_as x (ap (λ roles. glossed (Name name) roles ∷ []) (append-nil (name_roles (Some site) name)))
 
 pub outside_lifts : (type : tree.DataType) → IsOutside type → (inside : Option (List ℕ)) → lifted_roles inside type ≡ []
 outside_lifts type out None = refl
@@ -223,22 +223,22 @@ outside_lifts (tree.Tagged tag t) out (Some lifted) = refl
 outside_lifts (tree.Inline body) out (Some lifted) = absurd out
 
 -- a type, and the name of a declaration with what stands around it
-pub reads_typed : {a b c e : Walk} (place : Site) (type : tree.DataType) (name : List ℕ) (shape : tree.Shape) (lifted : List Role) → lifted ≡ lifted_roles (name_inside (Some place) name) type
-    → Finds a b 0 (λ k. []) (λ k. []) (λ k. noted_at k (leading_roles (Some place) (tree.Of type name shape)))
-    → Reads b c (type_by glossed [] (Some (use_by shape)) (name_inside (Some place) name) type)
-    → Reads c e (named_by glossed true (name_roles (Some place) name ++ lifted) name shape)
-    → Reads a e (declaration_by glossed (Some place) (tree.Of type name shape))
-reads_typed {c = c} {e} place type name shape lifted is lead x y =
-    reads_then (reads_led_type place (tree.Of type name shape) (use_by shape) (name_inside (Some place) name) type lead x)
-    (subst (λ l. Reads c e (named_by glossed true (name_roles (Some place) name ++ l) name shape)) is y)
+pub reads_typed : {a b c e : Walk} (site : Site) (type : tree.DataType) (name : List ℕ) (shape : tree.Shape) (lifted : List Role) → lifted ≡ lifted_roles (name_inside (Some site) name) type
+    → Finds a b 0 (λ k. []) (λ k. []) (λ k. noted_at k (leading_roles (Some site) (tree.Of type name shape)))
+    → Reads b c (type_by glossed [] (Some (use_by shape)) (name_inside (Some site) name) type)
+    → Reads c e (named_by glossed true (name_roles (Some site) name ++ lifted) name shape)
+    → Reads a e (declaration_by glossed (Some site) (tree.Of type name shape))
+reads_typed {c = c} {e} site type name shape lifted is lead x y =
+    reads_then (reads_led_type site (tree.Of type name shape) (use_by shape) (name_inside (Some site) name) type lead x)
+    (subst (λ l. Reads c e (named_by glossed true (name_roles (Some site) name ++ l) name shape)) is y)
 
 -- what is found of a declaration as it is written
-pub reads_declaration : {a b : Walk} {d e : tree.Declaration} (place : Site) → d ≡ e → Reads a b (declaration_by glossed (Some place) e) → Reads a b (declaration_by glossed (Some place) d)
-reads_declaration {a} {b} place is x = subst (λ d. Reads a b (declaration_by glossed (Some place) d)) (sym is) x
+pub reads_declaration : {a b : Walk} {d e : tree.Declaration} (site : Site) → d ≡ e → Reads a b (declaration_by glossed (Some site) e) → Reads a b (declaration_by glossed (Some site) d)
+reads_declaration {a} {b} site is x = subst (λ d. Reads a b (declaration_by glossed (Some site) d)) (sym is) x
 
 -- what is found in front of a declaration as it is written
-pub led_as : {a b : Walk} {d e : tree.Declaration} (place : Site) → d ≡ e → Finds a b 0 (λ k. []) (λ k. []) (λ k. noted_at k (leading_roles (Some place) d)) → Finds a b 0 (λ k. []) (λ k. []) (λ k. noted_at k (leading_roles (Some place) e))
-led_as {a} {b} place is x = subst (λ d. Finds a b 0 (λ k. []) (λ k. []) (λ k. noted_at k (leading_roles (Some place) d))) is x
+pub led_as : {a b : Walk} {d e : tree.Declaration} (site : Site) → d ≡ e → Finds a b 0 (λ k. []) (λ k. []) (λ k. noted_at k (leading_roles (Some site) d)) → Finds a b 0 (λ k. []) (λ k. []) (λ k. noted_at k (leading_roles (Some site) e))
+led_as {a} {b} site is x = subst (λ d. Finds a b 0 (λ k. []) (λ k. []) (λ k. noted_at k (leading_roles (Some site) d))) is x
 
 -- ---- types
 

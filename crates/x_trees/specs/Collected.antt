@@ -15,7 +15,7 @@ use Rattle.x_trees.specs.declared.names.mention.Mention.{Mention}
 use Rattle.x_trees.specs.declared.names.note.ValueRole.{ValueRole}
 use Rattle.x_trees.specs.declared.names.note.ValueRole.TheVariants as roles
 use Rattle.x_trees.specs.declared.names.glossary.Site.{Site}
-use Rattle.x_trees.specs.declared.names.glossary.Site.TheVariants as places
+use Rattle.x_trees.specs.declared.names.glossary.Site.TheVariants as sites
 use Rattle.x_trees.specs.declared.names.glossary.Lifted.{Lifted}
 use Rattle.x_trees.specs.declared.names.glossary.Walk.{Walk}
 
@@ -82,12 +82,12 @@ pub record ReadsAll (from to : Walk) (d : tree.Definition) : Type 0 where
 
 -- ---- what the walk is told
 
--- the place, inside the type of the name if it is inside a type
-abbrev pub place_in : Site → List ℕ → gloss.Site
-place_in places.Typedef around = gloss.InTypedef
-place_in places.Field around = gloss.Inside gloss.AsField around
-place_in places.Discriminant around = gloss.Inside gloss.AsDiscriminant around
-place_in places.Arm around = gloss.Inside gloss.AsArm around
+-- the site, inside the type of the name if it is inside a type
+abbrev pub site_in : Site → List ℕ → gloss.Site
+site_in sites.Typedef around = gloss.InTypedef
+site_in sites.Field around = gloss.Inside gloss.AsField around
+site_in sites.Discriminant around = gloss.Inside gloss.AsDiscriminant around
+site_in sites.Arm around = gloss.Inside gloss.AsArm around
 
 -- the role of a value
 abbrev pub role_of : ValueRole → tree.Value → Role

@@ -56,7 +56,7 @@ pub data Role : Type 0 where
   VersionNumber : (text : List ℕ) → Role
   ProcedureNumber : (text : List ℕ) → Role
   -- it is `void`, in place of a declaration, of a result or of arguments, of which so many stand behind it
-  VoidDeclaration : (place : Site) → Role
+  VoidDeclaration : (site : Site) → Role
   VoidResult : Role
   VoidArgument : (others : ℕ) → Role
   -- it is the first word of the declaration of a discriminant
@@ -126,9 +126,9 @@ roles_where true roles = roles
 roles_where false roles = []
 
 -- where a declaration stands inside a type
-abbrev pub place_in : Position → Option (List ℕ) → Option Site
-place_in position None = None
-place_in position (Some around) = Some (Inside position around)
+abbrev pub site_in : Position → Option (List ℕ) → Option Site
+site_in position None = None
+site_in position (Some around) = Some (Inside position around)
 
 -- the name of an inline type in a declaration of the name
 abbrev pub name_inside : Option Site → List ℕ → Option (List ℕ)
@@ -139,7 +139,7 @@ name_inside (Some (Inside position around)) name = Some (lifted_name around name
 -- what the type of a declaration of the shape is used as
 abbrev pub usage_at : Option Site → tree.Shape → Option Use
 usage_at None shape = None
-usage_at (Some place) shape = Some (use_by shape)
+usage_at (Some site) shape = Some (use_by shape)
 
 -- the roles of a value: its own one, and that of a name
 abbrev pub value_roles : Role → tree.Value → List Role
@@ -153,11 +153,11 @@ mention_roles (Some usage) tag name = Mentions name usage tag ∷ []
 -- the roles of the first word of a declaration
 abbrev pub leading_roles : Option Site → tree.Declaration → List Role
 leading_roles (Some (Inside AsDiscriminant around)) d = Discriminant d ∷ []
-leading_roles place d = []
+leading_roles site d = []
 
 abbrev pub void_roles : Option Site → List Role
 void_roles None = []
-void_roles (Some place) = VoidDeclaration place ∷ leading_roles (Some place) tree.Void
+void_roles (Some site) = VoidDeclaration site ∷ leading_roles (Some site) tree.Void
 
 -- the roles of the name of a declaration
 abbrev pub name_roles : Option Site → List ℕ → List Role
@@ -259,29 +259,29 @@ abbrev mutual
   body_by make around (tree.Union d arms other) =
       make (Fixed marks.Switch) []
       ∷ make (Fixed marks.OpenParenthesis) []
-      ∷ (declaration_by make (place_in AsDiscriminant around) d
+      ∷ (declaration_by make (site_in AsDiscriminant around) d
       ++ make (Fixed marks.CloseParenthesis) []
       ∷ make (Fixed marks.OpenBrace) [] ∷ (arms_by make around arms ++ default_by make around other))
 
   pub declaration_by : {A : Type 0} → (Word → List Role → A) → Option Site → tree.Declaration → List A
-  declaration_by make place tree.Void = make (Fixed marks.Void) (void_roles place) ∷ []
-  declaration_by make place (tree.Of type name shape) =
-      type_by make (leading_roles place (tree.Of type name shape)) (usage_at place shape)
-      (name_inside place name) type
-      ++ named_by make (is_some place)
-      (name_roles place name ++ lifted_roles (name_inside place name) type) name shape
-  declaration_by make place (tree.Opaque name length) =
-      make (Fixed marks.Opaque) (leading_roles place (tree.Opaque name length))
-      ∷ make (Name name) (name_roles place name) ∷ length_by make (is_some place) length
-  declaration_by make place (tree.String name most) =
-      make (Fixed marks.String) (leading_roles place (tree.String name most))
-      ∷ make (Name name) (name_roles place name) ∷ length_by make (is_some place) (tree.Variable most)
+  declaration_by make site tree.Void = make (Fixed marks.Void) (void_roles site) ∷ []
+  declaration_by make site (tree.Of type name shape) =
+      type_by make (leading_roles site (tree.Of type name shape)) (usage_at site shape)
+      (name_inside site name) type
+      ++ named_by make (is_some site)
+      (name_roles site name ++ lifted_roles (name_inside site name) type) name shape
+  declaration_by make site (tree.Opaque name length) =
+      make (Fixed marks.Opaque) (leading_roles site (tree.Opaque name length))
+      ∷ make (Name name) (name_roles site name) ∷ length_by make (is_some site) length
+  declaration_by make site (tree.String name most) =
+      make (Fixed marks.String) (leading_roles site (tree.String name most))
+      ∷ make (Name name) (name_roles site name) ∷ length_by make (is_some site) (tree.Variable most)
 
   -- (declaration ";")*
   pub declarations_by : {A : Type 0} → (Word → List Role → A) → Option (List ℕ) → tree.Declarations → List A
   declarations_by make around tree.none = []
   declarations_by make around (tree.more d ds) =
-      declaration_by make (place_in AsField around) d ++ make (Fixed marks.Semicolon) []
+      declaration_by make (site_in AsField around) d ++ make (Fixed marks.Semicolon) []
       ∷ declarations_by make around ds
 
   -- (("case" value ":")* declaration ";")*
@@ -289,7 +289,7 @@ abbrev mutual
   arms_by make around tree.no_arm = []
   arms_by make around (tree.arm cases d rest) =
       cases_by make (is_some around) cases
-      ++ (declaration_by make (place_in AsArm around) d ++ make (Fixed marks.Semicolon) []
+      ++ (declaration_by make (site_in AsArm around) d ++ make (Fixed marks.Semicolon) []
       ∷ arms_by make around rest)
 
   -- ["default" ":" declaration ";"] "}"
@@ -298,7 +298,7 @@ abbrev mutual
   default_by make around (tree.default d) =
       make (Fixed marks.Default) []
       ∷ make (Fixed marks.Colon) []
-      ∷ (declaration_by make (place_in AsArm around) d ++ make (Fixed marks.Semicolon) []
+      ∷ (declaration_by make (site_in AsArm around) d ++ make (Fixed marks.Semicolon) []
       ∷ make (Fixed marks.CloseBrace) [] ∷ [])
 
 -- arg: type | "string"; nothing inside an inline type has a role

@@ -1,6 +1,6 @@
 //! Records of a stream of bytes (RFC 5531, section 11): a record comes as fragments, each behind a header.
 ghost use Rattle.std.specs.Prelude.{◌≡◌, ◌<◌, ◌≤◌, ◌^◌, ◌++◌, ℕ, List, All, length, IfOk, MatchResult};
-ghost use Rattle.std.specs.Prelude.{MatchOption};
+ghost use Rattle.std.specs.Prelude.{MatchOption, Some};
 ghost use Rattle.std.specs.Borrow.{sem};
 ghost use Rattle.std.specs.Io.BufRead.{Rests};
 ghost use Rattle.x_wire.specs.Records.{Left, left, nothing_left, records};
@@ -11,6 +11,7 @@ mod framer;
 
 pub(crate) use framer::Framer;
 use std::alloc::Global;
+use std::fmt;
 use std::marker::Model;
 use thiserror::Error;
 
@@ -18,16 +19,13 @@ use thiserror::Error;
 pub const MAX_RECORD: usize = 1_048_576;
 
 /// Why a stream is refused. The number of each is its code.
-#[derive(Clone, Copy, Debug, PartialEq, Eq, Error)]
+#[derive(Clone, Copy, Debug, PartialEq, Eq)]
 pub enum RecordCode {
     /// Memory ran out.
-    #[error("58 NoMemory")]
     NoMemory = 58,
     /// A record would be longer than [`MAX_RECORD`] bytes.
-    #[error("60 RecordTooLong")]
     RecordTooLong = 60,
     /// The stream ends inside a header or a record.
-    #[error("61 Truncated")]
     Truncated = 61,
 }
 
@@ -41,6 +39,14 @@ impl RecordCode {
             RecordCode::RecordTooLong => "60 RecordTooLong",
             RecordCode::Truncated => "61 Truncated",
         }
+    }
+}
+
+impl fmt::Display for RecordCode {
+    ghost output = { λ code. Some (record_text code) };
+
+    fn fmt<W: fmt::Write>(&self, f: &mut fmt::Formatter<W>) -> fmt::Result {
+        f.write_str(self.text())
     }
 }
 

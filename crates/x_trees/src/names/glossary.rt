@@ -20,7 +20,7 @@ ghost use Rattle.x_trees.specs.Spell.{spell};
 ghost use Rattle.x_trees.specs.Names.{declared, declared_at};
 ghost use Rattle.x_trees.specs.Mentions.{mentioned, mentioned_at};
 ghost use Rattle.x_trees.specs.Notes.{noted, noted_at, view_note, view_note_at};
-ghost use Rattle.x_trees.specs.Collected.{view_name, view_mention, Finds, Reads, ReadsAll, place_in, role_of};
+ghost use Rattle.x_trees.specs.Collected.{view_name, view_mention, Finds, Reads, ReadsAll, site_in, role_of};
 ghost use Rattle.x_trees.specs.Collected.{roles_of_lifted, IsOutside};
 ghost use Rattle.x_trees.specs.Notes.{NumberNote};
 
@@ -136,11 +136,11 @@ struct Lifted {
 
 /// The name of an inline type in a declaration of the name, which stands in the type that `around` names or
 /// behind `typedef`.
-fn name_inside(alloc: Global, place: Site, around: &[u8], name: &[u8]) -> Result<Vec<u8>, NoMemory>
+fn name_inside(alloc: Global, site: Site, around: &[u8], name: &[u8]) -> Result<Vec<u8>, NoMemory>
     ensures { IfOk result
-        (λ lifted. name_inside (Some (place_in place around.now)) name.now ≡ Some lifted.items) }
+        (λ lifted. name_inside (Some (site_in site around.now)) name.now ≡ Some lifted.items) }
 {
-    match place {
+    match site {
         Site::Typedef => lifted_name(alloc, name, name),
         _ => lifted_name(alloc, around, name),
     }
@@ -252,11 +252,11 @@ impl<'d> Walk<'d> {
     }
 
     /// Takes in the name of a declaration, if that declares it.
-    fn own_name(&mut self, place: Site, name: &'d [u8]) -> Result<(), NoMemory>
+    fn own_name(&mut self, site: Site, name: &'d [u8]) -> Result<(), NoMemory>
         ensures { OnOk result ((around : List ℕ) → Finds self.old self.new 0
-            (λ k. declared_at k (name_roles (Some (place_in place around)) name.now)) (λ k. []) (λ k. [])) }
+            (λ k. declared_at k (name_roles (Some (site_in site around)) name.now)) (λ k. []) (λ k. [])) }
     {
-        match place {
+        match site {
             Site::Typedef => { self.declare(CowSlice::Borrowed(name), NameKind::Typedef, false) }
             _ => Ok(()),
         }
@@ -276,14 +276,14 @@ impl<'d> Walk<'d> {
     /// Goes over the name of a declaration.
     fn name_word(
         &mut self,
-        place: Site,
+        site: Site,
         name: &'d [u8],
         lifted: Option<Lifted>,
     ) -> Result<(), NoMemory>
         ensures { OnOk result ((around : List ℕ) → Reads self.old self.new (glossed (Name name.now)
-            (name_roles (Some (place_in place around)) name.now ++ roles_of_lifted lifted) ∷ [])) }
+            (name_roles (Some (site_in site around)) name.now ++ roles_of_lifted lifted) ∷ [])) }
     {
-        self.own_name(place, name)?;
+        self.own_name(site, name)?;
         self.inline_name(lifted)?;
         self.skip(1);
         Ok(())
@@ -292,23 +292,23 @@ impl<'d> Walk<'d> {
     /// Goes over the name of a declaration and what stands around it.
     fn declarator(
         &mut self,
-        place: Site,
+        site: Site,
         name: &'d [u8],
         lifted: Option<Lifted>,
         shape: &'d Shape,
     ) -> Result<(), NoMemory>
         ensures { OnOk result ((around : List ℕ) → Reads self.old self.new (named_by glossed true
-            (name_roles (Some (place_in place around)) name.now ++ roles_of_lifted lifted) name.now
+            (name_roles (Some (site_in site around)) name.now ++ roles_of_lifted lifted) name.now
             (view_shape shape.now))) }
     {
         match shape {
-            Shape::Plain => self.name_word(place, name, lifted),
+            Shape::Plain => self.name_word(site, name, lifted),
             Shape::Optional => {
                 self.skip(1);
-                self.name_word(place, name, lifted)
+                self.name_word(site, name, lifted)
             }
             Shape::Array(length) => {
-                self.name_word(place, name, lifted)?;
+                self.name_word(site, name, lifted)?;
                 self.brackets(length)
             }
         }
@@ -371,16 +371,16 @@ impl<'d> Walk<'d> {
     fn data_type(
         &mut self,
         alloc: Global,
-        place: Site,
+        site: Site,
         around: &[u8],
         name: &[u8],
         usage: Use,
         tree: &'d DataType,
     ) -> Result<Option<Lifted>, NoMemory>
         ensures lifted { IfOk result (λ lifted. roles_of_lifted lifted
-            ≡ lifted_roles (name_inside (Some (place_in place around.now)) name.now) (view_type tree.now)) }
+            ≡ lifted_roles (name_inside (Some (site_in site around.now)) name.now) (view_type tree.now)) }
         ensures reads { OnOk result (Reads self.old self.new (type_by glossed [] (Some usage)
-            (name_inside (Some (place_in place around.now)) name.now) (view_type tree.now))) }
+            (name_inside (Some (site_in site around.now)) name.now) (view_type tree.now))) }
     {
         match tree {
             DataType::Basic(basic) => {
@@ -399,7 +399,7 @@ impl<'d> Walk<'d> {
                 Ok(None)
             }
             DataType::Inline(body) => {
-                let lifted = name_inside(alloc, place, around, name)?;
+                let lifted = name_inside(alloc, site, around, name)?;
                 self.skip(1);
                 self.body(alloc, &lifted, body)?;
                 Ok(Some(Lifted {
@@ -441,23 +441,23 @@ impl<'d> Walk<'d> {
     }
 
     /// Takes note of the first word of a declaration.
-    fn leading(&mut self, place: Site, declaration: &'d Declaration) -> Result<(), NoMemory>
+    fn leading(&mut self, site: Site, declaration: &'d Declaration) -> Result<(), NoMemory>
         ensures { OnOk result ((around : List ℕ) → Finds self.old self.new 0 (λ k. []) (λ k. [])
-            (λ k. noted_at k (leading_roles (Some (place_in place around))
+            (λ k. noted_at k (leading_roles (Some (site_in site around))
             (view_declaration declaration.now)))) }
     {
-        match place {
+        match site {
             Site::Discriminant => self.note(Note::Discriminant(declaration)),
             _ => Ok(()),
         }
     }
 
     /// Goes over a `void`.
-    fn void(&mut self, place: Site, declaration: &'d Declaration) -> Result<(), NoMemory>
+    fn void(&mut self, site: Site, declaration: &'d Declaration) -> Result<(), NoMemory>
         ensures { OnOk result ((around : List ℕ) → view_declaration declaration.now ≡ Void
-            → Reads self.old self.new (declaration_by glossed (Some (place_in place around)) Void)) }
+            → Reads self.old self.new (declaration_by glossed (Some (site_in site around)) Void)) }
     {
-        match place {
+        match site {
             Site::Arm => {}
             Site::Discriminant => {
                 self.note(Note::Misplaced)?;
@@ -473,31 +473,31 @@ impl<'d> Walk<'d> {
     fn declaration(
         &mut self,
         alloc: Global,
-        place: Site,
+        site: Site,
         around: &[u8],
         declaration: &'d Declaration,
     ) -> Result<(), NoMemory>
         ensures { OnOk result (Reads self.old self.new
-            (declaration_by glossed (Some (place_in place around.now)) (view_declaration declaration.now))) }
+            (declaration_by glossed (Some (site_in site around.now)) (view_declaration declaration.now))) }
     {
         match declaration {
-            Declaration::Void => self.void(place, declaration),
+            Declaration::Void => self.void(site, declaration),
             Declaration::Of { data, name, shape } => {
-                self.leading(place, declaration)?;
+                self.leading(site, declaration)?;
                 let usage = Use::of_type(shape);
-                let lifted = self.data_type(alloc, place, around, name, usage, data)?;
-                self.declarator(place, name, lifted, shape)
+                let lifted = self.data_type(alloc, site, around, name, usage, data)?;
+                self.declarator(site, name, lifted, shape)
             }
             Declaration::Opaque { name, length } => {
-                self.leading(place, declaration)?;
+                self.leading(site, declaration)?;
                 self.skip(1);
-                self.name_word(place, name, None)?;
+                self.name_word(site, name, None)?;
                 self.brackets(length)
             }
             Declaration::String { name, most } => {
-                self.leading(place, declaration)?;
+                self.leading(site, declaration)?;
                 self.skip(1);
-                self.name_word(place, name, None)?;
+                self.name_word(site, name, None)?;
                 self.skip(1);
                 self.most(most)?;
                 self.skip(1);

@@ -6,7 +6,7 @@ use Rattle.x_trees.specs.View.{view_type, view_shape, view_length, view_most, vi
 use Rattle.x_trees.specs.Words.{Name, Fixed}
 use Rattle.x_lex.specs.declared.mark.Mark.TheVariants as marks
 use Rattle.x_trees.specs.Gloss.{Gloss, AsField, AsArm, Inside, glossed, use_by, name_inside, name_roles, lifted_roles, enumerators_by, cases_by, type_by, named_by, body_by, declaration_by, declarations_by, arms_by, default_by}
-use Rattle.x_trees.specs.Collected.{Reads, place_in, roles_of_lifted}
+use Rattle.x_trees.specs.Collected.{Reads, site_in, roles_of_lifted}
 use Rattle.x_trees.specs.declared.trees.declaration.Body.TheViews.{out-UnionBody}
 use Rattle.x_trees.proofs.GlossaryLemmas.{reads, reads_then, reads_next, reads_two, reads_as, reads_start, reads_over, reads_end, reads_typed, reads_declaration, reads_first, reads_own, led_as}
 use Rattle.x_trees.proofs.Rows.{struct_view, union_parts}
@@ -90,42 +90,42 @@ default-returns-in_ok-declaration-in-Some t c =
 
 pub declaration-returns-in_ok-lifted-in-Of : goal.declaration-returns-in_ok-lifted-in-Of
 declaration-returns-in_ok-lifted-in-Of t c =
-    let place = place_in c.args.place c.args.around.now in
+    let site = site_in c.args.site c.args.around.now in
     let type = view_type c.in-Of.data in
     let shape = view_shape c.in-Of.shape in
     let name = c.in-Of.name.items in
     let lifted = roles_of_lifted c.in_ok-lifted-in-Of.lifted in
     let is : view_declaration c.args.declaration.now ≡ Of type name shape = ap view_declaration c.in-Of.is in
-    let lifts : lifted ≡ lifted_roles (name_inside (Some place) name) type = subst (λ n. lifted ≡ lifted_roles (name_inside (Some place) n) type) c.deref.ensures c.in_ok-lifted-in-Of.ensures.lifted in
-    let front : Reads c.leading.new.self c.data_type.new.self (type_by glossed [] (Some (use_by shape)) (name_inside (Some place) name) type) =
-    subst (λ n. Reads c.leading.new.self c.data_type.new.self (type_by glossed [] (Some (use_by shape)) (name_inside (Some place) n) type)) c.deref.ensures
-    (subst (λ u. Reads c.leading.new.self c.data_type.new.self (type_by glossed [] (Some u) (name_inside (Some place) c.deref.result.now) type)) c.of_type-usage.ensures c.in_ok-lifted-in-Of.ensures.reads) in
+    let lifts : lifted ≡ lifted_roles (name_inside (Some site) name) type = subst (λ n. lifted ≡ lifted_roles (name_inside (Some site) n) type) c.deref.ensures c.in_ok-lifted-in-Of.ensures.lifted in
+    let front : Reads c.leading.new.self c.data_type.new.self (type_by glossed [] (Some (use_by shape)) (name_inside (Some site) name) type) =
+    subst (λ n. Reads c.leading.new.self c.data_type.new.self (type_by glossed [] (Some (use_by shape)) (name_inside (Some site) n) type)) c.deref.ensures
+    (subst (λ u. Reads c.leading.new.self c.data_type.new.self (type_by glossed [] (Some u) (name_inside (Some site) c.deref.result.now) type)) c.of_type-usage.ensures c.in_ok-lifted-in-Of.ensures.reads) in
     on_ok_weaker c.declarator.result
-    (λ last. let behind : Reads c.data_type.new.self c.declarator.new.self (named_by glossed true (name_roles (Some place) name ++ lifted) name shape) =
-    subst (λ n. Reads c.data_type.new.self c.declarator.new.self (named_by glossed true (name_roles (Some place) n ++ lifted) n shape)) c.deref-in-Of.ensures (last c.args.around.now) in
-    reads_declaration place is (reads_typed place type name shape lifted lifts (led_as place is (c.in_ok-leading-in-Of.ensures c.args.around.now)) front behind))
+    (λ last. let behind : Reads c.data_type.new.self c.declarator.new.self (named_by glossed true (name_roles (Some site) name ++ lifted) name shape) =
+    subst (λ n. Reads c.data_type.new.self c.declarator.new.self (named_by glossed true (name_roles (Some site) n ++ lifted) n shape)) c.deref-in-Of.ensures (last c.args.around.now) in
+    reads_declaration site is (reads_typed site type name shape lifted lifts (led_as site is (c.in_ok-leading-in-Of.ensures c.args.around.now)) front behind))
     c.declarator.ensures
 
 pub declaration-returns-in_ok-name_word-in-Opaque : goal.declaration-returns-in_ok-name_word-in-Opaque
 declaration-returns-in_ok-name_word-in-Opaque t c =
-    let place = place_in c.args.place c.args.around.now in
+    let site = site_in c.args.site c.args.around.now in
     let name = c.in-Opaque.name.items in
     let d = Opaque name (view_length c.in-Opaque.length) in
     let is : view_declaration c.args.declaration.now ≡ d = ap view_declaration c.in-Opaque.is in
-    let own : Reads c.skip.new.self c.name_word.new.self (glossed (Name name) (name_roles (Some place) name ++ []) ∷ []) =
-    subst (λ n. Reads c.skip.new.self c.name_word.new.self (glossed (Name n) (name_roles (Some place) n ++ []) ∷ [])) c.deref-in-Opaque.ensures (c.in_ok-name_word-in-Opaque.ensures c.args.around.now) in
+    let own : Reads c.skip.new.self c.name_word.new.self (glossed (Name name) (name_roles (Some site) name ++ []) ∷ []) =
+    subst (λ n. Reads c.skip.new.self c.name_word.new.self (glossed (Name n) (name_roles (Some site) n ++ []) ∷ [])) c.deref-in-Opaque.ensures (c.in_ok-name_word-in-Opaque.ensures c.args.around.now) in
     on_ok_weaker c.brackets.result
-    (λ last. reads_declaration place is (reads_next (reads_first place d _ (led_as place is (c.in_ok-leading-in-Opaque.ensures c.args.around.now)) c.skip.ensures)
-    (reads_next (reads_own place name own) last)))
+    (λ last. reads_declaration site is (reads_next (reads_first site d _ (led_as site is (c.in_ok-leading-in-Opaque.ensures c.args.around.now)) c.skip.ensures)
+    (reads_next (reads_own site name own) last)))
     c.brackets.ensures
 
 pub declaration-returns-in_ok-most-in-String : goal.declaration-returns-in_ok-most-in-String
 declaration-returns-in_ok-most-in-String t c =
-    let place = place_in c.args.place c.args.around.now in
+    let site = site_in c.args.site c.args.around.now in
     let name = c.in-String.name.items in
     let d = String name (view_most c.in-String.most) in
     let is : view_declaration c.args.declaration.now ≡ d = ap view_declaration c.in-String.is in
-    let own : Reads c.skip-in-String.new.self c.name_word-in-String.new.self (glossed (Name name) (name_roles (Some place) name ++ []) ∷ []) =
-    subst (λ n. Reads c.skip-in-String.new.self c.name_word-in-String.new.self (glossed (Name n) (name_roles (Some place) n ++ []) ∷ [])) c.deref-in-String.ensures (c.in_ok-name_word-in-String.ensures c.args.around.now) in
-    reads_declaration place is (reads_next (reads_first place d _ (led_as place is (c.in_ok-leading-in-String.ensures c.args.around.now)) c.skip-in-String.ensures)
-    (reads_next (reads_own place name own) (reads_next (reads c.skip-in-String-2.ensures) (reads_then c.in_ok-most-in-String.ensures (reads c.skip-in-String-3.ensures)))))
+    let own : Reads c.skip-in-String.new.self c.name_word-in-String.new.self (glossed (Name name) (name_roles (Some site) name ++ []) ∷ []) =
+    subst (λ n. Reads c.skip-in-String.new.self c.name_word-in-String.new.self (glossed (Name n) (name_roles (Some site) n ++ []) ∷ [])) c.deref-in-String.ensures (c.in_ok-name_word-in-String.ensures c.args.around.now) in
+    reads_declaration site is (reads_next (reads_first site d _ (led_as site is (c.in_ok-leading-in-String.ensures c.args.around.now)) c.skip-in-String.ensures)
+    (reads_next (reads_own site name own) (reads_next (reads c.skip-in-String-2.ensures) (reads_then c.in_ok-most-in-String.ensures (reads c.skip-in-String-3.ensures)))))
