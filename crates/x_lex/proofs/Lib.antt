@@ -1,4 +1,5 @@
 pub mod MarkLemmas
+pub mod PackedLemmas
 pub mod ClassLemmas
 pub mod WordTable
 pub mod CloseLemmas
