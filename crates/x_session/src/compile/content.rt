@@ -79,7 +79,7 @@ pub enum Content {
         code: FaultCode,
     },
     /// It has a definition or lines.
-    ItemBody(Box<ItemBody>),
+    Body(Box<ItemBody>),
 }
 
 const _: () = prove!(size_of::<ItemEntry<Content>>() == 24);
@@ -159,7 +159,7 @@ impl Content {
             lines,
             found: None,
         };
-        Ok(Content::ItemBody(Box::new(alloc, body)?))
+        Ok(Content::Body(Box::new(alloc, body)?))
     }
 
     /// The definition of the item, if it has one.
@@ -167,7 +167,7 @@ impl Content {
         ensures { tree_at result ≡ kept_definition self.now }
     {
         match self {
-            Content::ItemBody(body) => match &body.parse {
+            Content::Body(body) => match &body.parse {
                 Parse::Def(definition) => Some(definition),
                 _ => None,
             },
@@ -180,7 +180,7 @@ impl Content {
         ensures { result.now ≡ kept_lines self.now }
     {
         match self {
-            Content::ItemBody(body) => &body.lines,
+            Content::Body(body) => &body.lines,
             _ => &[],
         }
     }
@@ -190,7 +190,7 @@ impl Content {
         ensures { option_copied result ≡ found_pieces (kept_found self.now) }
     {
         match self {
-            Content::ItemBody(body) => body.found.as_ref()?.pieces.as_ref(),
+            Content::Body(body) => body.found.as_ref()?.pieces.as_ref(),
             _ => None,
         }
     }
@@ -205,7 +205,7 @@ impl Content {
                 token: *token,
                 code: *code,
             },
-            Content::ItemBody(body) => match body.parse {
+            Content::Body(body) => match body.parse {
                 Parse::Fault { token, code } => Verdict::Syntax { token, code },
                 _ => Verdict::Rules(faults_of(&body.found)),
             },
@@ -217,7 +217,7 @@ impl Content {
         ensures { lent_outcome result ≡ found_result (kept_found self.now) }
     {
         match self {
-            Content::ItemBody(body) => Some(&body.found.as_ref()?.checked),
+            Content::Body(body) => Some(&body.found.as_ref()?.checked),
             _ => None,
         }
     }
@@ -237,7 +237,7 @@ impl Content {
         ensures { result ≡ faults_with self.now (kept_found self.now) }
     {
         match self {
-            Content::ItemBody(body) => self.fault_count(faults_of(&body.found)),
+            Content::Body(body) => self.fault_count(faults_of(&body.found)),
             _ => self.fault_count(&[]),
         }
     }
@@ -252,7 +252,7 @@ impl Content {
         ensures pieces { found_pieces (kept_found self.new)
             ≡ renewed_pieces (found_pieces (kept_found self.old)) found }
     {
-        if let Content::ItemBody(body) = self {
+        if let Content::Body(body) = self {
             let old = body.found.take();
             body.found = renewed(old, found);
         }
