@@ -60,7 +60,7 @@ fn suffix<'w, 't>(
         tokens.now (spell_named name (view_shape x.0) ++ Fixed (ending_mark ending) ∷ []) [] x.1.now) }
     ensures stuck { IfErr result (λ e. Fails (AfterName ending ∷ []) tokens.now e) }
 {
-    if let Some(rest) = after(ending.mark(), tokens) {
+    if let Some(rest) = strip_mark(ending.mark(), tokens) {
         return Ok((Shape::Plain, rest));
     }
     let (length, rest) = array_length(alloc, tokens)?;
