@@ -162,8 +162,8 @@ fields-returns t c g =
     (subst (λ xs. FieldsSoFar known c.args.self.now c.loop-declaration.self around c.loop-declaration.fields.items (view_declarations xs) (view_declarations all))
     (drop_none all c.loop-declaration.declaration-index c.loop-declaration-test.false) (c.loop-declaration.invariant g))
 
-pub held-returns-in-Basic : goal.held-returns-in-Basic
-held-returns-in-Basic t c =
+pub inner_type-returns-in-Basic : goal.inner_type-returns-in-Basic
+inner_type-returns-in-Basic t c =
     let known = view_known c.args.known.now in
     let lifted = lifted_name c.args.around.now c.args.name.now in
     IfOk-weaker c.form.result _ _
@@ -172,8 +172,8 @@ held-returns-in-Basic t c =
     (held_basic known c.args.self.now c.form.new.self c.in-Basic.basic place add))
     c.form.ensures
 
-pub held-returns-in-Named : goal.held-returns-in-Named
-held-returns-in-Named t c =
+pub inner_type-returns-in-Named : goal.inner_type-returns-in-Named
+inner_type-returns-in-Named t c =
     let known = view_known c.args.known.now in
     let lifted = lifted_name c.args.around.now c.args.name.now in
     let name = c.in-Named.name.items in
@@ -181,8 +181,8 @@ held-returns-in-Named t c =
     subst (λ d. PutsPlace known c.args.self.now c.args.self.now (typedefs_of_type lifted (view_type d)) c.place.result (λ s at. IsType s known (view_type d) uses.ByValue at)) (sym c.in-Named.is)
     (held_named known c.args.self.now name c.place.result is)
 
-pub held-returns-in-Tagged : goal.held-returns-in-Tagged
-held-returns-in-Tagged t c =
+pub inner_type-returns-in-Tagged : goal.inner_type-returns-in-Tagged
+inner_type-returns-in-Tagged t c =
     let known = view_known c.args.known.now in
     let lifted = lifted_name c.args.around.now c.args.name.now in
     let name = c.in-Tagged.name.items in
@@ -190,8 +190,8 @@ held-returns-in-Tagged t c =
     subst (λ d. PutsPlace known c.args.self.now c.args.self.now (typedefs_of_type lifted (view_type d)) c.place-in-Tagged.result (λ s at. IsType s known (view_type d) uses.ByValue at)) (sym c.in-Tagged.is)
     (held_named known c.args.self.now name c.place-in-Tagged.result is)
 
-pub held-returns-in-Inline : goal.held-returns-in-Inline
-held-returns-in-Inline t c =
+pub inner_type-returns-in-Inline : goal.inner_type-returns-in-Inline
+inner_type-returns-in-Inline t c =
     let known = view_known c.args.known.now in
     let lifted = lifted_name c.args.around.now c.args.name.now in
     let body = view_body c.in-Inline.body.value in
@@ -256,7 +256,7 @@ linked-returns-in_ok-place-in-Inline t c =
 
 pub named_body-returns : goal.named_body-returns
 named_body-returns t c =
-    named_type (view_known c.args.known.now) c.args.self.now c.body.new.self c.found.new.self c.args.name.now (view_body c.args.body.now) c.in_ok-place.place c.in_ok-place.ensures c.in_ok-found.ensures
+    named_type (view_known c.args.known.now) c.args.self.now c.body.new.self c.add_named_type.new.self c.args.name.now (view_body c.args.body.now) c.in_ok-place.place c.in_ok-place.ensures c.in_ok-found.ensures
 
 pub shaped-returns-in-Plain : goal.shaped-returns-in-Plain
 shaped-returns-in-Plain t c =
@@ -264,10 +264,10 @@ shaped-returns-in-Plain t c =
     let type = view_type c.args.held.now in
     let name = c.args.name.now in
     let N = typedefs_of_type (lifted_name c.args.around.now name) type in
-    IfOk-weaker c.held.result _ _
-    (λ place x. subst (λ d. PutsPlace known c.args.self.now c.held.new.self N place (λ s at. IsDeclared s known (tree.Of type name (view_shape d)) at)) (sym c.in-Plain.is)
-    (plain known c.args.self.now c.held.new.self N type name place x))
-    c.held.ensures
+    IfOk-weaker c.inner_type.result _ _
+    (λ place x. subst (λ d. PutsPlace known c.args.self.now c.inner_type.new.self N place (λ s at. IsDeclared s known (tree.Of type name (view_shape d)) at)) (sym c.in-Plain.is)
+    (plain known c.args.self.now c.inner_type.new.self N type name place x))
+    c.inner_type.ensures
 
 pub shaped-returns-in_ok-link-in-Optional : goal.shaped-returns-in_ok-link-in-Optional
 shaped-returns-in_ok-link-in-Optional t c =
@@ -289,7 +289,7 @@ shaped-returns-in_ok-of-in-Fixed t c =
     let is : view_shape c.args.shape.now ≡ tree.Array (tree.Fixed (view_value c.in-Fixed.size)) = ap view_shape c.in-Array.is ∙ ap (λ l. tree.Array (view_length l)) c.in-Fixed.is in
     IfOk-weaker c.form-in-Fixed.result _ _
     (λ place x. subst (λ d. PutsPlace known c.args.self.now c.form-in-Fixed.new.self N place (λ s at. IsDeclared s known (tree.Of type name d) at)) (sym is)
-    (fixed known c.args.self.now c.held-in-Fixed.new.self c.form-in-Fixed.new.self N type name (view_value c.in-Fixed.size) c.in_ok-of-in-Fixed.of place c.size.result c.size.ensures c.in_ok-of-in-Fixed.ensures x))
+    (fixed known c.args.self.now c.inner_type-in-Fixed.new.self c.form-in-Fixed.new.self N type name (view_value c.in-Fixed.size) c.in_ok-of-in-Fixed.of place c.size.result c.size.ensures c.in_ok-of-in-Fixed.ensures x))
     c.form-in-Fixed.ensures
 
 pub shaped-returns-in_ok-link-in-Variable : goal.shaped-returns-in_ok-link-in-Variable

@@ -11,7 +11,7 @@ returns-then-is_void c =
 
 pub returns : goal.returns
 returns c =
-    on_ok_weaker c.found.result
-    (λ x. typedef_put (view_known c.args.known.now) c.args.self.now c.declaration.new.self c.found.new.self (view_declaration c.args.declaration.now) c.name-name.result.now c.in_ok-place.place
+    on_ok_weaker c.add_named_type.result
+    (λ x. typedef_put (view_known c.args.known.now) c.args.self.now c.declaration.new.self c.add_named_type.new.self (view_declaration c.args.declaration.now) c.name-name.result.now c.in_ok-place.place
     (sym c.is_void.ensures ∙ c.if-is_void.false) c.name-name.ensures c.in_ok-place.ensures x)
-    c.found.ensures
+    c.add_named_type.ensures
