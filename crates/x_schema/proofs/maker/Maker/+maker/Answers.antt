@@ -256,7 +256,7 @@ linked-returns-in_ok-place-in-Inline t c =
 
 pub named_body-returns : goal.named_body-returns
 named_body-returns t c =
-    named_type (view_known c.args.known.now) c.args.self.now c.body.new.self c.add_named_type.new.self c.args.name.now (view_body c.args.body.now) c.in_ok-place.place c.in_ok-place.ensures c.in_ok-found.ensures
+    named_type (view_known c.args.known.now) c.args.self.now c.body.new.self c.add_named_type.new.self c.args.name.now (view_body c.args.body.now) c.in_ok-place.place c.in_ok-place.ensures c.in_ok-add_named_type.ensures
 
 pub shaped-returns-in-Plain : goal.shaped-returns-in-Plain
 shaped-returns-in-Plain t c =
