@@ -183,7 +183,7 @@ refused_within s js m at code (trails c k) = let p = k.place in let l = ap lengt
 refused_within s js m at code (stops k) = let p = k.place in let l = ap length k.parts ∙ length-append k.front (k.unit ++ k.rest) in omega arith
 
 no_front : (s : Schema) (id : TypeId) (m : List ℕ) → ((a b : List ℕ) → m ≡ a ++ b → NotIn (Spells s (root_job s id ∷ [])) a) → NoFrontIsEncoding s id m
-no_front s id m h a b e k = h a b e (roles s (root_job s id).layout (root_job s id).place k.0) (nodes s (root_job s id).layout (root_job s id).place k.0) (spelled s (root_job s id) k.0 a k.1 k.2)
+no_front s id m h a b e k = h a b e (roles s (root_job s id).layout (root_job s id).spot k.0) (nodes s (root_job s id).layout (root_job s id).spot k.0) (spelled s (root_job s id) k.0 a k.1 k.2)
 
 begins_of : (s : Schema) (id : TypeId) (x : List ℕ) → Begins (Spells s (root_job s id ∷ [])) x → BeginsEncoding s id x
 begins_of s id x b = (b.rest, encoding_of s id (x ++ b.rest) b.told b.shown b.is_in)
@@ -211,8 +211,8 @@ fault_is s id m at code (stops k) = bad_unit (record {
   place = k.place;
   wide = k.wide;
   begins = begins_of s id k.front k.begun;
-  ended = λ b. k.ended b.0 (roles s (root_job s id).layout (root_job s id).place b.1.0) (nodes s (root_job s id).layout (root_job s id).place b.1.0) (spelled s (root_job s id) b.1.0 (k.front ++ (k.unit ++ b.0)) b.1.1 (sym (append_assoc k.front k.unit b.0) ∙ b.1.2));
-  cause = λ v y h e. k.cause y (roles s (root_job s id).layout (root_job s id).place v) (nodes s (root_job s id).layout (root_job s id).place v) (spelled s (root_job s id) v (k.front ++ y) h e);
+  ended = λ b. k.ended b.0 (roles s (root_job s id).layout (root_job s id).spot b.1.0) (nodes s (root_job s id).layout (root_job s id).spot b.1.0) (spelled s (root_job s id) b.1.0 (k.front ++ (k.unit ++ b.0)) b.1.1 (sym (append_assoc k.front k.unit b.0) ∙ b.1.2));
+  cause = λ v y h e. k.cause y (roles s (root_job s id).layout (root_job s id).spot v) (nodes s (root_job s id).layout (root_job s id).spot v) (spelled s (root_job s id) v (k.front ++ y) h e);
 })
 
 pub not_encoding : (s : Schema) (id : TypeId) (m : List ℕ) (at : ℕ) (code : ReadCode) → Refused s (root_job s id ∷ []) m at code → (code ≡ codes.NoMemory) ⊎ (IsEncoding s id m → ⊥)
@@ -220,7 +220,7 @@ not_encoding s id m at code (no_memory c p) = inl c
 not_encoding s id m at code (ends c k) = inr (λ h. no_front s id m (none_in_short (Spells s (root_job s id ∷ [])) m at (of_units s (root_job s id ∷ [])) k) m [] (sym (append-nil m)) h)
 not_encoding s id m at code (trails c k) = inr (λ h.
     let u = of_units s (root_job s id ∷ []) in
-    let e = u.one_end k.front k.more k.told (roles s (root_job s id).layout (root_job s id).place h.0) k.shown (nodes s (root_job s id).layout (root_job s id).place h.0) k.is_in (spelled s (root_job s id) h.0 (k.front ++ k.more) h.1 (sym k.parts ∙ h.2)) in
+    let e = u.one_end k.front k.more k.told (roles s (root_job s id).layout (root_job s id).spot h.0) k.shown (nodes s (root_job s id).layout (root_job s id).spot h.0) k.is_in (spelled s (root_job s id) h.0 (k.front ++ k.more) h.1 (sym k.parts ∙ h.2)) in
     let l : length k.more ≡ 0 = ap length e in let p = k.some in omega arith)
 not_encoding s id m at code (stops k) = inr (λ h. no_front s id m (none_in_stuck (Spells s (root_job s id ∷ [])) (Faulty s code) m at (of_units s (root_job s id ∷ [])) k) m [] (sym (append-nil m)) h)
 

@@ -17,7 +17,7 @@ use Rattle.x_value.proofs.Unique.{one_value}
 -- no encoding of a type is a front of another one
 same_value : (s : Schema) (id : TypeId) (a b x y : List ℕ) (v w : Value) → IsOf s id v → IsOf s id w → a ≡ enc v → b ≡ enc w → a ++ x ≡ b ++ y → (v ≡ w) × (x ≡ y)
 same_value s id a b x y v w fv fw ev ew e =
-    one_value s (root_job s id).layout (root_job s id).place v w x y fv fw (ap (λ t. t ++ x) (sym ev) ∙ e ∙ ap (λ t. t ++ y) ew)
+    one_value s (root_job s id).layout (root_job s id).spot v w x y fv fw (ap (λ t. t ++ x) (sym ev) ∙ e ∙ ap (λ t. t ++ y) ew)
 
 -- ---- two refusals
 
@@ -107,7 +107,7 @@ one_refusal s id bytes at at' code code' m n (cut_short c x) (cut_short d y) = (
 pub one_showing : (s : Schema) (id : TypeId) (bytes : List ℕ) (shown shown' : List Node) → IsShown s id bytes shown → IsShown s id bytes shown' → shown ≡ shown'
 one_showing s id bytes shown shown' x y =
     let one = same_value s id bytes bytes [] [] x.0 y.0 x.1 y.1 x.2 y.2 (ap (λ t. t ++ []) (sym (append-nil bytes)) ∙ ap (λ t. t ++ []) (append-nil bytes)) in
-    x.3 ∙ ap (nodes s (root_job s id).layout (root_job s id).place) one.0 ∙ sym y.3
+    x.3 ∙ ap (nodes s (root_job s id).layout (root_job s id).spot) one.0 ∙ sym y.3
 
 none_behind : (s : Schema) (id : TypeId) (bytes front more : List ℕ) → 0 < length more → bytes ≡ front ++ more → IsEncoding s id front → IsEncoding s id bytes → ⊥
 none_behind s id bytes front more some parts x y =

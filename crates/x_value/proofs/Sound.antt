@@ -78,21 +78,21 @@ SomeBelow s i = (j : ℕ) → j < i → (q : Spot) → (v : Value) × Fits s (la
 some_fields : (s : Schema) (n i level links : ℕ) (fs : List Field) → AreSoundFields n i fs → SomeBelow s i → (vs : Values) × Suits s (field_jobs s level links fs) vs
 some_fields s n i level links [] h below = (end, tt)
 some_fields s n i level links (f ∷ fs) h below =
-    let one = below f.form h.0.form (field_job s level links f).place in
+    let one = below f.form h.0.form (field_job s level links f).spot in
     let rest = some_fields s n i level links fs h.1 below in
     (more one.0 rest.0, (one.1, rest.1))
 
 some_elements : (s : Schema) (of level links at n : ℕ) → ((q : Spot) → (v : Value) × Fits s (layout_at s of) q v) → (vs : Values) × Suits s (element_jobs s of level links at n) vs
 some_elements s of level links at zero one = (end, tt)
 some_elements s of level links at (suc n) one =
-    let first = one (job (layout_at s of) (Index at) level links).place in
+    let first = one (job (layout_at s of) (Index at) level links).spot in
     let rest = some_elements s of level links (suc at) n one in
     (more first.0 rest.0, (first.1, rest.1))
 
 some_arm : (s : Schema) (n i level links : ℕ) (arm : Option Arm) → ((a : Arm) → arm ≡ Some a → IsSoundArm n i a) → SomeBelow s i → (vs : Values) × Suits s (arm_jobs s level links arm) vs
 some_arm s n i level links (Some (arms.Of f)) h below =
     let sound = h (arms.Of f) refl in
-    let one = below f.form sound.form (field_job s level links f).place in
+    let one = below f.form sound.form (field_job s level links f).spot in
     (more one.0 end, (one.1, tt))
 some_arm s n i level links (Some arms.Void) h below = (end, tt)
 some_arm s n i level links None h below = (end, tt)

@@ -21,7 +21,7 @@ abbrev pub root_job : Schema → TypeId → Job
 root_job s id = job (layout_at s id.form) (root_label s id.root) 0 0
 
 abbrev pub IsOf : Schema → TypeId → Value → Type 0
-IsOf s id v = Fits s (root_job s id).layout (root_job s id).place v
+IsOf s id v = Fits s (root_job s id).layout (root_job s id).spot v
 
 -- the bytes are the encoding of a value of the type
 abbrev pub IsEncoding : Schema → TypeId → List ℕ → Type 0
@@ -31,7 +31,7 @@ IsEncoding s id bytes = (v : Value) × IsOf s id v × (bytes ≡ enc v)
 abbrev pub IsShown : Schema → TypeId → List ℕ → List Node → Type 0
 IsShown s id bytes shown =
     (v : Value) × IsOf s id v × (bytes ≡ enc v) ×
-    (shown ≡ nodes s (root_job s id).layout (root_job s id).place v)
+    (shown ≡ nodes s (root_job s id).layout (root_job s id).spot v)
 
 abbrev pub BeginsEncoding : Schema → TypeId → List ℕ → Type 0
 BeginsEncoding s id front = (rest : List ℕ) × IsEncoding s id (front ++ rest)
@@ -44,7 +44,7 @@ abbrev pub IsCause : Schema → TypeId → List ℕ → List ℕ → ReadCode �
 IsCause s id front unit code =
     (v : Value) (y : List ℕ) → IsOf s id v → front ++ y ≡ enc v →
     (before : List UnitRole) × (role : UnitRole) × (after : List UnitRole) ×
-    (roles s (root_job s id).layout (root_job s id).place v ≡ before ++ (role ∷ after)) ×
+    (roles s (root_job s id).layout (root_job s id).spot v ≡ before ++ (role ∷ after)) ×
     (length front ≡ 4 * length before) ×
     (fault_of s role unit ≡ Some code)
 

@@ -15,8 +15,8 @@ returns-in_err-len-clause-err c =
     let e = c.in_err-len.field-0.0 in
     value_refused c.args.schema.now c.args.form c.args.spot c.args.bytes.now e.at e.code ks c.requires.sound c.requires.known (headed_sized c.args.schema.now (form_at c.args.schema.now c.args.form) c.requires.sized) c.in_err-len.ensures.err ready)
 
-pub whole-requires-clause-rear : goal.whole-requires-clause-rear
-whole-requires-clause-rear c = rear_behind c.args.message.now c.args.bytes.now (word c.in_ok-len.len) c.in_ok-len.rest.now c.requires.rear c.in_ok-len.ensures.ok.parts
+pub padded_body-requires-clause-rear : goal.padded_body-requires-clause-rear
+padded_body-requires-clause-rear c = rear_behind c.args.message.now c.args.bytes.now (word c.in_ok-len.len) c.in_ok-len.rest.now c.requires.rear c.in_ok-len.ensures.ok.parts
 
 pub returns-in-Ok-clause-ok : goal.returns-in-Ok-clause-ok
 returns-in-Ok-clause-ok c =
