@@ -8,7 +8,7 @@ use Rattle.x_rules.specs.Views.{View}
 use Rattle.x_trees.specs.Seen.{names_of}
 use Rattle.x_rules.specs.Bodies.{BodyAt, NameAt, Members, bodies, enumerators, cases_of, fields_of, members, field_groups, member_names, name_groups}
 use Rattle.x_rules.specs.Constants.{knowns, limit_of, is_declared_before}
-use Rattle.x_rules.specs.Tables.{first_place}
+use Rattle.x_rules.specs.FirstPlaces.{first_place}
 use Rattle.x_rules.specs.Types.{heights}
 use Rattle.x_trees.specs.Notes.{noted}
 use Rattle.x_rules.specs.Found.{duplicates_from, mention_faults, note_faults, past_last_faults, repeated_cases, repeated_names, repeated_numbers, repeated_members, spelled_numbers, too_high_faults, has_too_high, found_faults}

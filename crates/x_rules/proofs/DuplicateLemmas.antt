@@ -9,7 +9,7 @@ use Rattle.std.specs.Str.{bytes_eq}
 use Rattle.x_trees.specs.Names.{Declared}
 use Rattle.x_rules.specs.Views as views
 use Rattle.x_rules.specs.Views.{View}
-use Rattle.x_rules.specs.Tables.{first_place}
+use Rattle.x_rules.specs.FirstPlaces.{first_place}
 use Rattle.x_rules.specs.Found.{fault_at, is_earlier_name, is_behind, is_taken_at, duplicate_code, duplicates_from}
 use Rattle.x_rules.specs.Rules.{IsEarlierName, HasName, IsDuplicate}
 use Rattle.x_rules.specs.declared.fault.RuleCode.{RuleCode}
@@ -17,19 +17,11 @@ use Rattle.x_rules.specs.declared.fault.RuleCode.TheVariants as codes
 use Rattle.x_rules.specs.declared.fault.WordFault.{WordFault}
 use Rattle.x_rules.proofs.AmongLemmas.{among_first, among_more, among_cases, among_none, among_front, among_rear, among_parts}
 use Rattle.x_rules.proofs.FamilyLemmas.{fault_is, is_fault}
+use Rattle.x_rules.proofs.FirstLemmas.{place_from}
 use Rattle.x_text.proofs.ListLemmas.{map_append}
 
 abbrev name_of : Declared → List ℕ
 name_of x = x.name
-
--- a place is no less than the first one
-pub place_from : (n : ℕ) (names : List (List ℕ)) (name : List ℕ) (k : ℕ) → first_place n names name ≡ Some k → n ≤ k
-place_from n [] name k h = absurd (cc)
-place_from n (x ∷ xs) name k h = by (bytes_eq name x) refl (place_from (suc n) xs name k)
-  where
-    by : (b : Bool) → bytes_eq name x ≡ b → (first_place (suc n) xs name ≡ Some k → suc n ≤ k) → n ≤ k
-    by true e more = let same : n ≡ k = same_Some n k (sym (ap (λ b. cond b (Some n) (first_place (suc n) xs name)) e) ∙ h) in omega (arith, same)
-    by false e more = let le = more (sym (ap (λ b. cond b (Some n) (first_place (suc n) xs name)) e) ∙ h) in omega (arith, le)
 
 -- a first place before that of other names is among these
 pub found_behind : {X : Type 0} (name_of : X → List ℕ) (n : ℕ) (xs : List X) (rest : List (List ℕ)) (name : List ℕ) → is_behind (first_place n (map name_of xs ++ rest) name) (n + length xs) ≡ true → HasName name_of xs name
@@ -38,7 +30,7 @@ found_behind name_of n [] rest name h = by (first_place n rest name) refl
     by : (o : Option ℕ) → first_place n rest name ≡ o → HasName name_of [] name
     by None e = let is : false ≡ true = sym (ap (λ o. is_behind o (n + 0)) e) ∙ h in absurd (cc)
     by (Some k) e =
-        let le = place_from n rest name k e in
+        let le = place_from (bytes_eq name) n rest k e in
         let test : nat_lt k (n + 0) ≡ true = sym (ap (λ o. is_behind o (n + 0)) e) ∙ h in
         absurd (no k test le)
       where

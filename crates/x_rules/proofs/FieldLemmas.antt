@@ -1,53 +1,21 @@
 -- The names that are found twice in a group are those that the rule names.
-use Rattle.std.specs.Prelude.{nat_lt, ◌||◌}
-use Rattle.std.proofs.Common.{◌≡◌, ℕ, zero, suc, ◌+◌, ◌⊎◌, inl, inr, Bool, true, false, cond, List, [], ◌∷◌, ◌++◌, map, take, length, length-append, Option, None, Some, arith, refl, sym, ap, subst, ◌∙◌, append_assoc, append-nil}
-use Rattle.std.proofs.lemmas.Bool.Decides.{nat_tests}
+use Rattle.std.proofs.Common.{◌≡◌, ℕ, suc, ◌+◌, ◌⊎◌, inl, inr, Bool, true, false, List, [], ◌∷◌, ◌++◌, map, length, length-append, Option, Some, arith, refl, sym, ap, subst, ◌∙◌, append_assoc, append-nil}
 use Rattle.std.proofs.lemmas.Option.{same_Some}
-use Rattle.std.specs.List.{IsAmong, list_any}
-use Rattle.std.specs.Str.{bytes_eq}
+use Rattle.std.specs.List.{IsAmong}
 use Rattle.x_rules.specs.Bodies.{NameAt}
-use Rattle.x_rules.specs.Tables.{first_place}
+use Rattle.x_rules.specs.FirstPlaces.{first_place}
 use Rattle.x_rules.specs.Found.{fault_at, is_behind, repeat_code, repeats_from, repeated_names}
 use Rattle.x_rules.specs.Rules.{HasName, IsRepeatedField}
 use Rattle.x_rules.specs.declared.fault.RuleCode.{RuleCode}
 use Rattle.x_rules.specs.declared.fault.RuleCode.TheVariants as codes
 use Rattle.x_rules.specs.declared.fault.WordFault.{WordFault}
 use Rattle.x_rules.proofs.AmongLemmas.{among_none, among_front, among_rear, among_parts}
-use Rattle.x_rules.proofs.DuplicateLemmas.{place_from, found_behind, behind_found}
+use Rattle.x_rules.proofs.DuplicateLemmas.{found_behind, behind_found}
 use Rattle.x_rules.proofs.FamilyLemmas.{fault_is, is_fault}
 use Rattle.x_text.proofs.ListLemmas.{map_append}
 
 abbrev name_of : NameAt → List ℕ
 name_of x = x.name
-
--- a name stands behind its first place where it is among those in front
-behind_from : {X : Type 0} (view : X → NameAt) (n : ℕ) (xs : List X) (i : ℕ) (name : List ℕ)
-    → is_behind (first_place n (map name_of (map view xs)) name) (n + i) ≡ list_any (λ x. bytes_eq name (view x).name) (take i xs)
-behind_from view n [] zero name = refl
-behind_from view n [] (suc i) name = refl
-behind_from view n (x ∷ xs) zero name = by (first_place n (map name_of (map view (x ∷ xs))) name) refl
-  where
-    by : (o : Option ℕ) → first_place n (map name_of (map view (x ∷ xs))) name ≡ o → is_behind o (n + 0) ≡ false
-    by None e = refl
-    by (Some k) e = let le = place_from n (map name_of (map view (x ∷ xs))) name k e in grind (arith, nat_tests)
-behind_from view n (x ∷ xs) (suc i) name = by (bytes_eq name (view x).name) (behind_from view (suc n) xs i name)
-  where
-    next : n + suc i ≡ suc n + i
-    next = omega arith
-
-    less : nat_lt n (n + suc i) ≡ true
-    less = grind (arith, nat_tests)
-
-    by : (b : Bool) → is_behind (first_place (suc n) (map name_of (map view xs)) name) (suc n + i) ≡ list_any (λ x. bytes_eq name (view x).name) (take i xs)
-        → is_behind (cond b (Some n) (first_place (suc n) (map name_of (map view xs)) name)) (n + suc i) ≡ (b || list_any (λ x. bytes_eq name (view x).name) (take i xs))
-    by true more = less
-    by false more = ap (is_behind (first_place (suc n) (map name_of (map view xs)) name)) next ∙ more
-
-pub behind_first : {X : Type 0} (view : X → NameAt) (xs : List X) (i : ℕ) (name : List ℕ)
-    → list_any (λ x. bytes_eq name (view x).name) (take i xs) ≡ is_behind (first_place 0 (map (λ x. x.name) (map view xs)) name) i
-behind_first view xs i name =
-    let zero_more : 0 + i ≡ i = omega arith in
-    sym (behind_from view 0 xs i name) ∙ ap (is_behind (first_place 0 (map name_of (map view xs)) name)) zero_more
 
 -- the first place of a name in a group
 abbrev first_in : List NameAt → List ℕ → Option ℕ

@@ -8,6 +8,7 @@ pub mod EnumeratorLemmas
 pub mod FamilyLemmas
 pub mod FaultLists
 pub mod FieldLemmas
+pub mod FirstLemmas
 pub mod HasResults
 pub mod HeightLemmas
 pub mod InOrder

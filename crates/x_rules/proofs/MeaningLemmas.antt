@@ -12,62 +12,39 @@ use Rattle.x_trees.specs.declared.names.declared_name.NameKind.{NameKind}
 use Rattle.x_trees.specs.declared.names.declared_name.NameKind.TheVariants as kinds
 use Rattle.x_rules.specs.Bodies.{BodyAt, bodies, enumerators}
 use Rattle.x_rules.specs.Constants.{Known, knowns}
-use Rattle.std.specs.Option.{option_or}
-use Rattle.x_rules.specs.Meanings.{first_named, body_named, counted_type, counted_definition}
+use Rattle.x_rules.specs.BodyWalks.{view_body_at}
+use Rattle.x_rules.specs.FirstPlaces.{first_from}
+use Rattle.x_rules.specs.Meanings.{body_named, counted_type, counted_definition}
 use Rattle.x_rules.specs.Results.{type_of, type_named, type_defined, meaning_as}
 use Rattle.x_rules.specs.Tables.{capped, is_too_high}
 use Rattle.x_rules.specs.Types.{body_class, declaration_class, body_height, held_height, defined_heights, heights}
 use Rattle.x_rules.specs.Views.{View}
-use Rattle.x_names.proofs.NameLemmas.{option_or_after}
-use Rattle.x_numbers.proofs.Lookups.{or_none}
+use Rattle.x_rules.specs.declared.outline.parts.BodyAt.{BodyAt as Kept}
+use Rattle.x_rules.proofs.FirstLemmas.{first_mapped, shift}
 
 -- ---- bodies by the words that name their types
-
--- one body more is in the table
-pub body_more : (before after : ℕ → Option ℕ) (n m : ℕ) (bs : List BodyAt) (b : BodyAt) (rest : List BodyAt) (all : ℕ → Option ℕ)
-    → m ≡ suc n → bs ≡ b ∷ rest
-    → ((word : ℕ) → after word ≡ option_or (before word) (cond (nat_eq word b.named) (Some n) None))
-    → ((word : ℕ) → option_or (before word) (first_named n bs word) ≡ all word)
-    → (word : ℕ) → option_or (after word) (first_named m rest word) ≡ all word
-body_more before after n m bs b rest all next is more h word =
-    ap (λ a. option_or a (first_named m rest word)) (more word)
-    ∙ option_or_after (before word) (cond (nat_eq word b.named) (Some n) None) (first_named m rest word)
-    ∙ ap (option_or (before word)) (step (nat_eq word b.named) ∙ ap (λ k. cond (nat_eq word b.named) (Some n) (first_named k rest word)) next)
-    ∙ sym (ap (λ l. option_or (before word) (first_named n l word)) is)
-    ∙ h word
-  where
-    step : (b : Bool) → option_or (cond b (Some n) None) (first_named m rest word) ≡ cond b (Some n) (first_named m rest word)
-    step true = refl
-    step false = refl
-
--- no body is left
-pub all_bodies : (before : ℕ → Option ℕ) (n : ℕ) (bs : List BodyAt) (all : ℕ → Option ℕ) → bs ≡ []
-    → ((word : ℕ) → option_or (before word) (first_named n bs word) ≡ all word) → (word : ℕ) → before word ≡ all word
-all_bodies before n bs all none h word = or_none (before word) ∙ sym (ap (λ l. option_or (before word) (first_named n l word)) none) ∙ h word
-
-shift : (n : ℕ) (bs : List BodyAt) (word : ℕ) → first_named (suc n) bs word ≡ option_map suc (first_named n bs word)
-shift n [] word = refl
-shift n (b ∷ bs) word = by (nat_eq word b.named) (shift (suc n) bs word)
-  where
-    by : (t : Bool) → first_named (suc (suc n)) bs word ≡ option_map suc (first_named (suc n) bs word)
-        → cond t (Some (suc n)) (first_named (suc (suc n)) bs word) ≡ option_map suc (cond t (Some n) (first_named (suc n) bs word))
-    by true h = refl
-    by false h = h
 
 -- the body in a place
 abbrev pub body_in : List BodyAt → Option ℕ → Option BodyAt
 body_in bs None = None
 body_in bs (Some place) = slice_get bs place
 
-pub body_in_place : (bs : List BodyAt) (word : ℕ) → body_in bs (first_named 0 bs word) ≡ body_named bs word
-body_in_place [] word = refl
-body_in_place (b ∷ bs) word = by (nat_eq word b.named) (first_named 0 bs word) (shift 0 bs word) (body_in_place bs word)
+abbrev has_word : ℕ → BodyAt → Bool
+has_word word b = nat_eq word b.named
+
+in_place : (bs : List BodyAt) (word : ℕ) → body_in bs (first_from (has_word word) 0 bs) ≡ body_named bs word
+in_place [] word = refl
+in_place (b ∷ bs) word = by (nat_eq word b.named) (first_from (has_word word) 0 bs) (shift (has_word word) 0 bs) (in_place bs word)
   where
-    by : (t : Bool) (o : Option ℕ) → first_named 1 bs word ≡ option_map suc o → body_in bs o ≡ body_named bs word
-        → body_in (b ∷ bs) (cond t (Some 0) (first_named 1 bs word)) ≡ cond t (Some b) (body_named bs word)
+    by : (t : Bool) (o : Option ℕ) → first_from (has_word word) 1 bs ≡ option_map suc o → body_in bs o ≡ body_named bs word
+        → body_in (b ∷ bs) (cond t (Some 0) (first_from (has_word word) 1 bs)) ≡ cond t (Some b) (body_named bs word)
     by true o s h = refl
     by false None s h = ap (body_in (b ∷ bs)) s ∙ h
     by false (Some k) s h = ap (body_in (b ∷ bs)) s ∙ h
+
+-- the body in the first place of the word
+pub body_in_place : (bs : List Kept) (word : ℕ) (place : Option ℕ) → place ≡ first_from (λ b. nat_eq word b.named) 0 bs → body_in (map view_body_at bs) place ≡ body_named (map view_body_at bs) word
+body_in_place bs word place is = ap (body_in (map view_body_at bs)) (is ∙ sym (first_mapped (has_word word) view_body_at 0 bs)) ∙ in_place (map view_body_at bs) word
 
 -- what is lent of a list is what stands in the place
 pub lent_at : {X Y : Type 0} (f : X → Y) (xs : List X) (i : ℕ) (r : Option (Bor X)) → MatchOption r (length xs ≤ i) (λ x. (i < length xs) × ((d : X) → x.now ≡ get_or xs i d)) → option_map (λ x. f x.now) r ≡ slice_get (map f xs) i

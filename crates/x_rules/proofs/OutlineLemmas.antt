@@ -12,12 +12,13 @@ use Rattle.x_rules.specs.Views.{view_in}
 use Rattle.x_trees.specs.Seen.{names_of}
 use Rattle.x_rules.specs.BodyWalks.{view_body_at}
 use Rattle.x_rules.specs.RustViews.{view_view}
-use Rattle.x_rules.specs.Tables.{ArePlaces, first_place, view_at}
+use Rattle.x_rules.specs.FirstPlaces.{first_place}
+use Rattle.x_rules.specs.Tables.{view_at}
 use Rattle.x_rules.specs.declared.outline.parts.BodyAt.{BodyAt}
 use Rattle.x_rules.specs.declared.fault.WordFault.{WordFault}
 use Rattle.x_rules.specs.declared.views.View.{View}
 use Rattle.x_rules.proofs.AmongLemmas.{among_first, among_more}
-use Rattle.x_rules.proofs.PlaceLemmas.{shift}
+use Rattle.x_rules.proofs.FirstLemmas.{shift}
 
 -- ---- views
 
@@ -29,7 +30,7 @@ view_first (x ∷ names) [] name = none (first_place 0 (x ∷ names) name)
     none : (o : Option ℕ) → view_at [] o ≡ views.Undeclared
     none None = refl
     none (Some k) = refl
-view_first (x ∷ names) (v ∷ vs) name = by (bytes_eq name x) (first_place 0 names name) (shift 0 names name) (view_first names vs name)
+view_first (x ∷ names) (v ∷ vs) name = by (bytes_eq name x) (first_place 0 names name) (shift (bytes_eq name) 0 names) (view_first names vs name)
   where
     by : (b : Bool) (o : Option ℕ) → first_place 1 names name ≡ option_map suc o → view_at vs o ≡ view_in names (map view_view vs) name
         → view_at (v ∷ vs) (cond b (Some 0) (first_place 1 names name)) ≡ cond b (view_view v) (view_in names (map view_view vs) name)
@@ -37,8 +38,8 @@ view_first (x ∷ names) (v ∷ vs) name = by (bytes_eq name x) (first_place 0 n
     by false None s h = ap (view_at (v ∷ vs)) s ∙ h
     by false (Some k) s h = ap (view_at (v ∷ vs)) s ∙ h
 
-pub seen_is : (place : List ℕ → Option ℕ) (names : List (List ℕ)) (vs : List View) → ArePlaces place names → (λ name. view_at vs (place name)) ≡ view_in names (map view_view vs)
-seen_is place names vs h = λ i name. (ap (view_at vs) (h.at name) ∙ view_first names vs name) i
+pub seen_is : (names : List (List ℕ)) (vs : List View) → (λ name. view_at vs (first_place 0 names name)) ≡ view_in names (map view_view vs)
+seen_is names vs = λ i name. view_first names vs name i
 
 -- ---- lists
 
@@ -83,10 +84,9 @@ added_last all now found is h same = h ∙ ap (λ l. now ++ l) same
 
 -- ---- outcomes
 
--- what is found by tables is what checking the definition gives by its views
-pub outcome_by : (d e : Definition) (place : List ℕ → Option ℕ) (vs given : List View) (o : Outcome) → d ≡ e → ArePlaces place (names_of d) → vs ≡ given
-    → GivesOutcome d (λ name. view_at vs (place name)) o → IsOutcome e (map view_view given) o
-outcome_by d e place vs given o same has is h =
-    subst (λ x. IsOutcome x (map view_view given) o) same
-    (subst (λ l. IsOutcome d (map view_view l) o) is
-    (let by = subst (λ see. GivesOutcome d see o) (seen_is place (names_of d) vs has) h in record { are_faults = by.are_faults; are_meanings = by.are_meanings }))
+-- what is found by the names that are seen is what checking the definition gives by its views
+pub outcome_by : (d : Definition) (names : List (List ℕ)) (vs given : List View) (o : Outcome) → names ≡ names_of d → vs ≡ given
+    → GivesOutcome d (λ name. view_at vs (first_place 0 names name)) o → IsOutcome d (map view_view given) o
+outcome_by d names vs given o are is h =
+    subst (λ l. IsOutcome d (map view_view l) o) is
+    (let by = subst (λ see. GivesOutcome d see o) (seen_is names vs ∙ ap (λ l. view_in l (map view_view vs)) are) h in record { are_faults = by.are_faults; are_meanings = by.are_meanings })

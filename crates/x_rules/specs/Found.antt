@@ -11,7 +11,8 @@ use Rattle.x_rules.specs.Views.{View, Class, Other}
 use Rattle.x_trees.specs.Seen.{names_of}
 use Rattle.x_rules.specs.Bodies.{EnumeratorAt, NameAt, ValueAt, NumberAt, Members, bodies, enumerators}
 use Rattle.x_rules.specs.Bodies.{cases_of, fields_of, members}
-use Rattle.x_rules.specs.Tables.{first_place, is_too_high}
+use Rattle.x_rules.specs.FirstPlaces.{first_place}
+use Rattle.x_rules.specs.Tables.{is_too_high}
 use Rattle.x_rules.specs.Constants.{Known, knowns, limit_of, number_by}
 use Rattle.x_numbers.specs.Numbers.{number_spelled, is_enum_number, is_word_number, is_zero}
 use Rattle.x_rules.specs.Mentioned.{mention_fault, suits}

@@ -2,6 +2,7 @@ pub mod Bodies
 pub mod BodyWalks
 pub mod Cases
 pub mod Constants
+pub mod FirstPlaces
 pub mod Found
 pub mod KeptViews
 pub mod Meanings

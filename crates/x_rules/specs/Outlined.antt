@@ -15,7 +15,7 @@ use Rattle.x_names.specs.Declarers.{IsShort}
 use Rattle.x_trees.specs.Notes.{view_note_at, noted}
 use Rattle.x_rules.specs.Results.{Outcome, meanings_by}
 use Rattle.x_rules.specs.Rules.{AreFaults}
-use Rattle.x_rules.specs.Tables.{ArePlaces, HasNumbers, place_seen, seen_by}
+use Rattle.x_rules.specs.Tables.{HasNumbers, seen_by}
 use Rattle.x_rules.specs.declared.outline.Outline.{Outline}
 use Rattle.x_rules.specs.declared.rules.constants.Constants.{Constants}
 use Rattle.x_rules.specs.declared.rules.sights.Sights.{Sights}
@@ -34,10 +34,10 @@ pub record IsOutline (o : Outline) : Type 0 where
   pub filled : AreFilled o.bodies.items
   pub notes_are : map view_note_at o.notes.items ≡ noted (outlined o)
 
--- The table of places is that of all these names, and that of constants has the enumerators with their
+-- The names that are seen are those that the item sees, and the constants are the enumerators with their
 -- numbers.
 pub record AreTables (o : Outline) (sights : Sights) (constants : Constants) : Type 0 where
-  pub places : ArePlaces (place_seen sights) (names_of (outlined o))
+  pub names : map (λ x. x.now) sights.names ≡ names_of (outlined o)
   pub numbers : HasNumbers constants (enumerators (outlined o))
       (knowns (seen_by sights) (enumerators (outlined o)))
 

@@ -1,12 +1,9 @@
 -- What the program keeps of an item while it is checked, as the definitions have it.
-use Rattle.std.specs.Prelude.{◌≡◌, ℕ, suc, ◌-◌, ◌^◌, min, nat_lt, true, false, Bool, List, [], ◌∷◌, ◌++◌}
-use Rattle.std.specs.Prelude.{length, map, take, Option, Some, None, option_map, slice_get, if◌then◌else◌}
-use Rattle.indexmap.specs.IndexMap.{IndexMap}
+use Rattle.std.specs.Prelude.{◌≡◌, ℕ, ◌-◌, ◌^◌, min, nat_lt, true, false, Bool, List, ◌++◌, length, map, take}
+use Rattle.std.specs.Prelude.{Option, Some, None, option_map, slice_get}
 use Rattle.std.specs.Borrow.{Bor}
 use Rattle.std.specs.Cow.{cow_slice_items}
-use Rattle.std.specs.Map.{lookup}
-use Rattle.std.specs.Option.{option_map_or, option_or}
-use Rattle.std.specs.Str.{bytes_eq}
+use Rattle.std.specs.Option.{option_map_or}
 use Rattle.x_trees.specs.Tree as tree
 use Rattle.x_trees.specs.View.{view_value}
 use Rattle.x_trees.specs.declared.trees.value.Value.{Value}
@@ -17,6 +14,7 @@ use Rattle.x_trees.specs.declared.names.mention.Use.TheVariants as uses
 use Rattle.x_rules.specs.Views as views
 use Rattle.x_rules.specs.Bodies as bodies
 use Rattle.x_rules.specs.Constants.{Known}
+use Rattle.x_rules.specs.FirstPlaces.{first_place}
 use Rattle.x_rules.specs.Types as types
 use Rattle.x_rules.specs.RustViews.{view_class, view_view}
 use Rattle.x_rules.specs.declared.rules.classes.Sight.{Sight}
@@ -27,47 +25,8 @@ use Rattle.x_rules.specs.declared.outline.parts.Members.{Members}
 use Rattle.x_rules.specs.declared.outline.parts.NameAt.{NameAt}
 use Rattle.x_rules.specs.declared.outline.parts.ValueAt.{ValueAt}
 use Rattle.x_rules.specs.declared.outline.parts.NumberAt.{NumberAt}
-use Rattle.x_rules.specs.declared.rules.places.Places.{Places}
-use Rattle.x_rules.specs.declared.rules.places.Places.TheVariants as held
 use Rattle.x_rules.specs.declared.rules.sights.Sights.{Sights}
 use Rattle.x_rules.specs.declared.rules.constants.Constants.{Constants}
-
--- ---- places of names
-
--- the first of these names that is this one, where the first of them has this number
-abbrev pub first_place : ℕ → List (List ℕ) → List ℕ → Option ℕ
-first_place n [] name = None
-first_place n (x ∷ xs) name = if bytes_eq name x then Some n else first_place (suc n) xs name
-
--- what a table of places has for a name
-abbrev pub tabled : List (Bor (List ℕ) × ℕ) → List ℕ → Option ℕ
-tabled entries name = lookup (λ key. bytes_eq name key.now) entries
-
--- the place that is kept of a name
-abbrev pub place_in : Places → List ℕ → Option ℕ
-place_in (held.Few names) name = first_place 0 (map (λ x. x.now) names.items) name
-place_in (held.Many table) name = tabled table.entries name
-
--- what a table has for a name once another is taken in with its place, if that was not there
-abbrev pub noted : Option ℕ → List ℕ → List ℕ → ℕ → Option ℕ
-noted found other name place = option_or found (if bytes_eq other name then Some place else None)
-
--- the table has the first place of each name
-pub record HasTabled (entries : List (Bor (List ℕ) × ℕ)) (names : List (List ℕ)) : Type 0 where
-  pub at : (name : List ℕ) → tabled entries name ≡ first_place 0 names name
-
--- the place of a name by a table of the names, or among these themselves where there is none
-abbrev pub place_by : {Z : Type 0} → Option (IndexMap (Bor (List ℕ)) ℕ Z) → List (List ℕ) → List ℕ → Option ℕ
-place_by None names name = first_place 0 names name
-place_by (Some table) names name = tabled table.entries name
-
--- these are the first places of names
-pub record ArePlaces (place : List ℕ → Option ℕ) (names : List (List ℕ)) : Type 0 where
-  pub at : (name : List ℕ) → place name ≡ first_place 0 names name
-
--- the first place of each name is kept
-pub record HasPlaces (places : Places) (names : List (List ℕ)) : Type 0 where
-  pub at : (name : List ℕ) → place_in places name ≡ first_place 0 names name
 
 -- ---- views
 
@@ -80,11 +39,11 @@ view_at vs (Some place) = option_map_or view_view (slice_get vs place) views.Und
 abbrev pub names_seen : List DeclaredName → List Mention → List (List ℕ)
 names_seen declared mentions = map (λ d. cow_slice_items d.name) declared ++ map (λ m. m.name.now) mentions
 
--- the place of a name among those of an item
+-- the first place of a name among those that have views
 abbrev pub place_seen : Sights → List ℕ → Option ℕ
-place_seen sights name = place_by sights.table (names_seen sights.declared.now sights.mentions.now) name
+place_seen sights name = first_place 0 (map (λ x. x.now) sights.names) name
 
--- what an item sees of a name, by the table of its views
+-- what an item sees of a name, by its views
 abbrev pub seen_by : Sights → List ℕ → views.View
 seen_by sights name = view_at sights.views.now (place_seen sights name)
 
@@ -129,14 +88,9 @@ view_members m =
 
 -- ---- enumerators
 
--- the place of the first enumerator of a name
-abbrev pub place_listed : Constants → List ℕ → Option ℕ
-place_listed constants name = place_by constants.table (map (λ e. e.name.now) constants.list.items) name
-
--- the table of enumerators has these, and numbers of the first of them
+-- the enumerators are these, and the first of them have numbers
 pub record HasNumbers (constants : Constants) (all : List bodies.EnumeratorAt)
     (known : List Known) : Type 0 where
-  pub places : ArePlaces (place_listed constants) (map (λ e. e.name) all)
-  pub list : map view_enumerator_at constants.list.items ≡ all
+  pub list : map view_enumerator_at constants.list ≡ all
   pub numbers : constants.numbers.items ≡ map (λ k. k.number) known
   pub front : map (λ k. k.enumerator) known ≡ take (length known) all

@@ -2,6 +2,7 @@
 
 mod body;
 mod dumper;
+mod heading;
 mod laws;
 mod lines;
 mod single;

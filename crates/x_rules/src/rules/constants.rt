@@ -12,12 +12,12 @@ ghost use Rattle.x_rules.specs.BodyWalks.{view_body_at, IsFilled, AreFilled};
 ghost use Rattle.x_rules.specs.Constants.{Known, knowns, limit_of, is_declared_before, number_named};
 ghost use Rattle.x_rules.specs.RustViews.{view_view};
 ghost use Rattle.std.specs.Option.{option_map_or};
+ghost use Rattle.std.specs.Str.{bytes_eq};
 ghost use Rattle.x_rules.specs.Constants.{number_before, number_by, number_seen, number_of};
 ghost use Rattle.x_numbers.specs.Numbers.{next_number, is_enum_number, is_word_number};
-ghost use Rattle.x_rules.specs.Tables.{ArePlaces, HasNumbers, place_by, place_listed, seen_by};
-ghost use Rattle.x_rules.specs.Tables.{view_enumerator_at};
+ghost use Rattle.x_rules.specs.Tables.{HasNumbers, seen_by, view_enumerator_at};
 
-use super::places::{MOST_FEW, NameTable, Named, place_among, place_tabled, table_of};
+use super::first_places::{FirstPlaces, Keyed};
 use super::sights::Sights;
 use crate::outline::bodies::words_of_enumerator;
 use crate::outline::parts::{BodyAt, EnumeratorAt};
@@ -90,39 +90,19 @@ pub fn enumerators<'d>(
     Ok(list)
 }
 
-/// The enumerators of a definition, with the numbers of the first so many.
-#[derive(Drop)]
-pub struct Constants<'d> {
-    pub list: Vec<EnumeratorAt<'d>>,
-    /// The place in the list of the first enumerator of each name, if they are many.
-    table: Option<NameTable<'d>>,
-    pub numbers: Vec<Option<i128>>,
-}
+impl<'d> Keyed<&'d [u8]> for EnumeratorAt<'d> {
+    ghost has_key = { λ enumerator name. bytes_eq name.now enumerator.name.now };
 
-impl Named for EnumeratorAt<'_> {
-    ghost name_of = { λ enumerator. enumerator.name.now };
-
-    fn name(&self) -> &[u8] {
+    fn key(&self) -> &'d [u8] {
         self.name
     }
 }
 
-/// The first place of each name, if they are many.
-fn table_of_many<'d>(
-    alloc: Global,
-    list: &[EnumeratorAt<'d>],
-) -> Result<Option<NameTable<'d>>, NoMemory>
-    ensures { IfOk result (λ table. let names = map (λ e. e.name.now) list.now in
-        ArePlaces (place_by table names) names) }
-{
-    if list.len() <= MOST_FEW {
-        return Ok(None);
-    }
-    let mut names = Vec::with_capacity(alloc, list.len())?;
-    for enumerator in list {
-        names.push(enumerator.name)?;
-    }
-    Ok(Some(table_of(alloc, &names)?))
+/// The enumerators of a definition, with the numbers of the first so many.
+#[derive(Drop)]
+pub struct Constants<'v> {
+    pub list: FirstPlaces<'v, EnumeratorAt<'v>, &'v [u8]>,
+    pub numbers: Vec<Option<i128>>,
 }
 
 /// The number of a name used as a value, whose own number is given.
@@ -145,20 +125,18 @@ fn number_seen(view: View, own: Option<i128>) -> Option<i128>
     }
 }
 
-impl<'d> Constants<'d> {
+impl<'v> Constants<'v> {
     /// The enumerators with their numbers.
     pub fn of(
         alloc: Global,
-        list: Vec<EnumeratorAt<'d>>,
+        list: &'v [EnumeratorAt<'v>],
         sights: &Sights,
-    ) -> Result<Constants<'d>, NoMemory>
-        ensures { IfOk result (λ constants. let all = map view_enumerator_at list.entry.items in
+    ) -> Result<Constants<'v>, NoMemory>
+        ensures { IfOk result (λ constants. let all = map view_enumerator_at list.now in
             HasNumbers constants all (knowns (seen_by sights.now) all)) }
     {
-        let table = table_of_many(alloc, &list)?;
         let mut constants = Constants {
-            list,
-            table,
+            list: FirstPlaces::of(alloc, list)?,
             numbers: Vec::new(alloc),
         };
         constants.number(sights)?;
@@ -170,7 +148,7 @@ impl<'d> Constants<'d> {
         ensures { OnOk result ((all : List bodies.EnumeratorAt) → HasNumbers self.old all []
             → HasNumbers self.new all (knowns (seen_by sights.now) all)) }
     {
-        let count = self.list.as_slice().len();
+        let count = self.list.items().len();
         let mut before = None;
         for place in 0..count {
             before = self.number_given(sights, before, place);
@@ -185,7 +163,7 @@ impl<'d> Constants<'d> {
             → HasNumbers self.now all known → slice_get all place ≡ Some e
             → result ≡ number_of (seen_by sights.now) known before e }
     {
-        match self.list.get(place) {
+        match self.list.items().get(place) {
             Some(enumerator) => self.number_of(sights, before, enumerator),
             None => None,
         }
@@ -218,19 +196,9 @@ impl<'d> Constants<'d> {
         ensures { (all : List bodies.EnumeratorAt) (known : List Known) → HasNumbers self.now all known
             → result ≡ option_map_or (λ e. nat_lt e.word limit) (slice_get all place) false }
     {
-        match self.list.get(place) {
+        match self.list.items().get(place) {
             Some(enumerator) => enumerator.word < limit,
             None => false,
-        }
-    }
-
-    /// The place of the first enumerator of the name.
-    fn place(&self, name: &[u8]) -> Option<usize>
-        ensures { result ≡ place_listed self.now name.now }
-    {
-        match &self.table {
-            Some(table) => place_tabled(table, name),
-            None => place_among(&self.list, name),
         }
     }
 
@@ -239,7 +207,7 @@ impl<'d> Constants<'d> {
         ensures { (all : List bodies.EnumeratorAt) (known : List Known) → HasNumbers self.now all known
             → result ≡ is_declared_before all limit name.now }
     {
-        match self.place(name) {
+        match self.list.get(name) {
             Some(place) => self.is_before(place, limit),
             None => false,
         }
@@ -260,7 +228,7 @@ impl<'d> Constants<'d> {
         ensures { (all : List bodies.EnumeratorAt) (known : List Known) → HasNumbers self.now all known
             → result ≡ number_before known limit name.now }
     {
-        match self.place(name) {
+        match self.list.get(name) {
             Some(place) => {
                 if self.is_before(place, limit) {
                     self.number_in(place)
@@ -302,7 +270,7 @@ impl<'d> Constants<'d> {
         ensures { (all : List bodies.EnumeratorAt) (known : List Known) → HasNumbers self.now all known
             → result ≡ number_named known name.now }
     {
-        match self.place(name) {
+        match self.list.get(name) {
             Some(place) => self.number_in(place),
             None => None,
         }

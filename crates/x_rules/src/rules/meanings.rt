@@ -1,6 +1,6 @@
 //! What the names mean that an item declares.
 
-ghost use Rattle.std.specs.Prelude.{◌≡◌, ℕ, List, false, map, option_map, IfOk, OnOk};
+ghost use Rattle.std.specs.Prelude.{◌≡◌, ℕ, List, false, map, nat_eq, option_map, IfOk, OnOk};
 ghost use Rattle.std.specs.List.{list_any};
 ghost use Rattle.x_trees.specs.Collected.{view_name};
 ghost use Rattle.x_trees.specs.View.{view_definition};
@@ -8,15 +8,15 @@ ghost use Rattle.x_rules.specs.Bodies as outline;
 ghost use Rattle.x_rules.specs.BodyWalks.{view_body_at};
 ghost use Rattle.x_rules.specs.Constants.{Known, knowns};
 ghost use Rattle.x_rules.specs.KeptViews.{kept_class, kept_meaning};
-ghost use Rattle.x_rules.specs.Meanings.{HasBodies, counted_type, counted_definition};
+ghost use Rattle.x_rules.specs.Meanings.{body_named, counted_type, counted_definition};
 ghost use Rattle.x_rules.specs.Results.{type_of, constant_number, constant_of, meaning_of};
 ghost use Rattle.x_rules.specs.Tables.{HasNumbers, seen_by, is_too_high};
 ghost use Rattle.x_rules.specs.Types.{heights};
 
 use super::classes::{body_class, declaration_class};
 use super::constants::Constants;
+use super::first_places::{FirstPlaces, Keyed};
 use super::heights::{body_height, held_height};
-use super::named_bodies::NamedBodies;
 use super::sights::Sights;
 use crate::checked::{KeptMeanings, OwnedClass, OwnedMeaning};
 use crate::outline::parts::BodyAt;
@@ -24,6 +24,27 @@ use smallvec::SmallVec;
 use std::alloc::Global;
 use x_text::NoMemory;
 use x_trees::{DeclaredName, Definition, NameKind};
+
+impl Keyed<usize> for BodyAt<'_> {
+    ghost has_key = { λ body word. nat_eq word body.named };
+
+    fn key(&self) -> usize {
+        self.named
+    }
+}
+
+/// The first body whose type's name stands at the word.
+fn body_named<'v, 'd>(
+    bodies: &FirstPlaces<'v, BodyAt<'d>, usize>,
+    word: usize,
+) -> Option<&'v BodyAt<'d>>
+    ensures { option_map (λ b. view_body_at b.now) result ≡ body_named (map view_body_at bodies.now) word }
+{
+    match bodies.get(word) {
+        Some(place) => bodies.items().get(place),
+        None => None,
+    }
+}
 
 /// What a type means whose class is known.
 fn type_meaning(class: Option<OwnedClass>, height: u32) -> OwnedMeaning
@@ -107,13 +128,13 @@ fn meaning(
     alloc: Global,
     name: &DeclaredName,
     definition: &Definition,
-    bodies: &NamedBodies,
+    bodies: &FirstPlaces<BodyAt, usize>,
     sights: &Sights,
     constants: &Constants,
 ) -> Result<OwnedMeaning, NoMemory>
     ensures { IfOk result (λ kept. let d = view_definition definition.now in let see = seen_by sights.now in
         HasNumbers constants.now (outline.enumerators d) (knowns see (outline.enumerators d))
-        → HasBodies bodies.now (outline.bodies d)
+        → map view_body_at bodies.now ≡ outline.bodies d
         → list_any is_too_high (heights d see) ≡ false
         → kept_meaning kept ≡ meaning_of d see (view_name name.now)) }
 {
@@ -123,7 +144,7 @@ fn meaning(
         ))),
         NameKind::Typedef => typedef_meaning(alloc, definition, sights, constants),
         NameKind::Program => Ok(OwnedMeaning::Program),
-        _ => named_meaning(alloc, bodies.get(name.word), sights, constants),
+        _ => named_meaning(alloc, body_named(bodies, name.word), sights, constants),
     }
 }
 
@@ -132,13 +153,13 @@ fn meanings_by(
     alloc: Global,
     definition: &Definition,
     declared: &[DeclaredName],
-    bodies: &NamedBodies,
+    bodies: &FirstPlaces<BodyAt, usize>,
     sights: &Sights,
     constants: &Constants,
 ) -> Result<KeptMeanings, NoMemory>
     ensures { IfOk result (λ list. let d = view_definition definition.now in let see = seen_by sights.now in
         HasNumbers constants.now (outline.enumerators d) (knowns see (outline.enumerators d))
-        → HasBodies bodies.now (outline.bodies d)
+        → map view_body_at bodies.now ≡ outline.bodies d
         → list_any is_too_high (heights d see) ≡ false
         → map kept_meaning list.items ≡ map (meaning_of d see) (map view_name declared.now)) }
 {
@@ -165,6 +186,6 @@ pub fn meanings(
         → list_any is_too_high (heights d see) ≡ false
         → map kept_meaning list.items ≡ map (meaning_of d see) (map view_name declared.now)) }
 {
-    let bodies = NamedBodies::of(alloc, bodies)?;
+    let bodies = FirstPlaces::of(alloc, bodies)?;
     meanings_by(alloc, definition, declared, &bodies, sights, constants)
 }

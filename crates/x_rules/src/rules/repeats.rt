@@ -1,21 +1,19 @@
 //! What may stand only once in a body, a program or a version.
 
-ghost use Rattle.std.specs.Prelude.{◌≡◌, ◌++◌, ◌||◌, ℤ, not, map, IfOk, OnOk};
+ghost use Rattle.std.specs.Prelude.{◌≡◌, ◌++◌, map, IfOk, OnOk};
+ghost use Rattle.std.specs.List.{flat_map};
 ghost use Rattle.std.specs.Ordering.{int_eq};
-ghost use Rattle.indexmap.specs.IndexSet.{contains};
-ghost use Rattle.std.specs.List.{flat_map, list_any};
 ghost use Rattle.std.specs.Str.{bytes_eq};
-ghost use Rattle.x_rules.specs.Found.{repeat_code, repeats_from, repeated_names};
+ghost use Rattle.x_rules.specs.FirstPlaces.{first_from};
+ghost use Rattle.x_rules.specs.Found.{is_behind, repeat_code, repeated_names, repeated_members};
 ghost use Rattle.x_rules.specs.Found.{numbered, spelled_numbers, repeated_code, repeated_numbers};
-ghost use Rattle.x_rules.specs.Found.{fault_at, repeated_members};
-ghost use Rattle.x_rules.specs.Tables.{HasPlaces, place_in, view_name_at, view_number_at, view_members};
+ghost use Rattle.x_rules.specs.Tables.{view_name_at, view_number_at, view_members};
 
 use super::duplicates::is_behind;
+use super::first_places::{FirstPlaces, Keyed};
 use super::found::add_fault;
-use super::places::{MOST_FEW, Places};
 use crate::fault::{RuleCode, WordFault};
 use crate::outline::parts::{BodyAt, Members, NameAt, NumberAt};
-use indexmap::IndexSet;
 use std::alloc::Global;
 use x_numbers::number_value;
 use x_text::NoMemory;
@@ -25,6 +23,22 @@ use x_text::NoMemory;
 pub struct Numbered {
     pub number: i128,
     pub word: usize,
+}
+
+impl Keyed<i128> for Numbered {
+    ghost has_key = { λ numbered number. int_eq number numbered.number };
+
+    fn key(&self) -> i128 {
+        self.number
+    }
+}
+
+impl<'d> Keyed<&'d [u8]> for NameAt<'d> {
+    ghost has_key = { λ named name. bytes_eq name.now named.name.now };
+
+    fn key(&self) -> &'d [u8] {
+        self.name
+    }
 }
 
 /// Adds the number at a word, if there is one.
@@ -51,68 +65,11 @@ fn number_fault(code: RuleCode, is_new: bool) -> Option<RuleCode>
     if is_new { None } else { Some(code) }
 }
 
-/// Takes a number into those seen, and tells whether it is new.
-fn see(seen: &mut IndexSet<i128>, number: i128) -> Result<bool, NoMemory>
-    ensures new { IfOk result (λ is_new. is_new ≡ not (contains int_eq seen.old number)) }
-    ensures seen { OnOk result ((other : ℤ)
-        → contains int_eq seen.new other ≡ (int_eq number other || contains int_eq seen.old other)) }
+/// Whether the number in this place stands before it too.
+fn has_earlier(numbers: &FirstPlaces<Numbered, i128>, here: &Numbered, place: usize) -> bool
+    ensures { result ≡ is_behind (first_from (λ n. int_eq here.now.number n.number) 0 numbers.now) place }
 {
-    Ok(seen.insert(number)?)
-}
-
-/// Adds the fault at a number that was seen, and takes it into those seen.
-fn add_repeated_number(
-    faults: &mut Vec<WordFault>,
-    seen: &mut IndexSet<i128>,
-    here: &Numbered,
-    code: RuleCode,
-) -> Result<(), NoMemory>
-    ensures faults { OnOk result (faults.new.items ≡ faults.old.items
-        ++ fault_at here.now.word (repeated_code code (not (contains int_eq seen.old here.now.number)))) }
-    ensures seen { OnOk result ((other : ℤ) → contains int_eq seen.new other
-        ≡ (int_eq here.now.number other || contains int_eq seen.old other)) }
-{
-    let Numbered { number, word } = *here;
-    let is_new = see(seen, number)?;
-    add_fault(faults, word, number_fault(code, is_new))
-}
-
-/// Adds the fault at each of many numbers that has an earlier word too.
-fn add_many_numbers(
-    alloc: Global,
-    faults: &mut Vec<WordFault>,
-    numbers: &[Numbered],
-    code: RuleCode,
-) -> Result<(), NoMemory>
-    ensures { OnOk result (faults.new.items ≡ faults.old.items ++ repeated_numbers code numbers.now) }
-{
-    let mut seen = IndexSet::new(alloc);
-    for here in numbers {
-        add_repeated_number(faults, &mut seen, here, code)?;
-    }
-    Ok(())
-}
-
-/// Whether one of these numbers is this one.
-fn has_number(numbers: &[Numbered], here: &Numbered) -> bool
-    ensures { result ≡ list_any (λ n. int_eq here.now.number n.number) numbers.now }
-{
-    numbers.iter().any(|other| here.number == other.number)
-}
-
-/// Adds the fault at each of a few numbers that has an earlier word too.
-fn add_few_numbers(
-    faults: &mut Vec<WordFault>,
-    numbers: &[Numbered],
-    code: RuleCode,
-) -> Result<(), NoMemory>
-    ensures { OnOk result (faults.new.items ≡ faults.old.items ++ repeated_numbers code numbers.now) }
-{
-    for (place, here) in numbers.iter().enumerate() {
-        let is_new = !has_number(&numbers[..place], here);
-        add_fault(faults, here.word, number_fault(code, is_new))?;
-    }
-    Ok(())
+    is_behind(numbers.get(here.number), place)
 }
 
 /// Adds the fault at each number that has an earlier word too.
@@ -124,11 +81,12 @@ pub fn add_repeated_numbers(
 ) -> Result<(), NoMemory>
     ensures { OnOk result (faults.new.items ≡ faults.old.items ++ repeated_numbers code numbers.now) }
 {
-    if numbers.len() <= MOST_FEW {
-        add_few_numbers(faults, numbers, code)
-    } else {
-        add_many_numbers(alloc, faults, numbers, code)
+    let places = FirstPlaces::of(alloc, numbers)?;
+    for (place, here) in numbers.iter().enumerate() {
+        let is_new = !has_earlier(&places, here, place);
+        add_fault(faults, here.word, number_fault(code, is_new))?;
     }
+    Ok(())
 }
 
 /// The fault of a name, by whether it has an earlier place too.
@@ -142,66 +100,6 @@ fn name_fault(is_repeated: bool) -> Option<RuleCode>
     }
 }
 
-/// The first places of the names of a group.
-fn places_of_group<'d>(alloc: Global, names: &[NameAt<'d>]) -> Result<Places<'d>, NoMemory>
-    ensures { IfOk result (λ places. HasPlaces places
-        (map (λ x. x.name) (map view_name_at names.now))) }
-{
-    let mut list = Vec::with_capacity(alloc, names.len())?;
-    for name in names {
-        list.push(name.name)?;
-    }
-    Places::of(alloc, list)
-}
-
-/// Adds the faults of names, by the first place of each.
-fn add_name_faults(
-    faults: &mut Vec<WordFault>,
-    names: &[NameAt],
-    places: &Places,
-) -> Result<(), NoMemory>
-    ensures { OnOk result (faults.new.items ≡ faults.old.items
-        ++ repeats_from (place_in places.now) 0 (map view_name_at names.now)) }
-{
-    for (place, name) in names.iter().enumerate() {
-        let code = name_fault(is_behind(places.place(name.name), place));
-        add_fault(faults, name.word, code)?;
-    }
-    Ok(())
-}
-
-/// Whether one of these names is this one.
-fn has_name(names: &[NameAt], name: &[u8]) -> bool
-    ensures { result ≡ list_any (λ x. bytes_eq name.now x.name.now) names.now }
-{
-    names.iter().any(|other| name == other.name)
-}
-
-/// Adds the fault at each of a few names that has an earlier word too.
-fn add_few_names(faults: &mut Vec<WordFault>, names: &[NameAt]) -> Result<(), NoMemory>
-    ensures { OnOk result (faults.new.items ≡ faults.old.items
-        ++ repeated_names (map view_name_at names.now)) }
-{
-    for (place, name) in names.iter().enumerate() {
-        let code = name_fault(has_name(&names[..place], name.name));
-        add_fault(faults, name.word, code)?;
-    }
-    Ok(())
-}
-
-/// Adds the fault at each of many names that has an earlier word too.
-fn add_many_names(
-    alloc: Global,
-    faults: &mut Vec<WordFault>,
-    names: &[NameAt],
-) -> Result<(), NoMemory>
-    ensures { OnOk result (faults.new.items ≡ faults.old.items
-        ++ repeated_names (map view_name_at names.now)) }
-{
-    let places = places_of_group(alloc, names)?;
-    add_name_faults(faults, names, &places)
-}
-
 /// Adds the fault at each name of a group that has an earlier word too.
 fn add_repeated_names(
     alloc: Global,
@@ -211,11 +109,12 @@ fn add_repeated_names(
     ensures { OnOk result (faults.new.items ≡ faults.old.items
         ++ repeated_names (map view_name_at names.now)) }
 {
-    if names.len() <= MOST_FEW {
-        add_few_names(faults, names)
-    } else {
-        add_many_names(alloc, faults, names)
+    let places = FirstPlaces::of(alloc, names)?;
+    for (place, name) in names.iter().enumerate() {
+        let code = name_fault(is_behind(places.get(name.name), place));
+        add_fault(faults, name.word, code)?;
     }
+    Ok(())
 }
 
 /// The numbers that constants may have.

@@ -162,7 +162,7 @@ pub fn add_past_last(faults: &mut Vec<WordFault>, constants: &Constants) -> Resu
         → HasNumbers constants.now all known
         → faults.new.items ≡ faults.old.items ++ past_last_faults known) }
 {
-    let list = constants.list.as_slice();
+    let list = constants.list.items();
     for (place, enumerator) in list.iter().enumerate() {
         let code = past_last(enumerator, constants.number_in(place));
         add_fault(faults, enumerator.word, code)?;

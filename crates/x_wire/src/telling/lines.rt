@@ -7,6 +7,7 @@ ghost use Rattle.x_wire.specs.MessageTexts.{auth_line, bad_header_line, call_lin
 ghost use Rattle.x_wire.specs.MessageTexts.{reject_details, reject_name};
 ghost use Rattle.x_wire.specs.StreamTexts.{record_line};
 
+use super::heading::Heading;
 use super::teller::CallOfXid;
 use crate::{AcceptStat, Auth, Call, RecordFault, RejectStat};
 use itoa::Integer;
@@ -59,39 +60,28 @@ fn add_auth<S: Sink>(word: &str, auth: &Auth, pen: &mut Pen, sink: &mut S)
 
 /// Adds the first line of a call.
 #[tactic(auto, using(x_text::proofs::Adding::four))]
-fn add_call_line<S: Sink>(
-    number: u64,
-    xid: u32,
-    call: &Call,
-    name: &[u8],
-    pen: &mut Pen,
-    sink: &mut S,
-)
+fn add_call_line<S: Sink>(heading: &Heading, call: &Call, pen: &mut Pen, sink: &mut S)
     ensures { Adds pen.old (S.state sink.old) pen.new (S.state sink.new)
-        (call_line number xid call.now.rpcvers call.now.prog call.now.vers call.now.proc name.now) }
+        (call_line heading.now.id.number heading.now.id.xid
+        call.now.rpcvers call.now.prog call.now.vers call.now.proc heading.now.name.now) }
 {
-    add_numbers("# ", number, " call xid=", xid, pen, sink);
+    let id = heading.id;
+    add_numbers("# ", id.number, " call xid=", id.xid, pen, sink);
     add_numbers(" rpcvers=", call.rpcvers, " prog=", call.prog, pen, sink);
     add_numbers(" vers=", call.vers, " proc=", call.proc, pen, sink);
-    add_name(name, pen, sink);
+    add_name(heading.name, pen, sink);
 }
 
-/// Adds the lines of a call's header, which names a procedure of this name.
+/// Adds the lines of a call's header.
 #[tactic(auto, using(x_text::proofs::Adding::three))]
-pub(super) fn add_call<S: Sink>(
-    number: u64,
-    xid: u32,
-    call: &Call,
-    name: &[u8],
-    pen: &mut Pen,
-    sink: &mut S,
-)
+pub(super) fn add_call<S: Sink>(heading: &Heading, call: &Call, pen: &mut Pen, sink: &mut S)
     ensures { Adds pen.old (S.state sink.old) pen.new (S.state sink.new)
-        (call_line number xid call.now.rpcvers call.now.prog call.now.vers call.now.proc name.now
+        (call_line heading.now.id.number heading.now.id.xid
+        call.now.rpcvers call.now.prog call.now.vers call.now.proc heading.now.name.now
         ++ auth_line (codes "cred") (auth_of call.now.cred)
         ++ auth_line (codes "verf") (auth_of call.now.verf)) }
 {
-    add_call_line(number, xid, call, name, pen, sink);
+    add_call_line(heading, call, pen, sink);
     add_auth("cred", &call.cred, pen, sink);
     add_auth("verf", &call.verf, pen, sink);
 }
@@ -135,22 +125,15 @@ fn add_state<S: Sink>(
 
 /// Adds the first line of a reply.
 #[tactic(auto, using(x_text::proofs::Adding::three))]
-fn add_reply_line<S: Sink>(
-    number: u64,
-    xid: u32,
-    word: &str,
-    state: &str,
-    heard: Option<CallOfXid>,
-    name: &[u8],
-    pen: &mut Pen,
-    sink: &mut S,
-)
+fn add_reply_line<S: Sink>(heading: &Heading, word: &str, state: &str, pen: &mut Pen, sink: &mut S)
     ensures { Adds pen.old (S.state sink.old) pen.new (S.state sink.new)
-        (reply_line number xid (word.now ++ state.now) heard name.now) }
+        (reply_line heading.now.id.number heading.now.id.xid (word.now ++ state.now)
+        heading.now.call heading.now.name.now) }
 {
-    add_numbers("# ", number, " reply xid=", xid, pen, sink);
-    add_state(word, state, heard, pen, sink);
-    add_name(name, pen, sink);
+    let id = heading.id;
+    add_numbers("# ", id.number, " reply xid=", id.xid, pen, sink);
+    add_state(word, state, heading.call, pen, sink);
+    add_name(heading.name, pen, sink);
 }
 
 /// Adds the line with the lowest and the highest version.
@@ -174,32 +157,21 @@ fn add_accept_details<S: Sink>(stat: &AcceptStat, pen: &mut Pen, sink: &mut S)
     }
 }
 
-/// Adds the lines of the header of a reply that was accepted, to this call.
+/// Adds the lines of the header of a reply that was accepted.
 #[tactic(auto, using(x_text::proofs::Adding::three))]
 pub(super) fn add_accepted<S: Sink>(
-    number: u64,
-    xid: u32,
+    heading: &Heading,
     verf: &Auth,
     stat: &AcceptStat,
-    heard: Option<CallOfXid>,
-    name: &[u8],
     pen: &mut Pen,
     sink: &mut S,
 )
     ensures { Adds pen.old (S.state sink.old) pen.new (S.state sink.new)
-        (reply_line number xid (codes "accepted " ++ accept_name (accept_of stat.now)) heard name.now
+        (reply_line heading.now.id.number heading.now.id.xid
+        (codes "accepted " ++ accept_name (accept_of stat.now)) heading.now.call heading.now.name.now
         ++ auth_line (codes "verf") (auth_of verf.now) ++ accept_details (accept_of stat.now)) }
 {
-    add_reply_line(
-        number,
-        xid,
-        "accepted ",
-        stat.text(),
-        heard,
-        name,
-        pen,
-        sink,
-    );
+    add_reply_line(heading, "accepted ", stat.text(), pen, sink);
     add_auth("verf", verf, pen, sink);
     add_accept_details(stat, pen, sink);
 }
@@ -226,22 +198,15 @@ fn add_reject_details<S: Sink>(stat: &RejectStat, pen: &mut Pen, sink: &mut S)
     }
 }
 
-/// Adds the lines of a reply that was denied, to this call.
+/// Adds the lines of a reply that was denied.
 #[tactic(auto, using(x_text::proofs::Adding::two))]
-pub(super) fn add_denied<S: Sink>(
-    number: u64,
-    xid: u32,
-    stat: &RejectStat,
-    heard: Option<CallOfXid>,
-    name: &[u8],
-    pen: &mut Pen,
-    sink: &mut S,
-)
+pub(super) fn add_denied<S: Sink>(heading: &Heading, stat: &RejectStat, pen: &mut Pen, sink: &mut S)
     ensures { Adds pen.old (S.state sink.old) pen.new (S.state sink.new)
-        (reply_line number xid (codes "denied " ++ reject_name (reject_of stat.now)) heard name.now
+        (reply_line heading.now.id.number heading.now.id.xid
+        (codes "denied " ++ reject_name (reject_of stat.now)) heading.now.call heading.now.name.now
         ++ reject_details (reject_of stat.now)) }
 {
-    add_reply_line(number, xid, "denied ", stat.text(), heard, name, pen, sink);
+    add_reply_line(heading, "denied ", stat.text(), pen, sink);
     add_reject_details(stat, pen, sink);
 }
 

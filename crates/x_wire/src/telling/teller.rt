@@ -7,6 +7,7 @@ ghost use Rattle.x_wire.specs.Tellers.{arg_found, name_found, res_found};
 ghost use Rattle.x_wire.specs.declared.messages.parts.MessageKind.TheVariants as kinds;
 
 use super::body::read_body;
+use super::heading::{Heading, MessageId};
 use super::lines::{add_accepted, add_bad_header, add_call, add_denied};
 use crate::{AcceptStat, Call, Message, MessageKind, RejectStat, Reply, message};
 use indexmap::IndexMap;
@@ -193,14 +194,13 @@ impl Teller {
         &mut self,
         alloc: Global,
         schema: &Schema,
-        number: u64,
-        xid: u32,
+        id: MessageId,
         call: &Call,
         pen: &mut Pen,
         sink: &mut S,
     ) -> Result<bool, NoMemory>
-        ensures told { IfOk result (λ refused. TellsHeader schema.now number self.old.calls.entries
-            (header_of_kind xid (kinds.Call call.now)) call.now.body.now refused self.new.calls.entries
+        ensures told { IfOk result (λ refused. TellsHeader schema.now id.number self.old.calls.entries
+            (header_of_kind id.xid (kinds.Call call.now)) call.now.body.now refused self.new.calls.entries
             pen.old (S.state sink.old) pen.new (S.state sink.new)) }
         ensures same { OnErr result ((pen.new ≡ pen.old) × (sink.new ≡ sink.old)) }
         ensures count { self.new.count ≡ self.old.count }
@@ -209,11 +209,16 @@ impl Teller {
         let procedure = find(schema, numbers);
         let arguments = read_body(alloc, schema, arg_of(&procedure), call.body)?;
         let heard = CallOfXid {
-            number,
+            number: id.number,
             procedure: numbers,
         };
-        self.calls.insert(xid, heard)?;
-        add_call(number, xid, call, name_of(&procedure), pen, sink);
+        self.calls.insert(id.xid, heard)?;
+        let heading = Heading {
+            id,
+            call: Some(heard),
+            name: name_of(&procedure),
+        };
+        add_call(&heading, call, pen, sink);
         Ok(arguments.add_lines(call.body, pen, sink))
     }
 }
@@ -222,32 +227,35 @@ impl Teller {
 fn tell_reply<S: Sink>(
     alloc: Global,
     schema: &Schema,
-    number: u64,
-    xid: u32,
+    id: MessageId,
     heard: Option<CallOfXid>,
     reply: &Reply,
     pen: &mut Pen,
     sink: &mut S,
 ) -> Result<bool, NoMemory>
-    ensures told { IfOk result (λ refused. TellsReply schema.now number xid heard
-        (header_of_reply xid reply.now) (body_of_reply reply.now) refused
+    ensures told { IfOk result (λ refused. TellsReply schema.now id.number id.xid heard
+        (header_of_reply id.xid reply.now) (body_of_reply reply.now) refused
         pen.old (S.state sink.old) pen.new (S.state sink.new)) }
     ensures same { OnErr result ((pen.new ≡ pen.old) × (sink.new ≡ sink.old)) }
 {
     let procedure = find_heard(schema, heard);
-    let name = name_of(&procedure);
+    let heading = Heading {
+        id,
+        call: heard,
+        name: name_of(&procedure),
+    };
     match reply {
         Reply::Denied(stat) => {
-            add_denied(number, xid, stat, heard, name, pen, sink);
+            add_denied(&heading, stat, pen, sink);
             Ok(false)
         }
         Reply::Accepted { verf, stat } => {
             let AcceptStat::Success { body } = stat else {
-                add_accepted(number, xid, verf, stat, heard, name, pen, sink);
+                add_accepted(&heading, verf, stat, pen, sink);
                 return Ok(false);
             };
             let results = read_body(alloc, schema, res_of(&procedure), body)?;
-            add_accepted(number, xid, verf, stat, heard, name, pen, sink);
+            add_accepted(&heading, verf, stat, pen, sink);
             Ok(results.add_lines(body, pen, sink))
         }
     }

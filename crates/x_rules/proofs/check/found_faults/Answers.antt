@@ -11,7 +11,8 @@ use Rattle.x_rules.specs.Constants.{knowns}
 use Rattle.x_rules.specs.Found.{duplicates_from, mention_faults, note_faults, repeated_cases, repeated_names, repeated_members, too_high_faults, has_too_high, found_faults}
 use Rattle.x_trees.specs.Notes.{view_note_at}
 use Rattle.x_rules.specs.Outlined.{outlined}
-use Rattle.x_rules.specs.Tables.{seen_by, first_place, place_seen, is_too_high, view_value_at, view_name_at, view_members}
+use Rattle.x_rules.specs.FirstPlaces.{first_place}
+use Rattle.x_rules.specs.Tables.{seen_by, place_seen, is_too_high, view_value_at, view_name_at, view_members}
 use Rattle.x_rules.specs.Types.{defined_heights, body_height}
 use Rattle.x_rules.proofs.OutlineLemmas.{map_map, flat_mapped, flat_bodies, any_append, any_map, added_before, added_last}
 use Rattle.x_rules.proofs.check.found_faults.Goals as goal
@@ -28,7 +29,7 @@ returns c o t =
     let first = first_place 0 (names_of d) in
     let duplicates =
     ap (λ l. duplicates_from see (place_seen c.args.sights.now) 0 (map view_name l)) c.deref.ensures.value
-    ∙ ap (λ f. duplicates_from see f 0 (map view_name ds)) (λ i name. t.places.at name i) ∙ ap (duplicates_from see first 0) o.names_are in
+    ∙ ap (λ f. duplicates_from see f 0 (map view_name ds)) (ap (λ names name. first_place 0 names name) t.names) ∙ ap (duplicates_from see first 0) o.names_are in
     let uses = ap (λ l. mention_faults see all (map view_mention l)) c.deref-2.ensures.value ∙ ap (mention_faults see all) o.uses_are in
     let noted = ap (λ ns. note_faults see known (map view_note_at ns)) c.deref-3.ensures.value ∙ ap (note_faults see known) o.notes_are in
     let cases =

@@ -1,4 +1,4 @@
-use Rattle.std.proofs.Common.{List, ℕ, ◌++◌, map, refl, sym, ap, subst, ◌∙◌}
+use Rattle.std.proofs.Common.{◌≡◌, List, ℕ, ◌++◌, map, sym, ap, subst, ◌∙◌}
 use Rattle.std.proofs.lemmas.Result.{IfOk-weaker}
 use Rattle.std.specs.Cow.{cow_slice_items}
 use Rattle.x_trees.specs.Collected.{view_mention}
@@ -8,7 +8,8 @@ use Rattle.x_rules.specs.Bodies.{enumerators_in}
 use Rattle.x_rules.specs.BodyWalks.{view_body_at, AreFilled}
 use Rattle.x_rules.specs.Constants.{knowns}
 use Rattle.x_rules.specs.Outlined.{outlined, AreTables}
-use Rattle.x_rules.specs.Tables.{ArePlaces, HasNumbers, place_seen, seen_by}
+use Rattle.x_trees.specs.Seen.{names_of}
+use Rattle.x_rules.specs.Tables.{HasNumbers, seen_by, view_enumerator_at}
 use Rattle.x_rules.proofs.OutlineLemmas.{map_map, outcome_by}
 use Rattle.x_rules.proofs.check.outcome.Goals as goal
 
@@ -21,14 +22,17 @@ returns c =
     let constants = c.in_ok-constants.constants in
     let d = outlined outline in
     let names =
-    ap (map (λ x. cow_slice_items x.name)) c.deref.ensures.value ∙ map_map (λ x. x.name) view_name outline.declared.items ∙ ap (map (λ x. x.name)) o.names_are in
-    let front : List (List ℕ) = map (λ (x : Declared). x.name) (declared d) in
+    ap (map (λ x. cow_slice_items x.name)) c.deref.ensures.value
+    ∙ map_map (λ x. x.name) view_name outline.declared.items ∙ ap (map (λ x. x.name)) o.names_are in
     let uses =
-    ap (map (λ m. m.name.now)) c.deref-2.ensures.value ∙ map_map (λ m. m.name) view_mention outline.mentioned.items ∙ ap (map (λ m. m.name)) o.uses_are in
-    let places = subst (ArePlaces (place_seen sights)) (ap (λ l. l ++ map (λ m. m.name.now) c.deref-2.result.now) names ∙ ap (λ l. front ++ l) uses) c.in_ok-sights.ensures.places in
+    ap (map (λ m. m.name.now)) c.deref-2.ensures.value
+    ∙ map_map (λ m. m.name) view_mention outline.mentioned.items ∙ ap (map (λ m. m.name)) o.uses_are in
+    let front : List (List ℕ) = map (λ (x : Declared). x.name) (declared d) in
+    let seen : map (λ x. x.now) sights.names ≡ names_of d =
+    ap (map (λ x. x.now)) (c.in_ok-sights.ensures.names ∙ c.deref-3.ensures) ∙ c.in_ok-names.ensures ∙ ap (λ l. l ++ map (λ m. m.name.now) c.deref-2.result.now) names ∙ ap (λ l. front ++ l) uses in
     let enumerators_are =
-    c.in_ok-enumerators.ensures (subst AreFilled (sym c.deref-3.ensures.value) o.filled) ∙ ap (λ l. enumerators_in (map view_body_at l)) c.deref-3.ensures.value ∙ ap enumerators_in o.bodies_are in
+    ap (map view_enumerator_at) c.deref-5.ensures.value ∙ c.in_ok-list.ensures (subst AreFilled (sym c.deref-4.ensures.value) o.filled) ∙ ap (λ l. enumerators_in (map view_body_at l)) c.deref-4.ensures.value ∙ ap enumerators_in o.bodies_are in
     let numbers = subst (λ all. HasNumbers constants all (knowns (seen_by sights) all)) enumerators_are c.in_ok-constants.ensures in
-    let tables : AreTables outline sights constants = record { places = places; numbers = numbers } in
-    outcome_by d d (place_seen sights) sights.views.now c.args.views.now checked refl places c.in_ok-sights.ensures.views (h o tables))
+    let tables : AreTables outline sights constants = record { names = seen; numbers = numbers } in
+    outcome_by d (map (λ x. x.now) sights.names) sights.views.now c.args.views.now checked seen c.in_ok-sights.ensures.views (h o tables))
     c.checked.ensures

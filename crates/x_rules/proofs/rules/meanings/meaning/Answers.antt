@@ -4,7 +4,7 @@ use Rattle.std.specs.Cow.{cow_slice_items}
 use Rattle.x_trees.specs.View.{view_definition}
 use Rattle.x_rules.specs.Bodies as outline
 use Rattle.x_rules.specs.Constants.{knowns}
-use Rattle.x_rules.specs.Meanings.{counted_type}
+use Rattle.x_rules.specs.Meanings.{body_named, counted_type}
 use Rattle.x_rules.specs.Results.{meaning_as}
 use Rattle.x_rules.specs.Tables.{seen_by}
 use Rattle.x_rules.proofs.MeaningLemmas.{defined_type, type_at, meaning_of_type}
@@ -29,7 +29,7 @@ returns-in_default c =
     IfOk-weaker c.named_meaning.result _ _
     (λ kept is numbers bodies low.
     is (outline.enumerators d) known numbers
-    ∙ ap (counted_type see known) (c.get.ensures (outline.bodies d) bodies)
+    ∙ ap (counted_type see known) (c.body_named.ensures ∙ ap (λ bs. body_named bs name.word) bodies)
     ∙ type_at d see known name.word low
     ∙ meaning_of_type d see name.kind (cow_slice_items name.name) name.word c.in_default.not-Constant c.in_default.not-Typedef c.in_default.not-Program)
     c.named_meaning.ensures

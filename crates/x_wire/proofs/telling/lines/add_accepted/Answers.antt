@@ -20,12 +20,13 @@ returns g c =
     let stat = c.args.stat.now in
     let start = g.S.Sink.state c.args.sink.now in
     let end = g.S.Sink.state c.add_accept_details.new.sink in
+    let heading = c.args.heading.now in
     let verf = auth_line (codes "verf") (auth_of c.args.verf.now) in
     let details = accept_details (accept_of stat) in
     let added = three c.args.pen.now c.add_reply_line.new.pen c.add_auth.new.pen c.add_accept_details.new.pen
     start (g.S.Sink.state c.add_reply_line.new.sink) (g.S.Sink.state c.add_auth.new.sink) end
-    (reply_line c.args.number c.args.xid (codes "accepted " ++ c.text.result.now) c.args.heard c.args.name.now) verf details
+    (reply_line heading.id.number heading.id.xid (codes "accepted " ++ c.text.result.now) heading.call heading.name.now) verf details
     c.add_reply_line.ensures c.add_auth.ensures c.add_accept_details.ensures in
     subst (λ word. Adds c.args.pen.now start c.add_accept_details.new.pen end
-    (reply_line c.args.number c.args.xid (codes "accepted " ++ word) c.args.heard c.args.name.now ++ verf ++ details))
+    (reply_line heading.id.number heading.id.xid (codes "accepted " ++ word) heading.call heading.name.now ++ verf ++ details))
     (c.text.ensures ∙ name_of stat) added

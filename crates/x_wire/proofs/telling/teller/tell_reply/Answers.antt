@@ -13,36 +13,36 @@ use Rattle.x_wire.proofs.telling.teller.tell_reply.Goals as goal
 
 pub returns-in_default : goal.returns-in_default
 returns-in_default g c =
-    let xid = c.args.xid in
+    let xid = c.args.id.xid in
     let start = g.S.Sink.state c.args.sink.now in
     let pen = c.add_accepted.new.pen in
     let end = g.S.Sink.state c.add_accepted.new.sink in
     let stat = c.in-Accepted.stat in
     record {
-      told = subst (λ (r : Reply). TellsReply c.args.schema.now c.args.number xid c.args.heard (header_of_reply xid r) (body_of_reply r) false c.args.pen.now start pen end)
+      told = subst (λ (r : Reply). TellsReply c.args.schema.now c.args.id.number xid c.args.heard (header_of_reply xid r) (body_of_reply r) false c.args.pen.now start pen end)
           (sym c.in-Accepted.is)
-          (tells_bare c.args.schema.now c.args.number xid c.args.heard c.find_heard-procedure.result c.name_of-name.result.now (auth_of c.in-Accepted.verf)
-          (accept_of stat) (results_of stat) c.args.pen.now pen start end c.find_heard-procedure.ensures c.name_of-name.ensures
+          (tells_bare c.args.schema.now c.args.id.number xid c.args.heard c.find_heard-procedure.result c.name_of.result.now (auth_of c.in-Accepted.verf)
+          (accept_of stat) (results_of stat) c.args.pen.now pen start end c.find_heard-procedure.ensures c.name_of.ensures
           (λ calls. bare_behind c.args.schema.now calls xid (auth_of c.in-Accepted.verf) stat c.in_default.not-Success) c.add_accepted.ensures);
       same = tt;
     }
 
 pub returns-in-Denied-clause-told : goal.returns-in-Denied-clause-told
 returns-in-Denied-clause-told g c =
-    let xid = c.args.xid in
+    let xid = c.args.id.xid in
     let start = g.S.Sink.state c.args.sink.now in
     let pen = c.add_denied.new.pen in
     let end = g.S.Sink.state c.add_denied.new.sink in
-    subst (λ (r : Reply). TellsReply c.args.schema.now c.args.number xid c.args.heard (header_of_reply xid r) (body_of_reply r) false c.args.pen.now start pen end)
+    subst (λ (r : Reply). TellsReply c.args.schema.now c.args.id.number xid c.args.heard (header_of_reply xid r) (body_of_reply r) false c.args.pen.now start pen end)
     (sym c.in-Denied.is)
-    (tells_denied c.args.schema.now c.args.number xid c.args.heard c.find_heard-procedure.result c.name_of-name.result.now (reject_of c.in-Denied.stat)
-    c.args.pen.now pen start end c.find_heard-procedure.ensures c.name_of-name.ensures c.add_denied.ensures)
+    (tells_denied c.args.schema.now c.args.id.number xid c.args.heard c.find_heard-procedure.result c.name_of.result.now (reject_of c.in-Denied.stat)
+    c.args.pen.now pen start end c.find_heard-procedure.ensures c.name_of.ensures c.add_denied.ensures)
 
 pub returns-in_ok-results-in-Accepted-clause-told : goal.returns-in_ok-results-in-Accepted-clause-told
 returns-in_ok-results-in-Accepted-clause-told g c =
-    let xid = c.args.xid in
+    let xid = c.args.id.xid in
     let heard = c.args.heard in
-    let name = c.name_of-name.result.now in
+    let name = c.name_of.result.now in
     let verf = auth_of c.in-Accepted.verf in
     let body = c.in-Success.body.now in
     let start = g.S.Sink.state c.args.sink.now in
@@ -51,13 +51,13 @@ returns-in_ok-results-in-Accepted-clause-told g c =
     let before = c.add_accepted-in-Accepted.new.pen in
     let pen = c.add_lines.new.pen in
     let head = subst (λ (a : AcceptStat). Adds c.args.pen.now start before mid
-    (reply_line c.args.number xid (codes "accepted " ++ accept_name (accept_of a)) heard name ++ auth_line (codes "verf") verf ++ accept_details (accept_of a)))
+    (reply_line c.args.id.number xid (codes "accepted " ++ accept_name (accept_of a)) heard name ++ auth_line (codes "verf") verf ++ accept_details (accept_of a)))
     c.in-Success.is c.add_accepted-in-Accepted.ensures in
     let whole : c.args.reply.now ≡ replies.Accepted c.in-Accepted.verf (accepts.Success c.in-Success.body) =
     c.in-Accepted.is ∙ ap (λ (a : AcceptStat). replies.Accepted c.in-Accepted.verf a) c.in-Success.is in
-    subst (λ (r : Reply). TellsReply c.args.schema.now c.args.number xid heard (header_of_reply xid r) (body_of_reply r) c.add_lines.result c.args.pen.now start pen end)
+    subst (λ (r : Reply). TellsReply c.args.schema.now c.args.id.number xid heard (header_of_reply xid r) (body_of_reply r) c.add_lines.result c.args.pen.now start pen end)
     (sym whole)
-    (tells_success c.args.schema.now c.args.number xid heard c.find_heard-procedure.result name verf body c.in_ok-results-in-Accepted.results c.add_lines.result
-    c.args.pen.now before pen start mid end c.find_heard-procedure.ensures c.name_of-name.ensures
+    (tells_success c.args.schema.now c.args.id.number xid heard c.find_heard-procedure.result name verf body c.in_ok-results-in-Accepted.results c.add_lines.result
+    c.args.pen.now before pen start mid end c.find_heard-procedure.ensures c.name_of.ensures
     (subst (λ t. IsReadAs c.args.schema.now t body c.in_ok-results-in-Accepted.results) c.res_of.ensures c.in_ok-results-in-Accepted.ensures)
     head c.add_lines.ensures.added c.add_lines.ensures.refused)

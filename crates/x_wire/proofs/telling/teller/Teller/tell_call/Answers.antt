@@ -8,7 +8,7 @@ pub returns-clause-told : goal.returns-clause-told
 returns-clause-told g c =
     let call = c.args.call.now in
     let read = c.in_ok-arguments.arguments in
-    tells_call c.args.schema.now c.args.number c.args.xid call.rpcvers call.prog call.vers call.proc (auth_of call.cred) (auth_of call.verf) call.body.now
+    tells_call c.args.schema.now c.args.id.number c.args.id.xid call.rpcvers call.prog call.vers call.proc (auth_of call.cred) (auth_of call.verf) call.body.now
     c.numbers_called-numbers.result c.find-procedure.result read c.name_of.result.now c.args.self.now.calls.entries c.insert.new.self.entries c.add_lines.result
     c.args.pen.now c.add_call.new.pen c.add_lines.new.pen (g.S.Sink.state c.args.sink.now) (g.S.Sink.state c.add_call.new.sink) (g.S.Sink.state c.add_lines.new.sink)
     c.numbers_called-numbers.ensures c.find-procedure.ensures

@@ -1,0 +1,17 @@
+pub mod Alike
+pub mod AlikeProcedures
+pub mod AlikeSchemas
+pub mod AlikeValues
+pub mod EnumWords
+pub mod Faultless
+pub mod Held
+pub mod Mentioned
+pub mod NumberFold
+pub mod NumberMeant
+pub mod OneAnswer
+pub mod OneShowing
+pub mod SchemaNumbers
+pub mod SchemaTargets
+pub mod SchemaTypes
+pub mod TypeTables
+pub mod TypeWords

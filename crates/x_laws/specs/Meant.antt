@@ -1,0 +1,56 @@
+-- What names mean in a text without a fault, by who declares them first and what checking that item gives.
+use Rattle.std.specs.Prelude.{◌≡◌, ℕ, ℤ, true, List, [], length, Option, Some, None, slice_get}
+use Rattle.std.specs.List.{IsAmong}
+use Rattle.x_trees.specs.Declarations.{name_of}
+use Rattle.x_trees.specs.Mentions.{Mention, mentioned}
+use Rattle.x_trees.specs.Tree.{Declaration, Definition}
+use Rattle.x_trees.specs.declared.names.mention.Use.TheVariants as uses
+use Rattle.x_names.specs.Declarers.{IsFirstDeclarer}
+use Rattle.x_names.specs.declared.names.Declarer.{Declarer}
+use Rattle.x_rules.specs.Mentioned.{suits}
+use Rattle.x_rules.specs.Constants.{number_seen}
+use Rattle.x_rules.specs.Results.{Outcome, result_at, view_by}
+use Rattle.x_schema.specs.Schema.{Schema}
+use Rattle.x_schema.specs.SchemaOf.{Known, IsDeclared, numbers_of, typedefs}
+
+-- none of the results has a fault
+abbrev pub AreFaultless : List (Option Outcome) → Type 0
+AreFaultless results = (item : ℕ) (o : Outcome) → slice_get results item ≡ Some (Some o) → o.faults ≡ []
+
+-- the first declarer of the name declares it as a type
+pub record IsTypeName (definitions : List (Option Definition)) (name : List ℕ) : Type 0 where
+  pub at : Declarer
+  pub first : IsFirstDeclarer definitions name at
+  pub is_type : suits None at.kind ≡ true
+
+-- what is known of the whole text: the numbers of its constants, and all types of the schema
+abbrev pub whole : List (Option Definition) → Schema → Known
+whole definitions s = record { numbers = numbers_of definitions; types = s.types }
+
+-- The form is as the item declares it that declares the name first: a typedef that stands for a type of the
+-- item has the name, and the form is what it declares, where each name in it, by value or behind a link,
+-- leads to the schema's own type of that name.
+pub record IsAsDeclared (definitions : List (Option Definition)) (s : Schema) (name : List ℕ)
+    (form : ℕ) : Type 0 where
+  pub at : Declarer
+  pub first : IsFirstDeclarer definitions name at
+  pub declaration : Declaration
+  pub is_typedef : IsAmong (typedefs (Some first.declares.definition)) declaration
+  pub named : name_of declaration ≡ name
+  pub declared : IsDeclared s (whole definitions s) declaration form
+
+-- a name that the definition of an item uses as a type, by value or behind a link
+pub record IsUsedAsType (definitions : List (Option Definition)) (name : List ℕ) : Type 0 where
+  pub item : ℕ
+  pub definition : Definition
+  pub item_is : slice_get definitions item ≡ Some (Some definition)
+  pub mention : Mention
+  pub is_mentioned : IsAmong (mentioned definition) mention
+  pub named : mention.name ≡ name
+  pub is_type : mention.usage ≡ uses.Value → ⊥
+
+-- The number that a name means in the whole text: the one by which an item behind all others would use it,
+-- if it is a constant that is declared in the text or beforehand.
+abbrev pub number_meant : List (Option Definition) → List (Option Outcome) → List ℕ → Option ℤ
+number_meant definitions results name =
+    number_seen (view_by definitions (result_at results) (length definitions) name) None

@@ -1,0 +1,67 @@
+//! Laws of what a text's types show, each a function that does nothing and ensures the law.
+
+ghost use Rattle.std.specs.Prelude.{◌≡◌, ◌↔◌, ℕ, List, Option, Some, IsSome};
+ghost use Rattle.std.specs.Map.{lookup};
+ghost use Rattle.std.specs.Str.{bytes_eq};
+ghost use Rattle.x_trees.specs.Tree.{Definition};
+ghost use Rattle.x_rules.specs.Results.{Outcome, AreResults};
+ghost use Rattle.x_schema.specs.Schema.{Schema, IsProcedureAt, id_named, named_type};
+ghost use Rattle.x_schema.specs.SchemaOf.{numbers_of};
+ghost use Rattle.x_schema.specs.Schemas.{IsSchemaOf};
+ghost use Rattle.x_schema.specs.declared.schema.NamedType.{NamedType};
+ghost use Rattle.x_schema.specs.declared.schema.TypeId.{TypeId};
+ghost use Rattle.x_schema.specs.declared.procedure.ProcedureNumbers.{ProcedureNumbers};
+ghost use Rattle.x_session.specs.Answers.{Answer};
+ghost use Rattle.x_session.specs.Compile.{Item};
+ghost use Rattle.x_session.specs.LineAnswers.{IsLineAnswer};
+ghost use Rattle.x_session.specs.Script.{AreAnswered};
+ghost use Rattle.x_laws.specs.Meant.{AreFaultless, IsAsDeclared, IsTypeName, IsUsedAsType, number_meant};
+ghost use Rattle.x_laws.specs.Showing.{ShowsAlike, CallsAlike};
+
+/// Two schemas of the same definitions have types of the same names and procedures of the same numbers, and
+/// show bytes by them in the same way: the same nodes, or the same refusal.
+pub fn one_showing()
+    ensures types { (definitions : List (Option Definition)) (s t : Schema) → IsSchemaOf definitions s
+        → IsSchemaOf definitions t → (name : List ℕ) (a : TypeId) → id_named s name ≡ Some a
+        → (b : TypeId) × (id_named t name ≡ Some b) × ShowsAlike s t a b }
+    ensures procedures { (definitions : List (Option Definition)) (s t : Schema) → IsSchemaOf definitions s
+        → IsSchemaOf definitions t → (numbers : ProcedureNumbers) (name : List ℕ) (a b : TypeId)
+        → IsProcedureAt s numbers name a b → CallsAlike s t numbers name a b }
+{}
+
+/// A line of a script has one answer, over a text and its items, and the lines of a script have one list of
+/// answers, one behind another.
+pub fn one_answer()
+    ensures line { (base text line : List ℕ) (items : List Item) (a b : Answer)
+        → IsLineAnswer base text items line a → IsLineAnswer base text items line b → a ≡ b }
+    ensures script { (base text : List ℕ) (lines : List (List ℕ)) (a b : Answer)
+        → AreAnswered base text lines a → AreAnswered base text lines b → a ≡ b }
+{}
+
+/// In a text without a fault a schema has a type of a name exactly where the name's first declarer declares
+/// it as a type, also as that of an inline type.
+pub fn schema_types()
+    ensures { (definitions : List (Option Definition)) (results : List (Option Outcome)) (s : Schema)
+        → AreResults definitions results → AreFaultless results → IsSchemaOf definitions s
+        → (name : List ℕ) → IsSome (id_named s name) ↔ IsTypeName definitions name }
+{}
+
+/// In a text without a fault the numbers by which a schema is made are those that names mean by the rules; and
+/// a name has none where it means none.
+pub fn schema_numbers()
+    ensures { (definitions : List (Option Definition)) (results : List (Option Outcome))
+        → AreResults definitions results → AreFaultless results → (name : List ℕ)
+        → lookup (bytes_eq name) (numbers_of definitions) ≡ number_meant definitions results name }
+{}
+
+/// In a text without a fault the type of each name is as the name's first declarer declares it, and a name in
+/// it, by value or behind a link, leads to the type of that name; each name that is used as a type has one.
+pub fn schema_targets()
+    ensures forms { (definitions : List (Option Definition)) (results : List (Option Outcome)) (s : Schema)
+        → AreResults definitions results → AreFaultless results → IsSchemaOf definitions s
+        → (name : List ℕ) (t : NamedType) → named_type s name ≡ Some t
+        → IsAsDeclared definitions s name t.form }
+    ensures uses { (definitions : List (Option Definition)) (results : List (Option Outcome)) (s : Schema)
+        → AreResults definitions results → AreFaultless results → IsSchemaOf definitions s
+        → (name : List ℕ) → IsUsedAsType definitions name → IsSome (id_named s name) }
+{}

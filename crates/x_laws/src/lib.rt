@@ -1,0 +1,7 @@
+//! Laws that tie the layers to one another: what is shown by the types of a text is a function of the text,
+//! and these types are what its names mean. It holds nothing that runs.
+#![tactic(auto)]
+
+mod laws;
+
+pub use laws::{one_answer, one_showing, schema_numbers, schema_targets, schema_types};
