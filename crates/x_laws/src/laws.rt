@@ -46,8 +46,8 @@ pub fn schema_types()
         → (name : List ℕ) → IsSome (id_named s name) ↔ IsTypeName definitions name }
 {}
 
-/// In a text without a fault the numbers by which a schema is made are those that names mean by the rules; and
-/// a name has none where it means none.
+/// In a text without a fault the numbers by which a schema is made are those that names mean by the rules;
+/// and a name has none where it means none.
 pub fn schema_numbers()
     ensures { (definitions : List (Option Definition)) (results : List (Option Outcome))
         → AreResults definitions results → AreFaultless results → (name : List ℕ)

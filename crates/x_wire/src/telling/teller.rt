@@ -172,19 +172,15 @@ impl Teller {
         ensures same { OnErr result ((pen.new ≡ pen.old) × (sink.new ≡ sink.old)) }
         ensures count { self.new.count ≡ self.old.count }
     {
+        let id = MessageId {
+            number,
+            xid: message.xid,
+        };
         match &message.kind {
-            MessageKind::Call(call) => self.tell_call(
-                alloc,
-                schema,
-                number,
-                message.xid,
-                call,
-                pen,
-                sink,
-            ),
+            MessageKind::Call(call) => self.tell_call(alloc, schema, id, call, pen, sink),
             MessageKind::Reply(reply) => {
                 let heard = self.calls.get(&message.xid).copied();
-                tell_reply(alloc, schema, number, message.xid, heard, reply, pen, sink)
+                tell_reply(alloc, schema, id, heard, reply, pen, sink)
             }
         }
     }
