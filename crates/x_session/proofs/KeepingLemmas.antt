@@ -10,7 +10,7 @@ use Rattle.x_cutting.specs.ItemList as items
 use Rattle.x_cutting.specs.declared.cutting.item_entry.ItemEntry.{ItemEntry}
 use Rattle.x_session.specs.Checking.{AreKnown, IsKnownAt}
 use Rattle.x_session.specs.KeptView.{AreWith, IsWith, IsWithAt, found_pieces, found_result, kept_definition, kept_found, kept_lines, kept_parse, renewed_pieces}
-use Rattle.x_session.specs.declared.compile.content.Found.{Found}
+use Rattle.x_session.specs.declared.compile.content.CheckResult.{CheckResult}
 use Rattle.x_session.specs.declared.compile.content.Content.{Content}
 
 set_seam : {X : Type 0} (front : List X) (x y : X) (rest : List X) (m : ℕ) → m ≡ length front → slice_set (front ++ x ∷ rest) m y ≡ front ++ y ∷ rest
@@ -18,13 +18,13 @@ set_seam [] x y rest m e = ap (λ n. slice_set (x ∷ rest) n y) e
 set_seam (z ∷ front) x y rest zero e = absurd (omega (arith, e))
 set_seam (z ∷ front) x y rest (suc m) e = ap (λ l. z ∷ l) (set_seam front x y rest m (omega (arith, e)))
 
-many_known : (es : List (ItemEntry Content)) (rs : List (Option (Box Found))) → AreKnown (items.kept es) rs → length es ≡ length rs
+many_known : (es : List (ItemEntry Content)) (rs : List (Option (Box CheckResult))) → AreKnown (items.kept es) rs → length es ≡ length rs
 many_known [] [] known = refl
 many_known [] (r ∷ rs) known = absurd known
 many_known (e ∷ es) [] known = absurd known
 many_known (e ∷ es) (r ∷ rs) known = ap suc (many_known es rs known.1)
 
-known_at : (front back : List (ItemEntry Content)) (e : ItemEntry Content) (rs left : List (Option (Box Found))) (r : Option (Box Found)) → length front ≡ length rs
+known_at : (front back : List (ItemEntry Content)) (e : ItemEntry Content) (rs left : List (Option (Box CheckResult))) (r : Option (Box CheckResult)) → length front ≡ length rs
     → AreKnown (items.kept (front ++ e ∷ back)) (rs ++ r ∷ left) → kept_definition e.kept ≡ None → r ≡ None
 known_at [] back e [] left r many known = known.0
 known_at [] back e (s ∷ rs) left r many known = absurd (omega (arith, many))
@@ -32,18 +32,18 @@ known_at (f ∷ front) back e [] left r many known = absurd (omega (arith, many)
 known_at (f ∷ front) back e (s ∷ rs) left r many known = known_at front back e rs left r (omega (arith, many)) known.1
 
 -- the last items have what was found of them, and `rs` is left for those before
-pub record AreKept (olds : List (ItemEntry Content)) (all : List (Option (Box Found))) (news : List (ItemEntry Content)) (rs : List (Option (Box Found))) : Type 0 where
+pub record AreKept (olds : List (ItemEntry Content)) (all : List (Option (Box CheckResult))) (news : List (ItemEntry Content)) (rs : List (Option (Box CheckResult))) : Type 0 where
   pub front : List (ItemEntry Content)
   pub back : List (ItemEntry Content)
   pub done : List (ItemEntry Content)
-  pub left : List (Option (Box Found))
+  pub left : List (Option (Box CheckResult))
   pub olds_are : olds ≡ front ++ back
   pub news_are : news ≡ front ++ done
   pub all_are : all ≡ rs ++ left
   pub many : length front ≡ length rs
   pub with : AreWith back left done
 
-pub kept_none : (olds : List (ItemEntry Content)) (all : List (Option (Box Found))) → AreKnown (items.kept olds) all → AreKept olds all olds all
+pub kept_none : (olds : List (ItemEntry Content)) (all : List (Option (Box CheckResult))) → AreKnown (items.kept olds) all → AreKept olds all olds all
 kept_none olds all known = record {
   front = olds;
   back = [];
@@ -57,19 +57,19 @@ kept_none olds all known = record {
 }
 
 -- the item that is next, and those before it
-pub record IsLast (olds : List (ItemEntry Content)) (all : List (Option (Box Found))) (news : List (ItemEntry Content)) (rs : List (Option (Box Found))) (r : Option (Box Found)) : Type 0 where
+pub record IsLast (olds : List (ItemEntry Content)) (all : List (Option (Box CheckResult))) (news : List (ItemEntry Content)) (rs : List (Option (Box CheckResult))) (r : Option (Box CheckResult)) : Type 0 where
   pub front : List (ItemEntry Content)
   pub item : ItemEntry Content
   pub back : List (ItemEntry Content)
   pub done : List (ItemEntry Content)
-  pub left : List (Option (Box Found))
+  pub left : List (Option (Box CheckResult))
   pub olds_are : olds ≡ front ++ item ∷ back
   pub news_are : news ≡ front ++ item ∷ done
   pub all_are : all ≡ rs ++ r ∷ left
   pub many : length front ≡ length rs
   pub with : AreWith back left done
 
-pub last_item : (olds : List (ItemEntry Content)) (all : List (Option (Box Found))) (news : List (ItemEntry Content)) (before rs : List (Option (Box Found))) (r : Option (Box Found))
+pub last_item : (olds : List (ItemEntry Content)) (all : List (Option (Box CheckResult))) (news : List (ItemEntry Content)) (before rs : List (Option (Box CheckResult))) (r : Option (Box CheckResult))
     → before ≡ rs ++ r ∷ [] → AreKept olds all news before → IsLast olds all news rs r
 last_item olds all news before rs r popped h =
     let m = length rs in
@@ -91,7 +91,7 @@ last_item olds all news before rs r popped h =
       with = h.with;
     }
 
-pub last_known : (olds : List (ItemEntry Content)) (all : List (Option (Box Found))) (news : List (ItemEntry Content)) (rs : List (Option (Box Found))) (r : Option (Box Found))
+pub last_known : (olds : List (ItemEntry Content)) (all : List (Option (Box CheckResult))) (news : List (ItemEntry Content)) (rs : List (Option (Box CheckResult))) (r : Option (Box CheckResult))
     → (h : IsLast olds all news rs r) → AreKnown (items.kept olds) all → kept_definition h.item.kept ≡ None → r ≡ None
 last_known olds all news rs r h known =
     known_at h.front h.back h.item rs h.left r h.many (subst (λ l. AreKnown (items.kept l) (rs ++ r ∷ h.left)) h.olds_are (subst (λ l. AreKnown (items.kept olds) l) h.all_are known))
@@ -102,12 +102,12 @@ get_seam (z ∷ front) x d rest zero e = absurd (omega (arith, e))
 get_seam (z ∷ front) x d rest (suc m) e = get_seam front x d rest m (omega (arith, e))
 
 -- it stands where what is left of the list ends
-pub last_is : (olds : List (ItemEntry Content)) (all : List (Option (Box Found))) (news : List (ItemEntry Content)) (rs : List (Option (Box Found))) (r : Option (Box Found)) (h : IsLast olds all news rs r) (m : ℕ) (e : ItemEntry Content)
+pub last_is : (olds : List (ItemEntry Content)) (all : List (Option (Box CheckResult))) (news : List (ItemEntry Content)) (rs : List (Option (Box CheckResult))) (r : Option (Box CheckResult)) (h : IsLast olds all news rs r) (m : ℕ) (e : ItemEntry Content)
     → m ≡ length rs → e ≡ get_or news m e → e ≡ h.item
 last_is olds all news rs r h m e at is = is ∙ ap (λ l. get_or l m e) h.news_are ∙ get_seam h.front h.item e h.done m (at ∙ sym h.many)
 
 -- it has what was found of it
-pub kept_more : (olds : List (ItemEntry Content)) (all : List (Option (Box Found))) (news next : List (ItemEntry Content)) (rs : List (Option (Box Found))) (r : Option (Box Found)) (m : ℕ) (f : ItemEntry Content)
+pub kept_more : (olds : List (ItemEntry Content)) (all : List (Option (Box CheckResult))) (news next : List (ItemEntry Content)) (rs : List (Option (Box CheckResult))) (r : Option (Box CheckResult)) (m : ℕ) (f : ItemEntry Content)
     → (h : IsLast olds all news rs r) → m ≡ length rs → next ≡ slice_set news m f → IsWith h.item r f → AreKept olds all next rs
 kept_more olds all news next rs r m f h at set is = record {
   front = h.front;
@@ -125,7 +125,7 @@ no_items : {X : Type 0} (xs : List X) → length xs ≡ 0 → xs ≡ []
 no_items [] none = refl
 no_items (x ∷ xs) none = absurd (omega (arith, none))
 
-pub kept_all : (olds : List (ItemEntry Content)) (all : List (Option (Box Found))) (news : List (ItemEntry Content)) (rs : List (Option (Box Found))) → rs ≡ [] → AreKept olds all news rs → AreWith olds all news
+pub kept_all : (olds : List (ItemEntry Content)) (all : List (Option (Box CheckResult))) (news : List (ItemEntry Content)) (rs : List (Option (Box CheckResult))) → rs ≡ [] → AreKept olds all news rs → AreWith olds all news
 kept_all olds all news rs none h =
     let front = no_items h.front (h.many ∙ ap length none) in
     let olds_are : h.back ≡ olds = sym (h.olds_are ∙ ap (λ l. l ++ h.back) front) in
@@ -140,7 +140,7 @@ here_at [] x rest m e = ap (λ n. slice_get (x ∷ rest) n) e
 here_at (z ∷ front) x rest zero e = absurd (omega (arith, e))
 here_at (z ∷ front) x rest (suc m) e = here_at front x rest m (omega (arith, e))
 
-pub last_within : (olds : List (ItemEntry Content)) (all : List (Option (Box Found))) (news : List (ItemEntry Content)) (rs : List (Option (Box Found))) (r : Option (Box Found)) (h : IsLast olds all news rs r) (m : ℕ) → m ≡ length rs → m < length news
+pub last_within : (olds : List (ItemEntry Content)) (all : List (Option (Box CheckResult))) (news : List (ItemEntry Content)) (rs : List (Option (Box CheckResult))) (r : Option (Box CheckResult)) (h : IsLast olds all news rs r) (m : ℕ) → m ≡ length rs → m < length news
 last_within olds all news rs r h m at =
     let l = ap length h.news_are ∙ length-append h.front (h.item ∷ h.done) in
     let many = h.many in
@@ -151,14 +151,14 @@ kept_get [] i e is = absurd (cc)
 kept_get (x ∷ es) zero e is = let same : x ≡ e = same_Some x e is in ap (λ (y : ItemEntry Content). Some y.kept) same
 kept_get (x ∷ es) (suc i) e is = kept_get es i e is
 
-pub last_known_at : (olds : List (ItemEntry Content)) (all : List (Option (Box Found))) (news : List (ItemEntry Content)) (rs : List (Option (Box Found))) (r : Option (Box Found)) (h : IsLast olds all news rs r) (m : ℕ) → m ≡ length rs
+pub last_known_at : (olds : List (ItemEntry Content)) (all : List (Option (Box CheckResult))) (news : List (ItemEntry Content)) (rs : List (Option (Box CheckResult))) (r : Option (Box CheckResult)) (h : IsLast olds all news rs r) (m : ℕ) → m ≡ length rs
     → AreKnown (items.kept olds) all → IsKnownAt (items.kept news) m r
 last_known_at olds all news rs r h m at known k is none =
     let here : slice_get news m ≡ Some h.item = ap (λ l. slice_get l m) h.news_are ∙ here_at h.front h.item h.done m (at ∙ sym h.many) in
     let same : h.item.kept ≡ k = same_Some h.item.kept k (sym (kept_get news m h.item here) ∙ is) in
     last_known olds all news rs r h known (ap kept_definition same ∙ none)
 
-pub kept_on : (olds : List (ItemEntry Content)) (all : List (Option (Box Found))) (news next : List (ItemEntry Content)) (rs : List (Option (Box Found))) (r : Option (Box Found)) (m : ℕ) → (h : IsLast olds all news rs r) → m ≡ length rs
+pub kept_on : (olds : List (ItemEntry Content)) (all : List (Option (Box CheckResult))) (news next : List (ItemEntry Content)) (rs : List (Option (Box CheckResult))) (r : Option (Box CheckResult)) (m : ℕ) → (h : IsLast olds all news rs r) → m ≡ length rs
     → IsWithAt news m r next → AreKept olds all next rs
 kept_on olds all news next rs r m h at with =
     let here : slice_get news m ≡ Some h.item = ap (λ l. slice_get l m) h.news_are ∙ here_at h.front h.item h.done m (at ∙ sym h.many) in
@@ -214,7 +214,7 @@ entry_of (x ∷ es) zero k is = (x, refl, same_Some x.kept k is)
 entry_of (x ∷ es) (suc i) k is = entry_of es i k is
 
 -- the same item, whatever the number of its tokens, with which what was found is kept
-pub kept_with : (out new : Content) (r : Option (Box Found)) → kept_parse new ≡ kept_parse out → kept_lines new ≡ kept_lines out → found_result (kept_found new) ≡ found_result r
+pub kept_with : (out new : Content) (r : Option (Box CheckResult)) → kept_parse new ≡ kept_parse out → kept_lines new ≡ kept_lines out → found_result (kept_found new) ≡ found_result r
     → found_pieces (kept_found new) ≡ renewed_pieces (found_pieces (kept_found out)) r → (n : ℕ) → IsWith (record { tokens = n; kept = out }) r (record { tokens = n; kept = new })
 kept_with out new r parse lines result pieces n = record {
   tokens = refl;
@@ -225,7 +225,7 @@ kept_with out new r parse lines result pieces n = record {
 }
 
 -- what was kept with an item is exchanged, and then again
-pub with_at : (es fs gs : List (ItemEntry Content)) (i : ℕ) (out none new : Content) (r : Option (Box Found)) → slice_get (items.kept es) i ≡ Some out → counts fs ≡ counts es → items.kept fs ≡ slice_set (items.kept es) i none
+pub with_at : (es fs gs : List (ItemEntry Content)) (i : ℕ) (out none new : Content) (r : Option (Box CheckResult)) → slice_get (items.kept es) i ≡ Some out → counts fs ≡ counts es → items.kept fs ≡ slice_set (items.kept es) i none
     → counts gs ≡ counts fs → items.kept gs ≡ slice_set (items.kept fs) i new → ((n : ℕ) → IsWith (record { tokens = n; kept = out }) r (record { tokens = n; kept = new })) → IsWithAt es i r gs
 with_at es fs gs i out none new r was c1 k1 c2 k2 with =
     let at = entry_of es i out was in

@@ -29,14 +29,14 @@ use Rattle.x_session.specs.Generated.{faultless, part_of}
 use Rattle.x_session.specs.KeptView.{AreAlong, AreEach, AreParsed, AreWith, IsItem, entry_definitions, entry_results, found_pieces, found_result}
 use Rattle.x_session.specs.KeptView.{item_with, items_with, kept_definition, kept_found, kept_parse, kept_part}
 use Rattle.x_session.specs.SessionState.{IsKept, items_of}
-use Rattle.x_session.specs.declared.compile.content.Found.{Found}
+use Rattle.x_session.specs.declared.compile.content.CheckResult.{CheckResult}
 use Rattle.x_session.specs.declared.compile.content.Content.{Content}
 use Rattle.x_session.proofs.Compiled.{results-items}
 use Rattle.x_session.proofs.AlongLemmas.{along_each}
 
 -- ---- nothing was found of an item without a definition
 
-none_found : (r : Option (Box Found)) → found_result r ≡ None → r ≡ None
+none_found : (r : Option (Box CheckResult)) → found_result r ≡ None → r ≡ None
 none_found None is = refl
 none_found (Some found) is = absurd (cc)
 
@@ -45,7 +45,7 @@ known_one definitions results n None None is none = refl
 known_one definitions results n None (Some o) is none = absurd is
 known_one definitions results n (Some d) o is none = absurd (cc)
 
-known_from : (definitions : List (Option Definition)) (results : ℕ → Option Outcome) (n : ℕ) (ks : List Content) (rs : List (Option (Box Found)))
+known_from : (definitions : List (Option Definition)) (results : ℕ → Option Outcome) (n : ℕ) (ks : List Content) (rs : List (Option (Box CheckResult)))
     → AreResultsFrom definitions results n (kept_definitions ks) (map found_result rs) → AreKnown ks rs
 known_from definitions results n [] [] are = tt
 known_from definitions results n [] (r ∷ rs) are = absurd are
@@ -53,7 +53,7 @@ known_from definitions results n (k ∷ ks) [] are = absurd are
 known_from definitions results n (k ∷ ks) (r ∷ rs) are =
     (λ none. none_found r (known_one definitions results n (kept_definition k) (found_result r) are.0 none), known_from definitions results (suc n) ks rs are.1)
 
-pub are_known : (ks : List Content) (rs : List (Option (Box Found))) (faults : ℕ) → AreChecked ks rs faults → AreKnown ks rs
+pub are_known : (ks : List Content) (rs : List (Option (Box CheckResult))) (faults : ℕ) → AreChecked ks rs faults → AreKnown ks rs
 are_known ks rs faults h = known_from (kept_definitions ks) (result_at (map found_result rs)) 0 ks rs h.results
 
 -- the definitions by what is kept
@@ -63,7 +63,7 @@ definitions_kept (e ∷ es) = ap (λ ds. kept_definition e.kept ∷ ds) (definit
 
 -- ---- items with what was found of them
 
-each_with : (parts : List (List Lexeme)) (es : List (ItemEntry Content)) (rs : List (Option (Box Found))) (fs : List (ItemEntry Content)) → AreWith es rs fs → AreEach parts es → AreEach parts fs
+each_with : (parts : List (List Lexeme)) (es : List (ItemEntry Content)) (rs : List (Option (Box CheckResult))) (fs : List (ItemEntry Content)) → AreWith es rs fs → AreEach parts es → AreEach parts fs
 each_with [] [] [] [] with each = tt
 each_with (p ∷ ps) [] [] [] with each = absurd each
 each_with [] (e ∷ es) (r ∷ rs) (f ∷ fs) with each = absurd each
@@ -79,10 +79,10 @@ each_with parts [] (r ∷ rs) fs with each = absurd with
 each_with parts (e ∷ es) [] fs with each = absurd with
 each_with parts (e ∷ es) (r ∷ rs) [] with each = absurd with
 
-pub parsed_with : (all : List Lexeme) (es : List (ItemEntry Content)) (rs : List (Option (Box Found))) (fs : List (ItemEntry Content)) → AreWith es rs fs → AreParsed all es → AreParsed all fs
+pub parsed_with : (all : List Lexeme) (es : List (ItemEntry Content)) (rs : List (Option (Box CheckResult))) (fs : List (ItemEntry Content)) → AreWith es rs fs → AreParsed all es → AreParsed all fs
 parsed_with all es rs fs with h = record { parts = h.parts; are = h.are; each = each_with h.parts es rs fs with h.each }
 
-pub counts_with : (es : List (ItemEntry Content)) (rs : List (Option (Box Found))) (fs : List (ItemEntry Content)) → AreWith es rs fs → counts fs ≡ counts es
+pub counts_with : (es : List (ItemEntry Content)) (rs : List (Option (Box CheckResult))) (fs : List (ItemEntry Content)) → AreWith es rs fs → counts fs ≡ counts es
 counts_with [] [] [] with = refl
 counts_with (e ∷ es) (r ∷ rs) (f ∷ fs) with = let others = counts_with es rs fs with.1 in λ i. with.0.tokens i ∷ others i
 counts_with [] [] (f ∷ fs) with = absurd with
@@ -90,7 +90,7 @@ counts_with [] (r ∷ rs) fs with = absurd with
 counts_with (e ∷ es) [] fs with = absurd with
 counts_with (e ∷ es) (r ∷ rs) [] with = absurd with
 
-pub definitions_with : (es : List (ItemEntry Content)) (rs : List (Option (Box Found))) (fs : List (ItemEntry Content)) → AreWith es rs fs → entry_definitions fs ≡ entry_definitions es
+pub definitions_with : (es : List (ItemEntry Content)) (rs : List (Option (Box CheckResult))) (fs : List (ItemEntry Content)) → AreWith es rs fs → entry_definitions fs ≡ entry_definitions es
 definitions_with [] [] [] with = refl
 definitions_with (e ∷ es) (r ∷ rs) (f ∷ fs) with = let others = definitions_with es rs fs with.1 in λ i. parsed_definition (with.0.parse i) ∷ others i
 definitions_with [] [] (f ∷ fs) with = absurd with
@@ -98,7 +98,7 @@ definitions_with [] (r ∷ rs) fs with = absurd with
 definitions_with (e ∷ es) [] fs with = absurd with
 definitions_with (e ∷ es) (r ∷ rs) [] with = absurd with
 
-pub results_with : (es : List (ItemEntry Content)) (rs : List (Option (Box Found))) (fs : List (ItemEntry Content)) → AreWith es rs fs → entry_results fs ≡ map found_result rs
+pub results_with : (es : List (ItemEntry Content)) (rs : List (Option (Box CheckResult))) (fs : List (ItemEntry Content)) → AreWith es rs fs → entry_results fs ≡ map found_result rs
 results_with [] [] [] with = refl
 results_with (e ∷ es) (r ∷ rs) (f ∷ fs) with = let others = results_with es rs fs with.1 in λ i. with.0.result i ∷ others i
 results_with [] [] (f ∷ fs) with = absurd with
@@ -125,7 +125,7 @@ faultless_is tokens Nothing fs = sound_none fs ∙ faultless_none tokens fs
 faultless_is tokens (Def d) fs = sound_some tokens d fs
 faultless_is tokens (Fault token code) fs = sound_none fs
 
-sound_with : (es : List (ItemEntry Content)) (rs : List (Option (Box Found))) (fs : List (ItemEntry Content)) → AreWith es rs fs → AreRendered (items.kept es) rs → All (λ e. IsSound e.kept) fs
+sound_with : (es : List (ItemEntry Content)) (rs : List (Option (Box CheckResult))) (fs : List (ItemEntry Content)) → AreWith es rs fs → AreRendered (items.kept es) rs → All (λ e. IsSound e.kept) fs
 sound_with [] [] [] with are = All-nil (λ e. IsSound e.kept)
 sound_with (e ∷ es) (r ∷ rs) (f ∷ fs) with are =
     let same : sound_pieces (kept_definition e.kept) (found_result r) ≡ sound_pieces (kept_definition f.kept) (found_result (kept_found f.kept)) =
@@ -215,7 +215,7 @@ many_faults tokens others Nothing fs = length-map fs _ ∙ sym (length-map fs _)
 many_faults tokens others (Def d) fs = length-map fs _ ∙ sym (length-map fs _)
 many_faults tokens others (Fault token code) fs = refl
 
-pub count_found : (text : List ℕ) (n : ℕ) (tokens : List Lexeme) (es : List (ItemEntry Content)) (rs : List (Option (Box Found))) (fs : List (ItemEntry Content)) → AreWith es rs fs
+pub count_found : (text : List ℕ) (n : ℕ) (tokens : List Lexeme) (es : List (ItemEntry Content)) (rs : List (Option (Box CheckResult))) (fs : List (ItemEntry Content)) → AreWith es rs fs
     → faults_found (items.kept es) rs ≡ length (faults_from text n (items_with tokens fs))
 count_found text n tokens [] [] [] with = refl
 count_found text n tokens (e ∷ es) (r ∷ rs) (f ∷ fs) with =
@@ -233,7 +233,7 @@ count_found text n tokens (e ∷ es) [] fs with = absurd with
 count_found text n tokens (e ∷ es) (r ∷ rs) [] with = absurd with
 
 -- all that is kept of a text, once what was found of its items is kept with them
-pub kept_is : (text : List ℕ) (tokens : List (Kind × ℕ)) (es : List (ItemEntry Content)) (rs : List (Option (Box Found))) (count : ℕ) (fs : List (ItemEntry Content)) (uses : Option UseTable) → AreTokens text tokens
+pub kept_is : (text : List ℕ) (tokens : List (Kind × ℕ)) (es : List (ItemEntry Content)) (rs : List (Option (Box CheckResult))) (count : ℕ) (fs : List (ItemEntry Content)) (uses : Option UseTable) → AreTokens text tokens
     → AreParsed (lexemes text tokens) es → AreShort (entry_definitions es) → AreOfText (counts es) → AreChecked (items.kept es) rs count → AreWith es rs fs → IfSome uses (IsUsesOf (entry_definitions es)) → IsKept text tokens fs count uses
 kept_is text tokens es rs count fs uses are parsed short of_text checked with used =
     let all = lexemes text tokens in

@@ -21,7 +21,7 @@ use Rattle.x_session.specs.Following.{CanPut}
 use Rattle.x_session.specs.KeptView.{IsWithAt}
 use Rattle.x_session.specs.Moves.{Changed, HasMoved, changed_entry, changed_items, left_changes, moves, place_of, seat_behind}
 use Rattle.x_session.specs.Planned.{ArePlanned, numbers_of}
-use Rattle.x_session.specs.declared.compile.content.Found.{Found}
+use Rattle.x_session.specs.declared.compile.content.CheckResult.{CheckResult}
 use Rattle.x_session.specs.declared.compile.content.Content.{Content}
 use Rattle.x_session.specs.declared.compile.content.PlannedResult.{PlannedResult}
 use Rattle.x_session.proofs.KeepingLemmas.{entry_of, kept_get}
@@ -52,16 +52,16 @@ set_behind (x ∷ front) xs at i (suc n) y is sum = ap (λ l. x ∷ l) (set_behi
 
 -- ---- what was found of an item is kept with it
 
-known_of : (es fs : List (ItemEntry Content)) (i n : ℕ) (r : Option (Box Found)) → slice_get es i ≡ slice_get fs n → IsKnownAt (items.kept es) i r → IsKnownAt (items.kept fs) n r
+known_of : (es fs : List (ItemEntry Content)) (i n : ℕ) (r : Option (Box CheckResult)) → slice_get es i ≡ slice_get fs n → IsKnownAt (items.kept es) i r → IsKnownAt (items.kept fs) n r
 known_of es fs i n r same known k is none =
     let e = entry_of fs n k is in
     known k (kept_get es i e.0 (same ∙ e.1) ∙ ap Some e.2) none
 
 -- before the place
-pub known_before : (es : List (ItemEntry Content)) (p : ItemChange Content) (i : ℕ) (r : Option (Box Found)) → items.LiesAmong es p → i < p.at → IsKnownAt (items.kept (patched es p)) i r → IsKnownAt (items.kept es) i r
+pub known_before : (es : List (ItemEntry Content)) (p : ItemChange Content) (i : ℕ) (r : Option (Box CheckResult)) → items.LiesAmong es p → i < p.at → IsKnownAt (items.kept (patched es p)) i r → IsKnownAt (items.kept es) i r
 known_before es p i r among lt known = known_of (patched es p) es i i r (get_before es p.fresh p.at (p.at + p.removed) i (omega (arith, among)) (omega arith) lt) known
 
-pub with_before : (es fs : List (ItemEntry Content)) (p : ItemChange Content) (i : ℕ) (r : Option (Box Found)) → items.LiesAmong es p → i < p.at → IsWithAt es i r fs → IsWithAt (patched es p) i r (patched fs p)
+pub with_before : (es fs : List (ItemEntry Content)) (p : ItemChange Content) (i : ℕ) (r : Option (Box CheckResult)) → items.LiesAmong es p → i < p.at → IsWithAt es i r fs → IsWithAt (patched es p) i r (patched fs p)
 with_before es fs p i r among lt h =
     let a : p.at ≤ length es = omega (arith, among) in
     let b : p.at ≤ p.at + p.removed = omega arith in
@@ -81,10 +81,10 @@ get_fresh es p n i among sum lt =
     let index : n - length (take p.at es) ≡ i = omega (arith, front, sum) in
     get_rear (take p.at es) (p.fresh ++ rear) n (omega (arith, front, sum)) ∙ ap (slice_get (p.fresh ++ rear)) index ∙ get_front p.fresh rear i lt
 
-pub known_fresh : (es : List (ItemEntry Content)) (p : ItemChange Content) (n i : ℕ) (r : Option (Box Found)) → items.LiesAmong es p → n ≡ p.at + i → i < length p.fresh → IsKnownAt (items.kept (patched es p)) n r → IsKnownAt (items.kept p.fresh) i r
+pub known_fresh : (es : List (ItemEntry Content)) (p : ItemChange Content) (n i : ℕ) (r : Option (Box CheckResult)) → items.LiesAmong es p → n ≡ p.at + i → i < length p.fresh → IsKnownAt (items.kept (patched es p)) n r → IsKnownAt (items.kept p.fresh) i r
 known_fresh es p n i r among sum lt known = known_of (patched es p) p.fresh n i r (get_fresh es p n i among sum lt) known
 
-pub with_fresh : (es : List (ItemEntry Content)) (p q : ItemChange Content) (n i : ℕ) (r : Option (Box Found)) → items.LiesAmong es p → n ≡ p.at + i → i < length p.fresh → IsWithAt p.fresh i r q.fresh → q ≡ record p { fresh = q.fresh }
+pub with_fresh : (es : List (ItemEntry Content)) (p q : ItemChange Content) (n i : ℕ) (r : Option (Box CheckResult)) → items.LiesAmong es p → n ≡ p.at + i → i < length p.fresh → IsWithAt p.fresh i r q.fresh → q ≡ record p { fresh = q.fresh }
     → IsWithAt (patched es p) n r (patched es q)
 with_fresh es p q n i r among sum lt h same =
     let rear = drop (p.at + p.removed) es in

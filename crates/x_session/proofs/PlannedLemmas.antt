@@ -16,7 +16,7 @@ use Rattle.x_session.specs.Compile.{parsed_definition}
 use Rattle.x_session.specs.Counting.{faults_found, faults_with, own_faults}
 use Rattle.x_session.specs.KeptView.{AreWith, IsWith, IsWithAt, found_pieces, found_result, kept_definition, kept_found, pieces_behind, renewed_pieces}
 use Rattle.x_session.specs.Planned.{ArePlanned, IsPlannedOf, overlaid, planned_at}
-use Rattle.x_session.specs.declared.compile.content.Found.{Found}
+use Rattle.x_session.specs.declared.compile.content.CheckResult.{CheckResult}
 use Rattle.x_session.specs.declared.compile.content.Content.{Content}
 use Rattle.x_session.specs.declared.compile.content.PlannedResult.{PlannedResult}
 
@@ -27,7 +27,7 @@ stays (Some p) fs = refl
 stays None [] = refl
 stays None (f ∷ fs) = refl
 
-pub renewed_own : (r : Option (Box Found)) → renewed_pieces (found_pieces r) r ≡ found_pieces r
+pub renewed_own : (r : Option (Box CheckResult)) → renewed_pieces (found_pieces r) r ≡ found_pieces r
 renewed_own None = refl
 renewed_own (Some found) = stays found.value.pieces found.value.checked.faults
 
@@ -46,7 +46,7 @@ with_none n (e ∷ es) = (with_own e, with_none (suc n) es)
 
 -- ---- one item more has what is planned for it
 
-with_twice : (e old item : ItemEntry Content) (r : Option (Box Found)) → IsWith e (kept_found e.kept) old → IsWith old r item → IsWith e r item
+with_twice : (e old item : ItemEntry Content) (r : Option (Box CheckResult)) → IsWith e (kept_found e.kept) old → IsWith old r item → IsWith e r item
 with_twice e old item r a b = record {
   tokens = b.tokens ∙ a.tokens;
   parse = b.parse ∙ a.parse;
@@ -55,7 +55,7 @@ with_twice e old item r a b = record {
   pieces = b.pieces ∙ ap (λ h. renewed_pieces h r) (a.pieces ∙ renewed_own (kept_found e.kept));
 }
 
-with_set : (es : List (ItemEntry Content)) (rs : List (Option (Box Found))) (fs : List (ItemEntry Content)) (n : ℕ) (old item : ItemEntry Content) (r : Option (Box Found)) → AreWith es rs fs → slice_get fs n ≡ Some old → IsWith old r item
+with_set : (es : List (ItemEntry Content)) (rs : List (Option (Box CheckResult))) (fs : List (ItemEntry Content)) (n : ℕ) (old item : ItemEntry Content) (r : Option (Box CheckResult)) → AreWith es rs fs → slice_get fs n ≡ Some old → IsWith old r item
     → ((e : ItemEntry Content) → slice_get es n ≡ Some e → slice_get rs n ≡ Some (kept_found e.kept)) → AreWith es (slice_set rs n r) (slice_set fs n item)
 with_set [] [] [] n old item r with is put own = absurd (cc)
 with_set (e ∷ es) (q ∷ rs) (f ∷ fs) zero old item r with is put own =
@@ -187,7 +187,7 @@ last_set m (suc j) (k ∷ ks) ps p at lt none =
     let rest = last_set (suc m) j ks ps p (omega (arith, at)) (omega (arith, lt)) none in
     λ i. option_or (here i) (kept_found k) ∷ rest i
 
-with_long : (es : List (ItemEntry Content)) (rs : List (Option (Box Found))) (fs : List (ItemEntry Content)) → AreWith es rs fs → length fs ≡ length es
+with_long : (es : List (ItemEntry Content)) (rs : List (Option (Box CheckResult))) (fs : List (ItemEntry Content)) → AreWith es rs fs → length fs ≡ length es
 with_long [] [] [] with = refl
 with_long (e ∷ es) (r ∷ rs) (f ∷ fs) with = ap suc (with_long es rs fs with.1)
 with_long [] [] (f ∷ fs) with = absurd with
@@ -195,7 +195,7 @@ with_long [] (r ∷ rs) fs with = absurd with
 with_long (e ∷ es) [] fs with = absurd with
 with_long (e ∷ es) (r ∷ rs) [] with = absurd with
 
-with_definition : (es : List (ItemEntry Content)) (rs : List (Option (Box Found))) (fs : List (ItemEntry Content)) (n : ℕ) (k j : Content) → AreWith es rs fs → slice_get (items.kept es) n ≡ Some k → slice_get (items.kept fs) n ≡ Some j → kept_definition j ≡ kept_definition k
+with_definition : (es : List (ItemEntry Content)) (rs : List (Option (Box CheckResult))) (fs : List (ItemEntry Content)) (n : ℕ) (k j : Content) → AreWith es rs fs → slice_get (items.kept es) n ≡ Some k → slice_get (items.kept fs) n ≡ Some j → kept_definition j ≡ kept_definition k
 with_definition [] [] [] n k j with a b = absurd (cc)
 with_definition (e ∷ es) (r ∷ rs) (f ∷ fs) zero k j with a b =
     let old : e.kept ≡ k = same_Some e.kept k a in
@@ -250,7 +250,7 @@ put_all olds all news left none h =
 
 -- ---- what is planned for a number
 
-pub planned_of : (ks : List Content) (ps : List PlannedResult) (n : ℕ) (f : Box Found) → ArePlanned ks ps → planned_at n ps ≡ Some f → (p : PlannedResult) × IsPlannedOf ks p × (p.item ≡ n) × (p.found ≡ f)
+pub planned_of : (ks : List Content) (ps : List PlannedResult) (n : ℕ) (f : Box CheckResult) → ArePlanned ks ps → planned_at n ps ≡ Some f → (p : PlannedResult) × IsPlannedOf ks p × (p.item ≡ n) × (p.found ≡ f)
 planned_of ks [] n f are is = absurd (cc)
 planned_of ks (p ∷ ps) n f are is = by (λ h. planned_of ks ps n f are.2 h) (nat_eq n p.item) refl is
   where
@@ -274,7 +274,7 @@ rendered_from m (k ∷ ks) ps each =
     let next = λ (j : ℕ) (x : Content) (is : slice_get ks j ≡ Some x). let n : m + suc j ≡ suc m + j = omega arith in subst (λ a. IsMadeAt ps a x) n (each (suc j) x is) in
     (subst (λ a. IsMadeAt ps a k) here (each 0 k refl), rendered_from (suc m) ks ps next)
 
-made_by : (ks : List Content) (ps : List PlannedResult) (n : ℕ) (k : Content) (o : Option (Box Found)) → planned_at n ps ≡ o → ArePlanned ks ps → slice_get ks n ≡ Some k → (planned_at n ps ≡ None → IsSound k)
+made_by : (ks : List Content) (ps : List PlannedResult) (n : ℕ) (k : Content) (o : Option (Box CheckResult)) → planned_at n ps ≡ o → ArePlanned ks ps → slice_get ks n ≡ Some k → (planned_at n ps ≡ None → IsSound k)
     → renewed_pieces (found_pieces (kept_found k)) (option_or o (kept_found k)) ≡ sound_pieces (kept_definition k) (found_result (option_or o (kept_found k)))
 made_by ks ps n k None is are at sound = renewed_own (kept_found k) ∙ sound is
 made_by ks ps n k (Some f) is are at sound =
@@ -292,7 +292,7 @@ rendered_planned ks ps are sound =
 
 -- ---- how many faults they have
 
-faults_set : (ks : List Content) (rs : List (Option (Box Found))) (n : ℕ) (k : Content) (q r : Option (Box Found)) → slice_get ks n ≡ Some k → slice_get rs n ≡ Some q
+faults_set : (ks : List Content) (rs : List (Option (Box CheckResult))) (n : ℕ) (k : Content) (q r : Option (Box CheckResult)) → slice_get ks n ≡ Some k → slice_get rs n ≡ Some q
     → faults_found ks (slice_set rs n r) + faults_with k q ≡ faults_found ks rs + faults_with k r
 faults_set [] rs n k q r is had = absurd (cc)
 faults_set (x ∷ ks) [] n k q r is had = absurd (cc)
