@@ -50,10 +50,10 @@ arguments_alike s t first (a ∷ rest) p q all h k =
 
 -- ---- procedures by their numbers
 
-record AlikeKept (s t : Schema) (a b : KeptProcedure) : Type 0 where
-  name : name_at s a.name ≡ name_at t b.name
-  arguments : Alike s t a.arguments b.arguments
-  results : Alike s t a.results b.results
+pub record AlikeKept (s t : Schema) (a b : KeptProcedure) : Type 0 where
+  pub name : name_at s a.name ≡ name_at t b.name
+  pub arguments : Alike s t a.arguments b.arguments
+  pub results : Alike s t a.results b.results
 
 kept_alike : (s t : Schema) (p : tree.Procedure) (a b : KeptProcedure) → AreTypesAlike s t → IsProcedure s p a → IsProcedure t p b → AlikeKept s t a b
 kept_alike s t p a b all h k = record {
@@ -68,7 +68,7 @@ AlikeTables s t [] (y ∷ ys) = ⊥
 AlikeTables s t (x ∷ xs) [] = ⊥
 AlikeTables s t (x ∷ xs) (y ∷ ys) = (x.0 ≡ y.0) × AlikeKept s t x.1 y.1 × AlikeTables s t xs ys
 
-abbrev AlikeFound : (s t : Schema) → Option KeptProcedure → Option KeptProcedure → Type 0
+abbrev pub AlikeFound : (s t : Schema) → Option KeptProcedure → Option KeptProcedure → Type 0
 AlikeFound s t None None = Unit {0}
 AlikeFound s t None (Some b) = ⊥
 AlikeFound s t (Some a) None = ⊥
@@ -118,7 +118,7 @@ procedures_alike s t A B (p ∷ ps) all a h k =
     procedures_alike s t (with_procedure A (numbers_by p) h.0) (with_procedure B (numbers_by p) k.0) ps all
     (table_more s t A B (numbers_by p) h.0 k.0 a (kept_alike s t p.procedure h.0 k.0 all h.1 k.1)) h.2 k.2
 
-procedure_alike : (ds : List (Option tree.Definition)) (s t : Schema) (n : ProcedureNumbers) → IsSchemaOf ds s → IsSchemaOf ds t
+pub procedure_alike : (ds : List (Option tree.Definition)) (s t : Schema) (n : ProcedureNumbers) → IsSchemaOf ds s → IsSchemaOf ds t
     → AlikeFound s t (procedure_at s n) (procedure_at t n)
 procedure_alike ds s t n h k = found_alike s t n s.procedures t.procedures (procedures_alike s t [] [] (procedures_of ds) (all_alike ds s t h k) tt h.procedures k.procedures)
 

@@ -8,7 +8,7 @@ use Rattle.std.proofs.lemmas.Slice.Eq.{bytes_eq-Decides}
 use Rattle.x_lex.specs.declared.mark.Mark.TheVariants.{Semicolon, Comma}
 use Rattle.x_trees.specs.Tree as tree
 use Rattle.x_trees.specs.Words.{Word, Fixed, Name}
-use Rattle.x_trees.specs.Gloss.{Position, AsField, AsDiscriminant, AsArm, InTypedef, Inside, Role, Declares, EnumeratorName, Mentions, Gloss, glossed, gloss, leading_roles, lifted_name, use_by, given_by, enumerator_by, other_enumerators_by, enumerators_by, cases_by, type_by, body_by, declaration_by, declarations_by, arms_by, default_by, told_of}
+use Rattle.x_trees.specs.Gloss.{spell_value, value_roles, EnumeratorValue, Position, AsField, AsDiscriminant, AsArm, InTypedef, Inside, Role, Declares, EnumeratorName, Mentions, Gloss, glossed, gloss, leading_roles, lifted_name, use_by, given_by, enumerator_by, other_enumerators_by, enumerators_by, cases_by, type_by, body_by, declaration_by, declarations_by, arms_by, default_by, told_of}
 use Rattle.x_trees.specs.Names.{Declared, declared, declared_at}
 use Rattle.x_trees.specs.Spell.{spell_arms, spell_cases, spell_declaration, spell_enumerator}
 use Rattle.x_trees.specs.declared.names.declared_name.NameKind.TheVariants as kinds
@@ -30,7 +30,18 @@ abbrev pub words_use : List ℕ → List Gloss → Bool
 words_use n [] = false
 words_use n (g ∷ gs) = roles_use n g.roles || words_use n gs
 
--- the value of an enumerator, if it is a name, is used by one of the words
+-- the value of an enumerator is a word of its own
+pub record IsValueAt (gs : List Gloss) (index : ℕ) (v : tree.Value) : Type 0 where
+  pub gloss_at : Gloss
+  pub there : slice_get gs index ≡ Some gloss_at
+  pub roles : gloss_at.roles ≡ value_roles (EnumeratorValue v) v
+
+-- the value of an enumerator, if it has one, stands there
+abbrev pub GivenAt : List Gloss → ℕ → Option tree.Value → Type 0
+GivenAt gs index None = Unit {0}
+GivenAt gs index (Some v) = IsValueAt gs index v
+
+-- a name that is the value of an enumerator is used by one of the words
 abbrev pub GivenIn : List Gloss → Option tree.Value → Type 0
 GivenIn gs None = Unit {0}
 GivenIn gs (Some (tree.Number text)) = Unit {0}
@@ -45,7 +56,7 @@ pub record IsTold (gs : List Gloss) (at : ℕ) (e : EnumeratorAt) : Type 0 where
   pub there : slice_get gs index ≡ Some gloss_at
   pub rest : List Role
   pub roles : gloss_at.roles ≡ Declares e.name kinds.Constant false ∷ rest
-  pub value : GivenIn gs e.given
+  pub value : GivenAt gs (index + 2) e.given
 
 abbrev pub AllTold : List Gloss → ℕ → List EnumeratorAt → Type 0
 AllTold gs at [] = Unit {0}
@@ -78,16 +89,6 @@ use_append : (n : List ℕ) (xs ys : List Gloss) → words_use n (xs ++ ys) ≡ 
 use_append n [] ys = refl
 use_append n (g ∷ gs) ys = ap (λ b. roles_use n g.roles || b) (use_append n gs ys) ∙ or_assoc (roles_use n g.roles) (words_use n gs) (words_use n ys)
 
-given_front : (xs ys : List Gloss) (v : Option tree.Value) → GivenIn xs v → GivenIn (xs ++ ys) v
-given_front xs ys None h = tt
-given_front xs ys (Some (tree.Number text)) h = tt
-given_front xs ys (Some (tree.Named n)) h = use_append n xs ys ∙ or_left (words_use n xs) (words_use n ys) h
-
-given_rear : (xs ys : List Gloss) (v : Option tree.Value) → GivenIn ys v → GivenIn (xs ++ ys) v
-given_rear xs ys None h = tt
-given_rear xs ys (Some (tree.Number text)) h = tt
-given_rear xs ys (Some (tree.Named n)) h = use_append n xs ys ∙ or_right (words_use n xs) (words_use n ys) h
-
 get_front : {X : Type 0} (xs ys : List X) (i : ℕ) (x : X) → slice_get xs i ≡ Some x → slice_get (xs ++ ys) i ≡ Some x
 get_front [] ys i x h = absurd cc
 get_front (y ∷ xs) ys zero x h = h
@@ -98,6 +99,25 @@ get_rear [] ys i j x e h = let same : j ≡ i = omega (arith, e) in ap (slice_ge
 get_rear (y ∷ xs) ys i zero x e h = absurd (omega (arith, e))
 get_rear (y ∷ xs) ys i (suc j) x e h = get_rear xs ys i j x (omega (arith, e)) h
 
+given_front : (xs ys : List Gloss) (index : ℕ) (v : Option tree.Value) → GivenAt xs index v → GivenAt (xs ++ ys) index v
+given_front xs ys index None h = tt
+given_front xs ys index (Some v) h = record { gloss_at = h.gloss_at; there = get_front xs ys index h.gloss_at h.there; roles = h.roles }
+
+given_rear : (xs ys : List Gloss) (index behind : ℕ) (v : Option tree.Value) → behind ≡ length xs + index → GivenAt ys index v → GivenAt (xs ++ ys) behind v
+given_rear xs ys index behind None e h = tt
+given_rear xs ys index behind (Some v) e h = record { gloss_at = h.gloss_at; there = get_rear xs ys index behind h.gloss_at e h.there; roles = h.roles }
+
+value_used : (n : List ℕ) (gs : List Gloss) (index : ℕ) (g : Gloss) → slice_get gs index ≡ Some g → roles_use n g.roles ≡ true → words_use n gs ≡ true
+value_used n [] index g there used = absurd cc
+value_used n (x ∷ gs) zero g there used = or_left (roles_use n x.roles) (words_use n gs) (ap (λ y. roles_use n y.roles) (same_Some x g there) ∙ used)
+value_used n (x ∷ gs) (suc index) g there used = or_right (roles_use n x.roles) (words_use n gs) (value_used n gs index g there used)
+
+pub given_used : (gs : List Gloss) (index : ℕ) (v : Option tree.Value) → GivenAt gs index v → GivenIn gs v
+given_used gs index None h = tt
+given_used gs index (Some (tree.Number text)) h = tt
+given_used gs index (Some (tree.Named n)) h =
+    value_used n gs index h.gloss_at h.there (ap (roles_use n) h.roles ∙ or_left (bytes_eq n n) false ((bytes_eq-Decides n n).1 refl))
+
 front_told : (xs ys : List Gloss) (at : ℕ) (e : EnumeratorAt) → IsTold xs at e → IsTold (xs ++ ys) at e
 front_told xs ys at e h = record {
   index = h.index;
@@ -107,7 +127,7 @@ front_told xs ys at e h = record {
   there = get_front xs ys h.index h.gloss_at h.there;
   rest = h.rest;
   roles = h.roles;
-  value = given_front xs ys e.given h.value;
+  value = given_front xs ys (h.index + 2) e.given h.value;
 }
 
 rear_told : (xs ys : List Gloss) (at behind : ℕ) (e : EnumeratorAt) → behind ≡ at + length xs → IsTold ys behind e → IsTold (xs ++ ys) at e
@@ -119,7 +139,7 @@ rear_told xs ys at behind e b h = record {
   there = get_rear xs ys h.index (length xs + h.index) h.gloss_at refl h.there;
   rest = h.rest;
   roles = h.roles;
-  value = given_rear xs ys e.given h.value;
+  value = given_rear xs ys (h.index + 2) (length xs + h.index + 2) e.given (omega arith) h.value;
 }
 
 all_front : (xs ys : List Gloss) (at : ℕ) (es : List EnumeratorAt) → AllTold xs at es → AllTold (xs ++ ys) at es
@@ -175,10 +195,9 @@ join_bodies xs ys at behind as' bs b h k = subst (λ l. Told (xs ++ ys) at l) (s
 
 -- ---- enums
 
-given_told : (roles : List Role) (word : Word) (v : Option tree.Value) → GivenIn (glossed word roles ∷ given_by glossed true v) v
+given_told : (roles : List Role) (word : Word) (v : Option tree.Value) → GivenAt (glossed word roles ∷ given_by glossed true v) 2 v
 given_told roles word None = tt
-given_told roles word (Some (tree.Number text)) = tt
-given_told roles word (Some (tree.Named n)) = or_right (roles_use n roles) _ (or_left (bytes_eq n n || false) _ (or_left (bytes_eq n n) false ((bytes_eq-Decides n n).1 refl)))
+given_told roles word (Some v) = record { gloss_at = glossed (spell_value v) (value_roles (EnumeratorValue v) v); there = refl; roles = refl }
 
 enumerator_told : (first : Bool) (at : ℕ) (e : tree.Enumerator) → Told (enumerator_by glossed true e) at (record { word = at; name = e.name; given = e.value; is_first = first } ∷ [])
 enumerator_told first at e = record {

@@ -20,7 +20,7 @@ use Rattle.x_names.specs.declared.names.Declarer.{Declarer}
 use Rattle.x_names.proofs.DeclarerLaws.{found_is_first}
 use Rattle.x_rules.specs.Bodies.{enumerators}
 use Rattle.x_rules.specs.Constants.{is_declared_before, limit_of}
-use Rattle.x_rules.specs.Mentioned.{fault_of_use, is_declared_as, is_no_constant, is_no_type, is_of_faulty, is_too_late, is_unknown, mention_fault, suits}
+use Rattle.x_rules.specs.Mentioned.{is_constant, fault_of_use, is_declared_as, is_no_constant, is_no_type, is_of_faulty, is_too_late, is_unknown, mention_fault, suits}
 use Rattle.x_rules.specs.Results.{Outcome, AreResults, result_at, view_by, view_of, meaning_at, beforehand_meaning}
 use Rattle.x_rules.specs.Rules.{AreFaults, HasMentionFault}
 use Rattle.x_rules.specs.Views.{View, Earlier, Own, Later, seen}
@@ -67,6 +67,29 @@ held_in_time : (view : View) (before : Bool) (tag : Option Tag) → fault_of_use
 held_in_time view before tag h =
     not_late (is_unknown view) (is_no_type view uses.ByValue tag) (is_no_constant view uses.ByValue) (is_too_late view before uses.ByValue) (is_of_faulty view uses.ByValue) h
 
+no_unknown : (a b c d e : Bool) → FirstOf a b c d e ≡ None → a ≡ false
+no_unknown true b c d e h = absurd cc
+no_unknown false b c d e h = refl
+
+no_other_fault : (a b c d e : Bool) → FirstOf a b c d e ≡ None → c ≡ false
+no_other_fault true b c d e h = absurd cc
+no_other_fault false true c d e h = absurd cc
+no_other_fault false false true d e h = absurd cc
+no_other_fault false false false d e h = refl
+
+-- a value by a name without a fault
+pub record IsValue (view : View) (before : Bool) : Type 0 where
+  pub known : is_unknown view ≡ false
+  pub constant : is_declared_as is_constant view ≡ true
+  pub in_time : is_too_late view before uses.Value ≡ false
+
+pub used_value : (view : View) (before : Bool) → fault_of_use view before uses.Value None ≡ None → IsValue view before
+used_value view before h = record {
+  known = no_unknown (is_unknown view) false (is_no_constant view uses.Value) (is_too_late view before uses.Value) (is_of_faulty view uses.Value) h;
+  constant = not_false (is_declared_as is_constant view) (no_other_fault (is_unknown view) false (is_no_constant view uses.Value) (is_too_late view before uses.Value) (is_of_faulty view uses.Value) h);
+  in_time = not_late (is_unknown view) false (is_no_constant view uses.Value) (is_too_late view before uses.Value) (is_of_faulty view uses.Value) h;
+}
+
 mention_breaks : (d : Definition) (see : List ℕ → View) (faults : List WordFault) (m : Mention) (code named : RuleCode) → AreFaults d see faults → faults ≡ []
     → (HasMentionFault (mentioned d) see (enumerators d) named m.word → IsAmong faults (record { word = m.word; code = named }))
     → IsAmong (mentioned d) m → mention_fault see (enumerators d) m ≡ Some code → named ≡ code → ⊥
@@ -75,7 +98,7 @@ mention_breaks d see faults m code named are none told among fault same =
     (subst (λ fs. IsAmong fs (record { word = m.word; code = named })) none
     (told (record { mention = m; among = among; word_is = refl; fault = fault ∙ ap Some (sym same) })))
 
-no_mention_fault : (d : Definition) (see : List ℕ → View) (faults : List WordFault) (m : Mention) → AreFaults d see faults → faults ≡ [] → IsAmong (mentioned d) m
+pub no_mention_fault : (d : Definition) (see : List ℕ → View) (faults : List WordFault) (m : Mention) → AreFaults d see faults → faults ≡ [] → IsAmong (mentioned d) m
     → mention_fault see (enumerators d) m ≡ None
 no_mention_fault d see faults m are none among = by (mention_fault see (enumerators d) m) refl
   where
@@ -146,7 +169,7 @@ declared_before read item at before h = by (nat_lt at.item item) refl (nat_lt it
 
 -- ---- a name that an item uses as a type
 
-mentioned_listed : (ms : List Mention) (m : Mention) → IsAmong ms m → is_listed m.name (map (λ x. x.name) ms) ≡ true
+pub mentioned_listed : (ms : List Mention) (m : Mention) → IsAmong ms m → is_listed m.name (map (λ x. x.name) ms) ≡ true
 mentioned_listed [] m h = absurd (among_none m h)
 mentioned_listed (x ∷ xs) m h = by (among_cases x m xs h) (λ k. mentioned_listed xs m k)
   where

@@ -30,11 +30,11 @@ fold_both : (numbers : Numbers) (before : Option ℤ) (es fs : List EnumeratorAt
 fold_both numbers before [] fs = refl
 fold_both numbers before (e ∷ es) fs = fold_both (with_number numbers e.name (number_behind numbers before e)) (number_behind numbers before e) es fs
 
-other_given : (numbers : Numbers) (before : Option ℤ) (v : Option tree.Value) → number_given numbers (next_number before) v ≡ given_number numbers before false v
+pub other_given : (numbers : Numbers) (before : Option ℤ) (v : Option tree.Value) → number_given numbers (next_number before) v ≡ given_number numbers before false v
 other_given numbers before None = refl
 other_given numbers before (Some v) = refl
 
-first_given : (numbers : Numbers) (before : Option ℤ) (v : Option tree.Value) → number_given numbers (Some (pos 0)) v ≡ given_number numbers before true v
+pub first_given : (numbers : Numbers) (before : Option ℤ) (v : Option tree.Value) → number_given numbers (Some (pos 0)) v ≡ given_number numbers before true v
 first_given numbers before None = refl
 first_given numbers before (Some v) = refl
 

@@ -22,8 +22,8 @@ use Rattle.x_rules.specs.Constants.{Known, known_with, knowns, number_before, nu
 use Rattle.x_rules.specs.Results.{Outcome, AreResults, result_at, view_by, view_of, meaning_at, beforehand_meaning}
 use Rattle.x_rules.specs.Views.{View, Earlier, Own, Later, seen}
 use Rattle.x_schema.specs.SchemaOf.{Numbers, with_number}
-use Rattle.x_laws.specs.Meant.{AreFaultless}
-use Rattle.x_laws.proofs.EnumWords.{AllTold, Ascends, GivenIn, IsTold, enums_told, told_declared, words_use, roles_use}
+use Rattle.x_laws.specs.Meant.{AreFaultless, sees}
+use Rattle.x_laws.proofs.EnumWords.{AllTold, Ascends, GivenIn, given_used, IsTold, enums_told, told_declared, words_use, roles_use}
 use Rattle.x_laws.proofs.Faultless.{is_listed, listed_rear, only_declarer, view_seen}
 use Rattle.x_laws.proofs.NumberFold.{fold, given_number, number_behind}
 
@@ -37,7 +37,7 @@ pub record IsOwn (definitions : List (Option Definition)) (item : ℕ) (name : L
   pub word_is : at.word ≡ word
   pub kind_is : at.kind ≡ kinds.Constant
 
-own_word : (definitions : List (Option Definition)) (item : ℕ) (name : List ℕ) (v w : ℕ) → IsOwn definitions item name v → IsOwn definitions item name w → v ≡ w
+pub own_word : (definitions : List (Option Definition)) (item : ℕ) (name : List ℕ) (v w : ℕ) → IsOwn definitions item name v → IsOwn definitions item name w → v ≡ w
 own_word definitions item name v w h k = sym h.word_is ∙ ap (λ a. a.word) (one_first definitions name h.at k.at h.first k.first) ∙ k.word_is
 
 -- what an item sees of a name, by the first declarer
@@ -63,7 +63,7 @@ abbrev pub name_in : List Known → List ℕ → Bool
 name_in [] m = false
 name_in (k ∷ ks) m = bytes_eq m k.enumerator.name || name_in ks m
 
-more_named : (ks : List Known) (k : Known) (m : List ℕ) → number_named (ks ++ k ∷ []) m ≡ cond (name_in ks m) (number_named ks m) (cond (bytes_eq m k.enumerator.name) k.number None)
+pub more_named : (ks : List Known) (k : Known) (m : List ℕ) → number_named (ks ++ k ∷ []) m ≡ cond (name_in ks m) (number_named ks m) (cond (bytes_eq m k.enumerator.name) k.number None)
 more_named [] k m = refl
 more_named (x ∷ xs) k m = by (bytes_eq m x.enumerator.name) (more_named xs k m)
   where
@@ -158,7 +158,7 @@ abbrev pub HasBoth : Numbers → Numbers → List Known → Type 0
 HasBoth numbers now ks = (m : List ℕ) → lookup (bytes_eq m) now ≡ option_or (lookup (bytes_eq m) numbers) (number_named ks m)
 
 -- the names of those that are known are the item's own, declared before the word
-abbrev AreOwn : List (Option Definition) → ℕ → List Known → ℕ → Type 0
+abbrev pub AreOwn : List (Option Definition) → ℕ → List Known → ℕ → Type 0
 AreOwn definitions item ks low = (m : List ℕ) → name_in ks m ≡ true → (word : ℕ) × (word < low) × IsOwn definitions item m word
 
 or_both : (a x y : Option ℤ) → x ≡ None → option_or (option_or a x) y ≡ option_or a y
@@ -208,10 +208,6 @@ pub record AtItem (definitions : List (Option Definition)) (results : List (Opti
   pub there : slice_get definitions item ≡ Some (Some d)
   -- the numbers are those that the item sees
   pub seen_numbers : (m : List ℕ) → lookup (bytes_eq m) numbers ≡ number_seen (view_by definitions (result_at results) item m) None
-
--- the item's views of names
-abbrev pub sees : List (Option Definition) → List (Option Outcome) → ℕ → Definition → List ℕ → View
-sees definitions results item d = seen d (map (view_by definitions (result_at results) item) (names_of d))
 
 pub own_at : (definitions : List (Option Definition)) (results : List (Option Outcome)) (item : ℕ) (d : Definition) (numbers : Numbers) (name : List ℕ) (word place : ℕ) → AtItem definitions results item d numbers
     → slice_get (declared d) place ≡ Some (record { name = name; word = word; kind = kinds.Constant; lifted = false }) → IsOwn definitions item name word
@@ -269,7 +265,7 @@ pub record AreKnown (definitions : List (Option Definition)) (item : ℕ) (numbe
   pub both : HasBoth numbers now ks
   pub own : (m : List ℕ) → name_in ks m ≡ true → (word : ℕ) × IsOwn definitions item m word
 
-own_more : (definitions : List (Option Definition)) (item : ℕ) (ks : List Known) (k : Known) (low high : ℕ) → low ≤ high → k.enumerator.word < high → IsOwn definitions item k.enumerator.name k.enumerator.word
+pub own_more : (definitions : List (Option Definition)) (item : ℕ) (ks : List Known) (k : Known) (low high : ℕ) → low ≤ high → k.enumerator.word < high → IsOwn definitions item k.enumerator.name k.enumerator.word
     → AreOwn definitions item ks low → AreOwn definitions item (ks ++ k ∷ []) high
 own_more definitions item ks k low high le lt own h m e = by (name_in ks m) refl (bytes_eq m k.enumerator.name) refl (sym (more_names ks k m) ∙ e)
   where
@@ -287,7 +283,7 @@ enums_known definitions results item d numbers now ks low before (e ∷ es) h bo
     let here = own_told definitions results item d numbers e h told.0 in
     let low_word = up.0 in
     let z : number_behind now before e ≡ number_of see ks before e =
-    same_given definitions results item d numbers now ks low e.word before e.is_first e.given h both own below up.0 told.0.value in
+    same_given definitions results item d numbers now ks low e.word before e.is_first e.given h both own below up.0 (given_used (gloss d) (told.0.index + 2) e.given told.0.value) in
     let next : Known = record { enumerator = e; number = number_of see ks before e } in
     let both' : HasBoth numbers (with_number now e.name (number_of see ks before e)) (ks ++ next ∷ []) =
     one_more numbers now ks e (number_of see ks before e) (fresh (name_in ks e.name) refl here) (own_free definitions results item d numbers e.name e.word h here) both in

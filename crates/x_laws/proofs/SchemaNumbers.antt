@@ -22,16 +22,16 @@ use Rattle.x_rules.specs.Constants.{knowns, number_named, number_seen, number_at
 use Rattle.x_rules.specs.Results.{Outcome, AreResults, result_at, view_by, view_of, meaning_at, meaning_in, meaning_of, meanings_by, constant_number, constant_of, beforehand_meaning}
 use Rattle.x_rules.specs.Views.{View, Meaning, Constant, Bad, Earlier, Own, Later}
 use Rattle.x_schema.specs.SchemaOf.{Numbers, beforehand, number_in, numbers_of, with_definition, with_definitions, with_number}
-use Rattle.x_laws.specs.Meant.{AreFaultless, number_meant}
+use Rattle.x_laws.specs.Meant.{AreFaultless, number_meant, sees}
 use Rattle.x_laws.proofs.EnumWords.{words_use}
 use Rattle.x_laws.proofs.Faultless.{outcome_of}
 use Rattle.x_laws.proofs.NumberFold.{definition_fold, taken}
-use Rattle.x_laws.proofs.NumberMeant.{AreKnown, AtItem, IsOwn, all_known, named_in, one_more, own_at, own_free, same_named_number, sees, view_first}
+use Rattle.x_laws.proofs.NumberMeant.{AreKnown, AtItem, IsOwn, all_known, named_in, one_more, own_at, own_free, same_named_number, view_first}
 
 -- ---- what a definition adds
 
 -- the number of an item's own constant of the name
-abbrev own_number : Definition → (List ℕ → View) → List ℕ → Option ℤ
+abbrev pub own_number : Definition → (List ℕ → View) → List ℕ → Option ℤ
 own_number (tree.Const own value) see m = cond (bytes_eq m own) (number_at see [] 3 value) None
 own_number d see m = number_named (knowns see (enumerators d)) m
 
@@ -99,7 +99,7 @@ const_named own m (tree.Named n) zero word kind lifted e =
 const_named own m (tree.Number text) (suc place) word kind lifted e = absurd cc
 const_named own m (tree.Named n) (suc place) word kind lifted e = absurd cc
 
-own_constant : (d : Definition) (see : List ℕ → View) (m : List ℕ) (place word : ℕ) (kind : NameKind) (lifted : Bool)
+pub own_constant : (d : Definition) (see : List ℕ → View) (m : List ℕ) (place word : ℕ) (kind : NameKind) (lifted : Bool)
     → slice_get (declared d) place ≡ Some (record { name = m; word = word; kind = kind; lifted = lifted }) → constant_number d see m ≡ own_number d see m
 own_constant (tree.Const own value) see m place word kind lifted e =
     let same = const_named own m value place word kind lifted e in
@@ -115,7 +115,7 @@ get_mapped f (y ∷ ys) zero x e = ap (λ z. Some (f z)) (same_Some y x e)
 get_mapped f (y ∷ ys) (suc i) x e = get_mapped f ys i x e
 
 -- what a name means that is declared in a faultless item
-own_meaning : (definitions : List (Option Definition)) (results : List (Option Outcome)) (item : ℕ) (d : Definition) (m : List ℕ) (at : Declarer) → AreResults definitions results → AreFaultless results
+pub own_meaning : (definitions : List (Option Definition)) (results : List (Option Outcome)) (item : ℕ) (d : Definition) (m : List ℕ) (at : Declarer) → AreResults definitions results → AreFaultless results
     → slice_get definitions item ≡ Some (Some d) → at.item ≡ item
     → slice_get (declared d) at.place ≡ Some (record { name = m; word = at.word; kind = at.kind; lifted = at.lifted })
     → meaning_at (result_at results) at ≡ meaning_of d (sees definitions results item d) (record { name = m; word = at.word; kind = at.kind; lifted = at.lifted })
@@ -128,7 +128,7 @@ own_meaning definitions results item d m at are fine there same declares =
     ∙ ap (λ ms. unwrap_or (slice_get ms at.place) Bad) meanings
     ∙ ap (λ x. unwrap_or x Bad) (get_mapped (meaning_of d (sees definitions results item d)) (declared d) at.place (record { name = m; word = at.word; kind = at.kind; lifted = at.lifted }) declares)
 
-constant_seen : (lifted : Bool) (z : Option ℤ) → number_seen (Earlier kinds.Constant lifted (constant_of z)) None ≡ z
+pub constant_seen : (lifted : Bool) (z : Option ℤ) → number_seen (Earlier kinds.Constant lifted (constant_of z)) None ≡ z
 constant_seen lifted None = refl
 constant_seen lifted (Some z) = refl
 

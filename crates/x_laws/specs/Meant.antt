@@ -1,17 +1,20 @@
 -- What names mean in a text without a fault, by who declares them first and what checking that item gives.
-use Rattle.std.specs.Prelude.{◌≡◌, ℕ, ℤ, true, List, [], length, Option, Some, None, slice_get}
+use Rattle.std.specs.Prelude.{◌≡◌, ℕ, ℤ, true, List, [], ◌∷◌, length, map, Option, Some, None, slice_get}
+use Rattle.std.specs.Prelude.{option_and_then}
 use Rattle.std.specs.List.{IsAmong}
 use Rattle.x_trees.specs.Declarations.{name_of}
 use Rattle.x_trees.specs.Mentions.{Mention, mentioned}
-use Rattle.x_trees.specs.Tree.{Declaration, Definition}
+use Rattle.x_trees.specs.Tree.{Declaration, Definition, Enumerator}
 use Rattle.x_trees.specs.declared.names.mention.Use.TheVariants as uses
 use Rattle.x_names.specs.Declarers.{IsFirstDeclarer}
 use Rattle.x_names.specs.declared.names.Declarer.{Declarer}
 use Rattle.x_rules.specs.Mentioned.{suits}
 use Rattle.x_rules.specs.Constants.{number_seen}
 use Rattle.x_rules.specs.Results.{Outcome, result_at, view_by}
+use Rattle.x_rules.specs.Views.{View, seen}
+use Rattle.x_trees.specs.Seen.{names_of}
 use Rattle.x_schema.specs.Schema.{Schema}
-use Rattle.x_schema.specs.SchemaOf.{Known, IsDeclared, numbers_of, typedefs}
+use Rattle.x_schema.specs.SchemaOf.{Known, IsDeclared, numbers_of, signed_word, typedefs, with_word}
 
 -- none of the results has a fault
 abbrev pub AreFaultless : List (Option Outcome) → Type 0
@@ -49,8 +52,20 @@ pub record IsUsedAsType (definitions : List (Option Definition)) (name : List �
   pub named : mention.name ≡ name
   pub is_type : mention.usage ≡ uses.Value → ⊥
 
+-- what the item of a definition sees of each name
+abbrev pub sees : List (Option Definition) → List (Option Outcome) → ℕ → Definition → List ℕ → View
+sees definitions results item d =
+    seen d (map (view_by definitions (result_at results) item) (names_of d))
+
 -- The number that a name means in the whole text: the one by which an item behind all others would use it,
 -- if it is a constant that is declared in the text or beforehand.
 abbrev pub number_meant : List (Option Definition) → List (Option Outcome) → List ℕ → Option ℤ
 number_meant definitions results name =
     number_seen (view_by definitions (result_at results) (length definitions) name) None
+
+-- the words of enumerators behind others, each that of the number which the enumerator's name means, with the
+-- first name of the number
+abbrev pub words_meant : (List ℕ → Option ℤ) → List (ℕ × List ℕ) → List Enumerator → List (ℕ × List ℕ)
+words_meant meant words [] = words
+words_meant meant words (e ∷ es) =
+    words_meant meant (with_word words (option_and_then signed_word (meant e.name)) e.name) es

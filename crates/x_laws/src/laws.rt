@@ -1,21 +1,30 @@
-//! Laws of what a text's types show, each a function that does nothing and ensures the law.
+//! Laws of what a text's types show and of what they are, each a function that does nothing and ensures the
+//! law.
 
-ghost use Rattle.std.specs.Prelude.{◌≡◌, ◌↔◌, ℕ, List, Option, Some, IsSome};
+ghost use Rattle.std.specs.Prelude.{◌≡◌, ◌↔◌, ℕ, pos, List, [], Option, Some, IsSome, map, slice_get};
+ghost use Rattle.std.specs.List.{IsAmong};
 ghost use Rattle.std.specs.Map.{lookup};
 ghost use Rattle.std.specs.Str.{bytes_eq};
-ghost use Rattle.x_trees.specs.Tree.{Definition};
+ghost use Rattle.x_trees.specs.Gloss.{Role};
+ghost use Rattle.x_trees.specs.Tree.{Definition, Enum, Enumerator, Value};
+ghost use Rattle.x_rules.specs.Bodies.{BodyAt, bodies, enumerators};
+ghost use Rattle.x_rules.specs.Constants.{number_at};
 ghost use Rattle.x_rules.specs.Results.{Outcome, AreResults};
+ghost use Rattle.x_rules.specs.Rules.{HasRole, value_role};
 ghost use Rattle.x_schema.specs.Schema.{Schema, IsProcedureAt, id_named, named_type};
-ghost use Rattle.x_schema.specs.SchemaOf.{numbers_of};
+ghost use Rattle.x_schema.specs.SchemaOf.{number_in, numbers_of, words_from};
 ghost use Rattle.x_schema.specs.Schemas.{IsSchemaOf};
 ghost use Rattle.x_schema.specs.declared.schema.NamedType.{NamedType};
 ghost use Rattle.x_schema.specs.declared.schema.TypeId.{TypeId};
 ghost use Rattle.x_schema.specs.declared.procedure.ProcedureNumbers.{ProcedureNumbers};
 ghost use Rattle.x_session.specs.Answers.{Answer};
-ghost use Rattle.x_session.specs.Compile.{Item};
+ghost use Rattle.x_session.specs.Compile.{Item, faults_of};
 ghost use Rattle.x_session.specs.LineAnswers.{IsLineAnswer};
 ghost use Rattle.x_session.specs.Script.{AreAnswered};
-ghost use Rattle.x_laws.specs.Meant.{AreFaultless, IsAsDeclared, IsTypeName, IsUsedAsType, number_meant};
+ghost use Rattle.x_wire.specs.MessageTexts.{Told};
+ghost use Rattle.x_wire.specs.StreamTexts.{IsStreamText, IsTextOf};
+ghost use Rattle.x_laws.specs.Meant.{AreFaultless, IsAsDeclared, IsTypeName, IsUsedAsType};
+ghost use Rattle.x_laws.specs.Meant.{number_meant, sees, words_meant};
 ghost use Rattle.x_laws.specs.Showing.{ShowsAlike, CallsAlike};
 
 /// Two schemas of the same definitions have types of the same names and procedures of the same numbers, and
@@ -38,6 +47,22 @@ pub fn one_answer()
         → AreAnswered base text lines a → AreAnswered base text lines b → a ≡ b }
 {}
 
+/// By two schemas of the same definitions messages one behind another have one text, and so has a stream.
+pub fn one_dump()
+    ensures messages { (definitions : List (Option Definition)) (s t : Schema) → IsSchemaOf definitions s
+        → IsSchemaOf definitions t → (messages : List (List ℕ)) (a b : Told)
+        → IsTextOf s messages a → IsTextOf t messages b → a ≡ b }
+    ensures stream { (definitions : List (Option Definition)) (s t : Schema) → IsSchemaOf definitions s
+        → IsSchemaOf definitions t → (stream : List ℕ) (a b : Told)
+        → IsStreamText s stream a → IsStreamText t stream b → a ≡ b }
+{}
+
+/// Where a text has no fault, none of the results of its items has one, of which the laws below speak.
+pub fn faultless_results()
+    ensures { (text : List ℕ) (items : List Item) → faults_of text items ≡ []
+        → AreFaultless (map (λ i. i.result) items) }
+{}
+
 /// In a text without a fault a schema has a type of a name exactly where the name's first declarer declares
 /// it as a type, also as that of an inline type.
 pub fn schema_types()
@@ -46,12 +71,25 @@ pub fn schema_types()
         → (name : List ℕ) → IsSome (id_named s name) ↔ IsTypeName definitions name }
 {}
 
-/// In a text without a fault the numbers by which a schema is made are those that names mean by the rules;
-/// and a name has none where it means none.
+/// In a text without a fault a schema is made by the numbers that names mean by the rules (`names`). The
+/// number of each value, size and case is the one by which the rules go at its word (`values`), and that of
+/// each enumerator the one that its name means, also without a value (`enumerators`).
 pub fn schema_numbers()
-    ensures { (definitions : List (Option Definition)) (results : List (Option Outcome))
+    ensures names { (definitions : List (Option Definition)) (results : List (Option Outcome))
         → AreResults definitions results → AreFaultless results → (name : List ℕ)
         → lookup (bytes_eq name) (numbers_of definitions) ≡ number_meant definitions results name }
+    ensures values { (definitions : List (Option Definition)) (results : List (Option Outcome))
+        → AreResults definitions results → AreFaultless results → (item : ℕ) (d : Definition)
+        → slice_get definitions item ≡ Some (Some d) → (word : ℕ) (role : Role) (v : Value)
+        → HasRole d word role → value_role role ≡ Some v
+        → number_in (numbers_of definitions) v
+        ≡ number_at (sees definitions results item d) (enumerators d) word v }
+    ensures enumerators { (definitions : List (Option Definition)) (results : List (Option Outcome))
+        → AreResults definitions results → AreFaultless results → (item : ℕ) (d : Definition)
+        → slice_get definitions item ≡ Some (Some d) → (b : BodyAt) (es : List Enumerator)
+        → IsAmong (bodies d) b → b.body ≡ Enum es
+        → words_from (numbers_of definitions) (Some (pos 0)) [] es
+        ≡ words_meant (number_meant definitions results) [] es }
 {}
 
 /// In a text without a fault the type of each name is as the name's first declarer declares it, and a name in

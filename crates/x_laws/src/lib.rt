@@ -4,4 +4,7 @@
 
 mod laws;
 
-pub use laws::{one_answer, one_showing, schema_numbers, schema_targets, schema_types};
+pub use laws::{
+    faultless_results, one_answer, one_dump, one_showing, schema_numbers, schema_targets,
+    schema_types,
+};

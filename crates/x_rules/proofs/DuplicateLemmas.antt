@@ -9,8 +9,8 @@ use Rattle.std.specs.Str.{bytes_eq}
 use Rattle.x_trees.specs.Names.{Declared}
 use Rattle.x_rules.specs.Views as views
 use Rattle.x_rules.specs.Views.{View}
-use Rattle.x_rules.specs.FirstPlaces.{first_place}
-use Rattle.x_rules.specs.Found.{fault_at, is_earlier_name, is_behind, is_taken_at, duplicate_code, duplicates_from}
+use Rattle.x_rules.specs.FirstPlaces.{first_place, is_behind}
+use Rattle.x_rules.specs.Found.{fault_at, is_earlier_name, is_taken_at, duplicate_code, duplicates_from}
 use Rattle.x_rules.specs.Rules.{IsEarlierName, HasName, IsDuplicate}
 use Rattle.x_rules.specs.declared.fault.RuleCode.{RuleCode}
 use Rattle.x_rules.specs.declared.fault.RuleCode.TheVariants as codes

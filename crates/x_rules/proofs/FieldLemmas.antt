@@ -3,8 +3,8 @@ use Rattle.std.proofs.Common.{◌≡◌, ℕ, suc, ◌+◌, ◌⊎◌, inl, inr,
 use Rattle.std.proofs.lemmas.Option.{same_Some}
 use Rattle.std.specs.List.{IsAmong}
 use Rattle.x_rules.specs.Bodies.{NameAt}
-use Rattle.x_rules.specs.FirstPlaces.{first_place}
-use Rattle.x_rules.specs.Found.{fault_at, is_behind, repeat_code, repeats_from, repeated_names}
+use Rattle.x_rules.specs.FirstPlaces.{first_place, is_behind}
+use Rattle.x_rules.specs.Found.{fault_at, repeat_code, repeats_from, repeated_names}
 use Rattle.x_rules.specs.Rules.{HasName, IsRepeatedField}
 use Rattle.x_rules.specs.declared.fault.RuleCode.{RuleCode}
 use Rattle.x_rules.specs.declared.fault.RuleCode.TheVariants as codes

@@ -1,12 +1,11 @@
 -- The first places of what is looked for in a list.
 use Rattle.std.proofs.Common.{◌≡◌, ℕ, zero, suc, ◌+◌, ◌≤◌, Bool, true, false, cond, List, [], ◌∷◌, map, take, Option, None, Some, arith, refl, sym, ap, ◌∙◌}
-use Rattle.std.specs.Prelude.{nat_lt, option_map, ◌||◌}
+use Rattle.std.specs.Prelude.{nat_lt, is_some, option_map, ◌||◌}
 use Rattle.std.specs.List.{list_any}
 use Rattle.std.specs.Str.{bytes_eq}
 use Rattle.std.proofs.lemmas.Bool.Decides.{nat_tests}
 use Rattle.std.proofs.lemmas.Option.{same_Some}
-use Rattle.x_rules.specs.FirstPlaces.{first_from, first_place}
-use Rattle.x_rules.specs.Found.{is_behind}
+use Rattle.x_rules.specs.FirstPlaces.{first_from, first_place, is_behind}
 
 -- an element more in front
 pub first_before : {X : Type 0} (test : X → Bool) (n m : ℕ) (xs : List X) (x : X) (rest : List X) (before after : Option ℕ) → m ≡ suc n → xs ≡ x ∷ rest
@@ -67,3 +66,15 @@ behind_from test n (x ∷ xs) (suc i) = by (test x) (behind_from test (suc n) xs
 
 pub behind_first : {X : Type 0} (test : X → Bool) (xs : List X) (i : ℕ) → is_behind (first_from test 0 xs) i ≡ list_any test (take i xs)
 behind_first test xs i = let zero_more : i ≡ 0 + i = omega arith in ap (is_behind (first_from test 0 xs)) zero_more ∙ behind_from test 0 xs i
+
+some_any : {X : Type 0} (test : X → Bool) (n : ℕ) (xs : List X) → is_some (first_from test n xs) ≡ list_any test xs
+some_any test n [] = refl
+some_any test n (x ∷ xs) = by (test x) (some_any test (suc n) xs)
+  where
+    by : (b : Bool) → is_some (first_from test (suc n) xs) ≡ list_any test xs → is_some (cond b (Some n) (first_from test (suc n) xs)) ≡ (b || list_any test xs)
+    by true h = refl
+    by false h = h
+
+-- one of the first elements passes the test where the first that does has its place among them
+pub some_behind : {X : Type 0} (test : X → Bool) (xs : List X) (i : ℕ) → is_some (first_from test 0 (take i xs)) ≡ is_behind (first_from test 0 xs) i
+some_behind test xs i = some_any test 0 (take i xs) ∙ sym (behind_first test xs i)

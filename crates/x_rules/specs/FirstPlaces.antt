@@ -1,5 +1,6 @@
 -- The first places of what is looked for in a list.
-use Rattle.std.specs.Prelude.{◌≡◌, ℕ, suc, Bool, List, [], ◌∷◌, Option, Some, None, if◌then◌else◌}
+use Rattle.std.specs.Prelude.{◌≡◌, ℕ, suc, nat_lt, Bool, false, List, [], ◌∷◌, Option, Some, None}
+use Rattle.std.specs.Prelude.{if◌then◌else◌}
 use Rattle.std.specs.Map.{lookup}
 use Rattle.std.specs.Str.{bytes_eq}
 
@@ -11,6 +12,11 @@ first_from test n (x ∷ xs) = if test x then Some n else first_from test (suc n
 -- the place of the first of these names that is this one, likewise
 abbrev pub first_place : ℕ → List (List ℕ) → List ℕ → Option ℕ
 first_place n names name = first_from (bytes_eq name) n names
+
+-- whether there is a first place, and it is before this one
+abbrev pub is_behind : Option ℕ → ℕ → Bool
+is_behind None place = false
+is_behind (Some first) place = nat_lt first place
 
 -- the table has the place of the first item of each key
 pub record HasFirsts {K X : Type 0} (eq : K → K → Bool) (has_key : X → K → Bool) (entries : List (K × ℕ))

@@ -1,5 +1,5 @@
 -- The faults that each family of rules finds, in the order in which the program finds them.
-use Rattle.std.specs.Prelude.{ℕ, suc, ℤ, nat_lt, Bool, true, false, not, ◌&&◌, ◌||◌, List, [], ◌∷◌, ◌++◌, map}
+use Rattle.std.specs.Prelude.{ℕ, suc, ℤ, Bool, true, false, not, ◌&&◌, ◌||◌, List, [], ◌∷◌, ◌++◌, map}
 use Rattle.std.specs.Prelude.{Option, Some, None, if◌then◌else◌}
 use Rattle.std.specs.List.{flat_map, list_any}
 use Rattle.std.specs.Ordering.{int_eq}
@@ -11,7 +11,7 @@ use Rattle.x_rules.specs.Views.{View, Class, Other}
 use Rattle.x_trees.specs.Seen.{names_of}
 use Rattle.x_rules.specs.Bodies.{EnumeratorAt, NameAt, ValueAt, NumberAt, Members, bodies, enumerators}
 use Rattle.x_rules.specs.Bodies.{cases_of, fields_of, members}
-use Rattle.x_rules.specs.FirstPlaces.{first_place}
+use Rattle.x_rules.specs.FirstPlaces.{first_place, is_behind}
 use Rattle.x_rules.specs.Tables.{is_too_high}
 use Rattle.x_rules.specs.Constants.{Known, knowns, limit_of, number_by}
 use Rattle.x_numbers.specs.Numbers.{number_spelled, is_enum_number, is_word_number, is_zero}
@@ -38,11 +38,6 @@ mention_faults see es ms = flat_map (λ m. fault_at m.word (mention_fault see es
 abbrev pub is_earlier_name : View → Bool
 is_earlier_name (views.Earlier kind lifted meaning) = true
 is_earlier_name view = false
-
--- whether there is a first place, and it is before this one
-abbrev pub is_behind : Option ℕ → ℕ → Bool
-is_behind None place = false
-is_behind (Some first) place = nat_lt first place
 
 -- whether a name in this place of those that an item declares is declared at an earlier place or beforehand
 abbrev pub is_taken_at : (List ℕ → View) → (List ℕ → Option ℕ) → ℕ → List ℕ → Bool

@@ -26,7 +26,7 @@ use crate::rules::heights::add_too_high;
 use crate::rules::meanings::meanings;
 use crate::rules::mentioned::add_mentioned;
 use crate::rules::repeats::{add_repeated_fields, add_repeated_members};
-use crate::rules::sights::{Sights, names_seen};
+use crate::rules::sights::{Sights, list_names};
 use crate::rules::words::{add_past_last, add_words};
 use crate::views::View;
 use smallvec::SmallVec;
@@ -144,7 +144,8 @@ fn outcome(alloc: Global, outline: &Outline, views: &[View]) -> Result<Checked, 
     ensures { IfOk result (λ checked. IsOutline outline.now
         → IsOutcome (outlined outline.now) (map view_view views.now) checked) }
 {
-    let names = names_seen(alloc, &outline.declared, &outline.mentioned)?;
+    let mut names = SmallVec::new(alloc);
+    list_names(&mut names, &outline.declared, &outline.mentioned)?;
     let sights = Sights::of(alloc, &names, views)?;
     let list = enumerators(alloc, &outline.bodies)?;
     let constants = Constants::of(alloc, &list, &sights)?;

@@ -1,11 +1,12 @@
 //! Names that are declared twice.
 ghost use Rattle.std.specs.Prelude.{◌≡◌, ◌++◌, map, OnOk};
 ghost use Rattle.x_trees.specs.Collected.{view_name};
-ghost use Rattle.x_rules.specs.Found.{is_earlier_name, is_behind, is_taken_at, duplicate_code};
+ghost use Rattle.x_rules.specs.Found.{is_earlier_name, is_taken_at, duplicate_code};
 ghost use Rattle.x_rules.specs.Found.{duplicates_from};
 ghost use Rattle.x_rules.specs.RustViews.{view_view};
 ghost use Rattle.x_rules.specs.Tables.{place_seen, seen_by};
 
+use super::first_places::is_behind;
 use super::found::add_fault;
 use super::sights::Sights;
 use crate::fault::{RuleCode, WordFault};
@@ -18,16 +19,6 @@ fn is_earlier_name(view: View) -> bool
     ensures { result ≡ is_earlier_name (view_view view.entry) }
 {
     matches!(view, View::Earlier { .. })
-}
-
-/// Whether there is a first place, and it is before this one.
-pub fn is_behind(first: Option<usize>, place: usize) -> bool
-    ensures { result ≡ is_behind first place }
-{
-    match first {
-        Some(first) => first < place,
-        None => false,
-    }
 }
 
 /// The fault of a name in this place of those that the item declares.

@@ -1,8 +1,8 @@
 //! Lists in which the first that has a key is found.
 
-ghost use Rattle.std.specs.Prelude.{◌≡◌, Bool, IfOk};
+ghost use Rattle.std.specs.Prelude.{◌≡◌, ◌≤◌, Bool, length, IfOk};
 ghost use Rattle.std.specs.Str.{bytes_eq};
-ghost use Rattle.x_rules.specs.FirstPlaces.{first_from, HasFirsts};
+ghost use Rattle.x_rules.specs.FirstPlaces.{first_from, is_behind, HasFirsts};
 
 use indexmap::IndexMap;
 use std::alloc::Global;
@@ -79,6 +79,16 @@ fn place_among<T: Keyed<K>, K: Copy + Eq + Hash>(items: &[T], key: K) -> Option<
     None
 }
 
+/// Whether there is a first place, and it is before this one.
+pub fn is_behind(first: Option<usize>, place: usize) -> bool
+    ensures { result ≡ is_behind first place }
+{
+    match first {
+        Some(first) => first < place,
+        None => false,
+    }
+}
+
 impl<'v, T: Keyed<K>, K: Copy + Eq + Hash> FirstPlaces<'v, T, K> {
     /// The list, and a table of it if it is long.
     pub fn of(alloc: Global, items: &'v [T]) -> Result<FirstPlaces<'v, T, K>, NoMemory>
@@ -106,6 +116,18 @@ impl<'v, T: Keyed<K>, K: Copy + Eq + Hash> FirstPlaces<'v, T, K> {
         match &self.table {
             Some(table) => table.get(&key).copied(),
             None => place_among(self.items, key),
+        }
+    }
+
+    /// Whether one before the place has the key.
+    #[tactic(auto, using(crate::proofs::FirstLemmas::some_behind))]
+    pub fn has_before(&self, place: usize, key: K) -> bool
+        requires { place ≤ length self.now }
+        ensures { result ≡ is_behind (first_from (λ x. T.has_key x key) 0 self.now) place }
+    {
+        match &self.table {
+            Some(table) => is_behind(table.get(&key).copied(), place),
+            None => place_among(&self.items[..place], key).is_some(),
         }
     }
 }

@@ -1,15 +1,14 @@
 //! What may stand only once in a body, a program or a version.
 
-ghost use Rattle.std.specs.Prelude.{◌≡◌, ◌++◌, map, IfOk, OnOk};
+ghost use Rattle.std.specs.Prelude.{◌≡◌, ◌≤◌, ◌++◌, length, map, IfOk, OnOk};
 ghost use Rattle.std.specs.List.{flat_map};
 ghost use Rattle.std.specs.Ordering.{int_eq};
 ghost use Rattle.std.specs.Str.{bytes_eq};
-ghost use Rattle.x_rules.specs.FirstPlaces.{first_from};
-ghost use Rattle.x_rules.specs.Found.{is_behind, repeat_code, repeated_names, repeated_members};
+ghost use Rattle.x_rules.specs.FirstPlaces.{first_from, is_behind};
+ghost use Rattle.x_rules.specs.Found.{repeat_code, repeated_names, repeated_members};
 ghost use Rattle.x_rules.specs.Found.{numbered, spelled_numbers, repeated_code, repeated_numbers};
 ghost use Rattle.x_rules.specs.Tables.{view_name_at, view_number_at, view_members};
 
-use super::duplicates::is_behind;
 use super::first_places::{FirstPlaces, Keyed};
 use super::found::add_fault;
 use crate::fault::{RuleCode, WordFault};
@@ -67,9 +66,10 @@ fn number_fault(code: RuleCode, is_new: bool) -> Option<RuleCode>
 
 /// Whether the number in this place stands before it too.
 fn has_earlier(numbers: &FirstPlaces<Numbered, i128>, here: &Numbered, place: usize) -> bool
+    requires { place ≤ length numbers.now }
     ensures { result ≡ is_behind (first_from (λ n. int_eq here.now.number n.number) 0 numbers.now) place }
 {
-    is_behind(numbers.get(here.number), place)
+    numbers.has_before(place, here.number)
 }
 
 /// Adds the fault at each number that has an earlier word too.
@@ -111,7 +111,7 @@ fn add_repeated_names(
 {
     let places = FirstPlaces::of(alloc, names)?;
     for (place, name) in names.iter().enumerate() {
-        let code = name_fault(is_behind(places.get(name.name), place));
+        let code = name_fault(places.has_before(place, name.name));
         add_fault(faults, name.word, code)?;
     }
     Ok(())

@@ -1,6 +1,6 @@
 //! What an item sees of the names that stand in it.
 
-ghost use Rattle.std.specs.Prelude.{◌≡◌, map, IfOk};
+ghost use Rattle.std.specs.Prelude.{◌≡◌, [], map, IfOk, OnOk};
 ghost use Rattle.x_rules.specs.RustViews.{view_view};
 ghost use Rattle.x_rules.specs.Tables.{names_seen, place_seen, seen_by, view_at};
 
@@ -12,25 +12,25 @@ use x_text::NoMemory;
 use x_trees::{DeclaredName, Mention};
 
 /// Names, few of which take no memory.
-type Names<'v> = SmallVec<&'v [u8], MOST_FEW>;
+pub type Names<'v> = SmallVec<&'v [u8], MOST_FEW>;
 
-/// The names that an item declares, and then those that it uses.
-pub fn names_seen<'v>(
-    alloc: Global,
+/// Lists the names that an item declares, and then those that it uses.
+pub fn list_names<'v>(
+    names: &mut Names<'v>,
     declared: &'v [DeclaredName<'v>],
     mentions: &'v [Mention<'v>],
-) -> Result<Names<'v>, NoMemory>
-    ensures { IfOk result (λ names. map (λ x. x.now) names.items ≡ names_seen declared.now mentions.now) }
+) -> Result<(), NoMemory>
+    ensures { OnOk result (names.old.items ≡ []
+        → map (λ x. x.now) names.new.items ≡ names_seen declared.now mentions.now) }
 {
-    let count = declared.len().saturating_add(mentions.len());
-    let mut names = SmallVec::with_capacity(alloc, count)?;
+    names.reserve(declared.len().saturating_add(mentions.len()))?;
     for name in declared {
         names.push(name.name.as_slice())?;
     }
     for mention in mentions {
         names.push(mention.name)?;
     }
-    Ok(names)
+    Ok(())
 }
 
 /// The views of an item, by names.

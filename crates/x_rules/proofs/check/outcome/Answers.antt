@@ -29,7 +29,7 @@ returns c =
     ∙ map_map (λ m. m.name) view_mention outline.mentioned.items ∙ ap (map (λ m. m.name)) o.uses_are in
     let front : List (List ℕ) = map (λ (x : Declared). x.name) (declared d) in
     let seen : map (λ x. x.now) sights.names ≡ names_of d =
-    ap (map (λ x. x.now)) (c.in_ok-sights.ensures.names ∙ c.deref-3.ensures) ∙ c.in_ok-names.ensures ∙ ap (λ l. l ++ map (λ m. m.name.now) c.deref-2.result.now) names ∙ ap (λ l. front ++ l) uses in
+    ap (map (λ x. x.now)) (c.in_ok-sights.ensures.names ∙ c.deref-3.ensures) ∙ c.in_ok-list_names.ensures c.new-names.ensures.items ∙ ap (λ l. l ++ map (λ m. m.name.now) c.deref-2.result.now) names ∙ ap (λ l. front ++ l) uses in
     let enumerators_are =
     ap (map view_enumerator_at) c.deref-5.ensures.value ∙ c.in_ok-list.ensures (subst AreFilled (sym c.deref-4.ensures.value) o.filled) ∙ ap (λ l. enumerators_in (map view_body_at l)) c.deref-4.ensures.value ∙ ap enumerators_in o.bodies_are in
     let numbers = subst (λ all. HasNumbers constants all (knowns (seen_by sights) all)) enumerators_are c.in_ok-constants.ensures in

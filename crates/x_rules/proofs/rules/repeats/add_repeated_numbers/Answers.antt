@@ -2,8 +2,8 @@ use Rattle.std.specs.Prelude.{not, pos}
 use Rattle.std.specs.List.{list_any}
 use Rattle.std.specs.Ordering.{int_eq}
 use Rattle.std.proofs.Common.{◌≡◌, ◌+◌, ◌++◌, take, drop, get_or, ap, ◌∙◌}
-use Rattle.x_rules.specs.Found.{fault_at, is_behind, repeated_code}
-use Rattle.x_rules.specs.FirstPlaces.{first_from}
+use Rattle.x_rules.specs.Found.{fault_at, repeated_code}
+use Rattle.x_rules.specs.FirstPlaces.{first_from, is_behind}
 use Rattle.x_rules.specs.declared.rules.repeats.Numbered.{Numbered}
 use Rattle.x_text.proofs.ListLemmas.{drop_one}
 use Rattle.x_rules.proofs.FirstLemmas.{behind_first}
