@@ -9,7 +9,7 @@ use Rattle.x_schema.specs.SchemaOf.{place_named}
 use Rattle.x_schema.specs.ProceduresOf.{IsPassedType, IsPassed, AreArgumentFields, AreArguments, IsProcedure, Numbered, Table, with_procedure, numbers_by, AreProceduresBehind, procedures_of}
 use Rattle.x_schema.specs.declared.form.Field.{Field}
 use Rattle.x_schema.specs.declared.form.Form.TheVariants as forms
-use Rattle.x_schema.specs.declared.procedure.KeptProcedure.{KeptProcedure}
+use Rattle.x_schema.specs.declared.procedure.CompactProcedure.{CompactProcedure}
 use Rattle.x_schema.specs.declared.procedure.ProcedureNumbers.{ProcedureNumbers}
 use Rattle.x_schema.specs.declared.schema.TypeId.{TypeId}
 use Rattle.x_laws.specs.Showing.{ShowsAlike, CallsAlike}
@@ -50,12 +50,12 @@ arguments_alike s t first (a ∷ rest) p q all h k =
 
 -- ---- procedures by their numbers
 
-pub record AlikeKept (s t : Schema) (a b : KeptProcedure) : Type 0 where
+pub record AlikeKept (s t : Schema) (a b : CompactProcedure) : Type 0 where
   pub name : name_at s a.name ≡ name_at t b.name
   pub arguments : Alike s t a.arguments b.arguments
   pub results : Alike s t a.results b.results
 
-kept_alike : (s t : Schema) (p : tree.Procedure) (a b : KeptProcedure) → AreTypesAlike s t → IsProcedure s p a → IsProcedure t p b → AlikeKept s t a b
+kept_alike : (s t : Schema) (p : tree.Procedure) (a b : CompactProcedure) → AreTypesAlike s t → IsProcedure s p a → IsProcedure t p b → AlikeKept s t a b
 kept_alike s t p a b all h k = record {
   name = h.name ∙ sym k.name;
   arguments = arguments_alike s t p.first p.others a.arguments b.arguments all h.arguments k.arguments;
@@ -68,7 +68,7 @@ AlikeTables s t [] (y ∷ ys) = ⊥
 AlikeTables s t (x ∷ xs) [] = ⊥
 AlikeTables s t (x ∷ xs) (y ∷ ys) = (x.0 ≡ y.0) × AlikeKept s t x.1 y.1 × AlikeTables s t xs ys
 
-abbrev pub AlikeFound : (s t : Schema) → Option KeptProcedure → Option KeptProcedure → Type 0
+abbrev pub AlikeFound : (s t : Schema) → Option CompactProcedure → Option CompactProcedure → Type 0
 AlikeFound s t None None = Unit {0}
 AlikeFound s t None (Some b) = ⊥
 AlikeFound s t (Some a) None = ⊥
@@ -86,20 +86,20 @@ found_alike s t n (x ∷ xs) (y ∷ ys) h = by (same_numbers n x.0) (same_number
     by false true e rest = absurd cc
     by false false e rest = rest
 
-same_there : (s t : Schema) (x y : Option KeptProcedure) → AlikeFound s t x y → is_some x ≡ is_some y
+same_there : (s t : Schema) (x y : Option CompactProcedure) → AlikeFound s t x y → is_some x ≡ is_some y
 same_there s t None None h = refl
 same_there s t None (Some b) h = absurd h
 same_there s t (Some a) None h = absurd h
 same_there s t (Some a) (Some b) h = refl
 
-table_behind : (s t : Schema) (A B : Table) (n : ProcedureNumbers) (a b : KeptProcedure) → AlikeTables s t A B → AlikeKept s t a b
+table_behind : (s t : Schema) (A B : Table) (n : ProcedureNumbers) (a b : CompactProcedure) → AlikeTables s t A B → AlikeKept s t a b
     → AlikeTables s t (A ++ (n, a) ∷ []) (B ++ (n, b) ∷ [])
 table_behind s t [] [] n a b h k = (refl, k, tt)
 table_behind s t [] (y ∷ ys) n a b h k = absurd h
 table_behind s t (x ∷ xs) [] n a b h k = absurd h
 table_behind s t (x ∷ xs) (y ∷ ys) n a b h k = (h.0, h.1, table_behind s t xs ys n a b h.2 k)
 
-table_more : (s t : Schema) (A B : Table) (n : Option ProcedureNumbers) (a b : KeptProcedure) → AlikeTables s t A B → AlikeKept s t a b
+table_more : (s t : Schema) (A B : Table) (n : Option ProcedureNumbers) (a b : CompactProcedure) → AlikeTables s t A B → AlikeKept s t a b
     → AlikeTables s t (with_procedure A n a) (with_procedure B n b)
 table_more s t A B None a b h k = h
 table_more s t A B (Some n) a b h k =
@@ -122,7 +122,7 @@ pub procedure_alike : (ds : List (Option tree.Definition)) (s t : Schema) (n : P
     → AlikeFound s t (procedure_at s n) (procedure_at t n)
 procedure_alike ds s t n h k = found_alike s t n s.procedures t.procedures (procedures_alike s t [] [] (procedures_of ds) (all_alike ds s t h k) tt h.procedures k.procedures)
 
-calls_by : (s t : Schema) (n : ProcedureNumbers) (name : List ℕ) (arg res : TypeId) (kept : KeptProcedure) (y : Option KeptProcedure) → AreTypesAlike s t → AreTypesAlike t s
+calls_by : (s t : Schema) (n : ProcedureNumbers) (name : List ℕ) (arg res : TypeId) (kept : CompactProcedure) (y : Option CompactProcedure) → AreTypesAlike s t → AreTypesAlike t s
     → procedure_at t n ≡ y → AlikeFound s t (Some kept) y → AlikeFound t s y (Some kept)
     → name ≡ name_at s kept.name → arg ≡ arguments_id kept → res ≡ results_id kept → CallsAlike s t n name arg res
 calls_by s t n name arg res kept None all back is h k a b c = absurd h

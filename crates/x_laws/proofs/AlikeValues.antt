@@ -11,8 +11,8 @@ use Rattle.x_schema.specs.declared.form.Form.{Form}
 use Rattle.x_schema.specs.declared.form.Form.TheVariants as forms
 use Rattle.x_value.specs.declared.fault.ReadCode.TheVariants as codes
 use Rattle.x_value.specs.Values.{Value, Values, body, group, headed, end, more}
-use Rattle.x_value.specs.Layouts.{Layout, Fixed, Fields, Elements, Flag, Named, Sized, Counted, Optional, Chosen, Place, Job, job, layout_of, layout_at, field_job, field_jobs, element_jobs, arm_jobs, members, behind, head_fault, illegal_code, arm_fault, enumerator_name, enumerator, discriminant_leaf, body_nodes, group_nodes, head_nodes}
-use Rattle.x_value.specs.Readings.{IsBody, IsGroup, IsHeaded, Fits, Suits, Role, fault_of, body_roles, roles, roles_each, nodes, nodes_each}
+use Rattle.x_value.specs.Layouts.{Layout, Fixed, Fields, Elements, Flag, Named, Sized, Counted, Optional, Chosen, Spot, Job, job, layout_of, layout_at, field_job, field_jobs, element_jobs, arm_jobs, members, behind, head_fault, illegal_code, arm_fault, enumerator_name, enumerator, discriminant_leaf, body_nodes, group_nodes, head_nodes}
+use Rattle.x_value.specs.Readings.{IsLeafBody, IsGroup, IsHeaded, Fits, Suits, UnitRole, fault_of, body_roles, roles, roles_each, nodes, nodes_each}
 use Rattle.x_value.specs.Shown.{Leaf, Name, Star, Enumerator, Union, node}
 use Rattle.x_laws.proofs.Alike.{AlikeForm, same, enums, repeated, counted, linked, structs, unions, AlikeTarget, direct, by_name, AlikeFields, no_field, one_field, AlikeArm, void_arm, field_arm, AlikeArms, no_arm, one_arm, AlikeCases, Alike, AreAlike, IsLeaf, moved, names_told, same_name, same_named, same_legal, chosen_alike}
 
@@ -63,7 +63,7 @@ layout_alike s t f g all (unions d e c k n h cs o) = choices d e c k n h cs o
 -- ---- what stands in values
 
 abbrev pub AlikeJob : (s t : Schema) → Job → Job → Type 0
-AlikeJob s t j k = AlikeLayout s t j.layout k.layout × (j.spot ≡ k.place)
+AlikeJob s t j k = AlikeLayout s t j.layout k.layout × (j.spot ≡ k.spot)
 
 abbrev pub AlikeJobs : (s t : Schema) → List Job → List Job → Type 0
 AlikeJobs s t [] [] = Unit {0}
@@ -95,7 +95,7 @@ arm_alike s t level links a b all (one_arm x y h) = by x y h
     by x y void_arm = tt
     by x y (field_arm f g e h) = (field_alike s t level links f g all e h, tt)
 
-members_alike : (s t : Schema) (l m : Layout) (p : Place) → AreTypesAlike s t → AlikeLayout s t l m → AlikeJobs s t (members s l p) (members t m p)
+members_alike : (s t : Schema) (l m : Layout) (p : Spot) → AreTypesAlike s t → AlikeLayout s t l m → AlikeJobs s t (members s l p) (members t m p)
 members_alike s t l m p all (bodies leaf n) = tt
 members_alike s t l m p all flags = tt
 members_alike s t l m p all (named a b e) = tt
@@ -114,7 +114,7 @@ behind_link s t i j level links w all h = by (nat_eq w 0)
     by true = tt
     by false = ((layout_alike s t (form_at s i) (form_at t j) all h, refl), tt)
 
-behind_alike : (s t : Schema) (l m : Layout) (p : Place) (w : ℕ) → AreTypesAlike s t → AlikeLayout s t l m → AlikeJobs s t (behind s l p w) (behind t m p w)
+behind_alike : (s t : Schema) (l m : Layout) (p : Spot) (w : ℕ) → AreTypesAlike s t → AlikeLayout s t l m → AlikeJobs s t (behind s l p w) (behind t m p w)
 behind_alike s t l m p w all (bodies leaf n) = tt
 behind_alike s t l m p w all flags = tt
 behind_alike s t l m p w all (named a b e) = tt
@@ -200,7 +200,7 @@ same_discriminant s t f g w (linked i j h) = refl
 same_discriminant s t f g w (structs a b h) = refl
 same_discriminant s t f g w (unions d e c k n h cs o) = refl
 
-same_body_nodes : (s t : Schema) (l m : Layout) (p : Place) (bs : List ℕ) → AlikeLayout s t l m → body_nodes l p bs ≡ body_nodes m p bs
+same_body_nodes : (s t : Schema) (l m : Layout) (p : Spot) (bs : List ℕ) → AlikeLayout s t l m → body_nodes l p bs ≡ body_nodes m p bs
 same_body_nodes s t l m p bs (bodies leaf n) = refl
 same_body_nodes s t l m p bs flags = refl
 same_body_nodes s t l m p bs (named a b e) = refl
@@ -211,7 +211,7 @@ same_body_nodes s t l m p bs (counts i j most h) = refl
 same_body_nodes s t l m p bs (options i j h) = refl
 same_body_nodes s t l m p bs (choices d e c k n h cs o) = refl
 
-same_group_nodes : (s t : Schema) (l m : Layout) (p : Place) → AlikeLayout s t l m → group_nodes l p ≡ group_nodes m p
+same_group_nodes : (s t : Schema) (l m : Layout) (p : Spot) → AlikeLayout s t l m → group_nodes l p ≡ group_nodes m p
 same_group_nodes s t l m p (bodies leaf n) = refl
 same_group_nodes s t l m p flags = refl
 same_group_nodes s t l m p (named a b e) = refl
@@ -222,7 +222,7 @@ same_group_nodes s t l m p (counts i j most h) = refl
 same_group_nodes s t l m p (options i j h) = refl
 same_group_nodes s t l m p (choices d e c k n h cs o) = refl
 
-same_head_nodes : (s t : Schema) (l m : Layout) (p : Place) (w : ℕ) → AlikeLayout s t l m → head_nodes s l p w ≡ head_nodes t m p w
+same_head_nodes : (s t : Schema) (l m : Layout) (p : Spot) (w : ℕ) → AlikeLayout s t l m → head_nodes s l p w ≡ head_nodes t m p w
 same_head_nodes s t l m p w (bodies leaf n) = refl
 same_head_nodes s t l m p w flags = refl
 same_head_nodes s t l m p w (named a b e) = ap (λ x. node p.level p.label x ∷ []) (same_enumerator s t a b w e)
@@ -237,7 +237,7 @@ same_head_nodes s t l m p w (choices d e c k n h cs o) =
 
 -- ---- values
 
-body_moves : (s t : Schema) (l m : Layout) (bs : List ℕ) → AlikeLayout s t l m → IsBody l bs → IsBody m bs
+body_moves : (s t : Schema) (l m : Layout) (bs : List ℕ) → AlikeLayout s t l m → IsLeafBody l bs → IsLeafBody m bs
 body_moves s t l m bs (bodies leaf n) h = h
 body_moves s t l m bs flags h = absurd h
 body_moves s t l m bs (named a b e) h = absurd h
@@ -271,7 +271,7 @@ headed_moves s t l m (options i j x) h = tt
 headed_moves s t l m (choices d e c k n x cs o) h = tt
 
 mutual
-  pub fits_alike : (s t : Schema) (l m : Layout) (p : Place) (v : Value) → AreTypesAlike s t → AlikeLayout s t l m → Fits s l p v → Fits t m p v
+  pub fits_alike : (s t : Schema) (l m : Layout) (p : Spot) (v : Value) → AreTypesAlike s t → AlikeLayout s t l m → Fits s l p v → Fits t m p v
   fits_alike s t l m p (body bs) all h f = body_moves s t l m bs h f
   fits_alike s t l m p (group vs) all h f = (group_moves s t l m h f.0, suits_alike s t (members s l p) (members t m p) vs all (members_alike s t l m p all h) f.1)
   fits_alike s t l m p (headed w vs) all h f = (
@@ -291,7 +291,7 @@ mutual
       (subst (λ p. Fits t k.layout p v) h.0.1 (fits_alike s t j.layout k.layout j.spot v all h.0.0 f.0), suits_alike s t js ks vs all h.1 f.1)
 
 mutual
-  pub same_nodes : (s t : Schema) (l m : Layout) (p : Place) (v : Value) → AreTypesAlike s t → AlikeLayout s t l m → nodes s l p v ≡ nodes t m p v
+  pub same_nodes : (s t : Schema) (l m : Layout) (p : Spot) (v : Value) → AreTypesAlike s t → AlikeLayout s t l m → nodes s l p v ≡ nodes t m p v
   same_nodes s t l m p (body bs) all h = same_body_nodes s t l m p bs h
   same_nodes s t l m p (group vs) all h =
       let first = same_group_nodes s t l m p h in
@@ -315,13 +315,13 @@ mutual
 -- ---- units
 
 -- units are refused for the same reasons, one by one
-abbrev pub AlikeRoles : (s t : Schema) → List Role → List Role → Type 0
+abbrev pub AlikeRoles : (s t : Schema) → List UnitRole → List UnitRole → Type 0
 AlikeRoles s t [] [] = Unit {0}
 AlikeRoles s t [] (y ∷ ys) = ⊥
 AlikeRoles s t (x ∷ xs) [] = ⊥
 AlikeRoles s t (x ∷ xs) (y ∷ ys) = ((unit : List ℕ) → fault_of s x unit ≡ fault_of t y unit) × AlikeRoles s t xs ys
 
-roles_behind : (s t : Schema) (a b c d : List Role) → AlikeRoles s t a b → AlikeRoles s t c d → AlikeRoles s t (a ++ c) (b ++ d)
+roles_behind : (s t : Schema) (a b c d : List UnitRole) → AlikeRoles s t a b → AlikeRoles s t c d → AlikeRoles s t (a ++ c) (b ++ d)
 roles_behind s t [] [] c d h k = k
 roles_behind s t [] (y ∷ ys) c d h k = absurd h
 roles_behind s t (x ∷ xs) [] c d h k = absurd h
@@ -335,7 +335,7 @@ body_alike s t (suc (suc (suc zero))) = ((λ unit. refl), tt)
 body_alike s t (suc (suc (suc (suc n)))) = ((λ unit. refl), body_alike s t n)
 
 mutual
-  pub roles_alike : (s t : Schema) (l m : Layout) (p q : Place) (v : Value) → AreTypesAlike s t → AlikeLayout s t l m → p ≡ q → AlikeRoles s t (roles s l p v) (roles t m q v)
+  pub roles_alike : (s t : Schema) (l m : Layout) (p q : Spot) (v : Value) → AreTypesAlike s t → AlikeLayout s t l m → p ≡ q → AlikeRoles s t (roles s l p v) (roles t m q v)
   roles_alike s t l m p q (body bs) all h e = body_alike s t (length bs)
   roles_alike s t l m p q (group vs) all h e =
       roles_each_alike s t (members s l p) (members t m q) vs all (subst (λ r. AlikeJobs s t (members s l p) (members t m r)) e (members_alike s t l m p all h))
@@ -350,12 +350,12 @@ mutual
   roles_each_alike s t (j ∷ js) [] vs all h = absurd h
   roles_each_alike s t (j ∷ js) (k ∷ ks) end all h = tt
   roles_each_alike s t (j ∷ js) (k ∷ ks) (more v vs) all h =
-      roles_behind s t (roles s j.layout j.spot v) (roles t k.layout k.place v) (roles_each s js vs) (roles_each t ks vs)
-      (roles_alike s t j.layout k.layout j.spot k.place v all h.0.0 h.0.1) (roles_each_alike s t js ks vs all h.1)
+      roles_behind s t (roles s j.layout j.spot v) (roles t k.layout k.spot v) (roles_each s js vs) (roles_each t ks vs)
+      (roles_alike s t j.layout k.layout j.spot k.spot v all h.0.0 h.0.1) (roles_each_alike s t js ks vs all h.1)
 
 -- where the roles of the one have a role behind so many, those of the other have one too, with the same faults
-pub same_at : (s t : Schema) (xs ys before after : List Role) (role : Role) → AlikeRoles s t xs ys → xs ≡ before ++ (role ∷ after)
-    → (front : List Role) × (other : Role) × (rear : List Role) × (ys ≡ front ++ (other ∷ rear)) × (length before ≡ length front)
+pub same_at : (s t : Schema) (xs ys before after : List UnitRole) (role : UnitRole) → AlikeRoles s t xs ys → xs ≡ before ++ (role ∷ after)
+    → (front : List UnitRole) × (other : UnitRole) × (rear : List UnitRole) × (ys ≡ front ++ (other ∷ rear)) × (length before ≡ length front)
     × ((unit : List ℕ) → fault_of s role unit ≡ fault_of t other unit)
 same_at s t [] ys [] after role h e = absurd cc
 same_at s t [] ys (b ∷ bs) after role h e = absurd cc

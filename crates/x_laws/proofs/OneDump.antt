@@ -4,7 +4,7 @@ use Rattle.std.proofs.Common.{◌≡◌, ℕ, ◌+◌, List, [], ◌∷◌, ◌+
 use Rattle.x_trees.specs.Tree.{Definition}
 use Rattle.x_schema.specs.Schema.{Schema, arguments_id, procedure_at, results_id}
 use Rattle.x_schema.specs.Schemas.{IsSchemaOf}
-use Rattle.x_schema.specs.declared.procedure.KeptProcedure.{KeptProcedure}
+use Rattle.x_schema.specs.declared.procedure.CompactProcedure.{CompactProcedure}
 use Rattle.x_schema.specs.declared.procedure.ProcedureNumbers.{ProcedureNumbers}
 use Rattle.x_schema.specs.declared.schema.TypeId.{TypeId}
 use Rattle.x_wire.specs.Calls.{Calls, arguments_called, call_of, name_called, numbers_called, numbers_heard, procedure_called, results_called}
@@ -69,20 +69,20 @@ called_back : (s t : Schema) (n : Option ProcedureNumbers) → AreOne s t → Al
 called_back s t None h = tt
 called_back s t (Some n) h = h.procedures_back n
 
-same_called : (s t : Schema) (x y : Option KeptProcedure) → AlikeFound s t x y → name_called s x ≡ name_called t y
+same_called : (s t : Schema) (x y : Option CompactProcedure) → AlikeFound s t x y → name_called s x ≡ name_called t y
 same_called s t None None h = refl
 same_called s t None (Some b) h = absurd h
 same_called s t (Some a) None h = absurd h
 same_called s t (Some a) (Some b) h = h.name
 
-arguments_other : (s t : Schema) (x y : Option KeptProcedure) → AreOne s t → AlikeFound s t x y → AlikeFound t s y x → ShowAlike s t (arguments_called x) (arguments_called y)
+arguments_other : (s t : Schema) (x y : Option CompactProcedure) → AreOne s t → AlikeFound s t x y → AlikeFound t s y x → ShowAlike s t (arguments_called x) (arguments_called y)
 arguments_other s t None None one h k = tt
 arguments_other s t None (Some b) one h k = absurd h
 arguments_other s t (Some a) None one h k = absurd h
 arguments_other s t (Some a) (Some b) one h k =
     ids_show s t (arguments_id a) (arguments_id b) (record { all = one.all; back = one.back; form = h.arguments; form_back = k.arguments; labels = refl })
 
-results_other : (s t : Schema) (x y : Option KeptProcedure) → AreOne s t → AlikeFound s t x y → AlikeFound t s y x → ShowAlike s t (results_called x) (results_called y)
+results_other : (s t : Schema) (x y : Option CompactProcedure) → AreOne s t → AlikeFound s t x y → AlikeFound t s y x → ShowAlike s t (results_called x) (results_called y)
 results_other s t None None one h k = tt
 results_other s t None (Some b) one h k = absurd h
 results_other s t (Some a) None one h k = absurd h

@@ -13,7 +13,7 @@ use Rattle.x_schema.specs.declared.form.Form.TheVariants as forms
 use Rattle.x_value.specs.declared.fault.ReadCode.{ReadCode}
 use Rattle.x_value.specs.Values.{Value}
 use Rattle.x_value.specs.Readings.{Fits, roles, nodes}
-use Rattle.x_value.specs.Dumps.{root_label, root_job, IsOf, IsEncoding, IsShown, BeginsEncoding, NoFrontIsEncoding, IsCause, IsBadUnit, IsCut, IsFault, no_memory_left, trailing, bad_unit, cut_short}
+use Rattle.x_value.specs.Dumps.{root_label, root_job, IsOf, IsEncoding, IsShown, BeginsEncoding, NoFrontIsEncoding, IsCause, IsBadUnit, IsTruncated, IsReadFault, no_memory_left, trailing, bad_unit, cut_short}
 use Rattle.x_value.specs.Shown.{Node, Name}
 use Rattle.x_laws.specs.Showing.{ShowsAlike}
 use Rattle.x_laws.proofs.Alike.{Alike}
@@ -79,7 +79,7 @@ bad_other s t a b bytes at code h x = record {
   cause = cause_other s t a b x.front x.unit code h x.cause;
 }
 
-cut_other : (s t : Schema) (a b : TypeId) (bytes : List ℕ) (at : ℕ) → AlikeIds s t a b → IsCut s a bytes at → IsCut t b bytes at
+cut_other : (s t : Schema) (a b : TypeId) (bytes : List ℕ) (at : ℕ) → AlikeIds s t a b → IsTruncated s a bytes at → IsTruncated t b bytes at
 cut_other s t a b bytes at h x = record {
   none = none_other s t a b bytes h x.none;
   place = x.place;
@@ -92,7 +92,7 @@ cut_other s t a b bytes at h x = record {
   begins = begins_other s t a b x.front h x.begins;
 }
 
-fault_other : (s t : Schema) (a b : TypeId) (bytes : List ℕ) (at : ℕ) (code : ReadCode) → AlikeIds s t a b → IsFault s a bytes at code → IsFault t b bytes at code
+fault_other : (s t : Schema) (a b : TypeId) (bytes : List ℕ) (at : ℕ) (code : ReadCode) → AlikeIds s t a b → IsReadFault s a bytes at code → IsReadFault t b bytes at code
 fault_other s t a b bytes at code h (no_memory_left c z) = no_memory_left c z
 fault_other s t a b bytes at code h (trailing c x) = trailing c (record {
   front = x.front;

@@ -6,7 +6,7 @@ use Rattle.std.proofs.lemmas.Option.{same_Some}
 use Rattle.x_lex.specs.declared.mark.Mark.{Mark}
 use Rattle.x_trees.specs.Tree as tree
 use Rattle.x_trees.specs.Words.{Fixed}
-use Rattle.x_trees.specs.Gloss.{Position, AsField, AsDiscriminant, AsArm, Place, InTypedef, Inside, Role, Mentions, ConstantValue, EnumeratorValue, CaseValue, FixedSize, GreatestSize, VoidResult, VoidArgument, Gloss, glossed, gloss, value_roles, leading_roles, lifted_name, lifted_roles, basic_marks, use_by, marks_by, most_by, length_by, named_by, given_by, enumerator_by, other_enumerators_by, enumerators_by, cases_by, type_by, body_by, declaration_by, declarations_by, arms_by, default_by, argument_by, passed_by, others_by, procedure_by, procedures_by, version_by, versions_by, told_of}
+use Rattle.x_trees.specs.Gloss.{Position, AsField, AsDiscriminant, AsArm, Site, InTypedef, Inside, Role, Mentions, ConstantValue, EnumeratorValue, CaseValue, FixedSize, GreatestSize, VoidResult, VoidArgument, Gloss, glossed, gloss, value_roles, leading_roles, lifted_name, lifted_roles, basic_marks, use_by, marks_by, most_by, length_by, named_by, given_by, enumerator_by, other_enumerators_by, enumerators_by, cases_by, type_by, body_by, declaration_by, declarations_by, arms_by, default_by, argument_by, passed_by, others_by, procedure_by, procedures_by, version_by, versions_by, told_of}
 use Rattle.x_trees.specs.Mentions.{Mention, mentioned, mentioned_at}
 use Rattle.x_trees.specs.declared.trees.declaration.Tag.{Tag}
 use Rattle.x_trees.specs.declared.names.mention.Use.{Use}
@@ -82,7 +82,7 @@ marks : (first : List Role) (ms : List Mark) → AreQuiet first → AllPaired (m
 marks first [] h = tt
 marks first (m ∷ ms) h = (quiet h, other_marks ms)
 
-leading : (place : Place) (d : tree.Declaration) → AreQuiet (leading_roles (Some place) d)
+leading : (place : Site) (d : tree.Declaration) → AreQuiet (leading_roles (Some place) d)
 leading InTypedef d = tt
 leading (Inside AsField around) d = tt
 leading (Inside AsDiscriminant around) d = (refl, tt)

@@ -8,7 +8,7 @@ use Rattle.x_trees.specs.Words.{Fixed}
 use Rattle.x_lex.specs.declared.mark.Mark.TheVariants.{Semicolon}
 use Rattle.x_trees.proofs.GlossLemmas.{AreBare, bare_body}
 use Rattle.x_trees.specs.declared.names.declared_name.NameKind.TheVariants as kinds
-use Rattle.x_trees.specs.Gloss.{Position, AsField, AsDiscriminant, AsArm, Place, InTypedef, Inside, Role, Declares, EnumeratorValue, CaseValue, FixedSize, GreatestSize, ConstantValue, VoidResult, VoidArgument, Gloss, glossed, gloss, value_roles, leading_roles, lifted_name, lifted_roles, basic_marks, use_by, marks_by, most_by, length_by, named_by, given_by, enumerator_by, other_enumerators_by, enumerators_by, cases_by, type_by, body_by, body_kind, declaration_by, declarations_by, arms_by, default_by, argument_by, passed_by, others_by, procedure_by, procedures_by, version_by, versions_by}
+use Rattle.x_trees.specs.Gloss.{Position, AsField, AsDiscriminant, AsArm, Site, InTypedef, Inside, Role, Declares, EnumeratorValue, CaseValue, FixedSize, GreatestSize, ConstantValue, VoidResult, VoidArgument, Gloss, glossed, gloss, value_roles, leading_roles, lifted_name, lifted_roles, basic_marks, use_by, marks_by, most_by, length_by, named_by, given_by, enumerator_by, other_enumerators_by, enumerators_by, cases_by, type_by, body_by, body_kind, declaration_by, declarations_by, arms_by, default_by, argument_by, passed_by, others_by, procedure_by, procedures_by, version_by, versions_by}
 use Rattle.x_rules.specs.Mentioned.{suits}
 use Rattle.x_schema.specs.SchemaOf.{as_typedef, typedefs, typedefs_inside, typedefs_of, typedefs_of_type, typedefs_of_fields, typedefs_of_arms, typedefs_of_default}
 
@@ -101,7 +101,7 @@ quiet_cases : (n : List ℕ) (vs : List tree.Value) → words_type n (cases_by g
 quiet_cases n [] = refl
 quiet_cases n (v ∷ vs) = let one = quiet_value n (CaseValue v) v refl in let rest = quiet_cases n vs in λ i. one i || rest i
 
-quiet_leading : (n : List ℕ) (place : Place) (d : tree.Declaration) → roles_type n (leading_roles (Some place) d) ≡ false
+quiet_leading : (n : List ℕ) (place : Site) (d : tree.Declaration) → roles_type n (leading_roles (Some place) d) ≡ false
 quiet_leading n InTypedef d = refl
 quiet_leading n (Inside AsField around) d = refl
 quiet_leading n (Inside AsDiscriminant around) d = refl

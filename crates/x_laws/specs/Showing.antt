@@ -4,15 +4,15 @@ use Rattle.x_schema.specs.Schema.{Schema, IsProcedureAt}
 use Rattle.x_schema.specs.declared.procedure.ProcedureNumbers.{ProcedureNumbers}
 use Rattle.x_schema.specs.declared.schema.TypeId.{TypeId}
 use Rattle.x_value.specs.declared.fault.ReadCode.{ReadCode}
-use Rattle.x_value.specs.Dumps.{IsFault, IsShown}
+use Rattle.x_value.specs.Dumps.{IsReadFault, IsShown}
 use Rattle.x_value.specs.Shown.{Node}
 
 -- what the type of the one schema shows of bytes, that of the other does too, and what it refuses, the other
 -- refuses at the same place for the same reason
 pub record ShowsAlike (s t : Schema) (a b : TypeId) : Type 0 where
   pub nodes : (bytes : List ℕ) (nodes : List Node) → IsShown s a bytes nodes → IsShown t b bytes nodes
-  pub refusals : (bytes : List ℕ) (at : ℕ) (code : ReadCode) → IsFault s a bytes at code
-      → IsFault t b bytes at code
+  pub refusals : (bytes : List ℕ) (at : ℕ) (code : ReadCode) → IsReadFault s a bytes at code
+      → IsReadFault t b bytes at code
 
 -- the other schema has the procedure of these numbers too, of the same name, and shows alike what it is
 -- called with and what it answers
