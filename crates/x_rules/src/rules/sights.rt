@@ -14,6 +14,16 @@ use x_trees::{DeclaredName, Mention};
 /// Names, few of which take no memory.
 pub type Names<'v> = SmallVec<&'v [u8], MOST_FEW>;
 
+/// Makes room for so many names at once, where they are more than lie in place.
+fn make_room(names: &mut Names, count: usize) -> Result<(), NoMemory>
+    ensures { names.new.items ≡ names.old.items }
+{
+    if count > MOST_FEW {
+        names.reserve(count)?;
+    }
+    Ok(())
+}
+
 /// Lists the names that an item declares, and then those that it uses.
 pub fn list_names<'v>(
     names: &mut Names<'v>,
@@ -23,7 +33,7 @@ pub fn list_names<'v>(
     ensures { OnOk result (names.old.items ≡ []
         → map (λ x. x.now) names.new.items ≡ names_seen declared.now mentions.now) }
 {
-    names.reserve(declared.len().saturating_add(mentions.len()))?;
+    make_room(names, declared.len().saturating_add(mentions.len()))?;
     for name in declared {
         names.push(name.name.as_slice())?;
     }
