@@ -155,3 +155,51 @@ work() {
     printf %b "$1" >t.x
     printf '%s\n' "${@:2}" | edit_counts t.x
 }
+
+# framed TEXT..: each text as a message of the Language Server Protocol.
+framed() {
+    local LC_ALL=C text
+    for text in "$@"; do printf 'Content-Length: %d\r\n\r\n%s' "${#text}" "$text"; done
+}
+
+# bodies: the bodies of the messages that come, one a line.
+bodies() { tr -d '\r' | sed -e 's/Content-Length: [0-9]*$//' -e '/^$/d'; }
+
+# serve TEXT..: what rpcls says to these messages, one a line; with its status where that is not 0.
+serve() {
+    framed "$@" | rpcls | bodies
+    return "${PIPESTATUS[1]}"
+}
+
+# conversation TEXT..: the same, of a client that begins as the protocol wants it, with UTF-8, and ends so; without what is said to
+# that.
+conversation() { spoken '["utf-8"]' "$@"; }
+
+# conversation16 TEXT..: of one that offers no UTF-8.
+conversation16() { spoken '[]' "$@"; }
+
+spoken() {
+    serve '{"jsonrpc":"2.0","id":"first","method":"initialize","params":{"capabilities":{"general":{"positionEncodings":'"$1"'}}}}' \
+        '{"jsonrpc":"2.0","method":"initialized","params":{}}' "${@:2}" \
+        '{"jsonrpc":"2.0","id":"last","method":"shutdown"}' '{"jsonrpc":"2.0","method":"exit"}' |
+        grep -v '"id":"\(first\|last\)"'
+}
+
+# opens TEXT, changes VERSION CHANGE.., closes: notifications of the document t.x; each CHANGE is JSON.
+opens() {
+    printf '{"jsonrpc":"2.0","method":"textDocument/didOpen","params":{"textDocument":{"uri":"file:///t.x","languageId":"x","version":1,"text":"%s"}}}' "$1"
+}
+
+changes() {
+    local IFS=,
+    printf '{"jsonrpc":"2.0","method":"textDocument/didChange","params":{"textDocument":{"uri":"file:///t.x","version":%s},"contentChanges":[%s]}}' "$1" "${*:2}"
+}
+
+closes() {
+    printf '{"jsonrpc":"2.0","method":"textDocument/didClose","params":{"textDocument":{"uri":"file:///t.x"}}}'
+}
+
+# in_range LINE CHARACTER LINE CHARACTER TEXT: a change of a range.
+in_range() {
+    printf '{"range":{"start":{"line":%s,"character":%s},"end":{"line":%s,"character":%s}},"text":"%s"}' "$@"
+}

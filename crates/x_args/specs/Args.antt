@@ -25,6 +25,7 @@ use Rattle.x_args.specs.declared.dumping_args.Mode.{Mode}
 use Rattle.x_args.specs.declared.dumping_args.Mode.TheVariants.{Stream, Message, Value}
 use Rattle.x_args.specs.declared.editing_args.EditArgs.{EditArgs}
 use Rattle.x_args.specs.declared.generating_args.GenArgs.{GenArgs}
+use Rattle.x_args.specs.declared.serving_args.ServeArgs.{ServeArgs}
 
 -- the id is neither empty nor one of clap's own
 abbrev pub is_own : Text → Bool
@@ -38,7 +39,7 @@ flag_rule id letter = record (new_rule id) { short = letter; action = Some SetTr
 abbrev pub valued_rule : Text → Option ℕ → Rule
 valued_rule id letter = record (new_rule id) { short = letter; value_names = 1; action = Some Set }
 
--- a word without a letter, which clap answers
+-- a word without a letter
 abbrev pub request_rule : (id word : Text) → ArgAction → Rule
 request_rule id word action = record (new_rule id) { long = Some word; action = Some action }
 
@@ -117,6 +118,14 @@ dump_app = with_rule
 unfoldable pub edit_app : App
 edit_app = with_rule (plain_app (codes "rpcedit")) file_rule
 
+-- `--stdio`
+abbrev pub stdio_rule : Rule
+stdio_rule = request_rule (codes "stdio") (codes "stdio") SetTrue
+
+-- `rpcls [--help] [--version] [--stdio]`
+unfoldable pub serve_app : App
+serve_app = with_rule (plain_app (codes "rpcls")) stdio_rule
+
 -- The command was made by a chain of `.arg(..)` calls, which began with one that knows nothing, of arguments
 -- of these ids.
 pub record IsChain (ids : List Text) (cmd : Command) : Type 0 where
@@ -158,6 +167,10 @@ pub record IsGenArgs (rows : List Row) (args : GenArgs) : Type 0 where
 -- the value of `rpcedit`, as clap read it
 pub record IsEditArgs (rows : List Row) (args : EditArgs) : Type 0 where
   pub file : Some args.file.now ≡ first_of (codes "file") rows
+
+-- the word of `rpcls`, as clap read it
+pub record IsServeArgs (rows : List Row) (args : ServeArgs) : Type 0 where
+  pub stdio : args.stdio ≡ is_in_words (codes "stdio") rows
 
 -- the letters and values of `rpcdump`, as clap read them
 pub record IsDumpArgs (rows : List Row) (args : DumpArgs) : Type 0 where

@@ -22,8 +22,8 @@ pub fn plain_command<'a>(alloc: Global, name: &'a str) -> Result<Command<'a>, Al
         .arg(request(alloc, "asks_version", "version", ArgAction::Version))
 }
 
-/// A word without a letter, which clap answers in place of what it reads.
-fn request<'a>(alloc: Global, id: &'a str, word: &'a str, action: ArgAction) -> Arg<'a>
+/// A word without a letter.
+pub fn request<'a>(alloc: Global, id: &'a str, word: &'a str, action: ArgAction) -> Arg<'a>
     requires { is_own id.now ≡ true }
     ensures rule { rule_of result ≡ request_rule id.now word.now action }
     ensures fits { FitsChain result }

@@ -9,6 +9,7 @@ mod editing_args;
 mod generating_args;
 mod laws;
 mod manual;
+mod serving_args;
 mod status;
 mod words;
 
@@ -18,6 +19,7 @@ pub use dumping_args::{DumpArgs, Mode, dump_args, dump_mode};
 pub use editing_args::{EditArgs, edit_args};
 pub use generating_args::{GenArgs, gen_args, gen_mode};
 pub use laws::request_first;
-pub use manual::{Manual, RPCDUMP, RPCEDIT, RPCGEN, VERSION};
+pub use manual::{Manual, RPCDUMP, RPCEDIT, RPCGEN, RPCLS, VERSION};
+pub use serving_args::{ServeArgs, serve_args};
 pub use status::Status;
 pub use words::read_words;

@@ -85,3 +85,24 @@ Status: 0 done; 1 SCHEMA has faults, or a fault was shown; 2 the run could not
 be carried out.
 ",
 };
+
+/// What `rpcls` says of itself.
+pub const RPCLS: Manual<'static> = Manual {
+    name: "rpcls",
+    usage: "rpcls [--stdio]",
+    help: "\
+Serves an editor that has .x files of the Sun RPC language open, by the Language
+Server Protocol (LSP 3.17) on standard input and output: it follows each change
+and publishes what is wrong.
+
+  --stdio    as without it
+  --help     show this text
+  --version  show the version
+
+Example, a line for Neovim:
+  vim.lsp.start({ name = 'rpcls', cmd = { 'rpcls' } })
+
+Status: 0 the editor asked it to shut down and to exit; 1 it ended otherwise;
+2 the run could not be carried out.
+",
+};

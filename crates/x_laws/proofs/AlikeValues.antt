@@ -366,4 +366,6 @@ same_at s t (x ∷ xs) (y ∷ ys) [] after role h e =
 same_at s t (x ∷ xs) (y ∷ ys) (b ∷ bs) after role h e =
     let others : xs ≡ bs ++ (role ∷ after) = cc in
     let k = same_at s t xs ys bs after role h.1 others in
-    (y ∷ k.0, k.1, k.2, ap (λ l. y ∷ l) k.3, ap suc k.4, k.5)
+    let long : length bs ≡ length k.0 = k.4 in
+    let parts : ys ≡ k.0 ++ (k.1 ∷ k.2) = k.3 in
+    (y ∷ k.0, k.1, k.2, ap (λ l. y ∷ l) parts, ap suc long, k.5)

@@ -30,12 +30,12 @@ use Rattle.x_laws.proofs.UsedNumbers.{own_meant, value_number}
 
 -- ---- what is known behind some
 
-record IsKnownBehind (see : List ℕ → View) (ks : List Known) (before : Option ℤ) (es : List EnumeratorAt) : Type 0 where
-  rest : List Known
-  is : known_with see ks before es ≡ ks ++ rest
-  names : map (λ k. k.enumerator) rest ≡ es
+pub record IsKnownBehind (see : List ℕ → View) (ks : List Known) (before : Option ℤ) (es : List EnumeratorAt) : Type 0 where
+  pub rest : List Known
+  pub is : known_with see ks before es ≡ ks ++ rest
+  pub names : map (λ k. k.enumerator) rest ≡ es
 
-known_behind : (see : List ℕ → View) (ks : List Known) (before : Option ℤ) (es : List EnumeratorAt) → IsKnownBehind see ks before es
+pub known_behind : (see : List ℕ → View) (ks : List Known) (before : Option ℤ) (es : List EnumeratorAt) → IsKnownBehind see ks before es
 known_behind see ks before [] = record { rest = []; is = sym (append-nil ks); names = refl }
 known_behind see ks before (e ∷ es) =
     let k : Known = record { enumerator = e; number = number_of see ks before e } in
@@ -89,12 +89,12 @@ own_told definitions results item d e h told =
       kind_is = refl;
     }
 
-value_among : (v : tree.Value) → IsAmong (value_roles (EnumeratorValue v) v) (EnumeratorValue v)
+pub value_among : (v : tree.Value) → IsAmong (value_roles (EnumeratorValue v) v) (EnumeratorValue v)
 value_among (tree.Number t) = among_first (EnumeratorValue (tree.Number t)) []
 value_among (tree.Named t) = among_more (Mentions t uses.Value None) (EnumeratorValue (tree.Named t)) (EnumeratorValue (tree.Named t) ∷ []) (among_first (EnumeratorValue (tree.Named t)) [])
 
 -- by those that are known before a word the same numbers are named there as by all
-by_known : (see : List ℕ → View) (all ks rest : List Known) (limit : ℕ) (v : tree.Value) → all ≡ ks ++ rest → Ascends limit (map (λ k. k.enumerator) rest) → number_by see all limit v ≡ number_by see ks limit v
+pub by_known : (see : List ℕ → View) (all ks rest : List Known) (limit : ℕ) (v : tree.Value) → all ≡ ks ++ rest → Ascends limit (map (λ k. k.enumerator) rest) → number_by see all limit v ≡ number_by see ks limit v
 by_known see all ks rest limit (tree.Number t) is h = refl
 by_known see all ks rest limit (tree.Named n) is h =
     ap (λ l. number_seen (see n) (number_before l limit n)) is ∙ ap (number_seen (see n)) (before_front ks rest limit n (none_behind rest limit limit n (omega arith) h))

@@ -263,7 +263,7 @@ words_inside position around d = declaration_by glossed (Some (Inside position a
 declaration_long : (position : Position) (around : List ℕ) (d : tree.Declaration) → length (words_inside position around d) ≡ length (spell_declaration d)
 declaration_long position around d = long_as (words_inside position around d) (words_declaration (Some (Inside position around)) d)
 
-arms_long : (around : List ℕ) (as' : tree.Arms) → length (arms_by glossed (Some around) as') ≡ length (spell_arms as')
+pub arms_long : (around : List ℕ) (as' : tree.Arms) → length (arms_by glossed (Some around) as') ≡ length (spell_arms as')
 arms_long around tree.no_arm = refl
 arms_long around (tree.arm values d rest) =
     let cases = long_as (cases_by glossed true values) (words_cases true values) in

@@ -2,12 +2,15 @@ pub mod Alike
 pub mod AlikeProcedures
 pub mod AlikeSchemas
 pub mod AlikeValues
+pub mod BodyNames
 pub mod EnumNumbers
 pub mod EnumWords
 pub mod Faultless
+pub mod GoodNumbers
 pub mod Held
 pub mod Mentioned
 pub mod NoFaults
+pub mod NoTypedefs
 pub mod NumberFold
 pub mod NumberMeant
 pub mod OneAnswer
@@ -17,6 +20,7 @@ pub mod Paired
 pub mod SchemaNumbers
 pub mod SchemaTargets
 pub mod SchemaTypes
+pub mod TypeMeanings
 pub mod TypeTables
 pub mod TypeWords
 pub mod UsedNumbers

@@ -54,7 +54,7 @@ not_false : (a : Bool) → not a ≡ false → a ≡ true
 not_false true e = refl
 not_false false e = absurd cc
 
-used_type : (view : View) (before : Bool) (usage : Use) (tag : Option Tag) → (usage ≡ uses.Value → ⊥) → fault_of_use view before usage tag ≡ None → is_declared_as (suits tag) view ≡ true
+pub used_type : (view : View) (before : Bool) (usage : Use) (tag : Option Tag) → (usage ≡ uses.Value → ⊥) → fault_of_use view before usage tag ≡ None → is_declared_as (suits tag) view ≡ true
 used_type view before uses.Value tag type h = absurd (type refl)
 used_type view before uses.ByValue tag type h =
     not_false (is_declared_as (suits tag) view)
@@ -63,9 +63,17 @@ used_type view before uses.Link tag type h =
     not_false (is_declared_as (suits tag) view)
     (no_type_fault (is_unknown view) (is_no_type view uses.Link tag) (is_no_constant view uses.Link) (is_too_late view before uses.Link) (is_of_faulty view uses.Link) h)
 
-held_in_time : (view : View) (before : Bool) (tag : Option Tag) → fault_of_use view before uses.ByValue tag ≡ None → is_too_late view before uses.ByValue ≡ false
+pub held_in_time : (view : View) (before : Bool) (tag : Option Tag) → fault_of_use view before uses.ByValue tag ≡ None → is_too_late view before uses.ByValue ≡ false
 held_in_time view before tag h =
     not_late (is_unknown view) (is_no_type view uses.ByValue tag) (is_no_constant view uses.ByValue) (is_too_late view before uses.ByValue) (is_of_faulty view uses.ByValue) h
+
+no_faulty : (a b c d e : Bool) → FirstOf a b c d e ≡ None → e ≡ false
+no_faulty true b c d e h = absurd cc
+no_faulty false true c d e h = absurd cc
+no_faulty false false true d e h = absurd cc
+no_faulty false false false true e h = absurd cc
+no_faulty false false false false true h = absurd cc
+no_faulty false false false false false h = refl
 
 no_unknown : (a b c d e : Bool) → FirstOf a b c d e ≡ None → a ≡ false
 no_unknown true b c d e h = absurd cc
@@ -82,12 +90,14 @@ pub record IsValue (view : View) (before : Bool) : Type 0 where
   pub known : is_unknown view ≡ false
   pub constant : is_declared_as is_constant view ≡ true
   pub in_time : is_too_late view before uses.Value ≡ false
+  pub good : is_of_faulty view uses.Value ≡ false
 
 pub used_value : (view : View) (before : Bool) → fault_of_use view before uses.Value None ≡ None → IsValue view before
 used_value view before h = record {
   known = no_unknown (is_unknown view) false (is_no_constant view uses.Value) (is_too_late view before uses.Value) (is_of_faulty view uses.Value) h;
   constant = not_false (is_declared_as is_constant view) (no_other_fault (is_unknown view) false (is_no_constant view uses.Value) (is_too_late view before uses.Value) (is_of_faulty view uses.Value) h);
   in_time = not_late (is_unknown view) false (is_no_constant view uses.Value) (is_too_late view before uses.Value) (is_of_faulty view uses.Value) h;
+  good = no_faulty (is_unknown view) false (is_no_constant view uses.Value) (is_too_late view before uses.Value) (is_of_faulty view uses.Value) h;
 }
 
 mention_breaks : (d : Definition) (see : List ℕ → View) (faults : List WordFault) (m : Mention) (code named : RuleCode) → AreFaults d see faults → faults ≡ []
@@ -97,6 +107,11 @@ mention_breaks d see faults m code named are none told among fault same =
     among_none (record { word = m.word; code = named })
     (subst (λ fs. IsAmong fs (record { word = m.word; code = named })) none
     (told (record { mention = m; among = among; word_is = refl; fault = fault ∙ ap Some (sym same) })))
+
+-- a type that is held is none of a faulty item
+pub held_good : (view : View) (before : Bool) (tag : Option Tag) → fault_of_use view before uses.ByValue tag ≡ None → is_of_faulty view uses.ByValue ≡ false
+held_good view before tag h =
+    no_faulty (is_unknown view) (is_no_type view uses.ByValue tag) (is_no_constant view uses.ByValue) (is_too_late view before uses.ByValue) (is_of_faulty view uses.ByValue) h
 
 pub no_mention_fault : (d : Definition) (see : List ℕ → View) (faults : List WordFault) (m : Mention) → AreFaults d see faults → faults ≡ [] → IsAmong (mentioned d) m
     → mention_fault see (enumerators d) m ≡ None
@@ -116,7 +131,7 @@ no_mention_fault d see faults m are none among = by (mention_fault see (enumerat
 
 -- ---- what a view of a type tells
 
-suits_any : (tag : Option Tag) (kind : NameKind) → suits tag kind ≡ true → suits None kind ≡ true
+pub suits_any : (tag : Option Tag) (kind : NameKind) → suits tag kind ≡ true → suits None kind ≡ true
 suits_any None kind h = h
 suits_any (Some tags.Enum) kinds.Enum h = refl
 suits_any (Some tags.Struct) kinds.Struct h = refl
@@ -131,7 +146,7 @@ pub record IsViewed (definitions : List (Option Definition)) (name : List ℕ) :
   pub first : IsFirstDeclarer definitions name at
   pub is_type : suits None at.kind ≡ true
 
-same_kind : (read : ℕ → Option Outcome) (item : ℕ) (at : Declarer) (tag : Option Tag) → is_declared_as (suits tag) (view_of read item (Some at)) ≡ true → suits tag at.kind ≡ true
+pub same_kind : (read : ℕ → Option Outcome) (item : ℕ) (at : Declarer) (tag : Option Tag) → is_declared_as (suits tag) (view_of read item (Some at)) ≡ true → suits tag at.kind ≡ true
 same_kind read item at tag h = by (nat_lt at.item item) (nat_lt item at.item) h
   where
     by : (a b : Bool) → is_declared_as (suits tag) (cond a (Earlier at.kind at.lifted (meaning_at read at)) (cond b (Later at.kind at.lifted) (Own at.kind at.lifted))) ≡ true → suits tag at.kind ≡ true
@@ -139,7 +154,7 @@ same_kind read item at tag h = by (nat_lt at.item item) (nat_lt item at.item) h
     by false true k = k
     by false false k = k
 
-viewed : (definitions : List (Option Definition)) (read : ℕ → Option Outcome) (item : ℕ) (name : List ℕ) (tag : Option Tag)
+pub viewed : (definitions : List (Option Definition)) (read : ℕ → Option Outcome) (item : ℕ) (name : List ℕ) (tag : Option Tag)
     → is_declared_as (suits tag) (view_by definitions read item name) ≡ true → IsViewed definitions name
 viewed definitions read item name tag h = by (is_beforehand name) refl (first_from 0 definitions name) refl h
   where
@@ -152,13 +167,13 @@ viewed definitions read item name tag h = by (is_beforehand name) refl (first_fr
         let found = sym (ap (λ x. is_declared_as (suits tag) (view_of read item x)) f) ∙ k in
         record { at = at; declarable = e; found = f; first = found_is_first definitions name at f e; is_type = suits_any tag at.kind (same_kind read item at tag found) }
 
-view_found : (definitions : List (Option Definition)) (read : ℕ → Option Outcome) (item : ℕ) (name : List ℕ) (h : IsViewed definitions name)
+pub view_found : (definitions : List (Option Definition)) (read : ℕ → Option Outcome) (item : ℕ) (name : List ℕ) (h : IsViewed definitions name)
     → view_by definitions read item name ≡ view_of read item (Some h.at)
 view_found definitions read item name h =
     ap (λ b. cond b (Earlier kinds.Constant false (beforehand_meaning name)) (view_of read item (cond b None (first_from 0 definitions name)))) h.declarable
     ∙ ap (view_of read item) h.found
 
-declared_before : (read : ℕ → Option Outcome) (item : ℕ) (at : Declarer) (before : Bool) → is_too_late (view_of read item (Some at)) before uses.ByValue ≡ false → at.item < item
+pub declared_before : (read : ℕ → Option Outcome) (item : ℕ) (at : Declarer) (before : Bool) → is_too_late (view_of read item (Some at)) before uses.ByValue ≡ false → at.item < item
 declared_before read item at before h = by (nat_lt at.item item) refl (nat_lt item at.item) h
   where
     by : (a : Bool) → nat_lt at.item item ≡ a → (b : Bool)

@@ -66,12 +66,12 @@ quiet_most : (n : List ℕ) (most : Option tree.Value) → words_type n (most_by
 quiet_most n None = refl
 quiet_most n (Some v) = ap (λ b. b || false) (quiet_value n (GreatestSize v) v refl)
 
-quiet_length : (n : List ℕ) (length : tree.Length) → words_type n (length_by glossed true length) ≡ false
+pub quiet_length : (n : List ℕ) (length : tree.Length) → words_type n (length_by glossed true length) ≡ false
 quiet_length n (tree.Fixed v) = ap (λ b. b || false) (quiet_value n (FixedSize v) v refl)
 quiet_length n (tree.Variable None) = refl
 quiet_length n (tree.Variable (Some v)) = ap (λ b. b || false) (quiet_value n (GreatestSize v) v refl)
 
-name_words : (n : List ℕ) (roles : List Role) (name : List ℕ) (shape : tree.Shape) → words_type n (named_by glossed true roles name shape) ≡ roles_type n roles
+pub name_words : (n : List ℕ) (roles : List Role) (name : List ℕ) (shape : tree.Shape) → words_type n (named_by glossed true roles name shape) ≡ roles_type n roles
 name_words n roles name tree.Plain = or_false (roles_type n roles)
 name_words n roles name tree.Optional = or_false (roles_type n roles)
 name_words n roles name (tree.Array length) = ap (λ b. roles_type n roles || b) (quiet_length n length) ∙ or_false (roles_type n roles)
@@ -90,18 +90,18 @@ quiet_others n (e ∷ es) =
     let rest = quiet_others n es in
     words_append n (enumerator_by glossed true e) (other_enumerators_by glossed true es) ∙ (λ i. one i || rest i)
 
-quiet_enumerators : (n : List ℕ) (es : List tree.Enumerator) → words_type n (enumerators_by glossed true es) ≡ false
+pub quiet_enumerators : (n : List ℕ) (es : List tree.Enumerator) → words_type n (enumerators_by glossed true es) ≡ false
 quiet_enumerators n [] = refl
 quiet_enumerators n (e ∷ es) =
     let one = quiet_enumerator n e in
     let rest = quiet_others n es in
     words_append n (enumerator_by glossed true e) (other_enumerators_by glossed true es) ∙ (λ i. one i || rest i)
 
-quiet_cases : (n : List ℕ) (vs : List tree.Value) → words_type n (cases_by glossed true vs) ≡ false
+pub quiet_cases : (n : List ℕ) (vs : List tree.Value) → words_type n (cases_by glossed true vs) ≡ false
 quiet_cases n [] = refl
 quiet_cases n (v ∷ vs) = let one = quiet_value n (CaseValue v) v refl in let rest = quiet_cases n vs in λ i. one i || rest i
 
-quiet_leading : (n : List ℕ) (place : Site) (d : tree.Declaration) → roles_type n (leading_roles (Some place) d) ≡ false
+pub quiet_leading : (n : List ℕ) (place : Site) (d : tree.Declaration) → roles_type n (leading_roles (Some place) d) ≡ false
 quiet_leading n InTypedef d = refl
 quiet_leading n (Inside AsField around) d = refl
 quiet_leading n (Inside AsDiscriminant around) d = refl
@@ -114,7 +114,7 @@ quiet_bare : (n : List ℕ) (ms : List Mark) → words_type n (marks_bare ms) �
 quiet_bare n [] = refl
 quiet_bare n (m ∷ ms) = quiet_bare n ms
 
-quiet_marks : (n : List ℕ) (first : List Role) (ms : List Mark) → roles_type n first ≡ false → words_type n (marks_by glossed first ms) ≡ false
+pub quiet_marks : (n : List ℕ) (first : List Role) (ms : List Mark) → roles_type n first ≡ false → words_type n (marks_by glossed first ms) ≡ false
 quiet_marks n first [] e = refl
 quiet_marks n first (m ∷ ms) e = let rest = quiet_bare n ms in λ i. e i || rest i
 
@@ -224,7 +224,7 @@ quiet_arguments n (a ∷ rest) =
     let others = quiet_arguments n rest in
     words_append n (argument_by glossed true a) (others_by glossed true rest) ∙ (λ i. one i || others i)
 
-quiet_both : (n : List ℕ) (xs ys : List Gloss) → words_type n xs ≡ false → words_type n ys ≡ false → words_type n (xs ++ ys) ≡ false
+pub quiet_both : (n : List ℕ) (xs ys : List Gloss) → words_type n xs ≡ false → words_type n ys ≡ false → words_type n (xs ++ ys) ≡ false
 quiet_both n xs ys e k = words_append n xs ys ∙ (λ i. e i || k i)
 
 quiet_procedure : (n : List ℕ) (p : tree.Procedure) → words_type n (procedure_by glossed true p) ≡ false
@@ -241,7 +241,7 @@ quiet_procedures n (p ∷ ps) = quiet_both n (procedure_by glossed true p) (proc
 quiet_version : (n : List ℕ) (v : tree.Version) → words_type n (version_by glossed true v) ≡ false
 quiet_version n v = quiet_both n (procedures_by glossed true v.procedures) _ (quiet_procedures n v.procedures) refl
 
-quiet_versions : (n : List ℕ) (vs : List tree.Version) → words_type n (versions_by glossed true vs) ≡ false
+pub quiet_versions : (n : List ℕ) (vs : List tree.Version) → words_type n (versions_by glossed true vs) ≡ false
 quiet_versions n [] = refl
 quiet_versions n (v ∷ vs) = quiet_both n (version_by glossed true v) (versions_by glossed true vs) (quiet_version n v) (quiet_versions n vs)
 

@@ -32,7 +32,7 @@ use Rattle.x_laws.proofs.SchemaNumbers.{constant_seen, own_constant, own_meaning
 
 -- ---- enumerators before a word
 
-known_enumerators : (see : List ℕ → View) (ks : List Known) (before : Option ℤ) (es : List EnumeratorAt) → map (λ k. k.enumerator) (known_with see ks before es) ≡ map (λ k. k.enumerator) ks ++ es
+pub known_enumerators : (see : List ℕ → View) (ks : List Known) (before : Option ℤ) (es : List EnumeratorAt) → map (λ k. k.enumerator) (known_with see ks before es) ≡ map (λ k. k.enumerator) ks ++ es
 known_enumerators see ks before [] = sym (append-nil (map (λ k. k.enumerator) ks))
 known_enumerators see ks before (e ∷ es) =
     known_enumerators see (ks ++ record { enumerator = e; number = number_of see ks before e } ∷ []) (number_of see ks before e) es
@@ -83,12 +83,12 @@ earlier_same kinds.Union l m x = refl
 earlier_same kinds.Typedef l m x = refl
 earlier_same kinds.Program l m x = refl
 
-constant_kind : (k : NameKind) → is_constant k ≡ true → k ≡ kinds.Constant
+pub constant_kind : (k : NameKind) → is_constant k ≡ true → k ≡ kinds.Constant
 constant_kind kinds.Constant e = refl
 constant_kind k e = absurd cc
 
 -- an item behind all others sees every first declarer before it
-seen_behind : (definitions : List (Option Definition)) (read : ℕ → Option Outcome) (n : List ℕ) (at : Declarer) → IsFirstDeclarer definitions n at
+pub seen_behind : (definitions : List (Option Definition)) (read : ℕ → Option Outcome) (n : List ℕ) (at : Declarer) → IsFirstDeclarer definitions n at
     → view_by definitions read (length definitions) n ≡ Earlier at.kind at.lifted (meaning_at read at)
 seen_behind definitions read n at h =
     let within = get_within definitions at.item (Some h.declares.definition) h.declares.item_is in

@@ -1,6 +1,6 @@
 -- What names mean in a text without a fault, by who declares them first and what checking that item gives.
-use Rattle.std.specs.Prelude.{◌≡◌, ℕ, ℤ, true, List, [], ◌∷◌, length, map, Option, Some, None, slice_get}
-use Rattle.std.specs.Prelude.{option_and_then}
+use Rattle.std.specs.Prelude.{◌≡◌, ℕ, ℤ, Bool, true, List, [], ◌∷◌, length, map, Option, Some, None}
+use Rattle.std.specs.Prelude.{slice_get, option_and_then}
 use Rattle.std.specs.List.{IsAmong}
 use Rattle.x_trees.specs.Declarations.{name_of}
 use Rattle.x_trees.specs.Mentions.{Mention, mentioned}
@@ -11,7 +11,8 @@ use Rattle.x_names.specs.declared.names.Declarer.{Declarer}
 use Rattle.x_rules.specs.Mentioned.{suits}
 use Rattle.x_rules.specs.Constants.{number_seen}
 use Rattle.x_rules.specs.Results.{Outcome, result_at, view_by}
-use Rattle.x_rules.specs.Views.{View, seen}
+use Rattle.x_rules.specs.Views.{View, Class, Earlier, OfType, seen}
+use Rattle.x_trees.specs.declared.names.declared_name.NameKind.{NameKind}
 use Rattle.x_trees.specs.Seen.{names_of}
 use Rattle.x_schema.specs.Schema.{Schema}
 use Rattle.x_schema.specs.SchemaOf.{Known, IsDeclared, numbers_of, signed_word, typedefs, with_word}
@@ -25,6 +26,16 @@ pub record IsTypeName (definitions : List (Option Definition)) (name : List ℕ)
   pub at : Declarer
   pub first : IsFirstDeclarer definitions name at
   pub is_type : suits None at.kind ≡ true
+
+-- the name means a type in the whole text: an item behind all others sees it so
+pub record MeansType (definitions : List (Option Definition)) (results : List (Option Outcome))
+    (name : List ℕ) : Type 0 where
+  pub kind : NameKind
+  pub lifted : Bool
+  pub class : Class
+  pub height : ℕ
+  pub seen : view_by definitions (result_at results) (length definitions) name
+      ≡ Earlier kind lifted (OfType class height)
 
 -- what is known of the whole text: the numbers of its constants, and all types of the schema
 abbrev pub whole : List (Option Definition) → Schema → Known

@@ -23,7 +23,7 @@ ghost use Rattle.x_session.specs.LineAnswers.{IsLineAnswer};
 ghost use Rattle.x_session.specs.Script.{AreAnswered};
 ghost use Rattle.x_wire.specs.MessageTexts.{Told};
 ghost use Rattle.x_wire.specs.StreamTexts.{IsStreamText, IsTextOf};
-ghost use Rattle.x_laws.specs.Meant.{AreFaultless, IsAsDeclared, IsTypeName, IsUsedAsType};
+ghost use Rattle.x_laws.specs.Meant.{AreFaultless, IsAsDeclared, IsTypeName, IsUsedAsType, MeansType};
 ghost use Rattle.x_laws.specs.Meant.{number_meant, sees, words_meant};
 ghost use Rattle.x_laws.specs.Showing.{ShowsAlike, CallsAlike};
 
@@ -64,11 +64,15 @@ pub fn faultless_results()
 {}
 
 /// In a text without a fault a schema has a type of a name exactly where the name's first declarer declares
-/// it as a type, also as that of an inline type.
+/// it as a type, also as that of an inline type (`declared`); and that is where the name means a type by the
+/// rules (`meant`).
 pub fn schema_types()
-    ensures { (definitions : List (Option Definition)) (results : List (Option Outcome)) (s : Schema)
+    ensures declared { (definitions : List (Option Definition)) (results : List (Option Outcome)) (s : Schema)
         → AreResults definitions results → AreFaultless results → IsSchemaOf definitions s
         → (name : List ℕ) → IsSome (id_named s name) ↔ IsTypeName definitions name }
+    ensures meant { (definitions : List (Option Definition)) (results : List (Option Outcome)) (s : Schema)
+        → AreResults definitions results → AreFaultless results → IsSchemaOf definitions s
+        → (name : List ℕ) → IsSome (id_named s name) ↔ MeansType definitions results name }
 {}
 
 /// In a text without a fault a schema is made by the numbers that names mean by the rules (`names`). The

@@ -1,4 +1,4 @@
--- What a line of a script is answered, over a text and its items.
+-- What a line of a script is answered, over a text and its items, in one way (`one_answer` of `x_laws`).
 use Rattle.std.specs.Prelude.{◌≡◌, ◌<◌, ◌≤◌, ℕ, List, length, Some, None}
 use Rattle.x_session.specs.Answers.{Answer, answer, refused_by}
 use Rattle.x_session.specs.Commands.{command_of, dump_asked}

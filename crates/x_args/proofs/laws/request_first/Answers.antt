@@ -1,6 +1,6 @@
 use Rattle.std.proofs.Common.{refl}
 use Rattle.clap.proofs.OnLiterals.{clap_on_literals}
-use Rattle.x_args.specs.Args.{dump_app, edit_app, gen_app}
+use Rattle.x_args.specs.Args.{dump_app, edit_app, gen_app, serve_app}
 use Rattle.x_args.proofs.laws.request_first.Goals as goal
 
 pub returns-clause-rpcgen : goal.returns-clause-rpcgen
@@ -14,3 +14,7 @@ returns-clause-rpcedit c name rest = (refl, refl)
 pub returns-clause-rpcdump : goal.returns-clause-rpcdump
 unfolding dump_app clap_on_literals
 returns-clause-rpcdump c name rest = (refl, refl)
+
+pub returns-clause-rpcls : goal.returns-clause-rpcls
+unfolding serve_app clap_on_literals
+returns-clause-rpcls c name rest = (refl, refl)

@@ -1,0 +1,22 @@
+use Rattle.std.proofs.Common.{◌∙◌, inr, subst, w64}
+use Rattle.std.proofs.lemmas.Int.{to_z-of_z}
+use Rattle.std.specs.Prelude.{string_bytes}
+use Rattle.x_lsp.specs.Publishing.{Publishes}
+use Rattle.x_lsp.specs.Replies.{said_of}
+use Rattle.x_lsp.proofs.SaidLemmas.{no_memory_shown}
+use Rattle.x_lsp.proofs.server.Server.open_document.Goals as goal
+
+pub returns-then-is_err : goal.returns-then-is_err
+returns-then-is_err c = inr no_memory_shown
+
+pub returns-then-is_err-2 : goal.returns-then-is_err-2
+returns-then-is_err-2 c = inr no_memory_shown
+
+pub returns : goal.returns
+returns c =
+    let e = c.args.self.now.encoding in
+    let d = c.in-Ok.opened in
+    let said = said_of c.publish-reply.result in
+    subst (λ u. Publishes e u c.args.version c.args.text.now said) c.in-Ok.ensures.uri
+    (subst (λ v. Publishes e (string_bytes d.uri) v c.args.text.now said) (c.in-Ok.ensures.version ∙ to_z-of_z w64 c.args.version c.ranges.version)
+    (subst (λ t. Publishes e (string_bytes d.uri) d.version t said) c.in-Ok.ensures.text c.publish-reply.ensures))

@@ -1,0 +1,7 @@
+-- The documents that are open.
+use Rattle.std.specs.Prelude.{ℕ, List, not, filter, bytes_eq, string_bytes}
+use Rattle.x_lsp.specs.declared.document.OpenDocument.{OpenDocument}
+
+-- all but those of this name
+abbrev pub without : List ℕ → List OpenDocument → List OpenDocument
+without uri documents = filter (λ d. not (bytes_eq (string_bytes d.uri) uri)) documents

@@ -1,0 +1,15 @@
+pub mod Answers
+pub mod Changes
+pub mod Diagnostics
+pub mod Documents
+pub mod Encodings
+pub mod FeedStarts
+pub mod FrameSteps
+pub mod Framing
+pub mod KeptSaid
+pub mod LineStarts
+pub mod Messages
+pub mod Positions
+pub mod Publishing
+pub mod Replies
+pub mod Serving

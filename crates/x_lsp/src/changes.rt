@@ -1,0 +1,87 @@
+//! What a client does to a text.
+
+ghost use Rattle.std.specs.Prelude.{◌≡◌, OnErr, OnOk};
+ghost use Rattle.x_text.specs.Edits.{edited_by, Judges};
+ghost use Rattle.x_lsp.specs.Changes.{change_by};
+
+use crate::encoding::Encoding;
+use crate::positions::{Position, offset_of};
+use serde_json::Value;
+use x_session::{EditFault, Session, Work};
+use x_text::Edit;
+
+/// A part of a text.
+#[derive(Clone, Copy, Debug, PartialEq, Eq)]
+pub struct Range {
+    /// The position of its first character.
+    pub start: Position,
+    /// The position behind its last one.
+    pub end: Position,
+}
+
+/// A change of a text: another text takes the place of a range, or of all.
+#[derive(Clone, Copy, Debug)]
+pub struct TextChange<'m> {
+    /// The range; all where there is none.
+    pub range: Option<Range>,
+    /// The text that takes its place.
+    pub text: &'m str,
+}
+
+/// Carries a change out, and answers what work it took. After a fault the text is as before.
+pub fn apply_change(
+    session: &mut Session,
+    encoding: Encoding,
+    change: &TextChange,
+) -> Result<Work, EditFault>
+    ensures text { OnOk result
+        (session.new.text ≡ edited_by (change_by encoding session.old.text change.now)) }
+    ensures fault { Judges (change_by encoding session.old.text change.now) result }
+    ensures base { session.new.base ≡ session.old.base }
+    ensures same { OnErr result (session.new ≡ session.old) }
+{
+    let text = session.bytes();
+    let (start, end) = match &change.range {
+        None => (0, text.len()),
+        Some(range) => (
+            offset_of(encoding, text, range.start),
+            offset_of(encoding, text, range.end),
+        ),
+    };
+    let edit = Edit {
+        start,
+        end,
+        insert: change.text.as_bytes(),
+    };
+    session.apply(&edit)
+}
+
+/// The change that a client describes, if it does.
+pub(crate) fn text_change(change: &Value) -> Option<TextChange<'_>> {
+    let text = change.get("text")?.as_str()?;
+    let range = match change.get("range") {
+        None => None,
+        Some(range) => Some(range_of(range)?),
+    };
+    Some(TextChange { range, text })
+}
+
+/// The range that a client describes, if it does.
+fn range_of(range: &Value) -> Option<Range> {
+    Some(Range {
+        start: position_in(range.get("start")?)?,
+        end: position_in(range.get("end")?)?,
+    })
+}
+
+/// The position that a client describes, if it does.
+pub(crate) fn position_in(position: &Value) -> Option<Position> {
+    Some(Position {
+        line: number_in(position.get("line")?)?,
+        character: number_in(position.get("character")?)?,
+    })
+}
+
+fn number_in(number: &Value) -> Option<usize> {
+    Some(number.as_u64()? as usize)
+}

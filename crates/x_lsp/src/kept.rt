@@ -1,0 +1,102 @@
+//! What is kept to be said when memory runs out.
+
+ghost use Rattle.std.specs.Prelude.{◌≡◌, false, option_map};
+ghost use Rattle.serde_json.specs.View.{view};
+ghost use Rattle.serde_json.specs.Written.{has_float};
+ghost use Rattle.x_lsp.specs.Answers.{IsRefused, IsShown};
+ghost use Rattle.x_lsp.specs.KeptSaid.{no_memory_answer, no_memory_note};
+ghost use Rattle.x_lsp.specs.Replies.{said_of};
+
+use crate::answers::{ErrorCode, refusal, shown_text};
+use serde_json::Value;
+use std::alloc::{AllocError, Global};
+use x_session::EditFault;
+
+/// What is said to a message.
+#[derive(Drop)]
+pub enum Reply {
+    /// Nothing.
+    Nothing,
+    /// A text.
+    Text(Vec<u8>),
+    /// That memory ran out, as an answer to a request.
+    NoMemoryAnswer,
+    /// That memory ran out, as a note.
+    NoMemoryNote,
+}
+
+/// Why a change is refused.
+#[derive(Clone, Copy, Debug, PartialEq, Eq)]
+pub(crate) enum ChangeFault {
+    /// The text does not take it.
+    Edit(EditFault),
+    /// An earlier change was refused, and this one is not of the whole text.
+    OutOfStep,
+}
+
+/// The texts that tell that memory ran out, made before it does.
+#[derive(Drop)]
+pub(crate) struct KeptTexts {
+    answer: Vec<u8>,
+    note: Vec<u8>,
+    ghost answer_is: { answer.items ≡ no_memory_answer },
+    ghost note_is: { note.items ≡ no_memory_note },
+}
+
+impl KeptTexts {
+    /// The texts.
+    pub(crate) fn new(alloc: Global) -> Result<KeptTexts, AllocError> {
+        Ok(KeptTexts {
+            answer: refusal(alloc, &Value::Null, ErrorCode::InternalError)?,
+            note: shown_text(alloc, "out of memory")?,
+        })
+    }
+
+    /// The text of a reply, if it has one.
+    pub(crate) fn text_of<'r>(&'r self, reply: &'r Reply) -> Option<&'r [u8]>
+        ensures { option_map (λ text. text.now) result ≡ said_of reply.now }
+    {
+        match reply {
+            Reply::Nothing => None,
+            Reply::Text(text) => Some(text.as_slice()),
+            Reply::NoMemoryAnswer => Some(self.answer.as_slice()),
+            Reply::NoMemoryNote => Some(self.note.as_slice()),
+        }
+    }
+}
+
+/// The answer that refuses the request with this id.
+pub(crate) fn refused(alloc: Global, id: &Value, code: ErrorCode) -> Reply
+    requires { has_float (view id.now) ≡ false }
+    ensures { IsRefused (view id.now) code (said_of result) }
+{
+    match refusal(alloc, id, code) {
+        Ok(text) => Reply::Text(text),
+        Err(_) => Reply::NoMemoryAnswer,
+    }
+}
+
+/// The note that shows a text to the user.
+pub(crate) fn shown(alloc: Global, text: &str) -> Reply
+    ensures { IsShown (said_of result) }
+{
+    match shown_text(alloc, text) {
+        Ok(text) => Reply::Text(text),
+        Err(_) => Reply::NoMemoryNote,
+    }
+}
+
+/// The note that tells the user why a document is not what the client has.
+pub(crate) fn told(alloc: Global, fault: ChangeFault) -> Reply
+    ensures { IsShown (said_of result) }
+{
+    match fault {
+        ChangeFault::OutOfStep => shown(
+            alloc,
+            "an earlier change was refused: open the document again",
+        ),
+        ChangeFault::Edit(EditFault::BadRange) => shown(alloc, "a change was refused: 1 BadRange"),
+        ChangeFault::Edit(EditFault::TooLarge) => shown(alloc, "a text was refused: 2 TooLarge"),
+        ChangeFault::Edit(EditFault::NoMemory) => Reply::NoMemoryNote,
+    }
+}

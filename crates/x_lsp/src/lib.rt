@@ -1,0 +1,36 @@
+//! A language server of `.x` files (LSP 3.17): messages behind one another, positions in a text, the changes
+//! that a client makes of it, and what is said to each message.
+#![tactic(auto)]
+
+mod answers;
+mod base;
+mod capabilities;
+mod changes;
+mod diagnostics;
+mod document;
+mod encoding;
+mod fault_places;
+mod framing;
+mod head;
+mod kept;
+mod laws;
+mod messages;
+mod params;
+mod places;
+mod positions;
+mod running;
+mod sentences;
+mod server;
+mod serving;
+
+pub use changes::{Range, TextChange, apply_change};
+pub use diagnostics::publish;
+pub use encoding::Encoding;
+pub use framing::{FrameFault, FrameFound, MOST_BODY, MOST_HEAD, MessageReader};
+pub use kept::Reply;
+pub use laws::positions_lead_back;
+pub use places::Places;
+pub use positions::{Position, offset_of};
+pub use running::serve_run;
+pub use server::Server;
+pub use serving::{ServeFault, serve};

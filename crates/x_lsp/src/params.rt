@@ -1,0 +1,44 @@
+//! What the parameters of notifications say.
+
+use crate::changes::{TextChange, text_change};
+use serde_json::Value;
+use std::alloc::{AllocError, Global};
+
+/// The name, the version and the text of a document that is opened.
+pub(crate) fn opened_in(params: Option<&Value>) -> Option<(&str, i64, &str)> {
+    let document = params?.get("textDocument")?;
+    let uri = document.get("uri")?.as_str()?;
+    let version = document.get("version")?.as_i64()?;
+    let text = document.get("text")?.as_str()?;
+    Some((uri, version, text))
+}
+
+/// The name of a document that is changed, its version then, and the changes.
+pub(crate) fn changed_in(params: Option<&Value>) -> Option<(&str, i64, &Vec<Value>)> {
+    let params = params?;
+    let document = params.get("textDocument")?;
+    let uri = document.get("uri")?.as_str()?;
+    let version = document.get("version")?.as_i64()?;
+    let changes = params.get("contentChanges")?.as_array()?;
+    Some((uri, version, changes))
+}
+
+/// The changes that a client describes; none where one of them is not understood.
+pub(crate) fn text_changes(
+    alloc: Global,
+    changes: &Vec<Value>,
+) -> Result<Option<Vec<TextChange<'_>>>, AllocError> {
+    let mut list = Vec::new(alloc);
+    for change in changes {
+        let Some(change) = text_change(change) else {
+            return Ok(None);
+        };
+        list.push(change)?;
+    }
+    Ok(Some(list))
+}
+
+/// The name of a document.
+pub(crate) fn uri_in(params: Option<&Value>) -> Option<&str> {
+    params?.get("textDocument")?.get("uri")?.as_str()
+}
