@@ -1,3 +1,4 @@
+//! Each law called once.
 use x_laws::{
     faultless_results, one_answer, one_dump, one_showing, schema_numbers, schema_targets,
     schema_types,
