@@ -163,7 +163,7 @@ framed() {
 }
 
 # bodies: the bodies of the messages that come, one a line.
-bodies() { tr -d '\r' | sed -e 's/Content-Length: [0-9]*$//' -e '/^$/d'; }
+bodies() { tr -d '\r' | sed -e 's/Content-Length: [0-9]*$//' -e '/^$/d' | sed '$a\'; }
 
 # serve TEXT..: what rpcls says to these messages, one a line; with its status where that is not 0.
 serve() {

@@ -1,0 +1,68 @@
+use std::test::Fail;
+use x_lsp::{
+    Encoding, MessageReader, Places, Position, Server, TextChange, apply_change, offset_of,
+    positions_lead_back, publish, serve,
+};
+use x_session::Session;
+use x_text::{MAX_TEXT, MemSink, MemTap};
+
+/// A message that ends a server.
+const EXIT: &[u8] = b"Content-Length: 33\r\n\r\n{\"jsonrpc\":\"2.0\",\"method\":\"exit\"}";
+
+#[test]
+fn positions_and_places(rt: HostRuntime) {
+    positions_lead_back();
+    let text = "a\r\n\u{e9}b".as_bytes();
+    let position = Places::of(Encoding::Utf16, text).position(5);
+    assert!(rt;
+        position
+            == Position {
+                line: 1,
+                character: 1
+            }
+    );
+    assert!(rt; offset_of(Encoding::Utf16, text, position) == 5);
+    assert!(rt; offset_of(Encoding::Utf8, text, position) == 3);
+}
+
+#[test]
+fn a_change_is_published(rt: HostRuntime) -> Result<(), Fail> {
+    let alloc = rt.alloc();
+    let mut session = Session::open(alloc, b"t", b"const A = 1;")?;
+    let whole = TextChange {
+        range: None,
+        text: "x",
+    };
+    apply_change(&mut session, Encoding::Utf8, &whole)?;
+    assert!(rt; session.bytes() == b"x".as_slice());
+    assert!(rt; published_length(&rt, &session)? > 200);
+    Ok(())
+}
+
+fn published_length(rt: &HostRuntime, session: &Session) -> Result<usize, Fail> {
+    if session.bytes().len() > MAX_TEXT {
+        return Ok(0);
+    }
+    Ok(publish(rt.alloc(), Encoding::Utf8, "t.x", 1, session)?.len())
+}
+
+#[test]
+fn a_server_ends(rt: HostRuntime) -> Result<(), Fail> {
+    let mut server = Server::new(rt.alloc())?;
+    let reply = server.reply(b"{\"id\":1,\"method\":\"shutdown\"}");
+    assert!(rt; server.text_of(&reply).is_some());
+    assert!(rt; server.end().is_none());
+    let mut tap = MemTap::new(EXIT, 3, 1000);
+    let mut reader = MessageReader::new(rt.alloc());
+    assert!(rt; reader.next(&mut tap).is_ok());
+    assert!(rt; reader.body().len() == 33);
+    Ok(())
+}
+
+#[test]
+fn a_conversation_ends(rt: HostRuntime) {
+    let mut bytes = [0u8; 16];
+    let mut sink = MemSink::new(&mut bytes, 3, 16);
+    let mut tap = MemTap::new(EXIT, 3, 1000);
+    assert!(rt; serve(rt.alloc(), &mut tap, &mut sink) == Ok(false));
+}

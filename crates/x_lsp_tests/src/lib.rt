@@ -1,0 +1,5 @@
+//! Tests of `x_lsp` by its public calls: what no contract says and no program shows.
+#![tactic(auto)]
+
+#[cfg(test)]
+mod calls;
