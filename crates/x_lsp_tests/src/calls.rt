@@ -1,3 +1,4 @@
+//! Each public call of `x_lsp` once.
 use std::test::Fail;
 use x_lsp::{
     Encoding, MessageReader, Places, Position, Server, TextChange, apply_change, offset_of,
