@@ -20,7 +20,7 @@ use Rattle.x_rules.specs.Bodies.{BodyAt, EnumeratorAt, enumerators, enumerators_
 use Rattle.x_rules.specs.Constants.{Known, is_declared_before, known_with, knowns, limit_of, number_at, number_before, number_by, number_given, number_of, number_seen}
 use Rattle.x_rules.specs.Mentioned.{is_of_faulty, is_unknown}
 use Rattle.x_rules.specs.Results.{Outcome, AreResults, constant_number, constant_of, meaning_at, meaning_of, result_at, view_by, view_of, beforehand_meaning}
-use Rattle.x_rules.specs.Rules.{HasRole, IsReadFault, IsNoConstant, IsNoEnumValue}
+use Rattle.x_rules.specs.Rules.{HasRole, IsFault, IsNoConstant, IsNoEnumValue}
 use Rattle.x_rules.specs.Views.{Constant, Earlier, Own, Later, Undeclared}
 use Rattle.x_rules.specs.declared.fault.RuleCode.{RuleCode}
 use Rattle.x_rules.specs.declared.fault.RuleCode.TheVariants as rule_codes
@@ -59,7 +59,7 @@ pub record IsFine (definitions : List (Option Definition)) (results : List (Opti
   pub there : slice_get definitions item ≡ Some (Some d)
 
 pub no_fault : (definitions : List (Option Definition)) (results : List (Option Outcome)) (item : ℕ) (d : Definition) (word : ℕ) (code : RuleCode) → IsFine definitions results item d
-    → IsReadFault d (sees definitions results item d) word code → ⊥
+    → IsFault d (sees definitions results item d) word code → ⊥
 no_fault definitions results item d word code h fault =
     let o = outcome_of definitions results item d h.are h.there in
     among_none (record { word = word; code = code })

@@ -5,7 +5,7 @@ use Rattle.x_lex.specs.declared.mark.Mark.{Mark}
 use Rattle.x_lex.specs.declared.mark.Mark.TheVariants.{Semicolon}
 use Rattle.x_trees.specs.Tree as tree
 use Rattle.x_trees.specs.Words.{Fixed}
-use Rattle.x_trees.specs.Gloss.{Position, AsField, AsDiscriminant, AsArm, Place, InTypedef, Inside, Role, Declares, ConstantValue, EnumeratorValue, CaseValue, FixedSize, GreatestSize, VoidResult, VoidArgument, Gloss, glossed, gloss, value_roles, leading_roles, lifted_name, lifted_roles, basic_marks, body_kind, use_by, marks_by, most_by, length_by, named_by, given_by, enumerator_by, other_enumerators_by, enumerators_by, cases_by, type_by, body_by, declaration_by, declarations_by, arms_by, default_by, argument_by, passed_by, others_by, procedure_by, procedures_by, version_by, versions_by, told_of}
+use Rattle.x_trees.specs.Gloss.{Position, AsField, AsDiscriminant, AsArm, Site, InTypedef, Inside, Role, Declares, ConstantValue, EnumeratorValue, CaseValue, FixedSize, GreatestSize, VoidResult, VoidArgument, Gloss, glossed, gloss, value_roles, leading_roles, lifted_name, lifted_roles, basic_marks, body_kind, use_by, marks_by, most_by, length_by, named_by, given_by, enumerator_by, other_enumerators_by, enumerators_by, cases_by, type_by, body_by, declaration_by, declarations_by, arms_by, default_by, argument_by, passed_by, others_by, procedure_by, procedures_by, version_by, versions_by, told_of}
 use Rattle.x_trees.specs.Names.{Declared, declared, declared_at}
 use Rattle.x_trees.specs.declared.names.declared_name.NameKind.{NameKind}
 use Rattle.x_trees.specs.declared.names.declared_name.NameKind.TheVariants as kinds
@@ -86,7 +86,7 @@ marks : (first : List Role) (ms : List Mark) → roles_are first ≡ false → w
 marks first [] e = refl
 marks first (m ∷ ms) e = next first _ e (bare_marks ms)
 
-leading : (place : Place) (d : tree.Declaration) → roles_are (leading_roles (Some place) d) ≡ false
+leading : (place : Site) (d : tree.Declaration) → roles_are (leading_roles (Some place) d) ≡ false
 leading InTypedef d = refl
 leading (Inside AsField around) d = refl
 leading (Inside AsDiscriminant around) d = refl

@@ -22,7 +22,7 @@ use Rattle.x_rules.specs.Constants.{Known, is_declared_before, knowns, limit_of,
 use Rattle.x_rules.specs.Mentioned.{fault_of_use, is_declared_as, is_of_faulty, is_too_late, suits}
 use Rattle.x_rules.specs.Results.{Outcome, AreResults, beforehand_meaning, constant_of, constant_number, meaning_as, meaning_at, result_at, type_defined, type_named, type_of, view_by, view_of}
 use Rattle.x_rules.specs.Types.{Sight, basic_class, body_class, body_height, declaration_class, enum_number, held_height, if_all, number_set, type_seen}
-use Rattle.x_rules.specs.Views.{View, Class, NoClass, Enumeration, Meaning, Constant, OfType, Program, Bad, Undeclared, Earlier, Own, Later}
+use Rattle.x_rules.specs.Views.{View, Class, Other, Enumeration, Meaning, Constant, OfType, Program, Bad, Undeclared, Earlier, Own, Later}
 use Rattle.x_trees.specs.Spell.{spell_body, spell_enumerator}
 use Rattle.x_schema.specs.Schema.{Schema, id_named}
 use Rattle.x_schema.specs.Schemas.{IsSchemaOf}
@@ -90,8 +90,8 @@ body_known : (definitions : List (Option Definition)) (results : List (Option Ou
 body_known definitions results item d b h among = by b.body refl
   where
     by : (body : tree.Body) → b.body ≡ body → IsKnown (body_class (knowns (sees definitions results item d) (enumerators d)) body)
-    by (tree.Struct ds) e = (NoClass, refl)
-    by (tree.Union x arms other) e = (NoClass, refl)
+    by (tree.Struct ds) e = (Other, refl)
+    by (tree.Union x arms other) e = (Other, refl)
     by (tree.Enum es) e =
         let see = sees definitions results item d in
         let parts = among_parted (bodies d) b among in
@@ -223,10 +223,10 @@ defined_known definitions results item (tree.Of (tree.Tagged tag n) name tree.Pl
 defined_known definitions results item (tree.Of (tree.Inline body) name tree.Plain) h some =
     body_known definitions results item (tree.Typedef (tree.Of (tree.Inline body) name tree.Plain)) (own_body body) h
     (among_rear (bodies_inside 2 body) (own_body body ∷ []) (own_body body) (among_first (own_body body) []))
-defined_known definitions results item (tree.Of type name tree.Optional) h some = (NoClass, refl)
-defined_known definitions results item (tree.Of type name (tree.Array l)) h some = (NoClass, refl)
-defined_known definitions results item (tree.Opaque name l) h some = (NoClass, refl)
-defined_known definitions results item (tree.String name most) h some = (NoClass, refl)
+defined_known definitions results item (tree.Of type name tree.Optional) h some = (Other, refl)
+defined_known definitions results item (tree.Of type name (tree.Array l)) h some = (Other, refl)
+defined_known definitions results item (tree.Opaque name l) h some = (Other, refl)
+defined_known definitions results item (tree.String name most) h some = (Other, refl)
 
 typedef_known : (definitions : List (Option Definition)) (results : List (Option Outcome)) (item : ℕ) (d : Definition) (x : Declared) → IsFine definitions results item d → IsAmong (declared d) x → IsTypedef d
     → IsType (type_defined (sees definitions results item d) (knowns (sees definitions results item d) (enumerators d)) d)
