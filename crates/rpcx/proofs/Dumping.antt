@@ -6,7 +6,7 @@ use Rattle.x_text.specs.Streams.{Stream}
 use Rattle.x_text.specs.declared.text.source.TheConstants.{MAX_TEXT}
 use Rattle.x_schema.specs.Schema.{Schema}
 use Rattle.x_session.specs.Session.{Compiles}
-use Rattle.x_session.specs.Compile.{faults_of}
+use Rattle.x_compile.specs.Compile.{faults_of}
 use Rattle.x_session.specs.Typed.{GivesSchema}
 use Rattle.x_text.specs.declared.streams.outcome.Outcome.{Outcome}
 use Rattle.x_session.specs.declared.session.Session.{Session}

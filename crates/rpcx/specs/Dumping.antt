@@ -8,10 +8,10 @@ use Rattle.x_schema.specs.Schema.{Schema, id_named}
 use Rattle.x_schema.specs.Schemas.{IsSchemaOf}
 use Rattle.x_schema.specs.declared.schema.TypeId.{TypeId}
 use Rattle.x_session.specs.Session.{Compiles}
-use Rattle.x_session.specs.Compile.{definitions_of, faults_of}
+use Rattle.x_compile.specs.Compile.{definitions_of, faults_of}
 use Rattle.x_text.specs.Engines.{NamesCause}
 use Rattle.x_value.specs.ValueTexts.{WritesValue}
-use Rattle.x_session.specs.declared.compile.fault.Fault.{Fault}
+use Rattle.x_compile.specs.declared.fault.Fault.{Fault}
 use Rattle.x_text.specs.declared.streams.outcome.Outcome.{Outcome}
 use Rattle.x_text.specs.declared.streams.outcome.Outcome.TheVariants.{Clean, Refused}
 use Rattle.x_text.specs.declared.streams.outcome.EngineFault.{EngineFault}

@@ -5,10 +5,10 @@ use Rattle.std.specs.Prelude.{Result, IfOk, OnOk, IfErr, IsErrOf}
 use Rattle.std.specs.List.{after_last, flat_map}
 use Rattle.std.specs.Str.{bytes_eq}
 use Rattle.x_text.specs.Streams.{Stream}
-use Rattle.x_session.specs.declared.compile.fault.Fault.{Fault}
+use Rattle.x_compile.specs.declared.fault.Fault.{Fault}
 use Rattle.x_session.specs.Session.{Compiles, Document}
-use Rattle.x_session.specs.Compile.{faults_of}
-use Rattle.x_session.specs.Faults.{fault_text}
+use Rattle.x_compile.specs.Compile.{faults_of}
+use Rattle.x_compile.specs.Faults.{fault_text}
 use Rattle.x_text.specs.declared.streams.outcome.EngineFault.{EngineFault}
 use Rattle.x_text.specs.declared.streams.outcome.EngineFault.TheVariants.{Read, Write, NoMemory}
 use Rattle.x_session.specs.Answers.{fault_place}

@@ -5,7 +5,7 @@ use Rattle.x_item.specs.Parse.{Parse, Nothing, Def, Fault}
 use Rattle.x_lex.specs.Places.{Lexeme}
 use Rattle.x_rules.specs.Results.{Outcome}
 use Rattle.x_rules.specs.declared.fault.WordFault.{WordFault}
-use Rattle.x_session.specs.Compile.{Item, at_token, faults_at, faults_from, faults_of, item_faults, placed, rule_faults, token_faults}
+use Rattle.x_compile.specs.Compile.{Item, at_token, faults_at, faults_from, faults_of, item_faults, placed, rule_faults, token_faults}
 use Rattle.x_laws.specs.Meant.{AreFaultless}
 
 front_empty : {X : Type 0} (xs ys : List X) → xs ++ ys ≡ [] → xs ≡ []

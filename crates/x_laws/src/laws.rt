@@ -18,7 +18,7 @@ ghost use Rattle.x_schema.specs.declared.schema.NamedType.{NamedType};
 ghost use Rattle.x_schema.specs.declared.schema.TypeId.{TypeId};
 ghost use Rattle.x_schema.specs.declared.procedure.ProcedureNumbers.{ProcedureNumbers};
 ghost use Rattle.x_session.specs.Answers.{Answer};
-ghost use Rattle.x_session.specs.Compile.{Item, faults_of};
+ghost use Rattle.x_compile.specs.Compile.{Item, faults_of};
 ghost use Rattle.x_session.specs.LineAnswers.{IsLineAnswer};
 ghost use Rattle.x_session.specs.Script.{AreAnswered};
 ghost use Rattle.x_wire.specs.MessageTexts.{Told};

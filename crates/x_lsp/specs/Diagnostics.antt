@@ -10,10 +10,10 @@ use Rattle.serde_json.specs.View.{items_of}
 use Rattle.serde_json.specs.Written.{compact_text}
 use Rattle.x_lex.specs.declared.kind.Kind.{Kind}
 use Rattle.x_lex.specs.Places.{IsTokenAt}
-use Rattle.x_session.specs.declared.compile.fault.Fault.{Fault}
-use Rattle.x_session.specs.declared.compile.fault.FaultCode.{FaultCode}
-use Rattle.x_session.specs.Compile.{faults_of}
-use Rattle.x_session.specs.Faults.{fault_text}
+use Rattle.x_compile.specs.declared.fault.Fault.{Fault}
+use Rattle.x_compile.specs.declared.fault.FaultCode.{FaultCode}
+use Rattle.x_compile.specs.Compile.{faults_of}
+use Rattle.x_compile.specs.Faults.{fault_text}
 use Rattle.x_session.specs.Session.{Compiles}
 use Rattle.x_lsp.specs.declared.encoding.Encoding.{Encoding}
 use Rattle.x_lsp.specs.declared.positions.Position.{Position}

@@ -1,20 +1,16 @@
 -- The definitions of a text, listed item by item.
 use Rattle.std.proofs.Common.{◌≡◌, ℕ, zero, suc, true, false, ◌+◌, ◌≤◌, List, [], ◌∷◌, drop, length, Option, None, Some, refl, sym, ap, subst, ◌∙◌, arith}
 use Rattle.x_text.specs.Streams.{Stream}
-use Rattle.std.specs.Borrow.{Bor}
 use Rattle.std.specs.Prelude.{slice_get, option_and_then}
-use Rattle.std.specs.Option.{is_some}
-use Rattle.x_trees.specs.declared.trees.definition.Definition as rust
-use Rattle.x_trees.specs.View.{tree_at}
 use Rattle.std.specs.List.{flat_map}
 use Rattle.x_text.specs.Writing.{Inked, Adds}
 use Rattle.x_lex.specs.declared.kind.Kind.{Kind}
 use Rattle.x_trees.specs.Tree.{Definition}
-use Rattle.x_session.specs.Compile.{Item, IsCompilation, definitions_of, definition_at}
-use Rattle.x_session.specs.Definitions.{numbered}
+use Rattle.x_compile.specs.Compile.{Item, IsCompilation, definitions_of, definition_at}
+use Rattle.x_compile.specs.Definitions.{numbered}
 use Rattle.x_session.specs.Answers.{definition_line}
 use Rattle.x_session.specs.Session.{Compiles}
-use Rattle.x_session.proofs.Compiled.{one_compilation}
+use Rattle.x_compile.proofs.Compiled.{one_compilation}
 use Rattle.x_text.proofs.ListLemmas.{drop_none}
 use Rattle.x_text.proofs.Listing.{HasListed, lists_none, lists_more, lists_all}
 
@@ -99,21 +95,3 @@ definitions_all text n count p q a b over c h =
     let long : length ds ≡ count = length-definitions h.items ∙ sym (c.3 ∙ ap length same) in
     let none = ap (numbered n) (drop_none ds n (omega (arith, over, long))) in
     (h.tokens, h.items, h.compiles, lists_all definition_line (numbered 0 ds) (numbered n (drop n ds)) p q a b none h.listed)
-
--- ---- how many there are
-
-many_numbered : (n m : ℕ) (ds : List (Option Definition)) → length (numbered n ds) ≡ length (numbered m ds)
-many_numbered n m [] = refl
-many_numbered n m (None ∷ ds) = many_numbered (suc n) (suc m) ds
-many_numbered n m (Some d ∷ ds) = ap suc (many_numbered (suc n) (suc m) ds)
-
-pub count_none : (d : Option Definition) (ds : List (Option Definition)) (lent : Option (Bor rust.Definition)) → tree_at lent ≡ d → false ≡ is_some lent → length (numbered 0 (d ∷ ds)) ≡ length (numbered 0 ds)
-count_none d ds None same none = ap (λ x. length (numbered 0 (x ∷ ds))) (sym same) ∙ many_numbered 1 0 ds
-count_none d ds (Some r) same none = absurd (cc)
-
-pub count_some : (d : Option Definition) (ds : List (Option Definition)) (lent : Option (Bor rust.Definition)) → tree_at lent ≡ d → true ≡ is_some lent → length (numbered 0 (d ∷ ds)) ≡ 1 + length (numbered 0 ds)
-count_some d ds None same some = absurd (cc)
-count_some d ds (Some r) same some =
-    let here = ap (λ x. length (numbered 0 (x ∷ ds))) (sym same) in
-    let others = many_numbered 1 0 ds in
-    omega (arith, here, others)

@@ -9,7 +9,7 @@ use Rattle.x_session.specs.Answers.{Answer}
 use Rattle.x_session.specs.LineAnswers.{IsLineAnswer}
 use Rattle.x_lines.specs.Lines.{Reading, IsUnread, script_lines}
 use Rattle.x_lex.specs.declared.kind.Kind.{Kind}
-use Rattle.x_session.specs.Compile.{Item, IsCompilation}
+use Rattle.x_compile.specs.Compile.{Item, IsCompilation}
 use Rattle.x_lines.specs.declared.lines.State.TheVariants.{Between}
 use Rattle.x_session.specs.Script.{then_answer, LineAnswers, AreAnswered, IsGiven, HasGiven, IsAsBefore, HasRun, HasStopped, HasFailed, IsFrontOf, AddsIfFound}
 use Rattle.x_text.specs.Engines.{WorksOn}

@@ -12,7 +12,7 @@ use Rattle.x_value.specs.Shown.{Node}
 use Rattle.x_value.specs.declared.fault.ReadCode.{ReadCode}
 use Rattle.x_value.specs.declared.fault.ReadCode.TheVariants as codes_of
 use Rattle.x_session.specs.Answers.{Answer, answered, refused, refused_by}
-use Rattle.x_session.specs.Compile.{Item}
+use Rattle.x_compile.specs.Compile.{Item}
 use Rattle.x_session.specs.Refusals.{refusal_line}
 use Rattle.x_session.specs.Script.{AddsAnswer, TellsOver}
 use Rattle.x_session.specs.declared.script.refusal.LineRefusal.TheVariants as refusals

@@ -29,68 +29,23 @@ use Rattle.x_rules.proofs.AmongLemmas.{among_first, among_more}
 use Rattle.x_recheck.specs.Editing.{TextEdit, definitions_after}
 use Rattle.x_uses.specs.Occurrences.{UseTable}
 use Rattle.x_recheck.specs.Staleness.{AreStale, Ascending}
-use Rattle.x_session.specs.Checking.{AreChecked}
-use Rattle.x_session.specs.Following.{AreUsed, IsPlan, behind, edit_of}
-use Rattle.x_session.specs.KeptView.{AreWith, entry_definitions, found_result, kept_definition}
-use Rattle.x_session.specs.Moves.{changed_items, moves, place_of, seat_behind}
-use Rattle.x_session.specs.Planned.{numbers_of}
+use Rattle.x_compile.specs.Checking.{AreChecked}
+use Rattle.x_follow.specs.Following.{AreUsed, IsPlan, behind, edit_of}
+use Rattle.x_compile.specs.KeptView.{AreWith, entry_definitions, found_result, kept_definition}
+use Rattle.x_follow.specs.Moves.{changed_items, moves, place_of, seat_behind}
+use Rattle.x_follow.specs.Planned.{numbers_of}
 use Rattle.x_session.specs.Session.{Document, LeavesText}
-use Rattle.x_session.specs.SessionState.{IsKept, items_of}
+use Rattle.x_compile.specs.KeptText.{IsKept, items_of}
 use Rattle.x_session.specs.Work.{AreStaleItems, AreWorks, IsWork, IsWorkOfAll, definitions_edit}
-use Rattle.x_session.specs.declared.compile.content.CheckResult.{CheckResult}
-use Rattle.x_session.specs.declared.compile.content.Content.{Content}
-use Rattle.x_session.specs.declared.compile.content.PlannedResult.{PlannedResult}
-use Rattle.x_session.specs.declared.following.Plan.{Plan}
+use Rattle.x_compile.specs.declared.content.CheckResult.{CheckResult}
+use Rattle.x_compile.specs.declared.content.Content.{Content}
+use Rattle.x_follow.specs.declared.planned.PlannedResult.{PlannedResult}
+use Rattle.x_follow.specs.declared.planning.Plan.{Plan}
 use Rattle.x_session.specs.declared.session.work.Work.{Work}
-use Rattle.x_session.proofs.AlongLemmas.{cut_of}
-use Rattle.x_session.proofs.Compiled.{compilation, definitions-items, results-items}
-use Rattle.x_session.proofs.KeptLemmas.{definitions_with, kept_is, results_with}
-
--- ---- what an edit does to items, whatever is kept with them
-
-module _ {K L : Type 0} (change : Change) (ts us : List (Kind × ℕ)) (es : List (ItemEntry K)) (fs : List (ItemEntry L)) (p : ItemChange K) (q : ItemChange L) (olds : counts es ≡ counts fs) (at : p.at ≡ q.at) (removed : p.removed ≡ q.removed)
-    (start : p.start ≡ q.start) (news : counts p.fresh ≡ counts q.fresh) where
-  long : length es ≡ length fs
-  long = sym (length-map es tokens_in) ∙ ap length olds ∙ length-map fs tokens_in
-
-  many : length p.fresh ≡ length q.fresh
-  many = sym (length-map p.fresh tokens_in) ∙ ap length news ∙ length-map q.fresh tokens_in
-
-  left : counts (patched es p) ≡ counts (patched fs q)
-  left =
-      counts-splice es p.fresh p.at (p.at + p.removed)
-      ∙ (λ i. splice (olds i) (at i) (at i + removed i) (news i))
-      ∙ sym (counts-splice fs q.fresh q.at (q.at + q.removed))
-
-  left_long : length (patched es p) ≡ length (patched fs q)
-  left_long = sym (length-map (patched es p) tokens_in) ∙ ap length left ∙ length-map (patched fs q) tokens_in
-
-  pub same_patch : IsItemPatch change ts us es p → IsItemPatch change ts us fs q
-  same_patch h = record {
-    among = let a : p.at + p.removed ≤ length es = h.among in let l = long in omega (arith, a, l, at, removed);
-    start = sym start ∙ h.start ∙ (λ i. tokens_before (olds i) (at i));
-    cut = subst (λ cs. IsCut (lexemes (edited_by change) us) cs) left h.cut;
-    place = h.place;
-    meeting = h.meeting;
-    join = h.join;
-    rejoining = subst (λ ds. IsRejoining change ts us (counts fs) ds h.place h.join) left (subst (λ cs. IsRejoining change ts us cs (counts (patched es p)) h.place h.join) olds h.rejoining);
-    fresh = λ i lt.
-        let l = left_long in
-        let here = h.fresh i (omega (arith, lt, l)) in
-        subst (λ ds. IsAmong i q.at (q.at + length q.fresh) ↔ IsRecut us ds change.start h.join i) left
-        (subst (λ n. IsAmong i q.at (q.at + n) ↔ IsRecut us (counts (patched es p)) change.start h.join i) many
-        (subst (λ a. IsAmong i a (a + length p.fresh) ↔ IsRecut us (counts (patched es p)) change.start h.join i) at here));
-    front = λ i lt.
-        let l = long in
-        let here = h.front i (omega (arith, lt, l)) in
-        subst (λ cs. (i < q.at) ↔ EndsBefore ts cs change.start i) olds (subst (λ a. (i < a) ↔ EndsBefore ts (counts es) change.start i) at here);
-    rear = λ i lt.
-        let l = long in
-        let here = h.rear i (omega (arith, lt, l)) in
-        subst (λ cs. (q.at + q.removed ≤ i) ↔ IsBehind (option_map (old_place change) h.join) (start_of ts cs i)) olds
-        (subst (λ r. (q.at + r ≤ i) ↔ IsBehind (option_map (old_place change) h.join) (start_of ts (counts es) i)) removed
-        (subst (λ a. (a + p.removed ≤ i) ↔ IsBehind (option_map (old_place change) h.join) (start_of ts (counts es) i)) at here));
-  }
+use Rattle.x_compile.proofs.AlongLemmas.{cut_of}
+use Rattle.x_follow.proofs.PatchLemmas.{definitions_splice, same_patch}
+use Rattle.x_compile.proofs.Compiled.{compilation, definitions-items, results-items}
+use Rattle.x_compile.proofs.KeptLemmas.{definitions_with, kept_is, results_with}
 
 -- ---- the work of an edit
 
@@ -120,14 +75,6 @@ pub stale_few : (e : TextEdit) (after : List (Option Outcome)) (ks : List ℕ) �
 stale_few e after ks h =
     let few = ascending_few 0 (length (definitions_after e)) ks h.ascend (λ k is. let s = (h.each k).0 is in some_within (definitions_after e) k s.definition s.has) (omega arith) in
     omega (arith, few)
-
--- an edit of items is one of their definitions
-pub definitions_splice : (es : List (ItemEntry Content)) (p : ItemChange Content) → entry_definitions (patched es p) ≡ splice (entry_definitions es) p.at (p.at + p.removed) (entry_definitions p.fresh)
-definitions_splice es p =
-    let f = λ (e : ItemEntry Content). kept_definition e.kept in
-    map_append f (take p.at es) (p.fresh ++ drop (p.at + p.removed) es)
-    ∙ ap (λ l. map f (take p.at es) ++ l) (map_append f p.fresh (drop (p.at + p.removed) es))
-    ∙ (λ i. (sym (take-map f p.at es)) i ++ (map f p.fresh ++ (sym (drop-map f (p.at + p.removed) es)) i))
 
 -- the items that an edit makes stale, by what is kept of both texts
 pub stale_items : (change : Change) (ts us : List (Kind × ℕ)) (es fs : List (ItemEntry Content)) (p : ItemChange Content) (m n : ℕ) (v w : Option UseTable) (rs : List (Option (Box CheckResult))) (ks : List ℕ)

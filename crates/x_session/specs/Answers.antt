@@ -7,16 +7,16 @@ use Rattle.x_text.specs.Edits.{Change, edited_by}
 use Rattle.x_text.specs.Limits.{most_text}
 use Rattle.x_lex.specs.Places.{Lexeme}
 use Rattle.x_lex.specs.Names.{kind_name}
-use Rattle.x_session.specs.declared.compile.fault.Fault.{Fault}
-use Rattle.x_session.specs.Faults.{fault_text}
+use Rattle.x_compile.specs.declared.fault.Fault.{Fault}
+use Rattle.x_compile.specs.Faults.{fault_text}
 use Rattle.x_session.specs.declared.script.command.Command.{Command}
 use Rattle.x_session.specs.declared.script.command.Command.TheVariants as commands
-use Rattle.x_session.specs.Compile.{Item, tokens_of, definitions_of, faults_of}
-use Rattle.x_session.specs.Definitions.{numbered}
+use Rattle.x_compile.specs.Compile.{Item, tokens_of, definitions_of, faults_of}
+use Rattle.x_compile.specs.Definitions.{numbered}
 use Rattle.x_trees.specs.Declarations.{name_of, is_void}
 use Rattle.x_trees.specs.Tree.{Body, Enum, Struct, Union, Declaration, Definition}
 use Rattle.x_trees.specs.Tree.{Const, Typedef, NewType, Program}
-use Rattle.x_session.specs.Generated.{text_of}
+use Rattle.x_compile.specs.Generated.{text_of}
 use Rattle.x_session.specs.Refusals.{refusal_line}
 use Rattle.x_session.specs.declared.script.refusal.LineRefusal.{LineRefusal}
 use Rattle.x_session.specs.declared.script.refusal.LineRefusal.TheVariants as refusals

@@ -2,7 +2,7 @@
 use Rattle.std.specs.Prelude.{◌≡◌, ◌<◌, ◌≤◌, ℕ, List, length, Some, None}
 use Rattle.x_session.specs.Answers.{Answer, answer, refused_by}
 use Rattle.x_session.specs.Commands.{command_of, dump_asked}
-use Rattle.x_session.specs.Compile.{Item}
+use Rattle.x_compile.specs.Compile.{Item}
 use Rattle.x_session.specs.Showing.{IsDumpAnswer}
 use Rattle.x_session.specs.declared.script.refusal.LineRefusal.TheVariants.{LongLine}
 use Rattle.x_lines.specs.Limits.{most_line}

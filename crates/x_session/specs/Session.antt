@@ -5,7 +5,7 @@ use Rattle.x_text.specs.Edits.{change_of, edited_by, FitsText, Judges}
 use Rattle.x_text.specs.declared.text.edit.Edit.{Edit}
 use Rattle.x_text.specs.declared.text.fault.TextFault.{TextFault}
 use Rattle.x_lex.specs.declared.kind.Kind.{Kind}
-use Rattle.x_session.specs.Compile.{Item, IsCompilation}
+use Rattle.x_compile.specs.Compile.{Item, IsCompilation}
 use Rattle.x_session.specs.declared.session.work.Work.{Work}
 
 -- A seat is the index in a list behind the entries that were put in last.

@@ -10,7 +10,7 @@ use Rattle.x_value.specs.Shown.{Node}
 use Rattle.x_value.specs.declared.fault.ReadCode.{ReadCode}
 use Rattle.x_value.specs.declared.fault.ReadCode.TheVariants.{NoMemory}
 use Rattle.x_session.specs.Answers.{Answer, answered, refused, refused_by, counted_line}
-use Rattle.x_session.specs.Compile.{Item, definitions_of, faults_of}
+use Rattle.x_compile.specs.Compile.{Item, definitions_of, faults_of}
 use Rattle.x_session.specs.declared.script.refusal.LineRefusal.TheVariants.{Faulty, NoType}
 
 -- the nodes of a value

@@ -2,7 +2,7 @@
 use Rattle.std.specs.Prelude.{◌≡◌, ◌<◌, ℕ, List, [], length, Result, Ok, Err}
 use Rattle.x_schema.specs.Schema.{Schema}
 use Rattle.x_schema.specs.Schemas.{IsSchemaOf}
-use Rattle.x_session.specs.Compile.{Item, definitions_of, faults_of}
+use Rattle.x_compile.specs.Compile.{Item, definitions_of, faults_of}
 use Rattle.x_session.specs.declared.session.schema_fault.SchemaFault.{SchemaFault}
 use Rattle.x_session.specs.declared.session.schema_fault.SchemaFault.TheVariants.{Faulty, NoMemory}
 

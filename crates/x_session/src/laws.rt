@@ -5,7 +5,7 @@ ghost use Rattle.std.specs.Prelude.{◌≡◌, ◌≤◌, ◌*◌, ℕ, List, le
 ghost use Rattle.x_text.specs.Edits.{Change, LiesWithin};
 ghost use Rattle.x_text.specs.declared.text.edit.Edit as edit;
 ghost use Rattle.x_lex.specs.declared.kind.Kind.{Kind};
-ghost use Rattle.x_session.specs.Compile.{Item, IsCompilation};
+ghost use Rattle.x_compile.specs.Compile.{Item, IsCompilation};
 ghost use Rattle.x_session.specs.Session.{Document};
 ghost use Rattle.x_session.specs.Work.{AreNearWorks, IsWork};
 ghost use Rattle.x_session.specs.declared.session.work.Work.{Work};

@@ -1,16 +1,14 @@
 //! A `.x` text that stays open: all that compiling it gives, its edits, and scripts of edits and questions.
 #![tactic(auto)]
 
-mod compile;
-mod following;
 mod laws;
 mod script;
 mod session;
 
-pub use compile::{Fault, FaultCode};
 pub use laws::{near_edits, one_compilation, one_work};
 pub use script::{Command, Insert, add_place, dump_words, parse_command, run_script};
-pub use session::{Faults, SchemaFault, Session, Work};
+pub use session::{SchemaFault, Session, Work};
+pub use x_compile::{Fault, FaultCode, Faults};
 pub use x_gen::Which;
 pub use x_lines::{LONGEST, LineEvent, LineFault, LineReader};
 pub use x_sema::{RuleCode, Schema, TypeId};

@@ -7,26 +7,22 @@ ghost use Rattle.x_text.specs.Limits.{most_text};
 ghost use Rattle.x_lex.specs.Places.{lexeme};
 ghost use Rattle.x_trees.specs.View.{tree_at};
 ghost use Rattle.x_session.specs.Session.{Document, Compiles, edited_by_all, TakesAll, StopsAt};
-ghost use Rattle.x_session.specs.Compile.{tokens_of, definitions_of, definition_at, faults_of};
-ghost use Rattle.x_session.specs.Definitions.{numbered};
+ghost use Rattle.x_compile.specs.Compile.{tokens_of, definitions_of, definition_at, faults_of};
+ghost use Rattle.x_compile.specs.Definitions.{numbered};
 ghost use Rattle.x_session.specs.Typed.{GivesSchema};
 ghost use Rattle.x_session.specs.Work.{IsWork, IsWorkOfAll, HasDone};
 
-mod faults;
-mod item_faults;
-mod reader;
 mod schema_fault;
 mod texts;
 mod work;
 
 use crate::EditFault;
-use crate::compile::{Compilation, Fault, ItemTable, compile};
-use crate::following::{carry_out, plan_edit};
-pub use faults::Faults;
 pub use schema_fault::SchemaFault;
 use std::alloc::Global;
 use std::marker::Model;
 pub use work::Work;
+use x_compile::{Compilation, Fault, Faults, ItemTable, compile};
+use x_follow::{carry_out, plan_edit};
 use x_item::Definition;
 use x_lex::{Token, TokenIter, Tokens};
 use x_sema::Schema;
@@ -44,7 +40,7 @@ pub struct Session {
 
 impl Model for Session {
     ghost use Rattle.x_session.specs.Session.{Document};
-    ghost use Rattle.x_session.specs.SessionState.{IsKept};
+    ghost use Rattle.x_compile.specs.KeptText.{IsKept};
 
     ghost Value = { Document };
 

@@ -5,7 +5,7 @@ ghost use Rattle.std.specs.Io.KnownBytes.{Appends};
 ghost use Rattle.rpcx.specs.Generate.{IsOpened};
 ghost use Rattle.x_args.specs.Telling.{Grows, IsTold};
 ghost use Rattle.x_session.specs.Session.{Compiles};
-ghost use Rattle.x_session.specs.Generated.{text_of};
+ghost use Rattle.x_compile.specs.Generated.{text_of};
 
 use crate::program::opening::open_text;
 use std::alloc::Global;

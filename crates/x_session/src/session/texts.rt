@@ -3,7 +3,7 @@
 ghost use Rattle.std.specs.Prelude.{◌≡◌, length};
 ghost use Rattle.x_text.specs.Writing.{Adds, IsWritten};
 ghost use Rattle.x_session.specs.Session.{Compiles};
-ghost use Rattle.x_session.specs.Generated.{text_of};
+ghost use Rattle.x_compile.specs.Generated.{text_of};
 
 use crate::Session;
 use x_gen::Which;

@@ -1,6 +1,6 @@
 use Rattle.std.proofs.Common.{◌≡◌, ◌++◌, ◌∙◌, [], ◌∷◌, map, codes, ap, sym, subst, append_assoc}
 use Rattle.serde_json.specs.View.{view}
-use Rattle.x_session.specs.Faults.{fault_text}
+use Rattle.x_compile.specs.Faults.{fault_text}
 use Rattle.x_lsp.specs.Diagnostics.{AreDiagnostics, IsDiagnostic, IsEndOfToken, diagnostic_data, range_data, start_of_fault}
 use Rattle.x_lsp.specs.Positions.{position_of}
 use Rattle.x_lsp.proofs.DiagnosticLemmas.{diagnostics_more, map-snoc}

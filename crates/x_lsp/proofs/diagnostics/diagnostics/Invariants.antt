@@ -1,6 +1,6 @@
 use Rattle.std.proofs.Common.{◌≡◌, ◌++◌, List, map}
 use Rattle.serde_json.specs.View.{view}
-use Rattle.x_session.specs.declared.compile.fault.Fault.{Fault}
+use Rattle.x_compile.specs.declared.fault.Fault.{Fault}
 use Rattle.x_lsp.specs.Diagnostics.{AreDiagnostics}
 use Rattle.x_lsp.proofs.diagnostics.diagnostics.Given as goal
 

@@ -1,6 +1,6 @@
 use Rattle.std.proofs.Common.{map}
 use Rattle.serde_json.specs.View.{view}
-use Rattle.x_session.specs.Compile.{faults_of}
+use Rattle.x_compile.specs.Compile.{faults_of}
 use Rattle.x_lsp.proofs.DiagnosticLemmas.{plain_diagnostics}
 use Rattle.x_lsp.proofs.diagnostics.publish.Goals as goal
 

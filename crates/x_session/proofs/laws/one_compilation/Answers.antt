@@ -1,4 +1,4 @@
-use Rattle.x_session.proofs.Compiled.{one_compilation}
+use Rattle.x_compile.proofs.Compiled.{one_compilation}
 use Rattle.x_session.proofs.laws.one_compilation.Goals as goal
 
 pub returns : goal.returns

@@ -3,7 +3,7 @@ use Rattle.std.specs.Prelude.{IfOk}
 use Rattle.x_text.specs.declared.no_memory.NoMemory.{NoMemory}
 use Rattle.x_text.specs.Edits.{Change}
 use Rattle.x_session.specs.Session.{Compiles}
-use Rattle.x_session.specs.Compile.{Item}
+use Rattle.x_compile.specs.Compile.{Item}
 use Rattle.x_session.specs.Answers.{Answer, answer, edit_answer}
 use Rattle.x_session.specs.Script.{IsGiven}
 use Rattle.x_session.proofs.script.carry_out.Goals as goal

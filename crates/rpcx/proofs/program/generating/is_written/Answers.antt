@@ -1,4 +1,4 @@
-use Rattle.x_session.specs.Generated.{text_of}
+use Rattle.x_compile.specs.Generated.{text_of}
 use Rattle.x_args.proofs.Grown.{grown_kept}
 use Rattle.rpcx.proofs.program.generating.is_written.Goals as goal
 

@@ -2,12 +2,12 @@ use Rattle.std.proofs.Common.{◌≡◌, ◌∙◌, ◌<◌, ◌≤◌, ℕ, Lis
 use Rattle.std.specs.Prelude.{IsErrOf, Ok, Err}
 use Rattle.x_text.specs.declared.text.fault.TextFault.TheVariants as fault
 use Rattle.x_session.specs.Session.{Compiles, Document}
-use Rattle.x_session.specs.Compile.{faults_of}
-use Rattle.x_session.specs.declared.compile.fault.Fault.{Fault}
+use Rattle.x_compile.specs.Compile.{faults_of}
+use Rattle.x_compile.specs.declared.fault.Fault.{Fault}
 use Rattle.x_args.specs.declared.status.Status.TheVariants as status
 use Rattle.rpcx.specs.Generate.{told_faults}
 use Rattle.x_args.specs.Telling.{IsTold}
-use Rattle.x_session.proofs.Compiled.{one_compilation}
+use Rattle.x_compile.proofs.Compiled.{one_compilation}
 use Rattle.rpcx.proofs.Unopened.{not_opened}
 use Rattle.rpcx.proofs.program.opening.open_text.Goals as goal
 

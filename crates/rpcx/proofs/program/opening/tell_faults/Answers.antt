@@ -3,7 +3,7 @@ use Rattle.x_text.specs.Writing.{Inked, Writes}
 use Rattle.x_text.proofs.Pens.{writes_none}
 use Rattle.rpcx.specs.Generate.{told_fault, told_faults}
 use Rattle.x_args.specs.Telling.{IsTold}
-use Rattle.x_session.specs.declared.compile.fault.Fault.{Fault}
+use Rattle.x_compile.specs.declared.fault.Fault.{Fault}
 use Rattle.x_args.proofs.Grown.{told}
 use Rattle.x_text.proofs.Listing.{HasListed, lists_none, lists_more, lists_all}
 use Rattle.rpcx.proofs.program.opening.tell_faults.Goals as goal

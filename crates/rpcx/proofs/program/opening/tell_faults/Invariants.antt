@@ -1,5 +1,5 @@
 use Rattle.rpcx.specs.Generate.{told_fault}
-use Rattle.x_session.specs.declared.compile.fault.Fault.{Fault}
+use Rattle.x_compile.specs.declared.fault.Fault.{Fault}
 use Rattle.x_text.proofs.Listing.{HasListed}
 use Rattle.rpcx.proofs.program.opening.tell_faults.Given as goal
 

@@ -4,11 +4,11 @@ use Rattle.x_text.specs.Writing.{Adds}
 use Rattle.x_text.proofs.Pens.{adds_trans}
 use Rattle.x_trees.specs.View.{view_definition}
 use Rattle.x_trees.specs.View.{tree_at}
-use Rattle.x_session.specs.Compile.{definitions_of}
-use Rattle.x_session.specs.Definitions.{numbered}
+use Rattle.x_compile.specs.Compile.{definitions_of}
+use Rattle.x_compile.specs.Definitions.{numbered}
 use Rattle.x_session.specs.Answers.{definition_line}
 use Rattle.x_session.specs.Answers.{counted_line, definitions_answer}
-use Rattle.x_session.proofs.Compiled.{one_compilation}
+use Rattle.x_compile.proofs.Compiled.{one_compilation}
 use Rattle.x_session.proofs.DefinitionLemmas.{HasDefinitions, definitions_none, definitions_on, definitions_more, definitions_all}
 use Rattle.x_session.proofs.script.answer.add_definitions.Goals as goal
 use Rattle.x_session.proofs.script.answer.add_definitions.Goals.{in-Some, in_default}

@@ -2,10 +2,10 @@ use Rattle.std.proofs.Common.{◌≡◌, ◌++◌, length, codes, ap, subst, ◌
 use Rattle.std.specs.List.{flat_map}
 use Rattle.x_text.specs.Writing.{Adds}
 use Rattle.x_text.proofs.Pens.{adds_trans}
-use Rattle.x_session.specs.Compile.{faults_of}
-use Rattle.x_session.specs.declared.compile.fault.Fault.{Fault}
+use Rattle.x_compile.specs.Compile.{faults_of}
+use Rattle.x_compile.specs.declared.fault.Fault.{Fault}
 use Rattle.x_session.specs.Answers.{counted_line, fault_line, faults_answer}
-use Rattle.x_session.proofs.Compiled.{one_compilation}
+use Rattle.x_compile.proofs.Compiled.{one_compilation}
 use Rattle.x_text.proofs.Listing.{HasListed, lists_more, lists_all}
 use Rattle.x_session.proofs.script.answer.add_faults.Goals as goal
 

@@ -1,5 +1,5 @@
 use Rattle.x_session.specs.Answers.{fault_line}
-use Rattle.x_session.specs.declared.compile.fault.Fault.{Fault}
+use Rattle.x_compile.specs.declared.fault.Fault.{Fault}
 use Rattle.x_text.proofs.Listing.{HasListed}
 use Rattle.x_session.proofs.script.answer.add_faults.Given as goal
 

@@ -1,9 +1,9 @@
 use Rattle.std.proofs.Common.{◌≡◌, ◌++◌, length, codes, ap, subst, ◌∙◌}
 use Rattle.x_text.specs.Writing.{Adds}
 use Rattle.x_text.proofs.Pens.{adds_trans}
-use Rattle.x_session.specs.Generated.{text_of}
+use Rattle.x_compile.specs.Generated.{text_of}
 use Rattle.x_session.specs.Answers.{counted_line, text_answer}
-use Rattle.x_session.proofs.Compiled.{one_compilation}
+use Rattle.x_compile.proofs.Compiled.{one_compilation}
 use Rattle.x_session.proofs.script.answer.add_text.Goals as goal
 
 pub returns : goal.returns

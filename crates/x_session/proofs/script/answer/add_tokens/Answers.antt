@@ -3,9 +3,9 @@ use Rattle.std.specs.List.{flat_map}
 use Rattle.x_text.specs.Writing.{Adds}
 use Rattle.x_text.proofs.Pens.{adds_trans}
 use Rattle.x_lex.specs.Places.{Lexeme, lexeme}
-use Rattle.x_session.specs.Compile.{tokens_of}
+use Rattle.x_compile.specs.Compile.{tokens_of}
 use Rattle.x_session.specs.Answers.{counted_line, token_line, tokens_answer}
-use Rattle.x_session.proofs.Compiled.{one_compilation}
+use Rattle.x_compile.proofs.Compiled.{one_compilation}
 use Rattle.x_text.proofs.Listing.{HasListed, lists_more, lists_all}
 use Rattle.x_session.proofs.script.answer.add_tokens.Goals as goal
 

@@ -1,10 +1,10 @@
 use Rattle.std.proofs.Common.{◌≡◌, ◌∙◌, length, ap, subst, sym}
 use Rattle.x_text.specs.Buffers.{Buffered}
 use Rattle.x_lex.specs.Places.{lexemes}
-use Rattle.x_session.specs.Compile.{tokens_of}
+use Rattle.x_compile.specs.Compile.{tokens_of}
 use Rattle.x_session.specs.Session.{Compiles}
-use Rattle.x_session.specs.SessionState.{items_of}
-use Rattle.x_session.proofs.Compiled.{compilation, length-items, length-lexemes, tokens_are}
+use Rattle.x_compile.specs.KeptText.{items_of}
+use Rattle.x_compile.proofs.Compiled.{compilation, length-items, length-lexemes, tokens_are}
 use Rattle.x_session.proofs.session.Session.compiled.Goals as goal
 
 pub returns-clause-token_seat : goal.returns-clause-token_seat

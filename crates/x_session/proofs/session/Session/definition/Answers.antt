@@ -1,10 +1,10 @@
 use Rattle.std.proofs.Common.{◌≡◌, subst, ◌∙◌}
 use Rattle.x_lex.specs.Places.{lexemes}
 use Rattle.x_trees.specs.View.{tree_at}
-use Rattle.x_session.specs.Compile.{definition_at}
+use Rattle.x_compile.specs.Compile.{definition_at}
 use Rattle.x_session.specs.Session.{Compiles}
-use Rattle.x_session.specs.SessionState.{items_of}
-use Rattle.x_session.proofs.Compiled.{compilation, definition_found}
+use Rattle.x_compile.specs.KeptText.{items_of}
+use Rattle.x_compile.proofs.Compiled.{compilation, definition_found}
 use Rattle.x_session.proofs.session.Session.definition.Goals as goal
 
 pub returns : goal.returns

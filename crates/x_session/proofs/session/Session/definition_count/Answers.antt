@@ -1,10 +1,10 @@
 use Rattle.std.proofs.Common.{◌≡◌, length, ap, sym, subst, ◌∙◌}
 use Rattle.x_lex.specs.Places.{lexemes}
-use Rattle.x_session.specs.Compile.{definitions_of}
-use Rattle.x_session.specs.Definitions.{numbered}
+use Rattle.x_compile.specs.Compile.{definitions_of}
+use Rattle.x_compile.specs.Definitions.{numbered}
 use Rattle.x_session.specs.Session.{Compiles}
-use Rattle.x_session.specs.SessionState.{items_of}
-use Rattle.x_session.proofs.Compiled.{compilation, definitions-items}
+use Rattle.x_compile.specs.KeptText.{items_of}
+use Rattle.x_compile.proofs.Compiled.{compilation, definitions-items}
 use Rattle.x_session.proofs.session.Session.definition_count.Goals as goal
 
 pub returns : goal.returns

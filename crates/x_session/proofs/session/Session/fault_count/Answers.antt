@@ -1,8 +1,8 @@
 use Rattle.std.proofs.Common.{◌≡◌, length, subst}
-use Rattle.x_session.specs.Compile.{faults_of}
+use Rattle.x_compile.specs.Compile.{faults_of}
 use Rattle.x_session.specs.Session.{Compiles}
-use Rattle.x_session.specs.SessionState.{items_of}
-use Rattle.x_session.proofs.Compiled.{compilation}
+use Rattle.x_compile.specs.KeptText.{items_of}
+use Rattle.x_compile.proofs.Compiled.{compilation}
 use Rattle.x_session.proofs.session.Session.fault_count.Goals as goal
 
 pub returns : goal.returns

@@ -1,9 +1,9 @@
 use Rattle.std.proofs.Common.{◌≡◌, length, subst, sym}
-use Rattle.x_session.specs.Compile.{faults_of}
+use Rattle.x_compile.specs.Compile.{faults_of}
 use Rattle.x_session.specs.Session.{Compiles}
-use Rattle.x_session.specs.SessionState.{items_of}
-use Rattle.x_session.proofs.KeptLemmas.{are_ordered}
-use Rattle.x_session.proofs.Compiled.{compilation}
+use Rattle.x_compile.specs.KeptText.{items_of}
+use Rattle.x_compile.proofs.KeptLemmas.{are_ordered}
+use Rattle.x_compile.proofs.Compiled.{compilation}
 use Rattle.x_session.proofs.session.Session.faults.Goals as goal
 
 pub of-requires-clause-ordered : goal.of-requires-clause-ordered

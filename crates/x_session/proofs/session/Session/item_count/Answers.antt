@@ -1,8 +1,8 @@
 use Rattle.std.proofs.Common.{◌≡◌, length, sym, subst, ◌∙◌}
 use Rattle.x_lex.specs.Places.{lexemes}
 use Rattle.x_session.specs.Session.{Compiles}
-use Rattle.x_session.specs.SessionState.{items_of}
-use Rattle.x_session.proofs.Compiled.{compilation, length-items}
+use Rattle.x_compile.specs.KeptText.{items_of}
+use Rattle.x_compile.proofs.Compiled.{compilation, length-items}
 use Rattle.x_session.proofs.session.Session.item_count.Goals as goal
 
 pub returns : goal.returns

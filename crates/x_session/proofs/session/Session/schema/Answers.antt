@@ -1,10 +1,10 @@
 use Rattle.std.proofs.Common.{◌≡◌, ◌<◌, [], length, sym, subst}
 use Rattle.x_lex.specs.Places.{lexemes}
 use Rattle.x_schema.specs.Schemas.{IsSchemaOf}
-use Rattle.x_session.specs.Compile.{definitions_of, faults_of}
+use Rattle.x_compile.specs.Compile.{definitions_of, faults_of}
 use Rattle.x_session.specs.Session.{Compiles}
-use Rattle.x_session.specs.SessionState.{items_of}
-use Rattle.x_session.proofs.Compiled.{compilation, definitions-items}
+use Rattle.x_compile.specs.KeptText.{items_of}
+use Rattle.x_compile.proofs.Compiled.{compilation, definitions-items}
 use Rattle.x_session.proofs.TypedLemmas.{no_faults}
 use Rattle.x_session.proofs.session.Session.schema.Goals as goal
 

@@ -1,8 +1,8 @@
 use Rattle.std.proofs.Common.{◌≡◌, length, ap, sym, subst, ◌∙◌}
 use Rattle.x_session.specs.Session.{Compiles}
-use Rattle.x_session.specs.SessionState.{items_of}
-use Rattle.x_session.specs.Compile.{tokens_of}
-use Rattle.x_session.proofs.Compiled.{compilation, length-lexemes, tokens_are}
+use Rattle.x_compile.specs.KeptText.{items_of}
+use Rattle.x_compile.specs.Compile.{tokens_of}
+use Rattle.x_compile.proofs.Compiled.{compilation, length-lexemes, tokens_are}
 use Rattle.x_session.proofs.session.Session.token_count.Goals as goal
 
 pub returns : goal.returns

@@ -1,9 +1,9 @@
 use Rattle.std.proofs.Common.{ap, ◌≡◌, sym, subst, ◌∙◌}
 use Rattle.x_lex.specs.Places.{lexemes}
 use Rattle.x_session.specs.Session.{Compiles}
-use Rattle.x_session.specs.SessionState.{items_of}
-use Rattle.x_session.specs.Compile.{tokens_of}
-use Rattle.x_session.proofs.Compiled.{compilation, tokens_are}
+use Rattle.x_compile.specs.KeptText.{items_of}
+use Rattle.x_compile.specs.Compile.{tokens_of}
+use Rattle.x_compile.proofs.Compiled.{compilation, tokens_are}
 use Rattle.x_session.proofs.session.Session.tokens.Goals as goal
 
 pub returns : goal.returns

@@ -2,10 +2,10 @@ use Rattle.std.proofs.Common.{subst}
 use Rattle.x_text.specs.Writing.{IsWritten}
 use Rattle.x_pieces.specs.Texts.{text}
 use Rattle.x_session.specs.Session.{Compiles}
-use Rattle.x_session.specs.SessionState.{items_of}
-use Rattle.x_session.specs.Generated.{text_of}
-use Rattle.x_session.proofs.Compiled.{compilation}
-use Rattle.x_session.proofs.KeptLemmas.{parts_kept}
+use Rattle.x_compile.specs.KeptText.{items_of}
+use Rattle.x_compile.specs.Generated.{text_of}
+use Rattle.x_compile.proofs.Compiled.{compilation}
+use Rattle.x_compile.proofs.KeptLemmas.{parts_kept}
 use Rattle.x_session.proofs.session.Session.write_text.Goals as goal
 
 pub returns : goal.returns

@@ -1,0 +1,10 @@
+pub mod AlongLemmas
+pub mod CheckingLemmas
+pub mod Compiled
+pub mod FaultLemmas
+pub mod ItemLemmas
+pub mod KeepingLemmas
+pub mod KeptLemmas
+pub mod LookLemmas
+pub mod NumberedLemmas
+pub mod WalkLemmas

@@ -1,0 +1,142 @@
+-- What a session keeps with the items of a text, and what it says of them.
+use Rattle.std.specs.Prelude.{◌≡◌, ℕ, List, [], ◌∷◌, length, map, take, drop, Option, None, Some, slice_get}
+use Rattle.std.specs.Prelude.{slice_set}
+use Rattle.std.specs.Global.{Box}
+use Rattle.x_lex.specs.Places.{Lexeme}
+use Rattle.x_cutting.specs.Items.{AreItems}
+use Rattle.x_trees.specs.Tree as tree
+use Rattle.x_item.specs.Parse.{IsParse}
+use Rattle.x_item.specs.Parse as parse
+use Rattle.x_trees.specs.View.{view_definition}
+use Rattle.x_cutting.specs.declared.cutting.item_entry.ItemEntry.{ItemEntry}
+use Rattle.x_rules.specs.Results.{Outcome}
+use Rattle.x_rules.specs.declared.fault.WordFault.{WordFault}
+use Rattle.x_pieces.specs.Pieces as pieces
+use Rattle.x_compile.specs.Compile as compile
+use Rattle.x_compile.specs.Compile.{parsed_definition}
+use Rattle.x_compile.specs.Generated.{lines_of}
+use Rattle.x_compile.specs.declared.content.CheckResult.{CheckResult}
+use Rattle.x_compile.specs.declared.content.Content.{Content}
+use Rattle.x_compile.specs.declared.content.Content.TheVariants as items
+use Rattle.x_compile.specs.declared.content.Parse.{Parse}
+use Rattle.x_compile.specs.declared.content.Parse.TheVariants as kept
+
+-- what an item parses to
+abbrev pub view_parse : Parse → parse.Parse
+view_parse kept.Nothing = parse.Nothing
+view_parse (kept.Def d) = parse.Def (view_definition d)
+view_parse (kept.Fault token code) = parse.Fault token code
+
+-- what was found of a definition, if there is one
+abbrev pub found_result : Option (Box CheckResult) → Option Outcome
+found_result None = None
+found_result (Some found) = Some found.value.checked
+
+-- the pieces of a definition, if it has no fault
+abbrev pub found_pieces : Option (Box CheckResult) → Option pieces.Pieces
+found_pieces None = None
+found_pieces (Some found) = found.value.pieces
+
+abbrev pub kept_parse : Content → parse.Parse
+kept_parse items.Nothing = parse.Nothing
+kept_parse (items.Fault token code) = parse.Fault token code
+kept_parse (items.Body body) = view_parse body.value.parse
+
+-- the lines that pass through
+abbrev pub kept_lines : Content → List ℕ
+kept_lines (items.Body body) = body.value.lines.items
+kept_lines k = []
+
+abbrev pub kept_found : Content → Option (Box CheckResult)
+kept_found (items.Body body) = body.value.found
+kept_found k = None
+
+-- the definition of an item
+abbrev pub kept_definition : Content → Option tree.Definition
+kept_definition k = parsed_definition (kept_parse k)
+
+-- what is generated of an item
+abbrev pub kept_part : Content → pieces.Part
+kept_part k = record { lines = kept_lines k; pieces = found_pieces (kept_found k) }
+
+-- the definitions of items
+abbrev pub entry_definitions : List (ItemEntry Content) → List (Option tree.Definition)
+entry_definitions entries = map (λ e. kept_definition e.kept) entries
+
+-- what was found of items
+abbrev pub entry_results : List (ItemEntry Content) → List (Option Outcome)
+entry_results entries = map (λ e. found_result (kept_found e.kept)) entries
+
+-- the item that has the first of these tokens
+abbrev pub item_with : List Lexeme → ItemEntry Content → compile.Item
+item_with tokens e = record {
+  tokens = take e.tokens tokens;
+  parse = kept_parse e.kept;
+  result = found_result (kept_found e.kept);
+}
+
+-- the items of these tokens
+abbrev pub items_with : List Lexeme → List (ItemEntry Content) → List compile.Item
+items_with tokens [] = []
+items_with tokens (e ∷ es) = item_with tokens e ∷ items_with (drop e.tokens tokens) es
+
+-- the number of an item's tokens, what they parse to, and the lines that pass through
+pub record IsItem (tokens : List Lexeme) (e : ItemEntry Content) : Type 0 where
+  pub count : e.tokens ≡ length tokens
+  pub parsed : IsParse tokens (kept_parse e.kept)
+  pub lines : kept_lines e.kept ≡ lines_of tokens
+
+-- so each of them is
+abbrev pub AreEach : List (List Lexeme) → List (ItemEntry Content) → Type 0
+AreEach [] [] = Unit {0}
+AreEach [] (e ∷ es) = ⊥
+AreEach (part ∷ parts) [] = ⊥
+AreEach (part ∷ parts) (e ∷ es) = IsItem part e × AreEach parts es
+
+-- the items of the tokens, each with what it parses to
+pub record AreParsed (tokens : List Lexeme) (entries : List (ItemEntry Content)) : Type 0 where
+  pub parts : List (List Lexeme)
+  pub are : AreItems tokens parts
+  pub each : AreEach parts entries
+
+-- items one behind another, which have the first of these tokens
+abbrev pub AreAlong : List Lexeme → List (ItemEntry Content) → Type 0
+AreAlong tokens [] = Unit {0}
+AreAlong tokens (e ∷ es) = IsItem (take e.tokens tokens) e × AreAlong (drop e.tokens tokens) es
+
+-- The pieces behind a check that made these, or none, and found these faults: those that were there stay
+-- where none are to be made.
+abbrev pub pieces_behind : Option pieces.Pieces → Option pieces.Pieces → List WordFault → Option pieces.Pieces
+pieces_behind had (Some made) faults = Some made
+pieces_behind had None [] = had
+pieces_behind had None (f ∷ fs) = None
+
+-- the pieces of an item that had these, once this is kept with it
+abbrev pub renewed_pieces : Option pieces.Pieces → Option (Box CheckResult) → Option pieces.Pieces
+renewed_pieces had None = None
+renewed_pieces had (Some found) = pieces_behind had found.value.pieces found.value.checked.faults
+
+-- the same item, of which this was found
+pub record IsWith (e : ItemEntry Content) (r : Option (Box CheckResult))
+    (f : ItemEntry Content) : Type 0 where
+  pub tokens : f.tokens ≡ e.tokens
+  pub parse : kept_parse f.kept ≡ kept_parse e.kept
+  pub lines : kept_lines f.kept ≡ kept_lines e.kept
+  pub result : found_result (kept_found f.kept) ≡ found_result r
+  pub pieces : found_pieces (kept_found f.kept) ≡ renewed_pieces (found_pieces (kept_found e.kept)) r
+
+-- so each of them is
+abbrev pub AreWith : List (ItemEntry Content) → List (Option (Box CheckResult)) → List (ItemEntry Content)
+    → Type 0
+AreWith [] [] [] = Unit {0}
+AreWith (e ∷ es) (r ∷ rs) (f ∷ fs) = IsWith e r f × AreWith es rs fs
+AreWith es rs fs = ⊥
+
+-- this was found of the item at an index, and the others are as they were
+pub record IsWithAt (es : List (ItemEntry Content)) (index : ℕ) (r : Option (Box CheckResult))
+    (fs : List (ItemEntry Content)) : Type 0 where
+  pub old : ItemEntry Content
+  pub was : slice_get es index ≡ Some old
+  pub item : ItemEntry Content
+  pub put : fs ≡ slice_set es index item
+  pub with : IsWith old r item

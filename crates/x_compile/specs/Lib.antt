@@ -1,0 +1,10 @@
+pub mod Checking
+pub mod Compile
+pub mod Counting
+pub mod Definitions
+pub mod FaultWalk
+pub mod Faults
+pub mod Generated
+pub mod ItemReading
+pub mod KeptText
+pub mod KeptView

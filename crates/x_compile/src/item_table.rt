@@ -1,0 +1,126 @@
+//! The items of a text.
+
+ghost use Rattle.std.specs.Prelude.{◌≡◌, ◌≤◌, ◌+◌, length, map, IfOk, None, option_and_then, slice_get};
+ghost use Rattle.x_text.specs.declared.text.source.TheConstants.{MAX_TEXT};
+ghost use Rattle.x_cutting.specs.ItemList.{AreOfText, counts};
+ghost use Rattle.x_trees.specs.View.{tree_at};
+ghost use Rattle.x_schema.specs.Schemas.{IsSchemaOf};
+ghost use Rattle.x_compile.specs.Definitions.{numbered};
+ghost use Rattle.x_compile.specs.KeptView.{entry_definitions, kept_part};
+
+use crate::content::Content;
+use std::alloc::Global;
+use x_gen::{PieceList, Pieces};
+use x_item::{Definition, ItemEntry, Items};
+use x_schema::Schema;
+use x_text::{GapIter, NoMemory};
+use x_uses::Uses;
+
+/// The items of a text, in order, each with what is kept with it.
+#[derive(Drop)]
+pub struct ItemTable {
+    pub entries: Items<Content>,
+    /// How many faults they have.
+    pub faults: usize,
+    /// Which of them declare and use each name: made at the first edit, so that who makes none pays nothing.
+    pub uses: Option<Uses>,
+}
+
+impl ItemTable {
+    /// These items, which have so many faults.
+    pub fn of(
+        alloc: Global,
+        entries: Vec<ItemEntry<Content>>,
+        faults: usize,
+    ) -> Result<ItemTable, NoMemory>
+        requires { AreOfText (counts entries.items) }
+        ensures list { IfOk result (λ table. table.entries.list ≡ entries.items) }
+        ensures seat { IfOk result (λ table. table.entries.seat ≡ length entries.items) }
+        ensures faults { IfOk result (λ table. table.faults ≡ faults) }
+        ensures uses { IfOk result (λ table. table.uses ≡ None) }
+    {
+        let entries = Items::from_entries(alloc, entries)?;
+        Ok(ItemTable {
+            entries,
+            faults,
+            uses: None,
+        })
+    }
+
+    /// How many items there are.
+    pub fn len(&self) -> usize
+        ensures { result ≡ length self.now.entries.list }
+    {
+        self.entries.len()
+    }
+
+    /// Goes over the items.
+    pub fn iter(&self) -> GapIter<'_, ItemEntry<Content>>
+        ensures list { result ≡ self.now.entries.list }
+        ensures small { length result ≤ MAX_TEXT + 1 }
+    {
+        self.entries.iter()
+    }
+
+    /// The definition of the item at an index, if it has one.
+    pub fn definition(&self, index: usize) -> Option<&Definition>
+        ensures { tree_at result
+            ≡ option_and_then (λ d. d) (slice_get (entry_definitions self.now.entries.list) index) }
+    {
+        self.entries.get(index)?.kept.definition()
+    }
+
+    /// The types that the items define.
+    pub fn schema(&self, alloc: Global) -> Result<Schema, NoMemory>
+        ensures { IfOk result (λ schema. IsSchemaOf (entry_definitions self.now.entries.list) schema) }
+    {
+        Schema::of(alloc, &self.definitions(alloc)?)
+    }
+
+    /// The definition of each item.
+    pub fn definitions(&self, alloc: Global) -> Result<Vec<Option<&Definition>>, NoMemory>
+        ensures { IfOk result
+            (λ definitions. map tree_at definitions.items ≡ entry_definitions self.now.entries.list) }
+    {
+        let mut definitions = Vec::with_capacity(alloc, self.len())?;
+        for entry in self.iter() {
+            definitions.push(entry.kept.definition())?;
+        }
+        Ok(definitions)
+    }
+
+    /// How many items have a definition.
+    pub fn definition_count(&self) -> usize
+        ensures { result ≡ length (numbered 0 (entry_definitions self.now.entries.list)) }
+    {
+        let mut count = 0;
+        for entry in self.iter() {
+            if entry.kept.definition().is_some() {
+                count += 1;
+            }
+        }
+        count
+    }
+}
+
+impl PieceList for ItemTable {
+    ghost use Rattle.std.specs.Prelude.{map};
+    ghost use Rattle.x_compile.specs.KeptView.{kept_part};
+
+    ghost parts = { λ table. map (λ e. kept_part e.kept) table.entries.list };
+
+    fn count(&self) -> usize {
+        self.len()
+    }
+
+    fn lines(&self, index: usize) -> &[u8] {
+        match self.entries.get(index) {
+            Some(entry) => entry.kept.lines(),
+            None => &[],
+        }
+    }
+
+    fn pieces(&self, index: usize) -> Option<&Pieces> {
+        self.entries.get(index)?.kept.pieces()
+    }
+}

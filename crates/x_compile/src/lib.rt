@@ -1,0 +1,23 @@
+//! What compiling a `.x` text from scratch gives, and what is kept of it ([`compile`]): its tokens, and its
+//! items with what each parses to, what checking it finds and what is generated of it; and its faults
+//! ([`Faults`]).
+#![tactic(auto)]
+
+mod checking;
+mod compiling;
+mod content;
+mod fault;
+mod faults;
+mod item_faults;
+mod item_table;
+mod keeping;
+mod lines;
+mod parsing;
+mod reader;
+
+pub use checking::{new_pieces, sum_of};
+pub use compiling::{Compilation, compile};
+pub use content::{CheckResult, Content};
+pub use fault::{Fault, FaultCode};
+pub use faults::Faults;
+pub use item_table::ItemTable;

@@ -1,0 +1,4 @@
+pub mod Following
+pub mod Moves
+pub mod Planned
+pub mod Rendered
