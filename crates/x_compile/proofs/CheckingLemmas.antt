@@ -13,7 +13,8 @@ use Rattle.x_trees.specs.declared.names.mention.Mention as rust
 use Rattle.x_trees.specs.declared.names.declared_name.NameKind.TheVariants as kinds
 use Rattle.x_rules.specs.Views.{View, Earlier}
 use Rattle.x_trees.specs.Seen.{names_of}
-use Rattle.x_names.specs.Declarers.{IsShort, AreShort, is_beforehand, FirstIs}
+use Rattle.x_trees.specs.Spell.{IsShort}
+use Rattle.x_names.specs.Declarers.{AreShort, is_beforehand, FirstIs}
 use Rattle.x_names.specs.declared.names.Declarer.{Declarer}
 use Rattle.x_rules.specs.Results.{Outcome, IsOutcome, IsResult, AreResults, AreResultsFrom, result_at, view_of, view_by, beforehand_meaning}
 use Rattle.x_rules.specs.declared.fault.WordFault.{WordFault}

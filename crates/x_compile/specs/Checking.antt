@@ -6,7 +6,8 @@ use Rattle.x_text.specs.Counts.{Counts, raised}
 use Rattle.x_trees.specs.Tree.{Definition}
 use Rattle.x_trees.specs.declared.names.declared_name.NameKind.TheVariants as kinds
 use Rattle.x_rules.specs.Views.{View, Earlier}
-use Rattle.x_names.specs.Declarers.{IsShort, is_beforehand}
+use Rattle.x_trees.specs.Spell.{IsShort}
+use Rattle.x_names.specs.Declarers.{is_beforehand}
 use Rattle.x_rules.specs.Results.{AreResults, Outcome, beforehand_meaning, view_of}
 use Rattle.x_rules.specs.declared.fault.WordFault.{WordFault}
 use Rattle.x_names.specs.declared.names.Declarer.{Declarer}

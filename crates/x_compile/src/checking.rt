@@ -4,11 +4,12 @@ ghost use Rattle.std.specs.Prelude.{◌≡◌, ◌+◌, ℕ, List, [], ◌∷◌
 ghost use Rattle.std.specs.Prelude.{if◌then◌else◌};
 ghost use Rattle.x_trees.specs.Tree as tree;
 ghost use Rattle.x_trees.specs.View.{view_definition};
-ghost use Rattle.x_names.specs.Declarers.{AreShort, IsShort, FirstIs};
+ghost use Rattle.x_trees.specs.Spell.{IsShort};
+ghost use Rattle.x_names.specs.Declarers.{AreShort, FirstIs};
 ghost use Rattle.x_names.specs.DeclarerTable.{first_in};
 ghost use Rattle.x_trees.specs.View.{tree_at};
 ghost use Rattle.x_rules.specs.KeptViews.{lent_outcome};
-ghost use Rattle.x_rules.specs.Outlined.{IsOutline, outlined};
+ghost use Rattle.x_outline.specs.Outlines.{IsOutline, outlined};
 ghost use Rattle.x_rules.specs.Results.{IsResult, result_at};
 ghost use Rattle.x_rules.specs.RustViews.{view_view};
 ghost use Rattle.x_trees.specs.Seen.{names_of};

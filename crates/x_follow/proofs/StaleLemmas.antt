@@ -22,7 +22,7 @@ use Rattle.x_text.proofs.ListLemmas.{get_drop}
 use Rattle.x_names.specs.Declarers.{AreShort}
 use Rattle.x_rules.specs.Results.{AreResults, AreResultsFrom, Outcome, result_at}
 use Rattle.x_trees.specs.Seen.{names_of}
-use Rattle.x_rules.proofs.AmongLemmas.{among_first, among_more}
+use Rattle.x_trees.proofs.AmongLemmas.{among_first, among_more}
 use Rattle.x_recheck.specs.Editing.{IsEdit, definition_at, definitions_after, edit_at, old_number, old_result}
 use Rattle.x_uses.specs.Occurrences.{IsSameTable, IsUsesOf, UseTable}
 use Rattle.x_recheck.specs.Staleness.{AreStale, Ascending, IsOutdated, IsRecheck, new_result}

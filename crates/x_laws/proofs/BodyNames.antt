@@ -15,8 +15,8 @@ use Rattle.x_trees.specs.declared.names.declared_name.NameKind.{NameKind}
 use Rattle.x_trees.specs.declared.names.declared_name.NameKind.TheVariants as kinds
 use Rattle.x_trees.proofs.CollectLemmas.{told_append}
 use Rattle.x_trees.proofs.GlossLemmas.{long_as, words_cases, words_declaration, words_type as type_spelled}
-use Rattle.x_rules.proofs.AmongLemmas.{among_cases, among_first, among_more, among_none, among_parts, among_rear}
-use Rattle.x_rules.specs.Bodies.{BodyAt, arms_at, bodies, bodies_inside, bodies_of_arms, bodies_of_declaration, bodies_of_default, bodies_of_fields, bodies_of_type, default_at, star}
+use Rattle.x_trees.proofs.AmongLemmas.{among_cases, among_first, among_more, among_none, among_parts, among_rear}
+use Rattle.x_outline.specs.Bodies.{BodyAt, arms_at, bodies, bodies_inside, bodies_of_arms, bodies_of_declaration, bodies_of_default, bodies_of_fields, bodies_of_type, default_at, star}
 use Rattle.x_laws.proofs.EnumWords.{arms_long}
 use Rattle.x_laws.proofs.TypeWords.{definition_told, quiet_cases, quiet_enumerators, quiet_leading, quiet_length, quiet_marks, roles_type, words_type}
 

@@ -13,8 +13,8 @@ use Rattle.x_trees.specs.declared.names.declared_name.NameKind.TheVariants as ki
 use Rattle.x_trees.specs.declared.names.mention.Use.TheVariants as uses
 use Rattle.x_names.specs.declared.names.Declarer.{Declarer}
 use Rattle.x_numbers.specs.Numbers.{next_number}
-use Rattle.x_rules.proofs.AmongLemmas.{among_first, among_more, among_parted}
-use Rattle.x_rules.specs.Bodies.{BodyAt, EnumeratorAt, bodies, enumerators, enumerators_from, enumerators_in, enumerators_of}
+use Rattle.x_trees.proofs.AmongLemmas.{among_first, among_more, among_parted}
+use Rattle.x_outline.specs.Bodies.{BodyAt, EnumeratorAt, bodies, enumerators, enumerators_from, enumerators_in, enumerators_of}
 use Rattle.x_rules.specs.Constants.{Known, known_with, knowns, number_before, number_by, number_given, number_named, number_of, number_seen}
 use Rattle.x_rules.specs.Results.{Outcome, AreResults}
 use Rattle.x_rules.specs.Rules.{HasRole}

@@ -13,7 +13,7 @@ use Rattle.x_trees.specs.Names.{Declared, declared, declared_at}
 use Rattle.x_trees.specs.Spell.{spell_arms, spell_cases, spell_declaration, spell_enumerator}
 use Rattle.x_trees.specs.declared.names.declared_name.NameKind.TheVariants as kinds
 use Rattle.x_trees.proofs.GlossLemmas.{long_as, words_cases, words_declaration, words_enumerator}
-use Rattle.x_rules.specs.Bodies.{BodyAt, EnumeratorAt, arms_at, bodies_inside, bodies_of_arms, bodies_of_declaration, bodies_of_default, bodies_of_fields, bodies_of_type, default_at, enumerators, enumerators_from, enumerators_in, enumerators_of, star}
+use Rattle.x_outline.specs.Bodies.{BodyAt, EnumeratorAt, arms_at, bodies_inside, bodies_of_arms, bodies_of_declaration, bodies_of_default, bodies_of_fields, bodies_of_type, default_at, enumerators, enumerators_from, enumerators_in, enumerators_of, star}
 
 -- ---- what words tell of enumerators
 

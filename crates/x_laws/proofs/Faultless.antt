@@ -19,7 +19,7 @@ use Rattle.x_rules.specs.Results.{Outcome, IsOutcome, IsResult, AreResultsFrom, 
 use Rattle.x_rules.specs.Rules.{IsEarlierName, IsDuplicate, AreFaults}
 use Rattle.x_rules.specs.declared.fault.RuleCode.TheVariants as codes
 use Rattle.x_rules.specs.declared.fault.WordFault.{WordFault}
-use Rattle.x_rules.proofs.AmongLemmas.{among_none, among_first, among_more}
+use Rattle.x_trees.proofs.AmongLemmas.{among_none, among_first, among_more}
 use Rattle.x_laws.specs.Meant.{AreFaultless}
 
 -- ---- what is found of an item

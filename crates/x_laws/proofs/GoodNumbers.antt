@@ -15,8 +15,8 @@ use Rattle.x_names.specs.Declarers.{IsFirstDeclarer, is_beforehand, first_declar
 use Rattle.x_names.specs.declared.names.Declarer.{Declarer}
 use Rattle.x_names.proofs.DeclarerLaws.{found_is_first}
 use Rattle.x_numbers.specs.Numbers.{in_range, is_enum_number, next_number, number_spelled, value}
-use Rattle.x_rules.proofs.AmongLemmas.{among_first, among_front, among_none, among_rear}
-use Rattle.x_rules.specs.Bodies.{BodyAt, EnumeratorAt, enumerators, enumerators_in, enumerators_of, bodies}
+use Rattle.x_trees.proofs.AmongLemmas.{among_first, among_front, among_none, among_rear}
+use Rattle.x_outline.specs.Bodies.{BodyAt, EnumeratorAt, enumerators, enumerators_in, enumerators_of, bodies}
 use Rattle.x_rules.specs.Constants.{Known, is_declared_before, known_with, knowns, limit_of, number_at, number_before, number_by, number_given, number_of, number_seen}
 use Rattle.x_rules.specs.Mentioned.{is_of_faulty, is_unknown}
 use Rattle.x_rules.specs.Results.{Outcome, AreResults, constant_number, constant_of, meaning_at, meaning_of, result_at, view_by, view_of, beforehand_meaning}

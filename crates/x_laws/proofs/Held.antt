@@ -8,7 +8,7 @@ use Rattle.x_trees.specs.Gloss.{Position, AsField, AsDiscriminant, AsArm, InType
 use Rattle.x_trees.specs.Mentions.{Mention, mentioned, mentioned_at}
 use Rattle.x_trees.specs.declared.names.mention.Use.{Use}
 use Rattle.x_trees.specs.declared.names.mention.Use.TheVariants as uses
-use Rattle.x_rules.proofs.AmongLemmas.{among_first, among_more, among_front, among_rear}
+use Rattle.x_trees.proofs.AmongLemmas.{among_first, among_more, among_front, among_rear}
 use Rattle.x_schema.specs.Schema.{Schema, form_at, target_at}
 use Rattle.x_schema.specs.SchemaOf.{Types, Numbers, IsDeclared, IsType, IsBody, AreFields, AreArms, IsDefault, place_in, place_named, with_cases, as_typedef, typedefs, typedefs_inside, typedefs_of, typedefs_of_type, typedefs_of_fields, typedefs_of_arms, typedefs_of_default}
 use Rattle.x_schema.specs.declared.form.Arm.{Arm}

@@ -18,7 +18,7 @@ use Rattle.x_trees.specs.declared.names.mention.Use.TheVariants as uses
 use Rattle.x_names.specs.Declarers.{is_beforehand, IsFirstDeclarer, first_from}
 use Rattle.x_names.specs.declared.names.Declarer.{Declarer}
 use Rattle.x_names.proofs.DeclarerLaws.{found_is_first}
-use Rattle.x_rules.specs.Bodies.{enumerators}
+use Rattle.x_outline.specs.Bodies.{enumerators}
 use Rattle.x_rules.specs.Constants.{is_declared_before, limit_of}
 use Rattle.x_rules.specs.Mentioned.{is_constant, fault_of_use, is_declared_as, is_no_constant, is_no_type, is_of_faulty, is_too_late, is_unknown, mention_fault, suits}
 use Rattle.x_rules.specs.Results.{Outcome, AreResults, result_at, view_by, view_of, meaning_at, beforehand_meaning}
@@ -27,7 +27,7 @@ use Rattle.x_rules.specs.Views.{View, Earlier, Own, Later, seen}
 use Rattle.x_rules.specs.declared.fault.RuleCode.{RuleCode}
 use Rattle.x_rules.specs.declared.fault.RuleCode.TheVariants as codes
 use Rattle.x_rules.specs.declared.fault.WordFault.{WordFault}
-use Rattle.x_rules.proofs.AmongLemmas.{among_cases, among_none}
+use Rattle.x_trees.proofs.AmongLemmas.{among_cases, among_none}
 use Rattle.x_rules.proofs.MentionLemmas.{MentionCode, IsUnknown, IsNotType, IsNotConst, IsLateName, IsUsesFaulty, mention_code}
 use Rattle.x_laws.specs.Meant.{AreFaultless}
 use Rattle.x_laws.proofs.Faultless.{is_listed, listed_rear, outcome_of, view_seen}

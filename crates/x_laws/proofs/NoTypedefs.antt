@@ -11,7 +11,7 @@ use Rattle.x_trees.specs.declared.names.declared_name.NameKind.{NameKind}
 use Rattle.x_trees.specs.declared.names.declared_name.NameKind.TheVariants as kinds
 use Rattle.x_trees.specs.declared.names.mention.Use.{Use}
 use Rattle.x_trees.proofs.GlossLemmas.{AreBare, bare_body}
-use Rattle.x_rules.proofs.AmongLemmas.{among_cases, among_none, among_parts}
+use Rattle.x_trees.proofs.AmongLemmas.{among_cases, among_none, among_parts}
 
 abbrev is_typedef : NameKind → Bool
 is_typedef kinds.Typedef = true

@@ -3,7 +3,7 @@ use Rattle.std.proofs.Common.{◌≡◌, ℕ, ◌+◌, ℤ, pos, Bool, true, fal
 use Rattle.x_trees.specs.Tree as tree
 use Rattle.x_trees.specs.Spell.{spell_cases, spell_declaration, spell_enumerator}
 use Rattle.x_numbers.specs.Numbers.{next_number}
-use Rattle.x_rules.specs.Bodies.{BodyAt, EnumeratorAt, arms_at, bodies_of_arms, bodies_of_declaration, bodies_of_default, bodies_of_fields, bodies_of_type, default_at, enumerators, enumerators_from, enumerators_in, star}
+use Rattle.x_outline.specs.Bodies.{BodyAt, EnumeratorAt, arms_at, bodies_of_arms, bodies_of_declaration, bodies_of_default, bodies_of_fields, bodies_of_type, default_at, enumerators, enumerators_from, enumerators_in, star}
 use Rattle.x_schema.specs.SchemaOf.{Numbers, number_given, number_in, with_arms, with_body, with_declaration, with_declarations, with_default, with_definition, with_enumerators, with_number, with_type}
 use Rattle.x_laws.proofs.EnumWords.{in_order, inline_enumerators, new_enumerators, own_enumerators}
 

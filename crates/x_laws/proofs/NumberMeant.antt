@@ -17,7 +17,7 @@ use Rattle.x_trees.specs.declared.names.declared_name.NameKind.TheVariants as ki
 use Rattle.x_names.specs.Declarers.{IsFirstDeclarer, first_declarer}
 use Rattle.x_names.specs.declared.names.Declarer.{Declarer}
 use Rattle.x_names.proofs.DeclarerLaws.{as_found, one_first}
-use Rattle.x_rules.specs.Bodies.{EnumeratorAt, enumerators}
+use Rattle.x_outline.specs.Bodies.{EnumeratorAt, enumerators}
 use Rattle.x_rules.specs.Constants.{Known, known_with, knowns, number_before, number_given, number_named, number_of, number_seen}
 use Rattle.x_rules.specs.Results.{Outcome, AreResults, result_at, view_by, view_of, meaning_at, beforehand_meaning}
 use Rattle.x_rules.specs.Views.{View, Earlier, Own, Later, seen}

@@ -12,7 +12,7 @@ use Rattle.x_trees.specs.declared.trees.declaration.Tag.{Tag}
 use Rattle.x_trees.specs.declared.names.mention.Use.{Use}
 use Rattle.x_trees.specs.declared.names.mention.Use.TheVariants as uses
 use Rattle.x_trees.proofs.GlossLemmas.{AreBare, bare_body}
-use Rattle.x_rules.proofs.AmongLemmas.{among_cases, among_first, among_none, among_rear}
+use Rattle.x_trees.proofs.AmongLemmas.{among_cases, among_first, among_none, among_rear}
 use Rattle.x_rules.specs.Rules.{HasRole, value_role}
 
 -- ---- words

@@ -17,7 +17,7 @@ use Rattle.x_trees.specs.declared.names.declared_name.NameKind.TheVariants as ki
 use Rattle.x_names.specs.Declarers.{IsFirstDeclarer, is_beforehand, first_declarer, first_from}
 use Rattle.x_names.specs.declared.names.Declarer.{Declarer}
 use Rattle.x_names.proofs.DeclarerLaws.{as_found, found_is_first, one_first}
-use Rattle.x_rules.specs.Bodies.{enumerators}
+use Rattle.x_outline.specs.Bodies.{enumerators}
 use Rattle.x_rules.specs.Constants.{knowns, number_named, number_seen, number_at}
 use Rattle.x_rules.specs.Results.{Outcome, AreResults, result_at, view_by, view_of, meaning_at, meaning_in, meaning_of, meanings_by, constant_number, constant_of, beforehand_meaning}
 use Rattle.x_rules.specs.Views.{View, Meaning, Constant, Bad, Earlier, Own, Later}

@@ -14,7 +14,7 @@ use Rattle.x_trees.specs.Declarations.{name_of}
 use Rattle.x_trees.specs.Mentions.{Mention, mentioned}
 use Rattle.x_trees.specs.declared.names.mention.Use.{Use}
 use Rattle.x_trees.specs.declared.names.mention.Use.TheVariants as uses
-use Rattle.x_rules.proofs.AmongLemmas.{among_cases, among_first, among_more, among_none}
+use Rattle.x_trees.proofs.AmongLemmas.{among_cases, among_first, among_more, among_none}
 use Rattle.x_rules.specs.Results.{Outcome, AreResults}
 use Rattle.x_schema.specs.Schema.{Schema, id_named, name_at, named_type}
 use Rattle.x_schema.specs.SchemaOf.{Numbers, Types, AreNamed, AreTypesOf, IsDeclared, numbers_of, place_named, typedefs, with_first, with_types}

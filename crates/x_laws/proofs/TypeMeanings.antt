@@ -16,8 +16,8 @@ use Rattle.x_trees.specs.declared.names.mention.Use.TheVariants as uses
 use Rattle.x_names.specs.Declarers.{IsFirstDeclarer, is_beforehand, first_declarer, first_from}
 use Rattle.x_names.specs.declared.names.Declarer.{Declarer}
 use Rattle.x_names.proofs.DeclarerLaws.{found_is_first}
-use Rattle.x_rules.proofs.AmongLemmas.{among_cases, among_first, among_front, among_more, among_none, among_parted, among_rear}
-use Rattle.x_rules.specs.Bodies.{BodyAt, EnumeratorAt, bodies, bodies_inside, enumerators, enumerators_from, enumerators_in, enumerators_of, star}
+use Rattle.x_trees.proofs.AmongLemmas.{among_cases, among_first, among_front, among_more, among_none, among_parted, among_rear}
+use Rattle.x_outline.specs.Bodies.{BodyAt, EnumeratorAt, bodies, bodies_inside, enumerators, enumerators_from, enumerators_in, enumerators_of, star}
 use Rattle.x_rules.specs.Constants.{Known, is_declared_before, knowns, limit_of, number_named}
 use Rattle.x_rules.specs.Mentioned.{fault_of_use, is_declared_as, is_of_faulty, is_too_late, suits}
 use Rattle.x_rules.specs.Results.{Outcome, AreResults, beforehand_meaning, constant_of, constant_number, meaning_as, meaning_at, result_at, type_defined, type_named, type_of, view_by, view_of}

@@ -16,7 +16,7 @@ use Rattle.x_trees.specs.declared.names.mention.Use.TheVariants as uses
 use Rattle.x_names.specs.Declarers.{IsFirstDeclarer, is_beforehand, first_declarer, first_from}
 use Rattle.x_names.specs.declared.names.Declarer.{Declarer}
 use Rattle.x_names.proofs.DeclarerLaws.{found_is_first}
-use Rattle.x_rules.specs.Bodies.{EnumeratorAt, enumerators}
+use Rattle.x_outline.specs.Bodies.{EnumeratorAt, enumerators}
 use Rattle.x_rules.specs.Constants.{Known, is_declared_before, known_with, knowns, limit_of, number_at, number_before, number_named, number_of, number_seen}
 use Rattle.x_rules.specs.Mentioned.{is_constant, is_unknown}
 use Rattle.x_rules.specs.Results.{Outcome, AreResults, result_at, view_by, view_of, meaning_at, meaning_of, beforehand_meaning, constant_number}

@@ -7,7 +7,7 @@ ghost use Rattle.std.specs.Map.{lookup};
 ghost use Rattle.std.specs.Str.{bytes_eq};
 ghost use Rattle.x_trees.specs.Gloss.{Role};
 ghost use Rattle.x_trees.specs.Tree.{Definition, Enum, Enumerator, Value};
-ghost use Rattle.x_rules.specs.Bodies.{BodyAt, bodies, enumerators};
+ghost use Rattle.x_outline.specs.Bodies.{BodyAt, bodies, enumerators};
 ghost use Rattle.x_rules.specs.Constants.{number_at};
 ghost use Rattle.x_rules.specs.Results.{Outcome, AreResults};
 ghost use Rattle.x_rules.specs.Rules.{HasRole, value_role};

@@ -4,13 +4,9 @@ use Rattle.std.specs.Prelude.{Some, None, codes, slice_get, if◌then◌else◌}
 use Rattle.std.specs.Option.{option_or}
 use Rattle.std.specs.Str.{bytes_eq}
 use Rattle.x_trees.specs.Tree.{Definition}
-use Rattle.x_trees.specs.Spell.{spell}
+use Rattle.x_trees.specs.Spell.{IsShort}
 use Rattle.x_trees.specs.Names.{Declared, declared}
 use Rattle.x_names.specs.declared.names.Declarer.{Declarer}
-
--- Of a definition of 2^64 words nothing is promised: none fits into memory.
-abbrev pub IsShort : Definition → Type 0
-IsShort d = length (spell d) < 2 ^ 64
 
 -- none of these definitions has 2^64 words
 abbrev pub AreShort : List (Option Definition) → Type 0

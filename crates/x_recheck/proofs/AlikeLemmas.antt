@@ -11,7 +11,7 @@ use Rattle.x_names.specs.declared.names.Declarer.{Declarer}
 use Rattle.x_rules.specs.Results.{Outcome, IsOutcome, IsResult, AreResults, AreResultsFrom, result_at, view_of, view_by, meaning_at, beforehand_meaning}
 use Rattle.x_rules.specs.Views.{View, Meaning, Earlier, Later, Own}
 use Rattle.x_trees.specs.Seen.{names_of}
-use Rattle.x_rules.proofs.AmongLemmas.{among_first, among_more}
+use Rattle.x_trees.proofs.AmongLemmas.{among_first, among_more}
 use Rattle.x_rules.proofs.ResultLaws.{one_outcome}
 use Rattle.x_uses.specs.declared.uses.ItemSplice.{ItemSplice}
 use Rattle.x_recheck.specs.Editing.{TextEdit, definitions_after, IsEdit, definition_at, old_number, old_result}

@@ -5,7 +5,8 @@ use Rattle.x_trees.specs.Tree.{Definition}
 use Rattle.x_trees.specs.Names.{declared}
 use Rattle.x_trees.specs.Collected.{view_name}
 use Rattle.x_trees.specs.declared.names.declared_name.DeclaredName.{DeclaredName}
-use Rattle.x_names.specs.Declarers.{IsShort, AreShort, first_declarer}
+use Rattle.x_trees.specs.Spell.{IsShort}
+use Rattle.x_names.specs.Declarers.{AreShort, first_declarer}
 use Rattle.x_names.specs.declared.names.Declarer.{Declarer}
 use Rattle.x_recheck.specs.Editing.{TextEdit, definitions_after, IsEdit, definition_at, old_number}
 use Rattle.x_recheck.specs.Rechecking.{IsCovered, IsKept, IsNamed, IsReady, AddsItems, is_waiting}

@@ -9,7 +9,8 @@ use Rattle.x_trees.specs.Tree.{Definition}
 use Rattle.x_text.proofs.ListLemmas.{get_drop}
 use Rattle.x_uses.specs.declared.uses.ItemSplice.{ItemSplice}
 use Rattle.x_recheck.specs.Editing.{TextEdit, definitions_after, IsEdit, definition_at, old_number}
-use Rattle.x_names.specs.Declarers.{AreShort, IsShort}
+use Rattle.x_trees.specs.Spell.{IsShort}
+use Rattle.x_names.specs.Declarers.{AreShort}
 use Rattle.x_recheck.specs.Rechecking.{IsFormer}
 
 -- ---- lists

@@ -13,9 +13,9 @@ use Rattle.x_trees.specs.declared.names.mention.Mention.{Mention}
 use Rattle.x_trees.specs.declared.names.mention.Use.TheVariants.{Value}
 use Rattle.x_rules.specs.Views.{View}
 use Rattle.x_trees.specs.Seen.{names_of}
-use Rattle.x_rules.specs.Outlined.{IsOutline, outlined}
-use Rattle.x_rules.specs.declared.outline.Outline.{Outline}
-use Rattle.x_rules.proofs.AmongLemmas.{among_front, among_rear, among_parts}
+use Rattle.x_outline.specs.Outlines.{IsOutline, outlined}
+use Rattle.x_outline.specs.declared.outline.Outline.{Outline}
+use Rattle.x_trees.proofs.AmongLemmas.{among_front, among_rear, among_parts}
 use Rattle.x_rules.proofs.OutlineLemmas.{map_map}
 use Rattle.x_recheck.proofs.WalkLemmas.{each_mapped, map_among}
 

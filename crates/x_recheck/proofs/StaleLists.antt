@@ -11,7 +11,7 @@ use Rattle.std.specs.List.Sorted.{IsSortedBy, IsBinarySearchResult, IsPartitionP
 use Rattle.std.specs.Ordering.{nat_cmp, is_lt}
 use Rattle.std.specs.declared.cmp.Ordering.TheVariants.{Less, Equal, Greater}
 use Rattle.x_rules.specs.Results.{Outcome}
-use Rattle.x_rules.proofs.AmongLemmas.{among_first, among_same, among_more, among_cases, among_none, among_front, among_rear, among_parts}
+use Rattle.x_trees.proofs.AmongLemmas.{among_first, among_same, among_more, among_cases, among_none, among_front, among_rear, among_parts}
 use Rattle.x_recheck.specs.Editing.{TextEdit}
 use Rattle.x_recheck.specs.Staleness.{Ascending, AreStale, new_result}
 use Rattle.x_recheck.specs.declared.rechecking.Rechecked.{Rechecked}

@@ -6,7 +6,7 @@ use Rattle.std.proofs.Common.{◌≡◌, ◌<◌, ◌⊎◌, inl, inr, ℕ, zero
 use Rattle.std.proofs.lemmas.Slice.Eq.{bytes_eq-Decides}
 use Rattle.x_trees.specs.Tree.{Definition}
 use Rattle.x_trees.specs.Seen.{names_of}
-use Rattle.x_rules.proofs.AmongLemmas.{among_cases, among_none, among_first, among_more}
+use Rattle.x_trees.proofs.AmongLemmas.{among_cases, among_none, among_first, among_more}
 use Rattle.x_recheck.specs.Editing.{TextEdit, IsEdit, definition_at}
 use Rattle.x_uses.specs.Occurrences.{sees, users_of}
 use Rattle.x_recheck.specs.Rechecking.{IsKeptUser}

@@ -10,8 +10,8 @@ use Rattle.x_trees.specs.Tree as tree
 use Rattle.x_trees.specs.Tree.{Definition}
 use Rattle.x_trees.specs.Spell.{spell_declaration}
 use Rattle.x_trees.specs.View.{view_body}
-use Rattle.x_rules.specs.Bodies.{BodyAt, ValueAt, bodies, enumerators, cases_of}
-use Rattle.x_rules.specs.BodyWalks.{view_body_at, IsBehind, AreFilled}
+use Rattle.x_outline.specs.Bodies.{BodyAt, ValueAt, bodies, enumerators, cases_of}
+use Rattle.x_outline.specs.BodyWalks.{view_body_at, IsBehind, AreFilled}
 use Rattle.x_rules.specs.Cases.{is_outside, case_fault, has_fault, case_faults, class_faults, bad_cases_by, bad_cases_of}
 use Rattle.x_rules.specs.Constants.{Known, knowns, limit_of, number_by}
 use Rattle.x_rules.specs.Found.{fault_at}
@@ -22,8 +22,8 @@ use Rattle.x_rules.specs.Views.{View, Class, Other, Signed, Unsigned, Boolean, E
 use Rattle.x_rules.specs.declared.fault.RuleCode.{RuleCode}
 use Rattle.x_rules.specs.declared.fault.RuleCode.TheVariants as codes
 use Rattle.x_rules.specs.declared.fault.WordFault.{WordFault}
-use Rattle.x_rules.specs.declared.outline.parts.BodyAt.{BodyAt as Kept}
-use Rattle.x_rules.proofs.AmongLemmas.{among_none}
+use Rattle.x_outline.specs.declared.parts.BodyAt.{BodyAt as Kept}
+use Rattle.x_trees.proofs.AmongLemmas.{among_none}
 use Rattle.x_rules.proofs.FamilyLemmas.{flat_among, among_flat, fault_is, is_fault, any_is, any_found}
 use Rattle.x_rules.proofs.OutlineLemmas.{flat_bodies}
 use Rattle.x_rules.proofs.SortedFaults.{inside, within}

@@ -6,7 +6,7 @@ use Rattle.x_trees.specs.Names.{declared}
 use Rattle.x_trees.specs.Mentions.{mentioned}
 use Rattle.x_rules.specs.Views.{View}
 use Rattle.x_trees.specs.Seen.{names_of}
-use Rattle.x_rules.specs.Bodies.{BodyAt, NameAt, Members, bodies, enumerators, cases_of, fields_of, members, field_groups, member_names, name_groups}
+use Rattle.x_outline.specs.Bodies.{BodyAt, NameAt, Members, bodies, enumerators, cases_of, fields_of, members, field_groups, member_names, name_groups}
 use Rattle.x_rules.specs.Constants.{knowns, limit_of, is_declared_before}
 use Rattle.x_rules.specs.FirstPlaces.{first_place}
 use Rattle.x_rules.specs.Types.{heights}
@@ -16,7 +16,7 @@ use Rattle.x_rules.specs.Rules.{Breaks, IsFault, IsBadCase, AreFaults, Ascends, 
 use Rattle.x_rules.specs.declared.fault.RuleCode.{RuleCode}
 use Rattle.x_rules.specs.declared.fault.RuleCode.TheVariants as codes
 use Rattle.x_rules.specs.declared.fault.WordFault.{WordFault}
-use Rattle.x_rules.proofs.AmongLemmas.{among_first, among_more, among_cases, among_none, among_front, among_rear, among_parts}
+use Rattle.x_trees.proofs.AmongLemmas.{among_first, among_more, among_cases, among_none, among_front, among_rear, among_parts}
 use Rattle.x_rules.proofs.DuplicateLemmas.{found_duplicate, duplicate_found}
 use Rattle.x_rules.proofs.FamilyLemmas.{OfOne, flat_among, among_flat, found_mention, mention_found, found_past_last, past_last_found, found_too_high, too_high_found}
 use Rattle.x_rules.proofs.FieldLemmas.{found_field, field_found}

@@ -15,7 +15,7 @@ use Rattle.x_rules.specs.Rules.{IsEarlierName, HasName, IsDuplicate}
 use Rattle.x_rules.specs.declared.fault.RuleCode.{RuleCode}
 use Rattle.x_rules.specs.declared.fault.RuleCode.TheVariants as codes
 use Rattle.x_rules.specs.declared.fault.WordFault.{WordFault}
-use Rattle.x_rules.proofs.AmongLemmas.{among_first, among_more, among_cases, among_none, among_front, among_rear, among_parts}
+use Rattle.x_trees.proofs.AmongLemmas.{among_first, among_more, among_cases, among_none, among_front, among_rear, among_parts}
 use Rattle.x_rules.proofs.FamilyLemmas.{fault_is, is_fault}
 use Rattle.x_rules.proofs.FirstLemmas.{place_from}
 use Rattle.x_text.proofs.ListLemmas.{map_append}

@@ -10,9 +10,9 @@ use Rattle.x_trees.specs.View.{view_most}
 use Rattle.x_trees.specs.Collected.{Walked, Covers}
 use Rattle.x_trees.specs.declared.trees.value.Value.{Value}
 use Rattle.x_trees.proofs.CollectLemmas.{finds_then, finds_as}
-use Rattle.x_rules.specs.Bodies.{BodyAt, EnumeratorAt, enumerators_from, enumerators_of, enumerators_in}
-use Rattle.x_rules.specs.Tables.{view_given}
-use Rattle.x_rules.proofs.AmongLemmas.{among_first, among_rear}
+use Rattle.x_outline.specs.Bodies.{BodyAt, EnumeratorAt, enumerators_from, enumerators_of, enumerators_in}
+use Rattle.x_outline.specs.Parts.{view_given}
+use Rattle.x_trees.proofs.AmongLemmas.{among_first, among_rear}
 
 -- the value that an enumerator is given
 pub given_is : (given : Option (Bor Value)) (value : Option Value) → option_copied given ≡ value → view_given given ≡ view_most value

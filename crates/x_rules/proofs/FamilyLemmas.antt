@@ -8,7 +8,7 @@ use Rattle.x_trees.specs.Tree.{Value}
 use Rattle.x_trees.specs.Names.{Declared}
 use Rattle.x_trees.specs.Mentions.{Mention}
 use Rattle.x_rules.specs.Views.{View}
-use Rattle.x_rules.specs.Bodies.{EnumeratorAt}
+use Rattle.x_outline.specs.Bodies.{EnumeratorAt}
 use Rattle.x_rules.specs.Constants.{Known}
 use Rattle.x_numbers.specs.Numbers.{is_enum_number}
 use Rattle.x_rules.specs.Mentioned.{mention_fault, suits}
@@ -19,7 +19,7 @@ use Rattle.x_rules.specs.Limits.{most_height}
 use Rattle.x_rules.specs.declared.fault.RuleCode.{RuleCode}
 use Rattle.x_rules.specs.declared.fault.RuleCode.TheVariants as codes
 use Rattle.x_rules.specs.declared.fault.WordFault.{WordFault}
-use Rattle.x_rules.proofs.AmongLemmas.{among_first, among_same, among_more, among_cases, among_none, among_front, among_rear, among_parts}
+use Rattle.x_trees.proofs.AmongLemmas.{among_first, among_same, among_more, among_cases, among_none, among_front, among_rear, among_parts}
 
 -- ---- lists of faults
 

@@ -9,7 +9,7 @@ use Rattle.x_rules.specs.RuleTexts.{rule_number}
 use Rattle.x_rules.specs.declared.fault.RuleCode.{RuleCode}
 use Rattle.x_rules.specs.declared.fault.RuleCode.TheVariants as codes
 use Rattle.x_rules.specs.declared.fault.WordFault.{WordFault}
-use Rattle.x_rules.proofs.AmongLemmas.{among_first, among_cases, among_none}
+use Rattle.x_trees.proofs.AmongLemmas.{among_first, among_cases, among_none}
 use Rattle.x_rules.proofs.InOrder.{AreInOrder, Compared, one_order, ordered}
 
 pub before_trans : (f g h : WordFault) → IsBefore f g → IsBefore g h → IsBefore f h

@@ -2,14 +2,14 @@
 use Rattle.std.proofs.Common.{◌≡◌, ℕ, suc, ◌+◌, ◌⊎◌, inl, inr, Bool, true, false, List, [], ◌∷◌, ◌++◌, map, length, length-append, Option, Some, arith, refl, sym, ap, subst, ◌∙◌, append_assoc, append-nil}
 use Rattle.std.proofs.lemmas.Option.{same_Some}
 use Rattle.std.specs.List.{IsAmong}
-use Rattle.x_rules.specs.Bodies.{NameAt}
+use Rattle.x_outline.specs.Bodies.{NameAt}
 use Rattle.x_rules.specs.FirstPlaces.{first_place, is_behind}
 use Rattle.x_rules.specs.Found.{fault_at, repeat_code, repeats_from, repeated_names}
 use Rattle.x_rules.specs.Rules.{HasName, IsRepeatedField}
 use Rattle.x_rules.specs.declared.fault.RuleCode.{RuleCode}
 use Rattle.x_rules.specs.declared.fault.RuleCode.TheVariants as codes
 use Rattle.x_rules.specs.declared.fault.WordFault.{WordFault}
-use Rattle.x_rules.proofs.AmongLemmas.{among_none, among_front, among_rear, among_parts}
+use Rattle.x_trees.proofs.AmongLemmas.{among_none, among_front, among_rear, among_parts}
 use Rattle.x_rules.proofs.DuplicateLemmas.{found_behind, behind_found}
 use Rattle.x_rules.proofs.FamilyLemmas.{fault_is, is_fault}
 use Rattle.x_text.proofs.ListLemmas.{map_append}

@@ -4,7 +4,7 @@ use Rattle.std.specs.List.{flat_map}
 use Rattle.std.proofs.Common.{◌≡◌, ℕ, zero, suc, ◌<◌, List, [], ◌∷◌, ◌++◌, length, Option, Some, None, map, arith, refl, ap, subst, append_assoc}
 use Rattle.std.proofs.Math.ListN.{length-append}
 use Rattle.x_trees.specs.Tree.{Definition}
-use Rattle.x_rules.specs.Bodies.{bodies, enumerators}
+use Rattle.x_outline.specs.Bodies.{bodies, enumerators}
 use Rattle.x_rules.specs.Constants.{knowns}
 use Rattle.x_rules.specs.Found.{found_faults}
 use Rattle.x_rules.specs.Results.{Outcome, IsOutcome, IsResult, AreResultsFrom, AreResults, result_at, view_by, meanings_by}

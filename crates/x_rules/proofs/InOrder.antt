@@ -1,7 +1,7 @@
 -- Lists whose elements stand in an order.
 use Rattle.std.proofs.Common.{◌≡◌, ◌⊎◌, inl, inr, List, [], ◌∷◌, refl, sym, ap, subst, ◌∙◌}
 use Rattle.std.specs.List.{IsAmong}
-use Rattle.x_rules.proofs.AmongLemmas.{among_first, among_same, among_more, among_cases, among_none}
+use Rattle.x_trees.proofs.AmongLemmas.{among_first, among_same, among_more, among_cases, among_none}
 
 -- each stands before all behind it
 abbrev pub AreInOrder : {X : Type 0} → (X → X → Type 0) → List X → Type 0

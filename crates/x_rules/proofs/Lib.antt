@@ -1,5 +1,3 @@
-pub mod AmongLemmas
-pub mod BodyWalkLemmas
 pub mod CaseLemmas
 pub mod CheckLemmas
 pub mod ClassLemmas
@@ -13,7 +11,6 @@ pub mod HasResults
 pub mod HeightLemmas
 pub mod InOrder
 pub mod MeaningLemmas
-pub mod MemberWalkLemmas
 pub mod MentionLemmas
 pub mod NoteLemmas
 pub mod NumberLemmas

@@ -10,16 +10,16 @@ use Rattle.x_trees.specs.Tree as tree
 use Rattle.x_trees.specs.Tree.{Definition}
 use Rattle.x_trees.specs.declared.names.declared_name.NameKind.{NameKind}
 use Rattle.x_trees.specs.declared.names.declared_name.NameKind.TheVariants as kinds
-use Rattle.x_rules.specs.Bodies.{BodyAt, bodies, enumerators}
+use Rattle.x_outline.specs.Bodies.{BodyAt, bodies, enumerators}
 use Rattle.x_rules.specs.Constants.{Known, knowns}
-use Rattle.x_rules.specs.BodyWalks.{view_body_at}
+use Rattle.x_outline.specs.BodyWalks.{view_body_at}
 use Rattle.x_rules.specs.FirstPlaces.{first_from}
 use Rattle.x_rules.specs.Meanings.{body_named, counted_type, counted_definition}
 use Rattle.x_rules.specs.Results.{type_of, type_named, type_defined, meaning_as}
 use Rattle.x_rules.specs.Tables.{capped, is_too_high}
 use Rattle.x_rules.specs.Types.{body_class, declaration_class, body_height, held_height, defined_heights, heights}
 use Rattle.x_rules.specs.Views.{View}
-use Rattle.x_rules.specs.declared.outline.parts.BodyAt.{BodyAt as Kept}
+use Rattle.x_outline.specs.declared.parts.BodyAt.{BodyAt as Kept}
 use Rattle.x_rules.proofs.FirstLemmas.{first_mapped, shift}
 
 -- ---- bodies by the words that name their types

@@ -10,7 +10,7 @@ use Rattle.x_trees.specs.Notes.{Note, NoteAt, ValueNote, NumberNote, MisplacedNo
 use Rattle.x_rules.specs.Rules.{HasRole, number_role, is_misplaced}
 use Rattle.x_trees.specs.declared.names.note.ValueRole.{ValueRole}
 use Rattle.x_trees.specs.declared.names.note.ValueRole.TheVariants as roles
-use Rattle.x_rules.proofs.AmongLemmas.{among_first, among_more, among_cases, among_none, among_front, among_rear, among_parts}
+use Rattle.x_trees.proofs.AmongLemmas.{among_first, among_more, among_cases, among_none, among_front, among_rear, among_parts}
 
 -- ---- the roles of a word
 

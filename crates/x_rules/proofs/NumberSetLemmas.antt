@@ -17,7 +17,7 @@ use Rattle.std.specs.declared.cmp.Ordering.TheVariants.{Less, Equal, Greater}
 use lib.Signed.{lt_z}
 use Rattle.x_rules.specs.NumberSets.{AreAscending}
 use Rattle.x_rules.specs.Types.{put_number, number_set}
-use Rattle.x_rules.proofs.AmongLemmas.{among_first, among_same, among_more, among_cases, among_none}
+use Rattle.x_trees.proofs.AmongLemmas.{among_first, among_same, among_more, among_cases, among_none}
 use Rattle.x_rules.proofs.InOrder.{AreInOrder, one_order}
 use Rattle.x_rules.proofs.OrderLemmas.{among_contains, contains_among}
 

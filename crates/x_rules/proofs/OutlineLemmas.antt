@@ -4,20 +4,20 @@ use Rattle.std.specs.Str.{bytes_eq}
 use Rattle.std.specs.List.{IsAmong, flat_map, list_any}
 use Rattle.std.proofs.Common.{◌≡◌, ◌<◌, ℕ, suc, length, arith, Bool, true, false, cond, List, [], ◌∷◌, ◌++◌, map, Option, None, Some, refl, ap, subst, ◌∙◌, append_assoc}
 use Rattle.x_trees.specs.Tree.{Definition}
-use Rattle.x_rules.specs.Bodies as spec
+use Rattle.x_outline.specs.Bodies as spec
 use Rattle.x_rules.specs.Views as views
 use Rattle.x_rules.specs.Outlined.{GivesOutcome}
 use Rattle.x_rules.specs.Results.{Outcome, IsOutcome}
 use Rattle.x_rules.specs.Views.{view_in}
 use Rattle.x_trees.specs.Seen.{names_of}
-use Rattle.x_rules.specs.BodyWalks.{view_body_at}
+use Rattle.x_outline.specs.BodyWalks.{view_body_at}
 use Rattle.x_rules.specs.RustViews.{view_view}
 use Rattle.x_rules.specs.FirstPlaces.{first_place}
 use Rattle.x_rules.specs.Tables.{view_at}
-use Rattle.x_rules.specs.declared.outline.parts.BodyAt.{BodyAt}
+use Rattle.x_outline.specs.declared.parts.BodyAt.{BodyAt}
 use Rattle.x_rules.specs.declared.fault.WordFault.{WordFault}
 use Rattle.x_rules.specs.declared.views.View.{View}
-use Rattle.x_rules.proofs.AmongLemmas.{among_first, among_more}
+use Rattle.x_trees.proofs.AmongLemmas.{among_first, among_more}
 use Rattle.x_rules.proofs.FirstLemmas.{shift}
 
 -- ---- views

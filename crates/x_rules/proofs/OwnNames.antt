@@ -11,7 +11,7 @@ use Rattle.x_rules.specs.Types.{heights}
 use Rattle.x_rules.specs.Found.{has_too_high}
 use Rattle.x_rules.specs.Rules.{AreFaults}
 use Rattle.x_rules.specs.declared.fault.RuleCode.TheVariants as codes
-use Rattle.x_rules.proofs.AmongLemmas.{among_first, among_none, among_front, among_rear}
+use Rattle.x_trees.proofs.AmongLemmas.{among_first, among_none, among_front, among_rear}
 use Rattle.x_rules.proofs.FamilyLemmas.{too_high_at}
 
 -- a name of a type that is not lifted

@@ -3,11 +3,11 @@ use Rattle.std.specs.Prelude.{ℤ, slice_get, option_and_then}
 use Rattle.std.proofs.Common.{◌≡◌, ℕ, zero, suc, ◌+◌, ◌<◌, ◌≤◌, Option, None, Some, List, [], ◌∷◌, ◌++◌, map, take, drop, get_or, length, refl, sym, ap, ◌∙◌, append_assoc, append-nil, arith}
 use Rattle.std.proofs.lemmas.List.{length-map}
 use Rattle.x_trees.specs.Tree.{Value}
-use Rattle.x_rules.specs.Bodies.{EnumeratorAt}
+use Rattle.x_outline.specs.Bodies.{EnumeratorAt}
 use Rattle.x_rules.specs.Constants.{Known}
 use Rattle.x_rules.specs.Found.{fault_at, past_last, past_last_faults}
-use Rattle.x_rules.specs.Tables.{view_enumerator_at, view_given}
-use Rattle.x_rules.specs.declared.outline.parts.EnumeratorAt.{EnumeratorAt as Kept}
+use Rattle.x_outline.specs.Parts.{view_enumerator_at, view_given}
+use Rattle.x_outline.specs.declared.parts.EnumeratorAt.{EnumeratorAt as Kept}
 use Rattle.x_rules.specs.declared.fault.WordFault.{WordFault}
 use Rattle.x_text.proofs.ListLemmas.{drop_one, drop_none}
 

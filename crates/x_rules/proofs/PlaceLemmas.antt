@@ -3,10 +3,11 @@ use Rattle.std.proofs.Common.{◌≡◌, ℕ, suc, ◌+◌, ◌<◌, ◌≤◌, 
 use Rattle.std.specs.Prelude.{nat_lt, slice_get, option_map, option_and_then, ℤ}
 use Rattle.std.specs.Option.{option_map_or}
 use Rattle.std.specs.Str.{bytes_eq}
-use Rattle.x_rules.specs.Bodies.{EnumeratorAt}
+use Rattle.x_outline.specs.Bodies.{EnumeratorAt}
 use Rattle.x_rules.specs.Constants.{Known, number_of, known_with, knowns, is_declared_before, number_named, number_before}
 use Rattle.x_rules.specs.FirstPlaces.{first_from, first_place}
-use Rattle.x_rules.specs.Tables.{HasNumbers, view_enumerator_at}
+use Rattle.x_outline.specs.Parts.{view_enumerator_at}
+use Rattle.x_rules.specs.Tables.{HasNumbers}
 use Rattle.x_rules.proofs.FirstLemmas.{first_named, shift}
 use Rattle.x_text.proofs.ListLemmas.{some_at, take_next, map_append, get_at, drop_none}
 use Rattle.x_rules.specs.Views.{View}

@@ -6,7 +6,7 @@ use Rattle.std.proofs.lemmas.Cmp.{int_eq_equiv}
 use Rattle.std.proofs.lemmas.Option.{same_Some}
 use Rattle.std.specs.List.{IsAmong, flat_map, list_any}
 use Rattle.std.specs.Ordering.{int_eq}
-use Rattle.x_rules.specs.Bodies.{BodyAt, Members, cases_of}
+use Rattle.x_outline.specs.Bodies.{BodyAt, Members, cases_of}
 use Rattle.x_rules.specs.Constants.{Known, limit_of, number_by}
 use Rattle.x_numbers.specs.Numbers.{number_spelled}
 use Rattle.x_rules.specs.Views.{View}
@@ -16,7 +16,7 @@ use Rattle.x_rules.specs.declared.fault.RuleCode.{RuleCode}
 use Rattle.x_rules.specs.declared.fault.RuleCode.TheVariants as codes
 use Rattle.x_rules.specs.declared.fault.WordFault.{WordFault}
 use Rattle.x_rules.specs.declared.rules.repeats.Numbered.{Numbered}
-use Rattle.x_rules.proofs.AmongLemmas.{among_first, among_cases, among_none, among_front, among_rear, among_parts}
+use Rattle.x_trees.proofs.AmongLemmas.{among_first, among_cases, among_none, among_front, among_rear, among_parts}
 use Rattle.x_rules.proofs.FamilyLemmas.{flat_among, among_flat, fault_is}
 
 -- ---- numbers seen

@@ -8,7 +8,7 @@ use Rattle.x_trees.specs.Tree as tree
 use Rattle.x_trees.specs.Gloss as gloss
 use Rattle.x_trees.specs.Gloss.{Role}
 use Rattle.x_rules.specs.Views.{View, Class, Other, Signed, Unsigned, Boolean, Enumeration}
-use Rattle.x_rules.specs.Bodies.{enumerators}
+use Rattle.x_outline.specs.Bodies.{enumerators}
 use Rattle.x_numbers.specs.Numbers.{magnitude, is_negative, in_range, value, is_word_number, is_enum_number, is_zero}
 use Rattle.x_rules.specs.Constants.{knowns, limit_of, number_by}
 use Rattle.x_numbers.specs.Numbers.{number_spelled}

@@ -6,16 +6,16 @@ use Rattle.std.specs.Ordering.{int_eq}
 use Rattle.x_trees.specs.Tree as tree
 use Rattle.x_trees.specs.View.{view_body}
 use Rattle.x_rules.specs.Views.{View, Class, Other, Signed, Unsigned, Boolean, Enumeration}
-use Rattle.x_rules.specs.Bodies.{ValueAt}
+use Rattle.x_outline.specs.Bodies.{ValueAt}
 use Rattle.x_rules.specs.Constants.{Known, limit_of, number_by}
 use Rattle.x_rules.specs.Found.{fault_at}
 use Rattle.x_numbers.specs.Numbers.{is_enum_number, is_word_number}
-use Rattle.x_rules.specs.Tables.{view_value_at}
+use Rattle.x_outline.specs.Parts.{view_value_at}
 use Rattle.x_rules.specs.Types.{declaration_class}
 use Rattle.x_rules.specs.declared.fault.RuleCode.{RuleCode}
 use Rattle.x_rules.specs.declared.fault.RuleCode.TheVariants as codes
 use Rattle.x_rules.specs.declared.fault.WordFault.{WordFault}
-use Rattle.x_rules.specs.declared.outline.parts.BodyAt.{BodyAt}
+use Rattle.x_outline.specs.declared.parts.BodyAt.{BodyAt}
 
 -- whether the discriminant has no value of the number
 abbrev pub is_outside : Class → ℤ → Bool

@@ -8,7 +8,7 @@ use Rattle.x_trees.specs.declared.names.declared_name.NameKind.TheVariants as ki
 use Rattle.x_numbers.specs.Numbers.{next_number, number_spelled}
 use Rattle.x_rules.specs.Views as views
 use Rattle.x_rules.specs.Views.{View}
-use Rattle.x_rules.specs.Bodies.{EnumeratorAt}
+use Rattle.x_outline.specs.Bodies.{EnumeratorAt}
 
 -- an enumerator with its number; it has none where its value has a fault, or where the number before it has
 -- one

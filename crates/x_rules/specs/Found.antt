@@ -9,8 +9,8 @@ use Rattle.x_trees.specs.Mentions.{Mention, mentioned}
 use Rattle.x_rules.specs.Views as views
 use Rattle.x_rules.specs.Views.{View, Class, Other}
 use Rattle.x_trees.specs.Seen.{names_of}
-use Rattle.x_rules.specs.Bodies.{EnumeratorAt, NameAt, ValueAt, NumberAt, Members, bodies, enumerators}
-use Rattle.x_rules.specs.Bodies.{cases_of, fields_of, members}
+use Rattle.x_outline.specs.Bodies.{EnumeratorAt, NameAt, ValueAt, NumberAt, Members, bodies, enumerators}
+use Rattle.x_outline.specs.Bodies.{cases_of, fields_of, members}
 use Rattle.x_rules.specs.FirstPlaces.{first_place, is_behind}
 use Rattle.x_rules.specs.Tables.{is_too_high}
 use Rattle.x_rules.specs.Constants.{Known, knowns, limit_of, number_by}

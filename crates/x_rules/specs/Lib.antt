@@ -1,13 +1,10 @@
-pub mod Bodies
-pub mod BodyWalks
 pub mod Cases
 pub mod Constants
 pub mod FirstPlaces
 pub mod Found
 pub mod KeptViews
-pub mod Meanings
-pub mod MemberWalks
 pub mod Limits
+pub mod Meanings
 pub mod Mentioned
 pub mod NumberSets
 pub mod Outlined

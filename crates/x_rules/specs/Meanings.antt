@@ -1,7 +1,7 @@
 -- What the program makes of the names that an item declares.
 use Rattle.std.specs.Prelude.{ℕ, suc, nat_eq, List, [], ◌∷◌, Option, Some, None, if◌then◌else◌}
 use Rattle.x_trees.specs.Tree as tree
-use Rattle.x_rules.specs.Bodies.{BodyAt}
+use Rattle.x_outline.specs.Bodies.{BodyAt}
 use Rattle.x_rules.specs.Constants.{Known}
 use Rattle.x_rules.specs.Results.{type_of}
 use Rattle.x_rules.specs.Tables.{capped}

@@ -11,7 +11,7 @@ use Rattle.x_trees.specs.declared.names.declared_name.NameKind.TheVariants as ki
 use Rattle.x_rules.specs.Views.{View, Undeclared, Earlier, Own, Later, Meaning, Constant, OfType, Program}
 use Rattle.x_rules.specs.Views.{Bad, Class, seen}
 use Rattle.x_trees.specs.Seen.{names_of}
-use Rattle.x_rules.specs.Bodies.{BodyAt, bodies, enumerators}
+use Rattle.x_outline.specs.Bodies.{BodyAt, bodies, enumerators}
 use Rattle.x_rules.specs.Constants.{Known, knowns, number_named, number_at}
 use Rattle.x_rules.specs.Types.{body_class, declaration_class, body_height, held_height}
 use Rattle.x_rules.specs.Rules.{AreFaults}

@@ -14,8 +14,8 @@ use Rattle.x_trees.specs.Spell.{spell_declaration}
 use Rattle.x_numbers.specs.Numbers.{in_range, value, is_word_number, is_enum_number, number_spelled}
 use Rattle.x_rules.specs.Views as views
 use Rattle.x_rules.specs.Views.{View, Class, Other, Signed, Unsigned, Boolean, Enumeration}
-use Rattle.x_rules.specs.Bodies.{BodyAt, EnumeratorAt, NameAt, ValueAt, NumberAt, Members, bodies}
-use Rattle.x_rules.specs.Bodies.{enumerators, cases_of, members, name_groups}
+use Rattle.x_outline.specs.Bodies.{BodyAt, EnumeratorAt, NameAt, ValueAt, NumberAt, Members, bodies}
+use Rattle.x_outline.specs.Bodies.{enumerators, cases_of, members, name_groups}
 use Rattle.x_rules.specs.Constants.{Known, knowns, number_at}
 use Rattle.x_rules.specs.Limits.{most_height}
 use Rattle.x_rules.specs.Mentioned.{mention_fault, suits}

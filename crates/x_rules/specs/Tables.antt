@@ -12,7 +12,7 @@ use Rattle.x_trees.specs.declared.names.mention.Mention.{Mention}
 use Rattle.x_trees.specs.declared.names.mention.Use.{Use}
 use Rattle.x_trees.specs.declared.names.mention.Use.TheVariants as uses
 use Rattle.x_rules.specs.Views as views
-use Rattle.x_rules.specs.Bodies as bodies
+use Rattle.x_outline.specs.Bodies as bodies
 use Rattle.x_rules.specs.Constants.{Known}
 use Rattle.x_rules.specs.FirstPlaces.{first_place}
 use Rattle.x_rules.specs.Types as types
@@ -20,11 +20,11 @@ use Rattle.x_rules.specs.RustViews.{view_class, view_view}
 use Rattle.x_rules.specs.declared.rules.classes.Sight.{Sight}
 use Rattle.x_rules.specs.Limits.{most_height}
 use Rattle.x_rules.specs.declared.views.View.{View}
-use Rattle.x_rules.specs.declared.outline.parts.EnumeratorAt.{EnumeratorAt}
-use Rattle.x_rules.specs.declared.outline.parts.Members.{Members}
-use Rattle.x_rules.specs.declared.outline.parts.NameAt.{NameAt}
-use Rattle.x_rules.specs.declared.outline.parts.ValueAt.{ValueAt}
-use Rattle.x_rules.specs.declared.outline.parts.NumberAt.{NumberAt}
+use Rattle.x_outline.specs.declared.parts.EnumeratorAt.{EnumeratorAt}
+use Rattle.x_outline.specs.declared.parts.Members.{Members}
+use Rattle.x_outline.specs.declared.parts.NameAt.{NameAt}
+use Rattle.x_outline.specs.declared.parts.ValueAt.{ValueAt}
+use Rattle.x_outline.specs.declared.parts.NumberAt.{NumberAt}
 use Rattle.x_rules.specs.declared.rules.sights.Sights.{Sights}
 use Rattle.x_rules.specs.declared.rules.constants.Constants.{Constants}
 
@@ -63,28 +63,6 @@ is_too_high height = nat_lt most_height height
 abbrev pub is_by_value : Use → Bool
 is_by_value uses.ByValue = true
 is_by_value usage = false
-
--- ---- parts of definitions
-
-abbrev pub view_given : Option (Bor Value) → Option tree.Value
-view_given given = option_map (λ v. view_value v.now) given
-
-abbrev pub view_enumerator_at : EnumeratorAt → bodies.EnumeratorAt
-view_enumerator_at e =
-    record { word = e.word; name = e.name.now; given = view_given e.given; is_first = e.is_first }
-
-abbrev pub view_name_at : NameAt → bodies.NameAt
-view_name_at x = record { word = x.word; name = x.name.now }
-
-abbrev pub view_value_at : ValueAt → bodies.ValueAt
-view_value_at x = record { word = x.word; value = view_value x.value.now }
-
-abbrev pub view_number_at : NumberAt → bodies.NumberAt
-view_number_at x = record { word = x.word; text = x.text.now }
-
-abbrev pub view_members : Members → bodies.Members
-view_members m =
-    record { names = map view_name_at m.names.items; numbers = map view_number_at m.numbers.items }
 
 -- ---- enumerators
 

@@ -13,7 +13,7 @@ use Rattle.x_trees.specs.declared.names.mention.Use.TheVariants as uses
 use Rattle.x_rules.specs.Views as views
 use Rattle.x_rules.specs.Views.{View, Class, Other, Signed, Unsigned, Boolean, Enumeration}
 use Rattle.x_numbers.specs.Numbers.{is_enum_number}
-use Rattle.x_rules.specs.Bodies.{bodies}
+use Rattle.x_outline.specs.Bodies.{bodies}
 use Rattle.x_rules.specs.Constants.{Known, number_named}
 use Rattle.x_rules.specs.Mentioned.{suits}
 

@@ -7,7 +7,6 @@ mod checked;
 mod fault;
 mod laws;
 mod numbers;
-mod outline;
 mod rules;
 mod views;
 
@@ -16,5 +15,5 @@ pub use checked::Checked;
 pub use fault::{RULE_TEXTS, RuleCode, WordFault};
 pub use laws::{has_results, one_list_of_faults, one_list_of_results, one_outcome};
 pub use numbers::Numbers;
-pub use outline::Outline;
 pub use views::{Class, MOST_HEIGHT, Meaning, View};
+pub use x_outline::Outline;

@@ -25,7 +25,7 @@ use Rattle.x_cutting.specs.Recut.{EndsBefore, IsAmong, IsBehind, IsItemPatch, Is
 use Rattle.x_cutting.specs.declared.cutting.item_entry.ItemEntry.{ItemEntry}
 use Rattle.x_cutting.proofs.CountLemmas.{counts-splice}
 use Rattle.x_rules.specs.Results.{Outcome}
-use Rattle.x_rules.proofs.AmongLemmas.{among_first, among_more}
+use Rattle.x_trees.proofs.AmongLemmas.{among_first, among_more}
 use Rattle.x_recheck.specs.Editing.{TextEdit, definitions_after}
 use Rattle.x_uses.specs.Occurrences.{UseTable}
 use Rattle.x_recheck.specs.Staleness.{AreStale, Ascending}

@@ -1,3 +1,4 @@
+pub mod AmongLemmas
 pub mod CollectLemmas
 pub mod GlossLemmas
 pub mod GlossaryLemmas

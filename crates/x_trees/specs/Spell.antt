@@ -1,5 +1,5 @@
 -- The words that a definition is written as, and what no definition may go over.
-use Rattle.std.specs.Prelude.{◌≡◌, ℕ, zero, suc, List, [], ◌∷◌, ◌++◌, false, Option, Some, None}
+use Rattle.std.specs.Prelude.{◌≡◌, ℕ, zero, suc, List, [], ◌∷◌, ◌++◌, false, Option, Some, None, ◌<◌, ◌^◌, length}
 use Rattle.x_trees.specs.Tree as tree
 use Rattle.x_trees.specs.Words.{Word}
 use Rattle.x_trees.specs.Gloss as by
@@ -9,6 +9,10 @@ use Rattle.x_trees.specs.declared.trees.declaration.Basic.{Basic}
 -- the words of a definition
 abbrev pub spell : tree.Definition → List Word
 spell d = by.definition_by by.worded false d
+
+-- Of a definition of 2^64 words nothing is promised: none fits into memory.
+abbrev pub IsShort : tree.Definition → Type 0
+IsShort d = length (spell d) < 2 ^ 64
 
 -- The words of its parts, which private contracts cite.
 

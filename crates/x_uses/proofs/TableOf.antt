@@ -6,7 +6,8 @@ use Rattle.std.proofs.lemmas.List.{length-take-le, length-map}
 use Rattle.x_trees.specs.Tree as tree
 use Rattle.x_trees.specs.declared.trees.definition.Definition.{Definition}
 use Rattle.x_trees.specs.View.{tree_at}
-use Rattle.x_names.specs.Declarers.{AreShort, IsShort, declarer_in}
+use Rattle.x_trees.specs.Spell.{IsShort}
+use Rattle.x_names.specs.Declarers.{AreShort, declarer_in}
 use Rattle.x_uses.specs.Occurrences.{declarers_at, users_at, declarers_of, users_of, sees, IsUsesOf}
 use Rattle.x_uses.specs.Slots.{Entries, slot_at, Notes, IsShortItem, item_of_declarer, user_item, noted_some, names_of_entries, put_user, with_item}
 use Rattle.x_uses.proofs.NotedLaws.{found_more, map_more}

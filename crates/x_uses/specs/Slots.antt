@@ -6,7 +6,7 @@ use Rattle.std.specs.Option.{option_or}
 use Rattle.std.specs.Map.{lookup}
 use Rattle.std.specs.Str.{bytes_eq}
 use Rattle.x_trees.specs.Tree.{Definition}
-use Rattle.x_names.specs.Declarers.{IsShort}
+use Rattle.x_trees.specs.Spell.{IsShort}
 use Rattle.x_names.specs.declared.names.Declarer.{Declarer}
 use Rattle.x_uses.specs.Occurrences.{declarers_at, users_at, HasRoom}
 use Rattle.x_uses.specs.declared.uses.ItemSplice.{ItemSplice}

@@ -5,7 +5,7 @@ ghost use Rattle.std.specs.Prelude.{IsTrue, true, false};
 ghost use Rattle.std.specs.Cow.{cow_slice_items};
 ghost use Rattle.std.specs.List.{IsAmong};
 ghost use Rattle.x_text.specs.Counts.{Counts};
-ghost use Rattle.x_rules.specs.Outlined.{IsOutline, outlined};
+ghost use Rattle.x_outline.specs.Outlines.{IsOutline, outlined};
 ghost use Rattle.x_rules.specs.Results.{Outcome, AreResults, meaning_at, result_at};
 ghost use Rattle.x_rules.specs.RustViews.{view_meaning};
 ghost use Rattle.x_recheck.specs.Editing.{definitions_after, definition_at, count_after};

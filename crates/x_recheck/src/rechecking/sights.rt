@@ -2,7 +2,7 @@
 
 ghost use Rattle.std.specs.Prelude.{◌≡◌, ◌↔◌, ℕ, List, map, IfOk, IsTrue, IsFalse};
 ghost use Rattle.std.specs.List.{IsAmong};
-ghost use Rattle.x_rules.specs.Outlined.{IsOutline, outlined};
+ghost use Rattle.x_outline.specs.Outlines.{IsOutline, outlined};
 ghost use Rattle.x_rules.specs.Results.{result_at, view_by};
 ghost use Rattle.x_rules.specs.RustViews.{view_view};
 ghost use Rattle.x_trees.specs.Seen.{names_of};

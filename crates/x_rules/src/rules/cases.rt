@@ -2,13 +2,14 @@
 
 ghost use Rattle.std.specs.Prelude.{◌≡◌, ◌++◌, List, map, IfOk, OnOk};
 ghost use Rattle.std.specs.List.{flat_map};
-ghost use Rattle.x_rules.specs.Bodies.{EnumeratorAt};
+ghost use Rattle.x_outline.specs.Bodies.{EnumeratorAt};
 ghost use Rattle.x_rules.specs.Constants.{Known};
 ghost use Rattle.x_rules.specs.Found.{case_numbers, repeated_cases};
 ghost use Rattle.x_rules.specs.Cases.{is_outside, case_fault, has_fault, case_faults, bad_cases_of};
 ghost use Rattle.x_rules.specs.KeptViews.{kept_class};
 ghost use Rattle.x_rules.specs.Rules.{Ascends};
-ghost use Rattle.x_rules.specs.Tables.{HasNumbers, seen_by, view_value_at};
+ghost use Rattle.x_outline.specs.Parts.{view_value_at};
+ghost use Rattle.x_rules.specs.Tables.{HasNumbers, seen_by};
 
 use super::classes::declaration_class;
 use super::constants::Constants;
@@ -17,9 +18,9 @@ use super::repeats::{Numbered, add_number, add_repeated_numbers};
 use super::sights::Sights;
 use crate::checked::OwnedClass;
 use crate::fault::{RuleCode, WordFault};
-use crate::outline::parts::{BodyAt, ValueAt};
 use std::alloc::Global;
 use x_numbers::{is_enum_number, is_word_number};
+use x_outline::{BodyAt, ValueAt};
 use x_text::NoMemory;
 use x_trees::{Body, UnionBody};
 

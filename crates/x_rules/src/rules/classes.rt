@@ -2,7 +2,7 @@
 
 ghost use Rattle.std.specs.Prelude.{◌≡◌, List, map, Some, option_map, IfOk};
 ghost use Rattle.x_trees.specs.View.{view_type, view_body, view_declaration, view_enumerator};
-ghost use Rattle.x_rules.specs.Bodies.{EnumeratorAt};
+ghost use Rattle.x_outline.specs.Bodies.{EnumeratorAt};
 ghost use Rattle.x_rules.specs.Constants.{Known, number_named};
 ghost use Rattle.x_rules.specs.Found.{has_no_class};
 ghost use Rattle.x_rules.specs.Types.{basic_class, body_class, declaration_class, type_class, type_seen};

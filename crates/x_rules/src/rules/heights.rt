@@ -18,8 +18,8 @@ use super::found::add_fault;
 use super::mentioned::suits;
 use super::sights::Sights;
 use crate::fault::{RuleCode, WordFault};
-use crate::outline::parts::BodyAt;
 use crate::views::MOST_HEIGHT;
+use x_outline::BodyAt;
 use x_text::NoMemory;
 use x_trees::{
     Arm, Body, DataType, Declaration, DeclaredName, Definition, Length, Shape, Tag, UnionBody,

@@ -4,8 +4,8 @@ ghost use Rattle.std.specs.Prelude.{◌≡◌, ℕ, List, false, map, nat_eq, op
 ghost use Rattle.std.specs.List.{list_any};
 ghost use Rattle.x_trees.specs.Collected.{view_name};
 ghost use Rattle.x_trees.specs.View.{view_definition};
-ghost use Rattle.x_rules.specs.Bodies as outline;
-ghost use Rattle.x_rules.specs.BodyWalks.{view_body_at};
+ghost use Rattle.x_outline.specs.Bodies as outline;
+ghost use Rattle.x_outline.specs.BodyWalks.{view_body_at};
 ghost use Rattle.x_rules.specs.Constants.{Known, knowns};
 ghost use Rattle.x_rules.specs.KeptViews.{kept_class, kept_meaning};
 ghost use Rattle.x_rules.specs.Meanings.{body_named, counted_type, counted_definition};
@@ -19,9 +19,9 @@ use super::first_places::{FirstPlaces, Keyed};
 use super::heights::{body_height, held_height};
 use super::sights::Sights;
 use crate::checked::{KeptMeanings, OwnedClass, OwnedMeaning};
-use crate::outline::parts::BodyAt;
 use smallvec::SmallVec;
 use std::alloc::Global;
+use x_outline::BodyAt;
 use x_text::NoMemory;
 use x_trees::{DeclaredName, Definition, NameKind};
 

@@ -1,7 +1,7 @@
 //! Names that are used.
 ghost use Rattle.std.specs.Prelude.{◌≡◌, ◌++◌, List, map, OnOk};
 ghost use Rattle.x_trees.specs.Collected.{view_mention};
-ghost use Rattle.x_rules.specs.Bodies.{EnumeratorAt};
+ghost use Rattle.x_outline.specs.Bodies.{EnumeratorAt};
 ghost use Rattle.x_rules.specs.Constants.{Known};
 ghost use Rattle.x_rules.specs.Mentioned.{suits, may_be_linked, is_declared_as, is_constant, is_no_type};
 ghost use Rattle.x_rules.specs.Mentioned.{is_no_constant, is_too_late, is_of_faulty, fault_of_use};

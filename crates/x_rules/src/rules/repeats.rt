@@ -7,14 +7,14 @@ ghost use Rattle.std.specs.Str.{bytes_eq};
 ghost use Rattle.x_rules.specs.FirstPlaces.{first_from, is_behind};
 ghost use Rattle.x_rules.specs.Found.{repeat_code, repeated_names, repeated_members};
 ghost use Rattle.x_rules.specs.Found.{numbered, spelled_numbers, repeated_code, repeated_numbers};
-ghost use Rattle.x_rules.specs.Tables.{view_name_at, view_number_at, view_members};
+ghost use Rattle.x_outline.specs.Parts.{view_name_at, view_number_at, view_members};
 
 use super::first_places::{FirstPlaces, Keyed};
 use super::found::add_fault;
 use crate::fault::{RuleCode, WordFault};
-use crate::outline::parts::{BodyAt, Members, NameAt, NumberAt};
 use std::alloc::Global;
 use x_numbers::number_value;
+use x_outline::{BodyAt, Members, NameAt, NumberAt};
 use x_text::NoMemory;
 
 /// A number at a word.

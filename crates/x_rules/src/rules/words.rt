@@ -2,7 +2,7 @@
 
 ghost use Rattle.std.specs.Prelude.{◌≡◌, ◌++◌, List, map, OnOk};
 ghost use Rattle.x_trees.specs.View.{view_value, view_declaration};
-ghost use Rattle.x_rules.specs.Bodies as bodies;
+ghost use Rattle.x_outline.specs.Bodies as bodies;
 ghost use Rattle.x_rules.specs.Constants.{Known};
 ghost use Rattle.x_numbers.specs.Numbers.{number_spelled, is_zero};
 ghost use Rattle.x_trees.specs.Notes.{view_note, view_note_at};
@@ -10,15 +10,16 @@ ghost use Rattle.x_rules.specs.Types.{declaration_class};
 ghost use Rattle.x_rules.specs.Found.{number_fault, value_fault, spelled_fault, discriminant_fault};
 ghost use Rattle.x_rules.specs.Found.{note_fault};
 ghost use Rattle.x_rules.specs.Found.{note_faults, past_last, past_last_faults};
-ghost use Rattle.x_rules.specs.Tables.{HasNumbers, seen_by, view_given};
+ghost use Rattle.x_outline.specs.Parts.{view_given};
+ghost use Rattle.x_rules.specs.Tables.{HasNumbers, seen_by};
 
 use super::classes::has_no_class;
 use super::constants::Constants;
 use super::found::add_fault;
 use super::sights::Sights;
 use crate::fault::{RuleCode, WordFault};
-use crate::outline::parts::EnumeratorAt;
 use x_numbers::{is_enum_number, is_word_number, number_value};
+use x_outline::EnumeratorAt;
 use x_text::NoMemory;
 use x_trees::{Declaration, Note, NoteAt, Value, ValueRole};
 

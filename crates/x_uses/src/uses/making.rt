@@ -6,7 +6,8 @@ ghost use Rattle.std.specs.Str.{bytes_eq};
 ghost use Rattle.x_trees.specs.View.{view_definition};
 ghost use Rattle.x_trees.specs.Collected.{view_name};
 ghost use Rattle.x_trees.specs.View.{tree_at};
-ghost use Rattle.x_names.specs.Declarers.{AreShort, IsShort, place_of_name, declarer_in};
+ghost use Rattle.x_trees.specs.Spell.{IsShort};
+ghost use Rattle.x_names.specs.Declarers.{AreShort, place_of_name, declarer_in};
 ghost use Rattle.x_uses.specs.Occurrences.{declarer_of, declarers_at, users_at, declarers_of, users_of, sees};
 ghost use Rattle.x_uses.specs.Slots.{slot_at, Changes, HasSameSlots, Notes, IsShortItem};
 

@@ -1,8 +1,8 @@
 use Rattle.std.proofs.Common.{◌≡◌, length, map, Some, ap, sym, subst, ◌∙◌}
 use Rattle.x_trees.specs.View.{view_definition}
-use Rattle.x_names.specs.Declarers.{IsShort}
+use Rattle.x_trees.specs.Spell.{IsShort}
 use Rattle.x_names.specs.DeclarerTable.{first_in}
-use Rattle.x_rules.specs.Outlined.{outlined}
+use Rattle.x_outline.specs.Outlines.{outlined}
 use Rattle.x_trees.specs.Seen.{names_of}
 use Rattle.x_rules.specs.Results.{result_at, IsOutcome, IsResult}
 use Rattle.x_rules.specs.RustViews.{view_view}

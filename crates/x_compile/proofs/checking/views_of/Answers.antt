@@ -2,7 +2,7 @@ use Rattle.std.proofs.Common.{map}
 use Rattle.x_trees.specs.Names.{declared}
 use Rattle.x_trees.specs.Mentions.{mentioned}
 use Rattle.x_names.specs.DeclarerTable.{first_in}
-use Rattle.x_rules.specs.Outlined.{outlined}
+use Rattle.x_outline.specs.Outlines.{outlined}
 use Rattle.x_rules.specs.Results.{result_at}
 use Rattle.x_rules.specs.RustViews.{view_view}
 use Rattle.x_compile.specs.Checking.{view_by_first}

@@ -2,7 +2,7 @@ use Rattle.std.proofs.Common.{◌≡◌, ◌++◌, map, take}
 use Rattle.std.specs.Cow.{cow_slice_items}
 use Rattle.x_trees.specs.Names.{declared}
 use Rattle.x_names.specs.DeclarerTable.{first_in}
-use Rattle.x_rules.specs.Outlined.{outlined, IsOutline}
+use Rattle.x_outline.specs.Outlines.{outlined, IsOutline}
 use Rattle.x_rules.specs.Results.{result_at}
 use Rattle.x_rules.specs.RustViews.{view_view}
 use Rattle.x_compile.specs.Checking.{view_by_first}

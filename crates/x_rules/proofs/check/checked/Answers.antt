@@ -1,5 +1,6 @@
 use Rattle.std.proofs.Common.{sym, ap, subst, ◌∙◌}
-use Rattle.x_rules.specs.Outlined.{outlined, GivesOutcome}
+use Rattle.x_outline.specs.Outlines.{outlined}
+use Rattle.x_rules.specs.Outlined.{GivesOutcome}
 use Rattle.x_rules.specs.Results.{meanings_by}
 use Rattle.x_rules.specs.Rules.{AreFaults}
 use Rattle.x_rules.specs.Tables.{seen_by}

@@ -1,9 +1,9 @@
 use Rattle.std.proofs.Common.{◌≡◌, ℕ, ◌++◌, sym, ap, subst, ◌∙◌}
 use Rattle.std.specs.List.{IsAmong, flat_map}
-use Rattle.x_rules.specs.Bodies.{enumerators}
+use Rattle.x_outline.specs.Bodies.{enumerators}
 use Rattle.x_rules.specs.Cases.{bad_cases_of}
 use Rattle.x_rules.specs.Constants.{knowns}
-use Rattle.x_rules.specs.Outlined.{outlined}
+use Rattle.x_outline.specs.Outlines.{outlined}
 use Rattle.x_rules.specs.Rules.{Ascends, Breaks}
 use Rattle.x_rules.specs.Tables.{seen_by}
 use Rattle.x_rules.specs.declared.fault.RuleCode.{RuleCode}

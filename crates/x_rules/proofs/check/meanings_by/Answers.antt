@@ -1,8 +1,8 @@
 use Rattle.std.proofs.Common.{◌≡◌, map, [], sym, ap, subst, ◌∙◌}
 use Rattle.std.proofs.lemmas.Result.{IfOk-weaker}
 use Rattle.x_trees.specs.Collected.{view_name}
-use Rattle.x_rules.specs.BodyWalks.{view_body_at}
-use Rattle.x_rules.specs.Outlined.{outlined}
+use Rattle.x_outline.specs.BodyWalks.{view_body_at}
+use Rattle.x_outline.specs.Outlines.{outlined}
 use Rattle.x_rules.specs.Results.{meaning_of, meanings_by}
 use Rattle.x_rules.specs.Rules.{AreFaults}
 use Rattle.x_rules.specs.Tables.{seen_by}

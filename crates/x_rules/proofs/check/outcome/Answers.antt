@@ -4,12 +4,14 @@ use Rattle.std.specs.Cow.{cow_slice_items}
 use Rattle.x_trees.specs.Collected.{view_mention}
 use Rattle.x_trees.specs.Collected.{view_name}
 use Rattle.x_trees.specs.Names.{Declared, declared}
-use Rattle.x_rules.specs.Bodies.{enumerators_in}
-use Rattle.x_rules.specs.BodyWalks.{view_body_at, AreFilled}
+use Rattle.x_outline.specs.Bodies.{enumerators_in}
+use Rattle.x_outline.specs.BodyWalks.{view_body_at, AreFilled}
 use Rattle.x_rules.specs.Constants.{knowns}
-use Rattle.x_rules.specs.Outlined.{outlined, AreTables}
+use Rattle.x_outline.specs.Outlines.{outlined}
+use Rattle.x_rules.specs.Outlined.{AreTables}
 use Rattle.x_trees.specs.Seen.{names_of}
-use Rattle.x_rules.specs.Tables.{HasNumbers, seen_by, view_enumerator_at}
+use Rattle.x_outline.specs.Parts.{view_enumerator_at}
+use Rattle.x_rules.specs.Tables.{HasNumbers, seen_by}
 use Rattle.x_rules.proofs.OutlineLemmas.{map_map, outcome_by}
 use Rattle.x_rules.proofs.check.outcome.Goals as goal
 

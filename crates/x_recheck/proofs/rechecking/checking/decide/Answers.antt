@@ -2,7 +2,7 @@ use Rattle.std.proofs.Common.{◌≡◌, ◌<◌, ℕ, None, Some, length, map, 
 use Rattle.x_trees.specs.Collected.{view_name}
 use Rattle.x_trees.specs.View.{view_definition}
 use Rattle.x_trees.specs.View.{tree_at}
-use Rattle.x_rules.specs.Outlined.{IsOutline, outlined}
+use Rattle.x_outline.specs.Outlines.{IsOutline, outlined}
 use Rattle.x_rules.specs.Results.{result_at}
 use Rattle.x_recheck.specs.Editing.{definition_at, definitions_after}
 use Rattle.x_recheck.specs.Rechecking.{IsFoundAs, edit_of, is_waiting}

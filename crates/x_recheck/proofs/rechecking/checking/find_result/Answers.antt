@@ -1,5 +1,5 @@
 use Rattle.std.proofs.Common.{◌+◌, map, sym, subst, ◌∙◌}
-use Rattle.x_rules.specs.Outlined.{outlined}
+use Rattle.x_outline.specs.Outlines.{outlined}
 use Rattle.x_rules.specs.Results.{IsOutcome}
 use Rattle.x_rules.specs.RustViews.{view_view}
 use Rattle.x_trees.specs.Seen.{names_of}

@@ -3,7 +3,7 @@ use Rattle.std.proofs.lemmas.Bool.{true≢false}
 use Rattle.std.specs.List.{IsAmong}
 use Rattle.x_trees.specs.declared.names.declared_name.DeclaredName.{DeclaredName}
 use Rattle.x_trees.specs.declared.names.mention.Mention.{Mention}
-use Rattle.x_rules.proofs.AmongLemmas.{among_none}
+use Rattle.x_trees.proofs.AmongLemmas.{among_none}
 use Rattle.x_recheck.specs.Rechecking.{SeesSame, edit_of}
 use Rattle.x_recheck.specs.Staleness.{result_after}
 use Rattle.x_recheck.proofs.OutlineNames.{declared_name, mentioned_name, no_mention, declared_among, mention_among, outline_each}

@@ -1,7 +1,7 @@
 use Rattle.std.proofs.Common.{map}
 use Rattle.x_trees.specs.Names.{declared}
 use Rattle.x_trees.specs.Mentions.{mentioned}
-use Rattle.x_rules.specs.Outlined.{outlined}
+use Rattle.x_outline.specs.Outlines.{outlined}
 use Rattle.x_rules.specs.Results.{view_by}
 use Rattle.x_rules.specs.RustViews.{view_view}
 use Rattle.x_recheck.specs.Editing.{definitions_after}

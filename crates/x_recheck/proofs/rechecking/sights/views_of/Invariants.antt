@@ -1,7 +1,7 @@
 use Rattle.std.proofs.Common.{◌≡◌, ◌++◌, map, take}
 use Rattle.std.specs.Cow.{cow_slice_items}
 use Rattle.x_trees.specs.Names.{declared}
-use Rattle.x_rules.specs.Outlined.{outlined, IsOutline}
+use Rattle.x_outline.specs.Outlines.{outlined, IsOutline}
 use Rattle.x_rules.specs.Results.{view_by}
 use Rattle.x_rules.specs.RustViews.{view_view}
 use Rattle.x_recheck.specs.Editing.{definitions_after}

@@ -7,7 +7,8 @@ use Rattle.x_trees.specs.declared.trees.declaration.Body.TheViews.{out-UnionBody
 use Rattle.x_trees.proofs.Rows.{union_parts}
 use Rattle.x_rules.specs.Cases.{case_faults}
 use Rattle.x_rules.specs.KeptViews.{kept_class}
-use Rattle.x_rules.specs.Tables.{seen_by, view_value_at}
+use Rattle.x_outline.specs.Parts.{view_value_at}
+use Rattle.x_rules.specs.Tables.{seen_by}
 use Rattle.x_rules.specs.Types.{declaration_class}
 use Rattle.x_rules.proofs.CaseLemmas.{union_faults}
 use Rattle.x_rules.proofs.SortedFaults.{counted_fault}

@@ -4,7 +4,8 @@ use Rattle.x_rules.specs.Cases.{case_fault}
 use Rattle.x_rules.specs.Constants.{limit_of, number_by}
 use Rattle.x_rules.specs.Found.{fault_at}
 use Rattle.x_rules.specs.KeptViews.{kept_class}
-use Rattle.x_rules.specs.Tables.{seen_by, view_value_at}
+use Rattle.x_outline.specs.Parts.{view_value_at}
+use Rattle.x_rules.specs.Tables.{seen_by}
 use Rattle.x_text.proofs.ListLemmas.{drop_none, listed_more, listed_all}
 use Rattle.x_rules.proofs.rules.cases.add_case_faults.Goals as goal
 

@@ -1,9 +1,10 @@
 use Rattle.std.proofs.Common.{◌≡◌, List, ◌++◌, map, drop}
 use Rattle.std.specs.List.{flat_map}
-use Rattle.x_rules.specs.Bodies.{EnumeratorAt}
+use Rattle.x_outline.specs.Bodies.{EnumeratorAt}
 use Rattle.x_rules.specs.Constants.{Known}
 use Rattle.x_rules.specs.Found.{repeated_cases}
-use Rattle.x_rules.specs.Tables.{HasNumbers, seen_by, view_value_at}
+use Rattle.x_outline.specs.Parts.{view_value_at}
+use Rattle.x_rules.specs.Tables.{HasNumbers, seen_by}
 use Rattle.x_rules.proofs.rules.cases.add_repeated_cases.Given as goal
 
 -- with the faults of the bodies that are left, there are those of all

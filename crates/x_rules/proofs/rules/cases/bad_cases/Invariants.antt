@@ -1,6 +1,6 @@
 use Rattle.std.proofs.Common.{◌≡◌, List, ◌++◌, drop}
 use Rattle.std.specs.List.{flat_map}
-use Rattle.x_rules.specs.Bodies.{EnumeratorAt}
+use Rattle.x_outline.specs.Bodies.{EnumeratorAt}
 use Rattle.x_rules.specs.Cases.{bad_cases_of}
 use Rattle.x_rules.specs.Constants.{Known}
 use Rattle.x_rules.specs.Rules.{Ascends}

@@ -1,8 +1,9 @@
 use Rattle.std.proofs.Common.{◌≡◌, List, ◌++◌, map, drop}
-use Rattle.x_rules.specs.Bodies.{EnumeratorAt}
+use Rattle.x_outline.specs.Bodies.{EnumeratorAt}
 use Rattle.x_rules.specs.Constants.{Known}
 use Rattle.x_rules.specs.Found.{case_numbers}
-use Rattle.x_rules.specs.Tables.{HasNumbers, seen_by, view_value_at}
+use Rattle.x_outline.specs.Parts.{view_value_at}
+use Rattle.x_rules.specs.Tables.{HasNumbers, seen_by}
 use Rattle.x_rules.proofs.rules.cases.case_numbers.Given as goal
 
 -- with those that are left, there are the numbers of all

@@ -1,6 +1,6 @@
 use Rattle.std.proofs.Common.{◌≡◌, List, map, drop}
 use Rattle.x_trees.specs.View.{view_enumerator}
-use Rattle.x_rules.specs.Bodies.{EnumeratorAt}
+use Rattle.x_outline.specs.Bodies.{EnumeratorAt}
 use Rattle.x_rules.specs.Constants.{Known, number_named}
 use Rattle.x_rules.specs.Tables.{HasNumbers}
 use Rattle.x_rules.specs.Types.{enum_number, if_all}

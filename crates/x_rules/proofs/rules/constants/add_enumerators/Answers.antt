@@ -3,9 +3,9 @@ use Rattle.std.proofs.lemmas.Result.{on_ok_weaker}
 use Rattle.x_trees.specs.Spell.{spell_body, spell_other_enumerators}
 use Rattle.x_trees.specs.View.{view_enumerator, view_body}
 use Rattle.x_trees.proofs.Rows.{struct_view, union_parts}
-use Rattle.x_rules.specs.Bodies.{enumerators_of, enumerators_from}
-use Rattle.x_rules.specs.BodyWalks.{body_at}
-use Rattle.x_rules.specs.Tables.{view_enumerator_at}
+use Rattle.x_outline.specs.Bodies.{enumerators_of, enumerators_from}
+use Rattle.x_outline.specs.BodyWalks.{body_at}
+use Rattle.x_outline.specs.Parts.{view_enumerator_at}
 use Rattle.x_rules.proofs.EnumeratorLemmas.{names_fit}
 use Rattle.x_rules.proofs.rules.constants.add_enumerators.Goals as goal
 

@@ -3,8 +3,8 @@ use Rattle.std.proofs.lemmas.List.{drop_all, drop_more}
 use Rattle.x_trees.specs.View.{view_enumerator}
 use Rattle.x_trees.specs.Collected.{Walked}
 use Rattle.x_trees.proofs.CollectLemmas.{finds_none}
-use Rattle.x_rules.specs.Bodies.{EnumeratorAt}
-use Rattle.x_rules.specs.Tables.{view_enumerator_at, view_given}
+use Rattle.x_outline.specs.Bodies.{EnumeratorAt}
+use Rattle.x_outline.specs.Parts.{view_enumerator_at, view_given}
 use Rattle.x_text.proofs.ListLemmas.{map_append}
 use Rattle.x_rules.proofs.EnumeratorLemmas.{GoesNames, goes_names, given_is}
 use Rattle.x_rules.proofs.rules.constants.add_names.Goals as goal

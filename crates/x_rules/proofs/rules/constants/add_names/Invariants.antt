@@ -1,8 +1,8 @@
 use Rattle.std.proofs.Common.{drop, map, true}
 use Rattle.x_trees.specs.View.{view_enumerator}
 use Rattle.x_trees.specs.Collected.{Walked}
-use Rattle.x_rules.specs.Bodies.{EnumeratorAt}
-use Rattle.x_rules.specs.Tables.{view_enumerator_at}
+use Rattle.x_outline.specs.Bodies.{EnumeratorAt}
+use Rattle.x_outline.specs.Parts.{view_enumerator_at}
 use Rattle.x_rules.proofs.EnumeratorLemmas.{GoesNames}
 use Rattle.x_rules.proofs.rules.constants.add_names.Given as goal
 

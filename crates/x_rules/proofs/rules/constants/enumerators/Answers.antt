@@ -1,8 +1,8 @@
 use Rattle.std.proofs.Common.{◌≡◌, ◌+◌, ◌∷◌, ◌++◌, drop, map, ap, sym, ◌∙◌, append-nil}
 use Rattle.std.proofs.lemmas.List.{drop_all, drop_more}
-use Rattle.x_rules.specs.Bodies.{enumerators_in}
-use Rattle.x_rules.specs.BodyWalks.{view_body_at}
-use Rattle.x_rules.specs.Tables.{view_enumerator_at}
+use Rattle.x_outline.specs.Bodies.{enumerators_in}
+use Rattle.x_outline.specs.BodyWalks.{view_body_at}
+use Rattle.x_outline.specs.Parts.{view_enumerator_at}
 use Rattle.x_rules.proofs.EnumeratorLemmas.{in_more, among_at}
 use Rattle.x_rules.proofs.rules.constants.enumerators.Goals as goal
 

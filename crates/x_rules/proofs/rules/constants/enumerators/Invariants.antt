@@ -1,7 +1,7 @@
 use Rattle.std.proofs.Common.{◌≡◌, ◌++◌, drop, map}
-use Rattle.x_rules.specs.Bodies.{enumerators_in}
-use Rattle.x_rules.specs.BodyWalks.{AreFilled, view_body_at}
-use Rattle.x_rules.specs.Tables.{view_enumerator_at}
+use Rattle.x_outline.specs.Bodies.{enumerators_in}
+use Rattle.x_outline.specs.BodyWalks.{AreFilled, view_body_at}
+use Rattle.x_outline.specs.Parts.{view_enumerator_at}
 use Rattle.x_rules.proofs.rules.constants.enumerators.Given as goal
 
 abbrev pub invariant-loop-body : goal.invariant-loop-body

@@ -1,6 +1,6 @@
 use Rattle.std.specs.Prelude.{slice_get}
 use Rattle.std.proofs.Common.{None, Some, map, ap, sym, ◌∙◌}
-use Rattle.x_rules.specs.BodyWalks.{view_body_at}
+use Rattle.x_outline.specs.BodyWalks.{view_body_at}
 use Rattle.x_rules.proofs.MeaningLemmas.{body_in_place, lent_at}
 use Rattle.x_rules.proofs.rules.meanings.body_named.Goals as goal
 

@@ -2,7 +2,7 @@ use Rattle.std.proofs.Common.{ap, sym, ◌∙◌}
 use Rattle.std.proofs.lemmas.Result.{IfOk-weaker}
 use Rattle.std.specs.Cow.{cow_slice_items}
 use Rattle.x_trees.specs.View.{view_definition}
-use Rattle.x_rules.specs.Bodies as outline
+use Rattle.x_outline.specs.Bodies as outline
 use Rattle.x_rules.specs.Constants.{knowns}
 use Rattle.x_rules.specs.Meanings.{body_named, counted_type}
 use Rattle.x_rules.specs.Results.{meaning_as}

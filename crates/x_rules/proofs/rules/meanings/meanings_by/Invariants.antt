@@ -2,8 +2,8 @@ use Rattle.std.proofs.Common.{◌≡◌, ◌++◌, false, map, drop}
 use Rattle.std.specs.List.{list_any}
 use Rattle.x_trees.specs.Collected.{view_name}
 use Rattle.x_trees.specs.View.{view_definition}
-use Rattle.x_rules.specs.Bodies as outline
-use Rattle.x_rules.specs.BodyWalks.{view_body_at}
+use Rattle.x_outline.specs.Bodies as outline
+use Rattle.x_outline.specs.BodyWalks.{view_body_at}
 use Rattle.x_rules.specs.Constants.{knowns}
 use Rattle.x_rules.specs.KeptViews.{kept_meaning}
 use Rattle.x_rules.specs.Results.{meaning_of}

@@ -1,6 +1,6 @@
 use Rattle.std.proofs.Common.{◌≡◌, List, ◌++◌, map, drop}
 use Rattle.x_trees.specs.Collected.{view_mention}
-use Rattle.x_rules.specs.Bodies.{EnumeratorAt}
+use Rattle.x_outline.specs.Bodies.{EnumeratorAt}
 use Rattle.x_rules.specs.Constants.{Known}
 use Rattle.x_rules.specs.Tables.{HasNumbers, seen_by}
 use Rattle.x_rules.specs.Found.{mention_faults}

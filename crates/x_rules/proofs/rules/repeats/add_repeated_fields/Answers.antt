@@ -1,7 +1,7 @@
 use Rattle.std.proofs.Common.{◌≡◌, ◌+◌, ◌∷◌, ◌++◌, map, drop, ap, sym, ◌∙◌}
 use Rattle.std.proofs.lemmas.List.{drop_more}
 use Rattle.x_rules.specs.Found.{repeated_names}
-use Rattle.x_rules.specs.Tables.{view_name_at}
+use Rattle.x_outline.specs.Parts.{view_name_at}
 use Rattle.x_text.proofs.ListLemmas.{drop_none, listed_more, listed_all}
 use Rattle.x_rules.proofs.rules.repeats.add_repeated_fields.Goals as goal
 

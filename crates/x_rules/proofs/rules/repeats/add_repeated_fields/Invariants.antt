@@ -1,7 +1,7 @@
 use Rattle.std.proofs.Common.{◌≡◌, ◌++◌, map, drop}
 use Rattle.std.specs.List.{flat_map}
 use Rattle.x_rules.specs.Found.{repeated_names}
-use Rattle.x_rules.specs.Tables.{view_name_at}
+use Rattle.x_outline.specs.Parts.{view_name_at}
 use Rattle.x_rules.proofs.rules.repeats.add_repeated_fields.Given as goal
 
 -- with the faults of the bodies that are left, there are those of all

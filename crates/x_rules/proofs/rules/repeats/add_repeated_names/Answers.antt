@@ -2,8 +2,8 @@ use Rattle.std.proofs.Common.{◌≡◌, ◌+◌, suc, [], ◌++◌, map, drop, 
 use Rattle.std.specs.Str.{bytes_eq}
 use Rattle.x_rules.specs.Found.{fault_at, repeat_code, repeats_from}
 use Rattle.x_rules.specs.FirstPlaces.{first_from, first_place, is_behind}
-use Rattle.x_rules.specs.Tables.{view_name_at}
-use Rattle.x_rules.specs.declared.outline.parts.NameAt.{NameAt}
+use Rattle.x_outline.specs.Parts.{view_name_at}
+use Rattle.x_outline.specs.declared.parts.NameAt.{NameAt}
 use Rattle.x_rules.proofs.FirstLemmas.{first_named}
 use Rattle.x_text.proofs.ListLemmas.{drop_one, drop_none}
 use Rattle.x_rules.proofs.rules.repeats.add_repeated_names.Goals as goal

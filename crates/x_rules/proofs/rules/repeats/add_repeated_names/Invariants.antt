@@ -1,7 +1,7 @@
 use Rattle.std.proofs.Common.{◌≡◌, ◌++◌, map, drop}
 use Rattle.x_rules.specs.Found.{repeats_from, repeated_names}
 use Rattle.x_rules.specs.FirstPlaces.{first_place}
-use Rattle.x_rules.specs.Tables.{view_name_at}
+use Rattle.x_outline.specs.Parts.{view_name_at}
 use Rattle.x_rules.proofs.rules.repeats.add_repeated_names.Given as goal
 
 -- with the faults of the names that are left, there are those of all

@@ -1,6 +1,6 @@
 use Rattle.std.proofs.Common.{◌≡◌, ◌++◌, map, drop}
 use Rattle.x_rules.specs.Found.{spelled_numbers}
-use Rattle.x_rules.specs.Tables.{view_number_at}
+use Rattle.x_outline.specs.Parts.{view_number_at}
 use Rattle.x_rules.proofs.rules.repeats.numbers_of.Given as goal
 
 -- with those that are left, there are the numbers of all

@@ -1,7 +1,7 @@
 use Rattle.std.specs.Prelude.{slice_get, option_and_then}
 use Rattle.std.proofs.Common.{◌++◌, map, ap, ◌∙◌}
 use Rattle.x_rules.specs.Found.{fault_at, past_last}
-use Rattle.x_rules.specs.Tables.{view_enumerator_at, view_given}
+use Rattle.x_outline.specs.Parts.{view_enumerator_at, view_given}
 use Rattle.x_rules.proofs.PastLastLemmas.{past_next, past_none}
 use Rattle.x_rules.proofs.rules.words.add_past_last.Goals as goal
 

@@ -1,5 +1,5 @@
 use Rattle.std.proofs.Common.{◌≡◌, List, ◌++◌, drop}
-use Rattle.x_rules.specs.Bodies.{EnumeratorAt}
+use Rattle.x_outline.specs.Bodies.{EnumeratorAt}
 use Rattle.x_rules.specs.Constants.{Known}
 use Rattle.x_rules.specs.Found.{past_last_faults}
 use Rattle.x_rules.specs.Tables.{HasNumbers}

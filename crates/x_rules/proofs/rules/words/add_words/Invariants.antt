@@ -1,5 +1,5 @@
 use Rattle.std.proofs.Common.{◌≡◌, List, ◌++◌, map, drop}
-use Rattle.x_rules.specs.Bodies.{EnumeratorAt}
+use Rattle.x_outline.specs.Bodies.{EnumeratorAt}
 use Rattle.x_rules.specs.Constants.{Known}
 use Rattle.x_trees.specs.Notes.{view_note_at}
 use Rattle.x_rules.specs.Tables.{HasNumbers, seen_by}

@@ -1,6 +1,7 @@
 use Rattle.std.proofs.Common.{◌≡◌, ◌<◌, ◌≤◌, length, ap, sym, arith, refl, ◌∙◌}
 use Rattle.std.proofs.lemmas.List.{length-map}
-use Rattle.x_rules.specs.Tables.{seen_by, view_enumerator_at}
+use Rattle.x_outline.specs.Parts.{view_enumerator_at}
+use Rattle.x_rules.specs.Tables.{seen_by}
 use Rattle.x_rules.proofs.PlaceLemmas.{numbered_all, numbered_next}
 use Rattle.x_rules.proofs.rules.constants.Constants.number.Goals as goal
 

@@ -1,5 +1,5 @@
 use Rattle.std.proofs.Common.{List, []}
-use Rattle.x_rules.specs.Bodies as bodies
+use Rattle.x_outline.specs.Bodies as bodies
 use Rattle.x_rules.specs.Tables.{HasNumbers, seen_by}
 use Rattle.x_rules.proofs.PlaceLemmas.{Numbered}
 use Rattle.x_rules.proofs.rules.constants.Constants.number.Given as goal

@@ -1,5 +1,5 @@
 use Rattle.std.proofs.Common.{map, ap, refl}
-use Rattle.x_rules.specs.Tables.{view_enumerator_at}
+use Rattle.x_outline.specs.Parts.{view_enumerator_at}
 use Rattle.x_rules.proofs.rules.constants.Constants.of.Goals as goal
 
 pub returns : goal.returns

@@ -1,0 +1,2 @@
+pub mod BodyWalkLemmas
+pub mod MemberWalkLemmas
