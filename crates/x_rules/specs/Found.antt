@@ -172,6 +172,14 @@ repeated_members m =
 abbrev pub has_too_high : Definition → (List ℕ → View) → Bool
 has_too_high d see = list_any is_too_high (heights d see)
 
+-- what the rules for bodies find, but that for cases, and those for the members of programs and for heights
+abbrev pub body_faults : Definition → (List ℕ → View) → List Known → List WordFault
+body_faults d see known =
+    flat_map (λ b. repeated_cases see known (cases_of b)) (bodies d)
+    ++ (flat_map (λ b. repeated_names (fields_of b)) (bodies d)
+    ++ (flat_map repeated_members (members d)
+    ++ too_high_faults (has_too_high d see) (declared d)))
+
 -- what is found of a definition by all rules but that for cases, in the order in which the rules are tried;
 -- `known` are its enumerators with their numbers
 abbrev pub found_by : Definition → (List ℕ → View) → List Known → List WordFault
@@ -180,10 +188,7 @@ found_by d see known =
     ++ (mention_faults see (enumerators d) (mentioned d)
     ++ (note_faults see known (noted d)
     ++ (past_last_faults known
-    ++ (flat_map (λ b. repeated_cases see known (cases_of b)) (bodies d)
-    ++ (flat_map (λ b. repeated_names (fields_of b)) (bodies d)
-    ++ (flat_map repeated_members (members d)
-    ++ too_high_faults (has_too_high d see) (declared d)))))))
+    ++ body_faults d see known)))
 
 abbrev pub found_faults : Definition → (List ℕ → View) → List WordFault
 found_faults d see = found_by d see (knowns see (enumerators d))

@@ -1,6 +1,6 @@
 //! The check of an item.
 
-ghost use Rattle.std.specs.Prelude.{◌≡◌, map, IfOk};
+ghost use Rattle.std.specs.Prelude.{◌≡◌, ◌++◌, map, IfOk, OnOk};
 ghost use Rattle.x_text.specs.Counts.{raised};
 ghost use Rattle.std.specs.Cmp.{IsEquivalence, IsTotalOrder};
 ghost use Rattle.std.specs.Ordering.{eq_by_cmp};
@@ -9,7 +9,10 @@ ghost use Rattle.x_trees.specs.View.{view_definition};
 ghost use Rattle.x_trees.specs.Spell.{IsShort};
 ghost use Rattle.x_rules.specs.Results.{IsOutcome, meanings_by};
 ghost use Rattle.x_rules.specs.Rules.{Ascends, AreFaults};
-ghost use Rattle.x_rules.specs.Found.{found_faults};
+ghost use Rattle.x_trees.specs.Seen.{names_of};
+ghost use Rattle.x_outline.specs.Bodies.{enumerators};
+ghost use Rattle.x_rules.specs.Constants.{knowns};
+ghost use Rattle.x_rules.specs.Found.{body_faults, found_faults};
 ghost use Rattle.x_rules.specs.KeptViews.{kept_meaning};
 ghost use Rattle.x_outline.specs.Outlines.{IsOutline, outlined};
 ghost use Rattle.x_rules.specs.Outlined.{AreTables, GivesOutcome};
@@ -52,6 +55,33 @@ fn order(faults: &mut Vec<WordFault>)
     faults.dedup();
 }
 
+/// Adds what the rules for bodies find, but that for cases, and those for the members of programs and for
+/// heights.
+fn add_body_faults(
+    alloc: Global,
+    faults: &mut Vec<WordFault>,
+    outline: &Outline,
+    sights: &Sights,
+    constants: &Constants,
+) -> Result<(), NoMemory>
+    ensures { OnOk result (IsOutline outline.now → AreTables outline.now sights.now constants.now
+        → faults.new.items ≡ faults.old.items ++ body_faults (outlined outline.now) (seen_by sights.now)
+        (knowns (seen_by sights.now) (enumerators (outlined outline.now)))) }
+{
+    let groups = members(alloc, outline.definition)?;
+    add_repeated_cases(alloc, faults, &outline.bodies, sights, constants)?;
+    add_repeated_fields(alloc, faults, &outline.bodies)?;
+    add_repeated_members(alloc, faults, &groups)?;
+    add_too_high(
+        faults,
+        outline.definition,
+        &outline.declared,
+        &outline.bodies,
+        sights,
+    )?;
+    Ok(())
+}
+
 /// What all rules but that for cases find, in no order.
 fn found_faults(
     alloc: Global,
@@ -63,21 +93,11 @@ fn found_faults(
         → faults.items ≡ found_faults (outlined outline.now) (seen_by sights.now)) }
 {
     let mut faults = Vec::new(alloc);
-    let groups = members(alloc, outline.definition)?;
     add_duplicates(&mut faults, &outline.declared, sights)?;
     add_mentioned(&mut faults, &outline.mentioned, sights, constants)?;
     add_words(&mut faults, &outline.notes, sights, constants)?;
     add_past_last(&mut faults, constants)?;
-    add_repeated_cases(alloc, &mut faults, &outline.bodies, sights, constants)?;
-    add_repeated_fields(alloc, &mut faults, &outline.bodies)?;
-    add_repeated_members(alloc, &mut faults, &groups)?;
-    add_too_high(
-        &mut faults,
-        outline.definition,
-        &outline.declared,
-        &outline.bodies,
-        sights,
-    )?;
+    add_body_faults(alloc, &mut faults, outline, sights, constants)?;
     Ok(faults)
 }
 
@@ -139,6 +159,17 @@ fn checked(
     Ok(Checked::new(faults, meanings))
 }
 
+/// What is found of a definition whose names are seen so.
+fn outcome_seen(alloc: Global, outline: &Outline, sights: &Sights) -> Result<Checked, NoMemory>
+    ensures { IfOk result (λ checked. IsOutline outline.now
+        → map (λ x. x.now) sights.now.names ≡ names_of (outlined outline.now)
+        → GivesOutcome (outlined outline.now) (seen_by sights.now) checked) }
+{
+    let list = enumerators(alloc, &outline.bodies)?;
+    let constants = Constants::of(alloc, &list, sights)?;
+    checked(alloc, outline, sights, &constants)
+}
+
 /// What is found of a definition under these views.
 fn outcome(alloc: Global, outline: &Outline, views: &[View]) -> Result<Checked, NoMemory>
     ensures { IfOk result (λ checked. IsOutline outline.now
@@ -147,9 +178,7 @@ fn outcome(alloc: Global, outline: &Outline, views: &[View]) -> Result<Checked, 
     let mut names = SmallVec::new(alloc);
     list_names(&mut names, &outline.declared, &outline.mentioned)?;
     let sights = Sights::of(alloc, &names, views)?;
-    let list = enumerators(alloc, &outline.bodies)?;
-    let constants = Constants::of(alloc, &list, &sights)?;
-    checked(alloc, outline, &sights, &constants)
+    outcome_seen(alloc, outline, &sights)
 }
 
 /// Checks the definition of an item by the rules beyond its spelling (RFC 4506, section 6.4). There is one

@@ -33,29 +33,7 @@ returns c o t =
     ∙ ap (λ f. duplicates_from see f 0 (map view_name ds)) (ap (λ names name. first_place 0 names name) t.names) ∙ ap (duplicates_from see first 0) o.names_are in
     let uses = ap (λ l. mention_faults see all (map view_mention l)) c.deref-2.ensures.value ∙ ap (mention_faults see all) o.uses_are in
     let noted = ap (λ ns. note_faults see known (map view_note_at ns)) c.deref-3.ensures.value ∙ ap (note_faults see known) o.notes_are in
-    let cases =
-    ap (flat_map (λ b. repeated_cases see known (map view_value_at b.cases.items))) c.deref-4.ensures.value
-    ∙ flat_bodies (λ b. repeated_cases see known (map view_value_at b.cases.items)) (λ b. repeated_cases see known (cases_of b)) bs (λ b k. ap (repeated_cases see known) (o.filled b k).cases)
-    ∙ ap (flat_map (λ b. repeated_cases see known (cases_of b))) o.bodies_are in
-    let fields =
-    ap (flat_map (λ b. repeated_names (map view_name_at b.fields.items))) c.deref-5.ensures.value
-    ∙ flat_bodies (λ b. repeated_names (map view_name_at b.fields.items)) (λ b. repeated_names (fields_of b)) bs (λ b k. ap repeated_names (o.filled b k).fields)
-    ∙ ap (flat_map (λ b. repeated_names (fields_of b))) o.bodies_are in
-    let groups =
-    ap (flat_map (λ m. repeated_members (view_members m))) c.deref-6.ensures.value ∙ flat_mapped repeated_members view_members c.in_ok-groups.groups.items ∙ ap (flat_map repeated_members) (c.in_ok-groups.ensures o.short) in
-    let tall =
-    ap (list_any (λ b. is_too_high (body_height see (view_body b.body.now)))) c.deref-8.ensures.value
-    ∙ any_map is_too_high (λ b. body_height see (view_body b.body.now)) bs
-    ∙ ap (list_any is_too_high) (map_map (λ b. body_height see b.body) view_body_at bs ∙ ap (map (λ b. body_height see b.body)) o.bodies_are) in
-    let high =
-    ap (λ l. too_high_faults (list_any is_too_high (defined_heights d see) || list_any (λ b. is_too_high (body_height see (view_body b.body.now))) c.deref-8.result.now) (map view_name l)) c.deref-7.ensures.value
-    ∙ ap (λ h. too_high_faults (list_any is_too_high (defined_heights d see) || h) (map view_name ds)) tall
-    ∙ ap (λ h. too_high_faults h (map view_name ds)) (sym (any_append is_too_high (defined_heights d see) (map (λ b. body_height see b.body) (bodies d))))
-    ∙ ap (too_high_faults (has_too_high d see)) o.names_are in
-    let h7 = added_last _ _ _ _ c.in_ok-add_too_high.ensures high in
-    let h6 = added_before _ _ _ _ _ _ h7 c.in_ok-add_repeated_members.ensures groups in
-    let h5 = added_before _ _ _ _ _ _ h6 c.in_ok-add_repeated_fields.ensures fields in
-    let h4 = added_before _ _ _ _ _ _ h5 (c.in_ok-add_repeated_cases.ensures all known t.numbers) cases in
+    let h4 = added_last _ _ _ _ (c.in_ok-add_body_faults.ensures o t) refl in
     let h3 = added_before _ _ _ _ _ _ h4 (c.in_ok-add_past_last.ensures all known t.numbers) refl in
     let h2 = added_before _ _ _ _ _ _ h3 (c.in_ok-add_words.ensures all known t.numbers) noted in
     let h1 = added_before _ _ _ _ _ _ h2 (c.in_ok-add_mentioned.ensures all known t.numbers) uses in

@@ -1,27 +1,20 @@
-use Rattle.std.proofs.Common.{◌≡◌, List, ℕ, ◌++◌, map, sym, ap, subst, ◌∙◌}
+use Rattle.std.proofs.Common.{◌≡◌, List, ℕ, ◌++◌, map, ap, ◌∙◌}
 use Rattle.std.proofs.lemmas.Result.{IfOk-weaker}
 use Rattle.std.specs.Cow.{cow_slice_items}
 use Rattle.x_trees.specs.Collected.{view_mention}
 use Rattle.x_trees.specs.Collected.{view_name}
 use Rattle.x_trees.specs.Names.{Declared, declared}
-use Rattle.x_outline.specs.Bodies.{enumerators_in}
-use Rattle.x_outline.specs.BodyWalks.{view_body_at, AreFilled}
-use Rattle.x_rules.specs.Constants.{knowns}
-use Rattle.x_outline.specs.Outlines.{outlined}
-use Rattle.x_rules.specs.Outlined.{AreTables}
 use Rattle.x_trees.specs.Seen.{names_of}
-use Rattle.x_outline.specs.Parts.{view_enumerator_at}
-use Rattle.x_rules.specs.Tables.{HasNumbers, seen_by}
+use Rattle.x_outline.specs.Outlines.{outlined}
 use Rattle.x_rules.proofs.OutlineLemmas.{map_map, outcome_by}
 use Rattle.x_rules.proofs.check.outcome.Goals as goal
 
 pub returns : goal.returns
 returns c =
-    IfOk-weaker c.checked.result _ _
+    IfOk-weaker c.outcome_seen.result _ _
     (λ checked h o.
     let outline = c.args.outline.now in
     let sights = c.in_ok-sights.sights in
-    let constants = c.in_ok-constants.constants in
     let d = outlined outline in
     let names =
     ap (map (λ x. cow_slice_items x.name)) c.deref.ensures.value
@@ -32,9 +25,5 @@ returns c =
     let front : List (List ℕ) = map (λ (x : Declared). x.name) (declared d) in
     let seen : map (λ x. x.now) sights.names ≡ names_of d =
     ap (map (λ x. x.now)) (c.in_ok-sights.ensures.names ∙ c.deref-3.ensures) ∙ c.in_ok-list_names.ensures c.new-names.ensures.items ∙ ap (λ l. l ++ map (λ m. m.name.now) c.deref-2.result.now) names ∙ ap (λ l. front ++ l) uses in
-    let enumerators_are =
-    ap (map view_enumerator_at) c.deref-5.ensures.value ∙ c.in_ok-list.ensures (subst AreFilled (sym c.deref-4.ensures.value) o.filled) ∙ ap (λ l. enumerators_in (map view_body_at l)) c.deref-4.ensures.value ∙ ap enumerators_in o.bodies_are in
-    let numbers = subst (λ all. HasNumbers constants all (knowns (seen_by sights) all)) enumerators_are c.in_ok-constants.ensures in
-    let tables : AreTables outline sights constants = record { names = seen; numbers = numbers } in
-    outcome_by d (map (λ x. x.now) sights.names) sights.views.now c.args.views.now checked seen c.in_ok-sights.ensures.views (h o tables))
-    c.checked.ensures
+    outcome_by d (map (λ x. x.now) sights.names) sights.views.now c.args.views.now checked seen c.in_ok-sights.ensures.views (h o seen))
+    c.outcome_seen.ensures
