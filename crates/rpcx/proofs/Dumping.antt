@@ -17,8 +17,8 @@ use Rattle.rpcx.specs.Dumping.{HasTypes, IsFaultless, IsWholeFile, Opens, ReadsA
 use Rattle.rpcx.specs.Dumping.{StopsAt}
 use Rattle.rpcx.specs.Generate.{NotOpened, told_faults}
 use Rattle.x_args.specs.Telling.{IsTold}
-use Rattle.rpcx.specs.declared.program.dumping.Halt.{Halt}
-use Rattle.rpcx.specs.declared.program.dumping.Halt.TheVariants.{NoType, Unread, TooLarge, NoRoom, Ended, Unwritten}
+use Rattle.rpcx.specs.declared.rpcdump.halt.Halt.{Halt}
+use Rattle.rpcx.specs.declared.rpcdump.halt.Halt.TheVariants.{NoType, Unread, TooLarge, NoRoom, Ended, Unwritten}
 use Rattle.x_args.specs.declared.dumping_args.Mode.{Mode}
 use Rattle.x_args.specs.declared.dumping_args.Mode.TheVariants as modes
 use Rattle.x_args.specs.declared.status.Status.{Status}

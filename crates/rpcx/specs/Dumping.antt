@@ -20,9 +20,9 @@ use Rattle.x_wire.specs.declared.nfs2.TheConstants.{NFS2_X}
 use Rattle.rpcx.specs.Course.{Course, IsIdle}
 use Rattle.rpcx.specs.Generate.{NotOpened, stop_told, told_faults}
 use Rattle.x_args.specs.Telling.{IsTold}
-use Rattle.rpcx.specs.declared.program.dumping.Halt.{Halt}
-use Rattle.rpcx.specs.declared.program.dumping.Halt.TheVariants.{NoType, Unread, TooLarge, NoRoom, Ended}
-use Rattle.rpcx.specs.declared.program.dumping.Halt.TheVariants.{Unwritten}
+use Rattle.rpcx.specs.declared.rpcdump.halt.Halt.{Halt}
+use Rattle.rpcx.specs.declared.rpcdump.halt.Halt.TheVariants.{NoType, Unread, TooLarge, NoRoom, Ended}
+use Rattle.rpcx.specs.declared.rpcdump.halt.Halt.TheVariants.{Unwritten}
 use Rattle.x_args.specs.declared.dumping_args.DumpArgs.{DumpArgs}
 use Rattle.x_args.specs.declared.dumping_args.Mode.{Mode}
 use Rattle.x_args.specs.declared.dumping_args.Mode.TheVariants as modes

@@ -1,9 +1,15 @@
 //! What the programs do: the files that they read, their runs, and what they tell.
 #![tactic(auto)]
 
-mod program;
+mod files;
+mod rpcdump;
+mod rpcedit;
+mod rpcgen;
 
-pub use program::{dump_run, edit_run, gen_open, gen_write, read_text};
+pub use files::reading::read_text;
+pub use rpcdump::dump_run;
+pub use rpcedit::edit_run;
+pub use rpcgen::{gen_open, gen_write};
 pub use x_args::{
     DumpArgs, EditArgs, GenArgs, Manual, Mode, RPCDUMP, RPCEDIT, RPCGEN, Status, VERSION,
     answer_words, complain, dump_args, dump_mode, edit_args, gen_args, gen_mode, read_words,

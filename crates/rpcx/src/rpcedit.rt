@@ -1,0 +1,81 @@
+//! What `rpcedit` does over a text that was read, a tap and sinks.
+
+ghost use Rattle.std.specs.Prelude.{◌≡◌, ◌≢◌, ◌<◌, MatchOption, length};
+ghost use Rattle.x_text.specs.Engines.{WorksOn};
+ghost use Rattle.x_text.specs.Limits.{most_text};
+ghost use Rattle.rpcx.specs.Course.{course};
+ghost use Rattle.rpcx.specs.Editing.{Answers, IsStopped, NotRun};
+ghost use Rattle.rpcx.specs.Generate.{base_of};
+
+use crate::files::base::base_of_file;
+use crate::files::complaint::{tell_stop, tell_unopened};
+use std::alloc::Global;
+use std::mem;
+use x_args::{EditArgs, Status};
+use x_session::{Outcome, Session, run_script};
+use x_text::{Sink, Tap};
+
+/// Opens the text of a file, carries out the script of the input, and answers the status: `Done` where each
+/// line was carried out, `Faulty` where one was refused, and `Failed` where the run could not be carried out,
+/// which it tells.
+pub fn edit_run<I: Tap, O: Sink, E: Sink>(
+    alloc: Global,
+    args: &EditArgs,
+    bytes: &[u8],
+    input: &mut I,
+    out: &mut O,
+    err: &mut E,
+) -> Status
+    ensures too_large { most_text < length bytes.now → result ≡ Status.Failed }
+    ensures failed { result ≡ Status.Failed
+        → NotRun args.now.file.now bytes.now
+        (course (I.state input.old) (I.state input.new) (O.state out.old) (O.state out.new))
+        (E.state err.old) (E.state err.new) }
+    ensures quiet { result ≢ Status.Failed → err.new ≡ err.old }
+    ensures reading { result ≢ Status.Failed → (I.state input.new).failed ≡ (I.state input.old).failed }
+    ensures working { result ≢ Status.Failed → WorksOn (O.state out.old).failed (O.state out.new).failed }
+    ensures answers { MatchOption (I.state input.old).bytes (Unit {0})
+        (λ script. Answers script (base_of args.now.file.now) bytes.now (O.state out.old)
+        (O.state out.new) result) }
+{
+    let mut session = match Session::open(alloc, base_of_file(args.file), bytes) {
+        Ok(session) => session,
+        Err(fault) => {
+            tell_unopened("rpcedit", args.file, fault, err);
+            return Status::Failed;
+        }
+    };
+    let status = answer_input(alloc, &mut session, input, out, err);
+    // The process ends next, and gives all memory back at once.
+    mem::forget(session);
+    status
+}
+
+/// Carries out the script of the input, and answers the status.
+fn answer_input<I: Tap, O: Sink, E: Sink>(
+    alloc: Global,
+    session: &mut Session,
+    input: &mut I,
+    out: &mut O,
+    err: &mut E,
+) -> Status
+    ensures stopped { result ≡ Status.Failed
+        → IsStopped session.old.base session.old.text
+        (course (I.state input.old) (I.state input.new) (O.state out.old) (O.state out.new))
+        (E.state err.old) (E.state err.new) }
+    ensures quiet { result ≢ Status.Failed → err.new ≡ err.old }
+    ensures reading { result ≢ Status.Failed → (I.state input.new).failed ≡ (I.state input.old).failed }
+    ensures working { result ≢ Status.Failed → WorksOn (O.state out.old).failed (O.state out.new).failed }
+    ensures answers { MatchOption (I.state input.old).bytes (Unit {0})
+        (λ script. Answers script session.old.base session.old.text (O.state out.old)
+        (O.state out.new) result) }
+{
+    match run_script(alloc, session, input, out) {
+        Ok(Outcome::Clean) => Status::Done,
+        Ok(Outcome::Refused) => Status::Faulty,
+        Err(fault) => {
+            tell_stop("rpcedit", "-", fault, err);
+            Status::Failed
+        }
+    }
+}
