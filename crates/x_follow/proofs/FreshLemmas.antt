@@ -6,7 +6,7 @@ use Rattle.std.proofs.lemmas.List.Elements.{All-nil, All-push}
 use Rattle.std.proofs.lemmas.Option.{same_Some}
 use Rattle.x_text.proofs.LengthLemmas.{before_le, before_read}
 use Rattle.x_lex.specs.Places.{Lexeme}
-use Rattle.x_cutting.specs.ItemList.{counts, tokens_before, tokens_in, total}
+use Rattle.x_cutting.specs.ItemList.{counts, tokens_before, total}
 use Rattle.x_cutting.specs.ItemList as items
 use Rattle.x_item.specs.Parse.{IsParse}
 use Rattle.x_cutting.specs.declared.cutting.item_entry.ItemEntry.{ItemEntry}

@@ -1,7 +1,7 @@
 //! What an edit does to all that is kept of a text: first it is planned, for which memory may be refused, and
 //! then it is carried out, which takes none.
 
-ghost use Rattle.std.specs.Prelude.{◌≡◌, ◌+◌, ◌≤◌, All, IfOk, None, map, length};
+ghost use Rattle.std.specs.Prelude.{◌≡◌, ◌+◌, ◌≤◌, All, IfOk, None, length};
 ghost use Rattle.x_text.specs.Counts.{raised};
 ghost use Rattle.x_text.specs.Edits.{Change, change_of, edited_by, LiesWithin};
 ghost use Rattle.x_text.specs.Seqs.{distance};

@@ -1,12 +1,8 @@
 -- What the program keeps of an item while it is checked, as the definitions have it.
 use Rattle.std.specs.Prelude.{◌≡◌, ℕ, ◌-◌, ◌^◌, min, nat_lt, true, false, Bool, List, ◌++◌, length, map, take}
-use Rattle.std.specs.Prelude.{Option, Some, None, option_map, slice_get}
-use Rattle.std.specs.Borrow.{Bor}
+use Rattle.std.specs.Prelude.{Option, Some, None, slice_get}
 use Rattle.std.specs.Cow.{cow_slice_items}
 use Rattle.std.specs.Option.{option_map_or}
-use Rattle.x_trees.specs.Tree as tree
-use Rattle.x_trees.specs.View.{view_value}
-use Rattle.x_trees.specs.declared.trees.value.Value.{Value}
 use Rattle.x_trees.specs.declared.names.declared_name.DeclaredName.{DeclaredName}
 use Rattle.x_trees.specs.declared.names.mention.Mention.{Mention}
 use Rattle.x_trees.specs.declared.names.mention.Use.{Use}
@@ -21,12 +17,9 @@ use Rattle.x_rules.specs.declared.rules.classes.Sight.{Sight}
 use Rattle.x_rules.specs.Limits.{most_height}
 use Rattle.x_rules.specs.declared.views.View.{View}
 use Rattle.x_outline.specs.declared.parts.EnumeratorAt.{EnumeratorAt}
-use Rattle.x_outline.specs.declared.parts.Members.{Members}
-use Rattle.x_outline.specs.declared.parts.NameAt.{NameAt}
-use Rattle.x_outline.specs.declared.parts.ValueAt.{ValueAt}
-use Rattle.x_outline.specs.declared.parts.NumberAt.{NumberAt}
 use Rattle.x_rules.specs.declared.rules.sights.Sights.{Sights}
 use Rattle.x_rules.specs.declared.rules.constants.Constants.{Constants}
+use Rattle.x_outline.specs.Parts.{view_enumerator_at}
 
 -- ---- views
 

@@ -1,29 +1,27 @@
 -- What work edits took.
 use Rattle.std.proofs.Common.{◌≡◌, ℕ, zero, suc, ◌+◌, ◌<◌, ◌≤◌, ◌-◌, ◌^◌, List, [], ◌∷◌, ◌++◌, Option, Some, length, map, take, drop, refl, sym, ap, subst, ◌∙◌, arith, lit≤}
 use Rattle.std.specs.Global.{Box}
-use Rattle.std.specs.Prelude.{◌↔◌, option_and_then, option_map, slice_get, sum_by}
+use Rattle.std.specs.Prelude.{option_and_then, slice_get, sum_by}
 use Rattle.std.specs.List as Among
 use Rattle.std.specs.List.{splice}
-use Rattle.std.proofs.lemmas.List.{length-append, length-map, take-map, drop-map}
+use Rattle.std.proofs.lemmas.List.{length-append, length-map}
 use Rattle.std.proofs.lemmas.List.Sums.{sum_by-append}
 use Rattle.x_text.specs.Counts.{raised}
 use Rattle.x_text.specs.Edits.{Change, change_of, edited_by}
 use Rattle.x_text.specs.Seqs.{distance}
 use Rattle.x_text.specs.declared.text.edit.Edit.{Edit}
 use Rattle.x_text.specs.declared.text.source.TheConstants.{MAX_TEXT}
-use Rattle.x_text.proofs.ListLemmas.{map_append}
 use Rattle.x_lex.specs.declared.kind.Kind.{Kind}
 use Rattle.x_lex.specs.Places.{lexemes}
-use Rattle.x_lex.specs.Relex.{IsPatch, old_place}
+use Rattle.x_lex.specs.Relex.{IsPatch}
 use Rattle.x_lex.specs.Tiling.{AreTokens}
 use Rattle.x_lex.specs.TokenList as tokens
 use Rattle.x_lex.specs.TokenList.{IsOfText, TokenPatch}
 use Rattle.x_cutting.specs.ItemList as items
-use Rattle.x_cutting.specs.ItemList.{AreOfText, ItemChange, counts, patched, tokens_before, tokens_in}
+use Rattle.x_cutting.specs.ItemList.{AreOfText, ItemChange, counts, patched, tokens_in}
 use Rattle.x_cutting.specs.Items.{IsCut}
-use Rattle.x_cutting.specs.Recut.{EndsBefore, IsAmong, IsBehind, IsItemPatch, IsRecut, IsRejoining, start_of}
+use Rattle.x_cutting.specs.Recut.{IsAmong, IsItemPatch}
 use Rattle.x_cutting.specs.declared.cutting.item_entry.ItemEntry.{ItemEntry}
-use Rattle.x_cutting.proofs.CountLemmas.{counts-splice}
 use Rattle.x_rules.specs.Results.{Outcome}
 use Rattle.x_trees.proofs.AmongLemmas.{among_first, among_more}
 use Rattle.x_recheck.specs.Editing.{TextEdit, definitions_after}

@@ -1,13 +1,13 @@
 //! Scripts of edits and questions.
 
-ghost use Rattle.std.specs.Prelude.{◌≡◌, ◌≤◌, ◌||◌, ℕ, List, length, IfOk, IfErr, OnErr, MatchOption, IsTrue};
+ghost use Rattle.std.specs.Prelude.{◌≡◌, ◌≤◌, ℕ, List, length, IfOk, OnErr, MatchOption};
 ghost use Rattle.x_text.specs.Edits.{change_of};
 ghost use Rattle.x_text.specs.Writing.{Adds};
 ghost use Rattle.x_session.specs.Session.{Compiles};
 ghost use Rattle.x_session.specs.Answers.{answer, edit_answer};
 ghost use Rattle.x_lines.specs.declared.lines.TheConstants.{LONGEST};
 ghost use Rattle.x_session.specs.Script.{AddsIfFound, IsGiven, LineAnswers, HasGiven, GoesOn, Runs};
-ghost use Rattle.x_text.specs.Engines.{NamesCause, is_refused};
+ghost use Rattle.x_text.specs.Engines.{NamesCause};
 ghost use Rattle.x_lines.specs.Lines.{FailsBy};
 
 mod answer;

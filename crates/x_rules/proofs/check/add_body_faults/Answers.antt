@@ -1,19 +1,15 @@
-use Rattle.std.proofs.Common.{map, ◌++◌, refl, sym, ap, ◌∙◌}
+use Rattle.std.proofs.Common.{map, sym, ap, ◌∙◌}
 use Rattle.std.specs.Prelude.{◌||◌}
 use Rattle.std.specs.List.{flat_map, list_any}
-use Rattle.x_trees.specs.Collected.{view_mention}
 use Rattle.x_trees.specs.View.{view_body}
 use Rattle.x_trees.specs.Collected.{view_name}
-use Rattle.x_trees.specs.Seen.{names_of}
 use Rattle.x_outline.specs.Bodies.{enumerators, bodies, cases_of, fields_of}
 use Rattle.x_outline.specs.BodyWalks.{view_body_at}
 use Rattle.x_rules.specs.Constants.{knowns}
-use Rattle.x_rules.specs.Found.{duplicates_from, mention_faults, note_faults, repeated_cases, repeated_names, repeated_members, too_high_faults, has_too_high, found_faults}
-use Rattle.x_trees.specs.Notes.{view_note_at}
+use Rattle.x_rules.specs.Found.{repeated_cases, repeated_names, repeated_members, too_high_faults, has_too_high}
 use Rattle.x_outline.specs.Outlines.{outlined}
-use Rattle.x_rules.specs.FirstPlaces.{first_place}
 use Rattle.x_outline.specs.Parts.{view_value_at, view_name_at, view_members}
-use Rattle.x_rules.specs.Tables.{seen_by, place_seen, is_too_high}
+use Rattle.x_rules.specs.Tables.{seen_by, is_too_high}
 use Rattle.x_rules.specs.Types.{defined_heights, body_height}
 use Rattle.x_rules.proofs.OutlineLemmas.{map_map, flat_mapped, flat_bodies, any_append, any_map, added_before, added_last}
 use Rattle.x_rules.proofs.check.add_body_faults.Goals as goal

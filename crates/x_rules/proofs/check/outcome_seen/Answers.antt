@@ -1,8 +1,7 @@
-use Rattle.std.proofs.Common.{◌≡◌, map, sym, ap, subst, ◌∙◌}
+use Rattle.std.proofs.Common.{map, sym, ap, subst, ◌∙◌}
 use Rattle.std.proofs.lemmas.Result.{IfOk-weaker}
 use Rattle.x_outline.specs.Bodies.{enumerators_in}
 use Rattle.x_outline.specs.BodyWalks.{view_body_at, AreFilled}
-use Rattle.x_outline.specs.Outlines.{outlined}
 use Rattle.x_outline.specs.Parts.{view_enumerator_at}
 use Rattle.x_rules.specs.Constants.{knowns}
 use Rattle.x_rules.specs.Outlined.{AreTables}
