@@ -11,8 +11,10 @@ ghost use Rattle.x_lex.specs.Tiling.{AreTokens, end_of};
 ghost use Rattle.x_lex.specs.TokenList as tokens_of;
 ghost use Rattle.x_cutting.specs.ItemList as items_of;
 ghost use Rattle.x_cutting.specs.Recut.{IsRelexed, IsItemPatch};
-ghost use Rattle.x_follow.specs.Following.{AreFollowed, AreUsed, CanCarryOut, IsPlan, IsToFollow, behind};
-ghost use Rattle.x_compile.specs.KeptView.{AreParsed, AreWith, kept_found};
+ghost use Rattle.x_names.specs.Declarers.{AreShort};
+ghost use Rattle.x_follow.specs.Following.{AreFollowed, AreStaleChecked, AreUsed, CanCarryOut, HasRoomForNames};
+ghost use Rattle.x_follow.specs.Following.{IsCheckedTable, IsNameChange, IsPlan, IsToFollow, behind};
+ghost use Rattle.x_compile.specs.KeptView.{AreParsed, AreWith, entry_definitions, kept_found};
 ghost use Rattle.x_follow.specs.Moves.{changed_items, moves, place_of, seat_behind};
 ghost use Rattle.x_follow.specs.Planned.{numbers_of};
 
@@ -74,18 +76,52 @@ pub fn plan_edit(
 {
     let patch = next_tokens(alloc, old, edit, new, tokens, meter)?;
     let fresh = next_items(alloc, tokens, &patch, new, &mut items.entries, meter)?;
-    let put = fresh_definitions(alloc, &fresh)?;
-    let names = change_names(alloc, items, &fresh, &put)?;
-    let found = check_stale_items(alloc, items, &fresh, &put, &names, meter)?;
-    drop(put);
-    let faults = faults_behind(items, &fresh, &found)?;
+    let checks = plan_checks(alloc, items, &fresh, meter)?;
+    let faults = faults_behind(items, &fresh, &checks.found)?;
     Ok(Plan {
         tokens: patch,
         items: fresh,
-        names,
-        found,
+        names: checks.names,
+        found: checks.found,
         faults,
     })
+}
+
+/// What becomes of the names of items, and of those that are stale.
+#[derive(Drop)]
+struct Checks {
+    names: NameChange,
+    found: Vec<PlannedResult>,
+}
+
+/// Plans what becomes of the names of items and of those that are stale, where an edit makes this of the items
+/// and these are the fresh ones. The table of names is made where there was none. Counts each stale item as
+/// checked.
+fn plan_checks(
+    alloc: Global,
+    items: &mut ItemTable,
+    fresh: &ItemPatch<Content>,
+    meter: &mut Meter,
+) -> Result<Checks, NoMemory>
+    requires among { items_of.LiesAmong items.old.entries.list fresh.now }
+    requires of_text { items_of.AreOfText (items_of.counts (items_of.patched items.old.entries.list fresh.now)) }
+    requires checked { IsCheckedTable items.old }
+    requires short { AreShort (entry_definitions fresh.now.fresh) }
+    requires unchecked { All (λ e. kept_found e.kept ≡ None) fresh.now.fresh }
+    ensures entries { items.new.entries ≡ items.old.entries }
+    ensures faults { items.new.faults ≡ items.old.faults }
+    ensures uses { AreUsed items.old.entries.list items.new.uses }
+    ensures change { IfOk result (λ checks. IsNameChange items.old.entries.list fresh.now checks.names) }
+    ensures room { IfOk result (λ checks. HasRoomForNames items.new.uses checks.names) }
+    ensures stale { IfOk result
+        (λ checks. AreStaleChecked items.old.entries.list fresh.now checks.found.items) }
+    ensures ticks { IfOk result (λ checks. meter.new
+        ≡ record meter.old { checked = raised meter.old.checked (length checks.found.items) }) }
+{
+    let put = fresh_definitions(alloc, fresh)?;
+    let names = change_names(alloc, items, fresh, &put)?;
+    let found = check_stale_items(alloc, items, fresh, &put, &names, meter)?;
+    Ok(Checks { names, found })
 }
 
 /// What the edit does to the tokens, and makes room for it.
