@@ -1,4 +1,5 @@
-//! What the programs share: a file's text, the name that generated texts use, and how is told what stops a run.
+//! What the programs share: a file's text, the name that generated texts use, and what is told of a run that
+//! stops.
 
 pub mod base;
 pub mod complaint;

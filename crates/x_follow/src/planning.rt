@@ -12,8 +12,9 @@ ghost use Rattle.x_lex.specs.TokenList as tokens_of;
 ghost use Rattle.x_cutting.specs.ItemList as items_of;
 ghost use Rattle.x_cutting.specs.Recut.{IsRelexed, IsItemPatch};
 ghost use Rattle.x_names.specs.Declarers.{AreShort};
-ghost use Rattle.x_follow.specs.Following.{AreFollowed, AreStaleChecked, AreUsed, CanCarryOut, HasRoomForNames};
-ghost use Rattle.x_follow.specs.Following.{IsCheckedTable, IsNameChange, IsPlan, IsToFollow, behind};
+ghost use Rattle.x_follow.specs.Following.{AreFollowed, AreStaleChecked, AreUsed, CanCarryOut};
+ghost use Rattle.x_follow.specs.Following.{HasRoomForNames, IsCheckedTable, IsNameChange, IsPlan, IsToFollow};
+ghost use Rattle.x_follow.specs.Following.{behind};
 ghost use Rattle.x_compile.specs.KeptView.{AreParsed, AreWith, entry_definitions, kept_found};
 ghost use Rattle.x_follow.specs.Moves.{changed_items, moves, place_of, seat_behind};
 ghost use Rattle.x_follow.specs.Planned.{numbers_of};
@@ -94,9 +95,8 @@ struct Checks {
     found: Vec<PlannedResult>,
 }
 
-/// Plans what becomes of the names of items and of those that are stale, where an edit makes this of the items
-/// and these are the fresh ones. The table of names is made where there was none. Counts each stale item as
-/// checked.
+/// Plans what becomes of the names of items, and of those that are stale, where an edit does this to the
+/// items. The table of names is made where there was none. Counts each stale item as checked.
 fn plan_checks(
     alloc: Global,
     items: &mut ItemTable,

@@ -1,5 +1,5 @@
-//! What stands in a definition, by its words ([`Outline`]): its names, its bodies, and what its words are to the
-//! rules; and the versions of a program and their procedures ([`members`]).
+//! What stands in a definition, by its words ([`Outline`]): its names, its bodies, and what its words are to
+//! the rules; and the versions of a program and their procedures ([`members`]).
 #![tactic(auto)]
 
 mod bodies;

@@ -1,5 +1,6 @@
 -- The words that a definition is written as, and what no definition may go over.
-use Rattle.std.specs.Prelude.{◌≡◌, ℕ, zero, suc, List, [], ◌∷◌, ◌++◌, false, Option, Some, None, ◌<◌, ◌^◌, length}
+use Rattle.std.specs.Prelude.{◌≡◌, ℕ, zero, suc, List, [], ◌∷◌, ◌++◌, false}
+use Rattle.std.specs.Prelude.{Option, Some, None, ◌<◌, ◌^◌, length}
 use Rattle.x_trees.specs.Tree as tree
 use Rattle.x_trees.specs.Words.{Word}
 use Rattle.x_trees.specs.Gloss as by
