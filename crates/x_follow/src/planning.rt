@@ -10,6 +10,7 @@ ghost use Rattle.x_lex.specs.Relex.{IsPatch};
 ghost use Rattle.x_lex.specs.Tiling.{AreTokens, end_of};
 ghost use Rattle.x_lex.specs.TokenList as tokens_of;
 ghost use Rattle.x_cutting.specs.ItemList as items_of;
+ghost use Rattle.x_cutting.specs.ItemList.{AreOfText, counts};
 ghost use Rattle.x_cutting.specs.Recut.{IsRelexed, IsItemPatch};
 ghost use Rattle.x_names.specs.Declarers.{AreShort};
 ghost use Rattle.x_follow.specs.Following.{AreFollowed, AreStaleChecked, AreUsed, CanCarryOut};
@@ -104,7 +105,7 @@ fn plan_checks(
     meter: &mut Meter,
 ) -> Result<Checks, NoMemory>
     requires among { items_of.LiesAmong items.old.entries.list fresh.now }
-    requires of_text { items_of.AreOfText (items_of.counts (items_of.patched items.old.entries.list fresh.now)) }
+    requires of_text { AreOfText (counts (items_of.patched items.old.entries.list fresh.now)) }
     requires checked { IsCheckedTable items.old }
     requires short { AreShort (entry_definitions fresh.now.fresh) }
     requires unchecked { All (λ e. kept_found e.kept ≡ None) fresh.now.fresh }
