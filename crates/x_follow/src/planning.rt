@@ -115,7 +115,7 @@ fn plan_checks(
     ensures change { IfOk result (λ checks. IsNameChange items.old.entries.list fresh.now checks.names) }
     ensures room { IfOk result (λ checks. HasRoomForNames items.new.uses checks.names) }
     ensures stale { IfOk result
-        (λ checks. AreStaleChecked items.old.entries.list fresh.now checks.found.items) }
+        (λ checks. AreStaleChecked items.new.entries.list fresh.now checks.found.items) }
     ensures ticks { IfOk result (λ checks. meter.new
         ≡ record meter.old { checked = raised meter.old.checked (length checks.found.items) }) }
 {

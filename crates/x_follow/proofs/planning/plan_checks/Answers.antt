@@ -1,15 +1,10 @@
-use Rattle.std.proofs.Common.{ap, subst}
+use Rattle.std.proofs.Common.{ap}
 use Rattle.x_text.specs.Seqs.{Gapped}
 use Rattle.x_cutting.specs.declared.cutting.item_entry.ItemEntry.{ItemEntry}
 use Rattle.x_compile.specs.declared.content.Content.{Content}
-use Rattle.x_follow.specs.Following.{AreStaleChecked}
 use Rattle.x_follow.proofs.TableLemmas.{table_same}
 use Rattle.x_follow.proofs.planning.plan_checks.Goals as goal
 
 pub check_stale_items-requires-clause-checked : goal.check_stale_items-requires-clause-checked
 check_stale_items-requires-clause-checked c =
     table_same c.args.items.now c.change_names.new.items c.requires.checked (ap (λ (g : Gapped (ItemEntry Content)). g.list) c.in_ok-names.ensures.entries) c.in_ok-names.ensures.faults c.in_ok-names.ensures.uses
-
-pub returns-clause-stale : goal.returns-clause-stale
-returns-clause-stale c =
-    subst (λ l. AreStaleChecked l c.args.fresh.now c.in_ok-found.found.items) (ap (λ (g : Gapped (ItemEntry Content)). g.list) c.in_ok-names.ensures.entries) c.in_ok-found.ensures.stale
