@@ -2,7 +2,6 @@
 
 ghost use Rattle.std.specs.Prelude.{◌≡◌, ◌++◌, List, map, OnOk};
 ghost use Rattle.x_trees.specs.View.{view_value, view_declaration};
-ghost use Rattle.x_rules.specs.Bodies as bodies;
 ghost use Rattle.x_rules.specs.Constants.{Known};
 ghost use Rattle.x_numbers.specs.Numbers.{number_spelled, is_zero};
 ghost use Rattle.x_trees.specs.Notes.{view_note, view_note_at};
@@ -10,7 +9,7 @@ ghost use Rattle.x_rules.specs.Types.{declaration_class};
 ghost use Rattle.x_rules.specs.Found.{number_fault, value_fault, spelled_fault, discriminant_fault};
 ghost use Rattle.x_rules.specs.Found.{note_fault};
 ghost use Rattle.x_rules.specs.Found.{note_faults, past_last, past_last_faults};
-ghost use Rattle.x_rules.specs.Tables.{HasNumbers, seen_by, view_given};
+ghost use Rattle.x_rules.specs.Tables.{OnNumbers, seen_by, view_given};
 
 use super::classes::has_no_class;
 use super::constants::Constants;
@@ -105,8 +104,8 @@ fn discriminant_fault(sights: &Sights, declaration: &Declaration) -> Option<Rule
 
 /// The fault of a word by what it is.
 fn note_fault(noted: &NoteAt, sights: &Sights, constants: &Constants) -> Option<RuleCode>
-    ensures { (all : List bodies.EnumeratorAt) (known : List Known) → HasNumbers constants.now all known
-        → result ≡ note_fault (seen_by sights.now) known noted.now.word (view_note noted.now.note) }
+    ensures { OnNumbers constants.now (λ _ known.
+        result ≡ note_fault (seen_by sights.now) known noted.now.word (view_note noted.now.note)) }
 {
     match noted.note {
         Note::Value { role, value } => {
@@ -126,9 +125,9 @@ pub fn add_words(
     sights: &Sights,
     constants: &Constants,
 ) -> Result<(), NoMemory>
-    ensures { OnOk result ((all : List bodies.EnumeratorAt) (known : List Known)
-        → HasNumbers constants.now all known → faults.new.items ≡ faults.old.items
-        ++ note_faults (seen_by sights.now) known (map view_note_at notes.now)) }
+    ensures { OnOk result (OnNumbers constants.now (λ _ known.
+        faults.new.items ≡ faults.old.items
+        ++ note_faults (seen_by sights.now) known (map view_note_at notes.now))) }
 {
     for noted in notes {
         let code = note_fault(noted, sights, constants);
@@ -158,9 +157,8 @@ fn past_last(enumerator: &EnumeratorAt, number: Option<i128>) -> Option<RuleCode
 
 /// Adds the faults of enumerators without a value.
 pub fn add_past_last(faults: &mut Vec<WordFault>, constants: &Constants) -> Result<(), NoMemory>
-    ensures { OnOk result ((all : List bodies.EnumeratorAt) (known : List Known)
-        → HasNumbers constants.now all known
-        → faults.new.items ≡ faults.old.items ++ past_last_faults known) }
+    ensures { OnOk result (OnNumbers constants.now (λ _ known.
+        faults.new.items ≡ faults.old.items ++ past_last_faults known)) }
 {
     let list = constants.list.items();
     for (place, enumerator) in list.iter().enumerate() {
