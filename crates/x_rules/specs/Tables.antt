@@ -65,3 +65,8 @@ pub record HasNumbers (constants : Constants) (all : List bodies.EnumeratorAt)
   pub list : map view_enumerator_at constants.list ≡ all
   pub numbers : constants.numbers.items ≡ map (λ k. k.number) known
   pub front : map (λ k. k.enumerator) known ≡ take (length known) all
+
+-- it holds of all the enumerators, and of the first of them with their numbers
+abbrev pub OnNumbers : Constants → (List bodies.EnumeratorAt → List Known → Type 0) → Type 0
+OnNumbers constants Is =
+    (all : List bodies.EnumeratorAt) (known : List Known) → HasNumbers constants all known → Is all known

@@ -10,11 +10,9 @@ use Rattle.x_schema.specs.ProceduresOf.{AreProceduresBehind, Numbered, Table, pr
 use Rattle.x_schema.specs.Schemas.{IsSchemaOf}
 use Rattle.x_schema.specs.SchemaOf.{Known, Types, AreTypesOf, IsBody, IsDeclared, as_typedef, place_named, typedefs, typedefs_inside, typedefs_of, with_first, with_types, numbers_of}
 use Rattle.x_trees.specs.Declarations.{is_void, name_of}
-use Rattle.x_schema.specs.SchemaTables.{numbers_held}
-use Rattle.x_schema.specs.SchemaMaking.{Completes, Behind, IsGood, IsStart, PutsAll, PutsPlace, AddsFound, FindsItem, FindsItems, TakesFound, AreLinksWithin, AreWithin, IsWithin, names_made, place_linked, view_known, with_found}
+use Rattle.x_schema.specs.SchemaMaking.{Completes, Behind, IsGood, IsStart, PutsAll, PutsPlace, AddsFound, FindsItem, FindsItems, TakesFound, AreLinksWithin, AreWithin, IsWithin, names_made, place_linked, with_found}
 use Rattle.x_schema.specs.Sound.{IsSound, IsSoundForm}
 use Rattle.x_schema.specs.declared.form.Form.TheVariants as forms
-use Rattle.x_schema.specs.declared.maker.Known as held
 use Rattle.x_schema.specs.declared.maker.Link.{Link}
 use Rattle.x_schema.specs.declared.maker.Link.TheVariants as links
 use Rattle.x_schema.specs.declared.maker.Maker.{Maker}
@@ -107,60 +105,60 @@ behind_same mid new n i s names fs ls b = record {
 some_behind : (m : Maker) → Behind m (length m.names.items) (length m.forms.items) (some_schema m)
 some_behind m = record { names = omega arith; forms = omega arith; completes = some_completes m }
 
-pub item_found : (old mid new : Maker) (before after : held.Known) (d : Option tree.Definition) → PutsAll (view_known before) old mid (typedefs d) (λ n i s. Unit {0})
-    → TakesFound mid new before.types.entries after.types.entries → numbers_held after.constants ≡ numbers_held before.constants → FindsItem old new before after d
+pub item_found : (old mid new : Maker) (before after : Known) (d : Option tree.Definition) → PutsAll before old mid (typedefs d) (λ n i s. Unit {0})
+    → TakesFound mid new before.types after.types → after.numbers ≡ before.numbers → FindsItem old new before after d
 item_found old mid new before after d p take same = record {
-  constants = same;
+  numbers = same;
   good = λ empty g. (good empty g, take.found);
   behind = λ empty g n i s b. (p g).behind n i s (back n i s b);
   types = λ empty g n i s b rest h. (
     (p g).found,
     ((p g).named n i s (back n i s b)).0,
-    subst (λ t. AreTypesOf s (view_known before).numbers t rest) (types_is empty g ∙ with_same mid s (length mid.forms.items) (view_known before).types (p g).found (back n i s b).completes (within g)) h,
+    subst (λ t. AreTypesOf s before.numbers t rest) (types_is empty g ∙ with_same mid s (length mid.forms.items) before.types (p g).found (back n i s b).completes (within g)) h,
   );
 }
   where
     back : (n i : ℕ) (s : Schema) → Behind new n i s → Behind mid n i s
     back n i s b = behind_same mid new n i s take.names take.forms take.links b
 
-    within : (g : IsGood (view_known before).types old) → AreWithin (length mid.names.items) (length mid.forms.items) (p g).found
+    within : (g : IsGood before.types old) → AreWithin (length mid.names.items) (length mid.forms.items) (p g).found
     within g = ((p g).named (length mid.names.items) (length mid.forms.items) (some_schema mid) (some_behind mid)).1
 
-    types_is : old.found.items ≡ [] → (g : IsGood (view_known before).types old) → (view_known after).types ≡ with_found (names_made mid) (view_known before).types (p g).found
-    types_is empty g = take.types ∙ ap (with_found (names_made mid) (view_known before).types) ((p g).adds ∙ ap (λ l. l ++ (p g).found) empty)
+    types_is : old.found.items ≡ [] → (g : IsGood before.types old) → after.types ≡ with_found (names_made mid) before.types (p g).found
+    types_is empty g = take.types ∙ ap (with_found (names_made mid) before.types) ((p g).adds ∙ ap (λ l. l ++ (p g).found) empty)
 
-    good : old.found.items ≡ [] → IsGood (view_known before).types old → IsGood (view_known after).types new
+    good : old.found.items ≡ [] → IsGood before.types old → IsGood after.types new
     good empty g =
         let q = (p g).good in
         let long = names_same mid new take.names in
-        let middle : IsGood (view_known after).types mid = record {
+        let middle : IsGood after.types mid = record {
           void = q.void;
           sound = q.sound;
           links = q.links;
-          within = λ name u is. within_found (length mid.names.items) (length mid.forms.items) (names_made mid) (view_known before).types (p g).found q.within (within g) name u
+          within = λ name u is. within_found (length mid.names.items) (length mid.forms.items) (names_made mid) before.types (p g).found q.within (within g) name u
               (ap (lookup (bytes_eq name)) (sym (types_is empty g)) ∙ is);
         } in
-        good_same (view_known after).types mid new take.forms (omega (arith, long)) (subst (AreLinksWithin (length mid.forms.items)) (sym take.links) q.links)
+        good_same after.types mid new take.forms (omega (arith, long)) (subst (AreLinksWithin (length mid.forms.items)) (sym take.links) q.links)
         (λ s c. (back (length new.names.items) (length new.forms.items) s (record { names = omega arith; forms = omega arith; completes = c })).completes) middle
 
-pub finds_none : (m : Maker) (known : held.Known) → FindsItems m m known known []
+pub finds_none : (m : Maker) (known : Known) → FindsItems m m known known []
 finds_none m known = record {
-  constants = refl;
+  numbers = refl;
   good = λ empty g. (g, empty);
   behind = λ empty g n i s b. b;
   types = λ empty g n i s b rest h. h;
 }
 
-pub finds_more : (a b c : Maker) (k l r : held.Known) (ds : List (Option tree.Definition)) (d : Option tree.Definition) → FindsItems a b k l ds → FindsItem b c l r d → FindsItems a c k r (ds ++ d ∷ [])
+pub finds_more : (a b c : Maker) (k l r : Known) (ds : List (Option tree.Definition)) (d : Option tree.Definition) → FindsItems a b k l ds → FindsItem b c l r d → FindsItems a c k r (ds ++ d ∷ [])
 finds_more a b c k l r ds d p q = record {
-  constants = q.constants ∙ p.constants;
+  numbers = q.numbers ∙ p.numbers;
   good = λ empty g. q.good (p.good empty g).1 (p.good empty g).0;
   behind = λ empty g n i s x. p.behind empty g n i s (q.behind (p.good empty g).1 (p.good empty g).0 n i s x);
   types = λ empty g n i s x rest h.
-      subst (λ xs. AreTypesOf s (view_known k).numbers (view_known k).types xs) (sym (append_assoc ds (d ∷ []) rest))
+      subst (λ xs. AreTypesOf s k.numbers k.types xs) (sym (append_assoc ds (d ∷ []) rest))
       (p.types empty g n i s (q.behind (p.good empty g).1 (p.good empty g).0 n i s x) (d ∷ rest)
-      (subst (λ num. AreTypesOf s num (view_known l).types (d ∷ rest)) p.constants
-      (q.types (p.good empty g).1 (p.good empty g).0 n i s x rest (subst (λ num. AreTypesOf s num (view_known r).types rest) (sym p.constants) h))));
+      (subst (λ num. AreTypesOf s num l.types (d ∷ rest)) p.numbers
+      (q.types (p.good empty g).1 (p.good empty g).0 n i s x rest (subst (λ num. AreTypesOf s num r.types rest) (sym p.numbers) h))));
 }
 
 -- ---- the end
@@ -216,33 +214,33 @@ end_sound m s g kept names fs ls = record {
     long : (l : ℕ) → l < length s.links → l < length m.links.items
     long l lt = subst (λ n. l < n) (ap length ls ∙ mapped_long (place_linked s.types) m.links.items) lt
 
-pub end_types : (start m last : Maker) (s : Schema) (before after : held.Known) (definitions : List (Option tree.Definition)) → IsStart start → FindsItems start m before after definitions
-    → (view_known before).types ≡ [] → numbers_held before.constants ≡ numbers_of definitions → s.types ≡ (view_known after).types
-    → PutsProcedures (view_known after) m last [] s.procedures (procedures_of definitions) → Completes last s → IsSchemaOf definitions s
+pub end_types : (start m last : Maker) (s : Schema) (before after : Known) (definitions : List (Option tree.Definition)) → IsStart start → FindsItems start m before after definitions
+    → before.types ≡ [] → before.numbers ≡ numbers_of definitions → s.types ≡ after.types
+    → PutsProcedures after m last [] s.procedures (procedures_of definitions) → Completes last s → IsSchemaOf definitions s
 end_types start m last s before after definitions is finds empty numbers types put c =
-    let first : IsGood (view_known before).types start = subst (λ t. IsGood t start) (sym empty) (start_good start is) in
+    let first : IsGood before.types start = subst (λ t. IsGood t start) (sym empty) (start_good start is) in
     let good = (finds.good is.found first).0 in
     let puts = put good in
     let b : Behind last (length last.names.items) (length last.forms.items) s = record { names = omega arith; forms = omega arith; completes = c } in
     let back : Behind m (length last.names.items) (length last.forms.items) s = puts.behind (length last.names.items) (length last.forms.items) s b in
-    let all : AreTypesOf s (view_known before).numbers (view_known before).types (definitions ++ []) = finds.types is.found first (length last.names.items) (length last.forms.items) s back [] types in
-    let told : AreTypesOf s (view_known before).numbers (view_known before).types definitions = subst (λ ds. AreTypesOf s (view_known before).numbers (view_known before).types ds) (append-nil definitions) all in
-    let told_empty : AreTypesOf s (view_known before).numbers [] definitions = subst (λ t. AreTypesOf s (view_known before).numbers t definitions) empty told in
+    let all : AreTypesOf s before.numbers before.types (definitions ++ []) = finds.types is.found first (length last.names.items) (length last.forms.items) s back [] types in
+    let told : AreTypesOf s before.numbers before.types definitions = subst (λ ds. AreTypesOf s before.numbers before.types ds) (append-nil definitions) all in
+    let told_empty : AreTypesOf s before.numbers [] definitions = subst (λ t. AreTypesOf s before.numbers t definitions) empty told in
     record {
-      void = void_there (view_known after).types last s puts.good c;
+      void = void_there after.types last s puts.good c;
       types = subst (λ n. AreTypesOf s n [] definitions) numbers told_empty;
       procedures = subst (AreProceduresBehind s []) (append-nil (procedures_of definitions))
           ((puts.is (length last.names.items) (length last.forms.items) s b).procedures types [] refl);
     }
 
-pub end_good : (start m : Maker) (before after : held.Known) (definitions : List (Option tree.Definition)) → IsStart start → FindsItems start m before after definitions
-    → (view_known before).types ≡ [] → IsGood (view_known after).types m
+pub end_good : (start m : Maker) (before after : Known) (definitions : List (Option tree.Definition)) → IsStart start → FindsItems start m before after definitions
+    → before.types ≡ [] → IsGood after.types m
 end_good start m before after definitions is finds empty = (finds.good is.found (subst (λ t. IsGood t start) (sym empty) (start_good start is))).0
 
 -- behind the procedures too
-pub end_last : (start m last : Maker) (before after : held.Known) (definitions : List (Option tree.Definition)) (table : Table) (ps : List Numbered) → IsStart start → FindsItems start m before after definitions
-    → (view_known before).types ≡ [] → PutsProcedures (view_known after) m last [] table ps
-    → IsGood (view_known after).types last × AreKeptWithin (length last.names.items) (length last.forms.items) table
+pub end_last : (start m last : Maker) (before after : Known) (definitions : List (Option tree.Definition)) (table : Table) (ps : List Numbered) → IsStart start → FindsItems start m before after definitions
+    → before.types ≡ [] → PutsProcedures after m last [] table ps
+    → IsGood after.types last × AreKeptWithin (length last.names.items) (length last.forms.items) table
 end_last start m last before after definitions table ps is finds empty put =
     let puts = put (end_good start m before after definitions is finds empty) in
     (puts.good, (puts.is (length last.names.items) (length last.forms.items) (some_schema last) (some_behind last)).within tt)

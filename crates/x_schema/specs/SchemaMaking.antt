@@ -3,26 +3,19 @@
 use Rattle.std.specs.Prelude.{◌≡◌, ℕ, ◌<◌, ◌≤◌, ◌^◌, IsTrue, List, [], ◌∷◌, ◌++◌, map, length, Option, Some}
 use Rattle.std.specs.Prelude.{None}
 use Rattle.std.specs.Map.{lookup}
-use Rattle.std.specs.Global.{Global}
 use Rattle.std.specs.Str.{bytes_eq}
-use Rattle.std.specs.declared.vec.Vec.{Vec}
 use Rattle.x_trees.specs.Tree as tree
 use Rattle.std.proofs.Common.{get_or}
-use Rattle.x_schema.specs.Schema.{Schema, form_at, name_at, named_types}
+use Rattle.x_schema.specs.Schema.{Schema, form_at, name_at}
 use Rattle.x_schema.specs.SchemaOf.{Known, Types, AreNamed, AreTypesOf, place_named, with_first}
-use Rattle.x_schema.specs.SchemaTables.{numbers_held}
 use Rattle.x_schema.specs.Sound.{IsSoundForm, IsSoundArm, is_legal}
 use Rattle.x_schema.specs.declared.form.Arm.{Arm}
 use Rattle.x_schema.specs.declared.form.Form.{Form}
 use Rattle.x_schema.specs.declared.form.Form.TheVariants as forms
-use Rattle.x_schema.specs.declared.maker.Known as held
 use Rattle.x_schema.specs.declared.maker.Link.{Link}
 use Rattle.x_schema.specs.declared.maker.Link.TheVariants as links
 use Rattle.x_schema.specs.declared.maker.Maker.{Maker}
 use Rattle.x_schema.specs.declared.schema.NamedType.{NamedType}
-
-abbrev pub view_known : held.Known → Known
-view_known known = record { numbers = numbers_held known.constants; types = named_types known.types.entries }
 
 abbrev pub names_made : Maker → List (List ℕ)
 names_made m = map (λ n. n.items) m.names.items
@@ -151,26 +144,26 @@ with_found names types (t ∷ ts) = with_found names (with_first bytes_eq types 
 
 -- The types that the items declare stand behind those before them, in every schema that the maker may end
 -- with.
-pub record FindsItems (old new : Maker) (before after : held.Known)
+pub record FindsItems (old new : Maker) (before after : Known)
     (definitions : List (Option tree.Definition)) : Type 0 where
-  pub constants : numbers_held after.constants ≡ numbers_held before.constants
-  pub good : old.found.items ≡ [] → IsGood (view_known before).types old
-      → IsGood (view_known after).types new × (new.found.items ≡ [])
-  pub behind : old.found.items ≡ [] → IsGood (view_known before).types old → (n i : ℕ) (s : Schema)
+  pub numbers : after.numbers ≡ before.numbers
+  pub good : old.found.items ≡ [] → IsGood before.types old
+      → IsGood after.types new × (new.found.items ≡ [])
+  pub behind : old.found.items ≡ [] → IsGood before.types old → (n i : ℕ) (s : Schema)
       → Behind new n i s → Behind old n i s
-  pub types : old.found.items ≡ [] → IsGood (view_known before).types old → (n i : ℕ) (s : Schema)
+  pub types : old.found.items ≡ [] → IsGood before.types old → (n i : ℕ) (s : Schema)
       → Behind new n i s
       → (rest : List (Option tree.Definition))
-      → AreTypesOf s (view_known before).numbers (view_known after).types rest
-      → AreTypesOf s (view_known before).numbers (view_known before).types (definitions ++ rest)
+      → AreTypesOf s before.numbers after.types rest
+      → AreTypesOf s before.numbers before.types (definitions ++ rest)
 
-abbrev pub FindsItem : Maker → Maker → held.Known → held.Known → Option tree.Definition → Type 0
+abbrev pub FindsItem : Maker → Maker → Known → Known → Option tree.Definition → Type 0
 FindsItem old new before after definition = FindsItems old new before after (definition ∷ [])
 
 -- the types of an item are taken in by their names
-pub record TakesFound (old new : Maker) (before after : List (Vec ℕ Global × NamedType)) : Type 0 where
+pub record TakesFound (old new : Maker) (before after : Types) : Type 0 where
   pub names : names_made new ≡ names_made old
   pub forms : new.forms.items ≡ old.forms.items
   pub links : new.links.items ≡ old.links.items
   pub found : new.found.items ≡ []
-  pub types : named_types after ≡ with_found (names_made old) (named_types before) old.found.items
+  pub types : after ≡ with_found (names_made old) before old.found.items

@@ -27,7 +27,7 @@ ghost use Rattle.x_schema.specs.SchemaMaking.{PutsAll, PutsPlace, PutsLink};
 ghost use Rattle.x_schema.specs.SchemaMaking.{AreSoundCases, AreSoundWords, IsStart};
 ghost use Rattle.x_schema.specs.Sound.{IsSoundDefault};
 ghost use Rattle.x_schema.specs.SchemaMaking.{FindsItem, FindsItems, TakesFound, with_found};
-ghost use Rattle.x_schema.specs.SchemaMaking.{names_made, place_linked, words_named, view_known};
+ghost use Rattle.x_schema.specs.SchemaMaking.{names_made, place_linked, words_named};
 ghost use Rattle.x_trees.specs.View.{tree_at};
 ghost use Rattle.std.specs.Map.{lookup};
 ghost use Rattle.std.specs.Str.{bytes_eq};
@@ -39,6 +39,7 @@ use crate::form::{Arm, Arms, Enumerators, Field, Form, FormIndex, LinkIndex, Nam
 use crate::schema::{NamedType, Schema};
 use indexmap::IndexMap;
 use std::alloc::Global;
+use std::marker::Model;
 use x_numbers::next_number;
 use x_text::NoMemory;
 use x_trees::{
@@ -49,19 +50,36 @@ use x_trees::{
 /// The types of names.
 pub type TypeTable = IndexMap<Vec<u8>, NamedType>;
 
-/// What an item is read by.
+/// What an item is read by. It is seen as the constants with their numbers, and the types of names.
 #[derive(Drop)]
 pub struct Known<'d> {
-    pub constants: Constants<'d>,
+    constants: Constants<'d>,
     /// The types of the items before it.
-    pub types: TypeTable,
+    types: TypeTable,
+}
+
+impl<'d> Model for Known<'d> {
+    ghost use Rattle.x_schema.specs.SchemaOf.{Known};
+
+    ghost Value = { Known };
+
+    ghost use Rattle.x_schema.specs.Schema.{named_types};
+    ghost use Rattle.x_schema.specs.SchemaTables.{numbers_held};
+
+    ghost view = { λ k. record { numbers = numbers_held k.constants; types = named_types k.types.entries } };
 }
 
 impl<'d> Known<'d> {
+    fn constants(&self) -> &Constants<'d>
+        ensures { numbers_held result.now ≡ self.now.numbers }
+    {
+        &self.constants
+    }
+
     /// The place of a type that is used by value; that of `void`, if no item before declares the name as a
     /// type.
     pub(super) fn place(&self, name: &[u8]) -> FormIndex
-        ensures { result ≡ place_named (named_types self.now.types.entries) name.now }
+        ensures { result ≡ place_named self.now.types name.now }
     {
         place_named(&self.types, name)
     }
@@ -348,10 +366,10 @@ impl<'d> Maker<'d> {
         known: &Known<'d>,
         enumerators: &[Enumerator],
     ) -> Result<FormIndex, NoMemory>
-        ensures { IfOk result (λ place. PutsPlace (view_known known.now) self.old self.new [] place
-            (λ s at. IsEnum s (view_known known.now).numbers (map view_enumerator enumerators.now) at)) }
+        ensures { IfOk result (λ place. PutsPlace known.now self.old self.new [] place
+            (λ s at. IsEnum s known.now.numbers (map view_enumerator enumerators.now) at)) }
     {
-        let names = self.enumerators(alloc, &known.constants, enumerators)?;
+        let names = self.enumerators(alloc, known.constants(), enumerators)?;
         self.form(enum_form(names))
     }
 
@@ -385,9 +403,9 @@ impl<'d> Maker<'d> {
         held: &'d DataType,
     ) -> Result<FormIndex, NoMemory>
         ensures { IfOk result (λ place. let type = view_type held.now in
-            PutsPlace (view_known known.now) self.old self.new
+            PutsPlace known.now self.old self.new
             (typedefs_of_type (lifted_name around.now name.now) type) place
-            (λ s at. IsType s (view_known known.now) type uses.ByValue at)) }
+            (λ s at. IsType s known.now type uses.ByValue at)) }
     {
         match held {
             DataType::Basic(basic) => self.form(basic_form(*basic)),
@@ -408,9 +426,9 @@ impl<'d> Maker<'d> {
         held: &'d DataType,
     ) -> Result<LinkIndex, NoMemory>
         ensures { IfOk result (λ link. let type = view_type held.now in
-            PutsLink (view_known known.now) self.old self.new
+            PutsLink known.now self.old self.new
             (typedefs_of_type (lifted_name around.now name.now) type) link
-            (λ s at. IsType s (view_known known.now) type uses.Link at)) }
+            (λ s at. IsType s known.now type uses.Link at)) }
     {
         match held {
             DataType::Basic(basic) => {
@@ -437,9 +455,9 @@ impl<'d> Maker<'d> {
         body: &'d Body,
     ) -> Result<FormIndex, NoMemory>
         ensures { IfOk result (λ place. let lifted = lifted_name around.now name.now in
-            PutsPlace (view_known known.now) self.old self.new
+            PutsPlace known.now self.old self.new
             (typedefs_inside lifted (view_body body.now) ++ as_typedef lifted (view_body body.now) ∷ []) place
-            (λ s at. IsBody s (view_known known.now) (view_body body.now) at)) }
+            (λ s at. IsBody s known.now (view_body body.now) at)) }
     {
         let lifted = lifted_name(alloc, around, name)?;
         self.named_body(alloc, known, &lifted, body)
@@ -454,10 +472,10 @@ impl<'d> Maker<'d> {
         name: &[u8],
         body: &'d Body,
     ) -> Result<FormIndex, NoMemory>
-        ensures { IfOk result (λ place. PutsPlace (view_known known.now) self.old self.new
+        ensures { IfOk result (λ place. PutsPlace known.now self.old self.new
             (typedefs_inside name.now (view_body body.now) ++ as_typedef name.now (view_body body.now)
             ∷ []) place
-            (λ s at. IsBody s (view_known known.now) (view_body body.now) at)) }
+            (λ s at. IsBody s known.now (view_body body.now) at)) }
     {
         let place = self.body(alloc, known, name, body)?;
         self.add_named_type(alloc, name, place)?;
@@ -473,9 +491,9 @@ impl<'d> Maker<'d> {
         around: &[u8],
         body: &'d Body,
     ) -> Result<FormIndex, NoMemory>
-        ensures { IfOk result (λ place. PutsPlace (view_known known.now) self.old self.new
+        ensures { IfOk result (λ place. PutsPlace known.now self.old self.new
             (typedefs_inside around.now (view_body body.now)) place
-            (λ s at. IsBody s (view_known known.now) (view_body body.now) at)) }
+            (λ s at. IsBody s known.now (view_body body.now) at)) }
     {
         match body {
             Body::Enum(enumerators) => self.enum_body(alloc, known, enumerators),
@@ -495,9 +513,9 @@ impl<'d> Maker<'d> {
         around: &[u8],
         body: &'d UnionBody,
     ) -> Result<FormIndex, NoMemory>
-        ensures { IfOk result (λ place. PutsPlace (view_known known.now) self.old self.new
+        ensures { IfOk result (λ place. PutsPlace known.now self.old self.new
             (typedefs_inside around.now (view_union body.now)) place
-            (λ s at. IsBody s (view_known known.now) (view_union body.now) at)) }
+            (λ s at. IsBody s known.now (view_union body.now) at)) }
     {
         let discriminant = self.field(alloc, known, around, &body.discriminant)?;
         let cases = self.arms(alloc, known, around, discriminant.form, &body.arms)?;
@@ -514,8 +532,8 @@ impl<'d> Maker<'d> {
         declaration: &'d Declaration,
     ) -> Result<Field, NoMemory>
         ensures { IfOk result (λ field. let d = view_declaration declaration.now in
-            PutsAll (view_known known.now) self.old self.new (typedefs_of around.now d) (λ n i s.
-            (name_at s field.name ≡ name_of d) × IsDeclared s (view_known known.now) d field.form
+            PutsAll known.now self.old self.new (typedefs_of around.now d) (λ n i s.
+            (name_at s field.name ≡ name_of d) × IsDeclared s known.now d field.form
             × IsSoundField n i field)) }
     {
         let form = self.declaration(alloc, known, around, declaration)?;
@@ -532,8 +550,8 @@ impl<'d> Maker<'d> {
         declarations: &'d [Declaration],
     ) -> Result<Vec<Field>, NoMemory>
         ensures { IfOk result (λ fields. let ds = view_declarations declarations.now in
-            PutsAll (view_known known.now) self.old self.new (typedefs_of_fields around.now ds) (λ n i s.
-            AreFields s (view_known known.now) ds fields.items × AreSoundFields n i fields.items)) }
+            PutsAll known.now self.old self.new (typedefs_of_fields around.now ds) (λ n i s.
+            AreFields s known.now ds fields.items × AreSoundFields n i fields.items)) }
     {
         let mut fields = Vec::with_capacity(alloc, declarations.len())?;
         for declaration in declarations {
@@ -551,8 +569,8 @@ impl<'d> Maker<'d> {
         declaration: &'d Declaration,
     ) -> Result<Arm, NoMemory>
         ensures { IfOk result (λ arm. let d = view_declaration declaration.now in
-            PutsAll (view_known known.now) self.old self.new (typedefs_of around.now d) (λ n i s.
-            IsArmOf s d arm × IsDeclared s (view_known known.now) d (place_in arm) × IsSoundArm n i arm)) }
+            PutsAll known.now self.old self.new (typedefs_of around.now d) (λ n i s.
+            IsArmOf s d arm × IsDeclared s known.now d (place_in arm) × IsSoundArm n i arm)) }
     {
         if declaration.is_void() {
             return Ok(Arm::Void);
@@ -571,16 +589,20 @@ impl<'d> Maker<'d> {
         arms: &'d [ArmTree],
     ) -> Result<IndexMap<u32, Arm>, NoMemory>
         ensures { IfOk result (λ cases. discriminant < length self.old.forms.items
-            → PutsAll (view_known known.now) self.old self.new
-            (typedefs_of_arms around.now (view_arms arms.now))
-            (λ n i s. AreArms s (view_known known.now) (form_at s discriminant)
-            (view_arms arms.now) [] cases.entries
+            → PutsAll known.now self.old self.new (typedefs_of_arms around.now (view_arms arms.now))
+            (λ n i s. AreArms s known.now (form_at s discriminant) (view_arms arms.now) [] cases.entries
             × AreSoundCases n i (form_at s discriminant) cases.entries)) }
     {
         let mut cases = IndexMap::new(alloc);
         for arm in arms {
             let held = self.arm(alloc, known, around, &arm.declaration)?;
-            self.cases(&known.constants, discriminant, &mut cases, &arm.cases, held)?;
+            self.cases(
+                known.constants(),
+                discriminant,
+                &mut cases,
+                &arm.cases,
+                held,
+            )?;
         }
         Ok(cases)
     }
@@ -594,8 +616,8 @@ impl<'d> Maker<'d> {
         default: &'d Option<Declaration>,
     ) -> Result<Option<Arm>, NoMemory>
         ensures { IfOk result (λ arm. let other = view_default default.now in
-            PutsAll (view_known known.now) self.old self.new (typedefs_of_default around.now other) (λ n i s.
-            IsDefault s (view_known known.now) other arm × IsSoundDefault n i arm)) }
+            PutsAll known.now self.old self.new (typedefs_of_default around.now other) (λ n i s.
+            IsDefault s known.now other arm × IsSoundDefault n i arm)) }
     {
         match default {
             Some(declaration) => Ok(Some(self.arm(alloc, known, around, declaration)?)),
@@ -613,8 +635,8 @@ impl<'d> Maker<'d> {
         declaration: &'d Declaration,
     ) -> Result<FormIndex, NoMemory>
         ensures { IfOk result (λ place. let d = view_declaration declaration.now in
-            PutsPlace (view_known known.now) self.old self.new (typedefs_of around.now d) place
-            (λ s at. IsDeclared s (view_known known.now) d at)) }
+            PutsPlace known.now self.old self.new (typedefs_of around.now d) place
+            (λ s at. IsDeclared s known.now d at)) }
     {
         match declaration {
             Declaration::Void => Ok(0),
@@ -622,10 +644,10 @@ impl<'d> Maker<'d> {
                 self.shaped(alloc, known, around, name, data, shape)
             }
             Declaration::Opaque { length, .. } => {
-                self.form(opaque_form(&known.constants, length))
+                self.form(opaque_form(known.constants(), length))
             }
             Declaration::String { most, .. } => {
-                self.form(Form::String(known.constants.limit(most)))
+                self.form(Form::String(known.constants().limit(most)))
             }
         }
     }
@@ -641,9 +663,9 @@ impl<'d> Maker<'d> {
         shape: &Shape,
     ) -> Result<FormIndex, NoMemory>
         ensures { IfOk result (λ place. let type = view_type held.now in
-            PutsPlace (view_known known.now) self.old self.new
+            PutsPlace known.now self.old self.new
             (typedefs_of_type (lifted_name around.now name.now) type) place
-            (λ s at. IsDeclared s (view_known known.now) (tree.Of type name.now (view_shape shape.now)) at)) }
+            (λ s at. IsDeclared s known.now (tree.Of type name.now (view_shape shape.now)) at)) }
     {
         match shape {
             Shape::Plain => self.inner_type(alloc, known, around, name, held),
@@ -654,11 +676,11 @@ impl<'d> Maker<'d> {
             Shape::Array(length) => match length {
                 Length::Fixed(size) => {
                     let of = self.inner_type(alloc, known, around, name, held)?;
-                    self.form(Form::FixedArray(of, known.constants.size(size)))
+                    self.form(Form::FixedArray(of, known.constants().size(size)))
                 }
                 Length::Variable(most) => {
                     let link = self.linked(alloc, known, around, name, held)?;
-                    self.form(Form::Array(link, known.constants.limit(most)))
+                    self.form(Form::Array(link, known.constants().limit(most)))
                 }
             },
         }
@@ -671,7 +693,7 @@ impl<'d> Maker<'d> {
         known: &Known<'d>,
         definition: &'d Definition,
     ) -> Result<(), NoMemory>
-        ensures { OnOk result (PutsAll (view_known known.now) self.old self.new
+        ensures { OnOk result (PutsAll known.now self.old self.new
             (typedefs (Some (view_definition definition.now))) (λ n i s. Unit {0})) }
     {
         match definition {
@@ -691,7 +713,7 @@ impl<'d> Maker<'d> {
         known: &Known<'d>,
         declaration: &'d Declaration,
     ) -> Result<(), NoMemory>
-        ensures { OnOk result (PutsAll (view_known known.now) self.old self.new
+        ensures { OnOk result (PutsAll known.now self.old self.new
             (typedefs (Some (tree.Typedef (view_declaration declaration.now)))) (λ n i s. Unit {0})) }
     {
         if declaration.is_void() {
@@ -725,7 +747,8 @@ impl<'d> Maker<'d> {
 
     /// Takes in the types of an item behind those before it.
     fn take_found(&mut self, alloc: Global, types: &mut TypeTable) -> Result<(), NoMemory>
-        ensures { OnOk result (TakesFound self.old self.new types.old.entries types.new.entries) }
+        ensures { OnOk result
+            (TakesFound self.old self.new (named_types types.old.entries) (named_types types.new.entries)) }
     {
         self.add_found(alloc, types)?;
         self.found.clear();
@@ -739,7 +762,7 @@ impl<'d> Maker<'d> {
         known: &Known<'d>,
         definition: Option<&'d Definition>,
     ) -> Result<(), NoMemory>
-        ensures { OnOk result (PutsAll (view_known known.now) self.old self.new
+        ensures { OnOk result (PutsAll known.now self.old self.new
             (typedefs (tree_at definition.entry)) (λ n i s. Unit {0})) }
     {
         match definition {

@@ -11,7 +11,7 @@ ghost use Rattle.x_schema.specs.ProceduresOf.{procedures_by, procedures_in, with
 ghost use Rattle.x_schema.specs.ProceduresOf.{argument_name, procedures_declared, procedures_of};
 ghost use Rattle.x_schema.specs.ProcedureMaking.{PutsAs, PutsField, PutsFields, PutsProcedures, PutsWithin};
 ghost use Rattle.x_schema.specs.Schema.{IsKeptWithin};
-ghost use Rattle.x_schema.specs.SchemaMaking.{AddsName, view_known};
+ghost use Rattle.x_schema.specs.SchemaMaking.{AddsName};
 
 use crate::constants::unsigned_word;
 use crate::form::{Field, Form, FormIndex, NameIndex};
@@ -99,7 +99,7 @@ impl<'d> Maker<'d> {
     /// The place of the type of an argument or of a result; an inline one may not be passed, and counts as
     /// `void`.
     fn passed_type(&mut self, known: &Known<'d>, passed: &DataType) -> Result<FormIndex, NoMemory>
-        ensures { IfOk result (λ place. PutsAs (view_known known.now) self.old self.new place
+        ensures { IfOk result (λ place. PutsAs known.now self.old self.new place
             (λ s at. IsPassedType s (view_type passed.now) at)) }
     {
         match passed {
@@ -112,7 +112,7 @@ impl<'d> Maker<'d> {
 
     /// The place of an argument or a result.
     fn argument(&mut self, known: &Known<'d>, argument: &Argument) -> Result<FormIndex, NoMemory>
-        ensures { IfOk result (λ place. PutsAs (view_known known.now) self.old self.new place
+        ensures { IfOk result (λ place. PutsAs known.now self.old self.new place
             (λ s at. IsArgument s (view_argument argument.now) at)) }
     {
         match argument {
@@ -127,7 +127,7 @@ impl<'d> Maker<'d> {
         known: &Known<'d>,
         passed: &Option<Argument>,
     ) -> Result<FormIndex, NoMemory>
-        ensures { IfOk result (λ place. PutsAs (view_known known.now) self.old self.new place
+        ensures { IfOk result (λ place. PutsAs known.now self.old self.new place
             (λ s at. IsPassed s (view_passed passed.now) at)) }
     {
         match passed {
@@ -167,7 +167,7 @@ impl<'d> Maker<'d> {
         known: &Known<'d>,
         first: &Option<Argument>,
     ) -> Result<Field, NoMemory>
-        ensures { IfOk result (λ field. PutsField (view_known known.now) self.old self.new field
+        ensures { IfOk result (λ field. PutsField known.now self.old self.new field
             (λ s. IsArgumentField s 1 (view_passed first.now) field)) }
     {
         let form = self.passed(known, first)?;
@@ -182,7 +182,7 @@ impl<'d> Maker<'d> {
         number: usize,
         other: &Argument,
     ) -> Result<Field, NoMemory>
-        ensures { IfOk result (λ field. PutsField (view_known known.now) self.old self.new field
+        ensures { IfOk result (λ field. PutsField known.now self.old self.new field
             (λ s. IsArgumentField s number (Some (view_argument other.now)) field)) }
     {
         let form = self.argument(known, other)?;
@@ -197,7 +197,7 @@ impl<'d> Maker<'d> {
         first: &Option<Argument>,
         others: &[Argument],
     ) -> Result<Vec<Field>, NoMemory>
-        ensures { IfOk result (λ fields. PutsFields (view_known known.now) self.old self.new
+        ensures { IfOk result (λ fields. PutsFields known.now self.old self.new
             (view_passed first.now) (map view_argument others.now) fields.items) }
     {
         let mut fields = one_field(alloc, self.first_field(alloc, known, first)?)?;
@@ -215,8 +215,7 @@ impl<'d> Maker<'d> {
         procedure: &Procedure,
     ) -> Result<FormIndex, NoMemory>
         ensures { IfOk result (λ place. let p = view_procedure procedure.now in
-            PutsAs (view_known known.now) self.old self.new place
-            (λ s at. AreArguments s p.first p.others at)) }
+            PutsAs known.now self.old self.new place (λ s at. AreArguments s p.first p.others at)) }
     {
         if procedure.others.is_empty() {
             return self.passed(known, &procedure.first);
@@ -232,7 +231,7 @@ impl<'d> Maker<'d> {
         known: &Known<'d>,
         procedure: &Procedure,
     ) -> Result<CompactProcedure, NoMemory>
-        ensures { IfOk result (λ kept. PutsWithin (view_known known.now) self.old self.new
+        ensures { IfOk result (λ kept. PutsWithin known.now self.old self.new
             (λ n i. IsKeptWithin n i kept) (λ s. IsProcedure s (view_procedure procedure.now) kept)) }
     {
         let arguments = self.arguments(alloc, known, procedure)?;
@@ -255,7 +254,7 @@ impl<'d> Maker<'d> {
         procedure: &Procedure,
         table: &mut ProcedureTable,
     ) -> Result<(), NoMemory>
-        ensures { OnOk result (PutsProcedures (view_known known.now) self.old self.new
+        ensures { OnOk result (PutsProcedures known.now self.old self.new
             table.old.entries table.new.entries (record {
               program = program.now;
               version = version.now;
@@ -276,7 +275,7 @@ impl<'d> Maker<'d> {
         procedures: &[Procedure],
         table: &mut ProcedureTable,
     ) -> Result<(), NoMemory>
-        ensures { OnOk result (PutsProcedures (view_known known.now) self.old self.new
+        ensures { OnOk result (PutsProcedures known.now self.old self.new
             table.old.entries table.new.entries
             (procedures_by program.now version.now (map view_procedure procedures.now))) }
     {
@@ -295,7 +294,7 @@ impl<'d> Maker<'d> {
         versions: &[Version],
         table: &mut ProcedureTable,
     ) -> Result<(), NoMemory>
-        ensures { OnOk result (PutsProcedures (view_known known.now) self.old self.new
+        ensures { OnOk result (PutsProcedures known.now self.old self.new
             table.old.entries table.new.entries
             (flat_map (procedures_in program.now) (map view_version versions.now))) }
     {
@@ -320,7 +319,7 @@ impl<'d> Maker<'d> {
         definition: &Definition,
         table: &mut ProcedureTable,
     ) -> Result<(), NoMemory>
-        ensures { OnOk result (PutsProcedures (view_known known.now) self.old self.new
+        ensures { OnOk result (PutsProcedures known.now self.old self.new
             table.old.entries table.new.entries
             (procedures_declared (Some (view_definition definition.now)))) }
     {
@@ -344,7 +343,7 @@ impl<'d> Maker<'d> {
         definition: Option<&Definition>,
         table: &mut ProcedureTable,
     ) -> Result<(), NoMemory>
-        ensures { OnOk result (PutsProcedures (view_known known.now) self.old self.new
+        ensures { OnOk result (PutsProcedures known.now self.old self.new
             table.old.entries table.new.entries (procedures_declared (tree_at definition.entry))) }
     {
         match definition {
@@ -360,7 +359,7 @@ impl<'d> Maker<'d> {
         known: &Known<'d>,
         definitions: &[Option<&'d Definition>],
     ) -> Result<ProcedureTable, NoMemory>
-        ensures { IfOk result (λ table. PutsProcedures (view_known known.now) self.old self.new
+        ensures { IfOk result (λ table. PutsProcedures known.now self.old self.new
             [] table.entries (procedures_of (map tree_at definitions.now))) }
     {
         let mut table = IndexMap::new(alloc);

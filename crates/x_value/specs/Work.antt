@@ -7,7 +7,7 @@ use Rattle.x_schema.specs.declared.form.Field.{Field}
 use Rattle.x_schema.specs.declared.form.Form.{Form}
 use Rattle.x_schema.specs.declared.form.Form.TheVariants as forms
 use Rattle.x_schema.specs.Schema.{Schema, form_at}
-use Rattle.x_schema.specs.Sound.{AreSoundEnumerators}
+use Rattle.x_schema.specs.Sound.{AreSoundEnumerators, IsSound}
 use Rattle.x_value.specs.declared.nodes.compact_node.CompactNode.{CompactNode}
 use Rattle.x_value.specs.declared.reading.task.Spot as compact
 use Rattle.x_value.specs.declared.reading.task.Task.{Task}
@@ -56,6 +56,18 @@ IsTypedOption s (Some task) = IsTyped s task
 abbrev pub AreTasks : Schema → List Task → Type 0
 AreTasks s [] = Unit {0}
 AreTasks s (task ∷ tasks) = IsTyped s task × AreTasks s tasks
+
+-- the reader may carry out the task that it took from its stack, and then those that are left there
+pub record IsTakenTask (s : Schema) (taken : Task) (stack : List Task) : Type 0 where
+  pub sound : IsSound s
+  pub task : IsTyped s taken
+  pub tasks : AreTasks s stack
+
+-- the reader may read the value of this form that stands there
+pub record IsToRead (s : Schema) (form : ℕ) (at : compact.Spot) : Type 0 where
+  pub sound : IsSound s
+  pub known : form < length s.forms
+  pub spot : IsSpot s at
 
 -- ---- work
 
@@ -136,6 +148,13 @@ IsHeadedForm (forms.Array link most) = Unit {0}
 IsHeadedForm (forms.Optional link) = Unit {0}
 IsHeadedForm (forms.Union discriminant choice) = Unit {0}
 IsHeadedForm _ = ⊥
+
+-- The reader may read the value of this form that stands there, which begins with a word: what stands behind
+-- that word has this level.
+pub record IsHeaded (s : Schema) (form : ℕ) (at : compact.Spot) (inner : ℕ) : Type 0 where
+  pub value : IsToRead s form at
+  pub headed : IsHeadedForm (form_at s form)
+  pub level : inner ≡ suc at.level
 
 -- a value is a length and a body
 abbrev pub IsSizedForm : Form → Type 0

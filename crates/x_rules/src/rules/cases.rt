@@ -1,15 +1,13 @@
 //! The cases of unions.
 
-ghost use Rattle.std.specs.Prelude.{◌≡◌, ◌++◌, List, map, IfOk, OnOk};
+ghost use Rattle.std.specs.Prelude.{◌≡◌, ◌++◌, map, IfOk, OnOk};
 ghost use Rattle.std.specs.List.{flat_map};
-ghost use Rattle.x_outline.specs.Bodies.{EnumeratorAt};
-ghost use Rattle.x_rules.specs.Constants.{Known};
 ghost use Rattle.x_rules.specs.Found.{case_numbers, repeated_cases};
 ghost use Rattle.x_rules.specs.Cases.{is_outside, case_fault, has_fault, case_faults, bad_cases_of};
 ghost use Rattle.x_rules.specs.KeptViews.{kept_class};
 ghost use Rattle.x_rules.specs.Rules.{Ascends};
 ghost use Rattle.x_outline.specs.Parts.{view_value_at};
-ghost use Rattle.x_rules.specs.Tables.{HasNumbers, seen_by};
+ghost use Rattle.x_rules.specs.Tables.{OnNumbers, seen_by};
 
 use super::classes::declaration_class;
 use super::constants::Constants;
@@ -18,9 +16,9 @@ use super::repeats::{Numbered, add_number, add_repeated_numbers};
 use super::sights::Sights;
 use crate::checked::OwnedClass;
 use crate::fault::{RuleCode, WordFault};
+use crate::outline::parts::{BodyAt, ValueAt};
 use std::alloc::Global;
 use x_numbers::{is_enum_number, is_word_number};
-use x_outline::{BodyAt, ValueAt};
 use x_text::NoMemory;
 use x_trees::{Body, UnionBody};
 
@@ -31,9 +29,8 @@ fn case_numbers(
     sights: &Sights,
     constants: &Constants,
 ) -> Result<Vec<Numbered>, NoMemory>
-    ensures { IfOk result (λ list. (all : List EnumeratorAt) (known : List Known)
-        → HasNumbers constants.now all known
-        → list.items ≡ case_numbers (seen_by sights.now) known (map view_value_at cases.now)) }
+    ensures { IfOk result (λ list. OnNumbers constants.now (λ _ known.
+        list.items ≡ case_numbers (seen_by sights.now) known (map view_value_at cases.now))) }
 {
     let mut list = Vec::new(alloc);
     for case in cases {
@@ -51,10 +48,10 @@ pub fn add_repeated_cases(
     sights: &Sights,
     constants: &Constants,
 ) -> Result<(), NoMemory>
-    ensures { OnOk result ((all : List EnumeratorAt) (known : List Known)
-        → HasNumbers constants.now all known → faults.new.items ≡ faults.old.items
+    ensures { OnOk result (OnNumbers constants.now (λ _ known.
+        faults.new.items ≡ faults.old.items
         ++ flat_map (λ b. repeated_cases (seen_by sights.now) known (map view_value_at b.cases.items))
-        bodies.now) }
+        bodies.now)) }
 {
     for body in bodies {
         let numbers = case_numbers(alloc, &body.cases, sights, constants)?;
@@ -111,9 +108,9 @@ fn add_case_faults(
     sights: &Sights,
     constants: &Constants,
 ) -> Result<(), NoMemory>
-    ensures { OnOk result ((all : List EnumeratorAt) (known : List Known)
-        → HasNumbers constants.now all known → faults.new.items ≡ faults.old.items
-        ++ case_faults (seen_by sights.now) known (kept_class class.now) (map view_value_at cases.now)) }
+    ensures { OnOk result (OnNumbers constants.now (λ _ known.
+        faults.new.items ≡ faults.old.items
+        ++ case_faults (seen_by sights.now) known (kept_class class.now) (map view_value_at cases.now))) }
 {
     for case in cases {
         let number = constants.number_at(sights, case.word, case.value);
@@ -131,9 +128,9 @@ fn add_bad_cases(
     sights: &Sights,
     constants: &Constants,
 ) -> Result<(), NoMemory>
-    ensures { OnOk result ((all : List EnumeratorAt) (known : List Known)
-        → HasNumbers constants.now all known → Ascends found.now → faults.new.items ≡ faults.old.items
-        ++ bad_cases_of (seen_by sights.now) known found.now body.now) }
+    ensures { OnOk result (OnNumbers constants.now (λ _ known.
+        Ascends found.now → faults.new.items ≡ faults.old.items
+        ++ bad_cases_of (seen_by sights.now) known found.now body.now)) }
 {
     let Body::Union(union) = body.body else {
         return Ok(());
@@ -156,9 +153,9 @@ pub fn bad_cases(
     sights: &Sights,
     constants: &Constants,
 ) -> Result<Vec<WordFault>, NoMemory>
-    ensures { IfOk result (λ faults. (all : List EnumeratorAt) (known : List Known)
-        → HasNumbers constants.now all known → Ascends found.now → faults.items
-        ≡ flat_map (bad_cases_of (seen_by sights.now) known found.now) bodies.now) }
+    ensures { IfOk result (λ faults. OnNumbers constants.now (λ _ known.
+        Ascends found.now → faults.items
+        ≡ flat_map (bad_cases_of (seen_by sights.now) known found.now) bodies.now)) }
 {
     let mut faults = Vec::new(alloc);
     for body in bodies {

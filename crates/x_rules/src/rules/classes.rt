@@ -2,14 +2,13 @@
 
 ghost use Rattle.std.specs.Prelude.{◌≡◌, List, map, Some, option_map, IfOk};
 ghost use Rattle.x_trees.specs.View.{view_type, view_body, view_declaration, view_enumerator};
-ghost use Rattle.x_outline.specs.Bodies.{EnumeratorAt};
 ghost use Rattle.x_rules.specs.Constants.{Known, number_named};
 ghost use Rattle.x_rules.specs.Found.{has_no_class};
 ghost use Rattle.x_rules.specs.Types.{basic_class, body_class, declaration_class, type_class, type_seen};
 ghost use Rattle.x_rules.specs.Types.{enum_class, enum_number, if_all};
 ghost use Rattle.x_rules.specs.RustViews.{view_class, view_view};
 ghost use Rattle.x_rules.specs.KeptViews.{kept_class};
-ghost use Rattle.x_rules.specs.Tables.{HasNumbers, seen_by, view_sight};
+ghost use Rattle.x_rules.specs.Tables.{OnNumbers, seen_by, view_sight};
 
 use super::constants::Constants;
 use super::mentioned::suits;
@@ -78,9 +77,10 @@ fn enum_numbers(
     constants: &Constants,
     enumerators: &[Enumerator],
 ) -> Result<Option<Vec<i32>>, NoMemory>
-    ensures { IfOk result (λ numbers. (all : List EnumeratorAt) (known : List Known)
-        → HasNumbers constants.now all known → option_map (λ list. list.items) numbers
-        ≡ if_all (map (λ e. enum_number (number_named known e.name)) (map view_enumerator enumerators.now))) }
+    ensures { IfOk result (λ numbers. OnNumbers constants.now (λ _ known.
+        option_map (λ list. list.items) numbers
+        ≡ if_all (map (λ e. enum_number (number_named known e.name))
+        (map view_enumerator enumerators.now)))) }
 {
     let mut numbers = Vec::new(alloc);
     for enumerator in enumerators {
@@ -98,9 +98,8 @@ fn enum_class(
     constants: &Constants,
     enumerators: &[Enumerator],
 ) -> Result<Option<OwnedClass>, NoMemory>
-    ensures { IfOk result (λ class. (all : List EnumeratorAt) (known : List Known)
-        → HasNumbers constants.now all known
-        → option_map kept_class class ≡ enum_class known (map view_enumerator enumerators.now)) }
+    ensures { IfOk result (λ class. OnNumbers constants.now (λ _ known.
+        option_map kept_class class ≡ enum_class known (map view_enumerator enumerators.now))) }
 {
     match enum_numbers(alloc, constants, enumerators)? {
         Some(numbers) => Ok(Some(OwnedClass::Enumeration(Numbers::of(numbers)?))),
@@ -182,9 +181,8 @@ pub fn body_class(
     constants: &Constants,
     body: &Body,
 ) -> Result<Option<OwnedClass>, NoMemory>
-    ensures { IfOk result (λ class. (all : List EnumeratorAt) (known : List Known)
-        → HasNumbers constants.now all known
-        → option_map kept_class class ≡ body_class known (view_body body.now)) }
+    ensures { IfOk result (λ class. OnNumbers constants.now (λ _ known.
+        option_map kept_class class ≡ body_class known (view_body body.now))) }
 {
     match body {
         Body::Enum(enumerators) => enum_class(alloc, constants, enumerators),
@@ -200,9 +198,8 @@ fn type_class(
     constants: &Constants,
     tree: &DataType,
 ) -> Result<Option<OwnedClass>, NoMemory>
-    ensures { IfOk result (λ class. (all : List EnumeratorAt) (known : List Known)
-        → HasNumbers constants.now all known
-        → option_map kept_class class ≡ type_class (seen_by sights.now) known (view_type tree.now)) }
+    ensures { IfOk result (λ class. OnNumbers constants.now (λ _ known.
+        option_map kept_class class ≡ type_class (seen_by sights.now) known (view_type tree.now))) }
 {
     match tree {
         DataType::Basic(basic) => Ok(Some(OwnedClass::of(basic_class(*basic))?)),
@@ -219,9 +216,9 @@ pub fn declaration_class(
     constants: &Constants,
     declaration: &Declaration,
 ) -> Result<Option<OwnedClass>, NoMemory>
-    ensures { IfOk result (λ class. (all : List EnumeratorAt) (known : List Known)
-        → HasNumbers constants.now all known → option_map kept_class class
-        ≡ declaration_class (seen_by sights.now) known (view_declaration declaration.now)) }
+    ensures { IfOk result (λ class. OnNumbers constants.now (λ _ known.
+        option_map kept_class class
+        ≡ declaration_class (seen_by sights.now) known (view_declaration declaration.now))) }
 {
     match declaration {
         Declaration::Void => Ok(None),

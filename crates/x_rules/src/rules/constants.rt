@@ -14,16 +14,17 @@ ghost use Rattle.x_rules.specs.RustViews.{view_view};
 ghost use Rattle.std.specs.Option.{option_map_or};
 ghost use Rattle.std.specs.Str.{bytes_eq};
 ghost use Rattle.x_rules.specs.Constants.{number_before, number_by, number_seen, number_of};
-ghost use Rattle.x_numbers.specs.Numbers.{next_number, is_enum_number, is_word_number};
+ghost use Rattle.x_numbers.specs.Numbers.{next_number};
 ghost use Rattle.x_outline.specs.Parts.{view_enumerator_at};
-ghost use Rattle.x_rules.specs.Tables.{HasNumbers, seen_by};
+ghost use Rattle.x_rules.specs.Tables.{HasNumbers, OnNumbers, seen_by};
 
 use super::first_places::{FirstPlaces, Keyed};
 use super::sights::Sights;
+use crate::outline::bodies::words_of_enumerator;
+use crate::outline::parts::{BodyAt, EnumeratorAt};
 use crate::views::{Meaning, View};
 use std::alloc::Global;
 use x_numbers::{next_number, number_value};
-use x_outline::{BodyAt, EnumeratorAt, words_of_enumerator};
 use x_text::NoMemory;
 use x_trees::{Body, Enumerator, NameKind, Value};
 
@@ -176,8 +177,8 @@ impl<'v> Constants<'v> {
         before: Option<i128>,
         enumerator: &EnumeratorAt,
     ) -> Option<i128>
-        ensures { (all : List bodies.EnumeratorAt) (known : List Known) → HasNumbers self.now all known
-            → result ≡ number_of (seen_by sights.now) known before (view_enumerator_at enumerator.now) }
+        ensures { OnNumbers self.now (λ _ known.
+            result ≡ number_of (seen_by sights.now) known before (view_enumerator_at enumerator.now)) }
     {
         match enumerator.given {
             Some(value) => self.number_by(sights, enumerator.word, value),
@@ -193,8 +194,8 @@ impl<'v> Constants<'v> {
 
     /// Whether the enumerator in the place stands before the word.
     fn is_before(&self, place: usize, limit: usize) -> bool
-        ensures { (all : List bodies.EnumeratorAt) (known : List Known) → HasNumbers self.now all known
-            → result ≡ option_map_or (λ e. nat_lt e.word limit) (slice_get all place) false }
+        ensures { OnNumbers self.now (λ all _.
+            result ≡ option_map_or (λ e. nat_lt e.word limit) (slice_get all place) false) }
     {
         match self.list.items().get(place) {
             Some(enumerator) => enumerator.word < limit,
@@ -204,8 +205,7 @@ impl<'v> Constants<'v> {
 
     /// Whether the first enumerator of the name stands before the word.
     pub fn is_declared_before(&self, limit: usize, name: &[u8]) -> bool
-        ensures { (all : List bodies.EnumeratorAt) (known : List Known) → HasNumbers self.now all known
-            → result ≡ is_declared_before all limit name.now }
+        ensures { OnNumbers self.now (λ all _. result ≡ is_declared_before all limit name.now) }
     {
         match self.list.get(name) {
             Some(place) => self.is_before(place, limit),
@@ -225,8 +225,7 @@ impl<'v> Constants<'v> {
 
     /// The number of the first enumerator of the name, if it stands before the word.
     fn own_number(&self, limit: usize, name: &[u8]) -> Option<i128>
-        ensures { (all : List bodies.EnumeratorAt) (known : List Known) → HasNumbers self.now all known
-            → result ≡ number_before known limit name.now }
+        ensures { OnNumbers self.now (λ _ known. result ≡ number_before known limit name.now) }
     {
         match self.list.get(name) {
             Some(place) => {
@@ -242,8 +241,8 @@ impl<'v> Constants<'v> {
 
     /// The number of a value that may use the enumerators whose names stand before the word.
     fn number_by(&self, sights: &Sights, limit: usize, value: &Value) -> Option<i128>
-        ensures { (all : List bodies.EnumeratorAt) (known : List Known) → HasNumbers self.now all known
-            → result ≡ number_by (seen_by sights.now) known limit (view_value value.now) }
+        ensures { OnNumbers self.now (λ _ known.
+            result ≡ number_by (seen_by sights.now) known limit (view_value value.now)) }
     {
         match value {
             Value::Number(text) => number_value(text),
@@ -259,16 +258,15 @@ impl<'v> Constants<'v> {
 
     /// The number of the value at the word, if it has one.
     pub fn number_at(&self, sights: &Sights, word: usize, value: &Value) -> Option<i128>
-        ensures { (all : List bodies.EnumeratorAt) (known : List Known) → HasNumbers self.now all known
-            → result ≡ number_by (seen_by sights.now) known (limit_of word) (view_value value.now) }
+        ensures { OnNumbers self.now (λ _ known.
+            result ≡ number_by (seen_by sights.now) known (limit_of word) (view_value value.now)) }
     {
         self.number_by(sights, limit_of(word), value)
     }
 
     /// The number of the first enumerator of the name.
     pub fn number_named(&self, name: &[u8]) -> Option<i128>
-        ensures { (all : List bodies.EnumeratorAt) (known : List Known) → HasNumbers self.now all known
-            → result ≡ number_named known name.now }
+        ensures { OnNumbers self.now (λ _ known. result ≡ number_named known name.now) }
     {
         match self.list.get(name) {
             Some(place) => self.number_in(place),

@@ -1,16 +1,16 @@
 //! What the names mean that an item declares.
 
-ghost use Rattle.std.specs.Prelude.{◌≡◌, ℕ, List, false, map, nat_eq, option_map, IfOk, OnOk};
+ghost use Rattle.std.specs.Prelude.{◌≡◌, false, map, nat_eq, option_map, IfOk};
 ghost use Rattle.std.specs.List.{list_any};
 ghost use Rattle.x_trees.specs.Collected.{view_name};
 ghost use Rattle.x_trees.specs.View.{view_definition};
 ghost use Rattle.x_outline.specs.Bodies as outline;
 ghost use Rattle.x_outline.specs.BodyWalks.{view_body_at};
-ghost use Rattle.x_rules.specs.Constants.{Known, knowns};
+ghost use Rattle.x_rules.specs.Constants.{knowns};
 ghost use Rattle.x_rules.specs.KeptViews.{kept_class, kept_meaning};
 ghost use Rattle.x_rules.specs.Meanings.{body_named, counted_type, counted_definition};
 ghost use Rattle.x_rules.specs.Results.{type_of, constant_number, constant_of, meaning_of};
-ghost use Rattle.x_rules.specs.Tables.{HasNumbers, seen_by, is_too_high};
+ghost use Rattle.x_rules.specs.Tables.{HasNumbers, OnNumbers, seen_by, is_too_high};
 ghost use Rattle.x_rules.specs.Types.{heights};
 
 use super::classes::{body_class, declaration_class};
@@ -19,9 +19,9 @@ use super::first_places::{FirstPlaces, Keyed};
 use super::heights::{body_height, held_height};
 use super::sights::Sights;
 use crate::checked::{KeptMeanings, OwnedClass, OwnedMeaning};
+use crate::outline::parts::BodyAt;
 use smallvec::SmallVec;
 use std::alloc::Global;
-use x_outline::BodyAt;
 use x_text::NoMemory;
 use x_trees::{DeclaredName, Definition, NameKind};
 
@@ -73,9 +73,9 @@ fn named_meaning(
     sights: &Sights,
     constants: &Constants,
 ) -> Result<OwnedMeaning, NoMemory>
-    ensures { IfOk result (λ kept. (all : List outline.EnumeratorAt) (known : List Known)
-        → HasNumbers constants.now all known → kept_meaning kept
-        ≡ counted_type (seen_by sights.now) known (option_map (λ b. view_body_at b.now) body.entry)) }
+    ensures { IfOk result (λ kept. OnNumbers constants.now (λ _ known.
+        kept_meaning kept
+        ≡ counted_type (seen_by sights.now) known (option_map (λ b. view_body_at b.now) body.entry))) }
 {
     match body {
         Some(body) => Ok(type_meaning(
@@ -93,9 +93,8 @@ fn typedef_meaning(
     sights: &Sights,
     constants: &Constants,
 ) -> Result<OwnedMeaning, NoMemory>
-    ensures { IfOk result (λ kept. (all : List outline.EnumeratorAt) (known : List Known)
-        → HasNumbers constants.now all known → kept_meaning kept
-        ≡ counted_definition (seen_by sights.now) known (view_definition definition.now)) }
+    ensures { IfOk result (λ kept. OnNumbers constants.now (λ _ known.
+        kept_meaning kept ≡ counted_definition (seen_by sights.now) known (view_definition definition.now))) }
 {
     match definition {
         Definition::Typedef(declaration) => Ok(type_meaning(

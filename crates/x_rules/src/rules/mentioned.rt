@@ -1,13 +1,11 @@
 //! Names that are used.
-ghost use Rattle.std.specs.Prelude.{◌≡◌, ◌++◌, List, map, OnOk};
+ghost use Rattle.std.specs.Prelude.{◌≡◌, ◌++◌, map, OnOk};
 ghost use Rattle.x_trees.specs.Collected.{view_mention};
-ghost use Rattle.x_outline.specs.Bodies.{EnumeratorAt};
-ghost use Rattle.x_rules.specs.Constants.{Known};
 ghost use Rattle.x_rules.specs.Mentioned.{suits, may_be_linked, is_declared_as, is_constant, is_no_type};
 ghost use Rattle.x_rules.specs.Mentioned.{is_no_constant, is_too_late, is_of_faulty, fault_of_use};
 ghost use Rattle.x_rules.specs.Mentioned.{mention_fault};
 ghost use Rattle.x_rules.specs.RustViews.{view_view};
-ghost use Rattle.x_rules.specs.Tables.{HasNumbers, seen_by};
+ghost use Rattle.x_rules.specs.Tables.{OnNumbers, seen_by};
 ghost use Rattle.x_rules.specs.Found.{mention_faults};
 
 use super::constants::{Constants, limit_of};
@@ -147,8 +145,8 @@ fn fault_of_use(view: View, before: bool, usage: Use, tag: Option<Tag>) -> Optio
 
 /// The fault of a name that is used.
 fn mention_fault(mention: &Mention, sights: &Sights, constants: &Constants) -> Option<RuleCode>
-    ensures { (all : List EnumeratorAt) (known : List Known) → HasNumbers constants.now all known
-        → result ≡ mention_fault (seen_by sights.now) all (view_mention mention.now) }
+    ensures { OnNumbers constants.now (λ all _.
+        result ≡ mention_fault (seen_by sights.now) all (view_mention mention.now)) }
 {
     let view = sights.see(mention.name);
     let before = matches!(mention.usage, Use::Value)
@@ -163,9 +161,9 @@ pub fn add_mentioned(
     sights: &Sights,
     constants: &Constants,
 ) -> Result<(), NoMemory>
-    ensures { OnOk result ((all : List EnumeratorAt) (known : List Known) → HasNumbers constants.now all known
-        → faults.new.items ≡ faults.old.items
-        ++ mention_faults (seen_by sights.now) all (map view_mention mentions.now)) }
+    ensures { OnOk result (OnNumbers constants.now (λ all _.
+        faults.new.items ≡ faults.old.items
+        ++ mention_faults (seen_by sights.now) all (map view_mention mentions.now))) }
 {
     for mention in mentions {
         let code = mention_fault(mention, sights, constants);

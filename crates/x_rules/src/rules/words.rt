@@ -2,7 +2,6 @@
 
 ghost use Rattle.std.specs.Prelude.{◌≡◌, ◌++◌, List, map, OnOk};
 ghost use Rattle.x_trees.specs.View.{view_value, view_declaration};
-ghost use Rattle.x_outline.specs.Bodies as bodies;
 ghost use Rattle.x_rules.specs.Constants.{Known};
 ghost use Rattle.x_numbers.specs.Numbers.{number_spelled, is_zero};
 ghost use Rattle.x_trees.specs.Notes.{view_note, view_note_at};
@@ -11,15 +10,15 @@ ghost use Rattle.x_rules.specs.Found.{number_fault, value_fault, spelled_fault, 
 ghost use Rattle.x_rules.specs.Found.{note_fault};
 ghost use Rattle.x_rules.specs.Found.{note_faults, past_last, past_last_faults};
 ghost use Rattle.x_outline.specs.Parts.{view_given};
-ghost use Rattle.x_rules.specs.Tables.{HasNumbers, seen_by};
+ghost use Rattle.x_rules.specs.Tables.{OnNumbers, seen_by};
 
 use super::classes::has_no_class;
 use super::constants::Constants;
 use super::found::add_fault;
 use super::sights::Sights;
 use crate::fault::{RuleCode, WordFault};
+use crate::outline::parts::EnumeratorAt;
 use x_numbers::{is_enum_number, is_word_number, number_value};
-use x_outline::EnumeratorAt;
 use x_text::NoMemory;
 use x_trees::{Declaration, Note, NoteAt, Value, ValueRole};
 
@@ -106,8 +105,8 @@ fn discriminant_fault(sights: &Sights, declaration: &Declaration) -> Option<Rule
 
 /// The fault of a word by what it is.
 fn note_fault(noted: &NoteAt, sights: &Sights, constants: &Constants) -> Option<RuleCode>
-    ensures { (all : List bodies.EnumeratorAt) (known : List Known) → HasNumbers constants.now all known
-        → result ≡ note_fault (seen_by sights.now) known noted.now.word (view_note noted.now.note) }
+    ensures { OnNumbers constants.now (λ _ known.
+        result ≡ note_fault (seen_by sights.now) known noted.now.word (view_note noted.now.note)) }
 {
     match noted.note {
         Note::Value { role, value } => {
@@ -127,9 +126,9 @@ pub fn add_words(
     sights: &Sights,
     constants: &Constants,
 ) -> Result<(), NoMemory>
-    ensures { OnOk result ((all : List bodies.EnumeratorAt) (known : List Known)
-        → HasNumbers constants.now all known → faults.new.items ≡ faults.old.items
-        ++ note_faults (seen_by sights.now) known (map view_note_at notes.now)) }
+    ensures { OnOk result (OnNumbers constants.now (λ _ known.
+        faults.new.items ≡ faults.old.items
+        ++ note_faults (seen_by sights.now) known (map view_note_at notes.now))) }
 {
     for noted in notes {
         let code = note_fault(noted, sights, constants);
@@ -159,9 +158,8 @@ fn past_last(enumerator: &EnumeratorAt, number: Option<i128>) -> Option<RuleCode
 
 /// Adds the faults of enumerators without a value.
 pub fn add_past_last(faults: &mut Vec<WordFault>, constants: &Constants) -> Result<(), NoMemory>
-    ensures { OnOk result ((all : List bodies.EnumeratorAt) (known : List Known)
-        → HasNumbers constants.now all known
-        → faults.new.items ≡ faults.old.items ++ past_last_faults known) }
+    ensures { OnOk result (OnNumbers constants.now (λ _ known.
+        faults.new.items ≡ faults.old.items ++ past_last_faults known)) }
 {
     let list = constants.list.items();
     for (place, enumerator) in list.iter().enumerate() {

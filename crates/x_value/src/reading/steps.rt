@@ -1,15 +1,14 @@
 //! How the reader begins a value.
-ghost use Rattle.std.specs.Prelude.{◌≡◌, ◌<◌, ◌≤◌, ◌^◌, ◌+◌, ◌∷◌, [], suc, ℕ, List, length, IfOk, IfErr};
-ghost use Rattle.std.specs.Prelude.{MatchOption, None, Some};
+ghost use Rattle.std.specs.Prelude.{◌≡◌, ◌<◌, ◌≤◌, ◌^◌, ◌+◌, ◌∷◌, [], ℕ, List, length, IfOk, IfErr};
+ghost use Rattle.std.specs.Prelude.{None, Some};
 ghost use Rattle.x_schema.specs.Schema.{Schema, form_at};
-ghost use Rattle.x_schema.specs.Sound.{IsSound};
 ghost use Rattle.x_value.specs.Shown.{Leaf};
 ghost use Rattle.x_value.specs.Layouts.{Job, Fixed, placed, layout_at, arm_jobs, behind, most_links};
 ghost use Rattle.x_value.specs.Layouts.{head_fault, head_nodes, body_leaf, fixed_size, number_size};
 ghost use Rattle.x_value.specs.Jobs.{AreReady, BodyFault, Moves, Refused};
 ghost use Rattle.x_value.specs.Entries.{nodes_of, IsCalled, AreNamed};
-ghost use Rattle.x_value.specs.Work.{spot_of, value_job, jobs_of_option, IsSpot, IsTypedOption, IsRear};
-ghost use Rattle.x_value.specs.Work.{shown_entries, Begun, weight_of_option, most_weight, IsHeadedForm};
+ghost use Rattle.x_value.specs.Work.{spot_of, value_job, jobs_of_option, IsTypedOption, IsRear, IsToRead};
+ghost use Rattle.x_value.specs.Work.{shown_entries, Begun, weight_of_option, most_weight, IsHeaded};
 ghost use Rattle.x_value.specs.Work.{IsSizedForm, IsKnownArm};
 
 use super::heads::head;
@@ -108,10 +107,7 @@ fn shown_head(
     level: u32,
     word: u32,
 ) -> (CompactNode, Option<CompactNode>)
-    requires known { form < length schema.now.forms }
-    requires spot { IsSpot schema.now spot }
-    requires level { level ≡ suc spot.level }
-    requires headed { IsHeadedForm (form_at schema.now form) }
+    requires word { IsHeaded schema.now form spot level }
     requires fine { head_fault schema.now (layout_at schema.now form) spot.links word ≡ None }
     ensures shown { (m : List ℕ)
         → nodes_of schema.now m (shown_entries result.0 result.1)
@@ -166,10 +162,7 @@ fn arm_task(arm: Arm, level: u32, links: u32) -> Option<Task>
 /// What stands behind the first word of a value.
 #[inline(always)]
 fn behind_head(schema: &Schema, form: FormIndex, spot: Spot, level: u32, word: u32) -> Option<Task>
-    requires known { form < length schema.now.forms }
-    requires spot { IsSpot schema.now spot }
-    requires level { level ≡ suc spot.level }
-    requires headed { IsHeadedForm (form_at schema.now form) }
+    requires word { IsHeaded schema.now form spot level }
     requires fine { head_fault schema.now (layout_at schema.now form) spot.links word ≡ None }
     ensures jobs { jobs_of_option schema.now result
         ≡ behind schema.now (layout_at schema.now form) (spot_of schema.now spot) word }
@@ -213,11 +206,7 @@ fn headed_value<'a>(
     level: u32,
     bytes: &'a [u8],
 ) -> Result<Step<'a>, ReadFault>
-    requires sound { IsSound schema.now }
-    requires known { form < length schema.now.forms }
-    requires spot { IsSpot schema.now spot }
-    requires level { level ≡ suc spot.level }
-    requires headed { IsHeadedForm (form_at schema.now form) }
+    requires { IsHeaded schema.now form spot level }
     ensures ok { IfOk result
         (λ r. Begun schema.now message.now form spot bytes.now r.first r.second r.next r.rest.now) }
     ensures err { IfErr result
@@ -244,9 +233,7 @@ fn sized<'a>(
     spot: Spot,
     bytes: &'a [u8],
 ) -> Result<Step<'a>, ReadFault>
-    requires sound { IsSound schema.now }
-    requires known { form < length schema.now.forms }
-    requires spot { IsSpot schema.now spot }
+    requires value { IsToRead schema.now form spot }
     requires sized { IsSizedForm (form_at schema.now form) }
     requires rear { IsRear message.now bytes.now }
     ensures ok { IfOk result
@@ -277,9 +264,7 @@ fn fixed<'a>(
     size: u32,
     bytes: &'a [u8],
 ) -> Result<Step<'a>, ReadFault>
-    requires sound { IsSound schema.now }
-    requires known { form < length schema.now.forms }
-    requires spot { IsSpot schema.now spot }
+    requires value { IsToRead schema.now form spot }
     requires size { fixed_size (form_at schema.now form) ≡ Some size }
     requires rear { IsRear message.now bytes.now }
     ensures ok { IfOk result
@@ -314,8 +299,7 @@ pub(crate) fn value<'a>(
     spot: Spot,
     bytes: &'a [u8],
 ) -> Result<Step<'a>, ReadFault>
-    requires known { form < length schema.now.forms }
-    requires spot { IsSpot schema.now spot }
+    requires value { IsToRead schema.now form spot }
     requires rear { IsRear message.now bytes.now }
     ensures ok { IfOk result
         (λ r. Begun schema.now message.now form spot bytes.now r.first r.second r.next r.rest.now) }

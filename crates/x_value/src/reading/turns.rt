@@ -1,11 +1,9 @@
 //! One turn of the reader: a task is taken from the stack and carried out.
-ghost use Rattle.std.specs.Prelude.{◌≡◌, ◌<◌, ◌≤◌, ◌+◌, ◌++◌, ◌∷◌, [], ℕ, List, length, drop, IfOk, IfErr};
+ghost use Rattle.std.specs.Prelude.{◌≡◌, ◌+◌, ◌++◌, ◌∷◌, [], drop, IfOk, IfErr};
 ghost use Rattle.std.specs.Prelude.{OnOk, MatchOption};
-ghost use Rattle.x_schema.specs.Schema.{Schema, form_at};
-ghost use Rattle.x_schema.specs.Sound.{IsSound};
 ghost use Rattle.x_value.specs.Jobs.{Refused};
 ghost use Rattle.x_value.specs.Work.{fields, value_job, jobs_of_task, pending, tasks_of_option};
-ghost use Rattle.x_value.specs.Work.{tasks_of_value, shown_entries, IsTyped, AreTasks, IsSpot, IsRear};
+ghost use Rattle.x_value.specs.Work.{tasks_of_value, shown_entries, IsRear, IsTakenTask};
 ghost use Rattle.x_value.specs.Work.{Stacked, TakesTask, Turn};
 
 use super::steps::value;
@@ -71,11 +69,8 @@ fn begin<'a>(
     spot: Spot,
     bytes: &'a [u8],
 ) -> Result<&'a [u8], ReadFault>
-    requires sound { IsSound schema.now }
-    requires known { form < length schema.now.forms }
-    requires spot { IsSpot schema.now spot }
+    requires taken { IsTakenTask schema.now (Task.One form spot) stack.old.items }
     requires rear { IsRear message.now bytes.now }
-    requires tasks { AreTasks schema.now stack.old.items }
     ensures ok { IfOk result
         (λ rest. Turn schema.now message.now
         (Task.One form spot) stack.old.items entries.old.items bytes.now stack.new.items entries.new.items
@@ -117,9 +112,7 @@ fn next_field(
     level: u32,
     links: u32,
 ) -> Result<Option<(FormIndex, Spot)>, ReadFault>
-    requires sound { IsSound schema.now }
-    requires task { IsTyped schema.now (Task.Fields form place level links) }
-    requires tasks { AreTasks schema.now stack.old.items }
+    requires { IsTakenTask schema.now (Task.Fields form place level links) stack.old.items }
     ensures ok { IfOk result
         (λ value. Stacked schema.now (Task.Fields form place level links) stack.old.items
         (stack.new.items ++ tasks_of_value value)) }
@@ -148,8 +141,7 @@ fn next_element(
     level: u32,
     links: u32,
 ) -> Result<Option<(FormIndex, Spot)>, ReadFault>
-    requires task { IsTyped schema.now (Task.Elements form next end level links) }
-    requires tasks { AreTasks schema.now stack.old.items }
+    requires { IsTakenTask schema.now (Task.Elements form next end level links) stack.old.items }
     ensures ok { IfOk result
         (λ value. Stacked schema.now (Task.Elements form next end level links) stack.old.items
         (stack.new.items ++ tasks_of_value value)) }
@@ -175,9 +167,7 @@ fn next_value(
     stack: &mut Vec<Task>,
     task: Task,
 ) -> Result<Option<(FormIndex, Spot)>, ReadFault>
-    requires sound { IsSound schema.now }
-    requires task { IsTyped schema.now task }
-    requires tasks { AreTasks schema.now stack.old.items }
+    requires { IsTakenTask schema.now task stack.old.items }
     ensures ok { IfOk result (λ value. TakesTask schema.now task stack.old.items stack.new.items value) }
     ensures err { IfErr result (λ e. (e.code ≡ ReadCode.NoMemory) × (e.at ≡ 0)) }
 {
@@ -202,9 +192,7 @@ pub(crate) fn carry_out<'a>(
     task: Task,
     bytes: &'a [u8],
 ) -> Result<&'a [u8], ReadFault>
-    requires sound { IsSound schema.now }
-    requires task { IsTyped schema.now task }
-    requires tasks { AreTasks schema.now stack.old.items }
+    requires taken { IsTakenTask schema.now task stack.old.items }
     requires rear { IsRear message.now bytes.now }
     ensures ok { IfOk result
         (λ rest. Turn schema.now message.now task stack.old.items entries.old.items bytes.now stack.new.items

@@ -3,16 +3,15 @@ use Rattle.std.proofs.lemmas.List.{take_all, take_more}
 use Rattle.x_trees.specs.View.{view_procedure}
 use Rattle.x_schema.specs.ProcedureMaking.{PutsProcedures}
 use Rattle.x_schema.specs.ProceduresOf.{procedures_by}
-use Rattle.x_schema.specs.SchemaMaking.{view_known}
 use Rattle.x_schema.proofs.ProcedureLemmas.{by_more, grows_none, grows_then}
 use Rattle.x_schema.proofs.maker.Maker.add_version.Goals as goal
 
 pub loop-procedure-init : goal.loop-procedure-init
-loop-procedure-init c = grows_none (view_known c.args.known.now) c.args.self.now c.args.table.now.entries
+loop-procedure-init c = grows_none c.args.known.now c.args.self.now c.args.table.now.entries
 
 pub loop-procedure-preserved : goal.loop-procedure-preserved
 loop-procedure-preserved c =
-    let known = view_known c.args.known.now in
+    let known = c.args.known.now in
     let program = c.args.program.now in
     let version = c.args.version.now in
     let i = c.loop-procedure.procedure-index in
@@ -28,6 +27,6 @@ loop-procedure-preserved c =
 pub returns : goal.returns
 returns c =
     let all = c.args.procedures.now in
-    subst (λ xs. PutsProcedures (view_known c.args.known.now) c.args.self.now c.loop-procedure.self c.args.table.now.entries c.loop-procedure.table.entries
+    subst (λ xs. PutsProcedures c.args.known.now c.args.self.now c.loop-procedure.self c.args.table.now.entries c.loop-procedure.table.entries
     (procedures_by c.args.program.now c.args.version.now (map view_procedure xs)))
     (take_all c.loop-procedure.procedure-index all c.loop-procedure-test.false) c.loop-procedure.invariant

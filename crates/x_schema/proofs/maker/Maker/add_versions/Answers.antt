@@ -4,16 +4,15 @@ use Rattle.std.specs.List.{flat_map}
 use Rattle.x_trees.specs.View.{view_version}
 use Rattle.x_schema.specs.ProcedureMaking.{PutsProcedures}
 use Rattle.x_schema.specs.ProceduresOf.{procedures_in}
-use Rattle.x_schema.specs.SchemaMaking.{view_known}
 use Rattle.x_schema.proofs.ProcedureLemmas.{grows_none, grows_then, mapped_more}
 use Rattle.x_schema.proofs.maker.Maker.add_versions.Goals as goal
 
 pub loop-version-init : goal.loop-version-init
-loop-version-init c = grows_none (view_known c.args.known.now) c.args.self.now c.args.table.now.entries
+loop-version-init c = grows_none c.args.known.now c.args.self.now c.args.table.now.entries
 
 pub loop-version-preserved : goal.loop-version-preserved
 loop-version-preserved c =
-    let known = view_known c.args.known.now in
+    let known = c.args.known.now in
     let program = c.args.program.now in
     let i = c.loop-version.version-index in
     let all = c.args.versions.now in
@@ -30,6 +29,6 @@ loop-version-preserved c =
 pub returns : goal.returns
 returns c =
     let all = c.args.versions.now in
-    subst (λ xs. PutsProcedures (view_known c.args.known.now) c.args.self.now c.loop-version.self c.args.table.now.entries c.loop-version.table.entries
+    subst (λ xs. PutsProcedures c.args.known.now c.args.self.now c.loop-version.self c.args.table.now.entries c.loop-version.table.entries
     (flat_map (procedures_in c.args.program.now) (map view_version xs)))
     (take_all c.loop-version.version-index all c.loop-version-test.false) c.loop-version.invariant

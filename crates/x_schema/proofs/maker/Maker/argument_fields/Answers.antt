@@ -2,14 +2,13 @@ use Rattle.std.proofs.Common.{◌≡◌, length, Some, ◌+◌, ◌∷◌, drop,
 use Rattle.x_trees.specs.View.{view_argument, view_passed}
 use Rattle.x_schema.specs.ProcedureMaking.{PutsField}
 use Rattle.x_schema.specs.ProceduresOf.{IsArgumentField}
-use Rattle.x_schema.specs.SchemaMaking.{view_known}
 use Rattle.x_text.proofs.ListLemmas.{drop_one, drop_none}
 use Rattle.x_schema.proofs.ProcedureLemmas.{FieldsPut, fields_end, fields_first, fields_more}
 use Rattle.x_schema.proofs.maker.Maker.argument_fields.Goals as goal
 
 pub loop-other-init : goal.loop-other-init
 loop-other-init c =
-    let known = view_known c.args.known.now in
+    let known = c.args.known.now in
     let first = view_passed c.args.first.now in
     let all = map view_argument c.args.others.now in
     subst (λ fs. FieldsPut known c.args.self.now c.first_field.new.self first fs all all) (sym c.in_ok-fields.ensures)
@@ -17,7 +16,7 @@ loop-other-init c =
 
 pub loop-other-preserved : goal.loop-other-preserved
 loop-other-preserved c =
-    let known = view_known c.args.known.now in
+    let known = c.args.known.now in
     let first = view_passed c.args.first.now in
     let i = c.loop-other.other-index in
     let all = c.args.others.now in
@@ -34,7 +33,7 @@ loop-other-preserved c =
 
 pub returns : goal.returns
 returns c =
-    let known = view_known c.args.known.now in
+    let known = c.args.known.now in
     let first = view_passed c.args.first.now in
     let all = c.args.others.now in
     fields_end known c.args.self.now c.loop-other.self first c.loop-other.fields.items (map view_argument all)

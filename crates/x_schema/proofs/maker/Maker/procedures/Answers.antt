@@ -3,18 +3,17 @@ use Rattle.std.proofs.lemmas.List.{take_all, take_more}
 use Rattle.x_trees.specs.View.{tree_at}
 use Rattle.x_schema.specs.ProcedureMaking.{PutsProcedures}
 use Rattle.x_schema.specs.ProceduresOf.{procedures_declared, procedures_of}
-use Rattle.x_schema.specs.SchemaMaking.{view_known}
 use Rattle.x_schema.proofs.ProcedureLemmas.{grows_none, grows_then, mapped_more}
 use Rattle.x_schema.proofs.maker.Maker.procedures.Goals as goal
 
 pub loop-definition-init : goal.loop-definition-init
 loop-definition-init c =
-    let known = view_known c.args.known.now in
+    let known = c.args.known.now in
     subst (λ t. PutsProcedures known c.args.self.now c.args.self.now [] t []) (sym c.new-table.ensures.empty) (grows_none known c.args.self.now [])
 
 pub loop-definition-preserved : goal.loop-definition-preserved
 loop-definition-preserved c =
-    let known = view_known c.args.known.now in
+    let known = c.args.known.now in
     let i = c.loop-definition.definition-index in
     let all = c.args.definitions.now in
     let item = c.definition-item.result in
@@ -27,5 +26,5 @@ loop-definition-preserved c =
 pub returns : goal.returns
 returns c =
     let all = c.args.definitions.now in
-    subst (λ xs. PutsProcedures (view_known c.args.known.now) c.args.self.now c.loop-definition.self [] c.loop-definition.table.entries (procedures_of (map tree_at xs)))
+    subst (λ xs. PutsProcedures c.args.known.now c.args.self.now c.loop-definition.self [] c.loop-definition.table.entries (procedures_of (map tree_at xs)))
     (take_all c.loop-definition.definition-index all c.loop-definition-test.false) c.loop-definition.invariant

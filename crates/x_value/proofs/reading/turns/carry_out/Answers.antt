@@ -10,20 +10,11 @@ returns-in_default-clause-ok c =
     turn_closed c.args.schema.now c.args.message.now c.args.task c.args.stack.now.items c.next_value.new.stack.items c.args.entries.now.items c.args.bytes.now
     (subst (λ (v : Option (ℕ × compact.Spot)). TakesTask c.args.schema.now c.args.task c.args.stack.now.items c.next_value.new.stack.items v) c.in_default.is c.in_ok-form.ensures.ok)
 
-pub begin-requires-clause-known : goal.begin-requires-clause-known
-begin-requires-clause-known c =
+pub begin-requires-clause-taken : goal.begin-requires-clause-taken
+begin-requires-clause-taken c =
     let o = subst (λ (v : Option (ℕ × compact.Spot)). TakesTask c.args.schema.now c.args.task c.args.stack.now.items c.next_value.new.stack.items v) c.in-Some.is c.in_ok-form.ensures.ok in
-    (opened_parts c.args.schema.now c.args.task c.args.stack.now.items c.next_value.new.stack.items c.in-Some.form c.in-Some.spot o).1.0
-
-pub begin-requires-clause-spot : goal.begin-requires-clause-spot
-begin-requires-clause-spot c =
-    let o = subst (λ (v : Option (ℕ × compact.Spot)). TakesTask c.args.schema.now c.args.task c.args.stack.now.items c.next_value.new.stack.items v) c.in-Some.is c.in_ok-form.ensures.ok in
-    (opened_parts c.args.schema.now c.args.task c.args.stack.now.items c.next_value.new.stack.items c.in-Some.form c.in-Some.spot o).1.1
-
-pub begin-requires-clause-tasks : goal.begin-requires-clause-tasks
-begin-requires-clause-tasks c =
-    let o = subst (λ (v : Option (ℕ × compact.Spot)). TakesTask c.args.schema.now c.args.task c.args.stack.now.items c.next_value.new.stack.items v) c.in-Some.is c.in_ok-form.ensures.ok in
-    (opened_parts c.args.schema.now c.args.task c.args.stack.now.items c.next_value.new.stack.items c.in-Some.form c.in-Some.spot o).0
+    let parts = opened_parts c.args.schema.now c.args.task c.args.stack.now.items c.next_value.new.stack.items c.in-Some.form c.in-Some.spot o in
+    record { sound = c.requires.taken.sound; task = parts.1; tasks = parts.0 }
 
 pub returns-clause-ok : goal.returns-clause-ok
 returns-clause-ok c =
