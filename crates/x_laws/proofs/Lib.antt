@@ -17,6 +17,7 @@ pub mod OneAnswer
 pub mod OneDump
 pub mod OneShowing
 pub mod Paired
+pub mod Placing
 pub mod SchemaNumbers
 pub mod SchemaTargets
 pub mod SchemaTypes

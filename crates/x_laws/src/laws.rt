@@ -2,7 +2,7 @@
 //! law.
 
 ghost use Rattle.std.specs.Prelude.{◌≡◌, ◌↔◌, ℕ, pos, List, [], Option, Some, IsSome, map, slice_get};
-ghost use Rattle.std.specs.List.{IsAmong};
+ghost use Rattle.std.specs.List.{All, IsAmong};
 ghost use Rattle.std.specs.Map.{lookup};
 ghost use Rattle.std.specs.Str.{bytes_eq};
 ghost use Rattle.x_trees.specs.Gloss.{Role};
@@ -17,6 +17,8 @@ ghost use Rattle.x_schema.specs.Schemas.{IsSchemaOf};
 ghost use Rattle.x_schema.specs.declared.schema.NamedType.{NamedType};
 ghost use Rattle.x_schema.specs.declared.schema.TypeId.{TypeId};
 ghost use Rattle.x_schema.specs.declared.procedure.ProcedureNumbers.{ProcedureNumbers};
+ghost use Rattle.x_value.specs.Dumps.{IsShown};
+ghost use Rattle.x_value.specs.Shown.{Node};
 ghost use Rattle.x_session.specs.Answers.{Answer};
 ghost use Rattle.x_compile.specs.Compile.{Item, faults_of};
 ghost use Rattle.x_session.specs.LineAnswers.{IsLineAnswer};
@@ -25,6 +27,7 @@ ghost use Rattle.x_wire.specs.MessageTexts.{Told};
 ghost use Rattle.x_wire.specs.StreamTexts.{IsStreamText, IsTextOf};
 ghost use Rattle.x_laws.specs.Meant.{AreFaultless, IsAsDeclared, IsTypeName, IsUsedAsType, MeansType};
 ghost use Rattle.x_laws.specs.Meant.{number_meant, sees, words_meant};
+ghost use Rattle.x_laws.specs.Places.{IsShownAt, PlacedNode, ShowsSlice};
 ghost use Rattle.x_laws.specs.Showing.{ShowsAlike, CallsAlike};
 
 /// Two schemas of the same definitions have types of the same names and procedures of the same numbers, and
@@ -36,6 +39,16 @@ pub fn one_showing()
     ensures procedures { (definitions : List (Option Definition)) (s t : Schema) → IsSchemaOf definitions s
         → IsSchemaOf definitions t → (numbers : ProcedureNumbers) (name : List ℕ) (a b : TypeId)
         → IsProcedureAt s numbers name a b → CallsAlike s t numbers name a b }
+{}
+
+/// The nodes that bytes are shown as have places among these, in one way (`one`), and the bytes that a node
+/// shows as they are, those of an opaque or a string, are so many from its place on (`slices`).
+pub fn bodies_in_place()
+    ensures slices { (s : Schema) (id : TypeId) (bytes : List ℕ) (shown : List Node)
+        → IsShown s id bytes shown → (placed : List PlacedNode) × IsShownAt s id bytes placed
+        × (shown ≡ map (λ n. n.node) placed) × All (ShowsSlice bytes) placed }
+    ensures one { (s : Schema) (id : TypeId) (bytes : List ℕ) (a b : List PlacedNode)
+        → IsShownAt s id bytes a → IsShownAt s id bytes b → a ≡ b }
 {}
 
 /// A line of a script has one answer, over a text and its items, and the lines of a script have one list of

@@ -1,12 +1,13 @@
 //! Each law called once.
 use x_laws::{
-    faultless_results, one_answer, one_dump, one_showing, schema_numbers, schema_targets,
-    schema_types,
+    bodies_in_place, faultless_results, one_answer, one_dump, one_showing, schema_numbers,
+    schema_targets, schema_types,
 };
 
 #[test]
 fn laws_do_nothing(_rt: HostRuntime) {
     one_showing();
+    bodies_in_place();
     one_answer();
     one_dump();
     faultless_results();
