@@ -4,6 +4,5 @@ pub mod ProceduresOf
 pub mod Schema
 pub mod SchemaMaking
 pub mod SchemaOf
-pub mod SchemaTables
 pub mod Schemas
 pub mod Sound

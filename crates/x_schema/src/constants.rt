@@ -13,10 +13,10 @@ ghost use Rattle.x_schema.specs.SchemaOf.{with_number, with_enumerators, with_ty
 ghost use Rattle.x_schema.specs.SchemaOf.{with_body, with_declaration};
 ghost use Rattle.x_schema.specs.SchemaOf.{with_declarations, with_arms, with_default, with_definition};
 ghost use Rattle.x_schema.specs.SchemaOf.{signed_word, unsigned_word, with_first};
-ghost use Rattle.x_schema.specs.SchemaTables.{numbers_held};
 
 use indexmap::IndexMap;
 use std::alloc::Global;
+use std::marker::Model;
 use x_numbers::{next_number, number_value};
 use x_text::NoMemory;
 use x_trees::{Arm, Body, DataType, Declaration, Definition, Enumerator, UnionBody, Value};
@@ -44,10 +44,19 @@ pub fn signed_word(number: i128) -> Option<u32>
     unsigned_word(number)
 }
 
-/// The constants of a text with their numbers: the first of a name has it.
+/// The constants of a text with their numbers: the first of a name has it. They are seen as that list.
 #[derive(Drop)]
 pub struct Constants<'d> {
-    pub table: IndexMap<&'d [u8], i128>,
+    table: IndexMap<&'d [u8], i128>,
+}
+
+impl<'d> Model for Constants<'d> {
+    ghost use Rattle.std.specs.Prelude.{map};
+    ghost use Rattle.x_schema.specs.SchemaOf.{Numbers};
+
+    ghost Value = { Numbers };
+
+    ghost view = { λ c. map (λ e. (e.0.now, e.1)) c.table.entries };
 }
 
 impl<'d> Constants<'d> {
@@ -56,8 +65,7 @@ impl<'d> Constants<'d> {
         alloc: Global,
         definitions: &[Option<&'d Definition>],
     ) -> Result<Constants<'d>, NoMemory>
-        ensures { IfOk result
-            (λ constants. numbers_held constants ≡ numbers_of (map tree_at definitions.now)) }
+        ensures { IfOk result (λ constants. constants ≡ numbers_of (map tree_at definitions.now)) }
     {
         let mut constants = Constants::beforehand(alloc)?;
         for definition in definitions {
@@ -70,7 +78,7 @@ impl<'d> Constants<'d> {
 
     /// Those that are declared beforehand.
     fn beforehand(alloc: Global) -> Result<Constants<'d>, NoMemory>
-        ensures { IfOk result (λ constants. numbers_held constants ≡ beforehand) }
+        ensures { IfOk result (λ constants. constants ≡ beforehand) }
     {
         let mut constants = Constants {
             table: IndexMap::new(alloc),
@@ -82,14 +90,14 @@ impl<'d> Constants<'d> {
 
     /// The number of the name, if it is known.
     fn number_named(&self, name: &[u8]) -> Option<i128>
-        ensures { result ≡ lookup (bytes_eq name.now) (numbers_held self.now) }
+        ensures { result ≡ lookup (bytes_eq name.now) self.now }
     {
         self.table.get(name).copied()
     }
 
     /// The number of the value, if it is known.
     pub fn number(&self, value: &Value) -> Option<i128>
-        ensures { result ≡ number_in (numbers_held self.now) (view_value value.now) }
+        ensures { result ≡ number_in self.now (view_value value.now) }
     {
         match value {
             Value::Number(text) => number_value(text),
@@ -99,7 +107,7 @@ impl<'d> Constants<'d> {
 
     /// The number of an enumerator of this value, where the next one behind the enumerator before is given.
     pub fn number_given(&self, next: Option<i128>, value: &Option<Value>) -> Option<i128>
-        ensures { result ≡ number_given (numbers_held self.now) next (view_most value.now) }
+        ensures { result ≡ number_given self.now next (view_most value.now) }
     {
         match value {
             Some(value) => self.number(value),
@@ -109,7 +117,7 @@ impl<'d> Constants<'d> {
 
     /// A size; one that is not known is 0.
     pub fn size(&self, value: &Value) -> u32
-        ensures { result ≡ size_in (numbers_held self.now) (view_value value.now) }
+        ensures { result ≡ size_in self.now (view_value value.now) }
     {
         match self.number(value) {
             Some(number) => unsigned_word(number).unwrap_or(0),
@@ -119,7 +127,7 @@ impl<'d> Constants<'d> {
 
     /// A greatest size; without one it is the greatest number.
     pub fn limit(&self, most: &Option<Value>) -> u32
-        ensures { result ≡ limit_in (numbers_held self.now) (view_most most.now) }
+        ensures { result ≡ limit_in self.now (view_most most.now) }
     {
         match most {
             Some(value) => self.size(value),
@@ -129,8 +137,7 @@ impl<'d> Constants<'d> {
 
     /// Takes in a name with its number, if the name has none.
     fn put(&mut self, name: &'d [u8], number: i128) -> Result<(), NoMemory>
-        ensures { OnOk result (numbers_held self.new
-            ≡ with_first bytes_eq (numbers_held self.old) name.now number) }
+        ensures { OnOk result (self.new ≡ with_first bytes_eq self.old name.now number) }
     {
         if self.number_named(name).is_some() {
             return Ok(());
@@ -141,7 +148,7 @@ impl<'d> Constants<'d> {
 
     /// Takes in a name with its number, if that is known and the name has none.
     fn add(&mut self, name: &'d [u8], number: Option<i128>) -> Result<(), NoMemory>
-        ensures { OnOk result (numbers_held self.new ≡ with_number (numbers_held self.old) name.now number) }
+        ensures { OnOk result (self.new ≡ with_number self.old name.now number) }
     {
         match number {
             Some(number) => self.put(name, number),
@@ -150,8 +157,8 @@ impl<'d> Constants<'d> {
     }
 
     fn enumerators(&mut self, enumerators: &'d [Enumerator]) -> Result<(), NoMemory>
-        ensures { OnOk result (numbers_held self.new
-            ≡ with_enumerators (numbers_held self.old) (Some (pos 0)) (map view_enumerator enumerators.now)) }
+        ensures { OnOk result (self.new
+            ≡ with_enumerators self.old (Some (pos 0)) (map view_enumerator enumerators.now)) }
     {
         let mut next = Some(0);
         for enumerator in enumerators {
@@ -164,8 +171,7 @@ impl<'d> Constants<'d> {
 
     #[cycle(constants)]
     fn body(&mut self, body: &'d Body) -> Result<(), NoMemory>
-        ensures { OnOk result
-            (numbers_held self.new ≡ with_body (numbers_held self.old) (view_body body.now)) }
+        ensures { OnOk result (self.new ≡ with_body self.old (view_body body.now)) }
     {
         match body {
             Body::Enum(enumerators) => self.enumerators(enumerators),
@@ -176,8 +182,7 @@ impl<'d> Constants<'d> {
 
     #[cycle(constants)]
     fn union(&mut self, body: &'d UnionBody) -> Result<(), NoMemory>
-        ensures { OnOk result
-            (numbers_held self.new ≡ with_body (numbers_held self.old) (view_union body.now)) }
+        ensures { OnOk result (self.new ≡ with_body self.old (view_union body.now)) }
     {
         self.declaration(&body.discriminant)?;
         self.arms(&body.arms)?;
@@ -186,8 +191,7 @@ impl<'d> Constants<'d> {
 
     #[cycle(constants)]
     fn data_type(&mut self, tree: &'d DataType) -> Result<(), NoMemory>
-        ensures { OnOk result
-            (numbers_held self.new ≡ with_type (numbers_held self.old) (view_type tree.now)) }
+        ensures { OnOk result (self.new ≡ with_type self.old (view_type tree.now)) }
     {
         match tree {
             DataType::Inline(body) => self.body(body),
@@ -197,8 +201,7 @@ impl<'d> Constants<'d> {
 
     #[cycle(constants)]
     fn declaration(&mut self, declaration: &'d Declaration) -> Result<(), NoMemory>
-        ensures { OnOk result (numbers_held self.new
-            ≡ with_declaration (numbers_held self.old) (view_declaration declaration.now)) }
+        ensures { OnOk result (self.new ≡ with_declaration self.old (view_declaration declaration.now)) }
     {
         match declaration {
             Declaration::Of { data, .. } => self.data_type(data),
@@ -208,8 +211,7 @@ impl<'d> Constants<'d> {
 
     #[cycle(constants)]
     fn declarations(&mut self, declarations: &'d [Declaration]) -> Result<(), NoMemory>
-        ensures { OnOk result (numbers_held self.new
-            ≡ with_declarations (numbers_held self.old) (view_declarations declarations.now)) }
+        ensures { OnOk result (self.new ≡ with_declarations self.old (view_declarations declarations.now)) }
     {
         for declaration in declarations {
             self.declaration(declaration)?;
@@ -219,8 +221,7 @@ impl<'d> Constants<'d> {
 
     #[cycle(constants)]
     fn arms(&mut self, arms: &'d [Arm]) -> Result<(), NoMemory>
-        ensures { OnOk result
-            (numbers_held self.new ≡ with_arms (numbers_held self.old) (view_arms arms.now)) }
+        ensures { OnOk result (self.new ≡ with_arms self.old (view_arms arms.now)) }
     {
         for arm in arms {
             self.declaration(&arm.declaration)?;
@@ -230,8 +231,7 @@ impl<'d> Constants<'d> {
 
     #[cycle(constants)]
     fn default(&mut self, default: &'d Option<Declaration>) -> Result<(), NoMemory>
-        ensures { OnOk result (numbers_held self.new
-            ≡ with_default (numbers_held self.old) (view_default default.now)) }
+        ensures { OnOk result (self.new ≡ with_default self.old (view_default default.now)) }
     {
         match default {
             Some(declaration) => self.declaration(declaration),
@@ -241,8 +241,7 @@ impl<'d> Constants<'d> {
 
     /// Takes in the constants that a definition declares.
     fn definition(&mut self, definition: &'d Definition) -> Result<(), NoMemory>
-        ensures { OnOk result (numbers_held self.new
-            ≡ with_definition (numbers_held self.old) (Some (view_definition definition.now))) }
+        ensures { OnOk result (self.new ≡ with_definition self.old (Some (view_definition definition.now))) }
     {
         match definition {
             Definition::Const { name, value } => {

@@ -21,7 +21,6 @@ ghost use Rattle.x_schema.specs.SchemaOf.{typedefs_of_type, typedefs_of_fields};
 ghost use Rattle.x_schema.specs.SchemaOf.{typedefs_of_arms, typedefs_of_default, signed_word};
 ghost use Rattle.x_trees.specs.Declarations.{is_void, name_of};
 ghost use Rattle.x_schema.specs.SchemaOf as schema;
-ghost use Rattle.x_schema.specs.SchemaTables.{numbers_held};
 ghost use Rattle.x_schema.specs.SchemaMaking.{AddsName, AddsForm, AddsLink, AddsFound};
 ghost use Rattle.x_schema.specs.SchemaMaking.{PutsAll, PutsPlace, PutsLink};
 ghost use Rattle.x_schema.specs.SchemaMaking.{AreSoundCases, AreSoundWords, IsStart};
@@ -64,14 +63,13 @@ impl<'d> Model for Known<'d> {
     ghost Value = { Known };
 
     ghost use Rattle.x_schema.specs.Schema.{named_types};
-    ghost use Rattle.x_schema.specs.SchemaTables.{numbers_held};
 
-    ghost view = { λ k. record { numbers = numbers_held k.constants; types = named_types k.types.entries } };
+    ghost view = { λ k. record { numbers = k.constants; types = named_types k.types.entries } };
 }
 
 impl<'d> Known<'d> {
     fn constants(&self) -> &Constants<'d>
-        ensures { numbers_held result.now ≡ self.now.numbers }
+        ensures { result.now ≡ self.now.numbers }
     {
         &self.constants
     }
@@ -139,7 +137,7 @@ pub(super) fn basic_form(basic: Basic) -> Form
 
 /// The form of opaque data.
 fn opaque_form(constants: &Constants, length: &Length) -> Form
-    ensures { result ≡ opaque_form (numbers_held constants.now) (view_length length.now) }
+    ensures { result ≡ opaque_form constants.now (view_length length.now) }
 {
     match length {
         Length::Fixed(size) => Form::FixedOpaque(constants.size(size)),
@@ -201,7 +199,7 @@ fn word_by(form: &Form, number: i128) -> Option<u32>
 
 /// The word of a case, if its number is known and a discriminant of the form may have it.
 fn case_word(constants: &Constants, form: &Form, value: &Value) -> Option<u32>
-    ensures { result ≡ case_word (numbers_held constants.now) form.now (view_value value.now) }
+    ensures { result ≡ case_word constants.now form.now (view_value value.now) }
 {
     let number = constants.number(value)?;
     let word = word_by(form, number)?;
@@ -235,7 +233,7 @@ fn add_cases(
     arm: Arm,
 ) -> Result<(), NoMemory>
     ensures { OnOk result (cases.new.entries
-        ≡ with_cases (numbers_held constants.now) form.now cases.old.entries
+        ≡ with_cases constants.now form.now cases.old.entries
         (map view_value values.now) arm) }
 {
     for value in values {
@@ -346,7 +344,7 @@ impl<'d> Maker<'d> {
         enumerators: &[Enumerator],
     ) -> Result<IndexMap<u32, NameIndex>, NoMemory>
         ensures { IfOk result (λ names. (known : schema.Known) → PutsAll known self.old self.new [] (λ n i s.
-            (words_named s names.entries ≡ words_from (numbers_held constants.now) (Some (pos 0)) []
+            (words_named s names.entries ≡ words_from constants.now (Some (pos 0)) []
             (map view_enumerator enumerators.now)) × AreSoundWords n names.entries)) }
     {
         let mut names = IndexMap::new(alloc);
@@ -383,7 +381,7 @@ impl<'d> Maker<'d> {
         arm: Arm,
     ) -> Result<(), NoMemory>
         ensures { OnOk result (discriminant < length self.now.forms.items → cases.new.entries
-            ≡ with_cases (numbers_held constants.now) (get_or self.now.forms.items discriminant forms.Void)
+            ≡ with_cases constants.now (get_or self.now.forms.items discriminant forms.Void)
             cases.old.entries (map view_value values.now) arm) }
     {
         match self.forms.get(discriminant) {

@@ -1,7 +1,6 @@
 use Rattle.std.proofs.Common.{◌≡◌, ◌+◌, ◌∷◌, [], drop, map, pos, Some, ap, sym, subst, ◌∙◌}
 use Rattle.x_trees.specs.View.{view_enumerator}
 use Rattle.x_schema.specs.SchemaOf.{with_word}
-use Rattle.x_schema.specs.SchemaTables.{numbers_held}
 use Rattle.x_schema.specs.SchemaMaking.{PutsAll, AreSoundWords, words_named}
 use Rattle.x_text.proofs.ListLemmas.{drop_one, drop_none}
 use Rattle.x_schema.proofs.MakerArms.{EnumSoFar, enum_start, enum_more, enum_end}
@@ -10,13 +9,13 @@ use Rattle.x_schema.proofs.maker.Maker.enumerators.Goals as goal
 pub loop-enumerator-init : goal.loop-enumerator-init
 loop-enumerator-init c known g =
     let all = map view_enumerator c.args.enumerators.now in
-    let numbers = numbers_held c.args.constants.now in
+    let numbers = c.args.constants.now in
     subst (λ es. EnumSoFar known c.args.self.now c.args.self.now numbers (Some (pos 0)) es all all) (sym c.new-names.ensures.empty)
     (enum_start known c.args.self.now numbers all g)
 
 pub loop-enumerator-preserved : goal.loop-enumerator-preserved
 loop-enumerator-preserved c known g =
-    let numbers = numbers_held c.args.constants.now in
+    let numbers = c.args.constants.now in
     let i = c.loop-enumerator.enumerator-index in
     let all = c.args.enumerators.now in
     let item = c.enumerator-item.result in
@@ -33,7 +32,7 @@ loop-enumerator-preserved c known g =
 
 pub returns : goal.returns
 returns c known g =
-    let numbers = numbers_held c.args.constants.now in
+    let numbers = c.args.constants.now in
     let all = c.args.enumerators.now in
     let names = c.loop-enumerator.names.entries in
     enum_end known c.args.self.now c.loop-enumerator.self numbers c.loop-enumerator.next names (map view_enumerator all)

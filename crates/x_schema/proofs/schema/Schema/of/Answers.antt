@@ -4,13 +4,12 @@ use Rattle.x_schema.specs.ProceduresOf.{procedures_of}
 use Rattle.x_schema.specs.Schema.{Schema, named_types}
 use Rattle.x_schema.specs.SchemaMaking.{IsGood, names_made, place_linked}
 use Rattle.x_schema.specs.SchemaOf.{Known}
-use Rattle.x_schema.specs.SchemaTables.{numbers_held}
 use Rattle.x_schema.proofs.MakerItems.{end_completes, end_last, end_sound, end_types}
 use Rattle.x_schema.proofs.schema.Schema.of.Goals as goal
 
 pub invariant_of-result : goal.invariant_of-result
 invariant_of-result c =
-    let before : Known = record { numbers = numbers_held c.in_ok-constants.constants; types = named_types c.new-types.result.entries } in
+    let before : Known = record { numbers = c.in_ok-constants.constants; types = named_types c.new-types.result.entries } in
     let after : Known = c.items.new.known in
     let m = c.items.new.self in
     let last = c.procedures.new.self in
@@ -26,7 +25,7 @@ invariant_of-result c =
 
 pub returns : goal.returns
 returns c =
-    let before : Known = record { numbers = numbers_held c.in_ok-constants.constants; types = named_types c.new-types.result.entries } in
+    let before : Known = record { numbers = c.in_ok-constants.constants; types = named_types c.new-types.result.entries } in
     let after : Known = c.items.new.known in
     let m = c.items.new.self in
     let last = c.procedures.new.self in
