@@ -100,6 +100,17 @@ fn add_mentioned(
     Ok(())
 }
 
+/// Makes room for so many names where the table has fewer yet: so a large item does not make it grow again and
+/// again.
+fn reserve_names(table: &mut Table, count: usize) -> Result<(), NoMemory>
+    ensures { table.new.entries ≡ table.old.entries }
+{
+    if table.len() < count {
+        table.reserve(count)?;
+    }
+    Ok(())
+}
+
 /// Takes in the names that an item declares or mentions.
 fn add<'d>(
     alloc: Global,
@@ -114,6 +125,7 @@ fn add<'d>(
         (sees (Some (view_definition definition.now))) item) }
 {
     glossary.read(alloc, definition)?;
+    reserve_names(table, glossary.declared.len())?;
     add_declared(alloc, table, item, &glossary.declared)?;
     add_mentioned(alloc, table, item, &glossary.mentioned)
 }
