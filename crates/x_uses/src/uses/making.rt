@@ -100,8 +100,8 @@ fn add_mentioned(
     Ok(())
 }
 
-/// Makes room for so many names where the table has fewer yet: so a large item does not make it grow again and
-/// again.
+/// Makes room for so many names where the table has fewer yet, so that a large item does not make it grow
+/// again and again.
 fn reserve_names(table: &mut Table, count: usize) -> Result<(), NoMemory>
     ensures { table.new.entries ≡ table.old.entries }
 {
