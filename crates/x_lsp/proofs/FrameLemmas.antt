@@ -1,6 +1,6 @@
 -- Messages behind one another.
-use Rattle.std.proofs.Common.{◌≡◌, ℕ, suc, cond, Err, Bool, true, false, get_or, codes, ◌∷◌, ◌+◌, ◌-◌, ◌<◌, ◌≤◌, List, [], ◌++◌, length, take, drop, map, Option, None, Some, arith, refl, sym, ap, subst, ◌∙◌, append_assoc, append-nil, slice_range}
-use Rattle.std.specs.Prelude.{IfSome, ◌&&◌}
+use Rattle.std.proofs.Common.{◌≡◌, ℕ, suc, cond, Err, Bool, true, false, get_or, codes, ◌∷◌, ◌+◌, ◌-◌, ◌<◌, ◌≤◌, List, [], ◌++◌, length, take, drop, map, Option, None, Some, arith, ne_eqb, refl, sym, ap, subst, ◌∙◌, append_assoc, append-nil, slice_range}
+use Rattle.std.specs.Prelude.{IfSome, ◌&&◌, ◌==◌}
 use Rattle.std.specs.Char.{eq_ignore_ascii_case}
 use Rattle.std.specs.Io.KnownBytes.{IsAtEnd}
 use Rattle.std.proofs.KnownBytes.{Consumes-nil, Consumes-trans}
@@ -35,12 +35,17 @@ long_head bytes none long more body rest f =
     none f.fields f.last (drop (length section) bytes)
     (f.reads.0, sym (take-append-drop (length section) bytes) ∙ ap (λ l. l ++ drop (length section) bytes) front)
 
+-- none that are whole
+unsectioned : (bytes : List ℕ) → HasNoSection bytes → IsUnframed bytes
+unsectioned bytes none body rest f = none f.fields f.last (body ++ rest) f.reads
+
+at_its_end : (bytes later : List ℕ) → IsAtEnd (Some later) → bytes ++ later ≡ bytes
+at_its_end bytes later end = ap (λ l. bytes ++ l) end ∙ append-nil bytes
+
 -- none that are whole at the end
 pub none_at_end : (bytes : List ℕ) (left : Option (List ℕ)) → HasNoSection bytes → IsAtEnd left → IfSome left (λ later. IsUnframed (bytes ++ later))
 none_at_end bytes None none end = tt
-none_at_end bytes (Some later) none end = λ body rest f.
-    let same : bytes ++ later ≡ bytes = ap (λ l. bytes ++ l) end ∙ append-nil bytes in
-    none f.fields f.last (body ++ rest) (f.reads.0, sym same ∙ f.reads.1)
+none_at_end bytes (Some later) none end = subst IsUnframed (sym (at_its_end bytes later end)) (unsectioned bytes none)
 
 -- what follows does not change the fields
 same_fields : (bytes more body rest after : List ℕ) (fields : List Field) (last : LineEnd) → ReadsSection bytes fields last after → (f : IsFramed (bytes ++ more) body rest)
@@ -86,14 +91,11 @@ whole_message bytes all left left' head h come enough =
       short_body = subst (λ k. k ≤ most_body) (sym body_len) h.short_body;
     }
 
--- a body that is cut off at the end
-pub cut_message : (bytes all : List ℕ) (left left' : Option (List ℕ)) (head : Head) → IsHeadOf bytes head → HasCome bytes all left left' → length all < head.length + head.body
-    → IsAtEnd left' → IfSome left' (λ later. IsUnframed (all ++ later))
-cut_message bytes all left None head h come short end = tt
-cut_message bytes all left (Some later) head h come short end = λ body rest f.
+-- a body that is cut off
+cut_short : (bytes all : List ℕ) (left left' : Option (List ℕ)) (head : Head) → IsHeadOf bytes head → HasCome bytes all left left' → length all < head.length + head.body → IsUnframed all
+cut_short bytes all left left' head h come short body rest f =
     let n = head.length in
-    let all_is : all ++ later ≡ bytes ++ come.come = ap (λ l. all ++ l) end ∙ append-nil all ∙ come.new_is in
-    let g : IsFramed (bytes ++ come.come) body rest = subst (λ b. IsFramed b body rest) all_is f in
+    let g : IsFramed (bytes ++ come.come) body rest = subst (λ b. IsFramed b body rest) come.new_is f in
     let same = same_fields bytes come.come body rest (drop n bytes) h.fields h.last h.reads g in
     let announced_is : Some (length body) ≡ Some head.body = sym g.length_is ∙ ap (λ fs. announced (map name_and_value fs)) same.0 ∙ h.body_is in
     let body_len : length body ≡ head.body = cc in
@@ -105,6 +107,13 @@ cut_message bytes all left (Some later) head h come short end = λ body rest f.
     let five = length-append bytes come.come in
     let within = h.within in
     omega (arith, body_len, parts, one, two, three, four, five, within, short)
+
+-- a body that is cut off at the end
+pub cut_message : (bytes all : List ℕ) (left left' : Option (List ℕ)) (head : Head) → IsHeadOf bytes head → HasCome bytes all left left' → length all < head.length + head.body
+    → IsAtEnd left' → IfSome left' (λ later. IsUnframed (all ++ later))
+cut_message bytes all left None head h come short end = tt
+cut_message bytes all left (Some later) head h come short end =
+    subst IsUnframed (sym (at_its_end all later end)) (cut_short bytes all left (Some later) head h come short)
 
 -- ---- what has come
 
@@ -162,15 +171,22 @@ front_fails Bad bytes (Some later) never = λ body rest f. never later body rest
 front_fails Read bytes left never = absurd never
 front_fails NoMemory bytes left never = absurd never
 
-pub piece_fails : (fault : FrameFault) (bytes : List ℕ) (left : Option (List ℕ)) → (fault ≡ Bad → ⊥) → FindsHead (Err fault) bytes left
-piece_fails Bad bytes left other = absurd (other refl)
-piece_fails Read bytes left other = tt
-piece_fails NoMemory bytes left other = tt
+pub piece_fails : (fault : FrameFault) (old new : List ℕ) (left : Option (List ℕ)) → (fault ≡ Bad → ⊥) → HasNoSection old → new ≡ old → FindsHead (Err fault) new left
+piece_fails Bad old new left other none same = absurd (other refl)
+piece_fails Read old new left other none same = subst IsUnframed (sym same) (unsectioned old none)
+piece_fails NoMemory old new left other none same = tt
 
-pub body_fails : (fault : FrameFault) (head : Head) (bytes : List ℕ) (left : Option (List ℕ)) → (fault ≡ Bad → ⊥) → FindsBody (Err fault) head bytes left
-body_fails Bad head bytes left other = absurd (other refl)
-body_fails Read head bytes left other = tt
-body_fails NoMemory head bytes left other = tt
+pub body_fails : (fault : FrameFault) (head : Head) (old new : List ℕ) (left : Option (List ℕ)) → (fault ≡ Bad → ⊥) → length old < head.length + head.body → new ≡ old → FindsBody (Err fault) head new left
+body_fails Bad head old new left other short same = absurd (other refl)
+body_fails Read head old new left other short same = subst (λ b. length b < head.length + head.body) (sym same) short
+body_fails NoMemory head old new left other short same = tt
+
+-- a list of no entries
+pub empty_by : (xs : List ℕ) (n : ℕ) (r : Bool) → r ≡ (n == 0) → r ≡ true → n ≡ length xs → xs ≡ []
+empty_by [] n r is yes_is len = refl
+empty_by (x ∷ xs) n r is yes_is len =
+    let bad : true ≡ false = sym yes_is ∙ is ∙ ap (λ k. k == 0) len ∙ ne_eqb (length (x ∷ xs)) 0 (λ z. omega (arith, z)) in
+    absurd (cc)
 
 -- a buffer that grew begins with what it had
 pub grown_front : (old new rest : List ℕ) (n more : ℕ) (ok : Bool) → n ≡ length old → ok ≡ true → new ≡ cond ok (take (n + more) old ++ rest) old → old ≡ take n new
@@ -179,10 +195,18 @@ grown_front old new rest n more ok n_is ok_is new_is =
     let whole : new ≡ old ++ rest = new_is ∙ on_true ok (take (n + more) old ++ rest) old ok_is ∙ ap (λ l. l ++ rest) all in
     sym (ap (take n) whole ∙ ap (λ k. take k (old ++ rest)) n_is ∙ take-append_seam old rest)
 
+-- a fault while the header fields are read
+pub head_fault : (fault : FrameFault) (unread all : List ℕ) (new : FrameReading) (left left' : Option (List ℕ)) → (come : HasCome unread all left left') → new.unread ≡ all
+    → FindsHead (Err fault) all left' → Finds (Err fault) (unread ++ come.come) new left'
+head_fault Bad unread all new left left' come new_is found = subst (λ b. IfSome left' (λ later. IsUnframed (b ++ later))) come.new_is found
+head_fault Read unread all new left left' come new_is found = (new_is ∙ come.new_is, subst IsUnframed come.new_is found)
+head_fault NoMemory unread all new left left' come new_is found = new_is ∙ come.new_is
+
 -- a fault while the body is read
 pub body_fault : (fault : FrameFault) (unread mid all : List ℕ) (new : FrameReading) (left left' left'' : Option (List ℕ)) (head : Head) → IsHeadOf mid head
     → (come : HasCome unread all left left'') → HasCome mid all left' left'' → new.unread ≡ all → FindsBody (Err fault) head all left'' → Finds (Err fault) (unread ++ come.come) new left''
 body_fault Bad unread mid all new left left' left'' head h come second new_is found =
     subst (λ b. IfSome left'' (λ later. IsUnframed (b ++ later))) come.new_is (cut_message mid all left' left'' head h second found.0 found.1)
-body_fault Read unread mid all new left left' left'' head h come second new_is found = new_is ∙ come.new_is
+body_fault Read unread mid all new left left' left'' head h come second new_is found =
+    (new_is ∙ come.new_is, subst IsUnframed come.new_is (cut_short mid all left' left'' head h second found))
 body_fault NoMemory unread mid all new left left' left'' head h come second new_is found = new_is ∙ come.new_is

@@ -6,3 +6,4 @@ pub mod LineLemmas
 pub mod ListLemmas
 pub mod PositionLemmas
 pub mod SaidLemmas
+pub mod ServingLemmas

@@ -1,7 +1,7 @@
 -- What a server says: answers to requests, and notes (JSON-RPC 2.0, LSP 3.17).
 use Rattle.std.specs.Prelude.{◌≡◌, ◌⊎◌, ℕ, ℤ, negsuc, List, [], ◌++◌, length, codes, decimal}
-use Rattle.std.specs.Prelude.{Option, None, Some}
-use Rattle.std.specs.Prelude.{IfSome, IsUtf8}
+use Rattle.std.specs.Prelude.{Option, None, Some, true}
+use Rattle.std.specs.Prelude.{IfSome, IsUtf8, MatchResult}
 use Rattle.serde_json.specs.Data.{Data, null, number, string, object, Members, member, no_members, unsigned}
 use Rattle.serde_json.specs.Find.{of_integer}
 use Rattle.serde_json.specs.Read.{read}
@@ -9,6 +9,9 @@ use Rattle.serde_json.specs.Written.{compact_text}
 use Rattle.x_lsp.specs.declared.answers.ErrorCode.{ErrorCode}
 use Rattle.x_lsp.specs.declared.answers.ErrorCode.TheVariants.{ParseError, InvalidRequest, MethodNotFound}
 use Rattle.x_lsp.specs.declared.answers.ErrorCode.TheVariants.{InvalidParams, InternalError, NotInitialized}
+use Rattle.x_lsp.specs.declared.life.Life.{Life}
+use Rattle.x_lsp.specs.declared.method.Method.{Method}
+use Rattle.x_lsp.specs.Lives.{admitted, is_of_params, life_behind, life_noted, method_named}
 use Rattle.x_lsp.specs.Messages.{Asked, asked_by, request, notification, response, invalid}
 
 -- the number of an error
@@ -58,20 +61,9 @@ shown_data text = note_data (codes "window/showMessage")
 abbrev pub IsRefusal : Data → ErrorCode → List ℕ → Type 0
 IsRefusal id code text = text ≡ compact_text (refusal_data id code)
 
--- the text is an answer to a request with this id: a result, or an error
-abbrev pub IsAnswer : Data → List ℕ → Type 0
-IsAnswer id text =
-    ((result : Data) × (text ≡ compact_text (answer_data id result)))
-    ⊎ ((code : ErrorCode) × IsRefusal id code text)
-
 -- the text is a note
 abbrev pub IsNote : List ℕ → Type 0
 IsNote text = (method : List ℕ) × (params : Data) × (text ≡ compact_text (note_data method params))
-
--- a request gets one answer, with its id; where memory runs out the answer may be that of no request
-abbrev pub IsToRequest : Data → Option (List ℕ) → Type 0
-IsToRequest id said =
-    (text : List ℕ) × (said ≡ Some text) × (IsAnswer id text ⊎ IsRefusal null InternalError text)
 
 -- a notification gets no answer; a note may follow it
 abbrev pub IsToNotification : Option (List ℕ) → Type 0
@@ -86,20 +78,37 @@ abbrev pub IsRefused : Data → ErrorCode → Option (List ℕ) → Type 0
 IsRefused id code said =
     (text : List ℕ) × (said ≡ Some text) × (IsRefusal id code text ⊎ IsRefusal null InternalError text)
 
--- what is said to a message
-abbrev pub IsSaidTo : Asked → Option (List ℕ) → Type 0
-IsSaidTo (request id method) said = IsToRequest id said
-IsSaidTo (notification method) said = IsToNotification said
-IsSaidTo response said = said ≡ None
-IsSaidTo invalid said = IsRefused null InvalidRequest said
+-- A request that is carried out gets one answer, with its id, and leaves this life: a result; or an error, as
+-- its parameters are wrong or memory ran out, and then the life stays.
+pub data IsToMethod (life : Life) (id : Data) (method : Method) (said : Option (List ℕ))
+    (life' : Life) : Type 0 where
+  answered : (result : Data) → said ≡ Some (compact_text (answer_data id result))
+      → life' ≡ life_behind life method → IsToMethod life id method said life'
+  failed : (code : ErrorCode) → is_of_params code ≡ true → IsRefused id code said → life' ≡ life
+      → IsToMethod life id method said life'
 
--- What is said to a body: to the message that it is, or that it is no JSON; or there was no memory to read
--- it.
-pub data IsSaid (body : List ℕ) (said : Option (List ℕ)) : Type 0 where
-  to_message : (message : Data) → read body ≡ Some message → IsSaidTo (asked_by message) said
-      → IsSaid body said
-  to_no_json : (IsUtf8 body → read body ≡ None) → IsRefused null ParseError said → IsSaid body said
-  no_memory : (text : List ℕ) → said ≡ Some text → IsRefusal null InternalError text → IsSaid body said
+-- what is said to a request in a server's life, and the life behind it
+abbrev pub IsToRequest : Life → Data → List ℕ → Option (List ℕ) → Life → Type 0
+IsToRequest life id name said life' =
+    MatchResult (admitted life (method_named name)) (λ method. IsToMethod life id method said life')
+    (λ code. IsRefused id code said × (life' ≡ life))
+
+-- what is said to a message in a server's life, and the life behind it
+abbrev pub IsSaidTo : Life → Asked → Option (List ℕ) → Life → Type 0
+IsSaidTo life (request id name) said life' = IsToRequest life id name said life'
+IsSaidTo life (notification name) said life' = IsToNotification said × (life' ≡ life_noted life name)
+IsSaidTo life response said life' = (said ≡ None) × (life' ≡ life)
+IsSaidTo life invalid said life' = IsRefused null InvalidRequest said × (life' ≡ life)
+
+-- What is said to a body, and the life behind it: to the message that it is, or that it is no JSON; or there
+-- was no memory to read it.
+pub data IsSaid (life : Life) (body : List ℕ) (said : Option (List ℕ)) (life' : Life) : Type 0 where
+  to_message : (message : Data) → read body ≡ Some message → IsSaidTo life (asked_by message) said life'
+      → IsSaid life body said life'
+  to_no_json : (IsUtf8 body → read body ≡ None) → IsRefused null ParseError said → life' ≡ life
+      → IsSaid life body said life'
+  no_memory : (text : List ℕ) → said ≡ Some text → IsRefusal null InternalError text → life' ≡ life
+      → IsSaid life body said life'
 
 -- a text with its header
 abbrev pub framed : List ℕ → List ℕ

@@ -6,7 +6,7 @@ use Rattle.std.specs.Io.KnownBytes.{Consumes, IsAtEnd}
 use Rattle.httparse.specs.Grammar.{Field, LineEnd, ReadsSection, HasNoSection, print_section}
 use Rattle.httparse.specs.Spans.{name_and_value}
 use Rattle.x_lsp.specs.declared.framing.FrameFault.{FrameFault}
-use Rattle.x_lsp.specs.declared.framing.FrameFault.TheVariants.{Bad}
+use Rattle.x_lsp.specs.declared.framing.FrameFault.TheVariants.{Read, Bad, NoMemory}
 use Rattle.x_lsp.specs.declared.head.Head.{Head}
 use Rattle.x_lsp.specs.Framing.{announced, most_head, most_fields, most_body, IsUnframed, NeverFramed}
 
@@ -40,10 +40,12 @@ abbrev pub FindsHead : Result (Option Head) FrameFault → List ℕ → Option (
 FindsHead (Ok (Some head)) bytes left = IsHeadOf bytes head
 FindsHead (Ok None) bytes left = (bytes ≡ []) × IsAtEnd left
 FindsHead (Err Bad) bytes left = IfSome left (λ later. IsUnframed (bytes ++ later))
-FindsHead (Err fault) bytes left = Unit {0}
+FindsHead (Err Read) bytes left = IsUnframed bytes
+FindsHead (Err NoMemory) bytes left = Unit {0}
 
 -- what reading on for a body comes to
 abbrev pub FindsBody : Result Unit FrameFault → Head → List ℕ → Option (List ℕ) → Type 0
 FindsBody (Ok done) head bytes left = head.length + head.body ≤ length bytes
 FindsBody (Err Bad) head bytes left = (length bytes < head.length + head.body) × IsAtEnd left
-FindsBody (Err fault) head bytes left = Unit {0}
+FindsBody (Err Read) head bytes left = length bytes < head.length + head.body
+FindsBody (Err NoMemory) head bytes left = Unit {0}

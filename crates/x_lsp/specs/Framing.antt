@@ -9,7 +9,7 @@ use Rattle.httparse.specs.Grammar.{Field, LineEnd, ReadsSection, print_section}
 use Rattle.httparse.specs.Spans.{name_and_value}
 use Rattle.x_session.specs.Commands.{is_number}
 use Rattle.x_lsp.specs.declared.framing.FrameFault.{FrameFault}
-use Rattle.x_lsp.specs.declared.framing.FrameFault.TheVariants.{Read, Bad}
+use Rattle.x_lsp.specs.declared.framing.FrameFault.TheVariants.{Read, Bad, NoMemory}
 use Rattle.x_lsp.specs.declared.framing.FrameFound.{FrameFound}
 use Rattle.x_lsp.specs.declared.framing.FrameFound.TheVariants.{Message, End}
 
@@ -68,12 +68,14 @@ pub record FrameReading : Type 0 where
   pub unread : List ℕ
 
 -- What a reader finds in the bytes that are unread, over a tap that has `left`: the message that they begin
--- with, or the end, where there are none. It fails where they can be no message, or are none at the end.
+-- with, or the end, where there are none. It fails where they can be no message, or are none at the end; and
+-- where the tap fails, before they are one.
 abbrev pub Finds : Result FrameFound FrameFault → List ℕ → FrameReading → Option (List ℕ) → Type 0
 Finds (Ok Message) bytes new left = IsFramed bytes new.body new.unread
 Finds (Ok End) bytes new left = (bytes ≡ []) × (new.unread ≡ []) × IsAtEnd left
 Finds (Err Bad) bytes new left = IfSome left (λ later. IsUnframed (bytes ++ later))
-Finds (Err fault) bytes new left = new.unread ≡ bytes
+Finds (Err Read) bytes new left = (new.unread ≡ bytes) × IsUnframed bytes
+Finds (Err NoMemory) bytes new left = new.unread ≡ bytes
 
 -- a call read on from the tap, and this is what it found
 pub record ReadsFrame (old new : FrameReading) (left left' : Option (List ℕ))

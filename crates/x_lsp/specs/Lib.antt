@@ -8,6 +8,7 @@ pub mod FrameSteps
 pub mod Framing
 pub mod KeptSaid
 pub mod LineStarts
+pub mod Lives
 pub mod Messages
 pub mod Positions
 pub mod Publishing

@@ -1,45 +1,119 @@
 -- A conversation: the messages of an input, one behind another, and what is said to each.
-use Rattle.std.specs.Prelude.{◌≡◌, ℕ, Bool, true, List, [], ◌++◌, Option, Result, Err}
-use Rattle.std.specs.Io.KnownBytes.{Appends}
+use Rattle.std.specs.Prelude.{◌≡◌, ◌⊎◌, ◌≤◌, ℕ, Bool, true, false, List, [], ◌∷◌, ◌++◌, length}
+use Rattle.std.specs.Prelude.{Option, None, Some, Result, Ok, Err, MatchOption}
+use Rattle.std.specs.Io.KnownBytes.{Appends, Consumes}
 use Rattle.x_text.specs.Engines.{WorksOn}
 use Rattle.x_text.specs.Streams.{Stream}
-use Rattle.x_text.specs.Writing.{HasFront}
+use Rattle.x_text.specs.Writing.{Adds, HasFront, Inked, counted}
+use Rattle.x_args.specs.declared.status.Status.{Status}
+use Rattle.x_args.specs.declared.status.Status.TheVariants.{Done, Faulty, Failed}
 use Rattle.x_lsp.specs.Answers.{IsSaid, framed_if}
 use Rattle.x_lsp.specs.Framing.{IsFramed, IsUnframed}
+use Rattle.x_lsp.specs.Lives.{end_of}
+use Rattle.x_lsp.specs.declared.framing.FrameFault.{FrameFault}
+use Rattle.x_lsp.specs.declared.framing.FrameFault.TheVariants as frame
+use Rattle.x_lsp.specs.declared.framing.FrameFound.{FrameFound}
+use Rattle.x_lsp.specs.declared.framing.FrameFound.TheVariants.{Message}
+use Rattle.x_lsp.specs.declared.life.Life.{Life}
+use Rattle.x_lsp.specs.declared.life.Life.TheVariants.{Fresh}
 use Rattle.x_lsp.specs.declared.serving.ServeFault.{ServeFault}
-use Rattle.x_lsp.specs.declared.serving.ServeFault.TheVariants.{Read, Bad, Write}
+use Rattle.x_lsp.specs.declared.serving.ServeFault.TheVariants.{Read, Bad, Write, NoMemory}
 
--- The messages at the front of the input are answered, one behind another: the rest of the input follows
--- them, and this is written.
-pub data IsServed (input : List ℕ) : (rest written : List ℕ) → Type 0 where
-  nothing : IsServed input input []
-  message : (rest written body next : List ℕ) (said : Option (List ℕ)) → IsServed input rest written
-      → IsFramed rest body next → IsSaid body said → IsServed input next (written ++ framed_if said)
+-- a message, what is said to it, and the server's life behind it
+pub record Exchange : Type 0 where
+  pub body : List ℕ
+  pub said : Option (List ℕ)
+  pub life : Life
 
--- messages at the front of the input are answered, and the sink has all that is written then
-pub record HasServed (input rest : List ℕ) (before after : Stream) : Type 0 where
-  pub written : List ℕ
-  pub served : IsServed input rest written
-  pub has : Appends before.bytes after.bytes written
+-- The messages at the front of an input are those of the exchanges, one behind another, and to each of them
+-- this is said by a server whose life was `life` before the first one, and had not ended before any: the rest
+-- of the input follows them, and the life is `life'` then.
+abbrev pub AreServed : Life → List Exchange → (input rest : List ℕ) → Life → Type 0
+AreServed life [] input rest life' = (rest ≡ input) × (life' ≡ life)
+AreServed life (x ∷ xs) input rest life' =
+    (end_of life ≡ None) × (next : List ℕ) × IsFramed input x.body next × IsSaid life x.body x.said x.life
+    × AreServed x.life xs next rest life'
 
--- Messages at the front of the input are answered, and the sink failed within what is written then, of which
--- it has the first bytes, `count` of them.
+-- what is written: what is said to each message, once, with its header
+abbrev pub written_of : List Exchange → List ℕ
+written_of [] = []
+written_of (x ∷ xs) = framed_if x.said ++ written_of xs
+
+-- A server that no client had initialized served the messages at the front of an input, the rest of which
+-- follows them, and the sink has what is written.
+pub record HasServed (served : List Exchange) (input rest : List ℕ) (life : Life)
+    (before after : Stream) : Type 0 where
+  pub are_served : AreServed Fresh served input rest life
+  pub has : Appends before.bytes after.bytes (written_of served)
+
+-- messages at the front of an input are served, and so many bytes were written
+pub record HasStopped (input rest : List ℕ) (before after : Stream) (count : ℕ) : Type 0 where
+  pub served : List Exchange
+  pub life : Life
+  pub has : HasServed served input rest life before after
+  pub count_is : count ≡ counted (length (written_of served))
+
+-- Messages at the front of an input are served, and the sink failed within what is said to the last of them:
+-- it has the first bytes of what is written, so many.
 pub record HasFailed (input : List ℕ) (before after : Stream) (count : ℕ) : Type 0 where
+  pub earlier : List Exchange
+  pub last : Exchange
   pub rest : List ℕ
-  pub written : List ℕ
-  pub served : IsServed input rest written
-  pub front : HasFront before after written count
+  pub are_served : AreServed Fresh (earlier ++ last ∷ []) input rest last.life
+  pub front : HasFront before after (written_of (earlier ++ last ∷ [])) count
+  pub whole : counted (length (written_of earlier)) ≤ count
 
--- What a conversation does. It ends behind the answer to a message, or where there are no more; it is cut off
--- where the input is no message.
-abbrev pub Serves : List ℕ → Result Bool ServeFault → (before after : Stream) → Type 0
-Serves input (Err (Write count)) before after = HasFailed input before after count
-Serves input (Err (Bad count)) before after =
-    (rest : List ℕ) × HasServed input rest before after × IsUnframed rest
-Serves input result before after = (rest : List ℕ) × HasServed input rest before after
+-- A conversation ends behind the notification that ends the server, or where there are no more messages. It
+-- tells whether the client had asked the server to shut down before it ended it.
+abbrev pub Ends : Life → (rest : List ℕ) → (asked : Bool) → Type 0
+Ends life rest asked =
+    (end_of life ≡ Some asked) ⊎ ((end_of life ≡ None) × (rest ≡ []) × (asked ≡ false))
+
+-- What a conversation does, of whose input the tap has `left` then. It is cut off where the input is no
+-- message; where a read fails, behind what is said to all messages that are whole in what was read; for want
+-- of memory, behind what is said to some messages; and where a write fails, within what is said to one.
+abbrev pub Serves : (input : List ℕ) (left : Option (List ℕ)) (before after : Stream)
+    → Result Bool ServeFault → Type 0
+Serves input left before after (Ok asked) =
+    (served : List Exchange) × (rest : List ℕ) × (life : Life) × HasServed served input rest life before after
+    × Ends life rest asked
+Serves input left before after (Err (Read count)) =
+    (read rest : List ℕ) × Consumes (Some input) left read × HasStopped read rest before after count
+    × IsUnframed rest
+Serves input left before after (Err (Bad count)) =
+    (rest : List ℕ) × HasStopped input rest before after count × IsUnframed rest
+Serves input left before after (Err (Write count)) = HasFailed input before after count
+Serves input left before after (Err (NoMemory count)) =
+    (rest : List ℕ) × HasStopped input rest before after count
 
 -- A conversation names its fault by what failed, and names one where something did.
 abbrev pub NamesFault : Result Bool ServeFault → (tap tap' sink sink' : Bool) → Type 0
 NamesFault (Err (Read count)) tap tap' sink sink' = (tap' ≡ true) × WorksOn sink sink'
 NamesFault (Err (Write count)) tap tap' sink sink' = (tap' ≡ tap) × (sink' ≡ true)
 NamesFault result tap tap' sink sink' = (tap' ≡ tap) × WorksOn sink sink'
+
+-- the status of a run whose conversation came to this
+abbrev pub status_of : Result Bool ServeFault → Status
+status_of (Ok true) = Done
+status_of (Ok false) = Faulty
+status_of (Err fault) = Failed
+
+-- A run of this status is a conversation.
+pub record IsRun (tap tap' sink sink' : Stream) (status : Status) : Type 0 where
+  pub ended : Result Bool ServeFault
+  pub status_is : status ≡ status_of ended
+  pub serves : MatchOption tap.bytes (Unit {0}) (λ input. Serves input tap'.bytes sink sink' ended)
+  pub fault : NamesFault ended tap.failed tap'.failed sink.failed sink'.failed
+
+-- the fault that stops a conversation where no message is found
+abbrev pub stop_by : FrameFault → ℕ → ServeFault
+stop_by frame.Read count = Read count
+stop_by frame.NoMemory count = NoMemory count
+stop_by frame.Bad count = Bad count
+
+-- where a message was found it is answered, and else nothing is done
+abbrev pub IsAnswered : Result FrameFound FrameFault → (life life' : Life) (body : List ℕ)
+    → (p : Inked) (now : Stream) (q : Inked) (now' : Stream) → Type 0
+IsAnswered (Ok Message) life life' body p now q now' =
+    (said : Option (List ℕ)) × IsSaid life body said life' × Adds p now q now' (framed_if said)
+IsAnswered found life life' body p now q now' = (life' ≡ life) × (q ≡ p) × (now' ≡ now)

@@ -1,6 +1,6 @@
 //! Messages read from a tap that gives its bytes in any pieces.
 
-ghost use Rattle.std.specs.Prelude.{◌≡◌, ◌≤◌, [], drop, Ok, vec_len};
+ghost use Rattle.std.specs.Prelude.{◌≡◌, ◌≤◌, [], drop, Ok, OnErr, vec_len};
 ghost use Rattle.std.specs.Io.KnownBytes.{IsAtEnd};
 ghost use Rattle.x_lsp.specs.Framing.{FailsReading, ReadsFrame};
 ghost use Rattle.x_lsp.specs.FrameSteps.{FindsBody, FindsHead, HasCome, IsHeadOf};
@@ -164,6 +164,7 @@ fn read_piece<R: Tap>(buffer: &mut Vec<u8>, tap: &mut R) -> Result<usize, FrameF
     ensures come { HasCome buffer.old.items buffer.new.items (R.state tap.old).bytes (R.state tap.new).bytes }
     ensures end { result ≡ Ok 0 → IsAtEnd (R.state tap.new).bytes × (buffer.new.items ≡ buffer.old.items) }
     ensures other { result ≡ Err FrameFault.Bad → ⊥ }
+    ensures same { OnErr result (buffer.new.items ≡ buffer.old.items) }
     ensures failed { FailsReading result (R.state tap.old).failed (R.state tap.new).failed }
 {
     let len = buffer.len();

@@ -1,6 +1,7 @@
 //! A run of `rpcls` over a tap and sinks.
 
 ghost use Rattle.std.specs.Prelude.{◌≡◌, ◌≢◌};
+ghost use Rattle.x_lsp.specs.Serving.{IsRun};
 
 use crate::serving::{ServeFault, serve};
 use std::alloc::Global;
@@ -15,6 +16,7 @@ pub fn serve_run<I: Tap, O: Sink, E: Sink>(
     out: &mut O,
     err: &mut E,
 ) -> Status
+    ensures run { IsRun (I.state input.old) (I.state input.new) (O.state out.old) (O.state out.new) result }
     ensures quiet { result ≢ Status.Failed → err.new ≡ err.old }
 {
     match serve(alloc, input, out) {

@@ -1,13 +1,16 @@
 //! A server: what it says to each message, and the documents that are open.
 
-ghost use Rattle.std.specs.Prelude.{◌≡◌, ◌<◌, false, IfOk, IfSome, option_map, remove};
+ghost use Rattle.std.specs.Prelude.{◌≡◌, ◌<◌, false, true, IfErr, IfOk, IfSome, option_map, remove};
 ghost use Rattle.std.specs.Prelude.{vec_len};
 ghost use Rattle.serde_json.specs.Data.{null};
 ghost use Rattle.serde_json.specs.View.{view};
 ghost use Rattle.serde_json.specs.Written.{has_float};
-ghost use Rattle.x_lsp.specs.Answers.{IsRefused, IsSaid, IsSaidTo, IsToNotification, IsToRequest};
+ghost use Rattle.x_lsp.specs.Answers.{IsRefused, IsSaid, IsSaidTo, IsToMethod, IsToNotification};
+ghost use Rattle.x_lsp.specs.Answers.{IsToRequest};
 ghost use Rattle.x_lsp.specs.Documents.{without};
+ghost use Rattle.x_lsp.specs.Lives.{end_of, is_of_params, life_behind, life_noted};
 ghost use Rattle.x_lsp.specs.Messages.{asked_by};
+ghost use Rattle.x_lsp.specs.declared.life.Life.TheVariants.{Fresh};
 ghost use Rattle.x_lsp.specs.Publishing.{Publishes};
 ghost use Rattle.x_lsp.specs.Replies.{said_of};
 
@@ -17,23 +20,12 @@ use crate::diagnostics::closing_note;
 use crate::document::OpenDocument;
 use crate::encoding::Encoding;
 use crate::kept::{ChangeFault, KeptTexts, Reply, refused, shown, told};
+use crate::life::Life;
 use crate::messages::{Incoming, classify};
+use crate::method::Method;
 use crate::params::{changed_in, opened_in, text_changes, uri_in};
 use serde_json::Value;
 use std::alloc::{AllocError, Global};
-
-/// How far a server's life is.
-#[derive(Clone, Copy, Debug, PartialEq, Eq)]
-enum Life {
-    /// No client has initialized it.
-    Fresh,
-    /// It serves a client.
-    Running,
-    /// The client is about to end it.
-    ShutDown,
-    /// The client has ended it, after a request to shut down or without one.
-    Ended { asked: bool },
-}
 
 /// A server of a client.
 #[derive(Drop)]
@@ -47,7 +39,9 @@ pub struct Server {
 
 impl Server {
     /// A server that no client has initialized.
-    pub fn new(alloc: Global) -> Result<Server, AllocError> {
+    pub fn new(alloc: Global) -> Result<Server, AllocError>
+        ensures { IfOk result (λ server. server.life ≡ Fresh) }
+    {
         Ok(Server {
             alloc,
             life: Life::Fresh,
@@ -58,11 +52,10 @@ impl Server {
     }
 
     /// Whether the client has ended the server, and then, whether it had asked it to shut down.
-    pub fn end(&self) -> Option<bool> {
-        match self.life {
-            Life::Ended { asked } => Some(asked),
-            _ => None,
-        }
+    pub fn end(&self) -> Option<bool>
+        ensures { result ≡ end_of self.now.life }
+    {
+        self.life.end()
     }
 
     /// The text of a reply, if it has one.
@@ -74,7 +67,7 @@ impl Server {
 
     /// Does what a message asks for, and answers what is said to it.
     pub fn reply(&mut self, body: &[u8]) -> Reply
-        ensures { IsSaid body.now (said_of result) }
+        ensures { IsSaid self.old.life body.now (said_of result) self.new.life }
     {
         let error = match Value::from_slice(self.alloc, body) {
             Ok(message) => return self.reply_to(&message),
@@ -88,7 +81,7 @@ impl Server {
 
     /// Does what a message asks for, and answers what is said to it.
     fn reply_to(&mut self, message: &Value) -> Reply
-        ensures { IsSaidTo (asked_by (view message.now)) (said_of result) }
+        ensures { IsSaidTo self.old.life (asked_by (view message.now)) (said_of result) self.new.life }
     {
         let params = message.get("params");
         match classify(message) {
@@ -99,10 +92,21 @@ impl Server {
         }
     }
 
-    /// Does what a request asks for, and answers it.
-    fn answer_request(&mut self, id: &Value, method: &str, params: Option<&Value>) -> Reply
+    /// Answers a request, and does what it asks for where the server's life admits it.
+    fn answer_request(&mut self, id: &Value, name: &str, params: Option<&Value>) -> Reply
         requires { has_float (view id.now) ≡ false }
-        ensures { IsToRequest (view id.now) (said_of result) }
+        ensures { IsToRequest self.old.life (view id.now) name.now (said_of result) self.new.life }
+    {
+        match self.life.admit(Method::named(name)) {
+            Ok(method) => self.carry_out(id, method, params),
+            Err(code) => refused(self.alloc, id, code),
+        }
+    }
+
+    /// Does what a request asks for, and answers it.
+    fn carry_out(&mut self, id: &Value, method: Method, params: Option<&Value>) -> Reply
+        requires { has_float (view id.now) ≡ false }
+        ensures { IsToMethod self.old.life (view id.now) method (said_of result) self.new.life }
     {
         match self.result_of(method, params) {
             Ok(value) => match answer(self.alloc, id, value) {
@@ -117,65 +121,54 @@ impl Server {
     }
 
     /// The result of a request.
-    fn result_of(&self, method: &str, params: Option<&Value>) -> Result<Value, ErrorCode>
-        ensures { IfOk result (λ v. has_float (view v) ≡ false) }
+    fn result_of(&self, method: Method, params: Option<&Value>) -> Result<Value, ErrorCode>
+        ensures value { IfOk result (λ v. has_float (view v) ≡ false) }
+        ensures code { IfErr result (λ code. is_of_params code ≡ true) }
     {
-        if method == "initialize" {
-            return if self.life == Life::Fresh {
-                match capabilities(self.alloc, encoding_of(params)) {
-                    Ok(value) => Ok(value),
-                    Err(_) => Err(ErrorCode::InternalError),
-                }
-            } else {
-                Err(ErrorCode::InvalidRequest)
-            };
-        }
-        match self.life {
-            Life::Fresh => Err(ErrorCode::NotInitialized),
-            Life::Running => self.result_running(method, params),
-            _ => Err(ErrorCode::InvalidRequest),
+        match method {
+            Method::Initialize => match capabilities(self.alloc, encoding_of(params)) {
+                Ok(value) => Ok(value),
+                Err(_) => Err(ErrorCode::InternalError),
+            },
+            Method::Shutdown => Ok(Value::Null),
         }
     }
 
-    /// The result of a request of a client that has initialized the server.
-    fn result_running(&self, method: &str, _params: Option<&Value>) -> Result<Value, ErrorCode>
-        ensures { IfOk result (λ v. has_float (view v) ≡ false) }
+    /// Goes on with the server's life behind a request that was answered.
+    fn go_on(&mut self, method: Method, params: Option<&Value>)
+        ensures { self.new.life ≡ life_behind self.old.life method }
     {
-        if method == "shutdown" {
-            return Ok(Value::Null);
-        }
-        Err(ErrorCode::MethodNotFound)
-    }
-
-    /// Goes on with the server's life after a request that was answered.
-    fn go_on(&mut self, method: &str, params: Option<&Value>) {
-        if method == "initialize" {
+        if method == Method::Initialize {
             self.encoding = encoding_of(params);
-            self.life = Life::Running;
-        } else if method == "shutdown" {
-            self.life = Life::ShutDown;
         }
+        self.life = self.life.behind(method);
     }
 
     /// Does what a notification asks for. One that is not known is passed over, and so is each but `exit`
     /// where the server does not run.
-    fn take_note(&mut self, method: &str, params: Option<&Value>) -> Reply
-        ensures { IsToNotification (said_of result) }
+    fn take_note(&mut self, name: &str, params: Option<&Value>) -> Reply
+        ensures note { IsToNotification (said_of result) }
+        ensures life { self.new.life ≡ life_noted self.old.life name.now }
     {
-        if method == "exit" {
-            self.life = Life::Ended {
-                asked: self.life == Life::ShutDown,
-            };
-            return Reply::Nothing;
+        let serves = self.life == Life::Running;
+        self.life = self.life.noted(name);
+        if serves {
+            self.note_document(name, params)
+        } else {
+            Reply::Nothing
         }
-        if self.life != Life::Running {
-            return Reply::Nothing;
-        }
-        if method == "textDocument/didOpen" {
+    }
+
+    /// Does what a notification about a document asks for.
+    fn note_document(&mut self, name: &str, params: Option<&Value>) -> Reply
+        ensures note { IsToNotification (said_of result) }
+        ensures life { self.new.life ≡ self.old.life }
+    {
+        if name == "textDocument/didOpen" {
             self.open(params)
-        } else if method == "textDocument/didChange" {
+        } else if name == "textDocument/didChange" {
             self.change(params)
-        } else if method == "textDocument/didClose" {
+        } else if name == "textDocument/didClose" {
             self.close(params)
         } else {
             Reply::Nothing
@@ -196,7 +189,8 @@ impl Server {
 
     /// Opens a document, in place of one that is open by its name.
     fn open(&mut self, params: Option<&Value>) -> Reply
-        ensures { IsToNotification (said_of result) }
+        ensures note { IsToNotification (said_of result) }
+        ensures life { self.new.life ≡ self.old.life }
     {
         match opened_in(params) {
             Some((uri, version, text)) => self.open_document(uri, version, text),
@@ -206,7 +200,8 @@ impl Server {
 
     /// Opens a document, in place of one that is open by its name, and publishes its faults.
     fn open_document(&mut self, uri: &str, version: i64, text: &str) -> Reply
-        ensures { Publishes self.old.encoding uri.now version text.now (said_of result) }
+        ensures says { Publishes self.old.encoding uri.now version text.now (said_of result) }
+        ensures life { self.new.life ≡ self.old.life }
     {
         let opened = match OpenDocument::open(self.alloc, uri, version, text) {
             Ok(opened) => opened,
@@ -225,7 +220,8 @@ impl Server {
 
     /// Carries changes of a document out.
     fn change(&mut self, params: Option<&Value>) -> Reply
-        ensures { IsToNotification (said_of result) }
+        ensures note { IsToNotification (said_of result) }
+        ensures life { self.new.life ≡ self.old.life }
     {
         let Some((uri, version, changes)) = changed_in(params) else {
             return shown(self.alloc, "the parameters of didChange are wrong");
@@ -249,7 +245,8 @@ impl Server {
 
     /// Closes a document, and publishes that nothing is wrong with it.
     fn close(&mut self, params: Option<&Value>) -> Reply
-        ensures { IsToNotification (said_of result) }
+        ensures note { IsToNotification (said_of result) }
+        ensures life { self.new.life ≡ self.old.life }
     {
         let Some(uri) = uri_in(params) else {
             return Reply::Nothing;
@@ -264,6 +261,7 @@ impl Server {
     fn close_document(&mut self, uri: &str) -> Reply
         ensures note { IsToNotification (said_of result) }
         ensures closed { self.new.documents.items ≡ without uri.now self.old.documents.items }
+        ensures life { self.new.life ≡ self.old.life }
     {
         forget(&mut self.documents, uri);
         match closing_note(self.alloc, uri) {

@@ -1,11 +1,15 @@
 //! A conversation with a client, over a tap and a sink.
 
-ghost use Rattle.std.specs.Prelude.{◌≡◌};
+ghost use Rattle.std.specs.Prelude.{◌≡◌, MatchOption};
 ghost use Rattle.x_text.specs.Writing.{Adds};
 ghost use Rattle.x_lsp.specs.Answers.{framed, framed_if};
+ghost use Rattle.x_lsp.specs.Framing.{FailsReading, ReadsFrame};
 ghost use Rattle.x_lsp.specs.Replies.{said_of};
+ghost use Rattle.x_lsp.specs.Serving.{IsAnswered, NamesFault, Serves, stop_by};
+ghost use Rattle.x_lsp.specs.declared.life.Life.TheVariants.{Fresh};
 
 use crate::framing::{FrameFault, FrameFound, MessageReader};
+use crate::kept::Reply;
 use crate::server::Server;
 use std::alloc::Global;
 use thiserror::Error;
@@ -31,28 +35,46 @@ pub enum ServeFault {
 
 /// Answers the messages that a tap gives, one by one, until the client ends the server or there are no more.
 /// It tells whether the client had asked it to shut down.
-pub fn serve<I: Tap, O: Sink>(
+///
+/// # Errors
+///
+/// The tap failed: what is said to all messages that are whole in what was read is written. What was read is
+/// no message, or memory ran out: what is said to the messages before is written. The sink failed.
+pub fn serve<I: Tap, O: Sink>(alloc: Global, input: &mut I, out: &mut O) -> Result<bool, ServeFault>
+    ensures serves { MatchOption (I.state input.old).bytes (Unit {0})
+        (λ bytes. Serves bytes (I.state input.new).bytes (O.state out.old) (O.state out.new) result) }
+    ensures fault { NamesFault result (I.state input.old).failed (I.state input.new).failed
+        (O.state out.old).failed (O.state out.new).failed }
+{
+    match Server::new(alloc) {
+        Ok(server) => {
+            let mut server = server;
+            converse(alloc, &mut server, input, out)
+        }
+        Err(_) => Err(ServeFault::NoMemory { written: 0 }),
+    }
+}
+
+/// Has a server that no client has initialized answer the messages that a tap gives.
+fn converse<I: Tap, O: Sink>(
     alloc: Global,
+    server: &mut Server,
     input: &mut I,
     out: &mut O,
-) -> Result<bool, ServeFault> {
-    let Ok(mut server) = Server::new(alloc) else {
-        return Err(ServeFault::NoMemory { written: 0 });
-    };
+) -> Result<bool, ServeFault>
+    requires { server.old.life ≡ Fresh }
+    ensures serves { MatchOption (I.state input.old).bytes (Unit {0})
+        (λ bytes. Serves bytes (I.state input.new).bytes (O.state out.old) (O.state out.new) result) }
+    ensures fault { NamesFault result (I.state input.old).failed (I.state input.new).failed
+        (O.state out.old).failed (O.state out.new).failed }
+{
     let mut reader = MessageReader::new(alloc);
     let mut pen = Pen::new();
-    'messages: for _ in 0..u64::MAX {
-        let written = pen.written();
-        match reader.next(input) {
+    for _ in 0..u64::MAX {
+        match answer_next(server, &mut reader, input, &mut pen, out) {
             Ok(FrameFound::Message) => {}
             Ok(FrameFound::End) => return Ok(false),
-            Err(FrameFault::Read) => return Err(ServeFault::Read { written }),
-            Err(FrameFault::Bad) => return Err(ServeFault::Bad { written }),
-            Err(FrameFault::NoMemory) => return Err(ServeFault::NoMemory { written }),
-        }
-        let reply = server.reply(reader.body());
-        if let Some(text) = server.text_of(&reply) {
-            add_framed(text, &mut pen, out);
+            Err(fault) => return Err(stop_by(fault, pen.written())),
         }
         pen.flush(out);
         if pen.has_stopped() {
@@ -68,6 +90,51 @@ pub fn serve<I: Tap, O: Sink>(
     Err(ServeFault::NoMemory {
         written: pen.written(),
     })
+}
+
+/// The fault that stops a conversation where no message is found.
+fn stop_by(fault: FrameFault, written: u64) -> ServeFault
+    ensures { result ≡ stop_by fault written }
+{
+    match fault {
+        FrameFault::Read => ServeFault::Read { written },
+        FrameFault::NoMemory => ServeFault::NoMemory { written },
+        FrameFault::Bad => ServeFault::Bad { written },
+    }
+}
+
+/// Finds the next message and answers it.
+fn answer_next<I: Tap, O: Sink>(
+    server: &mut Server,
+    reader: &mut MessageReader,
+    input: &mut I,
+    pen: &mut Pen,
+    out: &mut O,
+) -> Result<FrameFound, FrameFault>
+    ensures reads { ReadsFrame reader.old reader.new (I.state input.old).bytes (I.state input.new).bytes
+        result }
+    ensures answers { IsAnswered result server.old.life server.new.life reader.new.body
+        pen.old (O.state out.old) pen.new (O.state out.new) }
+    ensures failed { FailsReading result (I.state input.old).failed (I.state input.new).failed }
+{
+    match reader.next(input) {
+        Ok(FrameFound::Message) => {
+            let reply = server.reply(reader.body());
+            add_reply(server, &reply, pen, out);
+            Ok(FrameFound::Message)
+        }
+        Ok(FrameFound::End) => Ok(FrameFound::End),
+        Err(fault) => Err(fault),
+    }
+}
+
+/// Adds what is said to a message, with its header.
+fn add_reply<S: Sink>(server: &Server, reply: &Reply, pen: &mut Pen, sink: &mut S)
+    ensures { Adds pen.old (S.state sink.old) pen.new (S.state sink.new) (framed_if (said_of reply.now)) }
+{
+    if let Some(text) = server.text_of(reply) {
+        add_framed(text, pen, sink);
+    }
 }
 
 /// Adds a text with its header.

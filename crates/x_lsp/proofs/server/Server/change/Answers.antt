@@ -2,14 +2,14 @@ use Rattle.x_lsp.specs.Replies.{said_of}
 use Rattle.x_lsp.proofs.SaidLemmas.{no_memory_is_note, published_note, shown_note}
 use Rattle.x_lsp.proofs.server.Server.change.Goals as goal
 
-pub returns-in_default : goal.returns-in_default
-returns-in_default c = shown_note (said_of c.shown.result) c.shown.ensures
+pub returns-in_default-clause-note : goal.returns-in_default-clause-note
+returns-in_default-clause-note c = shown_note (said_of c.shown.result) c.shown.ensures
 
-pub returns-in-Ok-Some : goal.returns-in-Ok-Some
-returns-in-Ok-Some c = published_note _ _ _ _ (said_of c.change.result) c.change.ensures
+pub returns-in-Ok-Some-clause-note : goal.returns-in-Ok-Some-clause-note
+returns-in-Ok-Some-clause-note c = published_note _ _ _ _ (said_of c.change.result) c.change.ensures
 
-pub returns-in-Ok-None : goal.returns-in-Ok-None
-returns-in-Ok-None c = shown_note (said_of c.shown-in-Ok-None.result) c.shown-in-Ok-None.ensures
+pub returns-in-Ok-None-clause-note : goal.returns-in-Ok-None-clause-note
+returns-in-Ok-None-clause-note c = shown_note (said_of c.shown-in-Ok-None.result) c.shown-in-Ok-None.ensures
 
-pub returns-in-Err : goal.returns-in-Err
-returns-in-Err c = no_memory_is_note
+pub returns-in-Err-clause-note : goal.returns-in-Err-clause-note
+returns-in-Err-clause-note c = no_memory_is_note

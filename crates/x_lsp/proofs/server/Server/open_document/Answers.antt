@@ -6,14 +6,14 @@ use Rattle.x_lsp.specs.Replies.{said_of}
 use Rattle.x_lsp.proofs.SaidLemmas.{no_memory_shown}
 use Rattle.x_lsp.proofs.server.Server.open_document.Goals as goal
 
-pub returns-then-is_err : goal.returns-then-is_err
-returns-then-is_err c = inr no_memory_shown
+pub returns-then-is_err-clause-says : goal.returns-then-is_err-clause-says
+returns-then-is_err-clause-says c = inr no_memory_shown
 
-pub returns-then-is_err-2 : goal.returns-then-is_err-2
-returns-then-is_err-2 c = inr no_memory_shown
+pub returns-then-is_err-2-clause-says : goal.returns-then-is_err-2-clause-says
+returns-then-is_err-2-clause-says c = inr no_memory_shown
 
-pub returns : goal.returns
-returns c =
+pub returns-clause-says : goal.returns-clause-says
+returns-clause-says c =
     let e = c.args.self.now.encoding in
     let d = c.in-Ok.opened in
     let said = said_of c.publish-reply.result in

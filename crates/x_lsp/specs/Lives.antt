@@ -1,0 +1,60 @@
+-- How far a server's life is (LSP 3.17, "Server lifecycle"), and which requests it carries out then.
+use Rattle.std.specs.Prelude.{ℕ, List, Bool, true, false, bytes_eq, codes, if◌then◌else◌}
+use Rattle.std.specs.Prelude.{Option, Some, None, Result, Ok, Err}
+use Rattle.x_lsp.specs.declared.answers.ErrorCode.{ErrorCode}
+use Rattle.x_lsp.specs.declared.answers.ErrorCode.TheVariants.{InvalidRequest, MethodNotFound, NotInitialized}
+use Rattle.x_lsp.specs.declared.answers.ErrorCode.TheVariants.{InvalidParams, InternalError, ParseError}
+use Rattle.x_lsp.specs.declared.life.Life.{Life}
+use Rattle.x_lsp.specs.declared.life.Life.TheVariants.{Fresh, Running, ShutDown, Ended}
+use Rattle.x_lsp.specs.declared.method.Method.{Method}
+use Rattle.x_lsp.specs.declared.method.Method.TheVariants.{Initialize, Shutdown}
+
+-- the request of this name
+abbrev pub method_named : List ℕ → Option Method
+method_named name =
+    if bytes_eq name (codes "initialize") then Some Initialize
+    else if bytes_eq name (codes "shutdown") then Some Shutdown
+    else None
+
+-- whether the client has ended the server, and then, whether it had asked it to shut down
+abbrev pub end_of : Life → Option Bool
+end_of Fresh = None
+end_of Running = None
+end_of ShutDown = None
+end_of (Ended asked) = Some asked
+
+-- The request that is carried out; another is refused with this error. Until a client initializes the server
+-- it carries nothing else out, and behind `shutdown` nothing at all.
+abbrev pub admitted : Life → Option Method → Result Method ErrorCode
+admitted Fresh None = Err NotInitialized
+admitted Fresh (Some Initialize) = Ok Initialize
+admitted Fresh (Some Shutdown) = Err NotInitialized
+admitted Running None = Err MethodNotFound
+admitted Running (Some Initialize) = Err InvalidRequest
+admitted Running (Some Shutdown) = Ok Shutdown
+admitted ShutDown method = Err InvalidRequest
+admitted (Ended asked) method = Err InvalidRequest
+
+-- the life behind a request that got its result
+abbrev pub life_behind : Life → Method → Life
+life_behind life Initialize = Running
+life_behind life Shutdown = ShutDown
+
+abbrev pub is_shut_down : Life → Bool
+is_shut_down Fresh = false
+is_shut_down Running = false
+is_shut_down ShutDown = true
+is_shut_down (Ended asked) = false
+
+-- the life behind a notification
+abbrev pub life_noted : Life → List ℕ → Life
+life_noted life method = if bytes_eq method (codes "exit") then Ended (is_shut_down life) else life
+
+-- an error of a request that was carried out: its parameters are wrong, or memory ran out
+abbrev pub is_of_params : ErrorCode → Bool
+is_of_params ParseError = false
+is_of_params InvalidRequest = false
+is_of_params MethodNotFound = false
+is_of_params InvalidParams = true
+is_of_params InternalError = true
+is_of_params NotInitialized = false
