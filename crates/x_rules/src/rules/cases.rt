@@ -16,9 +16,9 @@ use super::repeats::{Numbered, add_number, add_repeated_numbers};
 use super::sights::Sights;
 use crate::checked::OwnedClass;
 use crate::fault::{RuleCode, WordFault};
-use crate::outline::parts::{BodyAt, ValueAt};
 use std::alloc::Global;
 use x_numbers::{is_enum_number, is_word_number};
+use x_outline::{BodyAt, ValueAt};
 use x_text::NoMemory;
 use x_trees::{Body, UnionBody};
 

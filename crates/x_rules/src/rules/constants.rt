@@ -20,11 +20,10 @@ ghost use Rattle.x_rules.specs.Tables.{HasNumbers, OnNumbers, seen_by};
 
 use super::first_places::{FirstPlaces, Keyed};
 use super::sights::Sights;
-use crate::outline::bodies::words_of_enumerator;
-use crate::outline::parts::{BodyAt, EnumeratorAt};
 use crate::views::{Meaning, View};
 use std::alloc::Global;
 use x_numbers::{next_number, number_value};
+use x_outline::{BodyAt, EnumeratorAt, words_of_enumerator};
 use x_text::NoMemory;
 use x_trees::{Body, Enumerator, NameKind, Value};
 

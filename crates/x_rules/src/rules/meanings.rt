@@ -19,9 +19,9 @@ use super::first_places::{FirstPlaces, Keyed};
 use super::heights::{body_height, held_height};
 use super::sights::Sights;
 use crate::checked::{KeptMeanings, OwnedClass, OwnedMeaning};
-use crate::outline::parts::BodyAt;
 use smallvec::SmallVec;
 use std::alloc::Global;
+use x_outline::BodyAt;
 use x_text::NoMemory;
 use x_trees::{DeclaredName, Definition, NameKind};
 

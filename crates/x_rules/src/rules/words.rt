@@ -17,8 +17,8 @@ use super::constants::Constants;
 use super::found::add_fault;
 use super::sights::Sights;
 use crate::fault::{RuleCode, WordFault};
-use crate::outline::parts::EnumeratorAt;
 use x_numbers::{is_enum_number, is_word_number, number_value};
+use x_outline::EnumeratorAt;
 use x_text::NoMemory;
 use x_trees::{Declaration, Note, NoteAt, Value, ValueRole};
 
