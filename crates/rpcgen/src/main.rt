@@ -2,47 +2,44 @@
 #![tactic(auto)]
 
 use rpcx::{
-    GenArgs, RPCGEN, Status, answer_words, gen_args, gen_mode, gen_open, gen_write, read_text,
-    read_words, tell_of_file,
+    GenArgs, Output, RPCGEN, Status, answer_words, gen_args, gen_mode, gen_run, read_text,
+    read_words,
 };
+use std::fs::{self, File};
+use std::io::Stdout;
 use std::process::ExitCode;
-use std::{fs, mem};
-use x_session::{Session, Which};
-use x_text::{Out, Sink};
+use x_text::Out;
 
-/// Writes a generated text to the file, or to standard output where none is named.
-fn write<E: Sink>(
-    rt: &HostRuntime,
-    which: Which,
-    session: &Session,
-    output: Option<&str>,
-    err: &mut E,
-) -> Status {
-    let Some(output) = output else {
-        return gen_write(which, session, &mut Out::new(rt.stdout()), err);
-    };
-    match fs::create(rt, output) {
-        Ok(file) => gen_write(which, session, &mut Out::new(file), err),
-        Err(_) => {
-            tell_of_file("rpcgen", output, ": cannot be written\n", err);
-            Status::Failed
-        }
+/// The standard output.
+#[derive(Clone, Copy)]
+struct Standard<'a> {
+    rt: &'a HostRuntime,
+}
+
+impl Output for Standard<'_> {
+    type Opened = Out<Stdout>;
+
+    fn open(&self) -> Option<Out<Stdout>> {
+        Some(Out::new(self.rt.stdout()))
     }
 }
 
-/// Opens the text and writes what is asked for.
-fn generate(
-    rt: &HostRuntime,
-    which: Which,
-    args: &GenArgs,
-    bytes: &[u8],
-) -> Result<Status, Status> {
-    let mut err = Out::new(rt.stderr());
-    let session = gen_open(rt.alloc(), args.file, bytes, &mut err)?;
-    let status = write(rt, which, &session, args.output, &mut err);
-    // The process ends next, and gives all memory back at once.
-    mem::forget(session);
-    Ok(status)
+/// The file of this name.
+#[derive(Clone, Copy)]
+struct Named<'a> {
+    rt: &'a HostRuntime,
+    name: &'a str,
+}
+
+impl Output for Named<'_> {
+    type Opened = Out<File>;
+
+    fn open(&self) -> Option<Out<File>> {
+        match fs::create(self.rt, self.name) {
+            Ok(file) => Some(Out::new(file)),
+            Err(_) => None,
+        }
+    }
 }
 
 /// Carries out the command line. Where that stops early, it answers the status as an error.
@@ -60,7 +57,17 @@ fn run(rt: &HostRuntime) -> Result<Status, Status> {
         return Err(Status::Failed);
     };
     let bytes = read_text(rt, "rpcgen", args.file, &mut err)?;
-    generate(rt, which, &args, &bytes)
+    Ok(match args.output {
+        Some(name) => gen_run(
+            rt.alloc(),
+            which,
+            &args,
+            &bytes,
+            &Named { rt, name },
+            &mut err,
+        ),
+        None => gen_run(rt.alloc(), which, &args, &bytes, &Standard { rt }, &mut err),
+    })
 }
 
 fn main(rt: HostRuntime) -> ExitCode {

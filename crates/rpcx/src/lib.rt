@@ -9,7 +9,7 @@ mod rpcgen;
 pub use files::reading::read_text;
 pub use rpcdump::dump_run;
 pub use rpcedit::edit_run;
-pub use rpcgen::{gen_open, gen_write};
+pub use rpcgen::{Output, gen_open, gen_run, gen_write};
 pub use x_args::{
     DumpArgs, EditArgs, GenArgs, Manual, Mode, RPCDUMP, RPCEDIT, RPCGEN, Status, VERSION,
     answer_words, complain, dump_args, dump_mode, edit_args, gen_args, gen_mode, read_words,

@@ -1,17 +1,30 @@
 //! What `rpcgen` does, over a text that was read and sinks.
 
-ghost use Rattle.std.specs.Prelude.{◌≡◌, ◌≢◌, false, not, codes, IsTrue, OnOk, if◌then◌else◌};
+ghost use Rattle.std.specs.Prelude.{◌≡◌, ◌≢◌, ◌<◌, false, not, codes, length, IsTrue, OnOk, if◌then◌else◌};
 ghost use Rattle.std.specs.Io.KnownBytes.{Appends};
-ghost use Rattle.rpcx.specs.Generate.{IsOpened};
+ghost use Rattle.rpcx.specs.Generate.{told_faults, IsOpened};
 ghost use Rattle.x_args.specs.Telling.{Grows, IsTold};
 ghost use Rattle.x_session.specs.Session.{Compiles};
+ghost use Rattle.x_compile.specs.Compile.{faults_of};
 ghost use Rattle.x_compile.specs.Generated.{text_of};
+ghost use Rattle.x_text.specs.Limits.{most_text};
 
 use crate::files::opening::open_text;
 use std::alloc::Global;
-use x_args::{Status, complain};
+use std::mem;
+use x_args::{GenArgs, Status, complain, tell_of_file};
 use x_session::{Session, Which};
 use x_text::Sink;
+
+/// Where a run of `rpcgen` writes to. It is opened once the text was found to have no fault, so that no file is
+/// emptied for nothing.
+pub trait Output {
+    /// What takes the bytes.
+    type Opened: Sink + Drop;
+
+    /// Opens it, where it can be.
+    fn open(&self) -> Option<Self::Opened>;
+}
 
 /// Opens the text of a file for a run of `rpcgen`, or tells what is wrong with it and answers the status:
 /// `Faulty` where the text has faults, which are written one a line, and `Failed` where it is too large or
@@ -69,4 +82,52 @@ pub fn gen_write<O: Sink, E: Sink>(
     }
     complain("rpcgen: output cannot be written\n", err);
     Status::Failed
+}
+
+/// Opens the text of a file, writes what is asked for to the output, and answers the status: `Done` where that
+/// was written, `Faulty` where the text has faults, which are written one a line, and `Failed` where the run
+/// could not be carried out, which it tells.
+pub fn gen_run<O: Output, E: Sink>(
+    alloc: Global,
+    which: Which,
+    args: &GenArgs,
+    bytes: &[u8],
+    output: &O,
+    err: &mut E,
+) -> Status
+    ensures faulty { result ≡ Status.Faulty
+        → Compiles bytes.now
+        (λ items. (0 < length (faults_of bytes.now items))
+        × IsTold (E.state err.old) (E.state err.new)
+        (told_faults args.now.file.now (faults_of bytes.now items))) }
+    ensures too_large { most_text < length bytes.now → result ≡ Status.Failed }
+    ensures quiet { result ≡ Status.Done → err.new ≡ err.old }
+{
+    let session = match gen_open(alloc, args.file, bytes, err) {
+        Ok(session) => session,
+        Err(status) => return status,
+    };
+    let status = write_opened(which, args, &session, output, err);
+    // The process ends next, and gives all memory back at once.
+    mem::forget(session);
+    status
+}
+
+/// Opens the output and writes a generated text, and answers the status.
+fn write_opened<O: Output, E: Sink>(
+    which: Which,
+    args: &GenArgs,
+    session: &Session,
+    output: &O,
+    err: &mut E,
+) -> Status
+    ensures faultless { result ≢ Status.Faulty }
+    ensures quiet { result ≡ Status.Done → err.new ≡ err.old }
+{
+    let Some(mut out) = output.open() else {
+        let name = args.output.unwrap_or("-");
+        tell_of_file("rpcgen", name, ": cannot be written\n", err);
+        return Status::Failed;
+    };
+    gen_write(which, session, &mut out, err)
 }

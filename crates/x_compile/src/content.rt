@@ -39,21 +39,40 @@ pub enum Parse {
 }
 
 /// What checking a definition found.
-#[derive(Drop)]
 pub struct CheckResult {
     pub checked: Checked,
     /// What is generated of it, where it has no fault.
     pub pieces: Option<Pieces>,
 }
 
+// By hand, so that who lets it go calls this, and need not prove anew how its parts are let go.
+impl Drop for CheckResult {
+    fn drop(self) {
+        let CheckResult {
+            checked: _,
+            pieces: _,
+        } = self;
+    }
+}
+
 /// What is kept with an item that has a definition or lines that pass through.
-#[derive(Drop)]
 pub struct ItemBody {
     parse: Parse,
     /// The lines that pass through: without their `%`, each with a line feed.
     lines: Vec<u8>,
     /// What was found of its definition.
     found: Option<Box<CheckResult>>,
+}
+
+// By hand, so that who lets it go calls this, and need not prove anew how its parts are let go.
+impl Drop for ItemBody {
+    fn drop(self) {
+        let ItemBody {
+            parse: _,
+            lines: _,
+            found: _,
+        } = self;
+    }
 }
 
 /// What is kept with an item, in few bytes where it has neither a definition nor lines: a text may be 16

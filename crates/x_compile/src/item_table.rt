@@ -4,7 +4,6 @@ ghost use Rattle.std.specs.Prelude.{◌≡◌, ◌≤◌, ◌+◌, length, map, 
 ghost use Rattle.x_text.specs.declared.text.source.TheConstants.{MAX_TEXT};
 ghost use Rattle.x_cutting.specs.ItemList.{AreOfText, counts};
 ghost use Rattle.x_trees.specs.View.{tree_at};
-ghost use Rattle.x_schema.specs.Schemas.{IsSchemaOf};
 ghost use Rattle.x_compile.specs.Definitions.{numbered};
 ghost use Rattle.x_compile.specs.KeptView.{entry_definitions, kept_part};
 
@@ -12,18 +11,27 @@ use crate::content::Content;
 use std::alloc::Global;
 use x_gen::{PieceList, Pieces};
 use x_item::{Definition, ItemEntry, Items};
-use x_schema::Schema;
 use x_text::{GapIter, NoMemory};
 use x_uses::Uses;
 
 /// The items of a text, in order, each with what is kept with it.
-#[derive(Drop)]
 pub struct ItemTable {
     pub entries: Items<Content>,
     /// How many faults they have.
     pub faults: usize,
     /// Which of them declare and use each name: made at the first edit, so that who makes none pays nothing.
     pub uses: Option<Uses>,
+}
+
+// By hand, so that who lets it go calls this, and need not prove anew how its parts are let go.
+impl Drop for ItemTable {
+    fn drop(self) {
+        let ItemTable {
+            entries: _,
+            faults: _,
+            uses: _,
+        } = self;
+    }
 }
 
 impl ItemTable {
@@ -68,13 +76,6 @@ impl ItemTable {
             ≡ option_and_then (λ d. d) (slice_get (entry_definitions self.now.entries.list) index) }
     {
         self.entries.get(index)?.kept.definition()
-    }
-
-    /// The types that the items define.
-    pub fn schema(&self, alloc: Global) -> Result<Schema, NoMemory>
-        ensures { IfOk result (λ schema. IsSchemaOf (entry_definitions self.now.entries.list) schema) }
-    {
-        Schema::of(alloc, &self.definitions(alloc)?)
     }
 
     /// The definition of each item.

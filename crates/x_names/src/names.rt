@@ -145,6 +145,17 @@ fn entry_near(
     }
 }
 
+/// Makes room for so many names where the table has fewer yet, so that a large item does not make it grow
+/// again and again.
+fn reserve_names(table: &mut IndexMap<CowSlice<u8>, Declarer>, count: usize) -> Result<(), NoMemory>
+    ensures { table.new.entries ≡ table.old.entries }
+{
+    if table.len() < count {
+        table.reserve(count)?;
+    }
+    Ok(())
+}
+
 /// Takes in the names that an item declares, in place of those that later items declare. They are listed in
 /// memory that is used again.
 fn add<'d>(
@@ -160,6 +171,7 @@ fn add<'d>(
         (entry_in table.old.entries name)) }
 {
     glossary.read(alloc, definition)?;
+    reserve_names(table, glossary.declared.len())?;
     while let Some(declared) = glossary.declared.pop() {
         let declarer = Declarer {
             item,

@@ -11,10 +11,16 @@ use x_text::NoMemory;
 
 /// What is generated of a definition: its forward lines and its piece of each of the four texts, in one
 /// buffer.
-#[derive(Drop)]
 pub struct Pieces {
     text: Vec<u8>,
     ends: Ends,
+}
+
+// By hand, so that who lets it go calls this, and need not prove anew how its parts are let go.
+impl Drop for Pieces {
+    fn drop(self) {
+        let Pieces { text: _, ends: _ } = self;
+    }
 }
 
 /// Where parts of a text end that stand one behind another. The last one, of the table, ends where the text

@@ -1,6 +1,6 @@
 //! The four texts of a `.x` file.
 
-ghost use Rattle.std.specs.Prelude.{◌≡◌, ◌≤◌, ◌^◌, length};
+ghost use Rattle.std.specs.Prelude.{◌≡◌, ◌≤◌, ◌^◌, false, length, OnOk};
 ghost use Rattle.std.specs.List.{flat_map};
 ghost use Rattle.x_text.specs.Writing.{Adds, IsWritten};
 ghost use Rattle.x_pieces.specs.Texts.{epilogue, forwards, part_text, text};
@@ -10,15 +10,16 @@ use crate::{PieceList, Which};
 use x_text::{Pen, Sink, WriteFault};
 
 /// Writes a text, and takes no memory. `base` is the name that the text uses. After a fault the sink has
-/// exactly its first `written` bytes.
+/// exactly its first `written` bytes; without one it still works.
 pub fn write_text<L: PieceList, S: Sink>(
     which: Which,
     base: &[u8],
     list: &L,
     sink: &mut S,
 ) -> Result<(), WriteFault>
-    ensures { IsWritten result (S.state sink.old) (S.state sink.new)
+    ensures written { IsWritten result (S.state sink.old) (S.state sink.new)
         (text which base.now (L.parts list.now)) }
+    ensures working { OnOk result ((S.state sink.new).failed ≡ false) }
 {
     let mut pen = Pen::new();
     add_text(which, base, list, &mut pen, sink);

@@ -80,10 +80,19 @@ impl OwnedMeaning {
 pub type KeptMeanings = SmallVec<OwnedMeaning, 1>;
 
 /// What checking an item found: its faults, and what the names mean that it declares. Only a check makes one.
-#[derive(Drop)]
 pub struct Checked {
     faults: Vec<WordFault>,
     meanings: KeptMeanings,
+}
+
+// By hand, so that who lets it go calls this, and need not prove anew how its parts are let go.
+impl Drop for Checked {
+    fn drop(self) {
+        let Checked {
+            faults: _,
+            meanings: _,
+        } = self;
+    }
 }
 
 impl Model for Checked {

@@ -54,7 +54,6 @@ pub(crate) struct NamedType {
 
 /// The types of a text without a fault. A type is a place in a list of forms, and a typedef leads to the form
 /// that it stands for, so that reading a value follows no chain of names.
-#[derive(Drop)]
 pub struct Schema {
     pub(crate) names: Vec<Vec<u8>>,
     pub(crate) forms: Vec<Form>,
@@ -62,6 +61,19 @@ pub struct Schema {
     pub(crate) links: Vec<FormIndex>,
     pub(crate) types: IndexMap<Vec<u8>, NamedType>,
     pub(crate) procedures: IndexMap<ProcedureNumbers, CompactProcedure>,
+}
+
+// By hand, so that who lets it go calls this, and need not prove anew how its parts are let go.
+impl Drop for Schema {
+    fn drop(self) {
+        let Schema {
+            names: _,
+            forms: _,
+            links: _,
+            types: _,
+            procedures: _,
+        } = self;
+    }
 }
 
 impl Model for Schema {

@@ -23,7 +23,7 @@ use Rattle.x_cutting.proofs.RecutLaws.{same_item_patch}
 use Rattle.x_recheck.specs.Staleness.{AreStale}
 use Rattle.x_recheck.proofs.StaleLists.{one_stale_list}
 use Rattle.x_compile.specs.Compile.{definitions_of}
-use Rattle.x_follow.specs.Moves.{AreNear, Changed, changed_items, moves, place_of, seat_behind}
+use Rattle.x_session.specs.Moves.{AreNear, Changed, changed_items, moves, place_of, seat_behind}
 use Rattle.x_session.specs.Session.{Document}
 use Rattle.x_session.specs.Work.{AreNearWorks, AreStaleItems, IsWork, definitions_edit}
 use Rattle.x_session.specs.declared.session.work.Work.{Work}

@@ -1,7 +1,11 @@
 pub mod Answers
 pub mod Commands
+pub mod Following
 pub mod LineAnswers
+pub mod Moves
+pub mod Planned
 pub mod Refusals
+pub mod Rendered
 pub mod Script
 pub mod Session
 pub mod Showing

@@ -17,7 +17,7 @@ use Rattle.x_cutting.specs.declared.cutting.item_entry.ItemEntry.{ItemEntry}
 use Rattle.x_recheck.specs.Editing.{TextEdit, definitions_after}
 use Rattle.x_recheck.specs.Staleness.{AreStale}
 use Rattle.x_compile.specs.Compile.{Item, IsCompilation, definitions_of}
-use Rattle.x_follow.specs.Moves.{AreNear, changed_items, moves, place_of, seat_behind}
+use Rattle.x_session.specs.Moves.{AreNear, changed_items, moves, place_of, seat_behind}
 use Rattle.x_session.specs.Session.{Document, LeavesText}
 use Rattle.x_session.specs.declared.session.work.Work.{Work}
 

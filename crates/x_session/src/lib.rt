@@ -1,6 +1,7 @@
 //! A `.x` text that stays open: all that compiling it gives, its edits, and scripts of edits and questions.
 #![tactic(auto)]
 
+mod follow;
 mod laws;
 mod script;
 mod session;

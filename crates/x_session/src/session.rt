@@ -10,6 +10,8 @@ ghost use Rattle.x_session.specs.Session.{Document, Compiles, edited_by_all, Tak
 ghost use Rattle.x_compile.specs.Compile.{tokens_of, definitions_of, definition_at, faults_of};
 ghost use Rattle.x_compile.specs.Definitions.{numbered};
 ghost use Rattle.x_session.specs.Typed.{GivesSchema};
+ghost use Rattle.x_schema.specs.Schemas.{IsSchemaOf};
+ghost use Rattle.x_compile.specs.KeptView.{entry_definitions};
 ghost use Rattle.x_session.specs.Work.{IsWork, IsWorkOfAll, HasDone};
 
 mod schema_fault;
@@ -17,25 +19,37 @@ mod texts;
 mod work;
 
 use crate::EditFault;
+use crate::follow::{carry_out, plan_edit};
 pub use schema_fault::SchemaFault;
 use std::alloc::Global;
 use std::marker::Model;
 pub use work::Work;
 use x_compile::{Compilation, Fault, Faults, ItemTable, compile};
-use x_follow::{carry_out, plan_edit};
 use x_item::Definition;
 use x_lex::{Token, TokenIter, Tokens};
 use x_sema::Schema;
 use x_text::{Edit, Meter, NoMemory, Source, TextBuffers, TextFault};
 
 /// A text that stays open: its tokens, definitions and faults, and what is generated of it.
-#[derive(Drop)]
 pub struct Session {
     alloc: Global,
     base: Vec<u8>,
     texts: TextBuffers,
     tokens: Tokens,
     items: ItemTable,
+}
+
+// By hand, so that who lets it go calls this, and need not prove anew how its parts are let go.
+impl Drop for Session {
+    fn drop(self) {
+        let Session {
+            alloc: _,
+            base: _,
+            texts: _,
+            tokens: _,
+            items: _,
+        } = self;
+    }
 }
 
 impl Model for Session {
@@ -225,9 +239,16 @@ impl Session {
         if self.items.faults > 0 {
             return Err(SchemaFault::Faulty);
         }
-        match self.items.schema(self.alloc) {
+        match schema_of(self.alloc, &self.items) {
             Ok(schema) => Ok(schema),
             Err(NoMemory) => Err(SchemaFault::NoMemory),
         }
     }
+}
+
+/// The types that the items define.
+fn schema_of(alloc: Global, items: &ItemTable) -> Result<Schema, NoMemory>
+    ensures { IfOk result (λ schema. IsSchemaOf (entry_definitions items.now.entries.list) schema) }
+{
+    Schema::of(alloc, &items.definitions(alloc)?)
 }

@@ -35,9 +35,15 @@ pub struct ItemSplice {
 
 /// The table of the names of a text: the items that declare each, and those that declare or mention it. It is
 /// seen as the list of the names with their slots.
-#[derive(Drop)]
 pub struct Uses {
     table: Table,
+}
+
+// By hand, so that who lets it go calls this, and need not prove anew how its parts are let go.
+impl Drop for Uses {
+    fn drop(self) {
+        let Uses { table: _ } = self;
+    }
 }
 
 impl Model for Uses {

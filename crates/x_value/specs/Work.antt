@@ -7,7 +7,7 @@ use Rattle.x_schema.specs.declared.form.Field.{Field}
 use Rattle.x_schema.specs.declared.form.Form.{Form}
 use Rattle.x_schema.specs.declared.form.Form.TheVariants as forms
 use Rattle.x_schema.specs.Schema.{Schema, form_at}
-use Rattle.x_schema.specs.Sound.{AreSoundEnumerators, IsSound}
+use Rattle.x_schema.specs.Sound.{AreSoundEnumerators}
 use Rattle.x_value.specs.declared.nodes.compact_node.CompactNode.{CompactNode}
 use Rattle.x_value.specs.declared.reading.task.Spot as compact
 use Rattle.x_value.specs.declared.reading.task.Task.{Task}
@@ -59,13 +59,11 @@ AreTasks s (task ∷ tasks) = IsTyped s task × AreTasks s tasks
 
 -- the reader may carry out the task that it took from its stack, and then those that are left there
 pub record IsTakenTask (s : Schema) (taken : Task) (stack : List Task) : Type 0 where
-  pub sound : IsSound s
   pub task : IsTyped s taken
   pub tasks : AreTasks s stack
 
 -- the reader may read the value of this form that stands there
 pub record IsToRead (s : Schema) (form : ℕ) (at : compact.Spot) : Type 0 where
-  pub sound : IsSound s
   pub known : form < length s.forms
   pub spot : IsSpot s at
 

@@ -1,6 +1,6 @@
 //! Lists in which the first that has a key is found.
 
-ghost use Rattle.std.specs.Prelude.{◌≡◌, ◌≤◌, Bool, length, IfOk};
+ghost use Rattle.std.specs.Prelude.{◌≡◌, ◌≤◌, [], Bool, length, IfOk, OnOk};
 ghost use Rattle.std.specs.Str.{bytes_eq};
 ghost use Rattle.x_rules.specs.FirstPlaces.{first_from, is_behind, HasFirsts};
 
@@ -52,18 +52,30 @@ impl<'v, T: Keyed<K>, K: Copy + Eq + Hash> Model for FirstPlaces<'v, T, K> {
         IfSome places.table (λ table. HasFirsts K.eq T.has_key table.entries places.items.now) };
 }
 
-/// A table of the first place of each key. It is made from the last to the first, so that the first place of
-/// a key is what it is left with.
+/// Puts the first place of each key of a list into a table that has none, from the last to the first, so that
+/// the first place of a key is what it is left with.
+fn fill<T: Keyed<K>, K: Copy + Eq + Hash>(
+    table: &mut IndexMap<K, usize>,
+    items: &[T],
+) -> Result<(), NoMemory>
+    requires { table.old.entries ≡ [] }
+    ensures { OnOk result (HasFirsts K.eq T.has_key table.new.entries items.now) }
+{
+    for place in (0..items.len()).rev() {
+        table.insert(items[place].key(), place)?;
+    }
+    Ok(())
+}
+
+/// A table of the first place of each key.
 fn table_of<T: Keyed<K>, K: Copy + Eq + Hash>(
     alloc: Global,
     items: &[T],
 ) -> Result<IndexMap<K, usize>, NoMemory>
     ensures { IfOk result (λ table. HasFirsts K.eq T.has_key table.entries items.now) }
 {
-    let mut table = IndexMap::new(alloc);
-    for place in (0..items.len()).rev() {
-        table.insert(items[place].key(), place)?;
-    }
+    let mut table = IndexMap::with_capacity(alloc, items.len())?;
+    fill(&mut table, items)?;
     Ok(table)
 }
 

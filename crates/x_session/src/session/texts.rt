@@ -1,6 +1,6 @@
 //! The texts that are generated of a session's text.
 
-ghost use Rattle.std.specs.Prelude.{◌≡◌, length};
+ghost use Rattle.std.specs.Prelude.{◌≡◌, false, length, OnOk};
 ghost use Rattle.x_text.specs.Writing.{Adds, IsWritten};
 ghost use Rattle.x_session.specs.Session.{Compiles};
 ghost use Rattle.x_compile.specs.Generated.{text_of};
@@ -10,11 +10,13 @@ use x_gen::Which;
 use x_text::{Pen, Sink, WriteFault};
 
 impl Session {
-    /// Writes a generated text. After a fault the sink has exactly its first `written` bytes.
+    /// Writes a generated text. After a fault the sink has exactly its first `written` bytes; without one it
+    /// still works.
     pub fn write_text<S: Sink>(&self, which: Which, sink: &mut S) -> Result<(), WriteFault>
-        ensures { Compiles self.now.text
+        ensures written { Compiles self.now.text
             (λ items. IsWritten result (S.state sink.old) (S.state sink.new)
             (text_of which self.now.base items)) }
+        ensures working { OnOk result ((S.state sink.new).failed ≡ false) }
     {
         x_gen::write_text(which, &self.base, &self.items, sink)
     }

@@ -108,7 +108,6 @@ pub struct Enumerator {
 }
 
 /// A type.
-#[derive(Drop)]
 #[cycle(tree)]
 pub enum DataType {
     /// `int`, `unsigned hyper`, `bool` and the like
@@ -122,7 +121,6 @@ pub enum DataType {
 }
 
 /// What is written behind the keyword and the name of a type.
-#[derive(Drop)]
 #[cycle(tree)]
 pub enum Body {
     /// `{ RED = 1, GREEN }`, of an enum
@@ -134,7 +132,6 @@ pub enum Body {
 }
 
 /// A declaration.
-#[derive(Drop)]
 #[cycle(tree)]
 pub enum Declaration {
     /// `void`
@@ -179,7 +176,6 @@ impl Declaration {
 }
 
 /// The body of a union.
-#[derive(Drop)]
 #[cycle(tree)]
 pub struct UnionBody {
     /// What is declared behind `switch`.
@@ -191,7 +187,6 @@ pub struct UnionBody {
 }
 
 /// An arm of a union.
-#[derive(Drop)]
 #[cycle(tree)]
 pub struct Arm {
     /// The values behind `case`, in order.
@@ -230,4 +225,67 @@ pub fn union_body(
         default,
     };
     Ok(Body::Union(Box::new(alloc, body)?))
+}
+
+// How trees are let go, by hand: so that a crate which lets one go calls these, and need not prove anew how each
+// kind of tree is let go.
+
+impl Drop for DataType {
+    #[cycle(let_go)]
+    fn drop(self) {
+        match self {
+            DataType::Basic(_) => {}
+            DataType::Named(_) => {}
+            DataType::Tagged { tag: _, name: _ } => {}
+            DataType::Inline(_) => {}
+        }
+    }
+}
+
+impl Drop for Body {
+    #[cycle(let_go)]
+    fn drop(self) {
+        match self {
+            Body::Enum(_) => {}
+            Body::Struct(_) => {}
+            Body::Union(_) => {}
+        }
+    }
+}
+
+impl Drop for Declaration {
+    #[cycle(let_go)]
+    fn drop(self) {
+        match self {
+            Declaration::Void => {}
+            Declaration::Of {
+                data: _,
+                name: _,
+                shape: _,
+            } => {}
+            Declaration::Opaque { name: _, length: _ } => {}
+            Declaration::String { name: _, most: _ } => {}
+        }
+    }
+}
+
+impl Drop for UnionBody {
+    #[cycle(let_go)]
+    fn drop(self) {
+        let UnionBody {
+            discriminant: _,
+            arms: _,
+            default: _,
+        } = self;
+    }
+}
+
+impl Drop for Arm {
+    #[cycle(let_go)]
+    fn drop(self) {
+        let Arm {
+            cases: _,
+            declaration: _,
+        } = self;
+    }
 }

@@ -2,7 +2,6 @@
 use super::{Body, Declaration, Spelling, Value, Version};
 
 /// A definition of the language.
-#[derive(Drop)]
 pub enum Definition {
     /// `const LIMIT = 12;`
     Const {
@@ -23,4 +22,20 @@ pub enum Definition {
         versions: Vec<Version>,
         number: Spelling,
     },
+}
+
+// By hand, as all trees.
+impl Drop for Definition {
+    fn drop(self) {
+        match self {
+            Definition::Const { name: _, value: _ } => {}
+            Definition::Typedef(_) => {}
+            Definition::NewType { name: _, body: _ } => {}
+            Definition::Program {
+                name: _,
+                versions: _,
+                number: _,
+            } => {}
+        }
+    }
 }

@@ -3,7 +3,6 @@
 use super::{DataType, Spelling};
 
 /// What is passed to a procedure, or comes back from it.
-#[derive(Drop)]
 pub enum Argument {
     /// `string`
     String,
@@ -12,7 +11,6 @@ pub enum Argument {
 }
 
 /// A procedure of a version.
-#[derive(Drop)]
 pub struct Procedure {
     /// `None` where it is `void`.
     pub result: Option<Argument>,
@@ -27,7 +25,6 @@ pub struct Procedure {
 }
 
 /// A version of a program.
-#[derive(Drop)]
 pub struct Version {
     /// Its name.
     pub name: Spelling,
@@ -35,4 +32,37 @@ pub struct Version {
     pub procedures: Vec<Procedure>,
     /// Its number in the program.
     pub number: Spelling,
+}
+
+// How these are let go, by hand, as all trees.
+
+impl Drop for Argument {
+    fn drop(self) {
+        match self {
+            Argument::String => {}
+            Argument::Of(_) => {}
+        }
+    }
+}
+
+impl Drop for Procedure {
+    fn drop(self) {
+        let Procedure {
+            result: _,
+            name: _,
+            first: _,
+            others: _,
+            number: _,
+        } = self;
+    }
+}
+
+impl Drop for Version {
+    fn drop(self) {
+        let Version {
+            name: _,
+            procedures: _,
+            number: _,
+        } = self;
+    }
 }

@@ -2,6 +2,7 @@
 ghost use Rattle.std.specs.Prelude.{◌≡◌, ◌<◌, ◌≤◌, ◌^◌, ◌+◌, ◌∷◌, [], ℕ, List, length, IfOk, IfErr};
 ghost use Rattle.std.specs.Prelude.{None, Some};
 ghost use Rattle.x_schema.specs.Schema.{Schema, form_at};
+ghost use Rattle.x_schema.specs.Sound.{IsSound};
 ghost use Rattle.x_value.specs.Shown.{Leaf};
 ghost use Rattle.x_value.specs.Layouts.{Job, Fixed, placed, layout_at, arm_jobs, behind, most_links};
 ghost use Rattle.x_value.specs.Layouts.{head_fault, head_nodes, body_leaf, fixed_size, number_size};
@@ -206,7 +207,8 @@ fn headed_value<'a>(
     level: u32,
     bytes: &'a [u8],
 ) -> Result<Step<'a>, ReadFault>
-    requires { IsHeaded schema.now form spot level }
+    requires sound { IsSound schema.now }
+    requires head { IsHeaded schema.now form spot level }
     ensures ok { IfOk result
         (λ r. Begun schema.now message.now form spot bytes.now r.first r.second r.next r.rest.now) }
     ensures err { IfErr result
@@ -233,6 +235,7 @@ fn sized<'a>(
     spot: Spot,
     bytes: &'a [u8],
 ) -> Result<Step<'a>, ReadFault>
+    requires sound { IsSound schema.now }
     requires value { IsToRead schema.now form spot }
     requires sized { IsSizedForm (form_at schema.now form) }
     requires rear { IsRear message.now bytes.now }
@@ -264,6 +267,7 @@ fn fixed<'a>(
     size: u32,
     bytes: &'a [u8],
 ) -> Result<Step<'a>, ReadFault>
+    requires sound { IsSound schema.now }
     requires value { IsToRead schema.now form spot }
     requires size { fixed_size (form_at schema.now form) ≡ Some size }
     requires rear { IsRear message.now bytes.now }

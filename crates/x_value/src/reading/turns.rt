@@ -1,6 +1,7 @@
 //! One turn of the reader: a task is taken from the stack and carried out.
 ghost use Rattle.std.specs.Prelude.{◌≡◌, ◌+◌, ◌++◌, ◌∷◌, [], drop, IfOk, IfErr};
 ghost use Rattle.std.specs.Prelude.{OnOk, MatchOption};
+ghost use Rattle.x_schema.specs.Sound.{IsSound};
 ghost use Rattle.x_value.specs.Jobs.{Refused};
 ghost use Rattle.x_value.specs.Work.{fields, value_job, jobs_of_task, pending, tasks_of_option};
 ghost use Rattle.x_value.specs.Work.{tasks_of_value, shown_entries, IsRear, IsTakenTask};
@@ -69,6 +70,7 @@ fn begin<'a>(
     spot: Spot,
     bytes: &'a [u8],
 ) -> Result<&'a [u8], ReadFault>
+    requires sound { IsSound schema.now }
     requires taken { IsTakenTask schema.now (Task.One form spot) stack.old.items }
     requires rear { IsRear message.now bytes.now }
     ensures ok { IfOk result
@@ -192,6 +194,7 @@ pub(crate) fn carry_out<'a>(
     task: Task,
     bytes: &'a [u8],
 ) -> Result<&'a [u8], ReadFault>
+    requires sound { IsSound schema.now }
     requires taken { IsTakenTask schema.now task stack.old.items }
     requires rear { IsRear message.now bytes.now }
     ensures ok { IfOk result

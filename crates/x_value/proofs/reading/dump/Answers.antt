@@ -1,4 +1,4 @@
-use Rattle.std.proofs.Common.{rules, vec_len, ◌≡◌, ◌-◌, ◌++◌, ◌∷◌, [], length, refl, ap, ◌∙◌}
+use Rattle.std.proofs.Common.{vec_len, ◌≡◌, ◌-◌, ◌++◌, ◌∷◌, [], length, refl, ap, ◌∙◌}
 use Rattle.x_value.specs.declared.fault.ReadCode.TheVariants as codes
 use Rattle.x_value.specs.declared.reading.task.Task.TheVariants.{One}
 use Rattle.x_value.specs.Dumps.{root_job}
@@ -20,7 +20,6 @@ loop-task-init c = record {
 
 pub carry_out-requires-clause-taken : goal.carry_out-requires-clause-taken
 carry_out-requires-clause-taken c = record {
-  sound = search rules;
   task = last_task c.args.schema.now c.loop-task.stack.items c.pop.new.self.items c.in-Some.task c.in-Some.ensures.items c.loop-task.invariant.reading.tasks;
   tasks = other_tasks c.args.schema.now c.loop-task.stack.items c.pop.new.self.items c.in-Some.task c.in-Some.ensures.items c.loop-task.invariant.reading.tasks;
 }

@@ -5,15 +5,15 @@ use Rattle.x_text.specs.Seqs.{distance}
 use Rattle.x_lex.specs.TokenList as tokens
 use Rattle.x_cutting.specs.ItemList as items
 use Rattle.x_cutting.specs.ItemList.{AreOfText, counts}
-use Rattle.x_follow.specs.Following.{AreUsed, IsPlan, IsToFollow, behind}
+use Rattle.x_session.specs.Following.{AreUsed, IsPlan, IsToFollow, behind}
 use Rattle.x_compile.specs.KeptView.{AreWith}
-use Rattle.x_follow.specs.Moves.{changed_items, moves, place_of, seat_behind}
-use Rattle.x_follow.specs.Planned.{numbers_of}
+use Rattle.x_session.specs.Moves.{changed_items, moves, place_of, seat_behind}
+use Rattle.x_session.specs.Planned.{numbers_of}
 use Rattle.x_session.specs.Session.{Document}
 use Rattle.x_compile.specs.KeptText.{IsKept}
 use Rattle.x_session.specs.Work.{IsWork}
 use Rattle.x_session.specs.declared.session.work.Work.{Work}
-use Rattle.x_follow.proofs.TableLemmas.{table_checked}
+use Rattle.x_session.proofs.TableLemmas.{table_checked}
 use Rattle.x_session.proofs.WorkLemmas.{kept_edited, work_edited}
 use Rattle.x_session.proofs.session.Session.apply.Goals as goal
 use Rattle.x_session.proofs.session.Session.apply.Goals.{After-of}

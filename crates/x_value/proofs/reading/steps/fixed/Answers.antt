@@ -14,7 +14,7 @@ returns-in_err-first-clause-err c =
     let p = err_from_is_err_and c.from_residual.result c.from_residual.ensures.1 in rw (p.1, p.2) (λ ks ready.
     let e = c.in_err-first.field-0.0 in
     let l = fixed_layout c.args.schema.now (form_at c.args.schema.now c.args.form) c.args.size c.requires.size in
-    fixed_refused c.args.schema.now (layout_at c.args.schema.now c.args.form) l.leaf c.args.size (spot_of c.args.schema.now c.args.spot) c.args.bytes.now e.at e.code ks l.is c.requires.value.sound
+    fixed_refused c.args.schema.now (layout_at c.args.schema.now c.args.form) l.leaf c.args.size (spot_of c.args.schema.now c.args.spot) c.args.bytes.now e.at e.code ks l.is c.requires.sound
     (IsByteList_of c.args.bytes.now (λ i. omega (arith, c.type_inv.bytes i))) c.in_err-first.ensures.err ready)
 
 pub returns-clause-ok : goal.returns-clause-ok

@@ -13,7 +13,7 @@ pub returns-in_err-len-clause-err : goal.returns-in_err-len-clause-err
 returns-in_err-len-clause-err c =
     let p = err_from_is_err_and c.from_residual.result c.from_residual.ensures.1 in rw (p.1, p.2) (λ ks ready.
     let e = c.in_err-len.field-0.0 in
-    value_refused c.args.schema.now c.args.form c.args.spot c.args.bytes.now e.at e.code ks c.requires.value.sound c.requires.value.known (headed_sized c.args.schema.now (form_at c.args.schema.now c.args.form) c.requires.sized) c.in_err-len.ensures.err ready)
+    value_refused c.args.schema.now c.args.form c.args.spot c.args.bytes.now e.at e.code ks c.requires.sound c.requires.value.known (headed_sized c.args.schema.now (form_at c.args.schema.now c.args.form) c.requires.sized) c.in_err-len.ensures.err ready)
 
 pub padded_body-requires-clause-rear : goal.padded_body-requires-clause-rear
 padded_body-requires-clause-rear c = rear_behind c.args.message.now c.args.bytes.now (word c.in_ok-len.len) c.in_ok-len.rest.now c.requires.rear c.in_ok-len.ensures.ok.parts
@@ -31,5 +31,5 @@ returns-in-Ok-clause-ok c =
 pub returns-in-Err-clause-err : goal.returns-in-Err-clause-err
 returns-in-Err-clause-err c = λ ks ready.
     let l = sized_layout c.args.schema.now (form_at c.args.schema.now c.args.form) c.requires.sized in
-    sized_refused c.args.schema.now (layout_at c.args.schema.now c.args.form) l.leaf l.most (spot_of c.args.schema.now c.args.spot) c.args.bytes.now c.in_ok-len.rest.now c.in_ok-len.len c.in-Err.fault.at c.counted_from.result.at c.in-Err.fault.code c.counted_from.result.code ks l.is c.requires.value.sound c.in_ok-len.ensures.ok
+    sized_refused c.args.schema.now (layout_at c.args.schema.now c.args.form) l.leaf l.most (spot_of c.args.schema.now c.args.spot) c.args.bytes.now c.in_ok-len.rest.now c.in_ok-len.len c.in-Err.fault.at c.counted_from.result.at c.in-Err.fault.code c.counted_from.result.code ks l.is c.requires.sound c.in_ok-len.ensures.ok
     (IsByteList_of c.args.bytes.now (λ i. omega (arith, c.type_inv.bytes i))) c.in-Err.ensures.err c.counted_from.ensures.code c.counted_from.ensures.place ready

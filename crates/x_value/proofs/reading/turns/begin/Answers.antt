@@ -6,7 +6,7 @@ use Rattle.x_value.proofs.reading.turns.begin.Goals as goal
 pub returns-in_err-step-clause-err : goal.returns-in_err-step-clause-err
 returns-in_err-step-clause-err c =
     let p = err_from_is_err_and c.from_residual.result c.from_residual.ensures.1 in rw (p.1, p.2)
-    (c.in_err-step.ensures.err (pending c.args.schema.now c.args.stack.now.items) (pending_ready c.args.schema.now c.args.stack.now.items c.requires.taken.sound c.requires.taken.tasks))
+    (c.in_err-step.ensures.err (pending c.args.schema.now c.args.stack.now.items) (pending_ready c.args.schema.now c.args.stack.now.items c.requires.sound c.requires.taken.tasks))
 
 pub returns-clause-ok : goal.returns-clause-ok
 returns-clause-ok c =

@@ -14,7 +14,7 @@ pub begin-requires-clause-taken : goal.begin-requires-clause-taken
 begin-requires-clause-taken c =
     let o = subst (λ (v : Option (ℕ × compact.Spot)). TakesTask c.args.schema.now c.args.task c.args.stack.now.items c.next_value.new.stack.items v) c.in-Some.is c.in_ok-form.ensures.ok in
     let parts = opened_parts c.args.schema.now c.args.task c.args.stack.now.items c.next_value.new.stack.items c.in-Some.form c.in-Some.spot o in
-    record { sound = c.requires.taken.sound; task = parts.1; tasks = parts.0 }
+    record { task = parts.1; tasks = parts.0 }
 
 pub returns-clause-ok : goal.returns-clause-ok
 returns-clause-ok c =

@@ -10,5 +10,5 @@ returns-in_default-clause-ok c =
 
 pub returns-clause-ok : goal.returns-clause-ok
 returns-clause-ok c =
-    one_field c.args.schema.now c.args.form c.args.place c.in-Some.next c.args.level c.args.links c.form_at.result.now c.in-Some.field c.args.stack.now.items c.put.new.stack.items _ c.requires.sound c.form_at.ensures.form
+    one_field c.args.schema.now c.args.form c.args.place c.in-Some.next c.args.level c.args.links c.form_at.result.now c.in-Some.field c.args.stack.now.items c.put.new.stack.items _ c.form_at.ensures.sound c.form_at.ensures.form
     c.in-Some.ensures.0 c.in-Some.ensures.1 c.requires.task c.requires.tasks c.in_ok-put.ensures.ok refl

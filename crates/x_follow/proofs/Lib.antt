@@ -1,9 +1,0 @@
-pub mod CountingLemmas
-pub mod FollowLemmas
-pub mod FreshLemmas
-pub mod MoveLemmas
-pub mod PatchLemmas
-pub mod PlacingLemmas
-pub mod PlannedLemmas
-pub mod StaleLemmas
-pub mod TableLemmas

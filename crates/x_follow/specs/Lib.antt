@@ -1,4 +1,0 @@
-pub mod Following
-pub mod Moves
-pub mod Planned
-pub mod Rendered
