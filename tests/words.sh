@@ -203,3 +203,14 @@ closes() {
 in_range() {
     printf '{"range":{"start":{"line":%s,"character":%s},"end":{"line":%s,"character":%s}},"text":"%s"}' "$@"
 }
+
+# asks ID METHOD LINE CHARACTER [MORE]: a question about the document t.x; MORE stands behind its other parameters.
+asks() {
+    printf '{"jsonrpc":"2.0","id":%s,"method":"textDocument/%s","params":{"textDocument":{"uri":"file:///t.x"},"position":{"line":%s,"character":%s}%s}}' "$@"
+}
+
+# answers TEXT..: what is said in a conversation to questions, one a line, with places as LINE:CHARACTER-LINE:CHARACTER.
+answers() {
+    conversation "$@" | grep '"id":' |
+        sed -E 's/"range":\{"end":\{"character":([0-9]+),"line":([0-9]+)\},"start":\{"character":([0-9]+),"line":([0-9]+)\}\}/\4:\3-\2:\1/g'
+}

@@ -1,9 +1,14 @@
 pub mod Choices
+pub mod DeclarerLemmas
 pub mod DiagnosticLemmas
 pub mod FeedLemmas
 pub mod FrameLemmas
+pub mod ItemsLeft
+pub mod JsonLemmas
 pub mod LineLemmas
 pub mod ListLemmas
+pub mod LookupLemmas
+pub mod NamePlaceLemmas
 pub mod PositionLemmas
 pub mod SaidLemmas
 pub mod ServingLemmas

@@ -10,7 +10,9 @@ pub mod KeptSaid
 pub mod LineStarts
 pub mod Lives
 pub mod Messages
+pub mod NamePlaces
 pub mod Positions
 pub mod Publishing
 pub mod Replies
 pub mod Serving
+pub mod Sought

@@ -1,20 +1,30 @@
 -- How far a server's life is (LSP 3.17, "Server lifecycle"), and which requests it carries out then.
 use Rattle.std.specs.Prelude.{ℕ, List, Bool, true, false, bytes_eq, codes, if◌then◌else◌}
-use Rattle.std.specs.Prelude.{Option, Some, None, Result, Ok, Err}
+use Rattle.std.specs.Prelude.{Option, Some, None, Result, Ok, Err, option_map}
 use Rattle.x_lsp.specs.declared.answers.ErrorCode.{ErrorCode}
 use Rattle.x_lsp.specs.declared.answers.ErrorCode.TheVariants.{InvalidRequest, MethodNotFound, NotInitialized}
 use Rattle.x_lsp.specs.declared.answers.ErrorCode.TheVariants.{InvalidParams, InternalError, ParseError}
 use Rattle.x_lsp.specs.declared.life.Life.{Life}
 use Rattle.x_lsp.specs.declared.life.Life.TheVariants.{Fresh, Running, ShutDown, Ended}
 use Rattle.x_lsp.specs.declared.method.Method.{Method}
-use Rattle.x_lsp.specs.declared.method.Method.TheVariants.{Initialize, Shutdown}
+use Rattle.x_lsp.specs.declared.method.Method.TheVariants.{Initialize, Shutdown, Ask}
+use Rattle.x_lsp.specs.declared.method.Question.{Question}
+use Rattle.x_lsp.specs.declared.method.Question.TheVariants.{Definition, References, DocumentHighlight}
+
+-- the question about a document that has this name
+abbrev pub question_named : List ℕ → Option Question
+question_named name =
+    if bytes_eq name (codes "textDocument/definition") then Some Definition
+    else if bytes_eq name (codes "textDocument/references") then Some References
+    else if bytes_eq name (codes "textDocument/documentHighlight") then Some DocumentHighlight
+    else None
 
 -- the request of this name
 abbrev pub method_named : List ℕ → Option Method
 method_named name =
     if bytes_eq name (codes "initialize") then Some Initialize
     else if bytes_eq name (codes "shutdown") then Some Shutdown
-    else None
+    else option_map Ask (question_named name)
 
 -- whether the client has ended the server, and then, whether it had asked it to shut down
 abbrev pub end_of : Life → Option Bool
@@ -29,9 +39,11 @@ abbrev pub admitted : Life → Option Method → Result Method ErrorCode
 admitted Fresh None = Err NotInitialized
 admitted Fresh (Some Initialize) = Ok Initialize
 admitted Fresh (Some Shutdown) = Err NotInitialized
+admitted Fresh (Some (Ask question)) = Err NotInitialized
 admitted Running None = Err MethodNotFound
 admitted Running (Some Initialize) = Err InvalidRequest
 admitted Running (Some Shutdown) = Ok Shutdown
+admitted Running (Some (Ask question)) = Ok (Ask question)
 admitted ShutDown method = Err InvalidRequest
 admitted (Ended asked) method = Err InvalidRequest
 
@@ -39,6 +51,7 @@ admitted (Ended asked) method = Err InvalidRequest
 abbrev pub life_behind : Life → Method → Life
 life_behind life Initialize = Running
 life_behind life Shutdown = ShutDown
+life_behind life (Ask question) = life
 
 abbrev pub is_shut_down : Life → Bool
 is_shut_down Fresh = false

@@ -25,6 +25,9 @@ pub(crate) fn capabilities(alloc: Global, encoding: Encoding) -> Result<Value, A
     json!(in alloc; {
         "capabilities": {
             "positionEncoding": encoding,
+            "definitionProvider": true,
+            "documentHighlightProvider": true,
+            "referencesProvider": true,
             "textDocumentSync": {"openClose": true, "change": INCREMENTAL}
         },
         "serverInfo": {"name": "rpcls", "version": VERSION}

@@ -56,6 +56,7 @@ impl Life {
         match method {
             Method::Initialize => Life::Running,
             Method::Shutdown => Life::ShutDown,
+            Method::Ask(_) => self,
         }
     }
 

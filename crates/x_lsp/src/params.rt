@@ -1,6 +1,8 @@
-//! What the parameters of notifications say.
+//! What the parameters of messages say.
 
-use crate::changes::{TextChange, text_change};
+use crate::changes::{TextChange, position_in, text_change};
+use crate::encoding::Encoding;
+use crate::positions::offset_of;
 use serde_json::Value;
 use std::alloc::{AllocError, Global};
 
@@ -41,4 +43,15 @@ pub(crate) fn text_changes(
 /// The name of a document.
 pub(crate) fn uri_in(params: Option<&Value>) -> Option<&str> {
     params?.get("textDocument")?.get("uri")?.as_str()
+}
+
+/// The place of a position in a text.
+pub(crate) fn place_in(encoding: Encoding, text: &[u8], params: Option<&Value>) -> Option<usize> {
+    let position = position_in(params?.get("position")?)?;
+    Some(offset_of(encoding, text, position))
+}
+
+/// Whether the places are asked for where a name is declared.
+pub(crate) fn declared_in(params: Option<&Value>) -> Option<bool> {
+    params?.get("context")?.get("includeDeclaration")?.as_bool()
 }

@@ -22,8 +22,9 @@ use crate::encoding::Encoding;
 use crate::kept::{ChangeFault, KeptTexts, Reply, refused, shown, told};
 use crate::life::Life;
 use crate::messages::{Incoming, classify};
-use crate::method::Method;
+use crate::method::{Method, Question};
 use crate::params::{changed_in, opened_in, text_changes, uri_in};
+use crate::questions::result_of;
 use serde_json::Value;
 use std::alloc::{AllocError, Global};
 
@@ -131,6 +132,24 @@ impl Server {
                 Err(_) => Err(ErrorCode::InternalError),
             },
             Method::Shutdown => Ok(Value::Null),
+            Method::Ask(question) => self.asked(question, params),
+        }
+    }
+
+    /// The result of a question about a document, which must be open.
+    fn asked(&self, question: Question, params: Option<&Value>) -> Result<Value, ErrorCode>
+        ensures value { IfOk result (λ v. has_float (view v) ≡ false) }
+        ensures code { IfErr result (λ code. is_of_params code ≡ true) }
+    {
+        let Some(uri) = uri_in(params) else {
+            return Err(ErrorCode::InvalidParams);
+        };
+        match self.find(uri) {
+            Some(at) => {
+                let document = &self.documents[at];
+                result_of(self.alloc, self.encoding, document, question, params)
+            }
+            None => Err(ErrorCode::InvalidParams),
         }
     }
 

@@ -1,8 +1,8 @@
 //! Each public call of `x_lsp` once.
 use std::test::Fail;
 use x_lsp::{
-    Encoding, MessageReader, Places, Position, Server, TextChange, apply_change, offset_of,
-    positions_lead_back, publish, serve,
+    Encoding, MessageReader, Places, Position, Server, TextChange, apply_change, definition_at,
+    offset_of, positions_lead_back, publish, references_at, serve,
 };
 use x_session::Session;
 use x_text::{MAX_TEXT, MemSink, MemTap};
@@ -45,6 +45,16 @@ fn published_length(rt: &HostRuntime, session: &Session) -> Result<usize, Fail> 
         return Ok(0);
     }
     Ok(publish(rt.alloc(), Encoding::Utf8, "t.x", 1, session)?.len())
+}
+
+#[test]
+fn names_are_found(rt: HostRuntime) -> Result<(), Fail> {
+    let alloc = rt.alloc();
+    let session = Session::open(alloc, b"t", b"const A = 1; const B = A;")?;
+    let token = definition_at(alloc, &session, 23)?;
+    assert!(rt; token.is_some_and(|token| token.start == 6));
+    assert!(rt; references_at(alloc, &session, 6, true)?.len() == 2);
+    Ok(())
 }
 
 #[test]
