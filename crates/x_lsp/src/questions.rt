@@ -15,6 +15,7 @@ use crate::params::{declared_in, place_in};
 use crate::places::Places;
 use serde_json::Value;
 use std::alloc::Global;
+use x_lex::Token;
 use x_text::NoMemory;
 
 /// The result of a question about a document.
@@ -92,6 +93,12 @@ fn references(
 ) -> Result<Value, NoMemory>
     ensures { IfOk result (λ v. has_float (view v) ≡ false) }
 {
-    let tokens = references_at(alloc, &document.session, at, declared)?;
+    let mut tokens = references_at(alloc, &document.session, at, declared)?;
+    put_in_order(&mut tokens);
     places_value(alloc, encoding, document, &tokens, told)
+}
+
+/// Puts tokens in the order of the text, so that one walk over it finds the places of all.
+fn put_in_order(tokens: &mut Vec<Token>) {
+    tokens.sort_unstable_by_key(|token| token.start);
 }
