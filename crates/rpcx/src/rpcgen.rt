@@ -16,8 +16,8 @@ use x_args::{GenArgs, Status, complain, tell_of_file};
 use x_session::{Session, Which};
 use x_text::Sink;
 
-/// Where a run of `rpcgen` writes to. It is opened once the text was found to have no fault, so that no file is
-/// emptied for nothing.
+/// Where a run of `rpcgen` writes to. It is opened once the text was found to have no fault, so that no file
+/// is emptied for nothing.
 pub trait Output {
     /// What takes the bytes.
     type Opened: Sink + Drop;
@@ -84,9 +84,9 @@ pub fn gen_write<O: Sink, E: Sink>(
     Status::Failed
 }
 
-/// Opens the text of a file, writes what is asked for to the output, and answers the status: `Done` where that
-/// was written, `Faulty` where the text has faults, which are written one a line, and `Failed` where the run
-/// could not be carried out, which it tells.
+/// Opens the text of a file, writes what is asked for to the output, and answers the status: `Done` where
+/// that was written, `Faulty` where the text has faults, which are written one a line, and `Failed` where the
+/// run could not be carried out, which it tells.
 pub fn gen_run<O: Output, E: Sink>(
     alloc: Global,
     which: Which,

@@ -227,8 +227,8 @@ pub fn union_body(
     Ok(Body::Union(Box::new(alloc, body)?))
 }
 
-// How trees are let go, by hand: so that a crate which lets one go calls these, and need not prove anew how each
-// kind of tree is let go.
+// How trees are let go, by hand: so that a crate which lets one go calls these, and need not prove anew how
+// each kind of tree is let go.
 
 impl Drop for DataType {
     #[cycle(let_go)]
