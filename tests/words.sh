@@ -209,8 +209,84 @@ asks() {
     printf '{"jsonrpc":"2.0","id":%s,"method":"textDocument/%s","params":{"textDocument":{"uri":"file:///t.x"},"position":{"line":%s,"character":%s}%s}}' "$@"
 }
 
+# asks_of ID METHOD: a question about the whole document t.x.
+asks_of() {
+    printf '{"jsonrpc":"2.0","id":%s,"method":"textDocument/%s","params":{"textDocument":{"uri":"file:///t.x"}}}' "$@"
+}
+
 # answers TEXT..: what is said in a conversation to questions, one a line, with places as LINE:CHARACTER-LINE:CHARACTER.
 answers() {
-    conversation "$@" | grep '"id":' |
-        sed -E 's/"range":\{"end":\{"character":([0-9]+),"line":([0-9]+)\},"start":\{"character":([0-9]+),"line":([0-9]+)\}\}/\4:\3-\2:\1/g'
+    conversation "$@" | grep '"id":' | places
 }
+
+places() {
+    sed -E -e 's/\{"end":\{"character":([0-9]+),"line":([0-9]+)\},"start":\{"character":([0-9]+),"line":([0-9]+)\}\}/\4:\3-\2:\1/g' \
+        -e 's/"range"://g'
+}
+
+# outline TEXT: the symbols of a document, each behind the one around it and further in: its name and kind, its range and that of its
+# name.
+outline() {
+    conversation "$(opens "$1")" "$(asks_of 1 documentSymbol)" | grep '"id":' | python3 -c '
+import json, sys
+
+def place(position):
+    return "%d:%d" % (position["line"], position["character"])
+
+def span(range):
+    return place(range["start"]) + "-" + place(range["end"])
+
+def show(symbols, front):
+    for symbol in symbols:
+        print(front + symbol["name"], symbol["kind"], span(symbol["range"]), span(symbol["selectionRange"]))
+        show(symbol["children"], front + "  ")
+
+show(json.load(sys.stdin)["result"], "")'
+}
+
+# token_kinds ENCODINGS TEXT: the semantic tokens of a document as a client with these encodings has them: LINE:CHARACTER+LENGTH and
+# the name that the legend has for the type.
+token_kinds() {
+    serve '{"id":1,"method":"initialize","params":{"capabilities":{"general":{"positionEncodings":'"$1"'}}}}' \
+        "$(opens "$2")" "$(asks_of 2 semanticTokens/full)" | grep '"id":' | python3 -c '
+import json, sys
+
+legend, tokens = [json.loads(line)["result"] for line in sys.stdin]
+types = legend["capabilities"]["semanticTokensProvider"]["legend"]["tokenTypes"]
+data = tokens["data"]
+line = character = 0
+for at in range(0, len(data), 5):
+    lines, characters, length, type, modifiers = data[at : at + 5]
+    line += lines
+    character = characters if lines else character + characters
+    print("%d:%d+%d" % (line, character, length), types[type])'
+}
+
+# wants ID WHICH: a question for a text of the document t.x.
+wants() {
+    printf '{"jsonrpc":"2.0","id":%s,"method":"rpcgen/text","params":{"textDocument":{"uri":"file:///t.x"},"which":"%s"}}' "$@"
+}
+
+# told: the text that is the result of the line that comes.
+told() {
+    local text
+    IFS= read -r text
+    printf %b "$(sed -E -e 's/.*"result":"(.*)"\}$/\1/' -e 's/\\"/"/g' <<<"$text")."
+}
+
+# words TEXT: the words that can stand at the end of a text of one line, each with its kind.
+words() {
+    answers "$(opens "$1")" "$(asks 1 completion 0 ${#1})" | grep -o '"kind":[0-9]*,"label":"[^"]*"' |
+        sed 's/"kind":\([0-9]*\),"label":"\([^"]*\)"/\2:\1/' | paste -sd ' '
+}
+
+# refusals TEXT..: the codes and ids of the answers that refuse these messages to a fresh server, with how many there are of each.
+refusals() {
+    serve "$@" | sed -E 's/.*"code":(-?[0-9]+),.*"id":(.*),"jsonrpc":.*/\1 \2/' | uniq -c | sed 's/^ *//'
+}
+
+# notes: of the messages that come, the last parts of their methods, on one line.
+notes() { grep -oE '"method":"[^"]*"' | sed 's|.*/||; s|"||' | paste -sd ' '; }
+
+# repeat COUNT TEXT: the text so often.
+repeat() { yes "$2" | head -n "$1" | tr -d '\n'; }

@@ -9,6 +9,7 @@ pub mod LineLemmas
 pub mod ListLemmas
 pub mod LookupLemmas
 pub mod NamePlaceLemmas
+pub mod PassedLineLemmas
 pub mod PositionLemmas
 pub mod SaidLemmas
 pub mod ServingLemmas

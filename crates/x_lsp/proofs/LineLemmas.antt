@@ -223,6 +223,18 @@ one_more (suc n) (b ∷ rest) = go (λ m. one_more m rest) (ends_line b rest) re
         on_false (ends_line b rest) (behind_lines (suc n) rest) (behind_lines (suc (suc n)) rest) is ∙ next (suc n)
         ∙ ap (behind_lines 1) (sym (on_false (ends_line b rest) (behind_lines n rest) (behind_lines (suc n) rest) is))
 
+lines_more : (n m : ℕ) (text : List ℕ) → behind_lines (n + m) text ≡ behind_lines n (behind_lines m text)
+lines_more zero m text = ap (λ k. behind_lines k text) (zero-add m)
+lines_more (suc n) m text =
+    let next : suc n + m ≡ suc (n + m) = omega arith in
+    ap (λ k. behind_lines k text) next ∙ one_more (n + m) text ∙ ap (behind_lines 1) (lines_more n m text) ∙ sym (one_more n (behind_lines m text))
+
+-- what stands behind a line is found behind an earlier one
+pub lines_apart : (from to : ℕ) (text : List ℕ) → from ≤ to → behind_lines (to - from) (behind_lines from text) ≡ behind_lines to text
+lines_apart from to text le =
+    let e : to - from + from ≡ to = omega arith in
+    sym (lines_more (to - from) from text) ∙ ap (λ n. behind_lines n text) e
+
 pub first_start : (text : List ℕ) → IsLineStart text 0 0
 first_start text = record { within = omega arith; few = omega arith; before = refl; behind = refl }
 

@@ -1,5 +1,5 @@
 -- The name at a place, its definition and its uses, of one compilation of a text.
-use Rattle.std.proofs.Common.{◌≡◌, ℕ, Bool, Bor, true, false, cond, List, [], Option, None, Some, Result, Ok, Err, refl, ap, subst, ◌∙◌}
+use Rattle.std.proofs.Common.{◌≡◌, ℕ, Bool, Bor, true, false, cond, List, Option, None, Some, Result, Ok, Err, refl, ap, subst, ◌∙◌}
 use Rattle.std.specs.Prelude.{◌&&◌, IfOk, option_and_then, option_map}
 use Rattle.x_lex.specs.Places.{Lexeme, lexeme}
 use Rattle.x_lex.specs.declared.tokens.token.Token.{Token}
@@ -52,6 +52,3 @@ pub references_named : (text : List ℕ) (at : ℕ) (declared : Bool) (name : Li
 references_named text at declared name ts named found =
     let b = both text (λ items. Some name ≡ name_at items at) (λ items. ts ≡ uses_of items declared name) named found in
     (b.0, b.1, b.2, b.3.1 ∙ ap (references_of b.1 declared) b.3.0)
-
-pub references_unnamed : (text : List ℕ) (at : ℕ) (declared : Bool) (ts : List Lexeme) → ts ≡ [] → Compiles text (λ items. None ≡ name_at items at) → Compiles text (λ items. ts ≡ references_of items declared (name_at items at))
-references_unnamed text at declared ts none named = (named.0, named.1, named.2, none ∙ ap (references_of named.1 declared) named.3)

@@ -1,5 +1,5 @@
 -- The tokens at which names stand that are sought.
-use Rattle.std.proofs.Common.{◌≡◌, ℕ, zero, suc, ◌+◌, ◌<◌, ◌≤◌, ◌^◌, Bool, true, false, cond, get_or, List, [], ◌∷◌, ◌++◌, length, map, take, drop, filter, Option, None, Some, refl, ap, sym, subst, ◌∙◌, append_assoc, arith}
+use Rattle.std.proofs.Common.{◌≡◌, ℕ, zero, suc, ◌+◌, ◌<◌, ◌≤◌, Bool, true, false, cond, get_or, List, [], ◌∷◌, ◌++◌, length, map, drop, filter, Option, None, Some, refl, ap, sym, subst, ◌∙◌, append_assoc, arith}
 use Rattle.std.specs.Prelude.{slice_get}
 use Rattle.std.specs.List.{flat_map}
 use Rattle.std.proofs.lemmas.List.{append-nil, map-append, length-map}
@@ -12,12 +12,12 @@ use Rattle.x_trees.specs.Tree.{Definition}
 use Rattle.x_trees.specs.Names.{Declared, declared}
 use Rattle.x_trees.specs.Mentions.{Mention, mentioned}
 use Rattle.x_trees.specs.Spell.{spell}
-use Rattle.x_trees.specs.Words.{is_significant, word_of, words_of}
+use Rattle.x_trees.specs.Words.{is_significant, word_of}
 use Rattle.x_item.specs.Parse.{Parse, Nothing, Def, Fault, IsParse}
 use Rattle.x_compile.specs.Compile.{Item, IsCompilation, definition_at, parsed_definition, tokens_of}
 use Rattle.x_compile.proofs.Compiled.{one_compilation}
 use Rattle.x_session.specs.Session.{Compiles}
-use Rattle.x_lsp.specs.declared.name_places.Standing.{Standing}
+use Rattle.x_lsp.specs.declared.questions.name_places.Standing.{Standing}
 use Rattle.x_lsp.specs.NamePlaces.{NamePlace, declared_on, mentioned_on, name_on, names_by, names_of, tokens_where, words_in}
 use Rattle.x_lsp.proofs.ItemsLeft.{AreLeft, item_at, next_item_is}
 

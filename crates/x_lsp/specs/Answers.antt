@@ -8,10 +8,11 @@ use Rattle.serde_json.specs.Read.{read}
 use Rattle.serde_json.specs.Written.{compact_text}
 use Rattle.x_lsp.specs.declared.answers.ErrorCode.{ErrorCode}
 use Rattle.x_lsp.specs.declared.answers.ErrorCode.TheVariants.{ParseError, InvalidRequest, MethodNotFound}
-use Rattle.x_lsp.specs.declared.answers.ErrorCode.TheVariants.{InvalidParams, InternalError, NotInitialized}
+use Rattle.x_lsp.specs.declared.answers.ErrorCode.TheVariants.{InvalidParams, InternalError, RequestFailed}
+use Rattle.x_lsp.specs.declared.answers.ErrorCode.TheVariants.{NotInitialized}
 use Rattle.x_lsp.specs.declared.life.Life.{Life}
 use Rattle.x_lsp.specs.declared.method.Method.{Method}
-use Rattle.x_lsp.specs.Lives.{admitted, is_of_params, life_behind, life_noted, method_named}
+use Rattle.x_lsp.specs.Lives.{admitted, is_of_request, life_behind, life_noted, method_named}
 use Rattle.x_lsp.specs.Messages.{Asked, asked_by, request, notification, response, invalid}
 
 -- the number of an error
@@ -21,6 +22,7 @@ error_number InvalidRequest = negsuc 32599
 error_number MethodNotFound = negsuc 32600
 error_number InvalidParams = negsuc 32601
 error_number InternalError = negsuc 32602
+error_number RequestFailed = negsuc 32802
 error_number NotInitialized = negsuc 32001
 
 -- the name of an error
@@ -30,6 +32,7 @@ error_name InvalidRequest = codes "the message is no request"
 error_name MethodNotFound = codes "the method is not known"
 error_name InvalidParams = codes "the parameters are wrong"
 error_name InternalError = codes "out of memory"
+error_name RequestFailed = codes "the new name is none, or is declared"
 error_name NotInitialized = codes "the server is not initialized"
 
 abbrev pub version_member : Members → Members
@@ -79,12 +82,12 @@ IsRefused id code said =
     (text : List ℕ) × (said ≡ Some text) × (IsRefusal id code text ⊎ IsRefusal null InternalError text)
 
 -- A request that is carried out gets one answer, with its id, and leaves this life: a result; or an error, as
--- its parameters are wrong or memory ran out, and then the life stays.
+-- its parameters are wrong, it asks for what may not be, or memory ran out, and then the life stays.
 pub data IsToMethod (life : Life) (id : Data) (method : Method) (said : Option (List ℕ))
     (life' : Life) : Type 0 where
   answered : (result : Data) → said ≡ Some (compact_text (answer_data id result))
       → life' ≡ life_behind life method → IsToMethod life id method said life'
-  failed : (code : ErrorCode) → is_of_params code ≡ true → IsRefused id code said → life' ≡ life
+  failed : (code : ErrorCode) → is_of_request code ≡ true → IsRefused id code said → life' ≡ life
       → IsToMethod life id method said life'
 
 -- what is said to a request in a server's life, and the life behind it

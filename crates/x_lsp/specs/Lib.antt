@@ -1,6 +1,7 @@
 pub mod Answers
 pub mod Changes
 pub mod Diagnostics
+pub mod DocumentTexts
 pub mod Documents
 pub mod Encodings
 pub mod FeedStarts
@@ -11,8 +12,10 @@ pub mod LineStarts
 pub mod Lives
 pub mod Messages
 pub mod NamePlaces
+pub mod PassedLines
 pub mod Positions
 pub mod Publishing
 pub mod Replies
 pub mod Serving
 pub mod Sought
+pub mod Symbols

@@ -4,20 +4,47 @@ use Rattle.std.specs.Prelude.{Option, Some, None, Result, Ok, Err, option_map}
 use Rattle.x_lsp.specs.declared.answers.ErrorCode.{ErrorCode}
 use Rattle.x_lsp.specs.declared.answers.ErrorCode.TheVariants.{InvalidRequest, MethodNotFound, NotInitialized}
 use Rattle.x_lsp.specs.declared.answers.ErrorCode.TheVariants.{InvalidParams, InternalError, ParseError}
+use Rattle.x_lsp.specs.declared.answers.ErrorCode.TheVariants.{RequestFailed}
 use Rattle.x_lsp.specs.declared.life.Life.{Life}
 use Rattle.x_lsp.specs.declared.life.Life.TheVariants.{Fresh, Running, ShutDown, Ended}
 use Rattle.x_lsp.specs.declared.method.Method.{Method}
 use Rattle.x_lsp.specs.declared.method.Method.TheVariants.{Initialize, Shutdown, Ask}
 use Rattle.x_lsp.specs.declared.method.Question.{Question}
-use Rattle.x_lsp.specs.declared.method.Question.TheVariants.{Definition, References, DocumentHighlight}
+use Rattle.x_lsp.specs.declared.method.Question.TheVariants.{OfDocument, OfPosition}
+use Rattle.x_lsp.specs.declared.method.DocumentQuestion.{DocumentQuestion}
+use Rattle.x_lsp.specs.declared.method.DocumentQuestion.TheVariants.{Symbols, Folds, Tokens, Text}
+use Rattle.x_lsp.specs.declared.method.PositionQuestion.{PositionQuestion}
+use Rattle.x_lsp.specs.declared.method.PositionQuestion.TheVariants.{Definition, References, Highlights}
+use Rattle.x_lsp.specs.declared.method.PositionQuestion.TheVariants.{Hover, Completion, PrepareRename, Rename}
+
+-- the question about a whole document that has this name, and that about a position in one
+abbrev pub document_question_named : List ℕ → Option DocumentQuestion
+document_question_named name =
+    if bytes_eq name (codes "textDocument/documentSymbol") then Some Symbols
+    else if bytes_eq name (codes "textDocument/foldingRange") then Some Folds
+    else if bytes_eq name (codes "textDocument/semanticTokens/full") then Some Tokens
+    else if bytes_eq name (codes "rpcgen/text") then Some Text
+    else None
+
+abbrev pub position_question_named : List ℕ → Option PositionQuestion
+position_question_named name =
+    if bytes_eq name (codes "textDocument/definition") then Some Definition
+    else if bytes_eq name (codes "textDocument/references") then Some References
+    else if bytes_eq name (codes "textDocument/documentHighlight") then Some Highlights
+    else if bytes_eq name (codes "textDocument/hover") then Some Hover
+    else if bytes_eq name (codes "textDocument/completion") then Some Completion
+    else if bytes_eq name (codes "textDocument/prepareRename") then Some PrepareRename
+    else if bytes_eq name (codes "textDocument/rename") then Some Rename
+    else None
+
+abbrev pub either_question : Option DocumentQuestion → Option PositionQuestion → Option Question
+either_question (Some question) other = Some (OfDocument question)
+either_question None (Some question) = Some (OfPosition question)
+either_question None None = None
 
 -- the question about a document that has this name
 abbrev pub question_named : List ℕ → Option Question
-question_named name =
-    if bytes_eq name (codes "textDocument/definition") then Some Definition
-    else if bytes_eq name (codes "textDocument/references") then Some References
-    else if bytes_eq name (codes "textDocument/documentHighlight") then Some DocumentHighlight
-    else None
+question_named name = either_question (document_question_named name) (position_question_named name)
 
 -- the request of this name
 abbrev pub method_named : List ℕ → Option Method
@@ -63,11 +90,13 @@ is_shut_down (Ended asked) = false
 abbrev pub life_noted : Life → List ℕ → Life
 life_noted life method = if bytes_eq method (codes "exit") then Ended (is_shut_down life) else life
 
--- an error of a request that was carried out: its parameters are wrong, or memory ran out
-abbrev pub is_of_params : ErrorCode → Bool
-is_of_params ParseError = false
-is_of_params InvalidRequest = false
-is_of_params MethodNotFound = false
-is_of_params InvalidParams = true
-is_of_params InternalError = true
-is_of_params NotInitialized = false
+-- an error of a request that was carried out: its parameters are wrong, it asks for what may not be, or
+-- memory ran out
+abbrev pub is_of_request : ErrorCode → Bool
+is_of_request ParseError = false
+is_of_request InvalidRequest = false
+is_of_request MethodNotFound = false
+is_of_request InvalidParams = true
+is_of_request InternalError = true
+is_of_request RequestFailed = true
+is_of_request NotInitialized = false

@@ -11,8 +11,8 @@ use Rattle.x_trees.specs.Mentions.{Mention, mentioned}
 use Rattle.x_names.specs.Declarers.{first_declarer}
 use Rattle.x_names.specs.declared.names.Declarer.{Declarer}
 use Rattle.x_compile.specs.Compile.{Item, definitions_of, parsed_definition}
-use Rattle.x_lsp.specs.declared.name_places.Standing.{Standing}
-use Rattle.x_lsp.specs.declared.name_places.Standing.TheVariants.{Declares, Lifts, Uses}
+use Rattle.x_lsp.specs.declared.questions.name_places.Standing.{Standing}
+use Rattle.x_lsp.specs.declared.questions.name_places.Standing.TheVariants.{Declares, Lifts, Uses}
 
 -- a name, the token where it stands, and what it does there
 pub record NamePlace : Type 0 where

@@ -2,10 +2,11 @@
 use Rattle.std.specs.Prelude.{◌&&◌, ◌||◌, not, Bool}
 use Rattle.std.specs.Str.{bytes_eq}
 use Rattle.x_lsp.specs.NamePlaces.{NamePlace, is_own, is_use, touches}
-use Rattle.x_lsp.specs.declared.name_places.Sought.{Sought}
-use Rattle.x_lsp.specs.declared.name_places.Sought.TheVariants.{At, Declaring, Using}
+use Rattle.x_lsp.specs.declared.questions.name_places.Sought.{Sought}
+use Rattle.x_lsp.specs.declared.questions.name_places.Sought.TheVariants.{Own, At, Declaring, Using}
 
 abbrev pub is_sought : Sought → NamePlace → Bool
+is_sought Own n = is_own n.standing
 is_sought (At at) n = is_own n.standing && touches n.token at
 is_sought (Declaring name) n = not (is_use n.standing) && bytes_eq name.now n.name
 is_sought (Using name declared) n = bytes_eq name.now n.name && (declared || is_use n.standing)

@@ -22,6 +22,8 @@ pub(crate) enum ErrorCode {
     InvalidParams,
     /// Memory ran out.
     InternalError,
+    /// It asks for what may not be: a name that is none, or is declared.
+    RequestFailed,
     /// No request came before that initializes the server.
     NotInitialized,
 }
@@ -36,6 +38,7 @@ impl ErrorCode {
             ErrorCode::MethodNotFound => -32601,
             ErrorCode::InvalidParams => -32602,
             ErrorCode::InternalError => -32603,
+            ErrorCode::RequestFailed => -32803,
             ErrorCode::NotInitialized => -32002,
         }
     }
@@ -49,6 +52,7 @@ impl ErrorCode {
             ErrorCode::MethodNotFound => "the method is not known",
             ErrorCode::InvalidParams => "the parameters are wrong",
             ErrorCode::InternalError => "out of memory",
+            ErrorCode::RequestFailed => "the new name is none, or is declared",
             ErrorCode::NotInitialized => "the server is not initialized",
         }
     }

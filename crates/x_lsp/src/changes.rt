@@ -5,7 +5,7 @@ ghost use Rattle.x_text.specs.Edits.{edited_by, Judges};
 ghost use Rattle.x_lsp.specs.Changes.{change_by};
 
 use crate::encoding::Encoding;
-use crate::positions::{Position, offset_of};
+use crate::positions::{Position, offsets_of};
 use serde_json::Value;
 use x_session::{EditFault, Session, Work};
 use x_text::Edit;
@@ -43,10 +43,7 @@ pub fn apply_change(
     let text = session.bytes();
     let (start, end) = match &change.range {
         None => (0, text.len()),
-        Some(range) => (
-            offset_of(encoding, text, range.start),
-            offset_of(encoding, text, range.end),
-        ),
+        Some(range) => offsets_of(encoding, text, range),
     };
     let edit = Edit {
         start,

@@ -62,8 +62,8 @@ impl OpenDocument {
         ensures { Publishes encoding (string_bytes self.old.uri) version
             (changed_by_all encoding self.old.session.text changes.now) (said_of result) }
     {
-        let goes_on = changes.first().is_some_and(|change| change.range.is_some());
-        if goes_on && !self.in_step {
+        let is_sent_whole = changes.first().is_some_and(|change| change.range.is_none());
+        if !self.in_step && !is_sent_whole {
             return told(alloc, ChangeFault::OutOfStep);
         }
         self.in_step = false;

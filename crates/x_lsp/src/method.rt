@@ -1,7 +1,8 @@
 //! The requests that the server knows.
 
 ghost use Rattle.std.specs.Prelude.{◌≡◌};
-ghost use Rattle.x_lsp.specs.Lives.{method_named, question_named};
+ghost use Rattle.x_lsp.specs.Lives.{document_question_named, method_named, position_question_named};
+ghost use Rattle.x_lsp.specs.Lives.{question_named};
 
 /// A request that the server knows.
 #[derive(Clone, Copy, Debug, PartialEq, Eq)]
@@ -15,12 +16,42 @@ pub(crate) enum Method {
 /// A question about a document.
 #[derive(Clone, Copy, Debug, PartialEq, Eq)]
 pub(crate) enum Question {
-    /// Where is the name at a position declared first?
+    /// About the whole of it.
+    OfDocument(DocumentQuestion),
+    /// About a position in it.
+    OfPosition(PositionQuestion),
+}
+
+/// A question about a whole document.
+#[derive(Clone, Copy, Debug, PartialEq, Eq)]
+pub(crate) enum DocumentQuestion {
+    /// What does it define?
+    Symbols,
+    /// Which of its lines can be folded away?
+    Folds,
+    /// What is each of its tokens?
+    Tokens,
+    /// What is generated of it, or what is wrong with it?
+    Text,
+}
+
+/// A question about a position in a document.
+#[derive(Clone, Copy, Debug, PartialEq, Eq)]
+pub(crate) enum PositionQuestion {
+    /// Where is the name there declared first?
     Definition,
     /// Where is it used?
     References,
     /// Where does it stand in the document?
-    DocumentHighlight,
+    Highlights,
+    /// What is it?
+    Hover,
+    /// Which words can stand there?
+    Completion,
+    /// May it be renamed?
+    PrepareRename,
+    /// What renames it?
+    Rename,
 }
 
 impl Method {
@@ -46,12 +77,54 @@ impl Question {
     fn named(name: &str) -> Option<Question>
         ensures { result ≡ question_named name.now }
     {
+        match DocumentQuestion::named(name) {
+            Some(question) => Some(Question::OfDocument(question)),
+            None => match PositionQuestion::named(name) {
+                Some(question) => Some(Question::OfPosition(question)),
+                None => None,
+            },
+        }
+    }
+}
+
+impl DocumentQuestion {
+    /// The question of this name.
+    fn named(name: &str) -> Option<DocumentQuestion>
+        ensures { result ≡ document_question_named name.now }
+    {
+        if name == "textDocument/documentSymbol" {
+            Some(DocumentQuestion::Symbols)
+        } else if name == "textDocument/foldingRange" {
+            Some(DocumentQuestion::Folds)
+        } else if name == "textDocument/semanticTokens/full" {
+            Some(DocumentQuestion::Tokens)
+        } else if name == "rpcgen/text" {
+            Some(DocumentQuestion::Text)
+        } else {
+            None
+        }
+    }
+}
+
+impl PositionQuestion {
+    /// The question of this name.
+    fn named(name: &str) -> Option<PositionQuestion>
+        ensures { result ≡ position_question_named name.now }
+    {
         if name == "textDocument/definition" {
-            Some(Question::Definition)
+            Some(PositionQuestion::Definition)
         } else if name == "textDocument/references" {
-            Some(Question::References)
+            Some(PositionQuestion::References)
         } else if name == "textDocument/documentHighlight" {
-            Some(Question::DocumentHighlight)
+            Some(PositionQuestion::Highlights)
+        } else if name == "textDocument/hover" {
+            Some(PositionQuestion::Hover)
+        } else if name == "textDocument/completion" {
+            Some(PositionQuestion::Completion)
+        } else if name == "textDocument/prepareRename" {
+            Some(PositionQuestion::PrepareRename)
+        } else if name == "textDocument/rename" {
+            Some(PositionQuestion::Rename)
         } else {
             None
         }

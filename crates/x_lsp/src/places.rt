@@ -1,68 +1,98 @@
 //! The positions of places.
 
-ghost use Rattle.std.specs.Prelude.{◌≡◌, ◌≤◌, ◌-◌, drop, length};
+ghost use Rattle.std.specs.Prelude.{◌≡◌, ◌≤◌, ◌-◌, ◌*◌, drop, length};
 ghost use Rattle.x_text.specs.Limits.{most_text};
 ghost use Rattle.x_lsp.specs.LineStarts.{IsLineStart};
-ghost use Rattle.x_lsp.specs.Positions.{lines_before, position_of, units_before};
+ghost use Rattle.x_lsp.specs.PassedLines.{IsLine};
+ghost use Rattle.x_lsp.specs.Positions.{first_line, lines_before, position_of, units_before};
 
 use crate::encoding::Encoding;
 use crate::positions::{Position, behind, first_line, line_end};
 use std::marker::Model;
 
-/// A line of a text, and where it starts.
+/// A line of a text.
 #[derive(Clone, Copy, Debug)]
-struct LineStart {
-    line: usize,
+struct Line {
+    number: usize,
+    /// Where it starts.
     start: usize,
+    /// How many bytes it has, without its end.
+    length: usize,
+    /// How far behind its start the next one starts, if there is one.
+    next: Option<usize>,
+}
+
+impl Line {
+    /// The line that starts at a place.
+    fn at(text: &[u8], number: usize, start: usize) -> Line
+        requires { IsLineStart text.now number start }
+        ensures line { IsLine text.now result }
+        ensures start { result.start ≡ start }
+    {
+        let rest = behind(text, start);
+        Line {
+            number,
+            start,
+            length: first_line(rest).len(),
+            next: line_end(rest),
+        }
+    }
 }
 
 /// The first line of a text.
-const FIRST: LineStart = LineStart { line: 0, start: 0 };
+#[tactic(auto, using(crate::proofs::LineLemmas::first_start))]
+fn first(text: &[u8]) -> Line
+    ensures line { IsLine text.now result }
+    ensures start { result.start ≡ 0 }
+{
+    Line::at(text, 0, 0)
+}
 
 /// The last line that starts at a place or before it, from one that does on.
-fn last_start(text: &[u8], from: LineStart, at: usize) -> LineStart
-    requires from { IsLineStart text.now from.line from.start }
+fn last_line(text: &[u8], from: Line, at: usize) -> Line
+    requires from { IsLine text.now from }
     requires before { from.start ≤ at }
-    ensures start { IsLineStart text.now result.line result.start }
+    ensures line { IsLine text.now result }
     ensures before { result.start ≤ at }
     ensures last { lines_before (drop result.start text.now) (at - result.start) ≡ 0 }
 {
     let mut found = from;
     'lines: loop {
-        let Some(end) = line_end(behind(text, found.start)) else {
+        let Some(next) = found.next else {
             return found;
         };
-        if end > at - found.start {
+        if next > at - found.start {
             return found;
         }
-        found = LineStart {
-            line: found.line + 1,
-            start: found.start + end,
-        };
+        found = Line::at(text, found.number + 1, found.start + next);
     }
 }
 
-/// Tells the positions of places of a text. Places that are asked for in order are found in one pass over it.
+/// Tells the positions of places of a text. Places that are asked for in order are found in one pass over it,
+/// however long its lines are.
 #[derive(Debug, Drop)]
 pub struct Places<'s> {
     encoding: Encoding,
     text: &'s [u8],
     /// The line of the place that was asked for last.
-    found: LineStart,
+    line: Line,
+    /// How many bytes of the line stand before that place, and how many units they have.
+    bytes: usize,
+    units: usize,
 }
 
 impl<'s> Model for Places<'s> {
-    ghost use Rattle.std.specs.Prelude.{◌≡◌, ◌≤◌, drop, length};
+    ghost use Rattle.std.specs.Prelude.{◌≡◌, ◌≤◌, length};
     ghost use Rattle.x_text.specs.Limits.{most_text};
     ghost use Rattle.x_lsp.specs.Positions.{EncodedText};
-    ghost use Rattle.x_lsp.specs.LineStarts.{IsLineStart};
+    ghost use Rattle.x_lsp.specs.PassedLines.{IsLine, HasUnits};
 
     ghost Value = { EncodedText };
 
     ghost view = { λ p. record { encoding = p.encoding; text = p.text.now } };
 
-    ghost invariant = { λ p.
-        (length p.text.now ≤ most_text) × IsLineStart p.text.now p.found.line p.found.start };
+    ghost invariant = { λ p. (length p.text.now ≤ most_text) × IsLine p.text.now p.line
+        × HasUnits p.encoding p.text.now p.line p.bytes p.units };
 }
 
 impl<'s> Places<'s> {
@@ -74,7 +104,9 @@ impl<'s> Places<'s> {
         Places {
             encoding,
             text,
-            found: FIRST,
+            line: first(text),
+            bytes: 0,
+            units: 0,
         }
     }
 
@@ -83,29 +115,52 @@ impl<'s> Places<'s> {
         ensures position { result ≡ position_of self.old.encoding self.old.text at }
         ensures same { self.new ≡ self.old }
     {
-        let from = if at < self.found.start {
-            FIRST
+        let from = if at < self.line.start {
+            first(self.text)
         } else {
-            self.found
+            self.line
         };
-        let found = last_start(self.text, from, at);
-        self.found = found;
-        let line = first_line(behind(self.text, found.start));
+        let line = last_line(self.text, from, at);
+        let bytes = (at - line.start).min(line.length);
+        let units = self.units_in(line, bytes);
+        self.line = line;
+        self.bytes = bytes;
+        self.units = units;
         Position {
-            line: found.line,
-            character: units_before(self.encoding, line, at - found.start),
+            line: line.number,
+            character: units,
+        }
+    }
+
+    /// How many units so many bytes of a line have.
+    fn units_in(&self, line: Line, bytes: usize) -> usize
+        requires line { IsLine self.now.text line }
+        requires bytes { bytes ≤ line.length }
+        ensures units { result
+            ≡ units_before self.now.encoding (first_line (drop line.start self.now.text)) bytes }
+        ensures few { result ≤ 4 * bytes }
+    {
+        let content = &self.text[line.start..line.start + line.length];
+        if line.start == self.line.start && self.bytes <= bytes {
+            units_behind(self.encoding, content, self.bytes, self.units, bytes)
+        } else {
+            units_behind(self.encoding, content, 0, 0, bytes)
         }
     }
 }
 
-/// How many units stand in a line before a place of it.
-fn units_before(encoding: Encoding, line: &[u8], at: usize) -> usize
-    requires { length line.now ≤ most_text }
-    ensures { result ≡ units_before encoding line.now at }
+/// How many units stand in a line before a place of it, by those before an earlier one.
+fn units_behind(encoding: Encoding, line: &[u8], from: usize, units: usize, to: usize) -> usize
+    requires line { length line.now ≤ most_text }
+    requires from { from ≤ to }
+    requires to { to ≤ length line.now }
+    requires units { units ≡ units_before encoding line.now from }
+    requires few { units ≤ 4 * from }
+    ensures units { result ≡ units_before encoding line.now to }
+    ensures few { result ≤ 4 * to }
 {
-    let front = &line[..at.min(line.len())];
-    let mut units = 0;
-    for byte in front {
+    let mut units = units;
+    for byte in &line[from..to] {
         units += encoding.unit(*byte);
     }
     units

@@ -1,9 +1,10 @@
 //! The places of positions.
 
-ghost use Rattle.std.specs.Prelude.{◌≡◌, ◌≤◌, drop, length};
+ghost use Rattle.std.specs.Prelude.{◌≡◌, ◌+◌, ◌-◌, ◌≤◌, drop, length};
 ghost use Rattle.x_lsp.specs.Positions.{behind_lines, first_line, line_end, offset_of};
 ghost use Rattle.x_lsp.specs.Positions.{place_within, starts_feed};
 
+use crate::changes::Range;
 use crate::encoding::Encoding;
 use memchr::memchr2;
 
@@ -23,8 +24,34 @@ pub fn offset_of(encoding: Encoding, text: &[u8], position: Position) -> usize
     ensures within { result ≤ length text.now }
 {
     let rest = behind_lines(text, position.line);
-    let line = first_line(rest);
-    text.len() - rest.len() + place_within(encoding, line, position.character)
+    offset_in_line(encoding, text, rest, position.character)
+}
+
+/// The places of a range's start and end. That of the end is found from the start's line on, so that the
+/// lines before it are gone over once.
+#[tactic(auto, using(crate::proofs::LineLemmas::lines_apart))]
+pub(crate) fn offsets_of(encoding: Encoding, text: &[u8], range: &Range) -> (usize, usize)
+    ensures start { result.0 ≡ offset_of encoding text.now range.now.start }
+    ensures end { result.1 ≡ offset_of encoding text.now range.now.end }
+{
+    let Range { start, end } = *range;
+    let rest = behind_lines(text, start.line);
+    let first = offset_in_line(encoding, text, rest, start.character);
+    if end.line < start.line {
+        return (first, offset_of(encoding, text, end));
+    }
+    let rest = behind_lines(rest, end.line - start.line);
+    (first, offset_in_line(encoding, text, rest, end.character))
+}
+
+/// The place of a character of the line that the rest of a text begins with.
+fn offset_in_line(encoding: Encoding, text: &[u8], rest: &[u8], character: usize) -> usize
+    requires { length rest.now ≤ length text.now }
+    ensures place { result ≡ (length text.now - length rest.now)
+        + place_within encoding (first_line rest.now) character }
+    ensures within { result ≤ length text.now }
+{
+    text.len() - rest.len() + place_within(encoding, first_line(rest), character)
 }
 
 /// What stands behind so many line ends.

@@ -3,18 +3,43 @@
 ghost use Rattle.std.specs.Prelude.{◌≡◌, false, true, IfErr, IfOk};
 ghost use Rattle.serde_json.specs.View.{view};
 ghost use Rattle.serde_json.specs.Written.{has_float};
-ghost use Rattle.x_lsp.specs.Lives.{is_of_params};
+ghost use Rattle.x_lsp.specs.Lives.{is_of_request};
+
+mod completion;
+mod constants;
+mod cursor;
+mod folds;
+mod generated;
+mod hover;
+mod locations;
+mod lookups;
+mod name_places;
+mod parts;
+mod renaming;
+mod sizes;
+mod surroundings;
+mod symbols;
+mod text_names;
+mod text_sink;
+mod token_kinds;
 
 use crate::answers::ErrorCode;
 use crate::document::OpenDocument;
 use crate::encoding::Encoding;
-use crate::locations::{Told, place_value, places_value, range_of};
-use crate::lookups::{definition_at, references_at};
-use crate::method::Question;
-use crate::params::{declared_in, place_in};
+use crate::method::{DocumentQuestion, PositionQuestion, Question};
+use crate::params::{declared_in, new_name_in, place_in, which_in};
 use crate::places::Places;
+use completion::completion;
+use folds::folds;
+use generated::text;
+use hover::hover;
+use locations::{Told, place_value, places_value, range_of};
+pub use lookups::{definition_at, references_at};
+use renaming::{rename, renamed_range};
 use serde_json::Value;
 use std::alloc::Global;
+use symbols::symbols;
+use token_kinds::token_kinds;
 use x_lex::Token;
 use x_text::NoMemory;
 
@@ -27,14 +52,57 @@ pub(crate) fn result_of(
     params: Option<&Value>,
 ) -> Result<Value, ErrorCode>
     ensures value { IfOk result (λ v. has_float (view v) ≡ false) }
-    ensures code { IfErr result (λ code. is_of_params code ≡ true) }
+    ensures code { IfErr result (λ code. is_of_request code ≡ true) }
+{
+    match question {
+        Question::OfDocument(question) => {
+            result_of_document(alloc, encoding, document, question, params)
+        }
+        Question::OfPosition(question) => {
+            result_of_position(alloc, encoding, document, question, params)
+        }
+    }
+}
+
+/// The result of a question about a whole document.
+fn result_of_document(
+    alloc: Global,
+    encoding: Encoding,
+    document: &OpenDocument,
+    question: DocumentQuestion,
+    params: Option<&Value>,
+) -> Result<Value, ErrorCode>
+    ensures value { IfOk result (λ v. has_float (view v) ≡ false) }
+    ensures code { IfErr result (λ code. is_of_request code ≡ true) }
+{
+    match question {
+        DocumentQuestion::Symbols => found(symbols(alloc, encoding, document)),
+        DocumentQuestion::Folds => found(folds(alloc, document)),
+        DocumentQuestion::Tokens => found(token_kinds(alloc, encoding, document)),
+        DocumentQuestion::Text => match which_in(params) {
+            Some(wanted) => found(text(alloc, document, wanted)),
+            None => Err(ErrorCode::InvalidParams),
+        },
+    }
+}
+
+/// The result of a question about a position in a document.
+fn result_of_position(
+    alloc: Global,
+    encoding: Encoding,
+    document: &OpenDocument,
+    question: PositionQuestion,
+    params: Option<&Value>,
+) -> Result<Value, ErrorCode>
+    ensures value { IfOk result (λ v. has_float (view v) ≡ false) }
+    ensures code { IfErr result (λ code. is_of_request code ≡ true) }
 {
     let Some(at) = place_in(encoding, document.session.bytes(), params) else {
         return Err(ErrorCode::InvalidParams);
     };
     match question {
-        Question::Definition => found(definition(alloc, encoding, document, at)),
-        Question::References => match declared_in(params) {
+        PositionQuestion::Definition => found(definition(alloc, encoding, document, at)),
+        PositionQuestion::References => match declared_in(params) {
             Some(declared) => found(references(
                 alloc,
                 encoding,
@@ -45,9 +113,16 @@ pub(crate) fn result_of(
             )),
             None => Err(ErrorCode::InvalidParams),
         },
-        Question::DocumentHighlight => {
+        PositionQuestion::Highlights => {
             found(references(alloc, encoding, document, at, true, Told::Highlight))
         }
+        PositionQuestion::Hover => found(hover(alloc, encoding, document, at)),
+        PositionQuestion::Completion => found(completion(alloc, document, at)),
+        PositionQuestion::PrepareRename => found(renamed_range(alloc, encoding, document, at)),
+        PositionQuestion::Rename => match new_name_in(params) {
+            Some(name) => rename(alloc, encoding, document, at, name),
+            None => Err(ErrorCode::InvalidParams),
+        },
     }
 }
 
@@ -55,7 +130,7 @@ pub(crate) fn result_of(
 fn found(value: Result<Value, NoMemory>) -> Result<Value, ErrorCode>
     requires { IfOk value (λ v. has_float (view v) ≡ false) }
     ensures value { IfOk result (λ v. has_float (view v) ≡ false) }
-    ensures code { IfErr result (λ code. is_of_params code ≡ true) }
+    ensures code { IfErr result (λ code. is_of_request code ≡ true) }
 {
     match value {
         Ok(value) => Ok(value),

@@ -8,7 +8,7 @@ ghost use Rattle.serde_json.specs.Written.{has_float};
 ghost use Rattle.x_lsp.specs.Answers.{IsRefused, IsSaid, IsSaidTo, IsToMethod, IsToNotification};
 ghost use Rattle.x_lsp.specs.Answers.{IsToRequest};
 ghost use Rattle.x_lsp.specs.Documents.{without};
-ghost use Rattle.x_lsp.specs.Lives.{end_of, is_of_params, life_behind, life_noted};
+ghost use Rattle.x_lsp.specs.Lives.{end_of, is_of_request, life_behind, life_noted};
 ghost use Rattle.x_lsp.specs.Messages.{asked_by};
 ghost use Rattle.x_lsp.specs.declared.life.Life.TheVariants.{Fresh};
 ghost use Rattle.x_lsp.specs.Publishing.{Publishes};
@@ -74,10 +74,20 @@ impl Server {
             Ok(message) => return self.reply_to(&message),
             Err(error) => error,
         };
+        self.fall_out_of_step();
         if error.is_memory() {
             return Reply::NoMemoryAnswer;
         }
         refused(self.alloc, &Value::Null, ErrorCode::ParseError)
+    }
+
+    /// A message was not understood: it may have been a change of any document.
+    fn fall_out_of_step(&mut self)
+        ensures { self.new.life ≡ self.old.life }
+    {
+        for document in &mut self.documents {
+            document.falls_out_of_step();
+        }
     }
 
     /// Does what a message asks for, and answers what is said to it.
@@ -124,7 +134,7 @@ impl Server {
     /// The result of a request.
     fn result_of(&self, method: Method, params: Option<&Value>) -> Result<Value, ErrorCode>
         ensures value { IfOk result (λ v. has_float (view v) ≡ false) }
-        ensures code { IfErr result (λ code. is_of_params code ≡ true) }
+        ensures code { IfErr result (λ code. is_of_request code ≡ true) }
     {
         match method {
             Method::Initialize => match capabilities(self.alloc, encoding_of(params)) {
@@ -139,7 +149,7 @@ impl Server {
     /// The result of a question about a document, which must be open.
     fn asked(&self, question: Question, params: Option<&Value>) -> Result<Value, ErrorCode>
         ensures value { IfOk result (λ v. has_float (view v) ≡ false) }
-        ensures code { IfErr result (λ code. is_of_params code ≡ true) }
+        ensures code { IfErr result (λ code. is_of_request code ≡ true) }
     {
         let Some(uri) = uri_in(params) else {
             return Err(ErrorCode::InvalidParams);

@@ -1,0 +1,144 @@
+//! What is told of a name where a pointer rests on it.
+
+ghost use Rattle.std.specs.Prelude.{◌≡◌, false, IfOk};
+ghost use Rattle.serde_json.specs.View.{view};
+ghost use Rattle.serde_json.specs.Written.{has_float};
+
+use crate::diagnostics::range_value;
+use crate::document::OpenDocument;
+use crate::encoding::Encoding;
+use crate::places::Places;
+use crate::questions::constants::ItemWords;
+use crate::questions::locations::range_of;
+use crate::questions::sizes::Size;
+use crate::questions::text_names::{FoundName, declared_name_at, names};
+use serde_json::{Value, json};
+use std::alloc::{AllocError, Global};
+use x_item::{NameKind, is_significant, next_item};
+use x_names::{Declarer, Names};
+use x_session::{SchemaFault, Session};
+use x_text::NoMemory;
+
+/// The definition of the name at a place, with what it means: a `Hover`; null where no name stands there, or
+/// nobody declares it.
+pub(crate) fn hover(
+    alloc: Global,
+    encoding: Encoding,
+    document: &OpenDocument,
+    at: usize,
+) -> Result<Value, NoMemory>
+    ensures { IfOk result (λ v. has_float (view v) ≡ false) }
+{
+    let session = &document.session;
+    let names = names(alloc, session)?;
+    match declared_name_at(alloc, session, &names, at)? {
+        Some(found) => {
+            let told = told_of(alloc, session, &names, &found)?;
+            let mut places = Places::of(encoding, session.bytes());
+            let range = range_value(alloc, &range_of(&mut places, &found.token))?;
+            Ok(hover_value(alloc, told.as_str(), range)?)
+        }
+        None => Ok(Value::Null),
+    }
+}
+
+/// What is told of what stands in a range.
+fn hover_value(alloc: Global, told: &str, range: Value) -> Result<Value, AllocError>
+    requires { has_float (view range) ≡ false }
+    ensures { IfOk result (λ v. has_float (view v) ≡ false) }
+{
+    let contents = json!(in alloc; {"kind": "plaintext", "value": told})?;
+    json!(in alloc; {"contents": contents, "range": range})
+}
+
+/// The definition of a name as it is written, and what the name means behind an empty line.
+fn told_of(
+    alloc: Global,
+    session: &Session,
+    names: &Names,
+    found: &FoundName,
+) -> Result<String, NoMemory> {
+    let span = item_span(alloc, session, found.declarer.item)?;
+    let mut told = String::from_utf8_lossy(alloc, written(session.bytes(), span))?;
+    if let Some(meaning) = meaning_of(alloc, session, names, found)? {
+        told.push_str("\n\n")?;
+        told.push_str(meaning.as_str())?;
+    }
+    Ok(told)
+}
+
+/// What a name means in a text without a fault: the number of a constant, or how many bytes the values of a
+/// type take.
+fn meaning_of(
+    alloc: Global,
+    session: &Session,
+    names: &Names,
+    found: &FoundName,
+) -> Result<Option<String>, NoMemory> {
+    if session.fault_count() > 0 {
+        return Ok(None);
+    }
+    match found.declarer.kind {
+        NameKind::Constant => number_of(alloc, session, names, &found.declarer),
+        NameKind::Program => Ok(None),
+        NameKind::Enum | NameKind::Struct | NameKind::Union | NameKind::Typedef => {
+            size_of_type(alloc, session, found.token.text)
+        }
+    }
+}
+
+/// The number of a constant.
+fn number_of(
+    alloc: Global,
+    session: &Session,
+    names: &Names,
+    declarer: &Declarer,
+) -> Result<Option<String>, NoMemory> {
+    let words = ItemWords::of(alloc, session, declarer.item.saturating_add(1))?;
+    match words.number(names, declarer.item, declarer.word) {
+        Some(number) => Ok(Some(format!(in alloc; "= {number}")?)),
+        None => Ok(None),
+    }
+}
+
+/// How many bytes the values of a type take.
+fn size_of_type(alloc: Global, session: &Session, name: &[u8]) -> Result<Option<String>, NoMemory> {
+    let schema = match session.schema() {
+        Ok(schema) => schema,
+        Err(SchemaFault::Faulty) => return Ok(None),
+        Err(SchemaFault::NoMemory) => return Err(NoMemory),
+    };
+    match schema.type_named(name) {
+        Some(id) => Ok(Some(Size::of_type(alloc, &schema, id)?.told(alloc)?)),
+        None => Ok(None),
+    }
+}
+
+/// The place of the first word of an item, and that behind its last one.
+fn item_span(
+    alloc: Global,
+    session: &Session,
+    item: usize,
+) -> Result<Option<(usize, usize)>, NoMemory> {
+    let mut tokens = Vec::new(alloc);
+    let mut walk = session.tokens();
+    for _ in 0..item.saturating_add(1) {
+        next_item(&mut tokens, &mut walk)?;
+    }
+    tokens.retain(|token| is_significant(token.kind));
+    match tokens.as_slice() {
+        [] => Ok(None),
+        [first, ..] => {
+            let last = tokens.last().unwrap_or(first);
+            Ok(Some((first.start, last.end)))
+        }
+    }
+}
+
+/// What is written from one place to another.
+fn written(text: &[u8], span: Option<(usize, usize)>) -> &[u8] {
+    match span {
+        Some((start, end)) => text.get(start..end).unwrap_or(&[]),
+        None => &[],
+    }
+}
