@@ -1,14 +1,17 @@
 -- Looking names up in a table that changes.
-use Rattle.std.proofs.Common.{◌≡◌, ℕ, zero, suc, ◌+◌, Bool, true, false, cond, List, [], ◌∷◌, ◌++◌, take, drop, map, Option, None, Some, refl, sym, ap, subst, ◌∙◌, arith}
-use Rattle.std.specs.Prelude.{is_some, slice_get, option_map}
+use Rattle.std.proofs.Common.{◌≡◌, ℕ, zero, suc, ◌+◌, Bool, true, false, cond, List, [], ◌∷◌, ◌++◌, take, drop, map, Option, None, Some, refl, sym, ap, subst, ◌∙◌, arith, true≢false}
+use Rattle.std.specs.Prelude.{is_some, slice_get, option_map, IfSome, IfNone}
 use Rattle.std.specs.Global.{Vec}
 use Rattle.std.specs.Map.{lookup, IsKeyTest, KeepsOthers}
 use Rattle.std.specs.HashMap.{HashMap, UpdatesBy, WritesThrough}
 use Rattle.std.specs.Str.{bytes_eq}
 use Rattle.std.proofs.lemmas.Slice.Eq.{bytes_eq-Decides}
-use Rattle.indexmap.specs.IndexMap.{set_value_at}
+use Rattle.indexmap.specs.IndexMap.{IndexMap, IsUnique, set_value_at, values, with_value_at}
+use Rattle.indexmap.proofs.CallerLemmas.{updates-with_value_at}
+use Rattle.std.specs.Cmp.{IsEquivalence}
+use Rattle.std.proofs.lemmas.Cmp.{nat_list_eq_equiv}
 use Rattle.x_uses.specs.Occurrences.{UseTable, declarers_at, users_at, declarers_in, users_in, slot_in, HasRoom, HasRoomFor, IsSameTable}
-use Rattle.x_uses.specs.Slots.{Entries, slot_at, Changes, HasSameLists, names_of_entries, RoomFor}
+use Rattle.x_uses.specs.Slots.{Entries, slot_at, Changes, HasSameLists, StandsIn, names_of_entries, RoomFor}
 use Rattle.x_uses.specs.declared.uses.slot.Slot.{Slot}
 
 -- names are compared by their bytes
@@ -60,6 +63,40 @@ forgotten old new name h no_declarers no_users = record { declarers = λ other. 
         by : (b : Bool) → bytes_eq other name ≡ b → at (cond b None (slot_at old.entries other)) ≡ at (slot_at old.entries other)
         by false e = refl
         by true e = none ∙ sym (ap (λ n. at (slot_at old.entries n)) ((bytes_eq-Decides other name).0 e) ∙ empty)
+
+-- what stands in a place is taken out
+pub forgotten_in : {S : Type 0} (old new : HashMap (Vec ℕ) Slot S) (index : ℕ) (taken : Option (Vec ℕ × Slot)) → taken ≡ slice_get old.entries index
+    → IfSome taken (λ e. UpdatesBy same_name (same_name e.0) old new None) → IfNone taken (new.entries ≡ old.entries)
+    → ((e : Vec ℕ × Slot) → slice_get old.entries index ≡ Some e → (declarers_at (slot_at old.entries e.0.items) ≡ []) × (users_at (slot_at old.entries e.0.items) ≡ []))
+    → HasSameLists old.entries new.entries
+forgotten_in old new index None is updates unchanged empty =
+    record { declarers = λ name. ap (λ es. declarers_at (slot_at es name)) unchanged; users = λ name. ap (λ es. users_at (slot_at es name)) unchanged }
+forgotten_in old new index (Some e) is updates unchanged empty = let lists = empty e (sym is) in forgotten old new e.0.items updates lists.0 lists.1
+
+same_name_equiv : IsEquivalence same_name
+same_name_equiv = record {
+  refl = λ a. nat_list_eq_equiv.refl a.items;
+  symm = λ a b. nat_list_eq_equiv.symm a.items b.items;
+  congr = λ a b x. nat_list_eq_equiv.congr a.items b.items x.items;
+}
+
+value_in : (es : Entries) (i : ℕ) (e : Vec ℕ × Slot) → slice_get es i ≡ Some e → slice_get (map (λ x. x.1) es) i ≡ Some e.1
+value_in [] zero e h = ap (option_map (λ y. y.1)) h
+value_in [] (suc i) e h = ap (option_map (λ y. y.1)) h
+value_in (x ∷ es) zero e h = ap (option_map (λ y. y.1)) h
+value_in (x ∷ es) (suc i) e h = value_in es i e h
+
+-- what stands in a place is written over
+pub written_in : {S : Type 0} (old : IndexMap (Vec ℕ) Slot S) (index : ℕ) (name : List ℕ) (s w : Slot) (f : Slot → Slot) → IsUnique same_name old → StandsIn old.entries index name
+    → slice_get (values old) index ≡ Some s → w ≡ f s → Changes old.entries (with_value_at old index w).entries name (option_map f)
+written_in old index name s w f unique stands at is =
+    let e = stands.entry in
+    let here : Some s ≡ Some e.1 = sym at ∙ value_in old.entries index e stands.there in
+    inserted old (with_value_at old index w) e.0 name w (option_map f) stands.is (updates-with_value_at old index w same_name_equiv unique e.0 e.1 stands.there) (ap Some is ∙ ap (option_map f) (here ∙ sym stands.slot))
+
+-- something stands there
+pub not_missing : {S : Type 0} (old : IndexMap (Vec ℕ) Slot S) (index : ℕ) (name : List ℕ) → StandsIn old.entries index name → slice_get (values old) index ≡ None → ⊥
+not_missing old index name stands none = true≢false (ap is_some (sym (value_in old.entries index stands.entry stands.there) ∙ none))
 
 -- ---- all slots in turn
 
