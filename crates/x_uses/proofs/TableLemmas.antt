@@ -1,6 +1,6 @@
 -- Looking names up in a table that changes.
 use Rattle.std.proofs.Common.{◌≡◌, ℕ, zero, suc, ◌+◌, Bool, true, false, cond, List, [], ◌∷◌, ◌++◌, take, drop, map, Option, None, Some, refl, sym, ap, subst, ◌∙◌, arith, true≢false}
-use Rattle.std.specs.Prelude.{is_some, slice_get, option_map, IfSome, IfNone}
+use Rattle.std.specs.Prelude.{is_some, slice_get, option_map}
 use Rattle.std.specs.Global.{Vec}
 use Rattle.std.specs.Map.{lookup, IsKeyTest, KeepsOthers}
 use Rattle.std.specs.HashMap.{HashMap, UpdatesBy, WritesThrough}
@@ -10,8 +10,8 @@ use Rattle.indexmap.specs.IndexMap.{IndexMap, IsUnique, set_value_at, values, wi
 use Rattle.indexmap.proofs.CallerLemmas.{updates-with_value_at}
 use Rattle.std.specs.Cmp.{IsEquivalence}
 use Rattle.std.proofs.lemmas.Cmp.{nat_list_eq_equiv}
-use Rattle.x_uses.specs.Occurrences.{UseTable, declarers_at, users_at, declarers_in, users_in, slot_in, HasRoom, HasRoomFor, IsSameTable}
-use Rattle.x_uses.specs.Slots.{Entries, slot_at, Changes, HasSameLists, StandsIn, names_of_entries, RoomFor}
+use Rattle.x_uses.specs.Occurrences.{UseTable, declarer_of, declarers_at, users_at, declarers_in, users_in, slot_in, HasRoom, HasRoomFor, IsSameTable}
+use Rattle.x_uses.specs.Slots.{Entries, slot_at, Changes, HasSameLists, StandsIn, AreEmptyFrom, names_of_entries, RoomFor}
 use Rattle.x_uses.specs.declared.uses.slot.Slot.{Slot}
 
 -- names are compared by their bytes
@@ -64,14 +64,34 @@ forgotten old new name h no_declarers no_users = record { declarers = λ other. 
         by false e = refl
         by true e = none ∙ sym (ap (λ n. at (slot_at old.entries n)) ((bytes_eq-Decides other name).0 e) ∙ empty)
 
--- what stands in a place is taken out
-pub forgotten_in : {S : Type 0} (old new : HashMap (Vec ℕ) Slot S) (index : ℕ) (taken : Option (Vec ℕ × Slot)) → taken ≡ slice_get old.entries index
-    → IfSome taken (λ e. UpdatesBy same_name (same_name e.0) old new None) → IfNone taken (new.entries ≡ old.entries)
-    → ((e : Vec ℕ × Slot) → slice_get old.entries index ≡ Some e → (declarers_at (slot_at old.entries e.0.items) ≡ []) × (users_at (slot_at old.entries e.0.items) ≡ []))
-    → HasSameLists old.entries new.entries
-forgotten_in old new index None is updates unchanged empty =
-    record { declarers = λ name. ap (λ es. declarers_at (slot_at es name)) unchanged; users = λ name. ap (λ es. users_at (slot_at es name)) unchanged }
-forgotten_in old new index (Some e) is updates unchanged empty = let lists = empty e (sym is) in forgotten old new e.0.items updates lists.0 lists.1
+-- slots without declarers and users are as none
+empty_at : (es : Entries) → AreEmptyFrom 0 es → (name : List ℕ) → (declarers_at (slot_at es name) ≡ []) × (users_at (slot_at es name) ≡ [])
+empty_at [] h name = (refl, refl)
+empty_at (e ∷ es) h name = by (bytes_eq name e.0.items) (h 0 e (omega arith) refl) (empty_at es (λ i x le at. h (suc i) x (omega arith) at) name)
+  where
+    by : (b : Bool) → (e.1.declarers.items ≡ []) × (e.1.users.items ≡ []) → (declarers_at (slot_at es name) ≡ []) × (users_at (slot_at es name) ≡ [])
+        → (declarers_at (cond b (Some e.1) (slot_at es name)) ≡ []) × (users_at (cond b (Some e.1) (slot_at es name)) ≡ [])
+    by true here more = (ap (map declarer_of) here.0, here.1)
+    by false here more = more
+
+cut_at : (n : ℕ) (es : Entries) → AreEmptyFrom n es → (name : List ℕ)
+    → (declarers_at (slot_at (take n es) name) ≡ declarers_at (slot_at es name)) × (users_at (slot_at (take n es) name) ≡ users_at (slot_at es name))
+cut_at zero es h name = let empty = empty_at es h name in (sym empty.0, sym empty.1)
+cut_at (suc n) [] h name = (refl, refl)
+cut_at (suc n) (e ∷ es) h name = by (bytes_eq name e.0.items) (cut_at n es (λ i x le at. h (suc i) x (omega (arith, le)) at) name)
+  where
+    by : (b : Bool) → (declarers_at (slot_at (take n es) name) ≡ declarers_at (slot_at es name)) × (users_at (slot_at (take n es) name) ≡ users_at (slot_at es name))
+        → (declarers_at (cond b (Some e.1) (slot_at (take n es) name)) ≡ declarers_at (cond b (Some e.1) (slot_at es name)))
+        × (users_at (cond b (Some e.1) (slot_at (take n es) name)) ≡ users_at (cond b (Some e.1) (slot_at es name)))
+    by true more = (refl, refl)
+    by false more = more
+
+-- the last ones are cut off
+pub cut_off : (n : ℕ) (old new : Entries) → new ≡ take n old → AreEmptyFrom n old → HasSameLists old new
+cut_off n old new is h = record {
+  declarers = λ name. ap (λ es. declarers_at (slot_at es name)) is ∙ (cut_at n old h name).0;
+  users = λ name. ap (λ es. users_at (slot_at es name)) is ∙ (cut_at n old h name).1;
+}
 
 same_name_equiv : IsEquivalence same_name
 same_name_equiv = record {

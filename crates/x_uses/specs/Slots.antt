@@ -172,6 +172,11 @@ pub record HasSameLists (old new : Entries) : Type 0 where
   pub declarers : (name : List ℕ) → declarers_at (slot_at new name) ≡ declarers_at (slot_at old name)
   pub users : (name : List ℕ) → users_at (slot_at new name) ≡ users_at (slot_at old name)
 
+-- the slots from a place on have no declarers and users
+abbrev pub AreEmptyFrom : ℕ → Entries → Type 0
+AreEmptyFrom n es = (i : ℕ) (e : Vec ℕ × Slot) → n ≤ i → slice_get es i ≡ Some e
+    → (e.1.declarers.items ≡ []) × (e.1.users.items ≡ [])
+
 -- an item without a definition is short as well
 abbrev pub IsShortItem : Option Definition → Type 0
 IsShortItem d = IfSome d IsShort

@@ -5,7 +5,7 @@ ghost use Rattle.std.specs.Global.{Vec};
 ghost use Rattle.std.specs.List.{splice};
 ghost use Rattle.x_uses.specs.Occurrences.{Definitions, IsUsesOf, HasRoom, declarers_at, users_at};
 ghost use Rattle.x_uses.specs.Slots.{slot_at, Changes, ChangesEach, HasSameLists, RoomFor, names_of_entries};
-ghost use Rattle.x_uses.specs.Slots.{slot_stays, slot_renumbered, going, coming, HasSameSlots, StandsIn};
+ghost use Rattle.x_uses.specs.Slots.{slot_stays, slot_renumbered, going, coming, HasSameSlots, StandsIn, AreEmptyFrom};
 
 use super::ItemSplice;
 use super::slot::Slot;
@@ -105,15 +105,11 @@ fn put_in_each(table: &mut Table, fresh: &Table, at: usize)
     }
 }
 
-/// Takes the name out if nothing declares or mentions it any more. It is looked for first at the end, where
-/// no other name moves.
+/// Takes the name out if nothing declares or mentions it any more.
 fn forget_at(table: &mut Table, name: &[u8])
     ensures { HasSameLists table.old.entries table.new.entries }
 {
-    let last = table.len().saturating_sub(1);
-    if stands_in(table, last, name) && has_empty_slot_in(table, last) {
-        table.swap_remove_index(last);
-    } else if has_empty_slot(table, name) {
+    if has_empty_slot(table, name) {
         table.swap_remove(name);
     }
 }
@@ -121,8 +117,7 @@ fn forget_at(table: &mut Table, name: &[u8])
 /// Whether the name in a place has a slot without declarers and users.
 fn has_empty_slot_in(table: &Table, index: usize) -> bool
     ensures { result ≡ true → (e : Vec ℕ × Slot) → slice_get table.now.entries index ≡ Some e
-        → (declarers_at (slot_at table.now.entries e.0.items) ≡ [])
-        × (users_at (slot_at table.now.entries e.0.items) ≡ []) }
+        → (e.1.declarers.items ≡ []) × (e.1.users.items ≡ []) }
 {
     match table.get_index(index) {
         Some((_name, slot)) => slot.is_empty(),
@@ -141,12 +136,27 @@ fn has_empty_slot(table: &Table, name: &[u8]) -> bool
     }
 }
 
-/// The same of each name of another table, from the last on: names that were taken in last stand at the end.
+/// The number of names without the last ones that nothing declares or mentions any more.
+fn count_without_last(table: &Table) -> usize
+    ensures { AreEmptyFrom result table.now.entries }
+{
+    let mut count = table.len();
+    while 0 < count && has_empty_slot_in(table, count - 1) {
+        count -= 1;
+    }
+    count
+}
+
+/// Takes out each name of another table that nothing declares or mentions any more. Those of one large item
+/// mostly stand behind all others, and go at once.
 fn forget_each(table: &mut Table, gone: &Table)
     ensures { HasSameLists table.old.entries table.new.entries }
 {
-    for index in (0..gone.len()).rev() {
-        if let Some((name, _slot)) = gone.get_index(index) {
+    let len = table.len();
+    let count = count_without_last(table);
+    table.truncate(count);
+    if len.saturating_sub(count) < gone.len() {
+        for (name, _slot) in gone {
             forget_at(table, name);
         }
     }
