@@ -1,9 +1,6 @@
 -- Parts of a definition as the program keeps them.
-use Rattle.std.specs.Prelude.{map, Option, option_map}
-use Rattle.std.specs.Borrow.{Bor}
-use Rattle.x_trees.specs.Tree as tree
-use Rattle.x_trees.specs.View.{view_value}
-use Rattle.x_trees.specs.declared.trees.value.Value.{Value}
+use Rattle.std.specs.Prelude.{map}
+use Rattle.x_trees.specs.View.{view_most, view_value}
 use Rattle.x_outline.specs.Bodies as bodies
 use Rattle.x_outline.specs.declared.parts.EnumeratorAt.{EnumeratorAt}
 use Rattle.x_outline.specs.declared.parts.Members.{Members}
@@ -11,12 +8,13 @@ use Rattle.x_outline.specs.declared.parts.NameAt.{NameAt}
 use Rattle.x_outline.specs.declared.parts.ValueAt.{ValueAt}
 use Rattle.x_outline.specs.declared.parts.NumberAt.{NumberAt}
 
-abbrev pub view_given : Option (Bor Value) → Option tree.Value
-view_given given = option_map (λ v. view_value v.now) given
-
 abbrev pub view_enumerator_at : EnumeratorAt → bodies.EnumeratorAt
-view_enumerator_at e =
-    record { word = e.word; name = e.name.now; given = view_given e.given; is_first = e.is_first }
+view_enumerator_at e = record {
+  word = e.word;
+  name = e.enumerator.now.name.items;
+  given = view_most e.enumerator.now.value;
+  is_first = e.is_first;
+}
 
 abbrev pub view_name_at : NameAt → bodies.NameAt
 view_name_at x = record { word = x.word; name = x.name.now }

@@ -1,6 +1,6 @@
 //! Parts of a definition, each with the number of its word.
 
-use x_trees::{Body, Value};
+use x_trees::{Body, Enumerator, Value};
 
 /// A name.
 #[derive(Clone, Copy, Debug)]
@@ -23,12 +23,11 @@ pub struct NumberAt<'d> {
     pub text: &'d [u8],
 }
 
-/// A name of an enum, the value that it is given, and whether it is the first of its enum.
+/// A name of an enum with its value, and whether it is the first of its enum.
 #[derive(Clone, Copy)]
 pub struct EnumeratorAt<'d> {
     pub word: usize,
-    pub name: &'d [u8],
-    pub given: Option<&'d Value>,
+    pub enumerator: &'d Enumerator,
     pub is_first: bool,
 }
 

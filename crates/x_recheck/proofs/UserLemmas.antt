@@ -1,16 +1,18 @@
 -- The users of a name.
-use Rattle.std.specs.Prelude.{◌||◌}
+use Rattle.std.specs.Prelude.{◌||◌, is_some, nat_lt, slice_index_or, IsTrue}
+use Rattle.std.proofs.lemmas.Bool.{ltb-true, ltb-false}
+use Rattle.x_uses.specs.declared.uses.ItemSplice.{ItemSplice}
 use Rattle.std.specs.List.{IsAmong, list_any}
 use Rattle.std.specs.Str.{bytes_eq}
-use Rattle.std.proofs.Common.{◌≡◌, ◌<◌, ◌⊎◌, inl, inr, ℕ, zero, suc, ◌+◌, Bool, true, false, cond, List, [], ◌∷◌, length, Option, Some, refl, sym, ap, subst, ◌∙◌, arith}
+use Rattle.std.proofs.Common.{◌≡◌, ◌<◌, ◌⊎◌, inl, inr, ℕ, zero, suc, ◌+◌, ◌-◌, ◌≤◌, Bool, true, false, cond, List, [], ◌∷◌, length, Option, Some, None, refl, sym, ap, subst, ◌∙◌, arith}
 use Rattle.std.proofs.lemmas.Slice.Eq.{bytes_eq-Decides}
 use Rattle.x_trees.specs.Tree.{Definition}
 use Rattle.x_trees.specs.Seen.{names_of}
 use Rattle.x_trees.proofs.AmongLemmas.{among_cases, among_none, among_first, among_more}
-use Rattle.x_recheck.specs.Editing.{TextEdit, IsEdit, definition_at}
+use Rattle.x_recheck.specs.Editing.{TextEdit, IsEdit, definition_at, new_number, old_number}
 use Rattle.x_uses.specs.Occurrences.{sees, users_of}
 use Rattle.x_recheck.specs.Rechecking.{IsKeptUser}
-use Rattle.x_recheck.proofs.Numbering.{definition_kept}
+use Rattle.x_recheck.proofs.Numbering.{IsKeptAs, definition_kept, kept_cases}
 
 among_passes : (names : List (List ℕ)) (name : List ℕ) → IsAmong names name → list_any (bytes_eq name) names ≡ true
 among_passes [] name h = absurd (among_none name h)
@@ -53,3 +55,34 @@ kept_user e k name is u =
     let same : 0 + u.was ≡ u.was = omega arith in
     subst (IsAmong (users_of 0 e.old name)) same
     (user_there 0 e.old name u.was u.definition (sym (definition_kept e k u.was is u.kept) ∙ u.has) u.sees)
+
+-- ---- a name with one user at the most
+
+-- it has no kept users where it has none
+pub none_among : (users : List ℕ) → length users < 1 → (was : ℕ) → IsAmong users was → ⊥
+none_among users few was among = omega (arith, few, among.1.0)
+
+-- the first of them is one
+pub first_among : (users : List ℕ) → 1 ≤ length users → IsAmong users (slice_index_or users 0 0)
+first_among [] le = absurd (omega (arith, le))
+first_among (x ∷ xs) le = among_first x xs
+
+-- an item that is kept has a number after the edit
+stays_somewhere : (p : ItemSplice) (k was : ℕ) → old_number p k ≡ Some was → IsTrue (is_some (new_number p was))
+stays_somewhere p k was kept = by (nat_lt was p.at) refl (nat_lt was (p.at + p.removed)) refl (kept_cases p k was kept)
+  where
+    by : (b : Bool) → nat_lt was p.at ≡ b → (c : Bool) → nat_lt was (p.at + p.removed) ≡ c → IsKeptAs p k was → IsTrue (is_some (cond b (Some was) (cond c None (Some (was - p.removed + p.added)))))
+    by true e c d h = refl
+    by false e false d h = refl
+    by false e true d (inl h) = let le = ltb-false was p.at e in let is = h.1 in let lt = h.0 in absurd (omega (arith, le, is, lt))
+    by false e true d (inr h) = let lt = ltb-true was (p.at + p.removed) d in let le = h.0 in let is = h.1 in absurd (omega (arith, le, is, lt))
+
+-- the one user is the kept one
+pub only_kept : (p : ItemSplice) (users : List ℕ) → length users < 2 → (k was : ℕ) → IsAmong users was → old_number p k ≡ Some was → IsTrue (is_some (new_number p (slice_index_or users 0 0)))
+only_kept p [] few k was among kept = absurd (none_among [] (omega arith) was among)
+only_kept p (x ∷ []) few k was among kept = by (among_cases x was [] among)
+  where
+    by : (was ≡ x) ⊎ IsAmong [] was → IsTrue (is_some (new_number p x))
+    by (inl same) = subst (λ y. IsTrue (is_some (new_number p y))) same (stays_somewhere p k was kept)
+    by (inr among) = absurd (among_none was among)
+only_kept p (x ∷ y ∷ ys) few k was among kept = absurd (omega (arith, few))

@@ -1,26 +1,13 @@
 -- The enumerators of bodies, one by one.
-use Rattle.std.proofs.Common.{◌≡◌, ℕ, suc, ◌+◌, ◌-◌, ◌^◌, ◌<◌, ◌≤◌, min, Bool, false, List, [], ◌∷◌, ◌++◌, length, take, drop, Option, Some, None, ap, sym, refl, subst, ◌∙◌, append_assoc, length-append, arith}
+use Rattle.std.proofs.Common.{◌≡◌, ℕ, suc, ◌+◌, ◌-◌, ◌^◌, ◌<◌, ◌≤◌, min, Bool, false, List, [], ◌∷◌, ◌++◌, length, take, drop, ap, sym, subst, ◌∙◌, append_assoc, length-append, arith}
 use Rattle.std.proofs.lemmas.List.{take-append-drop}
-use Rattle.std.specs.Borrow.{Bor}
 use Rattle.std.specs.List.{IsAmong}
-use Rattle.std.specs.Option.{option_copied}
 use Rattle.x_trees.specs.Tree as tree
 use Rattle.x_trees.specs.Spell.{spell_body, spell_enumerator, spell_other_enumerators, spell_enumerators}
-use Rattle.x_trees.specs.View.{view_most}
 use Rattle.x_trees.specs.Collected.{Walked, Covers}
-use Rattle.x_trees.specs.declared.trees.value.Value.{Value}
 use Rattle.x_trees.proofs.CollectLemmas.{finds_then, finds_as}
 use Rattle.x_outline.specs.Bodies.{BodyAt, EnumeratorAt, enumerators_from, enumerators_of, enumerators_in}
-use Rattle.x_outline.specs.Parts.{view_given}
 use Rattle.x_trees.proofs.AmongLemmas.{among_first, among_rear}
-
--- the value that an enumerator is given
-pub given_is : (given : Option (Bor Value)) (value : Option Value) → option_copied given ≡ value → view_given given ≡ view_most value
-given_is given value same = copied given ∙ ap view_most same
-  where
-    copied : (given : Option (Bor Value)) → view_given given ≡ view_most (option_copied given)
-    copied None = refl
-    copied (Some v) = refl
 
 -- the enumerators from the word on, each with a word behind it
 abbrev pub GoesNames : Walked EnumeratorAt → Walked EnumeratorAt → Bool → List tree.Enumerator → Type 0

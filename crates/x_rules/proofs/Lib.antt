@@ -18,6 +18,7 @@ pub mod NumberSetLemmas
 pub mod OrderLemmas
 pub mod OutlineLemmas
 pub mod OwnNames
+pub mod PackedLemmas
 pub mod PastLastLemmas
 pub mod PlaceLemmas
 pub mod RepeatLemmas

@@ -6,7 +6,8 @@ use Rattle.x_trees.specs.Tree.{Value}
 use Rattle.x_outline.specs.Bodies.{EnumeratorAt}
 use Rattle.x_rules.specs.Constants.{Known}
 use Rattle.x_rules.specs.Found.{fault_at, past_last, past_last_faults}
-use Rattle.x_outline.specs.Parts.{view_enumerator_at, view_given}
+use Rattle.x_trees.specs.View.{view_most}
+use Rattle.x_outline.specs.Parts.{view_enumerator_at}
 use Rattle.x_outline.specs.declared.parts.EnumeratorAt.{EnumeratorAt as Kept}
 use Rattle.x_rules.specs.declared.fault.WordFault.{WordFault}
 use Rattle.x_text.proofs.ListLemmas.{drop_one, drop_none}
@@ -35,7 +36,7 @@ drop_mapped f (suc n) (x ∷ xs) = drop_mapped f n xs
 -- the faults so far, and that of the enumerator in a place
 pub past_next : (now next all_faults : List WordFault) (all : List EnumeratorAt) (known : List Known) (es : List Kept) (numbers : List (Option ℤ)) (place : ℕ) (d : Kept) → place < length es
     → map view_enumerator_at es ≡ all → numbers ≡ map (λ k. k.number) known → map (λ k. k.enumerator) known ≡ take (length known) all
-    → next ≡ now ++ fault_at (get_or es place d).word (past_last (view_given (get_or es place d).given) (option_and_then (λ n. n) (slice_get numbers place)))
+    → next ≡ now ++ fault_at (get_or es place d).word (past_last (view_most (get_or es place d).enumerator.now.value) (option_and_then (λ n. n) (slice_get numbers place)))
     → now ++ past_last_faults (drop place known) ≡ all_faults → next ++ past_last_faults (drop (place + 1) known) ≡ all_faults
 past_next now next all_faults all known es numbers place d lt list is front step h =
     ap (λ l. l ++ past_last_faults (drop (place + 1) known)) step

@@ -20,7 +20,7 @@ enumerator_name e = e.name
 
 -- the first of the kept enumerators that has the name is the first of these
 pub first_listed : (constants : Constants) (all : List EnumeratorAt) (known : List Known) (name : List ℕ) → HasNumbers constants all known
-    → first_from (λ e. bytes_eq name e.name.now) 0 constants.list ≡ first_place 0 (map (λ e. e.name) all) name
+    → first_from (λ e. bytes_eq name e.enumerator.now.name.items) 0 constants.list ≡ first_place 0 (map (λ e. e.name) all) name
 first_listed constants all known name h = first_named enumerator_name view_enumerator_at constants.list name ∙ ap (λ l. first_place 0 (map enumerator_name l) name) h.list
 
 -- whether the enumerator in a place stands before a value
@@ -124,7 +124,7 @@ pub record Numbered (constants : Constants) (all : List EnumeratorAt) (see : Lis
 
 pub numbered_next : (constants next : Constants) (all : List EnumeratorAt) (see : List ℕ → View) (before number : Option ℤ) (place : ℕ) → Numbered constants all see before place → place < length all
     → ((known : List Known) (e : EnumeratorAt) → HasNumbers constants all known → slice_get all place ≡ Some e → number ≡ number_of see known before e)
-    → next.list ≡ constants.list → next.numbers.items ≡ constants.numbers.items ++ number ∷ []
+    → next.list ≡ constants.list → next.numbers ≡ constants.numbers ++ number ∷ []
     → Numbered next all see number (place + 1)
 numbered_next constants next all see before number place n lt is list numbers = record {
   known = known;

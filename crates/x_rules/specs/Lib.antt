@@ -8,6 +8,7 @@ pub mod Meanings
 pub mod Mentioned
 pub mod NumberSets
 pub mod Outlined
+pub mod Packed
 pub mod Results
 pub mod RuleTexts
 pub mod Rules

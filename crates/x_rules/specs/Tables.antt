@@ -16,7 +16,6 @@ use Rattle.x_rules.specs.RustViews.{view_class, view_view}
 use Rattle.x_rules.specs.declared.rules.classes.Sight.{Sight}
 use Rattle.x_rules.specs.Limits.{most_height}
 use Rattle.x_rules.specs.declared.views.View.{View}
-use Rattle.x_outline.specs.declared.parts.EnumeratorAt.{EnumeratorAt}
 use Rattle.x_rules.specs.declared.rules.sights.Sights.{Sights}
 use Rattle.x_rules.specs.declared.rules.constants.Constants.{Constants}
 use Rattle.x_outline.specs.Parts.{view_enumerator_at}
@@ -63,7 +62,7 @@ is_by_value usage = false
 pub record HasNumbers (constants : Constants) (all : List bodies.EnumeratorAt)
     (known : List Known) : Type 0 where
   pub list : map view_enumerator_at constants.list ≡ all
-  pub numbers : constants.numbers.items ≡ map (λ k. k.number) known
+  pub numbers : constants.numbers ≡ map (λ k. k.number) known
   pub front : map (λ k. k.enumerator) known ≡ take (length known) all
 
 -- it holds of all the enumerators, and of the first of them with their numbers

@@ -9,6 +9,7 @@ pub mod found;
 pub mod heights;
 pub mod meanings;
 pub mod mentioned;
+pub mod packed_numbers;
 pub mod repeats;
 pub mod sights;
 pub mod words;

@@ -1,14 +1,17 @@
 -- Looking names up in a table that changes.
-use Rattle.std.proofs.Common.{◌≡◌, ℕ, zero, suc, ◌+◌, Bool, true, false, cond, List, [], ◌∷◌, ◌++◌, take, drop, map, Option, None, Some, refl, sym, ap, subst, ◌∙◌, arith}
+use Rattle.std.proofs.Common.{◌≡◌, ℕ, zero, suc, ◌+◌, Bool, true, false, cond, List, [], ◌∷◌, ◌++◌, take, drop, map, Option, None, Some, refl, sym, ap, subst, ◌∙◌, arith, true≢false}
 use Rattle.std.specs.Prelude.{is_some, slice_get, option_map}
 use Rattle.std.specs.Global.{Vec}
 use Rattle.std.specs.Map.{lookup, IsKeyTest, KeepsOthers}
 use Rattle.std.specs.HashMap.{HashMap, UpdatesBy, WritesThrough}
 use Rattle.std.specs.Str.{bytes_eq}
 use Rattle.std.proofs.lemmas.Slice.Eq.{bytes_eq-Decides}
-use Rattle.indexmap.specs.IndexMap.{set_value_at}
-use Rattle.x_uses.specs.Occurrences.{UseTable, declarers_at, users_at, declarers_in, users_in, slot_in, HasRoom, HasRoomFor, IsSameTable}
-use Rattle.x_uses.specs.Slots.{Entries, slot_at, Changes, HasSameLists, names_of_entries, RoomFor}
+use Rattle.indexmap.specs.IndexMap.{IndexMap, IsUnique, set_value_at, values, with_value_at}
+use Rattle.indexmap.proofs.CallerLemmas.{updates-with_value_at}
+use Rattle.std.specs.Cmp.{IsEquivalence}
+use Rattle.std.proofs.lemmas.Cmp.{nat_list_eq_equiv}
+use Rattle.x_uses.specs.Occurrences.{UseTable, declarer_of, declarers_at, users_at, declarers_in, users_in, slot_in, HasRoom, HasRoomFor, IsSameTable}
+use Rattle.x_uses.specs.Slots.{Entries, slot_at, Changes, HasSameLists, StandsIn, AreEmptyFrom, names_of_entries, RoomFor}
 use Rattle.x_uses.specs.declared.uses.slot.Slot.{Slot}
 
 -- names are compared by their bytes
@@ -60,6 +63,60 @@ forgotten old new name h no_declarers no_users = record { declarers = λ other. 
         by : (b : Bool) → bytes_eq other name ≡ b → at (cond b None (slot_at old.entries other)) ≡ at (slot_at old.entries other)
         by false e = refl
         by true e = none ∙ sym (ap (λ n. at (slot_at old.entries n)) ((bytes_eq-Decides other name).0 e) ∙ empty)
+
+-- slots without declarers and users are as none
+empty_at : (es : Entries) → AreEmptyFrom 0 es → (name : List ℕ) → (declarers_at (slot_at es name) ≡ []) × (users_at (slot_at es name) ≡ [])
+empty_at [] h name = (refl, refl)
+empty_at (e ∷ es) h name = by (bytes_eq name e.0.items) (h 0 e (omega arith) refl) (empty_at es (λ i x le at. h (suc i) x (omega arith) at) name)
+  where
+    by : (b : Bool) → (e.1.declarers.items ≡ []) × (e.1.users.items ≡ []) → (declarers_at (slot_at es name) ≡ []) × (users_at (slot_at es name) ≡ [])
+        → (declarers_at (cond b (Some e.1) (slot_at es name)) ≡ []) × (users_at (cond b (Some e.1) (slot_at es name)) ≡ [])
+    by true here more = (ap (map declarer_of) here.0, here.1)
+    by false here more = more
+
+cut_at : (n : ℕ) (es : Entries) → AreEmptyFrom n es → (name : List ℕ)
+    → (declarers_at (slot_at (take n es) name) ≡ declarers_at (slot_at es name)) × (users_at (slot_at (take n es) name) ≡ users_at (slot_at es name))
+cut_at zero es h name = let empty = empty_at es h name in (sym empty.0, sym empty.1)
+cut_at (suc n) [] h name = (refl, refl)
+cut_at (suc n) (e ∷ es) h name = by (bytes_eq name e.0.items) (cut_at n es (λ i x le at. h (suc i) x (omega (arith, le)) at) name)
+  where
+    by : (b : Bool) → (declarers_at (slot_at (take n es) name) ≡ declarers_at (slot_at es name)) × (users_at (slot_at (take n es) name) ≡ users_at (slot_at es name))
+        → (declarers_at (cond b (Some e.1) (slot_at (take n es) name)) ≡ declarers_at (cond b (Some e.1) (slot_at es name)))
+        × (users_at (cond b (Some e.1) (slot_at (take n es) name)) ≡ users_at (cond b (Some e.1) (slot_at es name)))
+    by true more = (refl, refl)
+    by false more = more
+
+-- the last ones are cut off
+pub cut_off : (n : ℕ) (old new : Entries) → new ≡ take n old → AreEmptyFrom n old → HasSameLists old new
+cut_off n old new is h = record {
+  declarers = λ name. ap (λ es. declarers_at (slot_at es name)) is ∙ (cut_at n old h name).0;
+  users = λ name. ap (λ es. users_at (slot_at es name)) is ∙ (cut_at n old h name).1;
+}
+
+same_name_equiv : IsEquivalence same_name
+same_name_equiv = record {
+  refl = λ a. nat_list_eq_equiv.refl a.items;
+  symm = λ a b. nat_list_eq_equiv.symm a.items b.items;
+  congr = λ a b x. nat_list_eq_equiv.congr a.items b.items x.items;
+}
+
+value_in : (es : Entries) (i : ℕ) (e : Vec ℕ × Slot) → slice_get es i ≡ Some e → slice_get (map (λ x. x.1) es) i ≡ Some e.1
+value_in [] zero e h = ap (option_map (λ y. y.1)) h
+value_in [] (suc i) e h = ap (option_map (λ y. y.1)) h
+value_in (x ∷ es) zero e h = ap (option_map (λ y. y.1)) h
+value_in (x ∷ es) (suc i) e h = value_in es i e h
+
+-- what stands in a place is written over
+pub written_in : {S : Type 0} (old : IndexMap (Vec ℕ) Slot S) (index : ℕ) (name : List ℕ) (s w : Slot) (f : Slot → Slot) → IsUnique same_name old → StandsIn old.entries index name
+    → slice_get (values old) index ≡ Some s → w ≡ f s → Changes old.entries (with_value_at old index w).entries name (option_map f)
+written_in old index name s w f unique stands at is =
+    let e = stands.entry in
+    let here : Some s ≡ Some e.1 = sym at ∙ value_in old.entries index e stands.there in
+    inserted old (with_value_at old index w) e.0 name w (option_map f) stands.is (updates-with_value_at old index w same_name_equiv unique e.0 e.1 stands.there) (ap Some is ∙ ap (option_map f) (here ∙ sym stands.slot))
+
+-- something stands there
+pub not_missing : {S : Type 0} (old : IndexMap (Vec ℕ) Slot S) (index : ℕ) (name : List ℕ) → StandsIn old.entries index name → slice_get (values old) index ≡ None → ⊥
+not_missing old index name stands none = true≢false (ap is_some (sym (value_in old.entries index stands.entry stands.there) ∙ none))
 
 -- ---- all slots in turn
 

@@ -1,6 +1,6 @@
 -- Lists of what stands at items, and tables of them, over an edit.
 use Rattle.std.specs.Prelude.{◌≡◌, ◌≤◌, ℕ, ◌+◌, ◌-◌, ◌^◌, min, nat_lt, nat_eq, Bool, false, List, []}
-use Rattle.std.specs.Prelude.{◌∷◌, ◌++◌, map, Option, None, Some, IfSome, option_map, if◌then◌else◌}
+use Rattle.std.specs.Prelude.{◌∷◌, ◌++◌, map, Option, None, Some, IfSome, option_map, slice_get, if◌then◌else◌}
 use Rattle.std.specs.Global.{Vec}
 use Rattle.std.specs.Option.{option_or}
 use Rattle.std.specs.Map.{lookup}
@@ -160,10 +160,22 @@ names_of_entries es = map (λ e. (e.0.items, e.1)) es
 abbrev pub HasSameSlots : Entries → Entries → Type 0
 HasSameSlots old new = (name : List ℕ) → slot_at new name ≡ slot_at old name
 
+-- the name stands in this place
+pub record StandsIn (es : Entries) (index : ℕ) (name : List ℕ) : Type 0 where
+  pub entry : Vec ℕ × Slot
+  pub there : slice_get es index ≡ Some entry
+  pub is : entry.0.items ≡ name
+  pub slot : slot_at es name ≡ Some entry.1
+
 -- each name has the same declarers and users
 pub record HasSameLists (old new : Entries) : Type 0 where
   pub declarers : (name : List ℕ) → declarers_at (slot_at new name) ≡ declarers_at (slot_at old name)
   pub users : (name : List ℕ) → users_at (slot_at new name) ≡ users_at (slot_at old name)
+
+-- the slots from a place on have no declarers and users
+abbrev pub AreEmptyFrom : ℕ → Entries → Type 0
+AreEmptyFrom n es = (i : ℕ) (e : Vec ℕ × Slot) → n ≤ i → slice_get es i ≡ Some e
+    → (e.1.declarers.items ≡ []) × (e.1.users.items ≡ [])
 
 -- an item without a definition is short as well
 abbrev pub IsShortItem : Option Definition → Type 0

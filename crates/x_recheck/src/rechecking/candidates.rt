@@ -101,6 +101,19 @@ fn is_at(first: Option<Declarer>, item: usize, place: usize) -> bool
     }
 }
 
+/// Whether a name may have kept users. It has none where its one user goes, as most names of an item that is
+/// edited.
+fn may_have_kept_users<L: CheckedItems>(items: &EditedItems<L>, name: &[u8]) -> bool
+    requires { AreEditedItems L.text items.now }
+    ensures { (k : ℕ) → IsKeptUser (edit_of L.text items.now) k name.now → IsTrue result }
+{
+    match items.users(name) {
+        [] => false,
+        [user] => items.new_number(*user as usize).is_some(),
+        _ => true,
+    }
+}
+
 /// Queues the kept users of a name, if the item declares it first in this place and first declarers are not
 /// alike. So the users are gone over once for each name, however many items declare it.
 fn add_candidates<L: CheckedItems>(
@@ -116,6 +129,9 @@ fn add_candidates<L: CheckedItems>(
         → f.item ≡ item → f.place ≡ place
         → IsCovered (edit_of L.text items.now) (is_waiting queue.new) name.now) }
 {
+    if !may_have_kept_users(items, name) {
+        return Ok(());
+    }
     let before = items.first(name);
     let after = items.first_after(name);
     if !is_at(before, item, place) && !is_at(after, item, place) {

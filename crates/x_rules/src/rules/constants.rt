@@ -19,6 +19,7 @@ ghost use Rattle.x_outline.specs.Parts.{view_enumerator_at};
 ghost use Rattle.x_rules.specs.Tables.{HasNumbers, OnNumbers, seen_by};
 
 use super::first_places::{FirstPlaces, Keyed};
+use super::packed_numbers::PackedNumbers;
 use super::sights::Sights;
 use crate::views::{Meaning, View};
 use std::alloc::Global;
@@ -51,8 +52,7 @@ fn add_names<'d>(
     for enumerator in enumerators {
         list.push(EnumeratorAt {
             word,
-            name: &enumerator.name,
-            given: enumerator.value.as_ref(),
+            enumerator,
             is_first,
         })?;
         is_first = false;
@@ -91,10 +91,10 @@ pub fn enumerators<'d>(
 }
 
 impl<'d> Keyed<&'d [u8]> for EnumeratorAt<'d> {
-    ghost has_key = { λ enumerator name. bytes_eq name.now enumerator.name.now };
+    ghost has_key = { λ e name. bytes_eq name.now e.enumerator.now.name.items };
 
     fn key(&self) -> &'d [u8] {
-        self.name
+        self.enumerator.name.as_slice()
     }
 }
 
@@ -102,7 +102,7 @@ impl<'d> Keyed<&'d [u8]> for EnumeratorAt<'d> {
 #[derive(Drop)]
 pub struct Constants<'v> {
     pub list: FirstPlaces<'v, EnumeratorAt<'v>, &'v [u8]>,
-    pub numbers: Vec<Option<i128>>,
+    pub numbers: PackedNumbers,
 }
 
 /// The number of a name used as a value, whose own number is given.
@@ -137,7 +137,7 @@ impl<'v> Constants<'v> {
     {
         let mut constants = Constants {
             list: FirstPlaces::of(alloc, list)?,
-            numbers: Vec::new(alloc),
+            numbers: PackedNumbers::new(alloc),
         };
         constants.number(sights)?;
         Ok(constants)
@@ -179,7 +179,7 @@ impl<'v> Constants<'v> {
         ensures { OnNumbers self.now (λ _ known.
             result ≡ number_of (seen_by sights.now) known before (view_enumerator_at enumerator.now)) }
     {
-        match enumerator.given {
+        match &enumerator.enumerator.value {
             Some(value) => self.number_by(sights, enumerator.word, value),
             None => {
                 if enumerator.is_first {
@@ -214,12 +214,9 @@ impl<'v> Constants<'v> {
 
     /// The number in a place.
     pub fn number_in(&self, place: usize) -> Option<i128>
-        ensures { result ≡ option_and_then (λ n. n) (slice_get self.now.numbers.items place) }
+        ensures { result ≡ option_and_then (λ n. n) (slice_get self.now.numbers place) }
     {
-        match self.numbers.get(place) {
-            Some(number) => *number,
-            None => None,
-        }
+        self.numbers.get(place)
     }
 
     /// The number of the first enumerator of the name, if it stands before the word.

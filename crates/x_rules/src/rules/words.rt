@@ -1,7 +1,7 @@
 //! What single words are.
 
 ghost use Rattle.std.specs.Prelude.{◌≡◌, ◌++◌, List, map, OnOk};
-ghost use Rattle.x_trees.specs.View.{view_value, view_declaration};
+ghost use Rattle.x_trees.specs.View.{view_value, view_declaration, view_most};
 ghost use Rattle.x_rules.specs.Constants.{Known};
 ghost use Rattle.x_numbers.specs.Numbers.{number_spelled, is_zero};
 ghost use Rattle.x_trees.specs.Notes.{view_note, view_note_at};
@@ -9,7 +9,6 @@ ghost use Rattle.x_rules.specs.Types.{declaration_class};
 ghost use Rattle.x_rules.specs.Found.{number_fault, value_fault, spelled_fault, discriminant_fault};
 ghost use Rattle.x_rules.specs.Found.{note_fault};
 ghost use Rattle.x_rules.specs.Found.{note_faults, past_last, past_last_faults};
-ghost use Rattle.x_outline.specs.Parts.{view_given};
 ghost use Rattle.x_rules.specs.Tables.{OnNumbers, seen_by};
 
 use super::classes::has_no_class;
@@ -139,9 +138,9 @@ pub fn add_words(
 
 /// The fault of an enumerator without a value, by its number.
 fn past_last(enumerator: &EnumeratorAt, number: Option<i128>) -> Option<RuleCode>
-    ensures { result ≡ past_last (view_given enumerator.now.given) number }
+    ensures { result ≡ past_last (view_most enumerator.now.enumerator.now.value) number }
 {
-    match enumerator.given {
+    match &enumerator.enumerator.value {
         Some(_) => None,
         None => match number {
             Some(number) => {

@@ -1,10 +1,11 @@
 //! How a table of uses follows an edit, without memory.
 ghost use Rattle.std.specs.Prelude.{◌≡◌, ◌<◌, ◌≤◌, ◌+◌, ◌^◌, ℕ, true, List, [], length, take, drop};
-ghost use Rattle.std.specs.Prelude.{option_map};
+ghost use Rattle.std.specs.Prelude.{option_map, slice_get, Some};
+ghost use Rattle.std.specs.Global.{Vec};
 ghost use Rattle.std.specs.List.{splice};
 ghost use Rattle.x_uses.specs.Occurrences.{Definitions, IsUsesOf, HasRoom, declarers_at, users_at};
 ghost use Rattle.x_uses.specs.Slots.{slot_at, Changes, ChangesEach, HasSameLists, RoomFor, names_of_entries};
-ghost use Rattle.x_uses.specs.Slots.{slot_stays, slot_renumbered, going, coming, HasSameSlots};
+ghost use Rattle.x_uses.specs.Slots.{slot_stays, slot_renumbered, going, coming, HasSameSlots, StandsIn, AreEmptyFrom};
 
 use super::ItemSplice;
 use super::slot::Slot;
@@ -19,12 +20,46 @@ fn take_out_at(table: &mut Table, name: &[u8], place: ItemSplice)
     }
 }
 
+/// Whether the name stands in a place of the table.
+fn stands_in(table: &Table, index: usize, name: &[u8]) -> bool
+    ensures { result ≡ true → StandsIn table.now.entries index name.now }
+{
+    match table.get_index(index) {
+        Some((key, _slot)) => name == key.as_slice(),
+        None => false,
+    }
+}
+
+/// The place behind a name, if it has one.
+fn behind(table: &Table, name: &[u8]) -> usize {
+    match table.get_index_of(name) {
+        Some(index) => index.saturating_add(1),
+        None => 0,
+    }
+}
+
+/// Takes the items that the edit takes out from the name, which is looked for first in a place: names that
+/// stand behind one another are found so in the order of the memory. Answers the place behind it.
+fn take_out_near(table: &mut Table, near: usize, name: &[u8], place: ItemSplice) -> usize
+    ensures { Changes table.old.entries table.new.entries name.now (option_map (slot_stays place)) }
+{
+    if !stands_in(table, near, name) {
+        take_out_at(table, name, place);
+        return behind(table, name);
+    }
+    if let Some(slot) = table.get_index_mut(near) {
+        slot.take_out(place);
+    }
+    near.saturating_add(1)
+}
+
 /// The same of each name of another table.
 fn take_out_each(table: &mut Table, gone: &Table, place: ItemSplice)
     ensures { ChangesEach table.old.entries table.new.entries gone.now.entries (going place) }
 {
+    let mut near = 0;
     for (name, _slot) in gone {
-        take_out_at(table, name, place);
+        near = take_out_near(table, near, name, place);
     }
 }
 
@@ -79,6 +114,17 @@ fn forget_at(table: &mut Table, name: &[u8])
     }
 }
 
+/// Whether the name in a place has a slot without declarers and users.
+fn has_empty_slot_in(table: &Table, index: usize) -> bool
+    ensures { result ≡ true → (e : Vec ℕ × Slot) → slice_get table.now.entries index ≡ Some e
+        → (e.1.declarers.items ≡ []) × (e.1.users.items ≡ []) }
+{
+    match table.get_index(index) {
+        Some((_name, slot)) => slot.is_empty(),
+        None => false,
+    }
+}
+
 /// Whether the name has a slot without declarers and users.
 fn has_empty_slot(table: &Table, name: &[u8]) -> bool
     ensures declarers { result ≡ true → declarers_at (slot_at table.now.entries name.now) ≡ [] }
@@ -90,12 +136,29 @@ fn has_empty_slot(table: &Table, name: &[u8]) -> bool
     }
 }
 
-/// The same of each name of another table.
+/// The number of names without the last ones that nothing declares or mentions any more.
+fn count_without_last(table: &Table) -> usize
+    ensures { AreEmptyFrom result table.now.entries }
+{
+    let mut count = table.len();
+    while 0 < count && has_empty_slot_in(table, count - 1) {
+        count -= 1;
+    }
+    count
+}
+
+/// Takes out each name of another table that nothing declares or mentions any more. Those of one large item
+/// mostly stand behind all others, and go at once.
 fn forget_each(table: &mut Table, gone: &Table)
     ensures { HasSameLists table.old.entries table.new.entries }
 {
-    for (name, _slot) in gone {
-        forget_at(table, name);
+    let len = table.len();
+    let count = count_without_last(table);
+    table.truncate(count);
+    if len.saturating_sub(count) < gone.len() {
+        for (name, _slot) in gone {
+            forget_at(table, name);
+        }
     }
 }
 

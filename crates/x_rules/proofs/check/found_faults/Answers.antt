@@ -2,7 +2,7 @@ use Rattle.std.proofs.Common.{map, ◌++◌, refl, ap, ◌∙◌}
 use Rattle.x_trees.specs.Collected.{view_mention}
 use Rattle.x_trees.specs.Collected.{view_name}
 use Rattle.x_trees.specs.Seen.{names_of}
-use Rattle.x_outline.specs.Bodies.{enumerators, bodies}
+use Rattle.x_outline.specs.Bodies.{enumerators}
 use Rattle.x_rules.specs.Constants.{knowns}
 use Rattle.x_rules.specs.Found.{duplicates_from, mention_faults, note_faults, body_faults, found_faults}
 use Rattle.x_trees.specs.Notes.{view_note_at}

@@ -1,12 +1,12 @@
-use Rattle.std.proofs.Common.{◌≡◌, ◌+◌, ◌∷◌, drop, map, ap, sym, subst, ◌∙◌}
+use Rattle.std.proofs.Common.{◌≡◌, ◌+◌, ◌∷◌, drop, map, ap, refl, sym, subst, ◌∙◌}
 use Rattle.std.proofs.lemmas.List.{drop_all, drop_more}
 use Rattle.x_trees.specs.View.{view_enumerator}
 use Rattle.x_trees.specs.Collected.{Walked}
 use Rattle.x_trees.proofs.CollectLemmas.{finds_none}
 use Rattle.x_outline.specs.Bodies.{EnumeratorAt}
-use Rattle.x_outline.specs.Parts.{view_enumerator_at, view_given}
+use Rattle.x_outline.specs.Parts.{view_enumerator_at}
 use Rattle.x_text.proofs.ListLemmas.{map_append}
-use Rattle.x_rules.proofs.EnumeratorLemmas.{GoesNames, goes_names, given_is}
+use Rattle.x_rules.proofs.EnumeratorLemmas.{GoesNames, goes_names}
 use Rattle.x_rules.proofs.rules.constants.add_names.Goals as goal
 
 pub loop-enumerator-init : goal.loop-enumerator-init
@@ -22,14 +22,10 @@ loop-enumerator-preserved c to h =
     let is_first = c.loop-enumerator.is_first in
     let list = map view_enumerator_at c.loop-enumerator.list.items in
     let before : Walked EnumeratorAt = record { word = word; list = list } in
-    let x : EnumeratorAt = record { word = word; name = c.deref.result.now; given = view_given c.as_ref.result; is_first = is_first } in
-    let named : EnumeratorAt = record { word = word; name = item.name.items; given = view_given c.as_ref.result; is_first = is_first } in
-    let given : EnumeratorAt = record { word = word; name = item.name.items; given = (view_enumerator item).value; is_first = is_first } in
-    let first : x ≡ named = ap (λ n. record { word = word; name = n; given = view_given c.as_ref.result; is_first = is_first }) c.deref.ensures in
-    let second : named ≡ given = ap (λ v. record { word = word; name = item.name.items; given = v; is_first = is_first }) (given_is c.as_ref.result item.value c.as_ref.ensures.value) in
+    let x : EnumeratorAt = record { word = word; name = item.name.items; given = (view_enumerator item).value; is_first = is_first } in
     c.loop-enumerator.invariant to
     (subst (λ xs. GoesNames before to is_first (map view_enumerator xs)) (sym front)
-    (goes_names word c.saturating_add-word.result c.words_of_enumerator.result list (map view_enumerator_at c.push.new.self.items) x (view_enumerator item) (map view_enumerator rest) (first ∙ second)
+    (goes_names word c.saturating_add-word.result c.words_of_enumerator.result list (map view_enumerator_at c.push.new.self.items) x (view_enumerator item) (map view_enumerator rest) refl
     c.words_of_enumerator.ensures (rw c.saturating_add.ensures at c.saturating_add-word.ensures) (ap (map view_enumerator_at) c.in_ok-push.ensures.items ∙ map_append view_enumerator_at c.loop-enumerator.list.items _) h))
 
 pub returns : goal.returns

@@ -12,10 +12,10 @@ loop-name-init c =
 
 pub loop-name-preserved : goal.loop-name-preserved
 loop-name-preserved c =
-    walk_goes_on (going c.args.place) c.loop-name.name-iterator c.next.new.self c.in-Some.name.now c.in-Some._slot.now c.loop-name.table.entries c.take_out_at.new.table.entries
+    walk_goes_on (going c.args.place) c.loop-name.name-iterator c.next.new.self c.in-Some.name.now c.in-Some._slot.now c.loop-name.table.entries c.take_out_near-near.new.table.entries
     (wanted_of (going c.args.place) c.args.gone.now.entries c.args.table.now.entries)
     (rest_more deref_pair c.loop-name.name-iterator c.next.new.self c.next.result (c.in-Some.name, c.in-Some._slot) c.in-Some.is c.next.ensures.steps)
-    (subst (λ n. Changes c.loop-name.table.entries c.take_out_at.new.table.entries n (going c.args.place c.in-Some._slot.now)) c.deref.ensures.value c.take_out_at.ensures) c.loop-name.invariant
+    (subst (λ n. Changes c.loop-name.table.entries c.take_out_near-near.new.table.entries n (going c.args.place c.in-Some._slot.now)) c.deref.ensures.value c.take_out_near-near.ensures) c.loop-name.invariant
 
 pub returns : goal.returns
 returns c =
