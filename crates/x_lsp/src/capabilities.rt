@@ -5,9 +5,11 @@ ghost use Rattle.serde_json.specs.View.{view};
 ghost use Rattle.serde_json.specs.Written.{has_float};
 
 use crate::encoding::Encoding;
+use crate::plain_list::PlainList;
 use crate::plain_object::PlainObject;
-use serde_json::{Value, json};
+use serde_json::{Map, Value, json};
 use std::alloc::{AllocError, Global};
+use x_text::NoMemory;
 
 /// The version of the server.
 const VERSION: &str = "0.1.0";
@@ -25,57 +27,98 @@ const PROVIDERS: [&str; 6] = [
     "referencesProvider",
 ];
 
+/// The types of tokens, in the order of `TokenKind`.
+const TOKEN_TYPES: [&str; 11] = [
+    "keyword",
+    "comment",
+    "number",
+    "macro",
+    "type",
+    "struct",
+    "enum",
+    "enumMember",
+    "namespace",
+    "method",
+    "property",
+];
+
 /// What the server can do, as it tells a client that initializes it.
-pub(crate) fn capabilities(alloc: Global, encoding: Encoding) -> Result<Value, AllocError>
+pub(crate) fn capabilities(alloc: Global, encoding: Encoding) -> Result<Value, NoMemory>
     ensures { IfOk result (λ v. has_float (view v) ≡ false) }
 {
-    let list = list(alloc, encoding)?;
-    let server = json!(in alloc; {"name": "rpcls", "version": VERSION})?;
     let mut told = PlainObject::new(alloc);
-    told.put(alloc, "capabilities", list)?;
-    told.put(alloc, "serverInfo", server)?;
+    told.put(alloc, "capabilities", list(alloc, encoding)?)?;
+    told.put(alloc, "serverInfo", server_info(alloc)?)?;
     Ok(told.into_value())
 }
 
-/// The list of what the server can do.
-fn list(alloc: Global, encoding: Encoding) -> Result<Value, AllocError>
+/// The server's name and version.
+fn server_info(alloc: Global) -> Result<Value, AllocError>
     ensures { IfOk result (λ v. has_float (view v) ≡ false) }
 {
-    let encoding = match encoding {
-        Encoding::Utf8 => "utf-8",
-        Encoding::Utf16 => "utf-16",
-    };
-    let encoding = json!(in alloc; encoding)?;
-    let completion = json!(in alloc; {})?;
-    let rename = json!(in alloc; {"prepareProvider": true})?;
-    let sync = json!(in alloc; {"openClose": true, "change": INCREMENTAL})?;
-    let tokens = tokens_provider(alloc)?;
+    json!(in alloc; {"name": "rpcls", "version": VERSION})
+}
+
+/// The list of what the server can do.
+fn list(alloc: Global, encoding: Encoding) -> Result<Value, NoMemory>
+    ensures { IfOk result (λ v. has_float (view v) ≡ false) }
+{
     let mut list = PlainObject::new(alloc);
-    list.put(alloc, "positionEncoding", encoding)?;
-    list.put(alloc, "completionProvider", completion)?;
-    list.put(alloc, "renameProvider", rename)?;
-    list.put(alloc, "semanticTokensProvider", tokens)?;
-    list.put(alloc, "textDocumentSync", sync)?;
+    list.put_text(alloc, "positionEncoding", name_of(encoding))?;
+    list.put(alloc, "completionProvider", Value::Object(Map::new(alloc)))?;
+    list.put(alloc, "renameProvider", rename_options(alloc)?)?;
+    list.put(alloc, "semanticTokensProvider", tokens_options(alloc)?)?;
+    list.put(alloc, "textDocumentSync", sync_options(alloc)?)?;
     for provider in PROVIDERS {
         list.put(alloc, provider, Value::Bool(true))?;
     }
     Ok(list.into_value())
 }
 
-/// What the server tells of tokens: their types in the order of `TokenKind`.
-fn tokens_provider(alloc: Global) -> Result<Value, AllocError>
+/// What an encoding is called.
+fn name_of(encoding: Encoding) -> &'static str {
+    match encoding {
+        Encoding::Utf8 => "utf-8",
+        Encoding::Utf16 => "utf-16",
+    }
+}
+
+/// A client may ask for a name before it asks for the change.
+fn rename_options(alloc: Global) -> Result<Value, AllocError>
     ensures { IfOk result (λ v. has_float (view v) ≡ false) }
 {
-    json!(in alloc; {
-        "full": true,
-        "legend": {
-            "tokenModifiers": [],
-            "tokenTypes": [
-                "keyword", "comment", "number", "macro", "type", "struct", "enum", "enumMember",
-                "namespace", "method", "property"
-            ]
-        }
-    })
+    json!(in alloc; {"prepareProvider": true})
+}
+
+/// Documents are opened and closed, and changed by ranges.
+fn sync_options(alloc: Global) -> Result<Value, AllocError>
+    ensures { IfOk result (λ v. has_float (view v) ≡ false) }
+{
+    json!(in alloc; {"openClose": true, "change": INCREMENTAL})
+}
+
+/// All tokens of a document are told at once.
+fn tokens_options(alloc: Global) -> Result<Value, NoMemory>
+    ensures { IfOk result (λ v. has_float (view v) ≡ false) }
+{
+    let mut options = PlainObject::new(alloc);
+    options.put(alloc, "full", Value::Bool(true))?;
+    options.put(alloc, "legend", tokens_legend(alloc)?)?;
+    Ok(options.into_value())
+}
+
+/// What the numbers of types and modifiers stand for.
+fn tokens_legend(alloc: Global) -> Result<Value, NoMemory>
+    ensures { IfOk result (λ v. has_float (view v) ≡ false) }
+{
+    let mut types = PlainList::new(alloc);
+    for name in TOKEN_TYPES {
+        types.push(Value::String(String::from_str(alloc, name)?))?;
+    }
+    let mut legend = PlainObject::new(alloc);
+    legend.put(alloc, "tokenModifiers", Value::Array(Vec::new(alloc)))?;
+    legend.put(alloc, "tokenTypes", types.into_value())?;
+    Ok(legend.into_value())
 }
 
 /// How characters are counted: by bytes of UTF-8 where the client offers it, else by units of UTF-16.

@@ -29,6 +29,16 @@ impl PlainObject {
         put(&mut self.members, alloc, key, value)
     }
 
+    /// Puts a member in that is a text.
+    pub(crate) fn put_text(
+        &mut self,
+        alloc: Global,
+        key: &str,
+        text: &str,
+    ) -> Result<(), AllocError> {
+        self.put(alloc, key, Value::String(String::from_str(alloc, text)?))
+    }
+
     /// The object as a value.
     pub(crate) fn into_value(self) -> Value
         ensures { has_float (view result) ≡ false }

@@ -94,15 +94,27 @@ fn add_names(
             glossary.read(alloc, definition)?;
             for place in 0..glossary.declared.len() {
                 let declared = &glossary.declared[place];
-                if is_first(&names, declared, item, place) && expected.takes(declared.kind) {
-                    if let Some(kind) = ItemKind::of_name(definition, declared.kind) {
-                        add_item(alloc, list, kind, &declared.name)?;
-                    }
+                if is_first(&names, declared, item, place) {
+                    add_name(alloc, list, definition, declared, expected)?;
                 }
             }
         }
     }
     Ok(())
+}
+
+/// Adds a name that a definition declares, if it can stand where this is expected.
+fn add_name(
+    alloc: Global,
+    list: &mut PlainList,
+    definition: &Definition,
+    declared: &DeclaredName,
+    expected: Expected,
+) -> Result<(), NoMemory> {
+    match ItemKind::of_name(definition, declared.kind) {
+        Some(kind) if expected.takes(declared.kind) => add_item(alloc, list, kind, &declared.name),
+        _ => Ok(()),
+    }
 }
 
 /// Whether a name that stands in this place among those of an item is declared nowhere before.

@@ -19,7 +19,7 @@ use std::alloc::{AllocError, Global};
 use std::collections::BTreeMap;
 use x_item::{Glossary, NameKind, lifted_name};
 use x_lex::{Kind, Token, lex_one};
-use x_names::{Names, is_beforehand};
+use x_names::{Declarer, Names, is_beforehand};
 use x_session::Session;
 use x_text::{Meter, NoMemory};
 
@@ -95,34 +95,62 @@ fn new_names(
     found: &FoundName,
     name: &[u8],
 ) -> Result<Option<NewNames>, NoMemory> {
-    let old = found.token.text;
     if found.declarer.lifted || !is_name(name) || !is_free(names, name) {
         return Ok(None);
     }
     let mut new_names = BTreeMap::new(alloc);
-    new_names.insert(Vec::from_slice(alloc, old)?, Vec::from_slice(alloc, name)?)?;
-    let Some((old_front, new_front)) = fronts(alloc, found.declarer.kind, old, name)? else {
-        return Ok(Some(new_names));
+    put_name(alloc, &mut new_names, found.token.text, name)?;
+    if lift_names(alloc, &mut new_names, session, names, found, name)? {
+        Ok(Some(new_names))
+    } else {
+        Ok(None)
+    }
+}
+
+/// Notes that a name gets a new one.
+fn put_name(
+    alloc: Global,
+    new_names: &mut NewNames,
+    old: &[u8],
+    new: &[u8],
+) -> Result<(), NoMemory> {
+    new_names.insert(Vec::from_slice(alloc, old)?, Vec::from_slice(alloc, new)?)?;
+    Ok(())
+}
+
+/// Adds the names of inline types that begin with a name that gets a new one, and says whether each of them
+/// may be changed so.
+fn lift_names(
+    alloc: Global,
+    new_names: &mut NewNames,
+    session: &Session,
+    names: &Names,
+    found: &FoundName,
+    name: &[u8],
+) -> Result<bool, NoMemory> {
+    let Declarer { item, kind, .. } = found.declarer;
+    let Some((old_front, new_front)) = fronts(alloc, kind, found.token.text, name)? else {
+        return Ok(true);
     };
-    let Some(definition) = session.definition(found.declarer.item) else {
-        return Ok(Some(new_names));
+    let Some(definition) = session.definition(item) else {
+        return Ok(true);
     };
     let mut glossary = Glossary::new(alloc);
     glossary.read(alloc, definition)?;
     for declared in &glossary.declared {
         let lifted = declared.name.as_slice();
-        if is_lifted_in(names, lifted, found.declarer.item)
+        if is_lifted_in(names, lifted, item)
             && let Some(rear) = lifted.strip_prefix(old_front.as_slice())
         {
             let mut new_name = Vec::from_slice(alloc, &new_front)?;
             new_name.extend_from_slice(rear)?;
             if !is_free(names, &new_name) {
-                return Ok(None);
+                return Ok(false);
             }
-            new_names.insert(Vec::from_slice(alloc, lifted)?, new_name)?;
+            put_name(alloc, new_names, lifted, &new_name)?;
         }
     }
-    Ok(Some(new_names))
+    Ok(true)
 }
 
 /// Whether a name is declared first by an inline type in an item.
