@@ -1,6 +1,7 @@
 -- Lists of what stands at items, and tables of them, over an edit.
 use Rattle.std.specs.Prelude.{◌≡◌, ◌≤◌, ℕ, ◌+◌, ◌-◌, ◌^◌, min, nat_lt, nat_eq, Bool, false, List, []}
-use Rattle.std.specs.Prelude.{◌∷◌, ◌++◌, map, Option, None, Some, IfSome, option_map, slice_get, if◌then◌else◌}
+use Rattle.std.specs.Prelude.{◌∷◌, ◌++◌, map, Option, None, Some, IfSome, option_map, slice_get}
+use Rattle.std.specs.Prelude.{if◌then◌else◌}
 use Rattle.std.specs.Global.{Vec}
 use Rattle.std.specs.Option.{option_or}
 use Rattle.std.specs.Map.{lookup}

@@ -5,8 +5,8 @@ ghost use Rattle.std.specs.Global.{Vec};
 ghost use Rattle.std.specs.List.{splice};
 ghost use Rattle.x_uses.specs.Occurrences.{Definitions, IsUsesOf, HasRoom, declarers_at, users_at};
 ghost use Rattle.x_uses.specs.Slots.{slot_at, Changes, ChangesEach, HasSameLists, RoomFor, names_of_entries};
-ghost use Rattle.x_uses.specs.Slots.{slot_stays, slot_renumbered, going, coming, HasSameSlots, StandsIn};
-ghost use Rattle.x_uses.specs.Slots.{AreEmptyFrom};
+ghost use Rattle.x_uses.specs.Slots.{slot_stays, slot_renumbered, going, coming, HasSameSlots};
+ghost use Rattle.x_uses.specs.Slots.{AreEmptyFrom, StandsIn};
 
 use super::ItemSplice;
 use super::slot::Slot;
