@@ -185,6 +185,13 @@ spoken() {
         grep -v '"id":"\(first\|last\)"'
 }
 
+# related TEXT: what is published of t.x to a client that shows other places with a fault.
+related() {
+    serve '{"jsonrpc":"2.0","id":1,"method":"initialize","params":{"capabilities":{"textDocument":{"publishDiagnostics":{"relatedInformation":true}}}}}' \
+        '{"jsonrpc":"2.0","method":"initialized","params":{}}' "$(opens "$1")" \
+        '{"jsonrpc":"2.0","id":2,"method":"shutdown"}' '{"jsonrpc":"2.0","method":"exit"}' | grep publishDiagnostics
+}
+
 # opens TEXT, changes VERSION CHANGE.., closes: notifications of the document t.x; each CHANGE is JSON.
 opens() {
     printf '{"jsonrpc":"2.0","method":"textDocument/didOpen","params":{"textDocument":{"uri":"file:///t.x","languageId":"x","version":1,"text":"%s"}}}' "$1"

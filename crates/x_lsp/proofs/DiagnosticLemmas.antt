@@ -1,34 +1,37 @@
 -- What is published of faults.
-use Rattle.std.proofs.Common.{◌≡◌, ℕ, false, Option, None, Some, length, take, get_or, arith, ne_eqb, eq-eqb, List, [], ◌∷◌, ◌++◌, map, refl, sym, ap, ◌∙◌}
-use Rattle.std.specs.Prelude.{◌||◌, ◌==◌}
+use Rattle.std.proofs.Common.{◌≡◌, ℕ, Option, None, Some, length, take, get_or, arith, ne_eqb, eq-eqb, List, [], ◌∷◌, ◌++◌, map, refl, sym, subst, ap, ◌∙◌}
+use Rattle.std.specs.Prelude.{◌==◌}
 use Rattle.std.specs.List.{before_first}
 use Rattle.std.proofs.lemmas.List.{take_all}
 use Rattle.std.proofs.lemmas.List.Sums.{position_or_len_is}
 use Rattle.memchr.specs.Find.{IsFirstByte, is_byte}
 use Rattle.x_lines.proofs.Parting.{first_is}
 use Rattle.serde_json.specs.Data.{Data}
-use Rattle.serde_json.specs.View.{items_of}
-use Rattle.serde_json.specs.Written.{has_float, items_have_float}
+use Rattle.x_compile.specs.Compile.{Item, faults_of}
+use Rattle.x_compile.proofs.Compiled.{one_compilation}
+use Rattle.x_session.specs.Session.{Compiles}
 use Rattle.x_compile.specs.declared.fault.Fault.{Fault}
-use Rattle.x_lsp.specs.declared.encoding.Encoding.{Encoding}
+use Rattle.x_lsp.specs.declared.client.Client.{Client}
 use Rattle.x_lsp.specs.Diagnostics.{AreDiagnostics, IsDiagnostic}
 
 -- one fault more
-pub diagnostics_more : (e : Encoding) (text : List ℕ) (faults : List Fault) (ds : List Data) (f : Fault) (d : Data) → AreDiagnostics e text faults ds → IsDiagnostic e text f d
-    → AreDiagnostics e text (faults ++ f ∷ []) (ds ++ d ∷ [])
-diagnostics_more e text [] [] f d are is = (is, tt)
-diagnostics_more e text [] (x ∷ ds) f d are is = absurd are
-diagnostics_more e text (g ∷ faults) [] f d are is = absurd are
-diagnostics_more e text (g ∷ faults) (x ∷ ds) f d are is = (are.0, diagnostics_more e text faults ds f d are.1 is)
+pub diagnostics_more : (c : Client) (uri text : List ℕ) (items : List Item) (faults : List Fault) (ds : List Data) (f : Fault) (d : Data) → AreDiagnostics c uri text items faults ds → IsDiagnostic c uri text items f d
+    → AreDiagnostics c uri text items (faults ++ f ∷ []) (ds ++ d ∷ [])
+diagnostics_more c uri text items [] [] f d are is = (is, tt)
+diagnostics_more c uri text items [] (x ∷ ds) f d are is = absurd are
+diagnostics_more c uri text items (g ∷ faults) [] f d are is = absurd are
+diagnostics_more c uri text items (g ∷ faults) (x ∷ ds) f d are is = (are.0, diagnostics_more c uri text items faults ds f d are.1 is)
 
--- diagnostics have no float
-pub plain_diagnostics : (e : Encoding) (text : List ℕ) (faults : List Fault) (ds : List Data) → AreDiagnostics e text faults ds → items_have_float (items_of ds) ≡ false
-plain_diagnostics e text [] [] are = refl
-plain_diagnostics e text [] (x ∷ ds) are = absurd are
-plain_diagnostics e text (g ∷ faults) [] are = absurd are
-plain_diagnostics e text (g ∷ faults) (x ∷ ds) are =
-    let one : has_float x ≡ false = ap has_float are.0.data_is in
-    ap (λ t. t || items_have_float (items_of ds)) one ∙ plain_diagnostics e text faults ds are.1
+-- nothing is published of no fault
+pub no_diagnostics : {P : List Item → Type 0} (c : Client) (uri text : List ℕ) → Compiles text P → Compiles text (λ items. AreDiagnostics c uri text items [] [])
+no_diagnostics c uri text h = (h.0, h.1, h.2, tt)
+
+-- all faults are told
+pub all_diagnostics : (c : Client) (uri text : List ℕ) (told all : List Fault) (ds : List Data) → told ≡ all → Compiles text (λ items. all ≡ faults_of text items)
+    → Compiles text (λ items. AreDiagnostics c uri text items told ds) → Compiles text (λ items. AreDiagnostics c uri text items (faults_of text items) ds)
+all_diagnostics c uri text told all ds same faults are =
+    let one : faults.1 ≡ are.1 = (one_compilation text faults.0 are.0 faults.1 are.1 faults.2 are.2).1 in
+    (are.0, are.1, are.2, subst (λ fs. AreDiagnostics c uri text are.1 fs ds) (same ∙ faults.3 ∙ ap (faults_of text) one) are.3)
 
 -- the bytes before a place, or all
 abbrev pub front_of : Option ℕ → List ℕ → List ℕ

@@ -10,6 +10,8 @@ pub mod ListLemmas
 pub mod LookupLemmas
 pub mod NamePlaceLemmas
 pub mod PassedLineLemmas
+pub mod PlaceTableLemmas
 pub mod PositionLemmas
 pub mod SaidLemmas
 pub mod ServingLemmas
+pub mod WritingLemmas

@@ -46,7 +46,7 @@ pub record HasFound (text : List ℕ) (test : NamePlace → Bool) (n : ℕ) (wal
   pub left : AreLeft walk (map (λ i. i.tokens) (drop n items))
   pub found_is : found ++ tokens_where test (names_of (drop n items)) ≡ tokens_where test (names_of items)
 
-all_left : (all walk : List Lexeme) (parts : List (List Lexeme)) → AreItems all parts → walk ≡ all → AreLeft walk parts
+pub all_left : (all walk : List Lexeme) (parts : List (List Lexeme)) → AreItems all parts → walk ≡ all → AreLeft walk parts
 all_left all walk [] h is = tt
 all_left all walk (p ∷ ps) h is = subst (λ l. AreItems l (p ∷ ps)) (sym is) h
 
@@ -85,7 +85,7 @@ found_item text test n m count whole walk walk' part found found' o step lt many
           (where_over test (λ i. names_by i.tokens (parsed_definition i.parse)) at.item (drop n had.items) rest at.here) had.found_is;
     }
 
-none_left : (items : List Item) (n : ℕ) → length items ≤ n → drop n items ≡ []
+pub none_left : (items : List Item) (n : ℕ) → length items ≤ n → drop n items ≡ []
 none_left [] zero le = refl
 none_left [] (suc n) le = refl
 none_left (i ∷ is) zero le = absurd (omega arith)

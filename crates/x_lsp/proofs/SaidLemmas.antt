@@ -1,9 +1,10 @@
 -- What is said.
 use Rattle.std.proofs.Common.{ℕ, ℤ, List, Option, Some, codes, refl, subst, sym, ⊎_elim}
 use Rattle.serde_json.specs.Data.{object, string, number, unsigned, member, no_members}
-use Rattle.x_lsp.specs.declared.encoding.Encoding.{Encoding}
+use Rattle.x_lsp.specs.declared.client.Client.{Client}
 use Rattle.x_lsp.specs.Answers.{IsNote, IsShown, IsToNotification}
-use Rattle.x_lsp.specs.Diagnostics.{params_data}
+use Rattle.serde_json.specs.Find.{of_integer}
+use Rattle.x_lsp.specs.Diagnostics.{params_with}
 use Rattle.x_lsp.specs.KeptSaid.{no_memory_note}
 use Rattle.x_lsp.specs.Publishing.{Publishes}
 
@@ -21,8 +22,8 @@ pub no_memory_is_note : IsNote no_memory_note
 no_memory_is_note = shown_note (Some no_memory_note) no_memory_shown
 
 -- what is published is a note
-pub published_note : (e : Encoding) (uri : List ℕ) (version : ℤ) (text : List ℕ) (said : Option (List ℕ)) → Publishes e uri version text said → IsToNotification said
+pub published_note : (e : Client) (uri : List ℕ) (version : ℤ) (text : List ℕ) (said : Option (List ℕ)) → Publishes e uri version text said → IsToNotification said
 published_note e uri version text said h = ⊎_elim
     (λ p. subst IsToNotification (sym p.1)
-    (codes "textDocument/publishDiagnostics", params_data uri version p.2.3.0, p.2.3.2))
+    (codes "textDocument/publishDiagnostics", params_with uri (number (of_integer version)) p.2.3.0, p.2.3.2))
     (λ s. shown_note said s) h

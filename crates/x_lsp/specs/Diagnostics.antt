@@ -1,9 +1,9 @@
 -- What is published of a text's faults (LSP 3.17, `textDocument/publishDiagnostics`).
 use Rattle.std.specs.Prelude.{◌≡◌, ◌⊎◌, ℕ, ℤ, zero, suc, ◌+◌, ◌-◌, ◌≤◌, ◌==◌, List, []}
-use Rattle.std.specs.Prelude.{◌∷◌, ◌++◌, length, codes}
-use Rattle.std.specs.Prelude.{if◌then◌else◌, unwrap_or}
+use Rattle.std.specs.Prelude.{◌∷◌, ◌++◌, length, codes, Option, None, Some, option_and_then, option_map}
+use Rattle.std.specs.Prelude.{if◌then◌else◌, unwrap_or, Bool, true, false, ◌&&◌, slice_range}
 use Rattle.std.specs.List.{before_first}
-use Rattle.serde_json.specs.Data.{Data, array, number, string, object, member, no_items}
+use Rattle.serde_json.specs.Data.{Data, Members, array, number, string, object, member, item, no_items}
 use Rattle.serde_json.specs.Data.{no_members, unsigned}
 use Rattle.serde_json.specs.Find.{of_integer}
 use Rattle.serde_json.specs.View.{items_of}
@@ -12,13 +12,19 @@ use Rattle.x_lex.specs.declared.kind.Kind.{Kind}
 use Rattle.x_lex.specs.Places.{IsTokenAt}
 use Rattle.x_compile.specs.declared.fault.Fault.{Fault}
 use Rattle.x_compile.specs.declared.fault.FaultCode.{FaultCode}
-use Rattle.x_compile.specs.Compile.{faults_of}
+use Rattle.x_compile.specs.declared.fault.FaultCode.TheVariants.{Rule}
+use Rattle.x_rules.specs.declared.fault.RuleCode.TheVariants.{Duplicate, LateName, NotType, NotConst}
+use Rattle.x_rules.specs.declared.fault.RuleCode.TheVariants.{UsesFaulty}
+use Rattle.x_compile.specs.Compile.{Item, faults_of}
 use Rattle.x_compile.specs.Faults.{fault_text}
 use Rattle.x_session.specs.Session.{Compiles}
+use Rattle.x_lsp.specs.declared.changes.Range.{Range}
+use Rattle.x_lsp.specs.declared.client.Client.{Client}
 use Rattle.x_lsp.specs.declared.encoding.Encoding.{Encoding}
 use Rattle.x_lsp.specs.declared.positions.Position.{Position}
 use Rattle.x_lsp.specs.Answers.{note_data}
 use Rattle.x_lsp.specs.Framing.{number_of}
+use Rattle.x_lsp.specs.NamePlaces.{definition_of}
 use Rattle.x_lsp.specs.Positions.{position_of}
 
 -- what stands behind so many line feeds; nothing where there are fewer
@@ -53,41 +59,92 @@ range_data start end = object (member (codes "end") (position_data end)
 abbrev pub fault_number : FaultCode → ℕ
 fault_number code = unwrap_or (number_of (before_first (λ b. b == 32) (fault_text code))) 0
 
-abbrev pub diagnostic_data : FaultCode → Data → List ℕ → Data
-diagnostic_data code range message = object
-    (member (codes "code") (number (unsigned (fault_number code)))
-    (member (codes "message") (string message)
-    (member (codes "range") range
-    (member (codes "severity") (number (unsigned 1))
-    (member (codes "source") (string (codes "rpcgen")) no_members)))))
+-- another place of a document that matters to a fault
+abbrev pub related_data : List ℕ → Range → Data
+related_data uri range = object
+    (member (codes "location") (object (member (codes "range") (range_data range.start range.end)
+    (member (codes "uri") (string uri) no_members)))
+    (member (codes "message") (string (codes "it is declared first here")) no_members))
 
--- What is published of a fault: its number, its name with a sentence, and the range of its token.
-pub record IsDiagnostic (encoding : Encoding) (text : List ℕ) (fault : Fault) (data' : Data) : Type 0 where
+-- the members of a diagnostic behind its range; with the other place, if there is one
+abbrev pub last_members : Members
+last_members = member (codes "severity") (number (unsigned 1))
+    (member (codes "source") (string (codes "rpcgen")) no_members)
+
+abbrev pub rest_members : Option Data → Members
+rest_members None = last_members
+rest_members (Some related) =
+    member (codes "relatedInformation") (array (item related no_items)) last_members
+
+abbrev pub diagnostic_data : ℕ → Data → List ℕ → Option Data → Data
+diagnostic_data number' range message related = object
+    (member (codes "code") (number (unsigned number'))
+    (member (codes "message") (string message)
+    (member (codes "range") range (rest_members related))))
+
+-- the code says something of how its word is declared
+abbrev pub is_of_declarer : FaultCode → Bool
+is_of_declarer (Rule Duplicate) = true
+is_of_declarer (Rule LateName) = true
+is_of_declarer (Rule NotType) = true
+is_of_declarer (Rule NotConst) = true
+is_of_declarer (Rule UsesFaulty) = true
+is_of_declarer code = false
+
+-- where a word is declared first, if not at this place
+abbrev pub if_elsewhere : ℕ → ℕ → Option ℕ
+if_elsewhere start place = if place == start then None else Some place
+
+abbrev pub declared_elsewhere : List Item → List ℕ → ℕ → Option ℕ
+declared_elsewhere items word start =
+    option_and_then (if_elsewhere start) (option_map (λ t. t.start) (definition_of items word))
+
+-- the other place that matters to a fault at a word: where the word is declared first
+abbrev pub other_place : Bool → List Item → FaultCode → List ℕ → ℕ → Option ℕ
+other_place shown items code word start =
+    if shown && is_of_declarer code then declared_elsewhere items word start else None
+
+-- the range is that of the token at a place, where there is one
+abbrev pub IsRangeAt : Encoding → List ℕ → Option ℕ → Option Range → Type 0
+IsRangeAt encoding text None range = range ≡ None
+IsRangeAt encoding text (Some start) range = (end : ℕ) × IsEndOfToken text start end
+    × (range ≡ Some (record { start = position_of encoding text start; end = position_of encoding text end }))
+
+-- What is published of a fault: its number, its name with a sentence, and the range of its token; and if the
+-- client shows that, the range of the token that declares its word first.
+pub record IsDiagnostic (client : Client) (uri text : List ℕ) (items : List Item) (fault : Fault)
+    (data' : Data) : Type 0 where
   pub end : ℕ
   pub sentence : List ℕ
+  pub other : Option Range
   pub token : IsEndOfToken text (start_of_fault text fault) end
-  pub data_is : data' ≡ diagnostic_data fault.code
-      (range_data (position_of encoding text (start_of_fault text fault)) (position_of encoding text end))
-      (fault_text fault.code ++ codes ": " ++ sentence)
+  pub other_is : IsRangeAt client.encoding text (other_place client.shows_related items fault.code
+      (slice_range text (start_of_fault text fault) end) (start_of_fault text fault)) other
+  pub data_is : data' ≡ diagnostic_data (fault_number fault.code)
+      (range_data (position_of client.encoding text (start_of_fault text fault))
+      (position_of client.encoding text end))
+      (fault_text fault.code ++ codes ": " ++ sentence) (option_map (related_data uri) other)
 
 -- what is published of faults, one after another
-abbrev pub AreDiagnostics : Encoding → List ℕ → List Fault → List Data → Type 0
-AreDiagnostics encoding text [] [] = Unit {0}
-AreDiagnostics encoding text [] (d ∷ ds) = ⊥
-AreDiagnostics encoding text (f ∷ fs) [] = ⊥
-AreDiagnostics encoding text (f ∷ fs) (d ∷ ds) =
-    IsDiagnostic encoding text f d × AreDiagnostics encoding text fs ds
+abbrev pub AreDiagnostics : Client → (uri text : List ℕ) → List Item → List Fault → List Data → Type 0
+AreDiagnostics client uri text items [] [] = Unit {0}
+AreDiagnostics client uri text items [] (d ∷ ds) = ⊥
+AreDiagnostics client uri text items (f ∷ fs) [] = ⊥
+AreDiagnostics client uri text items (f ∷ fs) (d ∷ ds) =
+    IsDiagnostic client uri text items f d × AreDiagnostics client uri text items fs ds
 
 -- the parameters of the note that publishes diagnostics of a version of a document, and the note
-abbrev pub params_data : List ℕ → ℤ → List Data → Data
-params_data uri version ds = object
+abbrev pub params_with : List ℕ → Data → List Data → Data
+params_with uri version ds = object
     (member (codes "diagnostics") (array (items_of ds))
-    (member (codes "uri") (string uri)
-    (member (codes "version") (number (of_integer version)) no_members)))
+    (member (codes "uri") (string uri) (member (codes "version") version no_members)))
+
+abbrev pub published_with : List ℕ → Data → List Data → Data
+published_with uri version ds =
+    note_data (codes "textDocument/publishDiagnostics") (params_with uri version ds)
 
 abbrev pub published_data : List ℕ → ℤ → List Data → Data
-published_data uri version ds =
-    note_data (codes "textDocument/publishDiagnostics") (params_data uri version ds)
+published_data uri version ds = published_with uri (number (of_integer version)) ds
 
 -- the note that publishes that nothing is wrong with a document which was closed
 abbrev pub closing_data : List ℕ → Data
@@ -95,7 +152,7 @@ closing_data uri = note_data (codes "textDocument/publishDiagnostics")
     (object (member (codes "diagnostics") (array no_items) (member (codes "uri") (string uri) no_members)))
 
 -- the text publishes the faults of a document's text, all and in order
-abbrev pub IsPublished : Encoding → (uri : List ℕ) → (version : ℤ) → (text said : List ℕ) → Type 0
-IsPublished encoding uri version text said = Compiles text (λ items.
-    (ds : List Data) × AreDiagnostics encoding text (faults_of text items) ds
+abbrev pub IsPublished : Client → (uri : List ℕ) → (version : ℤ) → (text said : List ℕ) → Type 0
+IsPublished client uri version text said = Compiles text (λ items.
+    (ds : List Data) × AreDiagnostics client uri text items (faults_of text items) ds
     × (said ≡ compact_text (published_data uri version ds)))

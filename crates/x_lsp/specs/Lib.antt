@@ -1,5 +1,6 @@
 pub mod Answers
 pub mod Changes
+pub mod DeclaredPlaces
 pub mod Diagnostics
 pub mod DocumentTexts
 pub mod Documents
@@ -14,6 +15,7 @@ pub mod Messages
 pub mod NamePlaces
 pub mod PassedLines
 pub mod Positions
+pub mod Published
 pub mod Publishing
 pub mod Replies
 pub mod Serving

@@ -77,27 +77,3 @@ fn tokens_provider(alloc: Global) -> Result<Value, AllocError>
         }
     })
 }
-
-/// How characters are counted: by bytes of UTF-8 where the client offers it, else by units of UTF-16.
-pub(crate) fn encoding_of(params: Option<&Value>) -> Encoding {
-    match offered(params) {
-        Some(offers) => {
-            for offer in offers {
-                if offer.as_str() == Some("utf-8") {
-                    return Encoding::Utf8;
-                }
-            }
-            Encoding::Utf16
-        }
-        None => Encoding::Utf16,
-    }
-}
-
-/// The encodings that a client offers.
-fn offered(params: Option<&Value>) -> Option<&Vec<Value>> {
-    params?
-        .get("capabilities")?
-        .get("general")?
-        .get("positionEncodings")?
-        .as_array()
-}

@@ -1,76 +1,49 @@
 //! What is published of a text's faults.
 
 ghost use Rattle.std.specs.List.{before_first};
-ghost use Rattle.std.specs.Prelude.{◌≡◌, ◌==◌, ◌≤◌, ◌++◌, ℕ, List, false, IfOk, codes};
+ghost use Rattle.std.specs.Prelude.{◌≡◌, ◌==◌, ◌≤◌, ◌++◌, ℕ, List, IfOk, codes, option_map, slice_range};
 ghost use Rattle.std.specs.Prelude.{length, string_bytes, map};
-ghost use Rattle.serde_json.specs.View.{items_view, view};
-ghost use Rattle.serde_json.specs.Written.{compact_text, items_have_float};
+ghost use Rattle.serde_json.specs.View.{view};
+ghost use Rattle.serde_json.specs.Written.{compact_text};
 ghost use Rattle.x_text.specs.Limits.{most_text};
 ghost use Rattle.x_compile.specs.Compile.{faults_of};
 ghost use Rattle.x_compile.specs.Faults.{fault_text};
 ghost use Rattle.x_session.specs.Session.{Compiles};
-ghost use Rattle.x_lsp.specs.Diagnostics.{AreDiagnostics, IsPublished, closing_data, diagnostic_data};
-ghost use Rattle.x_lsp.specs.Diagnostics.{fault_number, params_data, position_data, published_data};
-ghost use Rattle.x_lsp.specs.Diagnostics.{range_data};
+ghost use Rattle.x_lsp.specs.Diagnostics.{AreDiagnostics, IsEndOfToken, IsPublished, closing_data};
+ghost use Rattle.x_lsp.specs.Diagnostics.{diagnostic_data, fault_number, position_data, range_data};
+ghost use Rattle.x_lsp.specs.Diagnostics.{related_data};
+ghost use Rattle.x_lsp.specs.Published.{data_of, place_data};
 
 use crate::answers::note;
 use crate::changes::Range;
-use crate::encoding::Encoding;
+use crate::client::Client;
 use crate::fault_places::{FaultPlaces, token_end};
 use crate::head::number;
+use crate::other_places::other_range;
 use crate::places::Places;
 use crate::positions::Position;
+use crate::published::{Diagnostic, Place, published_text};
 use crate::sentences::sentence;
 use memchr::memchr;
-use serde_json::{Value, json, push};
+use serde_json::{Value, json};
 use std::alloc::{AllocError, Global};
 use std::str;
-use x_session::{Fault, FaultCode, Session};
-
-/// The severity of a diagnostic that is an error.
-const ERROR: u32 = 1;
+use x_session::{FaultCode, Session};
+use x_text::NoMemory;
 
 /// The note that publishes the faults of a document's text.
 pub fn publish(
     alloc: Global,
-    encoding: Encoding,
+    client: Client,
     uri: &str,
     version: i64,
     session: &Session,
-) -> Result<Vec<u8>, AllocError>
+) -> Result<Vec<u8>, NoMemory>
     requires { length session.now.text ≤ most_text }
-    ensures { IfOk result
-        (λ said. IsPublished encoding uri.now version session.now.text said.items) }
+    ensures { IfOk result (λ said. IsPublished client uri.now version session.now.text said.items) }
 {
-    let list = diagnostics(alloc, encoding, session)?;
-    published(alloc, uri, version, list)
-}
-
-/// The note that publishes these diagnostics.
-fn published(
-    alloc: Global,
-    uri: &str,
-    version: i64,
-    list: Vec<Value>,
-) -> Result<Vec<u8>, AllocError>
-    requires { items_have_float (items_view list.items) ≡ false }
-    ensures { IfOk result (λ said. said.items
-        ≡ compact_text (published_data uri.now version (map view list.items))) }
-{
-    let params = published_params(alloc, uri, version, list)?;
-    note(alloc, "textDocument/publishDiagnostics", params)
-}
-
-fn published_params(
-    alloc: Global,
-    uri: &str,
-    version: i64,
-    list: Vec<Value>,
-) -> Result<Value, AllocError>
-    ensures { IfOk result (λ v. view v ≡ params_data uri.now version (map view list.items)) }
-{
-    let list = Value::Array(list);
-    json!(in alloc; {"diagnostics": list, "uri": uri, "version": version})
+    let list = diagnostics(alloc, client, uri, session)?;
+    Ok(published_text(alloc, uri, version, list)?)
 }
 
 /// The note that publishes that nothing is wrong with a document which was closed.
@@ -82,19 +55,22 @@ pub(crate) fn closing_note(alloc: Global, uri: &str) -> Result<Vec<u8>, AllocErr
 }
 
 /// The diagnostics of a text.
-fn diagnostics(
+fn diagnostics<'d>(
     alloc: Global,
-    encoding: Encoding,
+    client: Client,
+    uri: &'d str,
     session: &Session,
-) -> Result<Vec<Value>, AllocError>
+) -> Result<Vec<Diagnostic<'d>>, NoMemory>
     requires { length session.now.text ≤ most_text }
     ensures { IfOk result (λ list. Compiles session.now.text (λ items.
-        AreDiagnostics encoding session.now.text (faults_of session.now.text items) (map view list.items))) }
+        AreDiagnostics client uri.now session.now.text items (faults_of session.now.text items)
+        (map data_of list.items))) }
 {
     let text = session.bytes();
     let mut list = Vec::new(alloc);
     let mut starts = FaultPlaces::of(text);
-    let mut places = Places::of(encoding, text);
+    let mut places = Places::of(client.encoding, text);
+    let mut others = None;
     for fault in session.faults() {
         let start = starts.start(&fault);
         let end = token_end(text, start);
@@ -102,14 +78,20 @@ fn diagnostics(
             start: places.position(start),
             end: places.position(end),
         };
-        let value = diagnostic(alloc, &fault, &range, word_at(text, start, end))?;
-        push(&mut list, value)?;
+        let word = word_at(text, start, end);
+        let code = fault.code;
+        let other = other_range(alloc, client, session, &mut others, code, word, start)?;
+        let related = place_of(uri, other);
+        list.push(diagnostic(alloc, code, range, word, related)?)?;
     }
     Ok(list)
 }
 
-/// The bytes between two places.
-fn word_at(text: &[u8], start: usize, end: usize) -> &[u8] {
+/// The bytes of the token between two places.
+fn word_at(text: &[u8], start: usize, end: usize) -> &[u8]
+    requires { IsEndOfToken text.now start end }
+    ensures { result.now ≡ slice_range text.now start end }
+{
     if start <= end && end <= text.len() {
         &text[start..end]
     } else {
@@ -117,21 +99,33 @@ fn word_at(text: &[u8], start: usize, end: usize) -> &[u8] {
     }
 }
 
-/// The diagnostic of a fault at a word.
-fn diagnostic(alloc: Global, fault: &Fault, range: &Range, word: &[u8]) -> Result<Value, AllocError>
-    ensures { IfOk result (λ v. (sentence : List ℕ) × (view v
-        ≡ diagnostic_data fault.now.code (range_data range.now.start range.now.end)
-        (fault_text fault.now.code ++ codes ": " ++ sentence))) }
+/// A range of a document.
+fn place_of(uri: &str, range: Option<Range>) -> Option<Place<'_>>
+    ensures { option_map place_data result ≡ option_map (related_data uri.now) range }
 {
-    let message = message(alloc, fault.code, str::from_utf8(word).unwrap_or("?"))?;
-    let range = range_value(alloc, range)?;
-    let number = fault_number(fault.code);
-    json!(in alloc; {
-        "code": number,
-        "message": (message.as_str()),
-        "range": range,
-        "severity": ERROR,
-        "source": "rpcgen"
+    match range {
+        Some(range) => Some(Place { uri, range }),
+        None => None,
+    }
+}
+
+/// The diagnostic of a fault at a word.
+fn diagnostic<'d>(
+    alloc: Global,
+    code: FaultCode,
+    range: Range,
+    word: &[u8],
+    related: Option<Place<'d>>,
+) -> Result<Diagnostic<'d>, AllocError>
+    ensures { IfOk result (λ d. (sentence : List ℕ) × (data_of d
+        ≡ diagnostic_data (fault_number code) (range_data range.start range.end)
+        (fault_text code ++ codes ": " ++ sentence) (option_map place_data related.entry))) }
+{
+    Ok(Diagnostic {
+        number: fault_number(code),
+        message: message(alloc, code, str::from_utf8(word).unwrap_or("?"))?,
+        range,
+        related,
     })
 }
 

@@ -8,6 +8,7 @@ ghost use Rattle.x_lsp.specs.Replies.{said_of};
 
 use crate::base::base_of;
 use crate::changes::{TextChange, apply_change};
+use crate::client::Client;
 use crate::diagnostics::publish;
 use crate::encoding::Encoding;
 use crate::kept::{ChangeFault, Reply, told};
@@ -55,24 +56,24 @@ impl OpenDocument {
     pub(crate) fn change(
         &mut self,
         alloc: Global,
-        encoding: Encoding,
+        client: Client,
         version: i64,
         changes: &[TextChange],
     ) -> Reply
-        ensures { Publishes encoding (string_bytes self.old.uri) version
-            (changed_by_all encoding self.old.session.text changes.now) (said_of result) }
+        ensures { Publishes client (string_bytes self.old.uri) version
+            (changed_by_all client.encoding self.old.session.text changes.now) (said_of result) }
     {
         let is_sent_whole = changes.first().is_some_and(|change| change.range.is_none());
         if !self.in_step && !is_sent_whole {
             return told(alloc, ChangeFault::OutOfStep);
         }
         self.in_step = false;
-        if let Err(fault) = apply_changes(&mut self.session, encoding, changes) {
+        if let Err(fault) = apply_changes(&mut self.session, client.encoding, changes) {
             return told(alloc, ChangeFault::Edit(fault));
         }
         self.in_step = true;
         self.version = version;
-        self.publish(alloc, encoding)
+        self.publish(alloc, client)
     }
 
     /// A change was not understood.
@@ -81,13 +82,13 @@ impl OpenDocument {
     }
 
     /// What publishes what is wrong with the text.
-    pub(crate) fn publish(&self, alloc: Global, encoding: Encoding) -> Reply
-        ensures { Publishes encoding (string_bytes self.now.uri) self.now.version self.now.session.text
+    pub(crate) fn publish(&self, alloc: Global, client: Client) -> Reply
+        ensures { Publishes client (string_bytes self.now.uri) self.now.version self.now.session.text
             (said_of result) }
     {
         match publish(
             alloc,
-            encoding,
+            client,
             self.uri.as_str(),
             self.version,
             &self.session,

@@ -1,6 +1,6 @@
 //! The positions of places.
 
-ghost use Rattle.std.specs.Prelude.{◌≡◌, ◌≤◌, ◌-◌, ◌*◌, drop, length};
+ghost use Rattle.std.specs.Prelude.{◌≡◌, ◌≤◌, ◌-◌, ◌*◌, IfSome, drop, length};
 ghost use Rattle.x_text.specs.Limits.{most_text};
 ghost use Rattle.x_lsp.specs.LineStarts.{IsLineStart};
 ghost use Rattle.x_lsp.specs.PassedLines.{IsLine};
@@ -12,10 +12,10 @@ use std::marker::Model;
 
 /// A line of a text.
 #[derive(Clone, Copy, Debug)]
-struct Line {
-    number: usize,
+pub(crate) struct Line {
+    pub(crate) number: usize,
     /// Where it starts.
-    start: usize,
+    pub(crate) start: usize,
     /// How many bytes it has, without its end.
     length: usize,
     /// How far behind its start the next one starts, if there is one.
@@ -37,11 +37,20 @@ impl Line {
             next: line_end(rest),
         }
     }
+
+    /// The line behind it.
+    pub(crate) fn next_line(self, text: &[u8]) -> Option<Line>
+        requires { IsLine text.now self }
+        ensures { IfSome result (λ line. IsLine text.now line) }
+    {
+        let next = self.next?;
+        Some(Line::at(text, self.number + 1, self.start + next))
+    }
 }
 
 /// The first line of a text.
 #[tactic(auto, using(crate::proofs::LineLemmas::first_start))]
-fn first(text: &[u8]) -> Line
+pub(crate) fn first(text: &[u8]) -> Line
     ensures line { IsLine text.now result }
     ensures start { result.start ≡ 0 }
 {
@@ -101,10 +110,19 @@ impl<'s> Places<'s> {
         requires { length text.now ≤ most_text }
         ensures { result ≡ record { encoding = encoding; text = text.now } }
     {
+        Places::from_line(encoding, text, first(text))
+    }
+
+    /// The places of a text, of which those of this line and of the ones behind it are found from its start.
+    pub(crate) fn from_line(encoding: Encoding, text: &'s [u8], line: Line) -> Places<'s>
+        requires small { length text.now ≤ most_text }
+        requires line { IsLine text.now line }
+        ensures { result ≡ record { encoding = encoding; text = text.now } }
+    {
         Places {
             encoding,
             text,
-            line: first(text),
+            line,
             bytes: 0,
             units: 0,
         }

@@ -15,7 +15,8 @@ ghost use Rattle.x_lsp.specs.Publishing.{Publishes};
 ghost use Rattle.x_lsp.specs.Replies.{said_of};
 
 use crate::answers::{ErrorCode, answer};
-use crate::capabilities::{capabilities, encoding_of};
+use crate::capabilities::capabilities;
+use crate::client::{Client, client_in};
 use crate::diagnostics::closing_note;
 use crate::document::OpenDocument;
 use crate::encoding::Encoding;
@@ -33,7 +34,7 @@ use std::alloc::{AllocError, Global};
 pub struct Server {
     alloc: Global,
     life: Life,
-    encoding: Encoding,
+    client: Client,
     documents: Vec<OpenDocument>,
     kept: KeptTexts,
 }
@@ -46,7 +47,10 @@ impl Server {
         Ok(Server {
             alloc,
             life: Life::Fresh,
-            encoding: Encoding::Utf16,
+            client: Client {
+                encoding: Encoding::Utf16,
+                shows_related: false,
+            },
             documents: Vec::new(alloc),
             kept: KeptTexts::new(alloc)?,
         })
@@ -137,7 +141,7 @@ impl Server {
         ensures code { IfErr result (λ code. is_of_request code ≡ true) }
     {
         match method {
-            Method::Initialize => match capabilities(self.alloc, encoding_of(params)) {
+            Method::Initialize => match capabilities(self.alloc, client_in(params).encoding) {
                 Ok(value) => Ok(value),
                 Err(_) => Err(ErrorCode::InternalError),
             },
@@ -157,7 +161,7 @@ impl Server {
         match self.find(uri) {
             Some(at) => {
                 let document = &self.documents[at];
-                result_of(self.alloc, self.encoding, document, question, params)
+                result_of(self.alloc, self.client.encoding, document, question, params)
             }
             None => Err(ErrorCode::InvalidParams),
         }
@@ -168,7 +172,7 @@ impl Server {
         ensures { self.new.life ≡ life_behind self.old.life method }
     {
         if method == Method::Initialize {
-            self.encoding = encoding_of(params);
+            self.client = client_in(params);
         }
         self.life = self.life.behind(method);
     }
@@ -229,14 +233,14 @@ impl Server {
 
     /// Opens a document, in place of one that is open by its name, and publishes its faults.
     fn open_document(&mut self, uri: &str, version: i64, text: &str) -> Reply
-        ensures says { Publishes self.old.encoding uri.now version text.now (said_of result) }
+        ensures says { Publishes self.old.client uri.now version text.now (said_of result) }
         ensures life { self.new.life ≡ self.old.life }
     {
         let opened = match OpenDocument::open(self.alloc, uri, version, text) {
             Ok(opened) => opened,
             Err(fault) => return told(self.alloc, ChangeFault::Edit(fault)),
         };
-        let reply = opened.publish(self.alloc, self.encoding);
+        let reply = opened.publish(self.alloc, self.client);
         if self.documents.reserve(1).is_err() {
             return Reply::NoMemoryNote;
         }
@@ -260,7 +264,7 @@ impl Server {
         };
         let document = &mut self.documents[at];
         match text_changes(self.alloc, changes) {
-            Ok(Some(changes)) => document.change(self.alloc, self.encoding, version, &changes),
+            Ok(Some(changes)) => document.change(self.alloc, self.client, version, &changes),
             Ok(None) => {
                 document.falls_out_of_step();
                 shown(self.alloc, "the parameters of didChange are wrong")

@@ -1,8 +1,8 @@
 //! Each public call of `x_lsp` once.
 use std::test::Fail;
 use x_lsp::{
-    Encoding, MessageReader, Places, Position, Server, TextChange, apply_change, definition_at,
-    offset_of, positions_lead_back, publish, references_at, serve,
+    Client, Encoding, MessageReader, Places, Position, Server, TextChange, apply_change,
+    definition_at, offset_of, positions_lead_back, publish, references_at, serve,
 };
 use x_session::Session;
 use x_text::{MAX_TEXT, MemSink, MemTap};
@@ -44,7 +44,11 @@ fn published_length(rt: &HostRuntime, session: &Session) -> Result<usize, Fail> 
     if session.bytes().len() > MAX_TEXT {
         return Ok(0);
     }
-    Ok(publish(rt.alloc(), Encoding::Utf8, "t.x", 1, session)?.len())
+    let client = Client {
+        encoding: Encoding::Utf8,
+        shows_related: true,
+    };
+    Ok(publish(rt.alloc(), client, "t.x", 1, session)?.len())
 }
 
 #[test]

@@ -1,40 +1,79 @@
-use Rattle.std.proofs.Common.{◌≡◌, ◌++◌, ◌∙◌, [], ◌∷◌, map, codes, ap, sym, subst, append_assoc}
-use Rattle.serde_json.specs.View.{view}
+use Rattle.std.proofs.Common.{◌≡◌, ◌++◌, ◌∙◌, [], ◌∷◌, map, codes, ap, sym, subst, append_assoc, append-nil, refl}
+use Rattle.std.specs.Prelude.{IfSome, slice_range}
+use Rattle.x_compile.specs.Compile.{IsCompilation}
 use Rattle.x_compile.specs.Faults.{fault_text}
-use Rattle.x_lsp.specs.Diagnostics.{AreDiagnostics, IsDiagnostic, IsEndOfToken, diagnostic_data, range_data, start_of_fault}
+use Rattle.x_session.specs.Session.{Compiles}
+use Rattle.x_lsp.specs.DeclaredPlaces.{AreOthersOf}
+use Rattle.x_lsp.specs.Diagnostics.{AreDiagnostics, IsDiagnostic, IsEndOfToken, IsRangeAt, diagnostic_data, fault_number, other_place, range_data, start_of_fault}
 use Rattle.x_lsp.specs.Positions.{position_of}
-use Rattle.x_lsp.proofs.DiagnosticLemmas.{diagnostics_more, map-snoc}
+use Rattle.x_lsp.specs.Published.{data_of}
+use Rattle.x_lsp.proofs.DiagnosticLemmas.{all_diagnostics, diagnostics_more, map-snoc, no_diagnostics}
 use Rattle.x_lsp.proofs.diagnostics.diagnostics.Goals as goal
+
+pub loop-fault-init : goal.loop-fault-init
+loop-fault-init c =
+    let text = c.bytes-text.result.now in
+    let h = c.faults-fault-items.ensures in
+    let none = no_diagnostics c.args.client c.args.uri.now c.args.session.now.text h in
+    record {
+      starts = c.of-starts.ensures;
+      places = c.of-places.ensures;
+      others = tt;
+      told = (
+        [],
+        refl,
+        subst (λ t. Compiles t (λ items. AreDiagnostics c.args.client c.args.uri.now t items [] (map data_of c.new-list.result.items))) (sym c.bytes-text.ensures)
+            (subst (λ l. Compiles c.args.session.now.text (λ items. AreDiagnostics c.args.client c.args.uri.now c.args.session.now.text items [] (map data_of l))) (sym c.new-list.ensures.items) none),
+      );
+    }
 
 pub loop-fault-preserved : goal.loop-fault-preserved
 loop-fault-preserved c =
-    let e = c.args.encoding in
+    let client = c.args.client in
+    let e = client.encoding in
     let text = c.bytes-text.result.now in
+    let uri = c.args.uri.now in
     let inv = c.loop-fault.invariant in
-    let told = inv.2.0 in
+    let told = inv.told.0 in
     let f = c.in-Some.fault in
     let start = c.start-start.result in
     let end = c.token_end-end.result in
-    let start_is : start ≡ start_of_fault text f = c.start-start.ensures.start ∙ ap (λ t. start_of_fault t f) inv.0 in
+    let start_is : start ≡ start_of_fault text f = c.start-start.ensures.start ∙ ap (λ t. start_of_fault t f) inv.starts in
     let first : c.position.result ≡ position_of e text (start_of_fault text f) =
-    c.position.ensures.position ∙ ap (λ p. position_of p.encoding p.text start) inv.1 ∙ ap (position_of e text) start_is in
-    let places = c.position.ensures.same ∙ inv.1 in
+    c.position.ensures.position ∙ ap (λ p. position_of p.encoding p.text start) inv.places ∙ ap (position_of e text) start_is in
+    let places = c.position.ensures.same ∙ inv.places in
     let second : c.position-in-loop-fault.result ≡ position_of e text end =
     c.position-in-loop-fault.ensures.position ∙ ap (λ p. position_of p.encoding p.text end) places in
-    let shown = c.in_ok-value.ensures in
-    let value = c.in_ok-value.value in
-    let is : IsDiagnostic e text f (view value) = record {
+    let shown = c.in_ok-diagnostic.ensures in
+    let value = c.in_ok-diagnostic.field-0 in
+    let are = inv.told.2 in
+    let compiled = subst (λ t. IsCompilation t are.0 are.1) c.bytes-text.ensures are.2 in
+    let other = subst (λ t. IsRangeAt e t (other_place client.shows_related are.1 f.code c.word_at-word.result.now start) c.in_ok-other.other) (sym c.bytes-text.ensures) (c.in_ok-other.ensures.range are.0 are.1 compiled) in
+    let is : IsDiagnostic client uri text are.1 f (data_of value) = record {
       end = end;
       sentence = shown.0;
+      other = c.in_ok-other.other;
       token = subst (λ k. IsEndOfToken text k end) start_is c.token_end-end.ensures;
-      data_is = shown.1 ∙ (λ i. diagnostic_data f.code (range_data (first i) (second i)) (fault_text f.code ++ codes ": " ++ shown.0));
+      other_is = subst (λ k. IsRangeAt e text (other_place client.shows_related are.1 f.code (slice_range text k end) k) c.in_ok-other.other) start_is
+          (subst (λ w. IsRangeAt e text (other_place client.shows_related are.1 f.code w start) c.in_ok-other.other) c.word_at-word.ensures other);
+      data_is = shown.1 ∙ (λ i. diagnostic_data (fault_number f.code) (range_data (first i) (second i)) (fault_text f.code ++ codes ": " ++ shown.0) (c.place_of-related.ensures i));
     } in
-    let listed = ap (map view) c.in_ok-push.ensures.ok ∙ map-snoc view c.loop-fault.list.items value in (
-      c.start-start.ensures.same ∙ inv.0,
-      c.position-in-loop-fault.ensures.same ∙ places,
-      (
+    let listed = ap (map data_of) c.in_ok-push.ensures.items ∙ map-snoc data_of c.loop-fault.list.items value in
+    record {
+      starts = c.start-start.ensures.same ∙ inv.starts;
+      places = c.position-in-loop-fault.ensures.same ∙ places;
+      others = subst (λ t. IfSome c.other_range.new.made (AreOthersOf t)) (sym c.bytes-text.ensures) c.in_ok-other.ensures.made;
+      told = (
         told ++ f ∷ [],
-        inv.2.1 ∙ ap (λ l. told ++ l) c.in-Some.ensures.steps ∙ sym (append_assoc told (f ∷ []) c.next.new.self),
-        subst (AreDiagnostics e text (told ++ f ∷ [])) (sym listed) (diagnostics_more e text told (map view c.loop-fault.list.items) f (view value) inv.2.2 is),
-      ),
-    )
+        inv.told.1 ∙ ap (λ l. told ++ l) c.in-Some.ensures.steps ∙ sym (append_assoc told (f ∷ []) c.next.new.self),
+        (are.0, are.1, are.2, subst (AreDiagnostics client uri text are.1 (told ++ f ∷ [])) (sym listed) (diagnostics_more client uri text are.1 told (map data_of c.loop-fault.list.items) f (data_of value) are.3 is)),
+      );
+    }
+
+pub returns : goal.returns
+returns c =
+    let inv = c.loop-fault.invariant.told in
+    let text = c.args.session.now.text in
+    let are = subst (λ t. Compiles t (λ items. AreDiagnostics c.args.client c.args.uri.now t items inv.0 (map data_of c.loop-fault.list.items))) c.bytes-text.ensures inv.2 in
+    all_diagnostics c.args.client c.args.uri.now text inv.0 c.faults-fault-items.result (map data_of c.loop-fault.list.items)
+    (sym (append-nil inv.0) ∙ ap (λ l. inv.0 ++ l) (sym c.in-None.ensures.steps.0) ∙ sym inv.1 ∙ c.into_iter-fault-iterator.ensures.into_iter_gives) c.faults-fault-items.ensures are

@@ -14,7 +14,7 @@ returns-then-is_err-2-clause-says c = inr no_memory_shown
 
 pub returns-clause-says : goal.returns-clause-says
 returns-clause-says c =
-    let e = c.args.self.now.encoding in
+    let e = c.args.self.now.client in
     let d = c.in-Ok.opened in
     let said = said_of c.publish-reply.result in
     subst (λ u. Publishes e u c.args.version c.args.text.now said) c.in-Ok.ensures.uri
