@@ -5,12 +5,15 @@ ghost use Rattle.x_text.specs.declared.text.source.TheConstants.{MAX_TEXT};
 ghost use Rattle.x_cutting.specs.ItemList.{AreOfText, counts};
 ghost use Rattle.x_trees.specs.View.{tree_at};
 ghost use Rattle.x_compile.specs.Definitions.{numbered};
-ghost use Rattle.x_compile.specs.KeptView.{entry_definitions, kept_part};
+ghost use Rattle.x_compile.specs.KeptView.{entry_definitions, entry_results, kept_part};
+ghost use Rattle.x_rules.specs.KeptViews.{lent_outcome};
+ghost use Rattle.x_rules.specs.Results.{result_at};
 
 use crate::content::Content;
 use std::alloc::Global;
 use x_gen::{PieceList, Pieces};
 use x_item::{Definition, ItemEntry, Items};
+use x_rules::Checked;
 use x_text::{GapIter, NoMemory};
 use x_uses::Uses;
 
@@ -76,6 +79,13 @@ impl ItemTable {
             ≡ option_and_then (λ d. d) (slice_get (entry_definitions self.now.entries.list) index) }
     {
         self.entries.get(index)?.kept.definition()
+    }
+
+    /// What checking the item at an index found, if it has a definition.
+    pub fn checked(&self, index: usize) -> Option<&Checked>
+        ensures { lent_outcome result ≡ result_at (entry_results self.now.entries.list) index }
+    {
+        self.entries.get(index)?.kept.checked()
     }
 
     /// The definition of each item.

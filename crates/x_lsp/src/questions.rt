@@ -6,7 +6,6 @@ ghost use Rattle.serde_json.specs.Written.{has_float};
 ghost use Rattle.x_lsp.specs.Lives.{is_of_request};
 
 mod completion;
-mod constants;
 mod cursor;
 mod folds;
 mod generated;

@@ -1,7 +1,7 @@
 //! A text that stays open, with all that compiling it gives.
 
 ghost use Rattle.std.specs.Prelude.{◌≡◌, ◌↔◌, ◌<◌, length, option_map, slice_get, IfOk};
-ghost use Rattle.std.specs.Prelude.{OnOk, OnErr, IfErr, IsErrOf, take};
+ghost use Rattle.std.specs.Prelude.{OnOk, OnErr, IfErr, IsErrOf, map, take};
 ghost use Rattle.x_text.specs.Edits.{change_of, edited_by, Judges};
 ghost use Rattle.x_text.specs.Limits.{most_text};
 ghost use Rattle.x_lex.specs.Places.{lexeme};
@@ -9,6 +9,8 @@ ghost use Rattle.x_trees.specs.View.{tree_at};
 ghost use Rattle.x_session.specs.Session.{Document, Compiles, edited_by_all, TakesAll, StopsAt};
 ghost use Rattle.x_compile.specs.Compile.{tokens_of, definitions_of, definition_at, faults_of};
 ghost use Rattle.x_compile.specs.Definitions.{numbered};
+ghost use Rattle.x_rules.specs.Results.{meaning_at, result_at};
+ghost use Rattle.x_rules.specs.RustViews.{view_meaning};
 ghost use Rattle.x_session.specs.Typed.{GivesSchema};
 ghost use Rattle.x_schema.specs.Schemas.{IsSchemaOf};
 ghost use Rattle.x_compile.specs.KeptView.{entry_definitions};
@@ -27,6 +29,8 @@ pub use work::Work;
 use x_compile::{Compilation, Fault, Faults, ItemTable, compile};
 use x_item::Definition;
 use x_lex::{Token, TokenIter, Tokens};
+use x_names::Declarer;
+use x_rules::Meaning;
 use x_sema::Schema;
 use x_text::{Edit, Meter, NoMemory, Source, TextBuffers, TextFault};
 
@@ -200,6 +204,17 @@ impl Session {
         ensures { Compiles self.now.text (λ items. tree_at result ≡ definition_at items index) }
     {
         self.items.definition(index)
+    }
+
+    /// What a name means whose first declarer this is: [`Meaning::Bad`] where that item has a fault.
+    pub fn meaning(&self, first: &Declarer) -> Meaning<'_>
+        ensures { Compiles self.now.text (λ items. view_meaning result
+            ≡ meaning_at (result_at (map (λ i. i.result) items)) first.now) }
+    {
+        match self.items.checked(first.item) {
+            Some(checked) => checked.meaning(first.place),
+            None => Meaning::Bad,
+        }
     }
 
     /// How many items have a definition.

@@ -8,14 +8,13 @@ use crate::diagnostics::range_value;
 use crate::document::OpenDocument;
 use crate::encoding::Encoding;
 use crate::places::Places;
-use crate::questions::constants::ItemWords;
 use crate::questions::locations::range_of;
 use crate::questions::sizes::Size;
 use crate::questions::text_names::{FoundName, declared_name_at, names};
 use serde_json::{Value, json};
 use std::alloc::{AllocError, Global};
-use x_item::{NameKind, is_significant, next_item};
-use x_names::{Declarer, Names};
+use x_item::{is_significant, next_item};
+use x_rules::Meaning;
 use x_session::{SchemaFault, Session};
 use x_text::NoMemory;
 
@@ -33,7 +32,7 @@ pub(crate) fn hover(
     let names = names(alloc, session)?;
     match declared_name_at(alloc, session, &names, at)? {
         Some(found) => {
-            let told = told_of(alloc, session, &names, &found)?;
+            let told = told_of(alloc, session, &found)?;
             let mut places = Places::of(encoding, session.bytes());
             let range = range_value(alloc, &range_of(&mut places, &found.token))?;
             Ok(hover_value(alloc, told.as_str(), range)?)
@@ -52,64 +51,48 @@ fn hover_value(alloc: Global, told: &str, range: Value) -> Result<Value, AllocEr
 }
 
 /// The definition of a name as it is written, and what the name means behind an empty line.
-fn told_of(
-    alloc: Global,
-    session: &Session,
-    names: &Names,
-    found: &FoundName,
-) -> Result<String, NoMemory> {
+fn told_of(alloc: Global, session: &Session, found: &FoundName) -> Result<String, NoMemory> {
     let span = item_span(alloc, session, found.declarer.item)?;
     let mut told = String::from_utf8_lossy(alloc, written(session.bytes(), span))?;
-    if let Some(meaning) = meaning_of(alloc, session, names, found)? {
+    if let Some(meaning) = meaning_of(alloc, session, found)? {
         told.push_str("\n\n")?;
         told.push_str(meaning.as_str())?;
     }
     Ok(told)
 }
 
-/// What a name means in a text without a fault: the number of a constant, or how many bytes the values of a
-/// type take.
+/// What a name means whose item has no fault: the number of a constant; of a type its height, and in a text
+/// without a fault how many bytes its values take.
 fn meaning_of(
     alloc: Global,
     session: &Session,
-    names: &Names,
     found: &FoundName,
 ) -> Result<Option<String>, NoMemory> {
-    if session.fault_count() > 0 {
-        return Ok(None);
-    }
-    match found.declarer.kind {
-        NameKind::Constant => number_of(alloc, session, names, &found.declarer),
-        NameKind::Program => Ok(None),
-        NameKind::Enum | NameKind::Struct | NameKind::Union | NameKind::Typedef => {
-            size_of_type(alloc, session, found.token.text)
+    match session.meaning(&found.declarer) {
+        Meaning::Constant(number) => Ok(Some(format!(in alloc; "= {number}")?)),
+        Meaning::Type { height, .. } => {
+            let told = match size_of_type(alloc, session, found.token.text)? {
+                Some(size) => {
+                    let size = size.told(alloc)?;
+                    format!(in alloc; "{size}, height {height}")?
+                }
+                None => format!(in alloc; "height {height}")?,
+            };
+            Ok(Some(told))
         }
+        Meaning::Program | Meaning::Bad => Ok(None),
     }
 }
 
-/// The number of a constant.
-fn number_of(
-    alloc: Global,
-    session: &Session,
-    names: &Names,
-    declarer: &Declarer,
-) -> Result<Option<String>, NoMemory> {
-    let words = ItemWords::of(alloc, session, declarer.item.saturating_add(1))?;
-    match words.number(names, declarer.item, declarer.word) {
-        Some(number) => Ok(Some(format!(in alloc; "= {number}")?)),
-        None => Ok(None),
-    }
-}
-
-/// How many bytes the values of a type take.
-fn size_of_type(alloc: Global, session: &Session, name: &[u8]) -> Result<Option<String>, NoMemory> {
+/// How many bytes the values of a type take, in a text without a fault.
+fn size_of_type(alloc: Global, session: &Session, name: &[u8]) -> Result<Option<Size>, NoMemory> {
     let schema = match session.schema() {
         Ok(schema) => schema,
         Err(SchemaFault::Faulty) => return Ok(None),
         Err(SchemaFault::NoMemory) => return Err(NoMemory),
     };
     match schema.type_named(name) {
-        Some(id) => Ok(Some(Size::of_type(alloc, &schema, id)?.told(alloc)?)),
+        Some(id) => Ok(Some(Size::of_type(alloc, &schema, id)?)),
         None => Ok(None),
     }
 }
