@@ -34,6 +34,16 @@
     (let ((location (xref-item-location it)))
       (say "  %s:%s %s" (xref-location-line location) (1+ (xref-file-location-column location)) (xref-item-summary it)))))
 
+(defun names-of (index)
+  "The names of an outline, each before those in it."
+  (mapcan (lambda (it) (cons (car it) (and (consp (cdr it)) (names-of (cdr it))))) index))
+
+(defun renamed (name)
+  "Gives the name at point a new one, and prints the lines then."
+  (say "renamed at %s:" (place (point)))
+  (eglot-rename name)
+  (dolist (line (split-string (buffer-string) "\n" t)) (say "  %s" line)))
+
 (find-file "t.x")
 (run-hooks 'post-command-hook)
 (wait-for #'eglot-current-server)
@@ -52,5 +62,8 @@
 (goto-char (point-min))
 (search-forward "struct ")
 (found "references" (xref-backend-references 'eglot (xref-backend-identifier-at-point 'eglot)))
+(say "symbols: %s" (string-join (names-of (funcall imenu-create-index-function)) " "))
+(renamed "point")
+(faults 0)
 (eglot-shutdown (eglot-current-server))
 (say "ended: %s" (not (eglot-current-server)))
