@@ -129,10 +129,23 @@ impl Tokens {
         ensures tokens { result ≡ drop index (lexemes source.now self.now.list) }
         ensures small { length result ≤ MAX_TEXT }
     {
+        let start = self.entries.start_of(index);
+        self.iter_at(index, start, source)
+    }
+
+    /// Goes over the tokens of the text that these are the tokens of, from that at `index` on, which starts at
+    /// the place `start`. Unlike [`Tokens::iter_from`] it looks at no other token.
+    pub fn iter_at<'a>(&'a self, index: usize, start: usize, source: &'a Source) -> TokenIter<'a>
+        requires tokens { AreTokens source.now self.now.list }
+        requires within { index ≤ length self.now.list }
+        requires start { start ≡ end_of self.now.list index }
+        ensures tokens { result ≡ drop index (lexemes source.now self.now.list) }
+        ensures small { length result ≤ MAX_TEXT }
+    {
         TokenIter {
             entries: self.entries.iter_from(index),
             text: source.bytes(),
-            at: self.entries.start_of(index),
+            at: start,
         }
     }
 
