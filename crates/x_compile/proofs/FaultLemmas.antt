@@ -1,22 +1,23 @@
 -- A walk over the faults of the items of a text.
-use Rattle.std.proofs.Common.{◌≡◌, ℕ, zero, suc, ◌+◌, ◌-◌, ◌<◌, ◌≤◌, ◌==◌, ◌⊎◌, inl, inr, Bool, true, false, cond, List, [], ◌∷◌, ◌++◌, map, take, drop, arith, refl, sym, ap, ◌∙◌, subst, ne_eqb}
+use Rattle.std.proofs.Common.{◌≡◌, ℕ, zero, suc, ◌+◌, ◌-◌, ◌<◌, ◌≤◌, ◌≢◌, ◌==◌, ◌⊎◌, inl, inr, Bool, true, false, cond, List, [], ◌∷◌, ◌++◌, map, take, drop, arith, refl, sym, ap, ◌∙◌, subst, ne_eqb}
 use Rattle.std.specs.Prelude.{◌&&◌, All}
 use Rattle.std.proofs.lemmas.Bool.Decides.{nat_tests}
+use Rattle.x_text.proofs.ListLemmas.{map_append}
 use Rattle.x_lex.specs.Places.{Lexeme}
 use Rattle.x_trees.specs.Words.{is_significant}
 use Rattle.x_item.specs.Parse.{Parse, Nothing, Def, Fault}
 use Rattle.x_cutting.specs.declared.cutting.item_entry.ItemEntry.{ItemEntry}
 use Rattle.x_rules.specs.Rules.{Ascends, IsBefore}
 use Rattle.x_rules.specs.declared.fault.WordFault.{WordFault}
-use Rattle.x_compile.specs.Compile.{at_token, faults_at, faults_from, item_faults, placed, start_of, token_of_word}
-use Rattle.x_compile.specs.FaultWalk.{AreOrdered, IsToldBy, fault_at, faults_here, faults_left, places_left, rule_at}
-use Rattle.x_compile.specs.KeptView.{item_with, items_with}
-use Rattle.x_compile.specs.ItemReading.{ItemReading, behind, place_of, unread, word_place}
+use Rattle.x_compile.specs.Compile.{Item, at_token, faults_at, faults_from, in_lines, item_places, place_in, placed, places_from, rule_faults, start_of, token_faults, token_of_word}
+use Rattle.x_compile.specs.FaultWalk.{AreOrdered, IsToldBy, found_at, places_left, rule_at}
+use Rattle.x_compile.specs.KeptView.{IsMarked, found_result, has_faults, is_marked, item_with, kept_found, kept_parse}
+use Rattle.x_compile.specs.ItemReading.{ItemReading, place_of, unread, word_place}
+use Rattle.x_compile.specs.declared.fault.TokenFault.{TokenFault}
 use Rattle.x_compile.specs.declared.fault.FaultCode.TheVariants as codes
 use Rattle.x_compile.specs.declared.content.Content.{Content}
 use Rattle.x_compile.specs.declared.content.Verdict.{Verdict}
 use Rattle.x_compile.specs.declared.content.Verdict.TheVariants.{Syntax, Rules}
-use Rattle.x_compile.specs.declared.item_faults.ItemFaults.{ItemFaults}
 
 -- ---- one token more is read
 
@@ -106,21 +107,20 @@ first_place r read words word =
     let token : r.read + token_of_word (unread r) word ≡ token_of_word (unread r) word = omega (arith, read) in
     not_read r word (omega (arith, words)) ∙ ap (word_place (unread r) r.read) same ∙ (λ i. record { token = token i; start = start_of (unread r) (token_of_word (unread r) word) })
 
-begun_each : (text : List ℕ) (n : ℕ) (r : ItemReading) (fs : List WordFault) → r.read ≡ 0 → r.words ≡ 0 → map (fault_at text n) (map (rule_at r) fs) ≡ map (placed text n (unread r)) (map (at_token (unread r)) fs)
-begun_each text n r [] read words = refl
-begun_each text n r (f ∷ fs) read words =
+begun_each : (n : ℕ) (r : ItemReading) (fs : List WordFault) → r.read ≡ 0 → r.words ≡ 0 → map (found_at n) (map (rule_at r) fs) ≡ map (place_in n (unread r)) (map (at_token (unread r)) fs)
+begun_each n r [] read words = refl
+begun_each n r (f ∷ fs) read words =
     let here = first_place r read words f.word in
-    let others = begun_each text n r fs read words in
-    λ i. fault_at text n (here i, codes.Rule f.code) ∷ others i
+    let others = begun_each n r fs read words in
+    λ i. found_at n (here i, codes.Rule f.code) ∷ others i
 
-pub begun : (text : List ℕ) (n : ℕ) (r : ItemReading) (p : Parse) (fs : List WordFault) (t : Verdict) → r.read ≡ 0 → r.words ≡ 0 → IsToldBy p fs t
-    → map (fault_at text n) (places_left r t) ≡ map (placed text n (unread r)) (faults_at (unread r) p fs)
-begun text n r (Fault token code) fs (Syntax at why) read words is = λ i. placed text n (unread r) (record { token = is.0 i; code = codes.Syntax (is.1 i) }) ∷ []
-begun text n r (Fault token code) fs (Rules ruled) read words is = absurd is
-begun text n r Nothing fs (Syntax at why) read words is = absurd is
-begun text n r Nothing fs (Rules ruled) read words is = ap (λ l. map (fault_at text n) (map (rule_at r) l)) is ∙ begun_each text n r fs read words
-begun text n r (Def d) fs (Syntax at why) read words is = absurd is
-begun text n r (Def d) fs (Rules ruled) read words is = ap (λ l. map (fault_at text n) (map (rule_at r) l)) is ∙ begun_each text n r fs read words
+pub begun : (n : ℕ) (r : ItemReading) (p : Parse) (fs : List WordFault) (t : Verdict) → r.read ≡ 0 → r.words ≡ 0 → IsToldBy p fs t → map (found_at n) (places_left r t) ≡ map (place_in n (unread r)) (faults_at (unread r) p fs)
+begun n r (Fault token code) fs (Syntax at why) read words is = λ i. place_in n (unread r) (record { token = is.0 i; code = codes.Syntax (is.1 i) }) ∷ []
+begun n r (Fault token code) fs (Rules ruled) read words is = absurd is
+begun n r Nothing fs (Syntax at why) read words is = absurd is
+begun n r Nothing fs (Rules ruled) read words is = ap (λ l. map (found_at n) (map (rule_at r) l)) is ∙ begun_each n r fs read words
+begun n r (Def d) fs (Syntax at why) read words is = absurd is
+begun n r (Def d) fs (Rules ruled) read words is = ap (λ l. map (found_at n) (map (rule_at r) l)) is ∙ begun_each n r fs read words
 
 -- faults behind a word stay where they are
 later_word : (f g : WordFault) → IsBefore f g → f.word ≤ g.word
@@ -143,17 +143,42 @@ behind_first f fs up = from f.word f fs (omega arith) up
     from word f (g ∷ fs) le up zero d lt = let h = later_word f g up.0 in omega (arith, le, h)
     from word f (g ∷ fs) le up (suc k) d lt = from word g fs (let h = later_word f g up.0 in omega (arith, le, h)) up.1 k d (omega (arith, lt))
 
--- ---- item by item
+-- ---- items with faults, and without
 
--- no fault of the item is left, and the next item begins
-pub next_item : (text : List ℕ) (old new : ItemFaults) (n : ℕ) (e : ItemEntry Content) (entries es : List (ItemEntry Content)) → entries ≡ e ∷ es → places_left old.reader old.told ≡ []
-    → faults_here text new ≡ item_faults text n (item_with (behind old.reader) e) → behind new.reader ≡ drop e.tokens (behind old.reader)
-    → faults_left text new (n + 1) es ≡ faults_left text old n entries
-next_item text old new n e entries es all none here there =
-    let more : n + 1 ≡ suc n = omega arith in
-    (λ i. here i ++ faults_from text (more i) (items_with (there i) es))
-    ∙ sym (ap (λ l. faults_from text n (items_with (behind old.reader) l)) all)
-    ∙ sym (ap (λ ps. map (fault_at text old.number) ps ++ faults_from text n (items_with (behind old.reader) entries)) none)
+-- an item that is said to have none has none
+none_marked : (tokens : List Lexeme) (p : Parse) (ruled : List WordFault) → has_faults p ruled ≡ false → faults_at tokens p ruled ≡ []
+none_marked tokens (Fault token code) ruled e = absurd (cc)
+none_marked tokens Nothing [] e = refl
+none_marked tokens Nothing (f ∷ fs) e = absurd (cc)
+none_marked tokens (Def d) [] e = refl
+none_marked tokens (Def d) (f ∷ fs) e = absurd (cc)
+
+pub no_places : (n : ℕ) (tokens : List Lexeme) (e : ItemEntry Content) → IsMarked e.kept → is_marked e.kept ≡ false → item_places n (item_with tokens e) ≡ []
+no_places n tokens e marked none =
+    ap (map (place_in n (take e.tokens tokens))) (none_marked (take e.tokens tokens) (kept_parse e.kept) (rule_faults (found_result (kept_found e.kept))) (sym marked ∙ none))
+
+-- one that is said to have some has some
+some_marked : (n : ℕ) (tokens : List Lexeme) (p : Parse) (ruled : List WordFault) → has_faults p ruled ≡ true → map (place_in n tokens) (faults_at tokens p ruled) ≢ []
+some_marked n tokens (Fault token code) ruled e none = (cc)
+some_marked n tokens Nothing [] e none = (cc)
+some_marked n tokens Nothing (f ∷ fs) e none = (cc)
+some_marked n tokens (Def d) [] e none = (cc)
+some_marked n tokens (Def d) (f ∷ fs) e none = (cc)
+
+pub some_places : (n : ℕ) (tokens : List Lexeme) (e : ItemEntry Content) → IsMarked e.kept → is_marked e.kept ≡ true → item_places n (item_with tokens e) ≢ []
+some_places n tokens e marked some = some_marked n (take e.tokens tokens) (kept_parse e.kept) (rule_faults (found_result (kept_found e.kept))) (sym marked ∙ some)
 
 pub ordered_rest : (e : ItemEntry Content) (entries es : List (ItemEntry Content)) → entries ≡ e ∷ es → AreOrdered entries → AreOrdered es
 ordered_rest e entries es all ordered k d lt = subst AreOrdered all ordered (suc k) d (omega (arith, lt))
+
+-- ---- faults with their lines
+
+pub in_lines_from : (text : List ℕ) (n : ℕ) (items : List Item) → map (in_lines text) (places_from n items) ≡ faults_from text n items
+in_lines_from text n [] = refl
+in_lines_from text n (i ∷ is) =
+    map_append (in_lines text) (item_places n i) (places_from (suc n) is)
+    ∙ (λ j. each (token_faults i) j ++ in_lines_from text (suc n) is j)
+  where
+    each : (fs : List TokenFault) → map (in_lines text) (map (place_in n i.tokens) fs) ≡ map (placed text n i.tokens) fs
+    each [] = refl
+    each (f ∷ fs) = ap (λ l. placed text n i.tokens f ∷ l) (each fs)

@@ -9,7 +9,7 @@ use Rattle.x_cutting.specs.ItemList.{counts}
 use Rattle.x_cutting.specs.ItemList as items
 use Rattle.x_cutting.specs.declared.cutting.item_entry.ItemEntry.{ItemEntry}
 use Rattle.x_compile.specs.Checking.{AreKnown, IsKnownAt}
-use Rattle.x_compile.specs.KeptView.{AreWith, IsWith, IsWithAt, found_pieces, found_result, kept_definition, kept_found, kept_lines, kept_parse, renewed_pieces}
+use Rattle.x_compile.specs.KeptView.{AreWith, IsMarked, IsWith, IsWithAt, found_pieces, found_result, kept_bytes, kept_definition, kept_found, kept_lines, kept_parse, renewed_pieces}
 use Rattle.x_compile.specs.declared.content.CheckResult.{CheckResult}
 use Rattle.x_compile.specs.declared.content.Content.{Content}
 
@@ -214,14 +214,17 @@ entry_of (x ∷ es) zero k is = (x, refl, same_Some x.kept k is)
 entry_of (x ∷ es) (suc i) k is = entry_of es i k is
 
 -- the same item, whatever the number of its tokens, with which what was found is kept
-pub kept_with : (out new : Content) (r : Option (Box CheckResult)) → kept_parse new ≡ kept_parse out → kept_lines new ≡ kept_lines out → found_result (kept_found new) ≡ found_result r
-    → found_pieces (kept_found new) ≡ renewed_pieces (found_pieces (kept_found out)) r → (n : ℕ) → IsWith (record { tokens = n; kept = out }) r (record { tokens = n; kept = new })
-kept_with out new r parse lines result pieces n = record {
+pub kept_with : (out new : Content) (r : Option (Box CheckResult)) → kept_bytes new ≡ kept_bytes out → kept_parse new ≡ kept_parse out → kept_lines new ≡ kept_lines out → found_result (kept_found new) ≡ found_result r
+    → found_pieces (kept_found new) ≡ renewed_pieces (found_pieces (kept_found out)) r → (IsMarked out → IsMarked new)
+    → (n : ℕ) → IsWith (record { tokens = n; kept = out }) r (record { tokens = n; kept = new })
+kept_with out new r bytes parse lines result pieces marked n = record {
   tokens = refl;
+  bytes = bytes;
   parse = parse;
   lines = lines;
   result = result;
   pieces = pieces;
+  marked = marked;
 }
 
 -- what was kept with an item is exchanged, and then again

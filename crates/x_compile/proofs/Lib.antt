@@ -8,3 +8,4 @@ pub mod KeptLemmas
 pub mod LookLemmas
 pub mod NumberedLemmas
 pub mod WalkLemmas
+pub mod WalkedItems

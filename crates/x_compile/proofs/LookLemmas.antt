@@ -1,5 +1,5 @@
 -- What tokens are, wherever they stand: items of tokens that look alike parse alike.
-use Rattle.std.proofs.Common.{◌≡◌, ℕ, inl, inr, Bool, true, false, cond, List, [], ◌∷◌, ◌++◌, length, map, drop, refl, sym, ap, subst, ◌∙◌}
+use Rattle.std.proofs.Common.{◌≡◌, ℕ, ◌+◌, inl, inr, Bool, true, false, cond, List, [], ◌∷◌, ◌++◌, length, map, drop, refl, sym, ap, subst, ◌∙◌}
 use Rattle.std.specs.Prelude.{IsTrue, codes}
 use Rattle.std.specs.List.{filter, flat_map}
 use Rattle.std.proofs.lemmas.List.{length-map}
@@ -10,6 +10,7 @@ use Rattle.x_trees.specs.Words.{Word, is_significant, word_by, word_of, words_of
 use Rattle.x_item.specs.Parse.{Parse, Nothing, Def, Fault, IsParse, IsStuck, IsLastWord, IsUnfinished, code_of}
 use Rattle.x_item.specs.declared.parsing.fault_code.FaultCode.{FaultCode}
 use Rattle.x_compile.specs.Generated.{is_percent, lines_of}
+use Rattle.x_compile.specs.KeptView.{byte_count}
 
 -- a token's kind and its bytes
 abbrev pub look : Lexeme → Kind × List ℕ
@@ -35,6 +36,20 @@ words_are (t ∷ ts) =
 
 pub words_alike : (xs ys : List Lexeme) → map look xs ≡ map look ys → words_of xs ≡ words_of ys
 words_alike xs ys same = words_are xs ∙ ap words_by same ∙ sym (words_are ys)
+
+-- ---- bytes
+
+bytes_by : List (Kind × List ℕ) → ℕ
+bytes_by [] = 0
+bytes_by (l ∷ ls) = length l.1 + bytes_by ls
+
+bytes_are : (ts : List Lexeme) → byte_count ts ≡ bytes_by (map look ts)
+unfolding bytes_by
+bytes_are [] = refl
+bytes_are (t ∷ ts) = ap (λ n. length t.text + n) (bytes_are ts)
+
+pub bytes_alike : (xs ys : List Lexeme) → map look xs ≡ map look ys → byte_count xs ≡ byte_count ys
+bytes_alike xs ys same = bytes_are xs ∙ ap bytes_by same ∙ sym (bytes_are ys)
 
 -- ---- lines that pass through
 

@@ -102,3 +102,30 @@ faults_from text index (i ∷ is) = item_faults text index i ++ faults_from text
 -- all faults of the text, by item, then by place, then by code
 abbrev pub faults_of : List ℕ → List Item → List rust.Fault.Fault
 faults_of text items = faults_from text 0 items
+
+-- a fault of an item, and where its token starts
+abbrev pub place_in : ℕ → List Lexeme → TokenFault → rust.FaultPlace.FaultPlace
+place_in index tokens f =
+    record { item = index; token = f.token; start = start_of tokens f.token; code = f.code }
+
+abbrev pub item_places : ℕ → Item → List rust.FaultPlace.FaultPlace
+item_places index item = map (place_in index item.tokens) (token_faults item)
+
+-- those of items of which the first has this number
+abbrev pub places_from : ℕ → List Item → List rust.FaultPlace.FaultPlace
+places_from index [] = []
+places_from index (i ∷ is) = item_places index i ++ places_from (suc index) is
+
+-- the places of all faults of a text, in their order
+abbrev pub places_of : List Item → List rust.FaultPlace.FaultPlace
+places_of items = places_from 0 items
+
+-- the fault at a place of a text
+abbrev pub in_lines : List ℕ → rust.FaultPlace.FaultPlace → rust.Fault.Fault
+in_lines text p = record {
+  item = p.item;
+  token = p.token;
+  line = line_of text p.start;
+  col = column_of text p.start;
+  code = p.code;
+}

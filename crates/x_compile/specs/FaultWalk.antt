@@ -1,15 +1,17 @@
 -- A walk over the faults of the items of a text.
-use Rattle.std.specs.Prelude.{◌≡◌, ℕ, ◌+◌, ◌≤◌, List, [], ◌∷◌, ◌++◌, map, All}
-use Rattle.x_text.specs.Text.{line_of, column_of}
+use Rattle.std.specs.Prelude.{◌≡◌, ℕ, ◌+◌, ◌≤◌, List, [], ◌∷◌, IfSome, length, take, drop, map, All}
+use Rattle.x_lex.specs.declared.kind.Kind.{Kind}
+use Rattle.x_lex.specs.Places.{Lexeme, lexemes}
+use Rattle.x_lex.specs.Tiling.{end_of}
 use Rattle.x_cutting.specs.declared.cutting.item_entry.ItemEntry.{ItemEntry}
 use Rattle.x_item.specs.Parse as parse
 use Rattle.x_item.specs.Parse.{Parse}
 use Rattle.x_rules.specs.Rules.{Ascends}
 use Rattle.x_rules.specs.declared.fault.WordFault.{WordFault}
-use Rattle.x_compile.specs.Compile.{faults_from, rule_faults, start_of}
-use Rattle.x_compile.specs.KeptView.{found_result, items_with, kept_found}
-use Rattle.x_compile.specs.ItemReading.{ItemReading, behind, place_of, unread}
-use Rattle.x_compile.specs.declared.fault.Fault.{Fault}
+use Rattle.x_compile.specs.Compile.{places_from, rule_faults, start_of}
+use Rattle.x_compile.specs.KeptView.{IsMarked, byte_count, found_result, items_with, kept_bytes, kept_found}
+use Rattle.x_compile.specs.ItemReading.{ItemReading, place_of, unread}
+use Rattle.x_compile.specs.declared.fault.FaultPlace.{FaultPlace}
 use Rattle.x_compile.specs.declared.fault.FaultCode.{FaultCode}
 use Rattle.x_compile.specs.declared.fault.FaultCode.TheVariants as codes
 use Rattle.x_compile.specs.declared.content.Content.{Content}
@@ -25,15 +27,9 @@ IsToldBy (parse.Fault token code) ruled (Rules faults) = ⊥
 IsToldBy p ruled (Syntax at why) = ⊥
 IsToldBy p ruled (Rules faults) = faults.now ≡ ruled
 
--- a fault at a place
-abbrev pub fault_at : List ℕ → ℕ → WordPlace × FaultCode → Fault
-fault_at text item found = record {
-  item = item;
-  token = found.0.token;
-  line = line_of text found.0.start;
-  col = column_of text found.0.start;
-  code = found.1;
-}
+-- a fault of an item at a place
+abbrev pub found_at : ℕ → WordPlace × FaultCode → FaultPlace
+found_at item found = record { item = item; token = found.0.token; start = found.0.start; code = found.1 }
 
 -- a fault by the rules, at its place
 abbrev pub rule_at : ItemReading → WordFault → WordPlace × FaultCode
@@ -45,8 +41,8 @@ places_left r (Syntax at why) = (record { token = at; start = start_of (unread r
 places_left r (Rules faults) = map (rule_at r) faults.now
 
 -- the faults of an item that are left
-abbrev pub faults_here : List ℕ → ItemFaults → List Fault
-faults_here text i = map (fault_at text i.number) (places_left i.reader i.told)
+abbrev pub faults_here : ItemFaults → List FaultPlace
+faults_here i = map (found_at i.number) (places_left i.reader i.told)
 
 -- the words of faults come in order, and none before the last word that was read
 abbrev pub IsOnward : ItemReading → List WordFault → Type 0
@@ -64,7 +60,22 @@ IsTelling i = TellsOn i.reader i.told
 abbrev pub AreOrdered : List (ItemEntry Content) → Type 0
 AreOrdered entries = All (λ e. Ascends (rule_faults (found_result (kept_found e.kept)))) entries
 
--- the faults that are left: of an item, and of those behind it, of which the first has this number
-abbrev pub faults_left : List ℕ → ItemFaults → ℕ → List (ItemEntry Content) → List Fault
-faults_left text item next entries =
-    faults_here text item ++ faults_from text next (items_with (behind item.reader) entries)
+-- Items one behind another, which have the first of these tokens: it is said of each how many bytes these
+-- have, and whether it has faults.
+abbrev pub ArePassed : List Lexeme → List (ItemEntry Content) → Type 0
+ArePassed tokens [] = Unit {0}
+ArePassed tokens (e ∷ es) = (e.tokens ≤ length tokens)
+    × IfSome (kept_bytes e.kept) (λ bytes. bytes ≡ byte_count (take e.tokens tokens))
+    × IsMarked e.kept × ArePassed (drop e.tokens tokens) es
+
+-- items stand in a text from a token on, which starts at this place
+pub record StandAt (text : List ℕ) (tokens : List (Kind × ℕ)) (token start : ℕ)
+    (entries : List (ItemEntry Content)) : Type 0 where
+  pub within : token ≤ length tokens
+  pub start_is : start ≡ end_of tokens token
+  pub passed : ArePassed (drop token (lexemes text tokens)) entries
+
+-- the faults of these items, which have the tokens of a text from an index on; the first has this number
+abbrev pub faults_behind : List ℕ → List (Kind × ℕ) → ℕ → ℕ → List (ItemEntry Content) → List FaultPlace
+faults_behind text tokens token number entries =
+    places_from number (items_with (drop token (lexemes text tokens)) entries)

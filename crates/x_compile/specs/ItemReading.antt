@@ -1,5 +1,5 @@
 -- Reading the tokens of an item, word by word.
-use Rattle.std.specs.Prelude.{ℕ, ◌+◌, ◌-◌, ◌==◌, List, take, drop, if◌then◌else◌}
+use Rattle.std.specs.Prelude.{ℕ, ◌+◌, ◌-◌, ◌==◌, List, take, if◌then◌else◌}
 use Rattle.x_lex.specs.Places.{Lexeme}
 use Rattle.x_compile.specs.Compile.{start_of, token_of_word}
 use Rattle.x_compile.specs.declared.reader.WordPlace.{WordPlace}
@@ -27,7 +27,3 @@ unread r = take r.left r.walk
 -- the place of a word that is the last one that was read, or was not read yet
 abbrev pub place_of : ItemReading → ℕ → WordPlace
 place_of r word = if word + 1 == r.words then r.last else word_place (unread r) r.read (word - r.words)
-
--- the tokens behind the item
-abbrev pub behind : ItemReading → List Lexeme
-behind r = drop r.left r.walk

@@ -1,7 +1,8 @@
 -- What a session keeps with the items of a text, and what it says of them.
 use Rattle.std.specs.Prelude.{◌≡◌, ℕ, List, [], ◌∷◌, length, map, take, drop, Option, None, Some, slice_get}
-use Rattle.std.specs.Prelude.{slice_set}
+use Rattle.std.specs.Prelude.{slice_set, Bool, false, true, IfSome}
 use Rattle.std.specs.Global.{Box}
+use Rattle.x_text.specs.Lengths.{total_length}
 use Rattle.x_lex.specs.Places.{Lexeme}
 use Rattle.x_cutting.specs.Items.{AreItems}
 use Rattle.x_trees.specs.Tree as tree
@@ -13,7 +14,7 @@ use Rattle.x_rules.specs.Results.{Outcome}
 use Rattle.x_rules.specs.declared.fault.WordFault.{WordFault}
 use Rattle.x_pieces.specs.Pieces as pieces
 use Rattle.x_compile.specs.Compile as compile
-use Rattle.x_compile.specs.Compile.{parsed_definition}
+use Rattle.x_compile.specs.Compile.{parsed_definition, rule_faults}
 use Rattle.x_compile.specs.Generated.{lines_of}
 use Rattle.x_compile.specs.declared.content.CheckResult.{CheckResult}
 use Rattle.x_compile.specs.declared.content.Content.{Content}
@@ -38,7 +39,7 @@ found_pieces None = None
 found_pieces (Some found) = found.value.pieces
 
 abbrev pub kept_parse : Content → parse.Parse
-kept_parse items.Nothing = parse.Nothing
+kept_parse (items.Nothing bytes) = parse.Nothing
 kept_parse (items.Fault token code) = parse.Fault token code
 kept_parse (items.Body body) = view_parse body.value.parse
 
@@ -50,6 +51,28 @@ kept_lines k = []
 abbrev pub kept_found : Content → Option (Box CheckResult)
 kept_found (items.Body body) = body.value.found
 kept_found k = None
+
+-- how many bytes the item's tokens have, where that is kept
+abbrev pub kept_bytes : Content → Option ℕ
+kept_bytes (items.Nothing bytes) = Some bytes
+kept_bytes (items.Fault token code) = None
+kept_bytes (items.Body body) = Some body.value.bytes
+
+-- whether it is kept that the item has faults
+abbrev pub is_marked : Content → Bool
+is_marked (items.Nothing bytes) = false
+is_marked (items.Fault token code) = true
+is_marked (items.Body body) = body.value.faulty
+
+-- an item that parses so has faults, where these are by the rules
+abbrev pub has_faults : parse.Parse → List WordFault → Bool
+has_faults (parse.Fault token code) ruled = true
+has_faults p [] = false
+has_faults p (f ∷ fs) = true
+
+-- that is kept where the item has faults, and nowhere else
+abbrev pub IsMarked : Content → Type 0
+IsMarked k = is_marked k ≡ has_faults (kept_parse k) (rule_faults (found_result (kept_found k)))
 
 -- the definition of an item
 abbrev pub kept_definition : Content → Option tree.Definition
@@ -80,11 +103,17 @@ abbrev pub items_with : List Lexeme → List (ItemEntry Content) → List compil
 items_with tokens [] = []
 items_with tokens (e ∷ es) = item_with tokens e ∷ items_with (drop e.tokens tokens) es
 
--- the number of an item's tokens, what they parse to, and the lines that pass through
+-- how many bytes tokens have together
+abbrev pub byte_count : List Lexeme → ℕ
+byte_count tokens = total_length (λ t. length t.text) tokens
+
+-- the number of an item's tokens and of their bytes, what they parse to, and the lines that pass through
 pub record IsItem (tokens : List Lexeme) (e : ItemEntry Content) : Type 0 where
   pub count : e.tokens ≡ length tokens
+  pub bytes : IfSome (kept_bytes e.kept) (λ bytes. bytes ≡ byte_count tokens)
   pub parsed : IsParse tokens (kept_parse e.kept)
   pub lines : kept_lines e.kept ≡ lines_of tokens
+  pub marked : IsMarked e.kept
 
 -- so each of them is
 abbrev pub AreEach : List (List Lexeme) → List (ItemEntry Content) → Type 0
@@ -120,10 +149,12 @@ renewed_pieces had (Some found) = pieces_behind had found.value.pieces found.val
 pub record IsWith (e : ItemEntry Content) (r : Option (Box CheckResult))
     (f : ItemEntry Content) : Type 0 where
   pub tokens : f.tokens ≡ e.tokens
+  pub bytes : kept_bytes f.kept ≡ kept_bytes e.kept
   pub parse : kept_parse f.kept ≡ kept_parse e.kept
   pub lines : kept_lines f.kept ≡ kept_lines e.kept
   pub result : found_result (kept_found f.kept) ≡ found_result r
   pub pieces : found_pieces (kept_found f.kept) ≡ renewed_pieces (found_pieces (kept_found e.kept)) r
+  pub marked : IsMarked e.kept → IsMarked f.kept
 
 -- so each of them is
 abbrev pub AreWith : List (ItemEntry Content) → List (Option (Box CheckResult)) → List (ItemEntry Content)

@@ -1,6 +1,6 @@
 //! What is kept with an item.
 
-ghost use Rattle.std.specs.Prelude.{◌≡◌, ◌≤◌, [], length, map, IfOk, None, option_copied};
+ghost use Rattle.std.specs.Prelude.{◌≡◌, ◌≤◌, [], length, map, IfOk, IfSome, None, option_copied};
 ghost use Rattle.x_text.specs.Counts.{raised};
 ghost use Rattle.x_text.specs.declared.text.source.TheConstants.{MAX_TEXT};
 ghost use Rattle.x_lex.specs.Places.{lexeme};
@@ -11,8 +11,9 @@ ghost use Rattle.x_compile.specs.Compile.{faults_at, rule_faults};
 ghost use Rattle.x_compile.specs.Counting.{faults_with};
 ghost use Rattle.x_compile.specs.FaultWalk.{IsToldBy};
 ghost use Rattle.x_compile.specs.Generated.{lines_of};
-ghost use Rattle.x_compile.specs.KeptView.{IsItem, found_pieces, found_result, renewed_pieces};
-ghost use Rattle.x_compile.specs.KeptView.{kept_definition, kept_found, kept_lines, kept_parse, view_parse};
+ghost use Rattle.x_compile.specs.KeptView.{IsItem, IsMarked, byte_count, found_pieces, found_result};
+ghost use Rattle.x_compile.specs.KeptView.{has_faults, is_marked, kept_bytes, kept_definition, kept_found};
+ghost use Rattle.x_compile.specs.KeptView.{kept_lines, kept_parse, renewed_pieces, view_parse};
 
 use crate::lines::lines_of;
 use std::alloc::Global;
@@ -56,7 +57,13 @@ impl Drop for CheckResult {
 }
 
 /// What is kept with an item that has a definition or lines that pass through.
+///
+/// Who goes over the items for their faults passes over those without any by what stands first.
 pub struct ItemBody {
+    /// How many bytes the item's tokens have.
+    bytes: u32,
+    /// Whether the item has faults.
+    faulty: bool,
     parse: Parse,
     /// The lines that pass through: without their `%`, each with a line feed.
     lines: Vec<u8>,
@@ -68,6 +75,8 @@ pub struct ItemBody {
 impl Drop for ItemBody {
     fn drop(self) {
         let ItemBody {
+            bytes: _,
+            faulty: _,
             parse: _,
             lines: _,
             found: _,
@@ -77,11 +86,13 @@ impl Drop for ItemBody {
 
 /// What is kept with an item, in few bytes where it has neither a definition nor lines: a text may be 16
 /// million `;`.
-#[derive(Default, Drop)]
+#[derive(Drop)]
 pub enum Content {
     /// It has neither words nor lines.
-    #[default]
-    Nothing,
+    Nothing {
+        /// How many bytes its tokens have.
+        bytes: u32,
+    },
     /// Its words spell no definition, and it has no lines.
     Fault {
         /// The index of the token in the item at which the fault stands.
@@ -91,6 +102,12 @@ pub enum Content {
     },
     /// It has a definition or lines.
     Body(Box<ItemBody>),
+}
+
+impl Default for Content {
+    fn default() -> Content {
+        Content::Nothing { bytes: 0 }
+    }
 }
 
 const _: () = prove!(size_of::<ItemEntry<Content>>() == 24);
@@ -115,7 +132,8 @@ pub fn entry_of(
     tokens: &[Token],
     meter: &mut Meter,
 ) -> Result<ItemEntry<Content>, NoMemory>
-    requires { length tokens.now ≤ MAX_TEXT }
+    requires few { length tokens.now ≤ MAX_TEXT }
+    requires small { byte_count (map lexeme tokens.now) ≤ MAX_TEXT }
     ensures item { IfOk result (λ entry. IsItem (map lexeme tokens.now) entry) }
     ensures unchecked { IfOk result (λ entry. kept_found entry.kept ≡ None) }
     ensures counted { meter.new ≡ record meter.old { parsed = raised meter.old.parsed 1 } }
@@ -130,10 +148,14 @@ pub fn entry_of(
 impl Content {
     /// What is kept of the item that these tokens are, before it is checked. Counts it as parsed.
     pub fn parsed(alloc: Global, tokens: &[Token], meter: &mut Meter) -> Result<Content, NoMemory>
-        requires { length tokens.now ≤ MAX_TEXT }
+        requires few { length tokens.now ≤ MAX_TEXT }
+        requires small { byte_count (map lexeme tokens.now) ≤ MAX_TEXT }
+        ensures bytes { IfOk result (λ kept. IfSome (kept_bytes kept)
+            (λ bytes. bytes ≡ byte_count (map lexeme tokens.now))) }
         ensures parse { IfOk result (λ kept. IsParse (map lexeme tokens.now) (kept_parse kept)) }
         ensures lines { IfOk result (λ kept. kept_lines kept ≡ lines_of (map lexeme tokens.now)) }
         ensures unchecked { IfOk result (λ kept. kept_found kept ≡ None) }
+        ensures marked { IfOk result IsMarked }
         ensures counted { meter.new ≡ record meter.old { parsed = raised meter.old.parsed 1 } }
     {
         let parse = match parse_item(alloc, tokens, meter)? {
@@ -144,18 +166,20 @@ impl Content {
                 code,
             },
         };
-        Content::of(alloc, parse, lines_of(alloc, tokens)?)
+        Content::of(alloc, byte_count(tokens), parse, lines_of(alloc, tokens)?)
     }
 
-    /// What is kept of an item that parses so, with these lines.
-    fn of(alloc: Global, parse: Parse, lines: Vec<u8>) -> Result<Content, NoMemory>
+    /// What is kept of an item of so many bytes that parses so, with these lines.
+    fn of(alloc: Global, bytes: u32, parse: Parse, lines: Vec<u8>) -> Result<Content, NoMemory>
+        ensures bytes { IfOk result (λ kept. IfSome (kept_bytes kept) (λ count. count ≡ bytes)) }
         ensures parse { IfOk result (λ kept. kept_parse kept ≡ view_parse parse) }
         ensures lines { IfOk result (λ kept. kept_lines kept ≡ lines.items) }
         ensures unchecked { IfOk result (λ kept. kept_found kept ≡ None) }
+        ensures marked { IfOk result IsMarked }
     {
         if lines.is_empty() {
             match &parse {
-                Parse::Nothing => return Ok(Content::Nothing),
+                Parse::Nothing => return Ok(Content::Nothing { bytes }),
                 Parse::Fault { token, code } => {
                     return Ok(Content::Fault {
                         token: *token,
@@ -166,11 +190,35 @@ impl Content {
             }
         }
         let body = ItemBody {
+            bytes,
+            faulty: has_faults(&parse, &None),
             parse,
             lines,
             found: None,
         };
         Ok(Content::Body(Box::new(alloc, body)?))
+    }
+
+    /// How many bytes the item's tokens have, unless it has neither a definition nor lines, but a fault.
+    pub fn bytes(&self) -> Option<usize>
+        ensures { result ≡ kept_bytes self.now }
+    {
+        match self {
+            Content::Nothing { bytes } => Some(*bytes as usize),
+            Content::Fault { .. } => None,
+            Content::Body(body) => Some(body.bytes as usize),
+        }
+    }
+
+    /// Whether the item has faults. Unlike [`Content::told`] it looks at nothing else.
+    pub fn is_faulty(&self) -> bool
+        ensures { result ≡ is_marked self.now }
+    {
+        match self {
+            Content::Nothing { .. } => false,
+            Content::Fault { .. } => true,
+            Content::Body(body) => body.faulty,
+        }
     }
 
     /// The definition of the item, if it has one.
@@ -211,7 +259,7 @@ impl Content {
         ensures { IsToldBy (kept_parse self.now) (rule_faults (found_result (kept_found self.now))) result }
     {
         match self {
-            Content::Nothing => Verdict::Rules(&[]),
+            Content::Nothing { .. } => Verdict::Rules(&[]),
             Content::Fault { token, code } => Verdict::Syntax {
                 token: *token,
                 code: *code,
@@ -257,16 +305,41 @@ impl Content {
     /// fault and nothing was generated anew.
     pub fn keep(&mut self, found: Option<Box<CheckResult>>)
         requires { kept_definition self.old ≡ None → found ≡ None }
+        ensures bytes { kept_bytes self.new ≡ kept_bytes self.old }
         ensures parse { kept_parse self.new ≡ kept_parse self.old }
         ensures lines { kept_lines self.new ≡ kept_lines self.old }
         ensures result { found_result (kept_found self.new) ≡ found_result found }
         ensures pieces { found_pieces (kept_found self.new)
             ≡ renewed_pieces (found_pieces (kept_found self.old)) found }
+        ensures marked { IsMarked self.old → IsMarked self.new }
     {
         if let Content::Body(body) = self {
             let old = body.found.take();
+            body.faulty = has_faults(&body.parse, &found);
             body.found = renewed(old, found);
         }
+    }
+}
+
+/// How many bytes tokens have together.
+fn byte_count(tokens: &[Token]) -> u32
+    requires { byte_count (map lexeme tokens.now) ≤ MAX_TEXT }
+    ensures { result ≡ byte_count (map lexeme tokens.now) }
+{
+    let mut count: usize = 0;
+    for token in tokens {
+        count = count.saturating_add(token.text.len());
+    }
+    count as u32
+}
+
+/// Whether an item has faults that parses so, and of whose definition this was found.
+fn has_faults(parse: &Parse, found: &Option<Box<CheckResult>>) -> bool
+    ensures { result ≡ has_faults (view_parse parse.now) (rule_faults (found_result found.now)) }
+{
+    match parse {
+        Parse::Fault { .. } => true,
+        _ => !faults_of(found).is_empty(),
     }
 }
 

@@ -52,6 +52,19 @@ pub struct Fault {
 
 const _: () = prove!(size_of::<Fault>() == 20);
 
+/// A fault of a text, and the place of its token, without the line that this is in.
+#[derive(Clone, Copy, Debug, PartialEq, Eq)]
+pub struct FaultPlace {
+    /// The number of the item that it stands in, from 0.
+    pub item: u32,
+    /// The index of its token in the item, from 0.
+    pub token: u32,
+    /// Where the token starts.
+    pub start: usize,
+    /// What is wrong.
+    pub code: FaultCode,
+}
+
 /// A fault at a token of an item, counted from 0.
 #[derive(Clone, Copy, Debug, PartialEq, Eq)]
 pub struct TokenFault {

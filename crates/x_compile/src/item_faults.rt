@@ -1,16 +1,17 @@
 //! The faults of an item, one after another.
 
-ghost use Rattle.std.specs.Prelude.{◌≡◌, [], ◌∷◌, ℕ, List, MatchOption, IsTrue, ◌↔◌, drop};
+ghost use Rattle.std.specs.Prelude.{◌≡◌, [], ◌∷◌, ◌≤◌, MatchOption, IsTrue, ◌↔◌, length};
 ghost use Rattle.x_rules.specs.Rules.{Ascends};
-ghost use Rattle.x_compile.specs.Compile.{item_faults, rule_faults};
+ghost use Rattle.x_text.specs.declared.text.source.TheConstants.{MAX_TEXT};
+ghost use Rattle.x_compile.specs.Compile.{item_places, rule_faults};
 ghost use Rattle.x_compile.specs.FaultWalk.{IsTelling, faults_here, places_left};
 ghost use Rattle.x_compile.specs.KeptView.{found_result, item_with, kept_found};
-ghost use Rattle.x_compile.specs.ItemReading.{behind};
 
 use crate::content::{Content, Verdict};
 use crate::fault::FaultCode;
 use crate::reader::{Reader, WordPlace};
 use x_item::ItemEntry;
+use x_lex::TokenIter;
 
 /// The faults of an item that are left.
 #[derive(Drop)]
@@ -22,16 +23,30 @@ pub struct ItemFaults<'s> {
 }
 
 impl<'s> ItemFaults<'s> {
-    /// The faults of no item, which is read from here on.
-    pub fn none(reader: Reader<'s>) -> ItemFaults<'s>
-        ensures reader { result.reader ≡ reader.entry }
+    /// The faults of no item.
+    pub fn none(walk: TokenIter<'s>) -> ItemFaults<'s>
+        requires { length walk ≤ MAX_TEXT }
         ensures none { places_left result.reader result.told ≡ [] }
         ensures telling { IsTelling result }
     {
         ItemFaults {
             number: 0,
-            reader,
+            reader: Reader::of(walk, 0),
             told: Verdict::Rules(&[]),
+        }
+    }
+
+    /// The faults of the item that has this number, and the first tokens of a walk.
+    pub fn of(number: u32, entry: &'s ItemEntry<Content>, walk: TokenIter<'s>) -> ItemFaults<'s>
+        requires small { length walk ≤ MAX_TEXT }
+        requires ascends { Ascends (rule_faults (found_result (kept_found entry.now.kept))) }
+        ensures faults { faults_here result ≡ item_places number (item_with walk.entry entry.now) }
+        ensures telling { IsTelling result }
+    {
+        ItemFaults {
+            number,
+            reader: Reader::of(walk, entry.tokens as usize),
+            told: entry.kept.told(),
         }
     }
 
@@ -45,19 +60,6 @@ impl<'s> ItemFaults<'s> {
         }
     }
 
-    /// Goes on to the next item, which has this number.
-    pub fn begin(&mut self, number: u32, entry: &'s ItemEntry<Content>)
-        requires { Ascends (rule_faults (found_result (kept_found entry.now.kept))) }
-        ensures faults { (text : List ℕ) → faults_here text self.new
-            ≡ item_faults text number (item_with (behind self.old.reader) entry.now) }
-        ensures behind { behind self.new.reader ≡ drop entry.now.tokens (behind self.old.reader) }
-        ensures telling { IsTelling self.new }
-    {
-        self.number = number;
-        self.reader.begin(entry.tokens as usize);
-        self.told = entry.kept.told();
-    }
-
     /// The next fault: its place, and what is wrong.
     pub fn tell(&mut self) -> Option<(WordPlace, FaultCode)>
         requires { IsTelling self.old }
@@ -65,7 +67,6 @@ impl<'s> ItemFaults<'s> {
             (λ found. places_left self.old.reader self.old.told
             ≡ found ∷ places_left self.new.reader self.new.told) }
         ensures number { self.new.number ≡ self.old.number }
-        ensures behind { behind self.new.reader ≡ behind self.old.reader }
         ensures telling { IsTelling self.new }
     {
         match self.told {

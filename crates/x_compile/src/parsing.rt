@@ -29,6 +29,8 @@ pub fn parse_items(
     ensures counted { IfOk result (λ entries. meter.new
         ≡ record meter.old { parsed = raised meter.old.parsed (length entries.items) }) }
 {
+    // A read of the text shows that its bytes are few.
+    let _text = source.bytes();
     let mut entries = Vec::new(alloc);
     let mut walk = tokens.iter(source);
     let mut part = Vec::new(alloc);

@@ -1,9 +1,9 @@
 //! Reading the tokens of an item, word by word.
 
-ghost use Rattle.std.specs.Prelude.{◌≡◌, ◌+◌, ◌<◌, ◌≤◌, ℕ, [], false, length, IsTrue};
+ghost use Rattle.std.specs.Prelude.{◌≡◌, ◌+◌, ◌<◌, ◌≤◌, ℕ, [], false, length, take, IsTrue};
 ghost use Rattle.x_text.specs.declared.text.source.TheConstants.{MAX_TEXT};
 ghost use Rattle.x_compile.specs.Compile.{start_of};
-ghost use Rattle.x_compile.specs.ItemReading.{behind, place_of, unread};
+ghost use Rattle.x_compile.specs.ItemReading.{place_of, unread};
 
 use std::marker::Model;
 use x_item::is_significant;
@@ -51,38 +51,26 @@ impl<'s> Model for Reader<'s> {
 }
 
 impl<'s> Reader<'s> {
-    /// A reader before the first item of these tokens.
-    pub fn of(walk: TokenIter<'s>) -> Reader<'s>
+    /// A reader of the item that has the first so many tokens of a walk.
+    pub fn of(walk: TokenIter<'s>, count: usize) -> Reader<'s>
         requires { length walk ≤ MAX_TEXT }
-        ensures left { behind result ≡ walk.entry }
+        ensures unread { unread result ≡ take count walk.entry }
+        ensures read { result.read ≡ 0 }
+        ensures words { result.words ≡ 0 }
     {
         Reader {
             walk,
-            left: 0,
+            left: count,
             read: 0,
             words: 0,
             last: WordPlace { token: 0, start: 0 },
         }
     }
 
-    /// Goes on to the next item, which has so many tokens.
-    pub fn begin(&mut self, count: usize)
-        ensures walk { self.new.walk ≡ behind self.old }
-        ensures left { self.new.left ≡ count }
-        ensures read { self.new.read ≡ 0 }
-        ensures words { self.new.words ≡ 0 }
-    {
-        self.walk.pass(self.left);
-        self.left = count;
-        self.read = 0;
-        self.words = 0;
-    }
-
     /// Where a token of the item starts, counted from the first one that is not read; 0 where there is none.
     /// It is the last that is asked of the item.
     pub fn start_of(&mut self, token: usize) -> usize
-        ensures start { result ≡ start_of (unread self.old) token }
-        ensures behind { behind self.new ≡ behind self.old }
+        ensures { result ≡ start_of (unread self.old) token }
     {
         if self.left <= token {
             return 0;
@@ -102,7 +90,6 @@ impl<'s> Reader<'s> {
         ensures none { result ≡ false → (unread self.old ≡ []) × (self.new ≡ self.old) }
         ensures same { (word : ℕ) → self.old.words ≤ word → place_of self.new word ≡ place_of self.old word }
         ensures words { self.new.words ≤ self.old.words + 1 }
-        ensures behind { behind self.new ≡ behind self.old }
     {
         if self.left == 0 {
             return false;
@@ -128,7 +115,6 @@ impl<'s> Reader<'s> {
         ensures place { result ≡ place_of self.old word }
         ensures same { (later : ℕ) → word ≤ later → place_of self.new later ≡ place_of self.old later }
         ensures words { self.new.words ≤ word + 1 }
-        ensures behind { behind self.new ≡ behind self.old }
     {
         while self.words <= word {
             if !self.step() {

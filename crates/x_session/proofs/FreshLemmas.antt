@@ -11,7 +11,7 @@ use Rattle.x_cutting.specs.ItemList as items
 use Rattle.x_item.specs.Parse.{IsParse}
 use Rattle.x_cutting.specs.declared.cutting.item_entry.ItemEntry.{ItemEntry}
 use Rattle.x_compile.specs.Generated.{lines_of}
-use Rattle.x_compile.specs.KeptView.{AreAlong, IsItem, kept_found, kept_lines, kept_parse}
+use Rattle.x_compile.specs.KeptView.{AreAlong, IsItem, IsMarked, byte_count, kept_bytes, kept_found, kept_lines, kept_parse}
 use Rattle.x_compile.specs.declared.content.Content.{Content}
 use Rattle.x_compile.proofs.AlongLemmas.{along_append, total_before}
 use Rattle.x_compile.proofs.KeepingLemmas.{entry_set}
@@ -52,9 +52,9 @@ within (x ∷ es) (suc i) e is = let r = within es i e is in omega (arith, r)
 
 -- one item more
 pub parsed_next : (tokens : List Lexeme) (old now next : List (ItemEntry Content)) (walk walk' : List Lexeme) (n m : ℕ) (k : Content) → IsParsedTo tokens old now walk n → total (counts old) ≤ length tokens → slice_get (counts now) n ≡ Some m
-    → walk' ≡ drop m walk → IsParse (take m walk) (kept_parse k) → kept_lines k ≡ lines_of (take m walk) → kept_found k ≡ None → counts next ≡ counts now → items.kept next ≡ slice_set (items.kept now) n k
+    → walk' ≡ drop m walk → kept_bytes k ≡ byte_count (take m walk) → IsMarked k → IsParse (take m walk) (kept_parse k) → kept_lines k ≡ lines_of (take m walk) → kept_found k ≡ None → counts next ≡ counts now → items.kept next ≡ slice_set (items.kept now) n k
     → IsParsedTo tokens old next walk' (n + 1)
-parsed_next tokens old now next walk walk' n m k h fits is rest parse lines none many set =
+parsed_next tokens old now next walk walk' n m k h fits is rest bytes marked parse lines none many set =
     let at = entry_at now n m is in
     let f : ItemEntry Content = record { tokens = at.0.tokens; kept = k } in
     let put : next ≡ slice_set now n f = entry_set now next n k at.0 many set at.1 in
@@ -66,8 +66,10 @@ parsed_next tokens old now next walk walk' n m k h fits is rest parse lines none
     let long : at.0.tokens ≡ length (take at.0.tokens walk) = let e = at.2 in let t = length_take at.0.tokens walk (omega (arith, e, few)) in omega (arith, t) in
     let item : IsItem (take at.0.tokens walk) f = record {
       count = long;
+      bytes = bytes ∙ ap (λ j. byte_count (take j walk)) (sym at.2);
       parsed = subst (λ j. IsParse (take j walk) (kept_parse k)) (sym at.2) parse;
       lines = lines ∙ ap (λ j. lines_of (take j walk)) (sym at.2);
+      marked = marked;
     } in
     let start : tokens_before (counts old) n ≡ total (counts (take n now)) = ap (λ cs. tokens_before cs n) (sym h.same) ∙ sym (total_before now n) in
     let there : IsItem (take f.tokens (drop (total (counts (take n now))) tokens)) f = subst (λ l. IsItem (take at.0.tokens l) f) (h.left ∙ ap (λ j. drop j tokens) start) item in

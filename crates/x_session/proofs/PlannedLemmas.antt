@@ -34,10 +34,12 @@ renewed_own (Some found) = stays found.value.pieces found.value.checked.faults
 with_own : (e : ItemEntry Content) → IsWith e (kept_found e.kept) e
 with_own e = record {
   tokens = refl;
+  bytes = refl;
   parse = refl;
   lines = refl;
   result = refl;
   pieces = sym (renewed_own (kept_found e.kept));
+  marked = λ m. m;
 }
 
 pub with_none : (n : ℕ) (es : List (ItemEntry Content)) → AreWith es (overlaid n (items.kept es) []) es
@@ -49,10 +51,12 @@ with_none n (e ∷ es) = (with_own e, with_none (suc n) es)
 with_twice : (e old item : ItemEntry Content) (r : Option (Box CheckResult)) → IsWith e (kept_found e.kept) old → IsWith old r item → IsWith e r item
 with_twice e old item r a b = record {
   tokens = b.tokens ∙ a.tokens;
+  bytes = b.bytes ∙ a.bytes;
   parse = b.parse ∙ a.parse;
   lines = b.lines ∙ a.lines;
   result = b.result;
   pieces = b.pieces ∙ ap (λ h. renewed_pieces h r) (a.pieces ∙ renewed_own (kept_found e.kept));
+  marked = λ m. b.marked (a.marked m);
 }
 
 with_set : (es : List (ItemEntry Content)) (rs : List (Option (Box CheckResult))) (fs : List (ItemEntry Content)) (n : ℕ) (old item : ItemEntry Content) (r : Option (Box CheckResult)) → AreWith es rs fs → slice_get fs n ≡ Some old → IsWith old r item

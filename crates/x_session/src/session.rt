@@ -7,7 +7,7 @@ ghost use Rattle.x_text.specs.Limits.{most_text};
 ghost use Rattle.x_lex.specs.Places.{lexeme};
 ghost use Rattle.x_trees.specs.View.{tree_at};
 ghost use Rattle.x_session.specs.Session.{Document, Compiles, edited_by_all, TakesAll, StopsAt};
-ghost use Rattle.x_compile.specs.Compile.{tokens_of, definitions_of, definition_at, faults_of};
+ghost use Rattle.x_compile.specs.Compile.{tokens_of, definitions_of, definition_at, faults_of, places_of};
 ghost use Rattle.x_compile.specs.Definitions.{numbered};
 ghost use Rattle.x_rules.specs.Results.{meaning_at, result_at};
 ghost use Rattle.x_rules.specs.RustViews.{view_meaning};
@@ -26,7 +26,7 @@ pub use schema_fault::SchemaFault;
 use std::alloc::Global;
 use std::marker::Model;
 pub use work::Work;
-use x_compile::{Compilation, Fault, Faults, ItemTable, compile};
+use x_compile::{Compilation, Fault, FaultPlaces, Faults, ItemTable, compile};
 use x_item::Definition;
 use x_lex::{Token, TokenIter, Tokens};
 use x_names::Declarer;
@@ -245,6 +245,14 @@ impl Session {
         ensures { Compiles self.now.text (λ items. result ≡ faults_of self.now.text items) }
     {
         Faults::of(self.texts.text(), &self.tokens, &self.items)
+    }
+
+    /// The faults of the text and where their tokens start, in the order of [`Session::fault`]. Unlike
+    /// [`Session::faults`] it looks at no line, and at no token of an item without a fault.
+    pub fn fault_places(&self) -> FaultPlaces<'_>
+        ensures { Compiles self.now.text (λ items. result ≡ places_of items) }
+    {
+        FaultPlaces::of(self.texts.text(), &self.tokens, &self.items)
     }
 
     /// The types of the text, by which values are read: [`SchemaFault::Faulty`] where the text has a fault.

@@ -40,6 +40,8 @@ pub fn parse_fresh(
 {
     // A read of the count shows that it fits its type.
     let _counted = meter.parsed();
+    // And one of the text, that its bytes are few.
+    let _text = text.bytes();
     let mut walk = tokens.iter_patched(patch, items.start(), text);
     let mut part = Vec::new(alloc);
     for index in 0..items.len() {

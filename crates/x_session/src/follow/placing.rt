@@ -104,7 +104,7 @@ fn keep_at(items: &mut Items<Content>, index: usize, found: Option<Box<CheckResu
     ensures moved { result ≡ distance items.old.seat index (index + 1) }
     ensures seat { items.new.seat ≡ index + 1 }
 {
-    let (mut kept, out) = items.exchange(index, Content::Nothing);
+    let (mut kept, out) = items.exchange(index, Content::default());
     kept.keep(found);
     let (_, back) = items.exchange(index, kept);
     out.saturating_add(back)
@@ -118,7 +118,7 @@ fn keep_fresh(patch: &mut ItemPatch<Content>, index: usize, found: Option<Box<Ch
     ensures counts { counts patch.new.fresh ≡ counts patch.old.fresh }
     ensures others { patch.new ≡ record patch.old { fresh = patch.new.fresh } }
 {
-    let mut kept = patch.exchange(index, Content::Nothing);
+    let mut kept = patch.exchange(index, Content::default());
     kept.keep(found);
     patch.exchange(index, kept);
 }

@@ -28,10 +28,12 @@ loop-found-preserved c =
     let f : ItemEntry Content = record { tokens = c.index_mut.result.now.tokens; kept = c.keep.new.self } in
     let now : IsWith c.index_mut.result.now c.in-Some.found f = record {
       tokens = refl;
+      bytes = c.keep.ensures.bytes;
       parse = c.keep.ensures.parse;
       lines = c.keep.ensures.lines;
       result = c.keep.ensures.result;
       pieces = c.keep.ensures.pieces;
+      marked = c.keep.ensures.marked;
     } in
     kept_more c.args.entries.now.items c.args.results.items c.loop-found.entries.items _ rs c.in-Some.found c.len.result f last at refl
     (subst (λ e. IsWith e c.in-Some.found f) is now)

@@ -6,9 +6,10 @@ use Rattle.x_text.specs.declared.text.source.TheConstants.{MAX_TEXT}
 use Rattle.x_lex.specs.Places.{lexeme, lexemes}
 use Rattle.x_cutting.specs.Items.{IsNext}
 use Rattle.x_cutting.specs.declared.cutting.item_entry.ItemEntry.{ItemEntry}
-use Rattle.x_compile.specs.KeptView.{IsItem, kept_found}
+use Rattle.x_compile.specs.KeptView.{IsItem, byte_count, kept_found}
 use Rattle.x_compile.specs.declared.content.Content.{Content}
 use Rattle.x_compile.proofs.ItemLemmas.{Parsing, HasCounted, steps_left, parsing_none, parsing_more, part_short, rest_short, fewer_steps, items_of_text, short_items, some_items, counted_push, counted_all}
+use Rattle.x_compile.proofs.WalkedItems.{bytes_of_all, bytes_of_part, bytes_of_rest}
 use Rattle.x_compile.proofs.parsing.parse_items.Goals as goal
 
 pub loop-whole-init : goal.loop-whole-init
@@ -19,18 +20,26 @@ loop-whole-init c =
       parsed = subst (λ is. Parsing true all c.iter-walk.result is) (sym c.new-entries.ensures.items) (parsing_none all c.iter-walk.result c.iter-walk.ensures.tokens);
       short = short;
       small = c.iter-walk.ensures.small;
+      bytes = (let b = ap byte_count c.iter-walk.ensures.tokens ∙ bytes_of_all c.args.source.now c.args.tokens.now.list c.requires in let m = c.bytes.ensures.small in omega (arith, b, m));
       unchecked = subst (λ is. All (λ e. kept_found e.kept ≡ None) is) (sym c.new-entries.ensures.items) (All-nil (λ (e : ItemEntry Content). kept_found e.kept ≡ None));
       counted = subst (λ is. HasCounted c.args.meter.now c.args.meter.now (length is)) (sym c.new-entries.ensures.items) refl;
     }
 
-pub entry_of-requires : goal.entry_of-requires
-entry_of-requires c =
+pub entry_of-requires-few : goal.entry_of-requires-few
+entry_of-requires-few c =
     let next : IsNext c.in_ok-whole.whole c.loop-whole.walk (map lexeme c.next_item.new.tokens.items) c.next_item.new.walk = c.in_ok-whole.ensures in
     let fewer = part_short c.in_ok-whole.whole c.loop-whole.walk (map lexeme c.next_item.new.tokens.items) c.next_item.new.walk next in
     let same = length-map c.next_item.new.tokens.items lexeme in
     let value = ap length c.deref.ensures.value in
     let small = c.loop-whole.invariant.small in
     omega (arith, fewer, same, value, small)
+
+pub entry_of-requires-small : goal.entry_of-requires-small
+entry_of-requires-small c =
+    let fewer = bytes_of_part c.in_ok-whole.whole c.loop-whole.walk (map lexeme c.next_item.new.tokens.items) c.next_item.new.walk c.in_ok-whole.ensures in
+    let value = ap (λ ts. byte_count (map lexeme ts)) c.deref.ensures.value in
+    let small = c.loop-whole.invariant.bytes in
+    omega (arith, fewer, value, small)
 
 pub loop-whole-smaller : goal.loop-whole-smaller
 loop-whole-smaller c =
@@ -50,10 +59,13 @@ loop-whole-preserved c =
     let this : IsItem part item = subst (λ ts. IsItem (map lexeme ts) item) c.deref.ensures.value c.in_ok-entry_of.ensures.item in
     let fewer = rest_short whole c.loop-whole.walk part left next in
     let small = c.loop-whole.invariant.small in
+    let less = bytes_of_rest whole c.loop-whole.walk part left next in
+    let bytes = c.loop-whole.invariant.bytes in
     record {
       parsed = subst (λ is. Parsing whole all left is) (sym c.in_ok-push.ensures.items) (parsing_more whole all c.loop-whole.walk part left items item before next this);
       short = c.loop-whole.invariant.short;
       small = omega (arith, fewer, small);
+      bytes = omega (arith, less, bytes);
       unchecked = subst (λ is. All (λ e. kept_found e.kept ≡ None) is) (sym c.in_ok-push.ensures.items)
           (All-push (λ (e : ItemEntry Content). kept_found e.kept ≡ None) items item c.loop-whole.invariant.unchecked c.in_ok-entry_of.ensures.unchecked);
       counted = subst (λ is. HasCounted c.args.meter.now c.entry_of.new.meter (length is)) (sym c.in_ok-push.ensures.items)

@@ -6,27 +6,16 @@ use Rattle.x_compile.specs.ItemReading.{behind, unread}
 use Rattle.x_compile.proofs.FaultLemmas.{start_there, start_nowhere}
 use Rattle.x_compile.proofs.reader.Reader.start_of.Goals as goal
 
-pub returns-in_default-clause-start : goal.returns-in_default-clause-start
-returns-in_default-clause-start c =
+pub returns-in_default-clause : goal.returns-in_default-clause
+returns-in_default-clause c =
     let walk = c.self.inside.walk in
     let none : drop c.args.token walk ≡ [] = sym c.pass.ensures ∙ c.in_default.ensures.steps.0 in
     start_nowhere walk c.self.inside.left c.args.token (inr none) ∙ ap (λ v. start_of (unread v) c.args.token) c.self.view_is
 
-pub returns-clause-start : goal.returns-clause-start
-returns-clause-start c =
+pub returns-clause : goal.returns-clause
+returns-clause c =
     let walk = c.self.inside.walk in
     let here : drop c.args.token walk ≡ lexeme c.in-Some.token ∷ c.next.new.self = sym c.pass.ensures ∙ c.in-Some.ensures.steps in
     let within : c.args.token < c.self.inside.left = let more = c.if-self-token.false in omega (arith, more) in
     start_there walk c.self.inside.left c.args.token (lexeme c.in-Some.token) c.next.new.self within here
     ∙ ap (λ v. start_of (unread v) c.args.token) c.self.view_is
-
-pub returns-clause-behind : goal.returns-clause-behind
-returns-clause-behind c =
-    let walk = c.self.inside.walk in
-    let left = c.self.inside.left in
-    let token = c.args.token in
-    let here : drop token walk ≡ lexeme c.in-Some.token ∷ c.next.new.self = sym c.pass.ensures ∙ c.in-Some.ensures.steps in
-    let within : token < left = let more = c.if-self-token.false in omega (arith, more) in
-    let all : token + suc (left - token - 1) ≡ left = omega (arith, within) in
-    sym (ap (drop (suc (left - token - 1))) here) ∙ drop-drop (suc (left - token - 1)) token walk ∙ ap (λ n. drop n walk) all
-    ∙ ap behind c.self.view_is

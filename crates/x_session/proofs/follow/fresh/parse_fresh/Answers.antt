@@ -6,7 +6,7 @@ use Rattle.x_lex.proofs.SpanLemmas.{length-lexemes_from}
 use Rattle.x_cutting.specs.ItemList.{counts, total}
 use Rattle.x_item.specs.Parse.{IsParse}
 use Rattle.x_compile.specs.Generated.{lines_of}
-use Rattle.x_compile.specs.KeptView.{kept_parse}
+use Rattle.x_compile.specs.KeptView.{byte_count, kept_parse}
 use Rattle.x_session.proofs.FreshLemmas.{parsed_next}
 use Rattle.x_session.proofs.follow.fresh.parse_fresh.Goals as goal
 
@@ -29,7 +29,7 @@ loop-index-preserved c =
     let ticks = inv.ticks in
     record {
       parsed = parsed_next tokens c.args.items.now.fresh c.loop-index.items.fresh c.exchange.new.self.fresh walk c.take_tokens.new.walk index count k inv.parsed fits c.token_count.ensures c.in_ok-take_tokens.ensures.walk
-          (subst (λ t. IsParse t (kept_parse k)) part c.in_ok-kept.ensures.parse) (c.in_ok-kept.ensures.lines ∙ ap lines_of part) c.in_ok-kept.ensures.unchecked c.exchange.ensures.counts c.exchange.ensures.kept;
+          (c.in_ok-kept.ensures.bytes ∙ ap byte_count part) c.in_ok-kept.ensures.marked (subst (λ t. IsParse t (kept_parse k)) part c.in_ok-kept.ensures.parse) (c.in_ok-kept.ensures.lines ∙ ap lines_of part) c.in_ok-kept.ensures.unchecked c.exchange.ensures.counts c.exchange.ensures.kept;
       others = c.exchange.ensures.others ∙ (λ i. record (inv.others i) { fresh = c.exchange.new.self.fresh });
       ticks = omega (arith, one, ticks);
       no_others = counted ∙ (λ i. record (inv.no_others i) { parsed = (sym one) i });
