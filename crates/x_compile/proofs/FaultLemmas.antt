@@ -1,7 +1,8 @@
 -- A walk over the faults of the items of a text.
-use Rattle.std.proofs.Common.{◌≡◌, ℕ, zero, suc, ◌+◌, ◌-◌, ◌<◌, ◌≤◌, ◌≢◌, ◌==◌, ◌⊎◌, inl, inr, Bool, true, false, cond, List, [], ◌∷◌, ◌++◌, map, take, drop, arith, refl, sym, ap, ◌∙◌, subst, ne_eqb}
+use Rattle.std.proofs.Common.{◌≡◌, ℕ, zero, suc, ◌+◌, ◌-◌, ◌<◌, ◌≤◌, ◌==◌, ◌⊎◌, inl, inr, Bool, true, false, cond, List, [], ◌∷◌, ◌++◌, map, take, drop, length, arith, refl, sym, ap, ◌∙◌, subst, ne_eqb}
 use Rattle.std.specs.Prelude.{◌&&◌, All}
 use Rattle.std.proofs.lemmas.Bool.Decides.{nat_tests}
+use Rattle.std.proofs.lemmas.List.{length-map}
 use Rattle.x_text.proofs.ListLemmas.{map_append}
 use Rattle.x_lex.specs.Places.{Lexeme}
 use Rattle.x_trees.specs.Words.{is_significant}
@@ -157,17 +158,6 @@ pub no_places : (n : ℕ) (tokens : List Lexeme) (e : ItemEntry Content) → IsM
 no_places n tokens e marked none =
     ap (map (place_in n (take e.tokens tokens))) (none_marked (take e.tokens tokens) (kept_parse e.kept) (rule_faults (found_result (kept_found e.kept))) (sym marked ∙ none))
 
--- one that is said to have some has some
-some_marked : (n : ℕ) (tokens : List Lexeme) (p : Parse) (ruled : List WordFault) → has_faults p ruled ≡ true → map (place_in n tokens) (faults_at tokens p ruled) ≢ []
-some_marked n tokens (Fault token code) ruled e none = (cc)
-some_marked n tokens Nothing [] e none = (cc)
-some_marked n tokens Nothing (f ∷ fs) e none = (cc)
-some_marked n tokens (Def d) [] e none = (cc)
-some_marked n tokens (Def d) (f ∷ fs) e none = (cc)
-
-pub some_places : (n : ℕ) (tokens : List Lexeme) (e : ItemEntry Content) → IsMarked e.kept → is_marked e.kept ≡ true → item_places n (item_with tokens e) ≢ []
-some_places n tokens e marked some = some_marked n (take e.tokens tokens) (kept_parse e.kept) (rule_faults (found_result (kept_found e.kept))) (sym marked ∙ some)
-
 pub ordered_rest : (e : ItemEntry Content) (entries es : List (ItemEntry Content)) → entries ≡ e ∷ es → AreOrdered entries → AreOrdered es
 ordered_rest e entries es all ordered k d lt = subst AreOrdered all ordered (suc k) d (omega (arith, lt))
 
@@ -182,3 +172,7 @@ in_lines_from text n (i ∷ is) =
     each : (fs : List TokenFault) → map (in_lines text) (map (place_in n i.tokens) fs) ≡ map (placed text n i.tokens) fs
     each [] = refl
     each (f ∷ fs) = ap (λ l. placed text n i.tokens f ∷ l) (each fs)
+
+-- as many places as faults
+pub places_many : (text : List ℕ) (n : ℕ) (items : List Item) → length (faults_from text n items) ≡ length (places_from n items)
+places_many text n items = sym (ap length (in_lines_from text n items)) ∙ length-map (places_from n items) (in_lines text)

@@ -1,4 +1,4 @@
-use Rattle.std.proofs.Common.{◌≡◌, suc, sym, ◌∙◌, arith}
+use Rattle.std.proofs.Common.{sym, ◌∙◌, arith}
 use Rattle.x_lex.specs.Places.{lexeme}
 use Rattle.x_compile.proofs.WalkedItems.{last_end, last_is}
 use Rattle.x_compile.proofs.item_walk.place_behind.Goals as goal

@@ -1,4 +1,4 @@
-use Rattle.std.proofs.Common.{◌≡◌, ◌≤◌, ◌<◌, true, None, map, length, refl, ap, sym, subst, arith}
+use Rattle.std.proofs.Common.{◌≡◌, ◌≤◌, ◌<◌, true, None, map, length, refl, ap, sym, subst, ◌∙◌, arith}
 use Rattle.std.specs.Prelude.{All}
 use Rattle.std.proofs.lemmas.List.{length-map}
 use Rattle.std.proofs.lemmas.List.Elements.{All-nil, All-push}
@@ -20,13 +20,13 @@ loop-whole-init c =
       parsed = subst (λ is. Parsing true all c.iter-walk.result is) (sym c.new-entries.ensures.items) (parsing_none all c.iter-walk.result c.iter-walk.ensures.tokens);
       short = short;
       small = c.iter-walk.ensures.small;
-      bytes = (let b = ap byte_count c.iter-walk.ensures.tokens ∙ bytes_of_all c.args.source.now c.args.tokens.now.list c.requires in let m = c.bytes.ensures.small in omega (arith, b, m));
+      bytes = (let b = ap byte_count c.iter-walk.ensures.tokens ∙ bytes_of_all c.args.source.now c.args.tokens.now.list c.requires in let m = c.bytes-text.ensures.small in omega (arith, b, m));
       unchecked = subst (λ is. All (λ e. kept_found e.kept ≡ None) is) (sym c.new-entries.ensures.items) (All-nil (λ (e : ItemEntry Content). kept_found e.kept ≡ None));
       counted = subst (λ is. HasCounted c.args.meter.now c.args.meter.now (length is)) (sym c.new-entries.ensures.items) refl;
     }
 
-pub entry_of-requires-few : goal.entry_of-requires-few
-entry_of-requires-few c =
+pub entry_of-requires-clause-few : goal.entry_of-requires-clause-few
+entry_of-requires-clause-few c =
     let next : IsNext c.in_ok-whole.whole c.loop-whole.walk (map lexeme c.next_item.new.tokens.items) c.next_item.new.walk = c.in_ok-whole.ensures in
     let fewer = part_short c.in_ok-whole.whole c.loop-whole.walk (map lexeme c.next_item.new.tokens.items) c.next_item.new.walk next in
     let same = length-map c.next_item.new.tokens.items lexeme in
@@ -34,8 +34,8 @@ entry_of-requires-few c =
     let small = c.loop-whole.invariant.small in
     omega (arith, fewer, same, value, small)
 
-pub entry_of-requires-small : goal.entry_of-requires-small
-entry_of-requires-small c =
+pub entry_of-requires-clause-small : goal.entry_of-requires-clause-small
+entry_of-requires-clause-small c =
     let fewer = bytes_of_part c.in_ok-whole.whole c.loop-whole.walk (map lexeme c.next_item.new.tokens.items) c.next_item.new.walk c.in_ok-whole.ensures in
     let value = ap (λ ts. byte_count (map lexeme ts)) c.deref.ensures.value in
     let small = c.loop-whole.invariant.bytes in
