@@ -1,6 +1,6 @@
 -- Fresh items are parsed one after another.
 use Rattle.std.proofs.Common.{◌≡◌, ℕ, zero, suc, ◌+◌, ◌<◌, ◌≤◌, List, [], ◌∷◌, ◌++◌, length, take, drop, None, Some, refl, sym, ap, subst, ◌∙◌, arith, length-drop}
-use Rattle.std.specs.Prelude.{All, slice_get, slice_set}
+use Rattle.std.specs.Prelude.{All, IfSome, slice_get, slice_set}
 use Rattle.std.proofs.lemmas.List.{drop-drop}
 use Rattle.std.proofs.lemmas.List.Elements.{All-nil, All-push}
 use Rattle.std.proofs.lemmas.Option.{same_Some}
@@ -52,7 +52,7 @@ within (x ∷ es) (suc i) e is = let r = within es i e is in omega (arith, r)
 
 -- one item more
 pub parsed_next : (tokens : List Lexeme) (old now next : List (ItemEntry Content)) (walk walk' : List Lexeme) (n m : ℕ) (k : Content) → IsParsedTo tokens old now walk n → total (counts old) ≤ length tokens → slice_get (counts now) n ≡ Some m
-    → walk' ≡ drop m walk → kept_bytes k ≡ byte_count (take m walk) → IsMarked k → IsParse (take m walk) (kept_parse k) → kept_lines k ≡ lines_of (take m walk) → kept_found k ≡ None → counts next ≡ counts now → items.kept next ≡ slice_set (items.kept now) n k
+    → walk' ≡ drop m walk → IfSome (kept_bytes k) (λ bytes. bytes ≡ byte_count (take m walk)) → IsMarked k → IsParse (take m walk) (kept_parse k) → kept_lines k ≡ lines_of (take m walk) → kept_found k ≡ None → counts next ≡ counts now → items.kept next ≡ slice_set (items.kept now) n k
     → IsParsedTo tokens old next walk' (n + 1)
 parsed_next tokens old now next walk walk' n m k h fits is rest bytes marked parse lines none many set =
     let at = entry_at now n m is in
@@ -66,7 +66,7 @@ parsed_next tokens old now next walk walk' n m k h fits is rest bytes marked par
     let long : at.0.tokens ≡ length (take at.0.tokens walk) = let e = at.2 in let t = length_take at.0.tokens walk (omega (arith, e, few)) in omega (arith, t) in
     let item : IsItem (take at.0.tokens walk) f = record {
       count = long;
-      bytes = bytes ∙ ap (λ j. byte_count (take j walk)) (sym at.2);
+      bytes = subst (λ j. IfSome (kept_bytes k) (λ count. count ≡ byte_count (take j walk))) (sym at.2) bytes;
       parsed = subst (λ j. IsParse (take j walk) (kept_parse k)) (sym at.2) parse;
       lines = lines ∙ ap (λ j. lines_of (take j walk)) (sym at.2);
       marked = marked;
