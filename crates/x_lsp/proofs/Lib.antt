@@ -8,10 +8,13 @@ pub mod JsonLemmas
 pub mod LineLemmas
 pub mod ListLemmas
 pub mod LookupLemmas
+pub mod MarkLemmas
 pub mod NamePlaceLemmas
 pub mod PassedLineLemmas
 pub mod PlaceTableLemmas
 pub mod PositionLemmas
 pub mod SaidLemmas
 pub mod ServingLemmas
+pub mod SpotLemmas
+pub mod WalkLemmas
 pub mod WritingLemmas

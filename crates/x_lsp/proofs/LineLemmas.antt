@@ -77,7 +77,7 @@ pair_found text at first is feed = behind_first text at 2 first (pair_first (sli
 none_found : (text : List ℕ) → IsFirstByte (is_byte2 10 13) text None → HasNoBreak text (length text)
 none_found text none k lt = not_true (is_break (slice_index text k)) (none k (omega arith) lt)
 
-drop_all : (text : List ℕ) → drop (length text) text ≡ []
+pub drop_all : (text : List ℕ) → drop (length text) text ≡ []
 drop_all [] = refl
 drop_all (b ∷ rest) = drop_all rest
 
@@ -107,7 +107,7 @@ all_is_line text none =
 EndIs : ℕ → List ℕ → ℕ → Type 0
 EndIs b rest end = (ends_line b rest ≡ true) × (end ≡ 1)
 
-some_suc : (o : Option ℕ) (end : ℕ) → option_map suc o ≡ Some end → (m : ℕ) × (o ≡ Some m) × (end ≡ suc m)
+pub some_suc : (o : Option ℕ) (end : ℕ) → option_map suc o ≡ Some end → (m : ℕ) × (o ≡ Some m) × (end ≡ suc m)
 some_suc None end e = absurd (cc)
 some_suc (Some m) end e = (m, refl, cc)
 
@@ -222,18 +222,6 @@ one_more (suc n) (b ∷ rest) = go (λ m. one_more m rest) (ends_line b rest) re
     go next false is =
         on_false (ends_line b rest) (behind_lines (suc n) rest) (behind_lines (suc (suc n)) rest) is ∙ next (suc n)
         ∙ ap (behind_lines 1) (sym (on_false (ends_line b rest) (behind_lines n rest) (behind_lines (suc n) rest) is))
-
-lines_more : (n m : ℕ) (text : List ℕ) → behind_lines (n + m) text ≡ behind_lines n (behind_lines m text)
-lines_more zero m text = ap (λ k. behind_lines k text) (zero-add m)
-lines_more (suc n) m text =
-    let next : suc n + m ≡ suc (n + m) = omega arith in
-    ap (λ k. behind_lines k text) next ∙ one_more (n + m) text ∙ ap (behind_lines 1) (lines_more n m text) ∙ sym (one_more n (behind_lines m text))
-
--- what stands behind a line is found behind an earlier one
-pub lines_apart : (from to : ℕ) (text : List ℕ) → from ≤ to → behind_lines (to - from) (behind_lines from text) ≡ behind_lines to text
-lines_apart from to text le =
-    let e : to - from + from ≡ to = omega arith in
-    sym (lines_more (to - from) from text) ∙ ap (λ n. behind_lines n text) e
 
 pub first_start : (text : List ℕ) → IsLineStart text 0 0
 first_start text = record { within = omega arith; few = omega arith; before = refl; behind = refl }

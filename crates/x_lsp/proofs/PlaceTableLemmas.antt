@@ -21,10 +21,9 @@ use Rattle.x_compile.proofs.Compiled.{one_compilation}
 use Rattle.x_session.specs.Session.{Compiles}
 use Rattle.x_lsp.specs.declared.declared_places.DeclaredPlaces.{DeclaredPlaces}
 use Rattle.x_lsp.specs.declared.changes.Range.{Range}
-use Rattle.x_lsp.specs.declared.client.Client.{Client}
-use Rattle.x_lsp.specs.declared.other_places.OtherPlaces.{OtherPlaces}
+use Rattle.x_lsp.specs.declared.encoding.Encoding.{Encoding}
 use Rattle.x_compile.specs.declared.fault.FaultCode.{FaultCode}
-use Rattle.x_lsp.specs.DeclaredPlaces.{AreOthersOf, IsTableOf, word_starts}
+use Rattle.x_lsp.specs.DeclaredPlaces.{IsTableOf, word_starts}
 use Rattle.x_lsp.specs.Diagnostics.{IsRangeAt, declared_elsewhere, is_of_declarer, other_place}
 use Rattle.x_lsp.specs.NamePlaces.{definition_of, word_at, words_in}
 use Rattle.x_lsp.proofs.ItemsLeft.{AreLeft, item_at, next_item_is}
@@ -213,10 +212,9 @@ chosen true false o p q = absurd (cc)
 chosen false b o p q = absurd (cc)
 
 -- what is found of a text is told beside a fault
-pub is_beside : (text : List ℕ) (c : Client) (code : FaultCode) (word : List ℕ) (start : ℕ) (others : OtherPlaces) (found : Option Range) → c.shows_related ≡ true → is_of_declarer code ≡ true → AreOthersOf text others
-    → ((items : List Item) → IsTableOf items others.names → IsRangeAt c.encoding others.marks (declared_elsewhere items word start) found)
-    → (tokens : List (Kind × ℕ)) (items : List Item) → IsCompilation text tokens items → IsRangeAt c.encoding text (other_place c.shows_related items code word start) found
-is_beside text c code word start others found shown declares are range tokens items is =
-    let there = range items (of_each text are.0 tokens items is) in
-    subst (λ t. IsRangeAt c.encoding t (other_place c.shows_related items code word start) found) are.1
-    (subst (λ o. IsRangeAt c.encoding others.marks o found) (sym (chosen c.shows_related (is_of_declarer code) (declared_elsewhere items word start) shown declares)) there)
+pub is_beside : (e : Encoding) (text : List ℕ) (shown : Bool) (code : FaultCode) (word : List ℕ) (start : ℕ) (table : DeclaredPlaces) (found : Option Range) → shown ≡ true → is_of_declarer code ≡ true
+    → Compiles text (λ items. IsTableOf items table) → ((items : List Item) → IsTableOf items table → IsRangeAt e text (declared_elsewhere items word start) found)
+    → (tokens : List (Kind × ℕ)) (items : List Item) → IsCompilation text tokens items → IsRangeAt e text (other_place shown items code word start) found
+is_beside e text shown code word start table found is_shown declares made range tokens items is =
+    let there = range items (of_each text made tokens items is) in
+    subst (λ o. IsRangeAt e text o found) (sym (chosen shown (is_of_declarer code) (declared_elsewhere items word start) is_shown declares)) there

@@ -21,3 +21,4 @@ pub mod Replies
 pub mod Serving
 pub mod Sought
 pub mod Symbols
+pub mod Waymarks

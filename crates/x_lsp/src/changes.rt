@@ -1,12 +1,14 @@
 //! What a client does to a text.
 
-ghost use Rattle.std.specs.Prelude.{◌≡◌, OnErr, OnOk};
+ghost use Rattle.std.specs.Prelude.{◌≡◌, ℕ, List, OnErr, OnOk};
 ghost use Rattle.x_text.specs.Edits.{edited_by, Judges};
-ghost use Rattle.x_lsp.specs.Changes.{change_by};
+ghost use Rattle.x_lsp.specs.Changes.{change_by, change_in};
+ghost use Rattle.x_lsp.specs.Waymarks.{AreWaymarks};
 
-use crate::encoding::Encoding;
-use crate::positions::{Position, offsets_of};
+use crate::positions::Position;
+use crate::waymarks::Waymarks;
 use serde_json::Value;
+use std::alloc::Global;
 use x_session::{EditFault, Session, Work};
 use x_text::Edit;
 
@@ -28,29 +30,47 @@ pub struct TextChange<'m> {
     pub text: &'m str,
 }
 
-/// Carries a change out, and answers what work it took. After a fault the text is as before.
+/// Carries a change out, by waymarks of the text, which follow it, and answers what work it took. After a
+/// fault the text is as before.
 pub fn apply_change(
+    alloc: Global,
     session: &mut Session,
-    encoding: Encoding,
+    marks: &mut Waymarks,
     change: &TextChange,
 ) -> Result<Work, EditFault>
+    requires { AreWaymarks session.old.text marks.old }
     ensures text { OnOk result
-        (session.new.text ≡ edited_by (change_by encoding session.old.text change.now)) }
-    ensures fault { Judges (change_by encoding session.old.text change.now) result }
+        (session.new.text ≡ edited_by (change_by marks.old.encoding session.old.text change.now)) }
+    ensures fault { Judges (change_by marks.old.encoding session.old.text change.now) result }
     ensures base { session.new.base ≡ session.old.base }
     ensures same { OnErr result (session.new ≡ session.old) }
+    ensures marks { AreWaymarks session.new.text marks.new }
+    ensures encoding { marks.new.encoding ≡ marks.old.encoding }
 {
-    let text = session.bytes();
-    let (start, end) = match &change.range {
-        None => (0, text.len()),
-        Some(range) => offsets_of(encoding, text, range),
-    };
+    let (start, end) = places_of(marks, session.bytes(), &change.range);
     let edit = Edit {
         start,
         end,
         insert: change.text.as_bytes(),
     };
-    session.apply(&edit)
+    let work = session.apply(&edit)?;
+    marks.follow(alloc, session.bytes(), &edit);
+    Ok(work)
+}
+
+/// The places of a range's start and end; those of the text's where there is none.
+fn places_of(marks: &Waymarks, text: &[u8], range: &Option<Range>) -> (usize, usize)
+    requires { AreWaymarks text.now marks.now }
+    ensures { (insert : List ℕ) → change_in marks.now.encoding text.now range.now insert
+        ≡ record { old = text.now; start = result.0; end = result.1; insert = insert } }
+{
+    match range {
+        None => (0, text.len()),
+        Some(range) => (
+            marks.offset(text, range.start),
+            marks.offset(text, range.end),
+        ),
+    }
 }
 
 /// The change that a client describes, if it does.

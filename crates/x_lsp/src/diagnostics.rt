@@ -5,7 +5,6 @@ ghost use Rattle.std.specs.Prelude.{◌≡◌, ◌==◌, ◌≤◌, ◌++◌, �
 ghost use Rattle.std.specs.Prelude.{length, string_bytes, map};
 ghost use Rattle.serde_json.specs.View.{view};
 ghost use Rattle.serde_json.specs.Written.{compact_text};
-ghost use Rattle.x_text.specs.Limits.{most_text};
 ghost use Rattle.x_compile.specs.Compile.{faults_of};
 ghost use Rattle.x_compile.specs.Faults.{fault_text};
 ghost use Rattle.x_session.specs.Session.{Compiles};
@@ -13,17 +12,18 @@ ghost use Rattle.x_lsp.specs.Diagnostics.{AreDiagnostics, IsEndOfToken, IsPublis
 ghost use Rattle.x_lsp.specs.Diagnostics.{diagnostic_data, fault_number, position_data, range_data};
 ghost use Rattle.x_lsp.specs.Diagnostics.{related_data};
 ghost use Rattle.x_lsp.specs.Published.{data_of, place_data};
+ghost use Rattle.x_lsp.specs.Waymarks.{AreWaymarks};
 
 use crate::answers::note;
 use crate::changes::Range;
 use crate::client::Client;
 use crate::fault_places::{FaultPlaces, token_end};
 use crate::head::number;
-use crate::other_places::other_range;
-use crate::places::Places;
+use crate::other_places::OtherPlaces;
 use crate::positions::Position;
 use crate::published::{Diagnostic, Place, published_text};
 use crate::sentences::sentence;
+use crate::waymarks::Waymarks;
 use memchr::memchr;
 use serde_json::{Value, json};
 use std::alloc::{AllocError, Global};
@@ -31,18 +31,20 @@ use std::str;
 use x_session::{FaultCode, Session};
 use x_text::NoMemory;
 
-/// The note that publishes the faults of a document's text.
+/// The note that publishes the faults of a document's text, by waymarks of it.
 pub fn publish(
     alloc: Global,
     client: Client,
     uri: &str,
     version: i64,
     session: &Session,
+    marks: &Waymarks,
 ) -> Result<Vec<u8>, NoMemory>
-    requires { length session.now.text ≤ most_text }
+    requires marks { AreWaymarks session.now.text marks.now }
+    requires encoding { marks.now.encoding ≡ client.encoding }
     ensures { IfOk result (λ said. IsPublished client uri.now version session.now.text said.items) }
 {
-    let list = diagnostics(alloc, client, uri, session)?;
+    let list = diagnostics(alloc, client, uri, session, marks)?;
     Ok(published_text(alloc, uri, version, list)?)
 }
 
@@ -60,8 +62,10 @@ fn diagnostics<'d>(
     client: Client,
     uri: &'d str,
     session: &Session,
+    marks: &Waymarks,
 ) -> Result<Vec<Diagnostic<'d>>, NoMemory>
-    requires { length session.now.text ≤ most_text }
+    requires marks { AreWaymarks session.now.text marks.now }
+    requires encoding { marks.now.encoding ≡ client.encoding }
     ensures { IfOk result (λ list. Compiles session.now.text (λ items.
         AreDiagnostics client uri.now session.now.text items (faults_of session.now.text items)
         (map data_of list.items))) }
@@ -69,18 +73,14 @@ fn diagnostics<'d>(
     let text = session.bytes();
     let mut list = Vec::new(alloc);
     let mut starts = FaultPlaces::of(text);
-    let mut places = Places::of(client.encoding, text);
-    let mut others = None;
+    let mut others = OtherPlaces::of(client.shows_related, session, marks);
     for fault in session.faults() {
         let start = starts.start(&fault);
         let end = token_end(text, start);
-        let range = Range {
-            start: places.position(start),
-            end: places.position(end),
-        };
+        let range = marks.range(text, start, end);
         let word = word_at(text, start, end);
         let code = fault.code;
-        let other = other_range(alloc, client, session, &mut others, code, word, start)?;
+        let other = others.range(alloc, code, word, start)?;
         let related = place_of(uri, other);
         list.push(diagnostic(alloc, code, range, word, related)?)?;
     }

@@ -1,80 +1,97 @@
 //! Other places that matter to the faults of a text.
 
-ghost use Rattle.std.specs.Prelude.{◌≡◌, ◌≤◌, ℕ, IfOk, IfSome, List, OnOk, length};
-ghost use Rattle.x_text.specs.Limits.{most_text};
+ghost use Rattle.std.specs.Prelude.{◌≡◌, ℕ, IfOk, List};
 ghost use Rattle.x_lex.specs.declared.kind.Kind.{Kind};
 ghost use Rattle.x_compile.specs.Compile.{IsCompilation, Item};
-ghost use Rattle.x_lsp.specs.DeclaredPlaces.{AreOthersOf, IsTableOf};
+ghost use Rattle.x_lsp.specs.DeclaredPlaces.{AreOfText, IsTableOf};
 ghost use Rattle.x_lsp.specs.Diagnostics.{IsRangeAt, declared_elsewhere, is_of_declarer, other_place};
+ghost use Rattle.x_lsp.specs.Waymarks.{AreWaymarks};
 
 use crate::changes::Range;
-use crate::client::Client;
 use crate::declared_places::DeclaredPlaces;
-use crate::encoding::Encoding;
+use crate::fault_places::token_end;
 use crate::waymarks::Waymarks;
 use std::alloc::Global;
 use x_session::{FaultCode, RuleCode, Session};
 use x_text::NoMemory;
 
-/// What is needed to find where the words of faults are declared first.
+/// Tells the other places that matter to the faults of a text, if the client shows them.
 #[derive(Drop)]
 pub(crate) struct OtherPlaces<'s> {
-    names: DeclaredPlaces<'s>,
-    marks: Waymarks<'s>,
-}
-
-/// The other place that matters to a fault of this code at a word. What takes the time of going over the text
-/// is made where it is first needed.
-pub(crate) fn other_range<'s>(
-    alloc: Global,
-    client: Client,
+    shown: bool,
     session: &'s Session,
-    made: &mut Option<OtherPlaces<'s>>,
-    code: FaultCode,
-    word: &[u8],
-    start: usize,
-) -> Result<Option<Range>, NoMemory>
-    requires small { length session.now.text ≤ most_text }
-    requires made { IfSome made.old (AreOthersOf session.now.text) }
-    ensures made { OnOk result (IfSome made.new (AreOthersOf session.now.text)) }
-    ensures range { IfOk result (λ range. (tokens : List (Kind × ℕ)) (items : List Item)
-        → IsCompilation session.now.text tokens items → IsRangeAt client.encoding session.now.text
-        (other_place client.shows_related items code word.now start) range) }
-{
-    if !client.shows_related || !is_of_declarer(code) {
-        return Ok(None);
-    }
-    if let Some(others) = made {
-        return Ok(others.range(client.encoding, word, start));
-    }
-    let others = OtherPlaces::of(alloc, session)?;
-    let range = others.range(client.encoding, word, start);
-    *made = Some(others);
-    Ok(range)
+    marks: &'s Waymarks,
+    /// Made where they are first needed, since this takes the time of going over the text.
+    names: Option<DeclaredPlaces<'s>>,
 }
 
 impl<'s> OtherPlaces<'s> {
-    /// What is needed of a text.
-    fn of(alloc: Global, session: &'s Session) -> Result<OtherPlaces<'s>, NoMemory>
-        requires { length session.now.text ≤ most_text }
-        ensures { IfOk result (AreOthersOf session.now.text) }
+    /// The other places of a text, by its waymarks.
+    pub(crate) fn of(shown: bool, session: &'s Session, marks: &'s Waymarks) -> OtherPlaces<'s>
+        requires { AreWaymarks session.now.text marks.now }
+        ensures of_text { AreOfText result }
+        ensures shown { result.shown ≡ shown }
+        ensures session { result.session.now ≡ session.now }
+        ensures marks { result.marks.now ≡ marks.now }
     {
-        let names = DeclaredPlaces::of(alloc, session)?;
-        let marks = Waymarks::of(alloc, session.bytes())?;
-        Ok(OtherPlaces { names, marks })
+        OtherPlaces {
+            shown,
+            session,
+            marks,
+            names: None,
+        }
     }
 
-    /// The range of the token that declares a word first, if that is not the token at this place.
-    fn range(&self, encoding: Encoding, word: &[u8], start: usize) -> Option<Range>
-        ensures { (items : List Item) → IsTableOf items self.now.names
-            → IsRangeAt encoding self.now.marks (declared_elsewhere items word.now start) result }
+    /// The other place that matters to a fault of this code at a word.
+    pub(crate) fn range(
+        &mut self,
+        alloc: Global,
+        code: FaultCode,
+        word: &[u8],
+        start: usize,
+    ) -> Result<Option<Range>, NoMemory>
+        requires { AreOfText self.old }
+        ensures of_text { AreOfText self.new }
+        ensures range { IfOk result (λ range. (tokens : List (Kind × ℕ)) (items : List Item)
+            → IsCompilation self.old.session.now.text tokens items
+            → IsRangeAt self.old.marks.now.encoding self.old.session.now.text
+            (other_place self.old.shown items code word.now start) range) }
+        ensures shown { self.new.shown ≡ self.old.shown }
+        ensures session { self.new.session.now ≡ self.old.session.now }
+        ensures marks { self.new.marks.now ≡ self.old.marks.now }
     {
-        let place = self.names.place(word)?;
-        if place == start {
-            return None;
+        if !self.shown || !is_of_declarer(code) {
+            return Ok(None);
         }
-        Some(self.marks.token_range(encoding, place))
+        let session = self.session;
+        let marks = self.marks;
+        if let Some(names) = &self.names {
+            return Ok(declared_range(names, session.bytes(), marks, word, start));
+        }
+        let names = DeclaredPlaces::of(alloc, session)?;
+        let range = declared_range(&names, session.bytes(), marks, word, start);
+        self.names = Some(names);
+        Ok(range)
     }
+}
+
+/// The range of the token that declares a word first, if that is not the token at this place.
+fn declared_range(
+    names: &DeclaredPlaces,
+    text: &[u8],
+    marks: &Waymarks,
+    word: &[u8],
+    start: usize,
+) -> Option<Range>
+    requires { AreWaymarks text.now marks.now }
+    ensures { (items : List Item) → IsTableOf items names.now
+        → IsRangeAt marks.now.encoding text.now (declared_elsewhere items word.now start) result }
+{
+    let place = names.place(word)?;
+    if place == start {
+        return None;
+    }
+    Some(marks.range(text, place, token_end(text, place)))
 }
 
 /// Whether a fault says something of how its word is declared.

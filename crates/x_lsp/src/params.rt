@@ -1,8 +1,7 @@
 //! What the parameters of messages say.
 
 use crate::changes::{TextChange, position_in, text_change};
-use crate::encoding::Encoding;
-use crate::positions::offset_of;
+use crate::document::OpenDocument;
 use serde_json::Value;
 use std::alloc::{AllocError, Global};
 use x_session::Which;
@@ -46,10 +45,10 @@ pub(crate) fn uri_in(params: Option<&Value>) -> Option<&str> {
     params?.get("textDocument")?.get("uri")?.as_str()
 }
 
-/// The place of a position in a text.
-pub(crate) fn place_in(encoding: Encoding, text: &[u8], params: Option<&Value>) -> Option<usize> {
+/// The place of a position in a document.
+pub(crate) fn place_in(document: &OpenDocument, params: Option<&Value>) -> Option<usize> {
     let position = position_in(params?.get("position")?)?;
-    Some(offset_of(encoding, text, position))
+    Some(document.place(position))
 }
 
 /// Whether the places are asked for where a name is declared.

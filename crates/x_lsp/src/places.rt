@@ -168,7 +168,13 @@ impl<'s> Places<'s> {
 }
 
 /// How many units stand in a line before a place of it, by those before an earlier one.
-fn units_behind(encoding: Encoding, line: &[u8], from: usize, units: usize, to: usize) -> usize
+pub(crate) fn units_behind(
+    encoding: Encoding,
+    line: &[u8],
+    from: usize,
+    units: usize,
+    to: usize,
+) -> usize
     requires line { length line.now ≤ most_text }
     requires from { from ≤ to }
     requires to { to ≤ length line.now }

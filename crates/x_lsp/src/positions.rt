@@ -1,10 +1,9 @@
-//! The places of positions.
+//! Positions, and the lines of a text.
 
-ghost use Rattle.std.specs.Prelude.{◌≡◌, ◌+◌, ◌-◌, ◌≤◌, drop, length};
-ghost use Rattle.x_lsp.specs.Positions.{behind_lines, first_line, line_end, offset_of};
-ghost use Rattle.x_lsp.specs.Positions.{place_within, starts_feed};
+ghost use Rattle.std.specs.Prelude.{◌≡◌, ◌≤◌, drop, length};
+ghost use Rattle.x_lsp.specs.Positions.{behind_lines, first_line, is_break, line_end, place_within};
+ghost use Rattle.x_lsp.specs.Positions.{starts_feed};
 
-use crate::changes::Range;
 use crate::encoding::Encoding;
 use memchr::memchr2;
 
@@ -17,45 +16,8 @@ pub struct Position {
     pub character: usize,
 }
 
-/// The place of a position: past a line's end that end, within a character its start, and past the last line
-/// the end of the text.
-pub fn offset_of(encoding: Encoding, text: &[u8], position: Position) -> usize
-    ensures place { result ≡ offset_of encoding text.now position }
-    ensures within { result ≤ length text.now }
-{
-    let rest = behind_lines(text, position.line);
-    offset_in_line(encoding, text, rest, position.character)
-}
-
-/// The places of a range's start and end. That of the end is found from the start's line on, so that the
-/// lines before it are gone over once.
-#[tactic(auto, using(crate::proofs::LineLemmas::lines_apart))]
-pub(crate) fn offsets_of(encoding: Encoding, text: &[u8], range: &Range) -> (usize, usize)
-    ensures start { result.0 ≡ offset_of encoding text.now range.now.start }
-    ensures end { result.1 ≡ offset_of encoding text.now range.now.end }
-{
-    let Range { start, end } = *range;
-    let rest = behind_lines(text, start.line);
-    let first = offset_in_line(encoding, text, rest, start.character);
-    if end.line < start.line {
-        return (first, offset_of(encoding, text, end));
-    }
-    let rest = behind_lines(rest, end.line - start.line);
-    (first, offset_in_line(encoding, text, rest, end.character))
-}
-
-/// The place of a character of the line that the rest of a text begins with.
-fn offset_in_line(encoding: Encoding, text: &[u8], rest: &[u8], character: usize) -> usize
-    requires { length rest.now ≤ length text.now }
-    ensures place { result ≡ (length text.now - length rest.now)
-        + place_within encoding (first_line rest.now) character }
-    ensures within { result ≤ length text.now }
-{
-    text.len() - rest.len() + place_within(encoding, first_line(rest), character)
-}
-
 /// What stands behind so many line ends.
-fn behind_lines(text: &[u8], count: usize) -> &[u8]
+pub(crate) fn behind_lines(text: &[u8], count: usize) -> &[u8]
     ensures rest { result.now ≡ behind_lines count text.now }
     ensures within { length result.now ≤ length text.now }
 {
@@ -112,18 +74,25 @@ pub(crate) fn first_line(rest: &[u8]) -> &[u8]
     }
 }
 
-/// How many bytes of a line are of characters that end within so many units.
-fn place_within(encoding: Encoding, line: &[u8], units: usize) -> usize
-    ensures place { result ≡ place_within encoding line.now units }
-    ensures within { result ≤ length line.now }
+/// How many bytes of the first line of a text are of characters that end within so many units.
+pub(crate) fn place_within(encoding: Encoding, rest: &[u8], units: usize) -> usize
+    ensures place { result ≡ place_within encoding (first_line rest.now) units }
+    ensures within { result ≤ length rest.now }
 {
     let mut left = units;
-    for at in 0..line.len() {
-        let unit = encoding.unit(line[at]);
-        if unit > left {
+    for at in 0..rest.len() {
+        let unit = encoding.unit(rest[at]);
+        if is_break(rest[at]) || unit > left {
             return at;
         }
         left -= unit;
     }
-    line.len()
+    rest.len()
+}
+
+/// Whether a byte is one of a line end.
+fn is_break(byte: u8) -> bool
+    ensures { result ≡ is_break byte }
+{
+    byte == b'\n' || byte == b'\r'
 }

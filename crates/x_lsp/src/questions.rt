@@ -97,7 +97,7 @@ fn result_of_position(
     ensures value { IfOk result (λ v. has_float (view v) ≡ false) }
     ensures code { IfErr result (λ code. is_of_request code ≡ true) }
 {
-    let Some(at) = place_in(encoding, document.session.bytes(), params) else {
+    let Some(at) = place_in(document, params) else {
         return Err(ErrorCode::InvalidParams);
     };
     match question {

@@ -236,11 +236,11 @@ impl Server {
         ensures says { Publishes self.old.client uri.now version text.now (said_of result) }
         ensures life { self.new.life ≡ self.old.life }
     {
-        let opened = match OpenDocument::open(self.alloc, uri, version, text) {
+        let opened = match OpenDocument::open(self.alloc, self.client, uri, version, text) {
             Ok(opened) => opened,
             Err(fault) => return told(self.alloc, ChangeFault::Edit(fault)),
         };
-        let reply = opened.publish(self.alloc, self.client);
+        let reply = opened.publish(self.alloc);
         if self.documents.reserve(1).is_err() {
             return Reply::NoMemoryNote;
         }
@@ -264,7 +264,7 @@ impl Server {
         };
         let document = &mut self.documents[at];
         match text_changes(self.alloc, changes) {
-            Ok(Some(changes)) => document.change(self.alloc, self.client, version, &changes),
+            Ok(Some(changes)) => document.change(self.alloc, version, &changes),
             Ok(None) => {
                 document.falls_out_of_step();
                 shown(self.alloc, "the parameters of didChange are wrong")

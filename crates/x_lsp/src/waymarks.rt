@@ -1,103 +1,164 @@
-//! Lines of a text from which its places are found.
+//! Places of a text that are kept with their positions, so that others are found near them.
 
-ghost use Rattle.std.specs.Prelude.{◌≡◌, ◌≤◌, ℕ, All, IfOk, OnOk, length};
+ghost use Rattle.std.specs.Prelude.{◌≡◌, ◌≤◌, ◌↔◌, ◌*◌, ℕ, IfOk, IsTrue, List, length};
 ghost use Rattle.x_text.specs.Limits.{most_text};
-ghost use Rattle.x_lsp.specs.Diagnostics.{IsEndOfToken};
-ghost use Rattle.x_lsp.specs.PassedLines.{IsLine};
-ghost use Rattle.x_lsp.specs.Positions.{position_of};
+ghost use Rattle.x_lsp.specs.Positions.{offset_of, position_of};
+ghost use Rattle.x_lsp.specs.Waymarks.{AreWaymarks, IsAt, IsLeft, IsNotBehind};
 
 use crate::changes::Range;
 use crate::encoding::Encoding;
-use crate::fault_places::token_end;
-use crate::places::{Line, Places, first};
+use crate::marking::{marked, marked_behind};
+use crate::positions::Position;
+use crate::spots::{START, Spot, offset_from, outside_pair, position_from};
 use std::alloc::{AllocError, Global};
-use std::marker::Model;
+use x_text::Edit;
 
-/// How many lines stand between two that are marked.
-const APART: usize = 64;
-
-/// Lines of a text, so that places which are asked for in any order are found near them.
-#[derive(Drop)]
-pub(crate) struct Waymarks<'s> {
-    text: &'s [u8],
-    lines: Vec<Line>,
+/// A place of a text that is kept with its position.
+#[derive(Clone, Copy, Debug)]
+pub struct Waymark {
+    pub(crate) at: u32,
+    line: u32,
+    character: u32,
 }
 
-impl<'s> Model for Waymarks<'s> {
-    ghost use Rattle.std.specs.Prelude.{◌≤◌, ℕ, All, List, length};
-    ghost use Rattle.x_text.specs.Limits.{most_text};
-    ghost use Rattle.x_lsp.specs.PassedLines.{IsLine};
-
-    ghost Value = { List ℕ };
-
-    ghost view = { λ w. w.text.now };
-
-    ghost invariant = { λ w. (length w.text.now ≤ most_text) × All (IsLine w.text.now) w.lines.items };
+/// Places of a text that are kept with their positions, a few bytes apart.
+#[derive(Debug, Drop)]
+pub struct Waymarks {
+    /// How characters are counted.
+    pub encoding: Encoding,
+    list: Vec<Waymark>,
 }
 
-impl<'s> Waymarks<'s> {
-    /// Lines of a text, over which this goes once.
-    pub(crate) fn of(alloc: Global, text: &'s [u8]) -> Result<Waymarks<'s>, AllocError>
-        requires { length text.now ≤ most_text }
-        ensures { IfOk result (λ marks. marks ≡ text.now) }
+impl Waymark {
+    /// The mark of a spot.
+    pub(crate) fn of(spot: Spot) -> Waymark
+        requires at { spot.at ≤ most_text }
+        requires line { spot.position.line ≤ most_text }
+        requires character { spot.position.character ≤ 4 * most_text }
+        ensures at { result.at ≡ spot.at }
+        ensures line { result.line ≡ spot.position.line }
+        ensures character { result.character ≡ spot.position.character }
     {
-        let lines = marked_lines(alloc, text)?;
-        Ok(Waymarks { text, lines })
+        Waymark {
+            at: spot.at as u32,
+            line: spot.position.line as u32,
+            character: spot.position.character as u32,
+        }
     }
 
-    /// The range of the token that starts at a place.
-    pub(crate) fn token_range(&self, encoding: Encoding, start: usize) -> Range
-        ensures { (end : ℕ) × IsEndOfToken self.now start end
-            × (result.start ≡ position_of encoding self.now start)
-            × (result.end ≡ position_of encoding self.now end) }
+    /// The spot that is marked.
+    pub(crate) fn spot(self) -> Spot
+        ensures at { result.at ≡ self.at }
+        ensures line { result.position.line ≡ self.line }
+        ensures character { result.position.character ≡ self.character }
     {
-        let end = token_end(self.text, start);
-        let line = mark_before(self.text, &self.lines, start);
-        let mut places = Places::from_line(encoding, self.text, line);
-        Range {
-            start: places.position(start),
-            end: places.position(end),
+        Spot {
+            at: self.at as usize,
+            position: Position {
+                line: self.line as usize,
+                character: self.character as usize,
+            },
         }
     }
 }
 
-/// Lines of a text, not more than a few apart.
-fn marked_lines(alloc: Global, text: &[u8]) -> Result<Vec<Line>, AllocError>
-    ensures { IfOk result (λ lines. All (IsLine text.now) lines.items) }
-{
-    let mut lines = Vec::new(alloc);
-    let mut line = first(text);
-    for _ in 0..text.len() {
-        add_mark(&mut lines, text, line)?;
-        let Some(next) = line.next_line(text) else {
-            return Ok(lines);
+impl Waymarks {
+    /// The waymarks of a text.
+    ///
+    /// # Errors
+    ///
+    /// [`AllocError`] where the list of them could not grow.
+    pub fn of(alloc: Global, encoding: Encoding, text: &[u8]) -> Result<Waymarks, AllocError>
+        requires { length text.now ≤ most_text }
+        ensures marks { IfOk result (AreWaymarks text.now) }
+        ensures encoding { IfOk result (λ marks. marks.encoding ≡ encoding) }
+    {
+        let list = marked(alloc, encoding, text)?;
+        Ok(Waymarks { encoding, list })
+    }
+
+    /// The position of a place of the text.
+    pub fn position(&self, text: &[u8], at: usize) -> Position
+        requires { AreWaymarks text.now self.now }
+        ensures { result ≡ position_of self.now.encoding text.now at }
+    {
+        let at = at.min(text.len());
+        position_from(self.encoding, text, self.spot_before(at), at)
+    }
+
+    /// The positions of two places of the text.
+    pub(crate) fn range(&self, text: &[u8], start: usize, end: usize) -> Range
+        requires { AreWaymarks text.now self.now }
+        ensures start { result.start ≡ position_of self.now.encoding text.now start }
+        ensures end { result.end ≡ position_of self.now.encoding text.now end }
+    {
+        Range {
+            start: self.position(text, start),
+            end: self.position(text, end),
+        }
+    }
+
+    /// The place of a position: past a line's end that end, within a character its start, and past the last
+    /// line the end of the text.
+    pub fn offset(&self, text: &[u8], position: Position) -> usize
+        requires { AreWaymarks text.now self.now }
+        ensures place { result ≡ offset_of self.now.encoding text.now position }
+        ensures within { result ≤ length text.now }
+    {
+        let spot = outside_pair(text, self.spot_not_behind(position));
+        offset_from(self.encoding, text, spot, position)
+    }
+
+    /// Follows an edit that leaves this text. Where memory runs out no place is kept, until the next edit.
+    pub(crate) fn follow(&mut self, alloc: Global, text: &[u8], edit: &Edit)
+        requires small { length text.now ≤ most_text }
+        requires left { IsLeft self.old.encoding self.old.list.items edit.now text.now }
+        ensures marks { AreWaymarks text.now self.new }
+        ensures encoding { self.new.encoding ≡ self.old.encoding }
+    {
+        self.list = match marked_behind(alloc, self.encoding, &self.list, text, edit) {
+            Ok(list) => list,
+            Err(AllocError) => Vec::new(alloc),
         };
-        line = next;
     }
-    Ok(lines)
+
+    /// The last spot that is marked at a place or before it; else the start of the text.
+    fn spot_before(&self, at: usize) -> Spot
+        ensures spot { (text : List ℕ) → AreWaymarks text self.now
+            → IsAt self.now.encoding text result.at result.position }
+        ensures before { result.at ≤ at }
+    {
+        let count = self.list.partition_point(|mark| mark.at as usize <= at);
+        match count.checked_sub(1) {
+            Some(last) if last < self.list.len() && self.list[last].at as usize <= at => {
+                self.list[last].spot()
+            }
+            _ => START,
+        }
+    }
+
+    /// The last spot that is marked whose position is not behind this one; else the start of the text.
+    fn spot_not_behind(&self, position: Position) -> Spot
+        ensures spot { (text : List ℕ) → AreWaymarks text self.now
+            → IsAt self.now.encoding text result.at result.position }
+        ensures before { IsNotBehind result.position position }
+    {
+        let count = self
+            .list
+            .partition_point(|mark| is_not_behind(*mark, position));
+        match count.checked_sub(1) {
+            Some(last) if last < self.list.len() && is_not_behind(self.list[last], position) => {
+                self.list[last].spot()
+            }
+            _ => START,
+        }
+    }
 }
 
-/// Adds a line, unless a line before it is near.
-fn add_mark(lines: &mut Vec<Line>, text: &[u8], line: Line) -> Result<(), AllocError>
-    requires lines { All (IsLine text.now) lines.old.items }
-    requires line { IsLine text.now line }
-    ensures { OnOk result (All (IsLine text.now) lines.new.items) }
+/// Whether a mark's position is not behind this one.
+fn is_not_behind(mark: Waymark, position: Position) -> bool
+    ensures { IsTrue result ↔ IsNotBehind (record { line = mark.line; character = mark.character }) position }
 {
-    let _ = text;
-    if line.number % APART == 0 {
-        lines.push(line)?;
-    }
-    Ok(())
-}
-
-/// The last of some lines of a text that starts at a place or before it; else the first line.
-fn mark_before(text: &[u8], lines: &[Line], at: usize) -> Line
-    requires { All (IsLine text.now) lines.now }
-    ensures { IsLine text.now result }
-{
-    let count = lines.partition_point(|line| line.start <= at);
-    match count.checked_sub(1) {
-        Some(last) if last < lines.len() => lines[last],
-        _ => first(text),
-    }
+    let line = mark.line as usize;
+    line < position.line || (line == position.line && mark.character as usize <= position.character)
 }

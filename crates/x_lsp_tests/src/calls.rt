@@ -1,11 +1,11 @@
 //! Each public call of `x_lsp` once.
 use std::test::Fail;
 use x_lsp::{
-    Client, Encoding, MessageReader, Places, Position, Server, TextChange, apply_change,
+    Client, Encoding, MessageReader, Places, Position, Server, TextChange, Waymarks, apply_change,
     definition_at, offset_of, positions_lead_back, publish, references_at, serve,
 };
 use x_session::Session;
-use x_text::{MAX_TEXT, MemSink, MemTap};
+use x_text::{MemSink, MemTap};
 
 /// A message that ends a server.
 const EXIT: &[u8] = b"Content-Length: 33\r\n\r\n{\"jsonrpc\":\"2.0\",\"method\":\"exit\"}";
@@ -30,25 +30,30 @@ fn positions_and_places(rt: HostRuntime) {
 fn a_change_is_published(rt: HostRuntime) -> Result<(), Fail> {
     let alloc = rt.alloc();
     let mut session = Session::open(alloc, b"t", b"const A = 1;")?;
+    let mut marks = Waymarks::of(alloc, Encoding::Utf8, session.bytes())?;
     let whole = TextChange {
         range: None,
         text: "x",
     };
-    apply_change(&mut session, Encoding::Utf8, &whole)?;
+    apply_change(alloc, &mut session, &mut marks, &whole)?;
     assert!(rt; session.bytes() == b"x".as_slice());
-    assert!(rt; published_length(&rt, &session)? > 200);
-    Ok(())
-}
-
-fn published_length(rt: &HostRuntime, session: &Session) -> Result<usize, Fail> {
-    if session.bytes().len() > MAX_TEXT {
-        return Ok(0);
-    }
     let client = Client {
         encoding: Encoding::Utf8,
         shows_related: true,
     };
-    Ok(publish(rt.alloc(), client, "t.x", 1, session)?.len())
+    let note = publish(alloc, client, "t.x", 1, &session, &marks)?;
+    assert!(rt; note.len() > 200);
+    Ok(())
+}
+
+#[test]
+fn waymarks_find_places(rt: HostRuntime) -> Result<(), Fail> {
+    let text = "a\r\n\u{e9}b".as_bytes();
+    let marks = Waymarks::of(rt.alloc(), Encoding::Utf16, text)?;
+    let position = marks.position(text, 5);
+    assert!(rt; position == Places::of(Encoding::Utf16, text).position(5));
+    assert!(rt; marks.offset(text, position) == 5);
+    Ok(())
 }
 
 #[test]

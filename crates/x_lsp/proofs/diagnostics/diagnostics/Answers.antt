@@ -1,9 +1,9 @@
 use Rattle.std.proofs.Common.{◌≡◌, ◌++◌, ◌∙◌, [], ◌∷◌, map, codes, ap, sym, subst, append_assoc, append-nil, refl}
-use Rattle.std.specs.Prelude.{IfSome, slice_range}
+use Rattle.std.specs.Prelude.{slice_range}
 use Rattle.x_compile.specs.Compile.{IsCompilation}
 use Rattle.x_compile.specs.Faults.{fault_text}
-use Rattle.x_session.specs.Session.{Compiles}
-use Rattle.x_lsp.specs.DeclaredPlaces.{AreOthersOf}
+use Rattle.x_session.specs.Session.{Compiles, Document}
+use Rattle.x_lsp.specs.declared.waymarks.Waymarks.{Waymarks}
 use Rattle.x_lsp.specs.Diagnostics.{AreDiagnostics, IsDiagnostic, IsEndOfToken, IsRangeAt, diagnostic_data, fault_number, other_place, range_data, start_of_fault}
 use Rattle.x_lsp.specs.Positions.{position_of}
 use Rattle.x_lsp.specs.Published.{data_of}
@@ -17,8 +17,10 @@ loop-fault-init c =
     let none = no_diagnostics c.args.client c.args.uri.now c.args.session.now.text h in
     record {
       starts = c.of-starts.ensures;
-      places = c.of-places.ensures;
-      others = tt;
+      shown = c.of-others.ensures.shown;
+      session = c.of-others.ensures.session;
+      marks = c.of-others.ensures.marks;
+      others = c.of-others.ensures.of_text;
       told = (
         [],
         refl,
@@ -39,16 +41,21 @@ loop-fault-preserved c =
     let start = c.start-start.result in
     let end = c.token_end-end.result in
     let start_is : start ≡ start_of_fault text f = c.start-start.ensures.start ∙ ap (λ t. start_of_fault t f) inv.starts in
-    let first : c.position.result ≡ position_of e text (start_of_fault text f) =
-    c.position.ensures.position ∙ ap (λ p. position_of p.encoding p.text start) inv.places ∙ ap (position_of e text) start_is in
-    let places = c.position.ensures.same ∙ inv.places in
-    let second : c.position-in-loop-fault.result ≡ position_of e text end =
-    c.position-in-loop-fault.ensures.position ∙ ap (λ p. position_of p.encoding p.text end) places in
+    let first : c.range-range.result.start ≡ position_of e text (start_of_fault text f) =
+    c.range-range.ensures.start ∙ ap (λ v. position_of v text start) c.requires.encoding ∙ ap (position_of e text) start_is in
+    let second : c.range-range.result.end ≡ position_of e text end =
+    c.range-range.ensures.end ∙ ap (λ v. position_of v text end) c.requires.encoding in
     let shown = c.in_ok-diagnostic.ensures in
     let value = c.in_ok-diagnostic.field-0 in
     let are = inv.told.2 in
-    let compiled = subst (λ t. IsCompilation t are.0 are.1) c.bytes-text.ensures are.2 in
-    let other = subst (λ t. IsRangeAt e t (other_place client.shows_related are.1 f.code c.word_at-word.result.now start) c.in_ok-other.other) (sym c.bytes-text.ensures) (c.in_ok-other.ensures.range are.0 are.1 compiled) in
+    let others = c.loop-fault.others in
+    let word = c.word_at-word.result.now in
+    let seen : text ≡ others.session.now.text = c.bytes-text.ensures ∙ sym (ap (λ (d : Document). d.text) inv.session) in
+    let encoding : others.marks.now.encoding ≡ e = ap (λ (m : Waymarks). m.encoding) inv.marks ∙ c.requires.encoding in
+    let compiled = subst (λ t. IsCompilation t are.0 are.1) seen are.2 in
+    let other = subst (λ t. IsRangeAt e t (other_place client.shows_related are.1 f.code word start) c.in_ok-other.other) (sym seen)
+    (subst (λ b. IsRangeAt e others.session.now.text (other_place b are.1 f.code word start) c.in_ok-other.other) inv.shown
+    (subst (λ v. IsRangeAt v others.session.now.text (other_place others.shown are.1 f.code word start) c.in_ok-other.other) encoding (c.in_ok-other.ensures.range are.0 are.1 compiled))) in
     let is : IsDiagnostic client uri text are.1 f (data_of value) = record {
       end = end;
       sentence = shown.0;
@@ -61,8 +68,10 @@ loop-fault-preserved c =
     let listed = ap (map data_of) c.in_ok-push.ensures.items ∙ map-snoc data_of c.loop-fault.list.items value in
     record {
       starts = c.start-start.ensures.same ∙ inv.starts;
-      places = c.position-in-loop-fault.ensures.same ∙ places;
-      others = subst (λ t. IfSome c.other_range.new.made (AreOthersOf t)) (sym c.bytes-text.ensures) c.in_ok-other.ensures.made;
+      shown = c.in_ok-other.ensures.shown ∙ inv.shown;
+      session = c.in_ok-other.ensures.session ∙ inv.session;
+      marks = c.in_ok-other.ensures.marks ∙ inv.marks;
+      others = c.in_ok-other.ensures.of_text;
       told = (
         told ++ f ∷ [],
         inv.told.1 ∙ ap (λ l. told ++ l) c.in-Some.ensures.steps ∙ sym (append_assoc told (f ∷ []) c.next.new.self),

@@ -1,10 +1,11 @@
-use Rattle.std.proofs.Common.{◌≡◌, ◌≤◌, length, drop}
-use Rattle.x_text.specs.Limits.{most_text}
+use Rattle.std.proofs.Common.{◌≡◌, drop}
 use Rattle.x_lsp.specs.Changes.{changed_by_all}
+use Rattle.x_lsp.specs.Waymarks.{AreWaymarks}
 use Rattle.x_lsp.proofs.document.apply_changes.Given as goal
 
 abbrev pub invariant-loop-change : goal.invariant-loop-change
 invariant-loop-change l = record {
-  text : changed_by_all l.encoding l.session.text (drop l.change-index l.changes) ≡ changed_by_all l.encoding l.fn.session.text l.changes;
-  small : length l.session.text ≤ most_text;
+  text : changed_by_all l.marks.encoding l.session.text (drop l.change-index l.changes) ≡ changed_by_all l.fn.marks.encoding l.fn.session.text l.changes;
+  marks : AreWaymarks l.session.text l.marks;
+  encoding : l.marks.encoding ≡ l.fn.marks.encoding;
 }

@@ -19,4 +19,5 @@ returns-clause-says c =
     let said = said_of c.publish-reply.result in
     subst (λ u. Publishes e u c.args.version c.args.text.now said) c.in-Ok.ensures.uri
     (subst (λ v. Publishes e (string_bytes d.uri) v c.args.text.now said) (c.in-Ok.ensures.version ∙ to_z-of_z w64 c.args.version c.ranges.version)
-    (subst (λ t. Publishes e (string_bytes d.uri) d.version t said) c.in-Ok.ensures.text c.publish-reply.ensures))
+    (subst (λ t. Publishes e (string_bytes d.uri) d.version t said) c.in-Ok.ensures.text
+    (subst (λ k. Publishes k (string_bytes d.uri) d.version d.session.text said) c.in-Ok.ensures.client c.publish-reply.ensures)))
