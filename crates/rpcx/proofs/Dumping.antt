@@ -15,7 +15,7 @@ use Rattle.rpcx.proofs.Unopened.{fits}
 use Rattle.rpcx.specs.Course.{course}
 use Rattle.rpcx.specs.Dumping.{HasTypes, IsWholeFile, Opens, ReadsAll, ReadsOn, Shows, ShowsFile}
 use Rattle.rpcx.specs.Dumping.{StopsAt}
-use Rattle.rpcx.specs.Generate.{NotOpened, told_faults}
+use Rattle.rpcx.specs.Generate.{IsFaultless, NotOpened, told_faults}
 use Rattle.x_args.specs.Telling.{IsTold}
 use Rattle.rpcx.specs.declared.rpcdump.halt.Halt.{Halt}
 use Rattle.rpcx.specs.declared.rpcdump.halt.Halt.TheVariants.{NoType, Unread, TooLarge, NoRoom, Ended, Unwritten}
@@ -66,6 +66,10 @@ not_opened file text before after Failed faulty large failed others = inl (faile
 -- the types of a text that was opened
 pub has_types : (text : List ℕ) (s : Schema) → (MAX_TEXT < length text → ⊥) → Compiles text (λ items. GivesSchema text items (Ok s)) → HasTypes text s
 has_types text s large gives = (fits (length text) large, gives)
+
+-- a text without a fault whose types could not be made
+pub faultless : (text : List ℕ) → (MAX_TEXT < length text → ⊥) → Compiles text (λ items. faults_of text items ≡ []) → IsFaultless text
+faultless text large clean = record { fits = fits (length text) large; clean = clean }
 
 -- ---- reading
 

@@ -1,5 +1,4 @@
 pub mod Bases
 pub mod Dumping
 pub mod Editing
-pub mod Opened
 pub mod Unopened

@@ -3,8 +3,7 @@ use Rattle.x_session.specs.Session.{Compiles}
 use Rattle.x_session.specs.Typed.{GivesSchema}
 use Rattle.rpcx.specs.Dumping.{Opens}
 use Rattle.x_args.specs.Telling.{IsTold}
-use Rattle.rpcx.proofs.Dumping.{has_types, not_opened, passed_on}
-use Rattle.rpcx.proofs.Opened.{faultless}
+use Rattle.rpcx.proofs.Dumping.{faultless, has_types, not_opened, passed_on}
 use Rattle.rpcx.proofs.rpcdump.open_types.Goals as goal
 
 pub returns-in_err-session-clause-opens : goal.returns-in_err-session-clause-opens
@@ -23,7 +22,6 @@ returns-in-Ok-clause-opens g c =
 pub returns-in-Err-clause-opens : goal.returns-in-Err-clause-opens
 returns-in-Err-clause-opens g c =
     inr (
-      faultless (codes "rpcdump") c.args.file.now c.args.text.now (g.E.Sink.state c.args.err.now) (g.E.Sink.state c.open_text.new.err)
-          c.in_ok-session.session c.in_ok-session.ensures.opened,
+      faultless c.args.text.now (λ more. let off = c.in_ok-session.ensures.opened.too_large more in cc) c.in_ok-session.ensures.opened.clean,
       subst (λ e. IsTold (g.E.Sink.state e) (g.E.Sink.state c.tell_of_file.new.err) (codes "rpcdump: out of memory\n")) c.in_ok-session.ensures.quiet c.tell_of_file.ensures,
     )
