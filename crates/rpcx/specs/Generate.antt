@@ -79,7 +79,8 @@ stop_told program file (NoMemory written) = told_of program (codes "out of memor
 -- what `rpcgen` tells where its output cannot be opened, whose name is `-` for the standard output
 abbrev pub no_output_told : GenArgs → List ℕ
 no_output_told args =
-    codes "rpcgen: " ++ unwrap_or (option_map (λ s. s.now) args.output) (codes "-") ++ codes ": cannot be written\n"
+    codes "rpcgen: " ++ unwrap_or (option_map (λ s. s.now) args.output) (codes "-")
+    ++ codes ": cannot be written\n"
 
 -- Why `rpcgen` does not write a generated text, as it tells it: its output cannot be opened, or has failed.
 abbrev pub NotWritten : GenArgs → (before after : Stream) → Type 0
@@ -87,8 +88,8 @@ NotWritten args before after =
     IsTold before after (no_output_told args)
     ⊎ IsTold before after (codes "rpcgen: output cannot be written\n")
 
--- Why a run of `rpcgen` fails on a file's text that it can read, as it tells it: the text is not opened; or it
--- has no fault, and what is generated of it is not written.
+-- Why a run of `rpcgen` fails on a file's text that it can read, as it tells it: the text is not opened; or
+-- it has no fault, and what is generated of it is not written.
 pub data NotGenerated (args : GenArgs) (text : List ℕ) (before after : Stream) : Type 0 where
   unopened : NotOpened (codes "rpcgen") args.file.now text before after → NotGenerated args text before after
   unwritten : IsFaultless text → NotWritten args before after → NotGenerated args text before after
