@@ -13,9 +13,9 @@ use Rattle.x_session.specs.declared.session.Session.{Session}
 use Rattle.x_args.proofs.Grown.{stays}
 use Rattle.rpcx.proofs.Unopened.{fits}
 use Rattle.rpcx.specs.Course.{course}
-use Rattle.rpcx.specs.Dumping.{HasTypes, IsFaultless, IsWholeFile, Opens, ReadsAll, ReadsOn, Shows, ShowsFile}
+use Rattle.rpcx.specs.Dumping.{HasTypes, IsWholeFile, Opens, ReadsAll, ReadsOn, Shows, ShowsFile}
 use Rattle.rpcx.specs.Dumping.{StopsAt}
-use Rattle.rpcx.specs.Generate.{NotOpened, told_faults}
+use Rattle.rpcx.specs.Generate.{IsFaultless, NotOpened, told_faults}
 use Rattle.x_args.specs.Telling.{IsTold}
 use Rattle.rpcx.specs.declared.rpcdump.halt.Halt.{Halt}
 use Rattle.rpcx.specs.declared.rpcdump.halt.Halt.TheVariants.{NoType, Unread, TooLarge, NoRoom, Ended, Unwritten}

@@ -18,7 +18,7 @@ use Rattle.x_text.specs.declared.streams.outcome.EngineFault.{EngineFault}
 use Rattle.x_wire.specs.StreamTexts.{DumpsMessage, DumpsStream}
 use Rattle.x_wire.specs.declared.nfs2.TheConstants.{NFS2_X}
 use Rattle.rpcx.specs.Course.{Course, IsIdle}
-use Rattle.rpcx.specs.Generate.{NotOpened, stop_told, told_faults}
+use Rattle.rpcx.specs.Generate.{IsFaultless, NotOpened, stop_told, told_faults}
 use Rattle.x_args.specs.Telling.{IsTold}
 use Rattle.rpcx.specs.declared.rpcdump.halt.Halt.{Halt}
 use Rattle.rpcx.specs.declared.rpcdump.halt.Halt.TheVariants.{NoType, Unread, TooLarge, NoRoom, Ended}
@@ -42,11 +42,6 @@ schema_name args = unwrap_or (option_map (λ s. s.now) args.schema) (codes "nfs2
 -- the name of the type that is asked for
 abbrev pub type_asked : DumpArgs → List ℕ
 type_asked args = unwrap_or (option_map (λ s. s.now) args.type_name) []
-
--- the text is one that can be compiled, and has no fault
-pub record IsFaultless (text : List ℕ) : Type 0 where
-  pub fits : length text ≤ most_text
-  pub clean : Compiles text (λ items. faults_of text items ≡ [])
 
 -- the text is one that can be compiled, and has faults of which this holds
 abbrev pub HasFaults : List ℕ → (List Fault → Type 0) → Type 0

@@ -1,6 +1,6 @@
 -- What runs of the programs do, and what they tell.
 use Rattle.std.specs.Prelude.{◌≡◌, ◌⊎◌, ℕ, ◌-◌, ◌<◌, ◌≤◌, ◌==◌, List, []}
-use Rattle.std.specs.Prelude.{◌++◌, length, take, drop, codes, if◌then◌else◌}
+use Rattle.std.specs.Prelude.{◌++◌, length, take, drop, codes, if◌then◌else◌, option_map, unwrap_or}
 use Rattle.std.specs.Prelude.{Result, IfOk, OnOk, IfErr, IsErrOf}
 use Rattle.std.specs.List.{after_last, flat_map}
 use Rattle.std.specs.Str.{bytes_eq}
@@ -16,6 +16,7 @@ use Rattle.x_text.specs.declared.text.fault.TextFault.{TextFault}
 use Rattle.x_text.specs.declared.text.fault.TextFault.TheVariants as faults
 use Rattle.x_text.specs.Limits.{most_text}
 use Rattle.x_args.specs.Telling.{IsTold, told_of}
+use Rattle.x_args.specs.declared.generating_args.GenArgs.{GenArgs}
 use Rattle.x_args.specs.declared.status.Status.{Status}
 use Rattle.x_args.specs.declared.status.Status.TheVariants.{Faulty, Failed}
 
@@ -40,6 +41,11 @@ told_faults file fs = flat_map (told_fault file) fs
 abbrev pub unopened_told : List ℕ → List ℕ → TextFault → List ℕ
 unopened_told program file faults.TooLarge = program ++ codes ": " ++ file ++ codes ": 2 TooLarge\n"
 unopened_told program file fault = told_of program (codes "out of memory")
+
+-- the text is one that can be compiled, and has no fault
+pub record IsFaultless (text : List ℕ) : Type 0 where
+  pub fits : length text ≤ most_text
+  pub clean : Compiles text (λ items. faults_of text items ≡ [])
 
 -- Why a program opens no session of a file's text that it can read, as it tells it: the text is too large, or
 -- memory ran out. A text with faults has them told.
@@ -69,3 +75,21 @@ abbrev pub stop_told : List ℕ → List ℕ → EngineFault → List ℕ
 stop_told program file (Read written) = program ++ codes ": " ++ file ++ codes ": cannot be read\n"
 stop_told program file (Write written) = told_of program (codes "output cannot be written")
 stop_told program file (NoMemory written) = told_of program (codes "out of memory")
+
+-- what `rpcgen` tells where its output cannot be opened, whose name is `-` for the standard output
+abbrev pub no_output_told : GenArgs → List ℕ
+no_output_told args =
+    codes "rpcgen: " ++ unwrap_or (option_map (λ s. s.now) args.output) (codes "-")
+    ++ codes ": cannot be written\n"
+
+-- Why `rpcgen` does not write a generated text, as it tells it: its output cannot be opened, or has failed.
+abbrev pub NotWritten : GenArgs → (before after : Stream) → Type 0
+NotWritten args before after =
+    IsTold before after (no_output_told args)
+    ⊎ IsTold before after (codes "rpcgen: output cannot be written\n")
+
+-- Why a run of `rpcgen` fails on a file's text that it can read, as it tells it: the text is not opened; or
+-- it has no fault, and what is generated of it is not written.
+pub data NotGenerated (args : GenArgs) (text : List ℕ) (before after : Stream) : Type 0 where
+  unopened : NotOpened (codes "rpcgen") args.file.now text before after → NotGenerated args text before after
+  unwritten : IsFaultless text → NotWritten args before after → NotGenerated args text before after

@@ -2,7 +2,7 @@
 
 ghost use Rattle.std.specs.Prelude.{◌≡◌, ◌≢◌, ◌<◌, false, not, codes, length, IsTrue, OnOk, if◌then◌else◌};
 ghost use Rattle.std.specs.Io.KnownBytes.{Appends};
-ghost use Rattle.rpcx.specs.Generate.{told_faults, IsOpened};
+ghost use Rattle.rpcx.specs.Generate.{no_output_told, told_faults, IsOpened, NotGenerated, NotWritten};
 ghost use Rattle.x_args.specs.Telling.{Grows, IsTold};
 ghost use Rattle.x_session.specs.Session.{Compiles};
 ghost use Rattle.x_compile.specs.Compile.{faults_of};
@@ -101,6 +101,8 @@ pub fn gen_run<O: Output, E: Sink>(
         × IsTold (E.state err.old) (E.state err.new)
         (told_faults args.now.file.now (faults_of bytes.now items))) }
     ensures too_large { most_text < length bytes.now → result ≡ Status.Failed }
+    ensures failed { result ≡ Status.Failed
+        → NotGenerated args.now bytes.now (E.state err.old) (E.state err.new) }
     ensures quiet { result ≡ Status.Done → err.new ≡ err.old }
 {
     let session = match gen_open(alloc, args.file, bytes, err) {
@@ -113,7 +115,8 @@ pub fn gen_run<O: Output, E: Sink>(
     status
 }
 
-/// Opens the output and writes a generated text, and answers the status.
+/// Opens the output and writes a generated text, and answers the status: `Failed` where the output cannot be
+/// opened or fails, which it tells.
 fn write_opened<O: Output, E: Sink>(
     which: Which,
     args: &GenArgs,
@@ -122,12 +125,20 @@ fn write_opened<O: Output, E: Sink>(
     err: &mut E,
 ) -> Status
     ensures faultless { result ≢ Status.Faulty }
+    ensures failed { result ≡ Status.Failed → NotWritten args.now (E.state err.old) (E.state err.new) }
     ensures quiet { result ≡ Status.Done → err.new ≡ err.old }
 {
     let Some(mut out) = output.open() else {
-        let name = args.output.unwrap_or("-");
-        tell_of_file("rpcgen", name, ": cannot be written\n", err);
+        tell_no_output(args, err);
         return Status::Failed;
     };
     gen_write(which, session, &mut out, err)
+}
+
+/// Writes that the output cannot be opened.
+fn tell_no_output<E: Sink>(args: &GenArgs, err: &mut E)
+    ensures { IsTold (E.state err.old) (E.state err.new) (no_output_told args.now) }
+{
+    let name = args.output.unwrap_or("-");
+    tell_of_file("rpcgen", name, ": cannot be written\n", err);
 }
