@@ -7,15 +7,15 @@ use Rattle.std.proofs.lemmas.List.Sums.{position_or_len_is}
 use Rattle.memchr.specs.Find.{IsFirstByte, is_byte}
 use Rattle.x_lines.proofs.Parting.{first_is}
 use Rattle.serde_json.specs.Data.{Data}
-use Rattle.x_compile.specs.Compile.{Item, faults_of}
+use Rattle.x_compile.specs.Compile.{Item, places_of}
 use Rattle.x_compile.proofs.Compiled.{one_compilation}
 use Rattle.x_session.specs.Session.{Compiles}
-use Rattle.x_compile.specs.declared.fault.Fault.{Fault}
+use Rattle.x_compile.specs.declared.fault.FaultPlace.{FaultPlace}
 use Rattle.x_lsp.specs.declared.client.Client.{Client}
 use Rattle.x_lsp.specs.Diagnostics.{AreDiagnostics, IsDiagnostic}
 
 -- one fault more
-pub diagnostics_more : (c : Client) (uri text : List ℕ) (items : List Item) (faults : List Fault) (ds : List Data) (f : Fault) (d : Data) → AreDiagnostics c uri text items faults ds → IsDiagnostic c uri text items f d
+pub diagnostics_more : (c : Client) (uri text : List ℕ) (items : List Item) (faults : List FaultPlace) (ds : List Data) (f : FaultPlace) (d : Data) → AreDiagnostics c uri text items faults ds → IsDiagnostic c uri text items f d
     → AreDiagnostics c uri text items (faults ++ f ∷ []) (ds ++ d ∷ [])
 diagnostics_more c uri text items [] [] f d are is = (is, tt)
 diagnostics_more c uri text items [] (x ∷ ds) f d are is = absurd are
@@ -27,11 +27,11 @@ pub no_diagnostics : {P : List Item → Type 0} (c : Client) (uri text : List �
 no_diagnostics c uri text h = (h.0, h.1, h.2, tt)
 
 -- all faults are told
-pub all_diagnostics : (c : Client) (uri text : List ℕ) (told all : List Fault) (ds : List Data) → told ≡ all → Compiles text (λ items. all ≡ faults_of text items)
-    → Compiles text (λ items. AreDiagnostics c uri text items told ds) → Compiles text (λ items. AreDiagnostics c uri text items (faults_of text items) ds)
+pub all_diagnostics : (c : Client) (uri text : List ℕ) (told all : List FaultPlace) (ds : List Data) → told ≡ all → Compiles text (λ items. all ≡ places_of items)
+    → Compiles text (λ items. AreDiagnostics c uri text items told ds) → Compiles text (λ items. AreDiagnostics c uri text items (places_of items) ds)
 all_diagnostics c uri text told all ds same faults are =
     let one : faults.1 ≡ are.1 = (one_compilation text faults.0 are.0 faults.1 are.1 faults.2 are.2).1 in
-    (are.0, are.1, are.2, subst (λ fs. AreDiagnostics c uri text are.1 fs ds) (same ∙ faults.3 ∙ ap (faults_of text) one) are.3)
+    (are.0, are.1, are.2, subst (λ fs. AreDiagnostics c uri text are.1 fs ds) (same ∙ faults.3 ∙ ap places_of one) are.3)
 
 -- the bytes before a place, or all
 abbrev pub front_of : Option ℕ → List ℕ → List ℕ

@@ -10,12 +10,12 @@ use Rattle.serde_json.specs.View.{items_of}
 use Rattle.serde_json.specs.Written.{compact_text}
 use Rattle.x_lex.specs.declared.kind.Kind.{Kind}
 use Rattle.x_lex.specs.Places.{IsTokenAt}
-use Rattle.x_compile.specs.declared.fault.Fault.{Fault}
+use Rattle.x_compile.specs.declared.fault.FaultPlace.{FaultPlace}
 use Rattle.x_compile.specs.declared.fault.FaultCode.{FaultCode}
 use Rattle.x_compile.specs.declared.fault.FaultCode.TheVariants.{Rule}
 use Rattle.x_rules.specs.declared.fault.RuleCode.TheVariants.{Duplicate, LateName, NotType, NotConst}
 use Rattle.x_rules.specs.declared.fault.RuleCode.TheVariants.{UsesFaulty}
-use Rattle.x_compile.specs.Compile.{Item, faults_of}
+use Rattle.x_compile.specs.Compile.{Item, places_of}
 use Rattle.x_compile.specs.Faults.{fault_text}
 use Rattle.x_session.specs.Session.{Compiles}
 use Rattle.x_lsp.specs.declared.changes.Range.{Range}
@@ -26,20 +26,6 @@ use Rattle.x_lsp.specs.Answers.{note_data}
 use Rattle.x_lsp.specs.Framing.{number_of}
 use Rattle.x_lsp.specs.NamePlaces.{definition_of}
 use Rattle.x_lsp.specs.Positions.{position_of}
-
--- what stands behind so many line feeds; nothing where there are fewer
-abbrev pub behind_feeds : ℕ → List ℕ → List ℕ
-behind_feeds zero text = text
-behind_feeds (suc n) [] = []
-behind_feeds (suc n) (b ∷ rest) = if b == 10 then behind_feeds n rest else behind_feeds (suc n) rest
-
--- the place in a line and a column of a text, both counted from 1, where line feeds alone end lines
-abbrev pub place_at : List ℕ → ℕ → ℕ → ℕ
-place_at text line column = (length text - length (behind_feeds (line - 1) text)) + (column - 1)
-
--- the place of a fault's token
-abbrev pub start_of_fault : List ℕ → Fault → ℕ
-start_of_fault text fault = place_at text fault.line fault.col
 
 -- the token that starts at a place ends at this one; behind all tokens it is the same place
 abbrev pub IsEndOfToken : List ℕ → ℕ → ℕ → Type 0
@@ -112,21 +98,21 @@ IsRangeAt encoding text (Some start) range = (end : ℕ) × IsEndOfToken text st
 
 -- What is published of a fault: its number, its name with a sentence, and the range of its token; and if the
 -- client shows that, the range of the token that declares its word first.
-pub record IsDiagnostic (client : Client) (uri text : List ℕ) (items : List Item) (fault : Fault)
+pub record IsDiagnostic (client : Client) (uri text : List ℕ) (items : List Item) (fault : FaultPlace)
     (data' : Data) : Type 0 where
   pub end : ℕ
   pub sentence : List ℕ
   pub other : Option Range
-  pub token : IsEndOfToken text (start_of_fault text fault) end
+  pub token : IsEndOfToken text fault.start end
   pub other_is : IsRangeAt client.encoding text (other_place client.shows_related items fault.code
-      (slice_range text (start_of_fault text fault) end) (start_of_fault text fault)) other
+      (slice_range text fault.start end) fault.start) other
   pub data_is : data' ≡ diagnostic_data (fault_number fault.code)
-      (range_data (position_of client.encoding text (start_of_fault text fault))
+      (range_data (position_of client.encoding text fault.start)
       (position_of client.encoding text end))
       (fault_text fault.code ++ codes ": " ++ sentence) (option_map (related_data uri) other)
 
 -- what is published of faults, one after another
-abbrev pub AreDiagnostics : Client → (uri text : List ℕ) → List Item → List Fault → List Data → Type 0
+abbrev pub AreDiagnostics : Client → (uri text : List ℕ) → List Item → List FaultPlace → List Data → Type 0
 AreDiagnostics client uri text items [] [] = Unit {0}
 AreDiagnostics client uri text items [] (d ∷ ds) = ⊥
 AreDiagnostics client uri text items (f ∷ fs) [] = ⊥
@@ -154,5 +140,5 @@ closing_data uri = note_data (codes "textDocument/publishDiagnostics")
 -- the text publishes the faults of a document's text, all and in order
 abbrev pub IsPublished : Client → (uri : List ℕ) → (version : ℤ) → (text said : List ℕ) → Type 0
 IsPublished client uri version text said = Compiles text (λ items.
-    (ds : List Data) × AreDiagnostics client uri text items (faults_of text items) ds
+    (ds : List Data) × AreDiagnostics client uri text items (places_of items) ds
     × (said ≡ compact_text (published_data uri version ds)))

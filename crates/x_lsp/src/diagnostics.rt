@@ -5,7 +5,7 @@ ghost use Rattle.std.specs.Prelude.{◌≡◌, ◌==◌, ◌≤◌, ◌++◌, �
 ghost use Rattle.std.specs.Prelude.{length, string_bytes, map};
 ghost use Rattle.serde_json.specs.View.{view};
 ghost use Rattle.serde_json.specs.Written.{compact_text};
-ghost use Rattle.x_compile.specs.Compile.{faults_of};
+ghost use Rattle.x_compile.specs.Compile.{places_of};
 ghost use Rattle.x_compile.specs.Faults.{fault_text};
 ghost use Rattle.x_session.specs.Session.{Compiles};
 ghost use Rattle.x_lsp.specs.Diagnostics.{AreDiagnostics, IsEndOfToken, IsPublished, closing_data};
@@ -17,12 +17,12 @@ ghost use Rattle.x_lsp.specs.Waymarks.{AreWaymarks};
 use crate::answers::note;
 use crate::changes::Range;
 use crate::client::Client;
-use crate::fault_places::{FaultPlaces, token_end};
 use crate::head::number;
 use crate::other_places::OtherPlaces;
 use crate::positions::Position;
 use crate::published::{Diagnostic, Place, published_text};
 use crate::sentences::sentence;
+use crate::token_end::token_end;
 use crate::waymarks::Waymarks;
 use memchr::memchr;
 use serde_json::{Value, json};
@@ -67,15 +67,14 @@ fn diagnostics<'d>(
     requires marks { AreWaymarks session.now.text marks.now }
     requires encoding { marks.now.encoding ≡ client.encoding }
     ensures { IfOk result (λ list. Compiles session.now.text (λ items.
-        AreDiagnostics client uri.now session.now.text items (faults_of session.now.text items)
+        AreDiagnostics client uri.now session.now.text items (places_of items)
         (map data_of list.items))) }
 {
     let text = session.bytes();
     let mut list = Vec::new(alloc);
-    let mut starts = FaultPlaces::of(text);
     let mut others = OtherPlaces::of(client.shows_related, session, marks);
-    for fault in session.faults() {
-        let start = starts.start(&fault);
+    for fault in session.fault_places() {
+        let start = fault.start;
         let end = token_end(text, start);
         let range = marks.range(text, start, end);
         let word = word_at(text, start, end);

@@ -11,7 +11,6 @@ mod declared_places;
 mod diagnostics;
 mod document;
 mod encoding;
-mod fault_places;
 mod framing;
 mod head;
 mod kept;
@@ -33,6 +32,7 @@ mod sentences;
 mod server;
 mod serving;
 mod spots;
+mod token_end;
 mod waymarks;
 
 pub use changes::{Range, TextChange, apply_change};

@@ -9,7 +9,7 @@ ghost use Rattle.x_lsp.specs.Waymarks.{AreWaymarks};
 
 use crate::changes::Range;
 use crate::declared_places::DeclaredPlaces;
-use crate::fault_places::token_end;
+use crate::token_end::token_end;
 use crate::waymarks::Waymarks;
 use std::alloc::Global;
 use x_session::{FaultCode, RuleCode, Session};

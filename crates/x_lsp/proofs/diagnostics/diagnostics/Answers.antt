@@ -4,7 +4,7 @@ use Rattle.x_compile.specs.Compile.{IsCompilation}
 use Rattle.x_compile.specs.Faults.{fault_text}
 use Rattle.x_session.specs.Session.{Compiles, Document}
 use Rattle.x_lsp.specs.declared.waymarks.Waymarks.{Waymarks}
-use Rattle.x_lsp.specs.Diagnostics.{AreDiagnostics, IsDiagnostic, IsEndOfToken, IsRangeAt, diagnostic_data, fault_number, other_place, range_data, start_of_fault}
+use Rattle.x_lsp.specs.Diagnostics.{AreDiagnostics, IsDiagnostic, IsEndOfToken, IsRangeAt, diagnostic_data, fault_number, other_place, range_data}
 use Rattle.x_lsp.specs.Positions.{position_of}
 use Rattle.x_lsp.specs.Published.{data_of}
 use Rattle.x_lsp.proofs.DiagnosticLemmas.{all_diagnostics, diagnostics_more, map-snoc, no_diagnostics}
@@ -13,10 +13,9 @@ use Rattle.x_lsp.proofs.diagnostics.diagnostics.Goals as goal
 pub loop-fault-init : goal.loop-fault-init
 loop-fault-init c =
     let text = c.bytes-text.result.now in
-    let h = c.faults-fault-items.ensures in
+    let h = c.fault_places-fault-items.ensures in
     let none = no_diagnostics c.args.client c.args.uri.now c.args.session.now.text h in
     record {
-      starts = c.of-starts.ensures;
       shown = c.of-others.ensures.shown;
       session = c.of-others.ensures.session;
       marks = c.of-others.ensures.marks;
@@ -38,11 +37,10 @@ loop-fault-preserved c =
     let inv = c.loop-fault.invariant in
     let told = inv.told.0 in
     let f = c.in-Some.fault in
-    let start = c.start-start.result in
+    let start = f.start in
     let end = c.token_end-end.result in
-    let start_is : start ≡ start_of_fault text f = c.start-start.ensures.start ∙ ap (λ t. start_of_fault t f) inv.starts in
-    let first : c.range-range.result.start ≡ position_of e text (start_of_fault text f) =
-    c.range-range.ensures.start ∙ ap (λ v. position_of v text start) c.requires.encoding ∙ ap (position_of e text) start_is in
+    let first : c.range-range.result.start ≡ position_of e text start =
+    c.range-range.ensures.start ∙ ap (λ v. position_of v text start) c.requires.encoding in
     let second : c.range-range.result.end ≡ position_of e text end =
     c.range-range.ensures.end ∙ ap (λ v. position_of v text end) c.requires.encoding in
     let shown = c.in_ok-diagnostic.ensures in
@@ -60,14 +58,12 @@ loop-fault-preserved c =
       end = end;
       sentence = shown.0;
       other = c.in_ok-other.other;
-      token = subst (λ k. IsEndOfToken text k end) start_is c.token_end-end.ensures;
-      other_is = subst (λ k. IsRangeAt e text (other_place client.shows_related are.1 f.code (slice_range text k end) k) c.in_ok-other.other) start_is
-          (subst (λ w. IsRangeAt e text (other_place client.shows_related are.1 f.code w start) c.in_ok-other.other) c.word_at-word.ensures other);
+      token = c.token_end-end.ensures;
+      other_is = subst (λ w. IsRangeAt e text (other_place client.shows_related are.1 f.code w start) c.in_ok-other.other) c.word_at-word.ensures other;
       data_is = shown.1 ∙ (λ i. diagnostic_data (fault_number f.code) (range_data (first i) (second i)) (fault_text f.code ++ codes ": " ++ shown.0) (c.place_of-related.ensures i));
     } in
     let listed = ap (map data_of) c.in_ok-push.ensures.items ∙ map-snoc data_of c.loop-fault.list.items value in
     record {
-      starts = c.start-start.ensures.same ∙ inv.starts;
       shown = c.in_ok-other.ensures.shown ∙ inv.shown;
       session = c.in_ok-other.ensures.session ∙ inv.session;
       marks = c.in_ok-other.ensures.marks ∙ inv.marks;
@@ -84,5 +80,5 @@ returns c =
     let inv = c.loop-fault.invariant.told in
     let text = c.args.session.now.text in
     let are = subst (λ t. Compiles t (λ items. AreDiagnostics c.args.client c.args.uri.now t items inv.0 (map data_of c.loop-fault.list.items))) c.bytes-text.ensures inv.2 in
-    all_diagnostics c.args.client c.args.uri.now text inv.0 c.faults-fault-items.result (map data_of c.loop-fault.list.items)
-    (sym (append-nil inv.0) ∙ ap (λ l. inv.0 ++ l) (sym c.in-None.ensures.steps.0) ∙ sym inv.1 ∙ c.into_iter-fault-iterator.ensures.into_iter_gives) c.faults-fault-items.ensures are
+    all_diagnostics c.args.client c.args.uri.now text inv.0 c.fault_places-fault-items.result (map data_of c.loop-fault.list.items)
+    (sym (append-nil inv.0) ∙ ap (λ l. inv.0 ++ l) (sym c.in-None.ensures.steps.0) ∙ sym inv.1 ∙ c.into_iter-fault-iterator.ensures.into_iter_gives) c.fault_places-fault-items.ensures are

@@ -1,5 +1,5 @@
 use Rattle.std.proofs.Common.{◌≡◌, ◌++◌, List, map}
-use Rattle.x_compile.specs.declared.fault.Fault.{Fault}
+use Rattle.x_compile.specs.declared.fault.FaultPlace.{FaultPlace}
 use Rattle.x_session.specs.Session.{Compiles}
 use Rattle.x_lsp.specs.DeclaredPlaces.{AreOfText}
 use Rattle.x_lsp.specs.Diagnostics.{AreDiagnostics}
@@ -8,11 +8,10 @@ use Rattle.x_lsp.proofs.diagnostics.diagnostics.Given as goal
 
 abbrev pub invariant-loop-fault : goal.invariant-loop-fault
 invariant-loop-fault l = record {
-  starts : l.starts ≡ l.text;
   shown : l.others.shown ≡ l.fn.client.shows_related;
   session : l.others.session.now ≡ l.fn.session;
   marks : l.others.marks.now ≡ l.fn.marks;
   others : AreOfText l.others;
-  told : (told : List Fault) × (l.initial.fault-iterator ≡ told ++ l.fault-iterator)
+  told : (told : List FaultPlace) × (l.initial.fault-iterator ≡ told ++ l.fault-iterator)
       × Compiles l.text (λ items. AreDiagnostics l.fn.client l.fn.uri l.text items told (map data_of l.list.items));
 }
