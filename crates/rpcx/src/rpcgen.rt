@@ -2,7 +2,8 @@
 
 ghost use Rattle.std.specs.Prelude.{◌≡◌, ◌≢◌, ◌<◌, false, not, codes, length, IsTrue, OnOk, if◌then◌else◌};
 ghost use Rattle.std.specs.Io.KnownBytes.{Appends};
-ghost use Rattle.rpcx.specs.Generate.{no_output_told, told_faults, IsOpened, NotGenerated, NotWritten};
+ghost use Rattle.rpcx.specs.Generate.{IsFaultless, IsOpened, NotGenerated, NotWritten, base_of};
+ghost use Rattle.rpcx.specs.Generate.{no_output_told, told_faults};
 ghost use Rattle.x_args.specs.Telling.{Grows, IsTold};
 ghost use Rattle.x_session.specs.Session.{Compiles};
 ghost use Rattle.x_compile.specs.Compile.{faults_of};
@@ -101,6 +102,10 @@ pub fn gen_run<O: Output, E: Sink>(
         × IsTold (E.state err.old) (E.state err.new)
         (told_faults args.now.file.now (faults_of bytes.now items))) }
     ensures too_large { most_text < length bytes.now → result ≡ Status.Failed }
+    ensures clean { result ≡ Status.Done → IsFaultless bytes.now }
+    ensures written { result ≡ Status.Done → (opened : O.Opened) × (left : O.Opened)
+        × Compiles bytes.now (λ items. Appends (O.Opened.state opened).bytes (O.Opened.state left).bytes
+        (text_of which (base_of args.now.file.now) items)) }
     ensures failed { result ≡ Status.Failed
         → NotGenerated args.now bytes.now (E.state err.old) (E.state err.new) }
     ensures quiet { result ≡ Status.Done → err.new ≡ err.old }
@@ -124,6 +129,9 @@ fn write_opened<O: Output, E: Sink>(
     output: &O,
     err: &mut E,
 ) -> Status
+    ensures written { result ≡ Status.Done → (opened : O.Opened) × (left : O.Opened)
+        × Compiles session.now.text (λ items. Appends (O.Opened.state opened).bytes (O.Opened.state left).bytes
+        (text_of which session.now.base items)) }
     ensures faultless { result ≢ Status.Faulty }
     ensures failed { result ≡ Status.Failed → NotWritten args.now (E.state err.old) (E.state err.new) }
     ensures quiet { result ≡ Status.Done → err.new ≡ err.old }
