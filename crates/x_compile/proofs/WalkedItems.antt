@@ -52,7 +52,7 @@ pub counted_more : (ts : List Token) (i : ℕ) (d : Token) (count sum most : ℕ
 counted_more ts i d count sum most is lt all small =
     let one : suc i ≡ i + 1 = omega arith in
     let here : byte_count (map lexeme (drop i ts)) ≡ length (get_or ts i d).text.now + byte_count (map lexeme (drop (i + 1) ts)) =
-        ap (λ l. byte_count (map lexeme l)) (drop-cons ts i d lt) ∙ ap (λ k. length (get_or ts i d).text.now + byte_count (map lexeme (drop k ts))) one in
+    ap (λ l. byte_count (map lexeme l)) (drop-cons ts i d lt) ∙ ap (λ k. length (get_or ts i d).text.now + byte_count (map lexeme (drop k ts))) one in
     omega (arith, is, here, all, small)
 
 pub bytes_left : (ts : List Token) (i : ℕ) → length ts ≤ i → byte_count (map lexeme (drop i ts)) ≡ 0
@@ -147,7 +147,7 @@ pub end_by_bytes : (text : List ℕ) (ts : List (Kind × ℕ)) (token start byte
     → start + bytes ≡ end_of ts (token + e.tokens)
 end_by_bytes text ts token start bytes e are h is =
     let kept : bytes ≡ byte_count (take e.tokens (drop token (lexemes text ts))) =
-        subst (λ o. IfSome o (λ b. b ≡ byte_count (take e.tokens (drop token (lexemes text ts))))) is h.passed.1 in
+    subst (λ o. IfSome o (λ b. b ≡ byte_count (take e.tokens (drop token (lexemes text ts))))) is h.passed.1 in
     let count = bytes_among text ts token e.tokens are in
     let plus = span_plus ts token e.tokens in
     let start_is = h.start_is in

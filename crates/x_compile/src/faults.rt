@@ -86,8 +86,9 @@ impl<'s> Iterator for FaultPlaces<'s> {
     }
 }
 
-/// Goes over the faults of a text with their lines: the result of [`crate::Session::faults`], seen as the list
-/// of those that are left. It goes once over the items and the text up to the last fault, and takes no memory.
+/// Goes over the faults of a text with their lines: the result of [`crate::Session::faults`], seen as the
+/// list of those that are left. It goes once over the items and the text up to the last fault, and takes no
+/// memory.
 #[derive(Drop)]
 pub struct Faults<'s> {
     places: FaultPlaces<'s>,

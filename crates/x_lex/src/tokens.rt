@@ -133,8 +133,8 @@ impl Tokens {
         self.iter_at(index, start, source)
     }
 
-    /// Goes over the tokens of the text that these are the tokens of, from that at `index` on, which starts at
-    /// the place `start`. Unlike [`Tokens::iter_from`] it looks at no other token.
+    /// Goes over the tokens of the text that these are the tokens of, from that at `index` on, which starts
+    /// at the place `start`. Unlike [`Tokens::iter_from`] it looks at no other token.
     pub fn iter_at<'a>(&'a self, index: usize, start: usize, source: &'a Source) -> TokenIter<'a>
         requires tokens { AreTokens source.now self.now.list }
         requires within { index ≤ length self.now.list }

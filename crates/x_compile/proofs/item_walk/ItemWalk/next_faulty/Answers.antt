@@ -33,8 +33,7 @@ invariant_of-self-then-is_faulty c =
     let es = c.next.new.self in
     let all : before.entries ≡ e ∷ es = c.in_ok-entry.ensures.steps in
     let few = c.items.invariant.few in
-    let one = ap length all in
-    (
+    let one = ap length all in (
       c.items.invariant.tokens,
       stand_behind before.source.now before.tokens.now.list before.token before.start c.end_of_item-self-inside.result e before.entries es all c.items.invariant.stand c.end_of_item-self-inside.ensures,
       ordered_rest e before.entries es all c.items.invariant.ordered,
