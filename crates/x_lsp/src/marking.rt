@@ -13,7 +13,7 @@ use std::alloc::{AllocError, Global};
 use x_text::Edit;
 
 /// How many bytes stand between two marks.
-const APART: usize = 1024;
+const APART: usize = 256;
 
 /// So many bytes from a mark no other one is made.
 const NEAR: usize = APART / 4;
@@ -45,8 +45,8 @@ pub(crate) fn marked(
     Ok(marker.list)
 }
 
-/// Marks of the text that an edit leaves, by those of the text before. What stands behind the edit is not gone
-/// over again.
+/// Marks of the text that an edit leaves, by those of the text before. What stands behind the edit is not
+/// gone over again.
 pub(crate) fn marked_behind(
     alloc: Global,
     encoding: Encoding,

@@ -82,19 +82,39 @@ impl Waymarks {
         requires { AreWaymarks text.now self.now }
         ensures { result ≡ position_of self.now.encoding text.now at }
     {
-        let at = at.min(text.len());
-        position_from(self.encoding, text, self.spot_before(at), at)
+        self.spot(text, at).position
     }
 
-    /// The positions of two places of the text.
+    /// The spot of a place of the text, or of its end where the place is behind that.
+    fn spot(&self, text: &[u8], at: usize) -> Spot
+        requires { AreWaymarks text.now self.now }
+        ensures spot { IsAt self.now.encoding text.now result.at result.position }
+        ensures position { result.position ≡ position_of self.now.encoding text.now at }
+        ensures before { result.at ≤ at }
+    {
+        let at = at.min(text.len());
+        Spot {
+            at,
+            position: position_from(self.encoding, text, self.spot_before(at), at),
+        }
+    }
+
+    /// The positions of two places of the text. That of the second is found from the first on.
     pub(crate) fn range(&self, text: &[u8], start: usize, end: usize) -> Range
         requires { AreWaymarks text.now self.now }
         ensures start { result.start ≡ position_of self.now.encoding text.now start }
         ensures end { result.end ≡ position_of self.now.encoding text.now end }
     {
+        let first = self.spot(text, start);
+        if end < start {
+            return Range {
+                start: first.position,
+                end: self.position(text, end),
+            };
+        }
         Range {
-            start: self.position(text, start),
-            end: self.position(text, end),
+            start: first.position,
+            end: position_from(self.encoding, text, first, end.min(text.len())),
         }
     }
 
