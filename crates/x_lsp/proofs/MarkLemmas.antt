@@ -1,11 +1,9 @@
 -- Marks of a text, and how they follow an edit.
-use Rattle.std.proofs.Common.{◌≡◌, ℕ, zero, suc, ◌+◌, ◌-◌, ◌*◌, ◌<◌, ◌≤◌, List, [], ◌++◌, length, take, drop, min, arith, refl, sym, ap, subst, ◌∙◌, ◌⊎◌, inl, inr}
+use Rattle.std.proofs.Common.{◌≡◌, ℕ, ◌+◌, ◌-◌, ◌<◌, ◌≤◌, List, ◌++◌, length, take, drop, min, arith, refl, sym, ap, subst, ◌∙◌, ◌⊎◌, inl, inr}
 use Rattle.std.specs.Prelude.{All}
 use Rattle.std.proofs.lemmas.List.{length-drop, length-take, length-append, drop-drop, take-append-le, take-take}
 use Rattle.std.proofs.lemmas.List.Elements.{All-weaker}
 use Rattle.std.proofs.Math.Seq.{drop-append-add}
-use Rattle.x_text.specs.Edits.{change_of, edited_by}
-use Rattle.x_text.specs.Limits.{most_text}
 use Rattle.x_text.specs.declared.text.edit.Edit.{Edit}
 use Rattle.x_lsp.specs.declared.encoding.Encoding.{Encoding}
 use Rattle.x_lsp.specs.declared.positions.Position.{Position}
@@ -14,7 +12,7 @@ use Rattle.x_lsp.specs.declared.waymarks.Waymark.{Waymark}
 use Rattle.x_lsp.specs.Positions.{position_of}
 use Rattle.x_lsp.specs.Waymarks.{HasMoved, IsAt, IsLeft, IsWaymark}
 use Rattle.x_lsp.proofs.LineLemmas.{drop_all, position}
-use Rattle.x_lsp.proofs.WalkLemmas.{IsShift, few_at, is_shifted, position_on, same_position, walked, walked_none}
+use Rattle.x_lsp.proofs.WalkLemmas.{IsShift, is_shifted, position_on, same_position, walked, walked_none}
 
 -- a place past the end has the position of the end
 pub clamped : (e : Encoding) (text : List ℕ) (at n : ℕ) → n ≡ min at (length text) → position_of e text n ≡ position_of e text at

@@ -1,6 +1,6 @@
 -- Where the names of a text are declared first.
 use Rattle.std.proofs.Common.{Bor, ◌≡◌, ℕ, zero, suc, ◌+◌, ◌<◌, ◌≤◌, ◌^◌, Bool, true, false, cond, Option, None, Some, get_or, length, drop, arith, List, [], ◌∷◌, ◌++◌, map, refl, sym, subst, ap, ◌∙◌}
-use Rattle.std.specs.Prelude.{◌&&◌, not, option_and_then, option_map, slice_get, IfSome, MatchOption}
+use Rattle.std.specs.Prelude.{◌&&◌, option_and_then, option_map, slice_get, IfSome, MatchOption}
 use Rattle.std.specs.Option.{option_copied}
 use Rattle.std.proofs.lemmas.List.{append-nil, length-append}
 use Rattle.std.proofs.lemmas.List.Sums.{length-filter, count_by-le-length}
@@ -201,10 +201,6 @@ pub table_found : (text : List ℕ) (table : DeclaredPlaces) → Compiles text (
 table_found text table words names = (names.0, names.1, names.2, record { words = of_each text words names.0 names.1 names.2; names = names.3 })
 
 -- ---- beside a fault
-
-pub not_false : (b : Bool) → not b ≡ false → b ≡ true
-not_false true is = refl
-not_false false is = absurd (cc)
 
 chosen : (a b : Bool) (o : Option ℕ) → a ≡ true → b ≡ true → cond (a && b) o None ≡ o
 chosen true true o p q = refl

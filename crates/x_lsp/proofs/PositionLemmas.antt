@@ -3,7 +3,6 @@ use Rattle.std.proofs.Common.{◌≡◌, ℕ, zero, suc, ◌+◌, ◌-◌, ◌<�
 use Rattle.std.specs.Prelude.{slice_index, ◌==◌, ◌||◌, ◌&&◌, not, nat_le}
 use Rattle.std.proofs.lemmas.Bool.Decides.{nat_tests}
 use Rattle.std.proofs.lemmas.List.Sums.{sum_by-cons}
-use Rattle.std.proofs.Math.Seq.{drop-cons}
 use Rattle.x_lsp.specs.declared.encoding.Encoding.{Encoding}
 use Rattle.x_lsp.specs.declared.encoding.Encoding.TheVariants.{Utf8, Utf16}
 use Rattle.x_lsp.specs.Encodings.{is_inner, unit, length_by}

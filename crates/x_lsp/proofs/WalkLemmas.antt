@@ -1,6 +1,6 @@
 -- Walks over a text, which tell the position of each place of it by that of one before.
 use Rattle.std.proofs.Common.{◌≡◌, ℕ, zero, suc, ◌+◌, ◌-◌, ◌*◌, ◌<◌, ◌≤◌, Bool, true, false, cond, List, [], ◌∷◌, length, take, drop, arith, refl, sym, ap, subst, ◌∙◌, zero-add, ◌⊎◌, inl, inr}
-use Rattle.std.specs.Prelude.{slice_index, ◌==◌, ◌||◌, ◌&&◌, not, option_map, Option, Some, None}
+use Rattle.std.specs.Prelude.{slice_index, ◌==◌, ◌||◌, ◌&&◌, not, option_map, Some}
 use Rattle.std.proofs.lemmas.Bool.Decides.{nat_tests}
 use Rattle.std.proofs.lemmas.List.Sums.{sum_by-cons}
 use Rattle.std.proofs.Math.Seq.{drop-cons}

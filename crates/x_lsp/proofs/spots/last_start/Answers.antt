@@ -1,5 +1,4 @@
-use Rattle.std.proofs.Common.{◌+◌, ◌-◌, ◌∙◌, sym, ap, arith, drop}
-use Rattle.std.proofs.lemmas.List.{length-drop}
+use Rattle.std.proofs.Common.{◌-◌, ◌∙◌, sym, ap, arith, drop}
 use Rattle.x_lsp.specs.Positions.{line_end}
 use Rattle.x_lsp.proofs.LineLemmas.{before_none, before_end, end_within}
 use Rattle.x_lsp.proofs.WalkLemmas.{is_behind_end}

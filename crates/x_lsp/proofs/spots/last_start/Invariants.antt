@@ -1,4 +1,4 @@
-use Rattle.std.proofs.Common.{◌≤◌, ◌-◌, length}
+use Rattle.std.proofs.Common.{◌≤◌, ◌-◌}
 use Rattle.x_lsp.specs.declared.encoding.Encoding.{Encoding}
 use Rattle.x_lsp.specs.Waymarks.{IsAt}
 use Rattle.x_lsp.proofs.spots.last_start.Given as goal

@@ -1,9 +1,8 @@
 use Rattle.std.proofs.Common.{◌≡◌, ◌+◌, ◌-◌, ◌∙◌, sym, ap, arith}
 use Rattle.x_lsp.specs.declared.positions.Position.{Position}
 use Rattle.x_lsp.specs.Positions.{position_of}
-use Rattle.x_lsp.specs.Waymarks.{IsAt}
 use Rattle.x_lsp.proofs.LineLemmas.{position}
-use Rattle.x_lsp.proofs.MarkLemmas.{IsThere, has_moved, moved_behind, moved_in_line}
+use Rattle.x_lsp.proofs.MarkLemmas.{has_moved, moved_behind, moved_in_line}
 use Rattle.x_lsp.proofs.WalkLemmas.{few_at}
 use Rattle.x_lsp.proofs.marking.Marker.moved.Goals as goal
 use Rattle.x_lsp.proofs.marking.Marker.moved.Goals.{then-line-eq0, else-line-eq0}

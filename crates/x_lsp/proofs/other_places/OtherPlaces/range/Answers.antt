@@ -1,4 +1,4 @@
-use Rattle.std.proofs.Common.{◌≡◌, ◌∙◌, Some, true, sym, subst}
+use Rattle.std.proofs.Common.{◌≡◌, ◌∙◌, true, sym, subst}
 use Rattle.std.specs.Prelude.{IfSome}
 use Rattle.x_session.specs.Session.{Compiles}
 use Rattle.x_lsp.specs.DeclaredPlaces.{IsTableOf}
