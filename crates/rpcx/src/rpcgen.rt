@@ -130,7 +130,8 @@ fn write_opened<O: Output, E: Sink>(
     err: &mut E,
 ) -> Status
     ensures written { result ≡ Status.Done → (opened : O.Opened) × (left : O.Opened)
-        × Compiles session.now.text (λ items. Appends (O.Opened.state opened).bytes (O.Opened.state left).bytes
+        × Compiles session.now.text
+        (λ items. Appends (O.Opened.state opened).bytes (O.Opened.state left).bytes
         (text_of which session.now.base items)) }
     ensures faultless { result ≢ Status.Faulty }
     ensures failed { result ≡ Status.Failed → NotWritten args.now (E.state err.old) (E.state err.new) }

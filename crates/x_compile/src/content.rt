@@ -200,7 +200,7 @@ impl Content {
     }
 
     /// How many bytes the item's tokens have, unless it has neither a definition nor lines, but a fault.
-    pub fn bytes(&self) -> Option<usize>
+    pub(crate) fn bytes(&self) -> Option<usize>
         ensures { result ≡ kept_bytes self.now }
     {
         match self {
@@ -211,7 +211,7 @@ impl Content {
     }
 
     /// Whether the item has faults. Unlike [`Content::told`] it looks at nothing else.
-    pub fn is_faulty(&self) -> bool
+    pub(crate) fn is_faulty(&self) -> bool
         ensures { result ≡ is_marked self.now }
     {
         match self {
