@@ -1,5 +1,5 @@
 -- Items along tokens: what becomes of them where tokens before or behind them change.
-use Rattle.std.proofs.Common.{◌≡◌, IfSome, ℕ, ◌+◌, ◌≤◌, List, [], ◌∷◌, ◌++◌, length, map, take, drop, refl, sym, ap, subst, ◌∙◌, arith, length-append, length-drop}
+use Rattle.std.proofs.Common.{◌≡◌, ℕ, ◌+◌, ◌≤◌, List, [], ◌∷◌, ◌++◌, length, map, take, drop, refl, sym, ap, subst, ◌∙◌, arith, length-append, length-drop}
 use Rattle.std.proofs.lemmas.List.{drop-map, drop-drop, take-append-le, take-append-drop}
 use Rattle.std.specs.List.{take-map}
 use Rattle.x_text.proofs.LengthLemmas.{total-append}
@@ -9,7 +9,7 @@ use Rattle.x_lex.specs.Places.{Lexeme}
 use Rattle.x_cutting.specs.ItemList.{counts, tokens_before, tokens_in, total}
 use Rattle.x_cutting.specs.Items.{IsCut, joined}
 use Rattle.x_cutting.specs.declared.cutting.item_entry.ItemEntry.{ItemEntry}
-use Rattle.x_compile.specs.KeptView.{AreAlong, AreEach, AreParsed, IsItem, kept_bytes, kept_parse}
+use Rattle.x_compile.specs.KeptView.{AreAlong, AreEach, AreParsed, IsItem, kept_parse}
 use Rattle.x_compile.specs.declared.content.Content.{Content}
 use Rattle.x_compile.proofs.ItemLemmas.{take_part, drop_part}
 use Rattle.x_compile.proofs.LookLemmas.{look, bytes_alike, lines_alike, many_alike, parse_alike}
@@ -20,7 +20,7 @@ use Rattle.x_compile.proofs.WalkLemmas.{take-short}
 item_alike : (xs ys : List Lexeme) (e : ItemEntry Content) → map look xs ≡ map look ys → IsItem xs e → IsItem ys e
 item_alike xs ys e same h = record {
   count = h.count ∙ many_alike xs ys same;
-  bytes = subst (λ n. IfSome (kept_bytes e.kept) (λ bytes. bytes ≡ n)) (bytes_alike xs ys same) h.bytes;
+  bytes = h.bytes ∙ bytes_alike xs ys same;
   parsed = parse_alike xs ys (kept_parse e.kept) same h.parsed;
   lines = h.lines ∙ lines_alike xs ys same;
   marked = h.marked;

@@ -3,13 +3,13 @@ use Rattle.std.proofs.Common.{◌≡◌, ℕ, zero, suc, ◌+◌, ◌<◌, List,
 use Rattle.std.specs.Global.{Box}
 use Rattle.std.specs.Prelude.{Some, slice_get, slice_set}
 use Rattle.std.proofs.lemmas.Option.{same_Some}
-use Rattle.std.proofs.lemmas.List.{length_push, length-append, length-take-le, take-append-drop}
+use Rattle.std.proofs.lemmas.List.{length_push, length-append, length-take-le, map-set, take-append-drop}
 use Rattle.x_text.proofs.ListLemmas.{drop_none, some_at}
-use Rattle.x_cutting.specs.ItemList.{counts}
+use Rattle.x_cutting.specs.ItemList.{byte_counts, counts}
 use Rattle.x_cutting.specs.ItemList as items
 use Rattle.x_cutting.specs.declared.cutting.item_entry.ItemEntry.{ItemEntry}
 use Rattle.x_compile.specs.Checking.{AreKnown, IsKnownAt}
-use Rattle.x_compile.specs.KeptView.{AreWith, IsMarked, IsWith, IsWithAt, found_pieces, found_result, kept_bytes, kept_definition, kept_found, kept_lines, kept_parse, renewed_pieces}
+use Rattle.x_compile.specs.KeptView.{AreWith, IsMarked, IsWith, IsWithAt, found_pieces, found_result, kept_definition, kept_found, kept_lines, kept_parse, renewed_pieces}
 use Rattle.x_compile.specs.declared.content.CheckResult.{CheckResult}
 use Rattle.x_compile.specs.declared.content.Content.{Content}
 
@@ -165,43 +165,42 @@ kept_on olds all news next rs r m h at with =
     let same : with.old ≡ h.item = same_Some with.old h.item (sym with.was ∙ here) in
     kept_more olds all news next rs r m with.item h at with.put (subst (λ e. IsWith e r with.item) same with.with)
 
--- ---- one thing is kept in place of another, the tokens stay
+-- ---- one thing is kept in place of another, the tokens and bytes stay
 
-entry_in : (es fs : List (ItemEntry Content)) (i : ℕ) (k : Content) (e : ItemEntry Content) → counts fs ≡ counts es → items.kept fs ≡ slice_set (items.kept es) i k → slice_get es i ≡ Some e
-    → fs ≡ slice_set es i (record { tokens = e.tokens; kept = k })
-entry_in [] fs i k e many set is = absurd (cc)
-entry_in (x ∷ es) [] i k e many set is = absurd (cc)
-entry_in (x ∷ es) (f ∷ fs) zero k e many set is =
-    let same : x ≡ e = same_Some x e is in
-    let tokens : f.tokens ≡ x.tokens = cc in
-    let others : counts fs ≡ counts es = cc in
-    let kept : f.kept ≡ k = cc in
-    let rest : items.kept fs ≡ items.kept es = cc in
-    let tail = same_entries fs es others rest in
-    λ j. record { tokens = (tokens ∙ ap (λ (y : ItemEntry Content). y.tokens) same) j; kept = kept j } ∷ tail j
-  where
-    same_entries : (xs ys : List (ItemEntry Content)) → counts xs ≡ counts ys → items.kept xs ≡ items.kept ys → xs ≡ ys
-    same_entries [] [] c k = refl
-    same_entries [] (y ∷ ys) c k = absurd (cc)
-    same_entries (x ∷ xs) [] c k = absurd (cc)
-    same_entries (x ∷ xs) (y ∷ ys) c k =
-        let tokens : x.tokens ≡ y.tokens = cc in
-        let others : counts xs ≡ counts ys = cc in
-        let kept : x.kept ≡ y.kept = cc in
-        let rest : items.kept xs ≡ items.kept ys = cc in
-        let tail = same_entries xs ys others rest in
-        λ j. record { tokens = tokens j; kept = kept j } ∷ tail j
-entry_in (x ∷ es) (f ∷ fs) (suc i) k e many set is =
-    let tokens : f.tokens ≡ x.tokens = cc in
-    let others : counts fs ≡ counts es = cc in
-    let kept : f.kept ≡ x.kept = cc in
-    let rest : items.kept fs ≡ slice_set (items.kept es) i k = cc in
-    let tail = entry_in es fs i k e others rest is in
-    λ j. record { tokens = tokens j; kept = kept j } ∷ tail j
+-- an entry with which another thing is kept
+abbrev pub keeping : ItemEntry Content → Content → ItemEntry Content
+keeping e k = record { tokens = e.tokens; bytes = e.bytes; kept = k }
 
-pub entry_set : (es fs : List (ItemEntry Content)) (i : ℕ) (k : Content) (e : ItemEntry Content) → counts fs ≡ counts es → items.kept fs ≡ slice_set (items.kept es) i k → slice_get es i ≡ Some e
-    → fs ≡ slice_set es i (record { tokens = e.tokens; kept = k })
-entry_set es fs i k e many set is = entry_in es fs i k e many set is
+-- entries are alike that have as many tokens and bytes, and with which the same is kept
+same_entries : (xs ys : List (ItemEntry Content)) → counts xs ≡ counts ys → byte_counts xs ≡ byte_counts ys → items.kept xs ≡ items.kept ys → xs ≡ ys
+same_entries [] [] c b k = refl
+same_entries [] (y ∷ ys) c b k = absurd (cc)
+same_entries (x ∷ xs) [] c b k = absurd (cc)
+same_entries (x ∷ xs) (y ∷ ys) c b k =
+    let tokens : x.tokens ≡ y.tokens = cc in
+    let bytes : x.bytes ≡ y.bytes = cc in
+    let kept : x.kept ≡ y.kept = cc in
+    let others : counts xs ≡ counts ys = cc in
+    let other_bytes : byte_counts xs ≡ byte_counts ys = cc in
+    let rest : items.kept xs ≡ items.kept ys = cc in
+    let tail = same_entries xs ys others other_bytes rest in
+    λ j. record { tokens = tokens j; bytes = bytes j; kept = kept j } ∷ tail j
+
+counts_stay : (es : List (ItemEntry Content)) (i : ℕ) (e f : ItemEntry Content) → slice_get es i ≡ Some e → f.tokens ≡ e.tokens → counts (slice_set es i f) ≡ counts es
+counts_stay [] i e f is same = refl
+counts_stay (x ∷ es) zero e f is same = let here : x ≡ e = same_Some x e is in ap (λ n. n ∷ counts es) (same ∙ ap (λ (y : ItemEntry Content). y.tokens) (sym here))
+counts_stay (x ∷ es) (suc i) e f is same = ap (λ l. x.tokens ∷ l) (counts_stay es i e f is same)
+
+pub entry_set : (es fs : List (ItemEntry Content)) (i : ℕ) (e f : ItemEntry Content) → counts fs ≡ counts es → byte_counts fs ≡ slice_set (byte_counts es) i f.bytes → items.kept fs ≡ slice_set (items.kept es) i f.kept
+    → slice_get es i ≡ Some e → f.tokens ≡ e.tokens → fs ≡ slice_set es i f
+entry_set es fs i e f many bytes set is same =
+    same_entries fs (slice_set es i f) (many ∙ sym (counts_stay es i e f is same)) (bytes ∙ sym (map-set (λ (x : ItemEntry Content). x.bytes) es i f)) (set ∙ sym (map-set (λ (x : ItemEntry Content). x.kept) es i f))
+
+-- what stands there, put there again
+set_same : (es : List (ItemEntry Content)) (i : ℕ) (e : ItemEntry Content) → slice_get es i ≡ Some e → slice_set (byte_counts es) i e.bytes ≡ byte_counts es
+set_same [] i e is = refl
+set_same (x ∷ es) zero e is = let here : x ≡ e = same_Some x e is in ap (λ (y : ItemEntry Content). y.bytes ∷ byte_counts es) (sym here)
+set_same (x ∷ es) (suc i) e is = ap (λ l. x.bytes ∷ l) (set_same es i e is)
 
 set_twice : {X : Type 0} (xs : List X) (i : ℕ) (x y : X) → slice_set (slice_set xs i x) i y ≡ slice_set xs i y
 set_twice [] i x y = refl
@@ -213,13 +212,13 @@ entry_of [] i k is = absurd (cc)
 entry_of (x ∷ es) zero k is = (x, refl, same_Some x.kept k is)
 entry_of (x ∷ es) (suc i) k is = entry_of es i k is
 
--- the same item, whatever the number of its tokens, with which what was found is kept
-pub kept_with : (out new : Content) (r : Option (Box CheckResult)) → kept_bytes new ≡ kept_bytes out → kept_parse new ≡ kept_parse out → kept_lines new ≡ kept_lines out → found_result (kept_found new) ≡ found_result r
+-- the same item, whatever the numbers of its tokens and bytes, with which what was found is kept
+pub kept_with : (out new : Content) (r : Option (Box CheckResult)) → kept_parse new ≡ kept_parse out → kept_lines new ≡ kept_lines out → found_result (kept_found new) ≡ found_result r
     → found_pieces (kept_found new) ≡ renewed_pieces (found_pieces (kept_found out)) r → (IsMarked out → IsMarked new)
-    → (n : ℕ) → IsWith (record { tokens = n; kept = out }) r (record { tokens = n; kept = new })
-kept_with out new r bytes parse lines result pieces marked n = record {
+    → (e : ItemEntry Content) → IsWith (keeping e out) r (keeping e new)
+kept_with out new r parse lines result pieces marked e = record {
   tokens = refl;
-  bytes = bytes;
+  bytes = refl;
   parse = parse;
   lines = lines;
   result = result;
@@ -228,16 +227,16 @@ kept_with out new r bytes parse lines result pieces marked n = record {
 }
 
 -- what was kept with an item is exchanged, and then again
-pub with_at : (es fs gs : List (ItemEntry Content)) (i : ℕ) (out none new : Content) (r : Option (Box CheckResult)) → slice_get (items.kept es) i ≡ Some out → counts fs ≡ counts es → items.kept fs ≡ slice_set (items.kept es) i none
-    → counts gs ≡ counts fs → items.kept gs ≡ slice_set (items.kept fs) i new → ((n : ℕ) → IsWith (record { tokens = n; kept = out }) r (record { tokens = n; kept = new })) → IsWithAt es i r gs
-with_at es fs gs i out none new r was c1 k1 c2 k2 with =
+pub with_at : (es fs gs : List (ItemEntry Content)) (i : ℕ) (out none new : Content) (r : Option (Box CheckResult)) → slice_get (items.kept es) i ≡ Some out → counts fs ≡ counts es → byte_counts fs ≡ byte_counts es → items.kept fs ≡ slice_set (items.kept es) i none
+    → counts gs ≡ counts fs → byte_counts gs ≡ byte_counts fs → items.kept gs ≡ slice_set (items.kept fs) i new → ((e : ItemEntry Content) → IsWith (keeping e out) r (keeping e new)) → IsWithAt es i r gs
+with_at es fs gs i out none new r was c1 b1 k1 c2 b2 k2 with =
     let at = entry_of es i out was in
     let set : items.kept gs ≡ slice_set (items.kept es) i new = k2 ∙ ap (λ l. slice_set l i new) k1 ∙ set_twice (items.kept es) i none new in
-    let e : at.0 ≡ record { tokens = at.0.tokens; kept = out } = λ j. record { tokens = at.0.tokens; kept = at.2 j } in
+    let e : at.0 ≡ keeping at.0 out = λ j. keeping at.0 (at.2 j) in
     record {
       old = at.0;
       was = at.1;
-      item = record { tokens = at.0.tokens; kept = new };
-      put = entry_set es gs i new at.0 (c2 ∙ c1) set at.1;
-      with = subst (λ x. IsWith x r (record { tokens = at.0.tokens; kept = new })) (sym e) (with at.0.tokens);
+      item = keeping at.0 new;
+      put = entry_set es gs i at.0 (keeping at.0 new) (c2 ∙ c1) (b2 ∙ b1 ∙ sym (set_same es i at.0 at.1)) set at.1 refl;
+      with = subst (λ x. IsWith x r (keeping at.0 new)) (sym e) (with at.0);
     }

@@ -26,7 +26,7 @@ use Rattle.x_compile.specs.Compile.{IsCompilation, definitions_of, faults_at, fa
 use Rattle.x_compile.specs.Counting.{faults_found, faults_with}
 use Rattle.x_compile.specs.FaultWalk.{AreOrdered}
 use Rattle.x_compile.specs.Generated.{faultless, part_of}
-use Rattle.x_compile.specs.KeptView.{AreAlong, AreEach, AreParsed, AreWith, IsItem, byte_count, entry_definitions, entry_results, found_pieces, found_result}
+use Rattle.x_compile.specs.KeptView.{AreAlong, AreEach, AreParsed, AreWith, IsItem, entry_definitions, entry_results, found_pieces, found_result}
 use Rattle.x_compile.specs.KeptView.{item_with, items_with, kept_definition, kept_found, kept_parse, kept_part}
 use Rattle.x_compile.specs.KeptText.{IsKept, items_of}
 use Rattle.x_compile.specs.declared.content.CheckResult.{CheckResult}
@@ -70,7 +70,7 @@ each_with [] (e ∷ es) (r ∷ rs) (f ∷ fs) with each = absurd each
 each_with (p ∷ ps) (e ∷ es) (r ∷ rs) (f ∷ fs) with each =
     let this : IsItem p f = record {
       count = with.0.tokens ∙ each.0.count;
-      bytes = subst (λ o. IfSome o (λ bytes. bytes ≡ byte_count p)) (sym with.0.bytes) each.0.bytes;
+      bytes = with.0.bytes ∙ each.0.bytes;
       parsed = subst (IsParse p) (sym with.0.parse) each.0.parsed;
       lines = with.0.lines ∙ each.0.lines;
       marked = with.0.marked each.0.marked;

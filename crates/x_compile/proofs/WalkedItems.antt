@@ -1,5 +1,5 @@
 -- Items that are passed over by the numbers of their tokens and bytes.
-use Rattle.std.proofs.Common.{◌≡◌, ℕ, Some, IfSome, Bool, true, false, zero, suc, ◌+◌, ◌-◌, ◌<◌, ◌≤◌, min, map, get_or, drop-cons, List, [], ◌∷◌, ◌++◌, length, take, drop, slice_range, refl, sym, ap, subst, ◌∙◌, arith, length-take, length-drop}
+use Rattle.std.proofs.Common.{◌≡◌, ℕ, Bool, true, false, zero, suc, ◌+◌, ◌-◌, ◌<◌, ◌≤◌, min, map, get_or, drop-cons, List, [], ◌∷◌, ◌++◌, length, take, drop, slice_range, refl, sym, ap, subst, ◌∙◌, arith, length-take, length-drop}
 use Rattle.std.proofs.lemmas.List.{at_drop_all, drop-drop, take-append-drop}
 use Rattle.x_lex.specs.declared.kind.Kind.{Kind}
 use Rattle.x_lex.specs.declared.tokens.token.Token.{Token}
@@ -9,7 +9,7 @@ use Rattle.x_lex.proofs.SpanLemmas.{lexemes_drop, length-lexemes_from, span-appe
 use Rattle.x_cutting.specs.Items.{IsNext}
 use Rattle.x_cutting.specs.declared.cutting.item_entry.ItemEntry.{ItemEntry}
 use Rattle.x_compile.specs.FaultWalk.{ArePassed, StandAt, faults_behind}
-use Rattle.x_compile.specs.KeptView.{AreAlong, AreParsed, byte_count, item_with, items_with, kept_bytes}
+use Rattle.x_compile.specs.KeptView.{AreAlong, AreParsed, byte_count, item_with, items_with}
 use Rattle.x_compile.specs.Compile.{item_places, places_from}
 use Rattle.x_compile.specs.declared.content.Content.{Content}
 use Rattle.x_compile.proofs.AlongLemmas.{along_each}
@@ -113,41 +113,12 @@ passed_parsed tokens es h = passed_along tokens es (along_each h.parts es tokens
 
 -- ---- where an item ends
 
--- a token ends where the next one starts
-pub end_of_lexeme : (text : List ℕ) (at : ℕ) (ts : List (Kind × ℕ)) (k : ℕ) (l : Lexeme) (rest : List Lexeme) → drop k (lexemes_from text at ts) ≡ l ∷ rest → l.end ≡ at + end_of ts (suc k)
-end_of_lexeme text at [] zero l rest is = absurd (cc)
-end_of_lexeme text at [] (suc k) l rest is = absurd (cc)
-end_of_lexeme text at (t ∷ ts) zero l rest is =
-    let same : lexeme_at text (t.0, at, at + t.1) ≡ l = cc in
-    let end = ap (λ (x : Lexeme). x.end) same in
-    omega (arith, end)
-end_of_lexeme text at (t ∷ ts) (suc k) l rest is = let r = end_of_lexeme text (at + t.1) ts k l rest is in omega (arith, r)
-
--- so the last of some tokens ends
-pub last_end : (text : List ℕ) (ts : List (Kind × ℕ)) (token others count : ℕ) (walk : List Lexeme) (l : Lexeme) (rest : List Lexeme) → walk ≡ drop token (lexemes text ts) → drop others walk ≡ l ∷ rest → count ≡ suc others
-    → l.end ≡ end_of ts (token + count)
-last_end text ts token others count walk l rest from is more =
-    let there : drop (token + others) (lexemes text ts) ≡ l ∷ rest = sym (drop-drop others token (lexemes text ts)) ∙ sym (ap (drop others) from) ∙ is in
-    let end = end_of_lexeme text 0 ts (token + others) l rest there in
-    let same : suc (token + others) ≡ token + count = omega (arith, more) in
-    let at = ap (end_of ts) same in
-    omega (arith, end, at)
-
--- and there is one
-pub last_is : (text : List ℕ) (ts : List (Kind × ℕ)) (token others count : ℕ) (walk : List Lexeme) → walk ≡ drop token (lexemes text ts) → drop others walk ≡ [] → count ≡ suc others → token + count ≤ length ts → ⊥
-last_is text ts token others count walk from is more within =
-    let a = ap length is in
-    let b = length-drop others walk in
-    let c = ap length from ∙ length-drop token (lexemes text ts) in
-    let d = length-lexemes_from text 0 ts in
-    omega (arith, a, b, c, d, more, within)
-
--- an item whose bytes are kept
-pub end_by_bytes : (text : List ℕ) (ts : List (Kind × ℕ)) (token start bytes : ℕ) (e : ItemEntry Content) → AreTokens text ts → StandAt text ts token start (e ∷ []) → kept_bytes e.kept ≡ Some bytes
-    → start + bytes ≡ end_of ts (token + e.tokens)
-end_by_bytes text ts token start bytes e are h is =
-    let kept : bytes ≡ byte_count (take e.tokens (drop token (lexemes text ts))) =
-    subst (λ o. IfSome o (λ b. b ≡ byte_count (take e.tokens (drop token (lexemes text ts))))) is h.passed.1 in
+-- it starts that many bytes before
+pub end_by_bytes : (text : List ℕ) (ts : List (Kind × ℕ)) (token start : ℕ) (e : ItemEntry Content) (entries es : List (ItemEntry Content)) → AreTokens text ts → entries ≡ e ∷ es → StandAt text ts token start entries
+    → start + e.bytes ≡ end_of ts (token + e.tokens)
+end_by_bytes text ts token start e entries es are all h =
+    let now : ArePassed (drop token (lexemes text ts)) (e ∷ es) = subst (ArePassed (drop token (lexemes text ts))) all h.passed in
+    let kept = now.1 in
     let count = bytes_among text ts token e.tokens are in
     let plus = span_plus ts token e.tokens in
     let start_is = h.start_is in
@@ -157,18 +128,14 @@ end_by_bytes text ts token start bytes e are h is =
 pub end_within : (text : List ℕ) (ts : List (Kind × ℕ)) (i : ℕ) → AreTokens text ts → end_of ts i ≤ length text
 end_within text ts i are = let parts = span-drop ts i in let all = span_tiles true text ts are in omega (arith, parts, all)
 
-pub stand_within : (text : List ℕ) (ts : List (Kind × ℕ)) (token start : ℕ) (e : ItemEntry Content) (es : List (ItemEntry Content)) → StandAt text ts token start (e ∷ es) → token + e.tokens ≤ length ts
-stand_within text ts token start e es h =
+pub stand_within : (text : List ℕ) (ts : List (Kind × ℕ)) (token start : ℕ) (e : ItemEntry Content) (entries es : List (ItemEntry Content)) → entries ≡ e ∷ es → StandAt text ts token start entries → token + e.tokens ≤ length ts
+stand_within text ts token start e entries es all h =
+    let now : ArePassed (drop token (lexemes text ts)) (e ∷ es) = subst (ArePassed (drop token (lexemes text ts))) all h.passed in
     let d = length-drop token (lexemes text ts) in
     let c = length-lexemes_from text 0 ts in
-    let few = h.passed.0 in
+    let few = now.0 in
     let within = h.within in
     omega (arith, d, c, few, within)
-
-pub stand_alone : (text : List ℕ) (ts : List (Kind × ℕ)) (token start : ℕ) (e : ItemEntry Content) (entries es : List (ItemEntry Content)) → entries ≡ e ∷ es → StandAt text ts token start entries → StandAt text ts token start (e ∷ [])
-stand_alone text ts token start e entries es all h =
-    let now : ArePassed (drop token (lexemes text ts)) (e ∷ es) = subst (ArePassed (drop token (lexemes text ts))) all h.passed in
-    record { within = h.within; start_is = h.start_is; passed = (now.0, now.1, now.2, tt) }
 
 -- the first of them is passed over
 pub stand_behind : (text : List ℕ) (ts : List (Kind × ℕ)) (token start end : ℕ) (e : ItemEntry Content) (entries es : List (ItemEntry Content)) → entries ≡ e ∷ es → StandAt text ts token start entries
@@ -176,7 +143,7 @@ pub stand_behind : (text : List ℕ) (ts : List (Kind × ℕ)) (token start end 
 stand_behind text ts token start end e entries es all h is =
     let now : ArePassed (drop token (lexemes text ts)) (e ∷ es) = subst (ArePassed (drop token (lexemes text ts))) all h.passed in
     record {
-      within = stand_within text ts token start e es (record { within = h.within; start_is = h.start_is; passed = now });
+      within = stand_within text ts token start e entries es all h;
       start_is = is;
       passed = subst (λ l. ArePassed l es) (drop-drop e.tokens token (lexemes text ts)) now.3;
     }

@@ -1,5 +1,5 @@
 -- A walk over the faults of the items of a text.
-use Rattle.std.specs.Prelude.{◌≡◌, ℕ, ◌+◌, ◌≤◌, List, [], ◌∷◌, IfSome, length, take, drop, map, All}
+use Rattle.std.specs.Prelude.{◌≡◌, ℕ, ◌+◌, ◌≤◌, List, [], ◌∷◌, length, take, drop, map, All}
 use Rattle.x_lex.specs.declared.kind.Kind.{Kind}
 use Rattle.x_lex.specs.Places.{Lexeme, lexemes}
 use Rattle.x_lex.specs.Tiling.{end_of}
@@ -9,7 +9,7 @@ use Rattle.x_item.specs.Parse.{Parse}
 use Rattle.x_rules.specs.Rules.{Ascends}
 use Rattle.x_rules.specs.declared.fault.WordFault.{WordFault}
 use Rattle.x_compile.specs.Compile.{places_from, rule_faults, start_of}
-use Rattle.x_compile.specs.KeptView.{IsMarked, byte_count, found_result, items_with, kept_bytes, kept_found}
+use Rattle.x_compile.specs.KeptView.{IsMarked, byte_count, found_result, items_with, kept_found}
 use Rattle.x_compile.specs.ItemReading.{ItemReading, place_of, unread}
 use Rattle.x_compile.specs.declared.fault.FaultPlace.{FaultPlace}
 use Rattle.x_compile.specs.declared.fault.FaultCode.{FaultCode}
@@ -65,7 +65,7 @@ AreOrdered entries = All (λ e. Ascends (rule_faults (found_result (kept_found e
 abbrev pub ArePassed : List Lexeme → List (ItemEntry Content) → Type 0
 ArePassed tokens [] = Unit {0}
 ArePassed tokens (e ∷ es) = (e.tokens ≤ length tokens)
-    × IfSome (kept_bytes e.kept) (λ bytes. bytes ≡ byte_count (take e.tokens tokens))
+    × (e.bytes ≡ byte_count (take e.tokens tokens))
     × IsMarked e.kept × ArePassed (drop e.tokens tokens) es
 
 -- items stand in a text from a token on, which starts at this place

@@ -1,6 +1,6 @@
 -- What a session keeps with the items of a text, and what it says of them.
 use Rattle.std.specs.Prelude.{◌≡◌, ℕ, List, [], ◌∷◌, length, map, take, drop, Option, None, Some, slice_get}
-use Rattle.std.specs.Prelude.{slice_set, Bool, false, true, IfSome}
+use Rattle.std.specs.Prelude.{slice_set, Bool, false, true}
 use Rattle.std.specs.Global.{Box}
 use Rattle.x_text.specs.Lengths.{total_length}
 use Rattle.x_lex.specs.Places.{Lexeme}
@@ -39,30 +39,28 @@ found_pieces None = None
 found_pieces (Some found) = found.value.pieces
 
 abbrev pub kept_parse : Content → parse.Parse
-kept_parse (items.Nothing bytes) = parse.Nothing
+kept_parse items.Nothing = parse.Nothing
 kept_parse (items.Fault token code) = parse.Fault token code
-kept_parse (items.Body body) = view_parse body.value.parse
+kept_parse (items.Sound body) = view_parse body.value.parse
+kept_parse (items.Faulty body) = view_parse body.value.parse
 
 -- the lines that pass through
 abbrev pub kept_lines : Content → List ℕ
-kept_lines (items.Body body) = body.value.lines.items
+kept_lines (items.Sound body) = body.value.lines.items
+kept_lines (items.Faulty body) = body.value.lines.items
 kept_lines k = []
 
 abbrev pub kept_found : Content → Option (Box CheckResult)
-kept_found (items.Body body) = body.value.found
+kept_found (items.Sound body) = body.value.found
+kept_found (items.Faulty body) = body.value.found
 kept_found k = None
-
--- how many bytes the item's tokens have, where that is kept
-abbrev pub kept_bytes : Content → Option ℕ
-kept_bytes (items.Nothing bytes) = Some bytes
-kept_bytes (items.Fault token code) = None
-kept_bytes (items.Body body) = Some body.value.bytes
 
 -- whether it is kept that the item has faults
 abbrev pub is_marked : Content → Bool
-is_marked (items.Nothing bytes) = false
+is_marked items.Nothing = false
 is_marked (items.Fault token code) = true
-is_marked (items.Body body) = body.value.faulty
+is_marked (items.Sound body) = false
+is_marked (items.Faulty body) = true
 
 -- an item that parses so has faults, where these are by the rules
 abbrev pub has_faults : parse.Parse → List WordFault → Bool
@@ -110,7 +108,7 @@ byte_count tokens = total_length (λ t. length t.text) tokens
 -- the number of an item's tokens and of their bytes, what they parse to, and the lines that pass through
 pub record IsItem (tokens : List Lexeme) (e : ItemEntry Content) : Type 0 where
   pub count : e.tokens ≡ length tokens
-  pub bytes : IfSome (kept_bytes e.kept) (λ bytes. bytes ≡ byte_count tokens)
+  pub bytes : e.bytes ≡ byte_count tokens
   pub parsed : IsParse tokens (kept_parse e.kept)
   pub lines : kept_lines e.kept ≡ lines_of tokens
   pub marked : IsMarked e.kept
@@ -149,7 +147,7 @@ renewed_pieces had (Some found) = pieces_behind had found.value.pieces found.val
 pub record IsWith (e : ItemEntry Content) (r : Option (Box CheckResult))
     (f : ItemEntry Content) : Type 0 where
   pub tokens : f.tokens ≡ e.tokens
-  pub bytes : kept_bytes f.kept ≡ kept_bytes e.kept
+  pub bytes : f.bytes ≡ e.bytes
   pub parse : kept_parse f.kept ≡ kept_parse e.kept
   pub lines : kept_lines f.kept ≡ kept_lines e.kept
   pub result : found_result (kept_found f.kept) ≡ found_result r

@@ -1,6 +1,6 @@
 //! What is kept with an item.
 
-ghost use Rattle.std.specs.Prelude.{◌≡◌, ◌≤◌, [], length, map, IfOk, IfSome, None, option_copied};
+ghost use Rattle.std.specs.Prelude.{◌≡◌, ◌≤◌, [], length, map, IfOk, None, option_copied};
 ghost use Rattle.x_text.specs.Counts.{raised};
 ghost use Rattle.x_text.specs.declared.text.source.TheConstants.{MAX_TEXT};
 ghost use Rattle.x_lex.specs.Places.{lexeme};
@@ -12,11 +12,12 @@ ghost use Rattle.x_compile.specs.Counting.{faults_with};
 ghost use Rattle.x_compile.specs.FaultWalk.{IsToldBy};
 ghost use Rattle.x_compile.specs.Generated.{lines_of};
 ghost use Rattle.x_compile.specs.KeptView.{IsItem, IsMarked, byte_count, found_pieces, found_result};
-ghost use Rattle.x_compile.specs.KeptView.{has_faults, is_marked, kept_bytes, kept_definition, kept_found};
-ghost use Rattle.x_compile.specs.KeptView.{kept_lines, kept_parse, renewed_pieces, view_parse};
+ghost use Rattle.x_compile.specs.KeptView.{has_faults, is_marked, kept_definition, kept_found, kept_lines};
+ghost use Rattle.x_compile.specs.KeptView.{kept_parse, renewed_pieces, view_parse};
 
 use crate::lines::lines_of;
 use std::alloc::Global;
+use std::mem;
 use x_gen::Pieces;
 use x_item::{Definition, FaultCode, ItemEntry, Parsed, parse_item};
 use x_lex::Token;
@@ -57,13 +58,7 @@ impl Drop for CheckResult {
 }
 
 /// What is kept with an item that has a definition or lines that pass through.
-///
-/// Who goes over the items for their faults passes over those without any by what stands first.
 pub struct ItemBody {
-    /// How many bytes the item's tokens have.
-    bytes: u32,
-    /// Whether the item has faults.
-    faulty: bool,
     parse: Parse,
     /// The lines that pass through: without their `%`, each with a line feed.
     lines: Vec<u8>,
@@ -75,8 +70,6 @@ pub struct ItemBody {
 impl Drop for ItemBody {
     fn drop(self) {
         let ItemBody {
-            bytes: _,
-            faulty: _,
             parse: _,
             lines: _,
             found: _,
@@ -86,13 +79,13 @@ impl Drop for ItemBody {
 
 /// What is kept with an item, in few bytes where it has neither a definition nor lines: a text may be 16
 /// million `;`.
+///
+/// That it has faults stands here and not in its box: boxes lie far apart, and who goes over the items for
+/// their faults opens those of faulty ones alone.
 #[derive(Drop)]
 pub enum Content {
     /// It has neither words nor lines.
-    Nothing {
-        /// How many bytes its tokens have.
-        bytes: u32,
-    },
+    Nothing,
     /// Its words spell no definition, and it has no lines.
     Fault {
         /// The index of the token in the item at which the fault stands.
@@ -100,13 +93,15 @@ pub enum Content {
         /// What is wrong.
         code: FaultCode,
     },
-    /// It has a definition or lines.
-    Body(Box<ItemBody>),
+    /// It has a definition or lines, and no fault.
+    Sound(Box<ItemBody>),
+    /// It has a definition or lines, and faults.
+    Faulty(Box<ItemBody>),
 }
 
 impl Default for Content {
     fn default() -> Content {
-        Content::Nothing { bytes: 0 }
+        Content::Nothing
     }
 }
 
@@ -141,6 +136,7 @@ pub fn entry_of(
     let kept = Content::parsed(alloc, tokens, meter)?;
     Ok(ItemEntry {
         tokens: tokens.len() as u32,
+        bytes: byte_count(tokens),
         kept,
     })
 }
@@ -149,9 +145,6 @@ impl Content {
     /// What is kept of the item that these tokens are, before it is checked. Counts it as parsed.
     pub fn parsed(alloc: Global, tokens: &[Token], meter: &mut Meter) -> Result<Content, NoMemory>
         requires few { length tokens.now ≤ MAX_TEXT }
-        requires small { byte_count (map lexeme tokens.now) ≤ MAX_TEXT }
-        ensures bytes { IfOk result (λ kept. IfSome (kept_bytes kept)
-            (λ bytes. bytes ≡ byte_count (map lexeme tokens.now))) }
         ensures parse { IfOk result (λ kept. IsParse (map lexeme tokens.now) (kept_parse kept)) }
         ensures lines { IfOk result (λ kept. kept_lines kept ≡ lines_of (map lexeme tokens.now)) }
         ensures unchecked { IfOk result (λ kept. kept_found kept ≡ None) }
@@ -166,12 +159,11 @@ impl Content {
                 code,
             },
         };
-        Content::of(alloc, byte_count(tokens), parse, lines_of(alloc, tokens)?)
+        Content::of(alloc, parse, lines_of(alloc, tokens)?)
     }
 
-    /// What is kept of an item of so many bytes that parses so, with these lines.
-    fn of(alloc: Global, bytes: u32, parse: Parse, lines: Vec<u8>) -> Result<Content, NoMemory>
-        ensures bytes { IfOk result (λ kept. IfSome (kept_bytes kept) (λ count. count ≡ bytes)) }
+    /// What is kept of an item that parses so, with these lines.
+    fn of(alloc: Global, parse: Parse, lines: Vec<u8>) -> Result<Content, NoMemory>
         ensures parse { IfOk result (λ kept. kept_parse kept ≡ view_parse parse) }
         ensures lines { IfOk result (λ kept. kept_lines kept ≡ lines.items) }
         ensures unchecked { IfOk result (λ kept. kept_found kept ≡ None) }
@@ -179,7 +171,7 @@ impl Content {
     {
         if lines.is_empty() {
             match &parse {
-                Parse::Nothing => return Ok(Content::Nothing { bytes }),
+                Parse::Nothing => return Ok(Content::Nothing),
                 Parse::Fault { token, code } => {
                     return Ok(Content::Fault {
                         token: *token,
@@ -190,23 +182,24 @@ impl Content {
             }
         }
         let body = ItemBody {
-            bytes,
-            faulty: has_faults(&parse, &None),
             parse,
             lines,
             found: None,
         };
-        Ok(Content::Body(Box::new(alloc, body)?))
+        Ok(Content::marked(Box::new(alloc, body)?))
     }
 
-    /// How many bytes the item's tokens have, unless it has neither a definition nor lines, but a fault.
-    pub(crate) fn bytes(&self) -> Option<usize>
-        ensures { result ≡ kept_bytes self.now }
+    /// This, with what stands in it said of it: whether the item has faults.
+    fn marked(body: Box<ItemBody>) -> Content
+        ensures parse { kept_parse result ≡ view_parse body.value.parse }
+        ensures lines { kept_lines result ≡ body.value.lines.items }
+        ensures found { kept_found result ≡ body.value.found }
+        ensures marked { IsMarked result }
     {
-        match self {
-            Content::Nothing { bytes } => Some(*bytes as usize),
-            Content::Fault { .. } => None,
-            Content::Body(body) => Some(body.bytes as usize),
+        if has_faults(&body.parse, &body.found) {
+            Content::Faulty(body)
+        } else {
+            Content::Sound(body)
         }
     }
 
@@ -214,11 +207,7 @@ impl Content {
     pub(crate) fn is_faulty(&self) -> bool
         ensures { result ≡ is_marked self.now }
     {
-        match self {
-            Content::Nothing { .. } => false,
-            Content::Fault { .. } => true,
-            Content::Body(body) => body.faulty,
-        }
+        matches!(self, Content::Fault { .. } | Content::Faulty(_))
     }
 
     /// The definition of the item, if it has one.
@@ -226,7 +215,7 @@ impl Content {
         ensures { tree_at result ≡ kept_definition self.now }
     {
         match self {
-            Content::Body(body) => match &body.parse {
+            Content::Sound(body) | Content::Faulty(body) => match &body.parse {
                 Parse::Def(definition) => Some(definition),
                 _ => None,
             },
@@ -239,7 +228,7 @@ impl Content {
         ensures { result.now ≡ kept_lines self.now }
     {
         match self {
-            Content::Body(body) => &body.lines,
+            Content::Sound(body) | Content::Faulty(body) => &body.lines,
             _ => &[],
         }
     }
@@ -249,7 +238,7 @@ impl Content {
         ensures { option_copied result ≡ found_pieces (kept_found self.now) }
     {
         match self {
-            Content::Body(body) => body.found.as_ref()?.pieces.as_ref(),
+            Content::Sound(body) | Content::Faulty(body) => body.found.as_ref()?.pieces.as_ref(),
             _ => None,
         }
     }
@@ -259,12 +248,12 @@ impl Content {
         ensures { IsToldBy (kept_parse self.now) (rule_faults (found_result (kept_found self.now))) result }
     {
         match self {
-            Content::Nothing { .. } => Verdict::Rules(&[]),
+            Content::Nothing => Verdict::Rules(&[]),
             Content::Fault { token, code } => Verdict::Syntax {
                 token: *token,
                 code: *code,
             },
-            Content::Body(body) => match body.parse {
+            Content::Sound(body) | Content::Faulty(body) => match body.parse {
                 Parse::Fault { token, code } => Verdict::Syntax { token, code },
                 _ => Verdict::Rules(faults_of(&body.found)),
             },
@@ -276,7 +265,7 @@ impl Content {
         ensures { lent_outcome result ≡ found_result (kept_found self.now) }
     {
         match self {
-            Content::Body(body) => Some(&body.found.as_ref()?.checked),
+            Content::Sound(body) | Content::Faulty(body) => Some(&body.found.as_ref()?.checked),
             _ => None,
         }
     }
@@ -296,7 +285,9 @@ impl Content {
         ensures { result ≡ faults_with self.now (kept_found self.now) }
     {
         match self {
-            Content::Body(body) => self.fault_count(faults_of(&body.found)),
+            Content::Sound(body) | Content::Faulty(body) => self.fault_count(faults_of(
+                &body.found,
+            )),
             _ => self.fault_count(&[]),
         }
     }
@@ -305,7 +296,6 @@ impl Content {
     /// fault and nothing was generated anew.
     pub fn keep(&mut self, found: Option<Box<CheckResult>>)
         requires { kept_definition self.old ≡ None → found ≡ None }
-        ensures bytes { kept_bytes self.new ≡ kept_bytes self.old }
         ensures parse { kept_parse self.new ≡ kept_parse self.old }
         ensures lines { kept_lines self.new ≡ kept_lines self.old }
         ensures result { found_result (kept_found self.new) ≡ found_result found }
@@ -313,16 +303,19 @@ impl Content {
             ≡ renewed_pieces (found_pieces (kept_found self.old)) found }
         ensures marked { IsMarked self.old → IsMarked self.new }
     {
-        if let Content::Body(body) = self {
-            let old = body.found.take();
-            body.faulty = has_faults(&body.parse, &found);
-            body.found = renewed(old, found);
-        }
+        *self = match mem::replace(self, Content::Nothing) {
+            Content::Sound(mut body) | Content::Faulty(mut body) => {
+                let old = body.found.take();
+                body.found = renewed(old, found);
+                Content::marked(body)
+            }
+            other => other,
+        };
     }
 }
 
 /// How many bytes tokens have together.
-fn byte_count(tokens: &[Token]) -> u32
+pub fn byte_count(tokens: &[Token]) -> u32
     requires { byte_count (map lexeme tokens.now) ≤ MAX_TEXT }
     ensures { result ≡ byte_count (map lexeme tokens.now) }
 {

@@ -1,11 +1,10 @@
 //! The items of a text, of which those with faults are found.
 
-ghost use Rattle.std.specs.Prelude.{◌≡◌, ◌≢◌, ◌≤◌, ◌+◌, ◌++◌, [], ◌∷◌, MatchOption, length};
+ghost use Rattle.std.specs.Prelude.{◌≡◌, ◌≢◌, ◌≤◌, ◌+◌, ◌++◌, [], MatchOption, length};
 ghost use Rattle.x_text.specs.declared.text.source.TheConstants.{MAX_TEXT};
 ghost use Rattle.x_lex.specs.Places.{lexemes};
-ghost use Rattle.x_lex.specs.Tiling.{AreTokens, end_of};
-ghost use Rattle.x_compile.specs.FaultWalk.{AreOrdered, ArePassed, IsTelling, StandAt, faults_behind};
-ghost use Rattle.x_compile.specs.FaultWalk.{faults_here};
+ghost use Rattle.x_lex.specs.Tiling.{AreTokens};
+ghost use Rattle.x_compile.specs.FaultWalk.{AreOrdered, ArePassed, IsTelling, faults_behind, faults_here};
 
 use crate::content::Content;
 use crate::item_faults::ItemFaults;
@@ -74,12 +73,13 @@ impl<'s> ItemWalk<'s> {
         ensures { MatchOption result (self.old ≡ []) (λ item. IsTelling item
             × (faults_here item ≢ []) × (self.old ≡ faults_here item ++ self.new)) }
     {
-        // A read of the count shows that indices are small.
+        // A read of the count shows that indices are small, and one of the text that places are.
         let _count = self.tokens.len();
+        let _text = self.source.bytes();
         'items: loop {
             let entry = self.entries.next()?;
             let (number, token, start) = (self.number, self.token, self.start);
-            self.start = end_of_item(self.source, self.tokens, token, start, entry);
+            self.start += entry.bytes as usize;
             self.token += entry.tokens as usize;
             self.number += 1;
             if entry.kept.is_faulty() {
@@ -87,43 +87,5 @@ impl<'s> ItemWalk<'s> {
                 return Some(ItemFaults::of(number, entry, walk));
             }
         }
-    }
-}
-
-/// Where an item ends that stands from a token on, which starts at this place.
-fn end_of_item(
-    source: &Source,
-    tokens: &Tokens,
-    token: usize,
-    start: usize,
-    entry: &ItemEntry<Content>,
-) -> usize
-    requires tokens { AreTokens source.now tokens.now.list }
-    requires stands { StandAt source.now tokens.now.list token start (entry.now ∷ []) }
-    ensures { result ≡ end_of tokens.now.list (token + entry.now.tokens) }
-{
-    // A read of the text shows that its places are small.
-    let _text = source.bytes();
-    match entry.kept.bytes() {
-        Some(bytes) => start + bytes,
-        None => place_behind(source, tokens, token, start, entry.tokens as usize),
-    }
-}
-
-/// The place behind so many tokens, from one on, which starts at this place.
-fn place_behind(source: &Source, tokens: &Tokens, token: usize, start: usize, count: usize) -> usize
-    requires tokens { AreTokens source.now tokens.now.list }
-    requires within { token + count ≤ length tokens.now.list }
-    requires start { start ≡ end_of tokens.now.list token }
-    ensures { result ≡ end_of tokens.now.list (token + count) }
-{
-    let Some(others) = count.checked_sub(1) else {
-        return start;
-    };
-    let mut walk = tokens.iter_at(token, start, source);
-    walk.pass(others);
-    match walk.next() {
-        Some(last) => last.end,
-        None => start,
     }
 }

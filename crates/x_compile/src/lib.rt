@@ -18,7 +18,7 @@ mod reader;
 
 pub use checking::{new_pieces, sum_of};
 pub use compiling::{Compilation, compile};
-pub use content::{CheckResult, Content};
+pub use content::{CheckResult, Content, byte_count};
 pub use fault::{Fault, FaultCode, FaultPlace};
 pub use faults::{FaultPlaces, Faults};
 pub use item_table::ItemTable;

@@ -5,7 +5,7 @@ use Rattle.std.specs.List.{splice}
 use Rattle.std.proofs.lemmas.List.{map-append, take-map, drop-map, map-set}
 use Rattle.x_text.specs.Lengths.{total_length, length_before}
 use Rattle.x_cutting.specs.declared.cutting.item_entry.ItemEntry.{ItemEntry}
-use Rattle.x_cutting.specs.ItemList.{total, counts, kept, tokens_in, tokens_before}
+use Rattle.x_cutting.specs.ItemList.{total, byte_counts, counts, kept, tokens_in, tokens_before}
 
 pub total-append : (cs ds : List ℕ) → total (cs ++ ds) ≡ total cs + total ds
 total-append [] ds = omega arith
@@ -67,6 +67,15 @@ module _ {K : Type 0} where
   counts_set [] i new lt same = absurd (omega arith)
   counts_set (x ∷ xs) zero new lt same = ap (λ n. n ∷ counts xs) same
   counts_set (x ∷ xs) (suc i) new lt same = ap (λ l. x.tokens ∷ l) (counts_set xs i new (omega arith) same)
+
+  -- one that has as many bytes
+  pub bytes_same : (xs : List (ItemEntry K)) (i : ℕ) (new : ItemEntry K) → i < length xs → IfSome (slice_get xs i) (λ old. new.bytes ≡ old.bytes) → byte_counts (slice_set xs i new) ≡ byte_counts xs
+  bytes_same [] i new lt same = absurd (omega arith)
+  bytes_same (x ∷ xs) zero new lt same = ap (λ n. n ∷ byte_counts xs) same
+  bytes_same (x ∷ xs) (suc i) new lt same = ap (λ l. x.bytes ∷ l) (bytes_same xs i new (omega arith) same)
+
+  pub bytes_set : (xs : List (ItemEntry K)) (i : ℕ) (new : ItemEntry K) → byte_counts (slice_set xs i new) ≡ slice_set (byte_counts xs) i new.bytes
+  bytes_set xs i new = map-set (λ (e : ItemEntry K). e.bytes) xs i new
 
   pub kept_set : (xs : List (ItemEntry K)) (i : ℕ) (new : ItemEntry K) → kept (slice_set xs i new) ≡ slice_set (kept xs) i new.kept
   kept_set xs i new = map-set (λ (e : ItemEntry K). e.kept) xs i new

@@ -13,6 +13,10 @@ tokens_in entry = entry.tokens
 abbrev pub counts : {K : Type 0} → List (ItemEntry K) → List ℕ
 counts entries = map tokens_in entries
 
+-- how many bytes it is said that each has
+abbrev pub byte_counts : {K : Type 0} → List (ItemEntry K) → List ℕ
+byte_counts entries = map (λ entry. entry.bytes) entries
+
 -- what is kept with each
 abbrev pub kept : {K : Type 0} → List (ItemEntry K) → List K
 kept entries = map (λ entry. entry.kept) entries

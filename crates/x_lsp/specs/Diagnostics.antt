@@ -1,5 +1,5 @@
 -- What is published of a text's faults (LSP 3.17, `textDocument/publishDiagnostics`).
-use Rattle.std.specs.Prelude.{◌≡◌, ◌⊎◌, ℕ, ℤ, zero, suc, ◌+◌, ◌-◌, ◌≤◌, ◌==◌, List, []}
+use Rattle.std.specs.Prelude.{◌≡◌, ◌⊎◌, ℕ, ℤ, ◌≤◌, ◌==◌, List, []}
 use Rattle.std.specs.Prelude.{◌∷◌, ◌++◌, length, codes, Option, None, Some, option_and_then, option_map}
 use Rattle.std.specs.Prelude.{if◌then◌else◌, unwrap_or, Bool, true, false, ◌&&◌, slice_range}
 use Rattle.std.specs.List.{before_first}

@@ -21,7 +21,7 @@ use crate::head::number;
 use crate::other_places::OtherPlaces;
 use crate::positions::Position;
 use crate::published::{Diagnostic, Place, published_text};
-use crate::sentences::sentence;
+use crate::sentences::add_sentence;
 use crate::token_end::token_end;
 use crate::waymarks::Waymarks;
 use memchr::memchr;
@@ -30,6 +30,9 @@ use std::alloc::{AllocError, Global};
 use std::str;
 use x_session::{FaultCode, Session};
 use x_text::NoMemory;
+
+/// How much room is made at once for what stands around the word of a message.
+const FRAME: usize = 64;
 
 /// The note that publishes the faults of a document's text, by waymarks of it.
 pub fn publish(
@@ -71,7 +74,7 @@ fn diagnostics<'d>(
         (map data_of list.items))) }
 {
     let text = session.bytes();
-    let mut list = Vec::new(alloc);
+    let mut list = Vec::with_capacity(alloc, session.fault_count())?;
     let mut others = OtherPlaces::of(client.shows_related, session, marks);
     for fault in session.fault_places() {
         let start = fault.start;
@@ -133,10 +136,10 @@ fn message(alloc: Global, code: FaultCode, word: &str) -> Result<String, AllocEr
     ensures { IfOk result (λ s. (sentence : List ℕ)
         × (string_bytes s ≡ fault_text code ++ codes ": " ++ sentence)) }
 {
-    let sentence = sentence(alloc, code, word)?;
-    let mut text = String::from_str(alloc, code.text())?;
+    let mut text = String::with_capacity(alloc, FRAME.saturating_add(word.len()))?;
+    text.push_str(code.text())?;
     text.push_str(": ")?;
-    text.push_str(sentence.as_str())?;
+    add_sentence(&mut text, code, word)?;
     Ok(text)
 }
 

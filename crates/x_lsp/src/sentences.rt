@@ -1,37 +1,46 @@
 //! What is wrong with a word, in a sentence.
 
-use std::alloc::{AllocError, Global};
+ghost use Rattle.std.specs.Prelude.{◌≡◌, ◌++◌, ℕ, List, OnOk, string_bytes};
+
+use std::alloc::AllocError;
 use x_item::FaultCode as ItemCode;
 use x_session::{FaultCode, RuleCode};
 
-/// What is wrong with a word.
-pub(crate) fn sentence(alloc: Global, code: FaultCode, word: &str) -> Result<String, AllocError> {
+/// Adds what is wrong with a word, in a sentence.
+pub(crate) fn add_sentence(text: &mut String, code: FaultCode, word: &str) -> Result<(), AllocError>
+    ensures { OnOk result
+        ((sentence : List ℕ) × (string_bytes text.new ≡ string_bytes text.old ++ sentence)) }
+{
+    let (front, rear) = match code {
+        FaultCode::Syntax(code) => item_sentence(code),
+        FaultCode::Rule(rule) => rule_sentence(rule),
+    };
+    text.push_str(front)?;
+    if let Some(rear) = rear {
+        text.push_str(word)?;
+        text.push_str(rear)?;
+    }
+    Ok(())
+}
+
+/// What is wrong with a word of an item that spells no definition: what stands before the word, and what
+/// stands behind it, unless it is not shown.
+fn item_sentence(code: ItemCode) -> (&'static str, Option<&'static str>) {
     match code {
-        FaultCode::Syntax(code) => item_sentence(alloc, code, word),
-        FaultCode::Rule(rule) => rule_sentence(alloc, rule, word),
+        ItemCode::Syntax => ("no definition goes on with '", Some("'")),
+        ItemCode::BadByte => ("no word begins with '", Some("'")),
+        ItemCode::BadNumber => ("'", Some("' is no number")),
+        ItemCode::OpenComment => ("the comment has no '*/'", None),
+        ItemCode::Directive => (
+            "a line for the C preprocessor, which is to be run first",
+            None,
+        ),
+        ItemCode::Unfinished => ("the text ends within a definition, behind '", Some("'")),
     }
 }
 
-/// What is wrong with a word of an item that spells no definition.
-fn item_sentence(alloc: Global, code: ItemCode, word: &str) -> Result<String, AllocError> {
-    let (front, rear) = match code {
-        ItemCode::Syntax => ("no definition goes on with '", "'"),
-        ItemCode::BadByte => ("no word begins with '", "'"),
-        ItemCode::BadNumber => ("'", "' is no number"),
-        ItemCode::OpenComment => return String::from_str(alloc, "the comment has no '*/'"),
-        ItemCode::Directive => {
-            return String::from_str(
-                alloc,
-                "a line for the C preprocessor, which is to be run first",
-            );
-        }
-        ItemCode::Unfinished => ("the text ends within a definition, behind '", "'"),
-    };
-    around(alloc, front, word, rear)
-}
-
-/// What is wrong with a word of a definition that breaks a rule.
-fn rule_sentence(alloc: Global, rule: RuleCode, word: &str) -> Result<String, AllocError> {
+/// What is wrong with a word of a definition that breaks a rule: what stands before the word, and behind it.
+fn rule_sentence(rule: RuleCode) -> (&'static str, Option<&'static str>) {
     let (front, rear) = match rule {
         RuleCode::Duplicate => ("'", "' is declared before"),
         RuleCode::Unknown => ("nobody declares '", "'"),
@@ -54,13 +63,5 @@ fn rule_sentence(alloc: Global, rule: RuleCode, word: &str) -> Result<String, Al
         ),
         RuleCode::UsesFaulty => ("the definition of '", "' has a fault"),
     };
-    around(alloc, front, word, rear)
-}
-
-/// A word between two texts.
-fn around(alloc: Global, front: &str, word: &str, rear: &str) -> Result<String, AllocError> {
-    let mut text = String::from_str(alloc, front)?;
-    text.push_str(word)?;
-    text.push_str(rear)?;
-    Ok(text)
+    (front, Some(rear))
 }

@@ -1,17 +1,17 @@
 -- Fresh items are parsed one after another.
 use Rattle.std.proofs.Common.{◌≡◌, ℕ, zero, suc, ◌+◌, ◌<◌, ◌≤◌, List, [], ◌∷◌, ◌++◌, length, take, drop, None, Some, refl, sym, ap, subst, ◌∙◌, arith, length-drop}
-use Rattle.std.specs.Prelude.{All, IfSome, slice_get, slice_set}
+use Rattle.std.specs.Prelude.{All, slice_get, slice_set}
 use Rattle.std.proofs.lemmas.List.{drop-drop}
 use Rattle.std.proofs.lemmas.List.Elements.{All-nil, All-push}
 use Rattle.std.proofs.lemmas.Option.{same_Some}
 use Rattle.x_text.proofs.LengthLemmas.{before_le, before_read}
 use Rattle.x_lex.specs.Places.{Lexeme}
-use Rattle.x_cutting.specs.ItemList.{counts, tokens_before, total}
+use Rattle.x_cutting.specs.ItemList.{byte_counts, counts, tokens_before, total}
 use Rattle.x_cutting.specs.ItemList as items
 use Rattle.x_item.specs.Parse.{IsParse}
 use Rattle.x_cutting.specs.declared.cutting.item_entry.ItemEntry.{ItemEntry}
 use Rattle.x_compile.specs.Generated.{lines_of}
-use Rattle.x_compile.specs.KeptView.{AreAlong, IsItem, IsMarked, byte_count, kept_bytes, kept_found, kept_lines, kept_parse}
+use Rattle.x_compile.specs.KeptView.{AreAlong, IsItem, IsMarked, byte_count, kept_found, kept_lines, kept_parse}
 use Rattle.x_compile.specs.declared.content.Content.{Content}
 use Rattle.x_compile.proofs.AlongLemmas.{along_append, total_before}
 use Rattle.x_compile.proofs.KeepingLemmas.{entry_set}
@@ -51,13 +51,13 @@ within (x ∷ es) zero e is = omega arith
 within (x ∷ es) (suc i) e is = let r = within es i e is in omega (arith, r)
 
 -- one item more
-pub parsed_next : (tokens : List Lexeme) (old now next : List (ItemEntry Content)) (walk walk' : List Lexeme) (n m : ℕ) (k : Content) → IsParsedTo tokens old now walk n → total (counts old) ≤ length tokens → slice_get (counts now) n ≡ Some m
-    → walk' ≡ drop m walk → IfSome (kept_bytes k) (λ bytes. bytes ≡ byte_count (take m walk)) → IsMarked k → IsParse (take m walk) (kept_parse k) → kept_lines k ≡ lines_of (take m walk) → kept_found k ≡ None → counts next ≡ counts now → items.kept next ≡ slice_set (items.kept now) n k
+pub parsed_next : (tokens : List Lexeme) (old now next : List (ItemEntry Content)) (walk walk' : List Lexeme) (n m bytes : ℕ) (k : Content) → IsParsedTo tokens old now walk n → total (counts old) ≤ length tokens → slice_get (counts now) n ≡ Some m
+    → walk' ≡ drop m walk → bytes ≡ byte_count (take m walk) → IsMarked k → IsParse (take m walk) (kept_parse k) → kept_lines k ≡ lines_of (take m walk) → kept_found k ≡ None → counts next ≡ counts now → byte_counts next ≡ slice_set (byte_counts now) n bytes → items.kept next ≡ slice_set (items.kept now) n k
     → IsParsedTo tokens old next walk' (n + 1)
-parsed_next tokens old now next walk walk' n m k h fits is rest bytes marked parse lines none many set =
+parsed_next tokens old now next walk walk' n m bytes k h fits is rest count marked parse lines none many sizes set =
     let at = entry_at now n m is in
-    let f : ItemEntry Content = record { tokens = at.0.tokens; kept = k } in
-    let put : next ≡ slice_set now n f = entry_set now next n k at.0 many set at.1 in
+    let f : ItemEntry Content = record { tokens = at.0.tokens; bytes = bytes; kept = k } in
+    let put : next ≡ slice_set now n f = entry_set now next n at.0 f many sizes set at.1 refl in
     let one : suc n ≡ n + 1 = omega arith in
     let front : take (n + 1) next ≡ take n now ++ f ∷ [] = ap (λ l. take (n + 1) l) put ∙ ap (λ j. take j (slice_set now n f)) (sym one) ∙ take_set now n f (within now n at.0 at.1) in
     let here : slice_get (counts old) n ≡ Some m = ap (λ cs. slice_get cs n) (sym h.same) ∙ is in
@@ -66,7 +66,7 @@ parsed_next tokens old now next walk walk' n m k h fits is rest bytes marked par
     let long : at.0.tokens ≡ length (take at.0.tokens walk) = let e = at.2 in let t = length_take at.0.tokens walk (omega (arith, e, few)) in omega (arith, t) in
     let item : IsItem (take at.0.tokens walk) f = record {
       count = long;
-      bytes = subst (λ j. IfSome (kept_bytes k) (λ count. count ≡ byte_count (take j walk))) (sym at.2) bytes;
+      bytes = count ∙ ap (λ j. byte_count (take j walk)) (sym at.2);
       parsed = subst (λ j. IsParse (take j walk) (kept_parse k)) (sym at.2) parse;
       lines = lines ∙ ap (λ j. lines_of (take j walk)) (sym at.2);
       marked = marked;

@@ -9,6 +9,7 @@ pub mod MoveLemmas
 pub mod PatchLemmas
 pub mod PlacingLemmas
 pub mod PlannedLemmas
+pub mod RenderLemmas
 pub mod Running
 pub mod Scripts
 pub mod ShowingLemmas

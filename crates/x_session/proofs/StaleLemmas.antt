@@ -113,7 +113,7 @@ among_planned (p ∷ ps) n (suc i, (lt, at)) none = later (among_planned ps n (i
 
 -- ---- what an item had before the edit
 
-all_at : {X : Type 0} (P : X → Type 0) (xs : List X) (n : ℕ) (x : X) → All P xs → slice_get xs n ≡ Some x → P x
+pub all_at : {X : Type 0} (P : X → Type 0) (xs : List X) (n : ℕ) (x : X) → All P xs → slice_get xs n ≡ Some x → P x
 all_at P [] n x all is = absurd (cc)
 all_at P (y ∷ xs) zero x all is = let same : y ≡ x = same_Some y x is in subst P same (All-head P y xs all)
 all_at P (y ∷ xs) (suc n) x all is = all_at P xs n x (All-tail P y xs all) is

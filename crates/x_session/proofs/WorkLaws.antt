@@ -17,7 +17,6 @@ use Rattle.x_lex.proofs.TilingLemmas.{same_tiles}
 use Rattle.x_cutting.specs.ItemList.{ItemChange, counts, tokens_in}
 use Rattle.x_cutting.specs.Items.{IsCut}
 use Rattle.x_cutting.specs.Recut.{AreOne, IsItemPatch}
-use Rattle.x_cutting.specs.declared.cutting.item_entry.ItemEntry.{ItemEntry}
 use Rattle.x_cutting.proofs.CuttingLemmas.{same_cut}
 use Rattle.x_cutting.proofs.RecutLaws.{same_item_patch}
 use Rattle.x_recheck.specs.Staleness.{AreStale}
@@ -28,17 +27,7 @@ use Rattle.x_session.specs.Session.{Document}
 use Rattle.x_session.specs.Work.{AreNearWorks, AreStaleItems, IsWork, definitions_edit}
 use Rattle.x_session.specs.declared.session.work.Work.{Work}
 use Rattle.x_compile.proofs.Compiled.{one_compilation}
-
--- items of which nothing is kept are told by their counts
-bare_items : (xs ys : List (ItemEntry (Unit {0}))) → counts xs ≡ counts ys → xs ≡ ys
-bare_items [] [] same = refl
-bare_items [] (y ∷ ys) same = absurd (cc)
-bare_items (x ∷ xs) [] same = absurd (cc)
-bare_items (x ∷ xs) (y ∷ ys) same =
-    let here : x.tokens ≡ y.tokens = cc in
-    let there : counts xs ≡ counts ys = cc in
-    let rest = bare_items xs ys there in
-    λ i. record { tokens = here i; kept = tt } ∷ rest i
+use Rattle.x_session.proofs.PatchLemmas.{same_patch}
 
 -- what stands between the same lists is the same
 between : {X : Type 0} (front xs ys rear more : List X) → length xs ≡ length ys → front ++ (xs ++ rear) ≡ front ++ (ys ++ more) → xs ≡ ys
@@ -79,9 +68,9 @@ one_work change old d e v w within h k =
     let back = sym same in
     let patch : h.patch ≡ k.patch = meeting.same_patch change ts h.patch k.patch h.is_patch (subst (λ t. IsPatch change t k.patch) back k.is_patch) in
     let cut = subst (λ t. IsCut (lexemes change.old t) (counts k.items)) back k.are_items in
-    let items : h.items ≡ k.items = bare_items h.items k.items (same_cut (lexemes change.old ts) (counts h.items) (counts k.items) h.are_items cut) in
+    let items : counts k.items ≡ counts h.items = sym (same_cut (lexemes change.old ts) (counts h.items) (counts k.items) h.are_items cut) in
     let there : IsItemPatch change ts (tokens.patched ts h.patch) h.items k.recut =
-    subst (λ l. IsItemPatch change ts (tokens.patched ts h.patch) l k.recut) (sym items)
+    same_patch change ts (tokens.patched ts h.patch) k.items h.items k.recut k.recut items refl refl refl refl
     (subst (λ p. IsItemPatch change ts (tokens.patched ts p) k.items k.recut) (sym patch) (subst (λ t. IsItemPatch change t (tokens.patched t k.patch) k.items k.recut) back k.is_recut)) in
     let one : AreOne h.recut k.recut = same_item_patch change (edited_by change) ts h.items h.patch h.recut k.recut (record {
       within = within;

@@ -20,7 +20,7 @@ use Rattle.x_lex.specs.TokenList.{IsOfText, TokenPatch}
 use Rattle.x_cutting.specs.ItemList as items
 use Rattle.x_cutting.specs.ItemList.{AreOfText, ItemChange, counts, patched, tokens_in}
 use Rattle.x_cutting.specs.Items.{IsCut}
-use Rattle.x_cutting.specs.Recut.{IsAmong, IsItemPatch}
+use Rattle.x_cutting.specs.Recut.{IsItemPatch}
 use Rattle.x_cutting.specs.declared.cutting.item_entry.ItemEntry.{ItemEntry}
 use Rattle.x_rules.specs.Results.{Outcome}
 use Rattle.x_trees.proofs.AmongLemmas.{among_first, among_more}
@@ -48,7 +48,7 @@ use Rattle.x_compile.proofs.KeptLemmas.{definitions_with, kept_is, results_with}
 -- ---- the work of an edit
 
 abbrev pub bare : ItemEntry Content → ItemEntry (Unit {0})
-bare e = record { tokens = e.tokens; kept = tt }
+bare e = record { tokens = e.tokens; bytes = e.bytes; kept = tt }
 
 counts_bare : (es : List (ItemEntry Content)) → counts es ≡ counts (map bare es)
 counts_bare [] = refl

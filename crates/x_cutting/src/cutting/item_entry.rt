@@ -9,11 +9,13 @@ use x_text::Measured;
 pub struct ItemEntry<K> {
     /// How many tokens it has.
     pub tokens: u32,
+    /// How many bytes these have, as is said by who keeps something with the item; 0 before.
+    pub bytes: u32,
     /// What is kept with it.
     pub kept: K,
 }
 
-const _: () = prove!(size_of::<ItemEntry<()>>() == 4);
+const _: () = prove!(size_of::<ItemEntry<()>>() == 8);
 
 impl<K: Default> ItemEntry<K> {
     /// The entry of an item of that many tokens, with which nothing is kept yet.
@@ -24,22 +26,26 @@ impl<K: Default> ItemEntry<K> {
     {
         ItemEntry {
             tokens: tokens as u32,
+            bytes: 0,
             kept: K::default(),
         }
     }
 }
 
 impl<K> ItemEntry<K> {
-    /// An entry of as many tokens as this one, with which another thing is kept.
+    /// An entry of as many tokens and bytes as this one, with which another thing is kept.
     pub(crate) fn in_place_of(old: Option<&ItemEntry<K>>, kept: K) -> ItemEntry<K>
         ensures tokens { IfSome (option_copied old.entry) (λ entry. result.tokens ≡ entry.tokens) }
+        ensures bytes { IfSome (option_copied old.entry) (λ entry. result.bytes ≡ entry.bytes) }
         ensures kept { result.kept ≡ kept }
     {
+        let (tokens, bytes) = match old {
+            Some(entry) => (entry.tokens, entry.bytes),
+            None => (0, 0),
+        };
         ItemEntry {
-            tokens: match old {
-                Some(entry) => entry.tokens,
-                None => 0,
-            },
+            tokens,
+            bytes,
             kept,
         }
     }

@@ -1,7 +1,7 @@
 //! What an edit does to the items of a text.
 ghost use Rattle.std.specs.Prelude.{◌≡◌, ◌<◌, ◌↔◌, [], Some, IsTrue, length};
 ghost use Rattle.std.specs.Prelude.{option_copied, slice_get, slice_set};
-ghost use Rattle.x_cutting.specs.ItemList.{counts, kept};
+ghost use Rattle.x_cutting.specs.ItemList.{byte_counts, counts, kept};
 
 use super::ItemEntry;
 use std::marker::Model;
@@ -86,11 +86,27 @@ impl<K> ItemPatch<K> {
         requires { index < length self.old.fresh }
         ensures out { slice_get (kept self.old.fresh) index ≡ Some result }
         ensures counts { counts self.new.fresh ≡ counts self.old.fresh }
+        ensures bytes { byte_counts self.new.fresh ≡ byte_counts self.old.fresh }
         ensures kept { kept self.new.fresh ≡ slice_set (kept self.old.fresh) index new }
         ensures others { self.new ≡ record self.old { fresh = self.new.fresh } }
     {
         let entry = ItemEntry::in_place_of(self.entries.get(index), new);
         self.entries.exchange(index, entry).kept
+    }
+
+    /// Says how many bytes the fresh item at `index` has, counted from the first of them, and keeps this with
+    /// it. Gives back what was kept with it.
+    pub fn fill(&mut self, index: usize, bytes: u32, new: K) -> K
+        requires { index < length self.old.fresh }
+        ensures out { slice_get (kept self.old.fresh) index ≡ Some result }
+        ensures counts { counts self.new.fresh ≡ counts self.old.fresh }
+        ensures bytes { byte_counts self.new.fresh ≡ slice_set (byte_counts self.old.fresh) index bytes }
+        ensures kept { kept self.new.fresh ≡ slice_set (kept self.old.fresh) index new }
+        ensures others { self.new ≡ record self.old { fresh = self.new.fresh } }
+    {
+        let mut filled = ItemEntry::in_place_of(self.entries.get(index), new);
+        filled.bytes = bytes;
+        self.entries.exchange(index, filled).kept
     }
 
     /// The entries of the fresh items, and what they take the place of, as they are kept.

@@ -3,8 +3,8 @@ ghost use Rattle.std.specs.Prelude.{◌≡◌, ◌+◌, ◌<◌, ◌≤◌, ◌�
 ghost use Rattle.std.specs.Prelude.{option_copied, slice_get, slice_set};
 ghost use Rattle.x_text.specs.declared.text.source.TheConstants.{MAX_TEXT};
 ghost use Rattle.x_text.specs.Seqs.{distance};
-ghost use Rattle.x_cutting.specs.ItemList.{counts, kept, total, tokens_before, patched, LiesAmong, HasRoom};
-ghost use Rattle.x_cutting.specs.ItemList.{AreOfText};
+ghost use Rattle.x_cutting.specs.ItemList.{byte_counts, counts, kept, total, tokens_before, patched};
+ghost use Rattle.x_cutting.specs.ItemList.{AreOfText, HasRoom, LiesAmong};
 
 use super::{ItemEntry, ItemPatch};
 use std::alloc::Global;
@@ -119,6 +119,7 @@ impl<K: Drop> Items<K> {
         requires { index < length self.old.list }
         ensures out { slice_get (kept self.old.list) index ≡ Some result.0 }
         ensures counts { counts self.new.list ≡ counts self.old.list }
+        ensures bytes { byte_counts self.new.list ≡ byte_counts self.old.list }
         ensures kept { kept self.new.list ≡ slice_set (kept self.old.list) index new }
         ensures seat { self.new.seat ≡ index + 1 }
         ensures moved { result.1 ≡ distance self.old.seat index (index + 1) }

@@ -10,7 +10,7 @@ ghost use Rattle.x_cutting.specs.ItemList.{counts, total};
 ghost use Rattle.x_compile.specs.KeptView.{AreAlong, kept_found};
 
 use std::alloc::Global;
-use x_compile::Content;
+use x_compile::{Content, byte_count};
 use x_item::ItemPatch;
 use x_lex::{Patch, PatchedTokenIter, Token, Tokens};
 use x_text::{Meter, NoMemory, Source};
@@ -47,7 +47,7 @@ pub fn parse_fresh(
     for index in 0..items.len() {
         take_tokens(&mut part, &mut walk, token_count(items, index))?;
         let kept = Content::parsed(alloc, &part, meter)?;
-        items.exchange(index, kept);
+        items.fill(index, byte_count(&part), kept);
     }
     Ok(())
 }

@@ -25,10 +25,10 @@ loop-found-preserved c =
     let last = last_item c.args.entries.now.items c.args.results.items c.loop-found.entries.items before rs c.in-Some.found c.in-Some.ensures.items c.loop-found.invariant in
     let at : c.len.result ≡ length rs = c.len.ensures ∙ c.pop.new.self.ok.0 in
     let is = last_is c.args.entries.now.items c.args.results.items c.loop-found.entries.items rs c.in-Some.found last c.len.result c.index_mut.result.now at c.index_mut.ensures.value in
-    let f : ItemEntry Content = record { tokens = c.index_mut.result.now.tokens; kept = c.keep.new.self } in
+    let f : ItemEntry Content = record { tokens = c.index_mut.result.now.tokens; bytes = c.index_mut.result.now.bytes; kept = c.keep.new.self } in
     let now : IsWith c.index_mut.result.now c.in-Some.found f = record {
       tokens = refl;
-      bytes = c.keep.ensures.bytes;
+      bytes = refl;
       parse = c.keep.ensures.parse;
       lines = c.keep.ensures.lines;
       result = c.keep.ensures.result;

@@ -1,10 +1,9 @@
 use Rattle.std.proofs.Common.{◌≡◌, ◌++◌, ◌∙◌, [], ◌∷◌, map, codes, ap, sym, subst, append_assoc, append-nil, refl}
-use Rattle.std.specs.Prelude.{slice_range}
 use Rattle.x_compile.specs.Compile.{IsCompilation}
 use Rattle.x_compile.specs.Faults.{fault_text}
 use Rattle.x_session.specs.Session.{Compiles, Document}
 use Rattle.x_lsp.specs.declared.waymarks.Waymarks.{Waymarks}
-use Rattle.x_lsp.specs.Diagnostics.{AreDiagnostics, IsDiagnostic, IsEndOfToken, IsRangeAt, diagnostic_data, fault_number, other_place, range_data}
+use Rattle.x_lsp.specs.Diagnostics.{AreDiagnostics, IsDiagnostic, IsRangeAt, diagnostic_data, fault_number, other_place, range_data}
 use Rattle.x_lsp.specs.Positions.{position_of}
 use Rattle.x_lsp.specs.Published.{data_of}
 use Rattle.x_lsp.proofs.DiagnosticLemmas.{all_diagnostics, diagnostics_more, map-snoc, no_diagnostics}
@@ -23,8 +22,8 @@ loop-fault-init c =
       told = (
         [],
         refl,
-        subst (λ t. Compiles t (λ items. AreDiagnostics c.args.client c.args.uri.now t items [] (map data_of c.new-list.result.items))) (sym c.bytes-text.ensures)
-            (subst (λ l. Compiles c.args.session.now.text (λ items. AreDiagnostics c.args.client c.args.uri.now c.args.session.now.text items [] (map data_of l))) (sym c.new-list.ensures.items) none),
+        subst (λ t. Compiles t (λ items. AreDiagnostics c.args.client c.args.uri.now t items [] (map data_of c.in_ok-list.list.items))) (sym c.bytes-text.ensures)
+            (subst (λ l. Compiles c.args.session.now.text (λ items. AreDiagnostics c.args.client c.args.uri.now c.args.session.now.text items [] (map data_of l))) (sym c.in_ok-list.ensures.items) none),
       );
     }
 

@@ -1,28 +1,23 @@
-use Rattle.std.proofs.Common.{◌≡◌, ◌+◌, ◌∷◌, ◌++◌, [], length, drop, sym, ap, subst, ◌∙◌, arith}
+use Rattle.std.proofs.Common.{◌≡◌, ◌+◌, ◌∷◌, ◌++◌, length, drop, sym, ap, subst, ◌∙◌, arith}
 use Rattle.x_lex.specs.Places.{lexemes}
-use Rattle.x_compile.specs.FaultWalk.{ArePassed, StandAt, faults_behind}
+use Rattle.x_compile.specs.FaultWalk.{ArePassed, faults_behind}
 use Rattle.x_compile.specs.KeptView.{IsMarked}
 use Rattle.x_compile.proofs.FaultLemmas.{no_places, ordered_rest}
-use Rattle.x_compile.proofs.WalkedItems.{faults_next, stand_alone, stand_behind, stand_within}
+use Rattle.x_compile.proofs.WalkedItems.{end_by_bytes, end_within, faults_next, stand_behind, stand_within}
 use Rattle.x_compile.proofs.item_walk.ItemWalk.next_faulty.Goals as goal
-use Rattle.x_compile.proofs.item_walk.ItemWalk.next_faulty.Goals.{In_ok-entry}
-
--- the item alone, whose tokens are those of the text
-alone : (c : In_ok-entry) → StandAt c.items.self-inside.source.now c.items.self-inside.tokens.now.list c.items.self-inside.token c.items.self-inside.start (c.in_ok-entry.entry.now ∷ [])
-alone c =
-    let before = c.items.self-inside in
-    stand_alone before.source.now before.tokens.now.list before.token before.start c.in_ok-entry.entry.now before.entries c.next.new.self c.in_ok-entry.ensures.steps c.items.invariant.stand
-
-pub end_of_item-self-inside-requires-clause-tokens : goal.end_of_item-self-inside-requires-clause-tokens
-end_of_item-self-inside-requires-clause-tokens c = c.items.invariant.tokens
-
-pub end_of_item-self-inside-requires-clause-stands : goal.end_of_item-self-inside-requires-clause-stands
-end_of_item-self-inside-requires-clause-stands c = alone c
 
 pub overflow_add-self : goal.overflow_add-self
 overflow_add-self c =
     let before = c.items.self-inside in
-    let within = stand_within before.source.now before.tokens.now.list before.token before.start c.in_ok-entry.entry.now [] (alone (goal.at.overflow_add-self c).In_ok-entry) in
+    let is = end_by_bytes before.source.now before.tokens.now.list before.token before.start c.in_ok-entry.entry.now before.entries c.next.new.self c.items.invariant.tokens c.in_ok-entry.ensures.steps c.items.invariant.stand in
+    let within = end_within before.source.now before.tokens.now.list (before.token + c.in_ok-entry.entry.now.tokens) c.items.invariant.tokens in
+    let small = c.items.invariant.places in
+    omega (arith, is, within, small)
+
+pub overflow_add-self-in-items : goal.overflow_add-self-in-items
+overflow_add-self-in-items c =
+    let before = c.items.self-inside in
+    let within = stand_within before.source.now before.tokens.now.list before.token before.start c.in_ok-entry.entry.now before.entries c.next.new.self c.in_ok-entry.ensures.steps c.items.invariant.stand in
     let small = c.items.invariant.small in
     omega (arith, within, small)
 
@@ -35,7 +30,7 @@ invariant_of-self-then-is_faulty c =
     let few = c.items.invariant.few in
     let one = ap length all in (
       c.items.invariant.tokens,
-      stand_behind before.source.now before.tokens.now.list before.token before.start c.end_of_item-self-inside.result e before.entries es all c.items.invariant.stand c.end_of_item-self-inside.ensures,
+      stand_behind before.source.now before.tokens.now.list before.token before.start (before.start + e.bytes) e before.entries es all c.items.invariant.stand (end_by_bytes before.source.now before.tokens.now.list before.token before.start e before.entries es c.items.invariant.tokens all c.items.invariant.stand),
       ordered_rest e before.entries es all c.items.invariant.ordered,
       omega (arith, few, one),
     )
@@ -53,9 +48,10 @@ items-preserved c =
     let one = ap length all in
     record {
       tokens = c.items.invariant.tokens;
-      stand = stand_behind text ts before.token before.start c.end_of_item-self-inside.result e before.entries es all c.items.invariant.stand c.end_of_item-self-inside.ensures;
+      stand = stand_behind text ts before.token before.start (before.start + e.bytes) e before.entries es all c.items.invariant.stand (end_by_bytes text ts before.token before.start e before.entries es c.items.invariant.tokens all c.items.invariant.stand);
       ordered = ordered_rest e before.entries es all c.items.invariant.ordered;
       small = c.items.invariant.small;
+      places = c.items.invariant.places;
       few = omega (arith, few, one);
       left = sym (ap (λ l. l ++ faults_behind text ts (before.token + e.tokens) (before.number + 1) es)
           (no_places before.number (drop before.token (lexemes text ts)) e marked (sym c.is_faulty.ensures ∙ c.if-is_faulty.false)))

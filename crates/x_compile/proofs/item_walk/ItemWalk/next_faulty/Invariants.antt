@@ -11,6 +11,7 @@ invariant-items l = record {
   stand : StandAt l.self-inside.source.now l.self-inside.tokens.now.list l.self-inside.token l.self-inside.start l.self-inside.entries;
   ordered : AreOrdered l.self-inside.entries;
   small : length l.self-inside.tokens.now.list ≤ MAX_TEXT;
+  places : length l.self-inside.source.now ≤ MAX_TEXT;
   few : l.self-inside.number + length l.self-inside.entries ≤ MAX_TEXT + 1;
   left : faults_behind l.self-inside.source.now l.self-inside.tokens.now.list l.self-inside.token l.self-inside.number l.self-inside.entries ≡ l.fn.self;
 }

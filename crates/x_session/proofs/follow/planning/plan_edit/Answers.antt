@@ -8,7 +8,7 @@ use Rattle.x_cutting.specs.ItemList as items
 use Rattle.x_cutting.specs.Recut.{IsItemPatch, IsRelexed}
 use Rattle.x_cutting.specs.declared.cutting.item_entry.ItemEntry.{ItemEntry}
 use Rattle.x_compile.specs.Counting.{faults_found}
-use Rattle.x_session.specs.Following.{AreFollowed, AreStaleChecked, AreUsed, IsNameChange, behind}
+use Rattle.x_session.specs.Following.{AreFollowed, AreStaleChecked, IsNameChange, behind}
 use Rattle.x_compile.specs.KeptView.{AreParsed}
 use Rattle.x_session.specs.Planned.{ArePlanned}
 use Rattle.x_compile.specs.declared.content.Content.{Content}

@@ -1,8 +1,8 @@
 use Rattle.std.proofs.Common.{◌≡◌, length, sym, ap, subst, ◌∙◌, arith}
 use Rattle.std.specs.Prelude.{IfSome, slice_get, slice_set}
 use Rattle.x_cutting.specs.declared.cutting.item_entry.ItemEntry.{ItemEntry}
-use Rattle.x_cutting.specs.ItemList.{counts, kept}
-use Rattle.x_cutting.proofs.CountLemmas.{counts_set, kept_set, kept_get}
+use Rattle.x_cutting.specs.ItemList.{byte_counts, counts, kept}
+use Rattle.x_cutting.proofs.CountLemmas.{counts_set, bytes_same, kept_set, kept_get}
 use Rattle.x_cutting.proofs.cutting.item_patch.ItemPatch.exchange.Goals as goal
 
 pub returns-clause-out : goal.returns-clause-out
@@ -15,6 +15,13 @@ returns-clause-counts g c =
     ap (λ p. counts p.fresh) c.exchange.ensures.put
     ∙ counts_set c.self.inside.entries.fresh c.args.index c.in_place_of-entry.result (let lt = c.requires in let e = ap (λ v. length v.fresh) c.self.view_is in omega (arith, lt, e)) same
     ∙ ap (λ v. counts v.fresh) c.self.view_is
+
+pub returns-clause-bytes : goal.returns-clause-bytes
+returns-clause-bytes g c =
+    let same = subst (λ o. IfSome o (λ (e : ItemEntry g.row.K.Denot). c.in_place_of-entry.result.bytes ≡ e.bytes)) c.get.ensures c.in_place_of-entry.ensures.bytes in
+    ap (λ p. byte_counts p.fresh) c.exchange.ensures.put
+    ∙ bytes_same c.self.inside.entries.fresh c.args.index c.in_place_of-entry.result (let lt = c.requires in let e = ap (λ v. length v.fresh) c.self.view_is in omega (arith, lt, e)) same
+    ∙ ap (λ v. byte_counts v.fresh) c.self.view_is
 
 pub returns-clause-kept : goal.returns-clause-kept
 returns-clause-kept g c =

@@ -1,8 +1,8 @@
 use Rattle.std.proofs.Common.{◌≡◌, length, sym, ap, subst, ◌∙◌, arith, refl}
 use Rattle.std.specs.Prelude.{IfSome, slice_get, slice_set}
 use Rattle.x_cutting.specs.declared.cutting.item_entry.ItemEntry.{ItemEntry}
-use Rattle.x_cutting.specs.ItemList.{AreOfText, counts, kept, total}
-use Rattle.x_cutting.proofs.CountLemmas.{total_as, counts_set, kept_set, kept_get}
+use Rattle.x_cutting.specs.ItemList.{AreOfText, byte_counts, counts, kept, total}
+use Rattle.x_cutting.proofs.CountLemmas.{total_as, counts_set, bytes_same, kept_set, kept_get}
 use Rattle.x_cutting.proofs.cutting.items.Items.exchange.Goals as goal
 use Rattle.x_cutting.proofs.cutting.items.Items.exchange.Goals.{After-in_place_of-entry}
 
@@ -31,6 +31,13 @@ returns-clause-out g c =
 pub returns-clause-counts : goal.returns-clause-counts
 returns-clause-counts g c =
     ap counts c.exchange-out.ensures.list ∙ same_counts g (goal.at.returns-clause-counts g c).After-in_place_of-entry ∙ ap (λ v. counts v.list) c.self.view_is
+
+pub returns-clause-bytes : goal.returns-clause-bytes
+returns-clause-bytes g c =
+    ap byte_counts c.exchange-out.ensures.list
+    ∙ bytes_same c.self.inside.entries.list c.args.index c.in_place_of-entry.result (let lt = c.requires in let e = ap (λ v. length v.list) c.self.view_is in omega (arith, lt, e))
+    (subst (λ o. IfSome o (λ (e : ItemEntry g.row.K.Denot). c.in_place_of-entry.result.bytes ≡ e.bytes)) c.get.ensures c.in_place_of-entry.ensures.bytes)
+    ∙ ap (λ v. byte_counts v.list) c.self.view_is
 
 pub returns-clause-kept : goal.returns-clause-kept
 returns-clause-kept g c =
