@@ -17,8 +17,9 @@ use Rattle.x_compile.specs.ItemReading.{ItemReading, place_of, unread, word_plac
 use Rattle.x_compile.specs.declared.fault.TokenFault.{TokenFault}
 use Rattle.x_compile.specs.declared.fault.FaultCode.TheVariants as codes
 use Rattle.x_compile.specs.declared.content.Content.{Content}
+use Rattle.x_compile.specs.declared.content.Content.TheVariants as items
 use Rattle.x_compile.specs.declared.content.Verdict.{Verdict}
-use Rattle.x_compile.specs.declared.content.Verdict.TheVariants.{Syntax, Rules}
+use Rattle.x_compile.specs.declared.content.Verdict.TheVariants.{Syntax, Rule, Rules}
 
 -- ---- one token more is read
 
@@ -115,12 +116,19 @@ begun_each n r (f ∷ fs) read words =
     let others = begun_each n r fs read words in
     λ i. found_at n (here i, codes.Rule f.code) ∷ others i
 
+-- a fault that is the only one
+begun_one : (n : ℕ) (r : ItemReading) (f : WordFault) (fs : List WordFault) → r.read ≡ 0 → r.words ≡ 0 → fs ≡ f ∷ [] → map (found_at n) (map (rule_at r) (f ∷ [])) ≡ map (place_in n (unread r)) (map (at_token (unread r)) fs)
+begun_one n r f fs read words is = begun_each n r (f ∷ []) read words ∙ ap (λ l. map (place_in n (unread r)) (map (at_token (unread r)) l)) (sym is)
+
 pub begun : (n : ℕ) (r : ItemReading) (p : Parse) (fs : List WordFault) (t : Verdict) → r.read ≡ 0 → r.words ≡ 0 → IsToldBy p fs t → map (found_at n) (places_left r t) ≡ map (place_in n (unread r)) (faults_at (unread r) p fs)
 begun n r (Fault token code) fs (Syntax at why) read words is = λ i. place_in n (unread r) (record { token = is.0 i; code = codes.Syntax (is.1 i) }) ∷ []
+begun n r (Fault token code) fs (Rule f) read words is = absurd is
 begun n r (Fault token code) fs (Rules ruled) read words is = absurd is
 begun n r Nothing fs (Syntax at why) read words is = absurd is
+begun n r Nothing fs (Rule f) read words is = begun_one n r f fs read words is
 begun n r Nothing fs (Rules ruled) read words is = ap (λ l. map (found_at n) (map (rule_at r) l)) is ∙ begun_each n r fs read words
 begun n r (Def d) fs (Syntax at why) read words is = absurd is
+begun n r (Def d) fs (Rule f) read words is = begun_one n r f fs read words is
 begun n r (Def d) fs (Rules ruled) read words is = ap (λ l. map (found_at n) (map (rule_at r) l)) is ∙ begun_each n r fs read words
 
 -- faults behind a word stay where they are
@@ -154,9 +162,17 @@ none_marked tokens Nothing (f ∷ fs) e = absurd (cc)
 none_marked tokens (Def d) [] e = refl
 none_marked tokens (Def d) (f ∷ fs) e = absurd (cc)
 
+-- an item that is not marked has none
+unmarked : (k : Content) → IsMarked k → is_marked k ≡ false → has_faults (kept_parse k) (rule_faults (found_result (kept_found k))) ≡ false
+unmarked items.Nothing marked none = sym marked ∙ none
+unmarked (items.Fault token code) marked none = sym marked ∙ none
+unmarked (items.Sound body) marked none = sym marked ∙ none
+unmarked (items.OneFault code word body) marked none = absurd (cc)
+unmarked (items.Faulty body) marked none = sym marked ∙ none
+
 pub no_places : (n : ℕ) (tokens : List Lexeme) (e : ItemEntry Content) → IsMarked e.kept → is_marked e.kept ≡ false → item_places n (item_with tokens e) ≡ []
 no_places n tokens e marked none =
-    ap (map (place_in n (take e.tokens tokens))) (none_marked (take e.tokens tokens) (kept_parse e.kept) (rule_faults (found_result (kept_found e.kept))) (sym marked ∙ none))
+    ap (map (place_in n (take e.tokens tokens))) (none_marked (take e.tokens tokens) (kept_parse e.kept) (rule_faults (found_result (kept_found e.kept))) (unmarked e.kept marked none))
 
 pub ordered_rest : (e : ItemEntry Content) (entries es : List (ItemEntry Content)) → entries ≡ e ∷ es → AreOrdered entries → AreOrdered es
 ordered_rest e entries es all ordered k d lt = subst AreOrdered all ordered (suc k) d (omega (arith, lt))

@@ -1,5 +1,5 @@
 -- What was found of items is kept with them, from the last item on.
-use Rattle.std.proofs.Common.{◌≡◌, ℕ, zero, suc, ◌+◌, ◌<◌, List, [], ◌∷◌, ◌++◌, length, take, drop, get_or, Option, None, refl, sym, ap, subst, ◌∙◌, append-nil, append_assoc, arith}
+use Rattle.std.proofs.Common.{◌≡◌, ℕ, zero, suc, ◌+◌, ◌<◌, ◌⊎◌, inl, inr, List, [], ◌∷◌, ◌++◌, length, take, drop, get_or, Option, None, refl, sym, ap, subst, ◌∙◌, append-nil, append_assoc, arith}
 use Rattle.std.specs.Global.{Box}
 use Rattle.std.specs.Prelude.{Some, slice_get, slice_set}
 use Rattle.std.proofs.lemmas.Option.{same_Some}
@@ -8,10 +8,20 @@ use Rattle.x_text.proofs.ListLemmas.{drop_none, some_at}
 use Rattle.x_cutting.specs.ItemList.{byte_counts, counts}
 use Rattle.x_cutting.specs.ItemList as items
 use Rattle.x_cutting.specs.declared.cutting.item_entry.ItemEntry.{ItemEntry}
+use Rattle.x_rules.specs.declared.fault.RuleCode.{RuleCode}
 use Rattle.x_compile.specs.Checking.{AreKnown, IsKnownAt}
 use Rattle.x_compile.specs.KeptView.{AreWith, IsMarked, IsWith, IsWithAt, found_pieces, found_result, kept_definition, kept_found, kept_lines, kept_parse, renewed_pieces}
 use Rattle.x_compile.specs.declared.content.CheckResult.{CheckResult}
 use Rattle.x_compile.specs.declared.content.Content.{Content}
+use Rattle.x_compile.specs.declared.content.Content.TheVariants as contents
+use Rattle.x_compile.specs.declared.content.ItemBody.{ItemBody}
+
+-- what was found of an item stands in its box, whichever variant has it
+pub found_in : (k : Content) (body : Box ItemBody) → (k ≡ contents.Sound body) ⊎ (((code : RuleCode) × (word : ℕ) × (k ≡ contents.OneFault code word body)) ⊎ (k ≡ contents.Faulty body))
+    → kept_found k ≡ body.value.found
+found_in k body (inl is) = ap kept_found is
+found_in k body (inr (inl is)) = ap kept_found is.2
+found_in k body (inr (inr is)) = ap kept_found is
 
 set_seam : {X : Type 0} (front : List X) (x y : X) (rest : List X) (m : ℕ) → m ≡ length front → slice_set (front ++ x ∷ rest) m y ≡ front ++ y ∷ rest
 set_seam [] x y rest m e = ap (λ n. slice_set (x ∷ rest) n y) e

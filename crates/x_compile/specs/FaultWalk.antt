@@ -16,15 +16,16 @@ use Rattle.x_compile.specs.declared.fault.FaultCode.{FaultCode}
 use Rattle.x_compile.specs.declared.fault.FaultCode.TheVariants as codes
 use Rattle.x_compile.specs.declared.content.Content.{Content}
 use Rattle.x_compile.specs.declared.content.Verdict.{Verdict}
-use Rattle.x_compile.specs.declared.content.Verdict.TheVariants.{Syntax, Rules}
+use Rattle.x_compile.specs.declared.content.Verdict.TheVariants.{Syntax, Rule, Rules}
 use Rattle.x_compile.specs.declared.item_faults.ItemFaults.{ItemFaults}
 use Rattle.x_compile.specs.declared.reader.WordPlace.{WordPlace}
 
 -- the faults of an item, by its parse and by the rules
 abbrev pub IsToldBy : Parse → List WordFault → Verdict → Type 0
 IsToldBy (parse.Fault token code) ruled (Syntax at why) = (at ≡ token) × (why ≡ code)
-IsToldBy (parse.Fault token code) ruled (Rules faults) = ⊥
+IsToldBy (parse.Fault token code) ruled told = ⊥
 IsToldBy p ruled (Syntax at why) = ⊥
+IsToldBy p ruled (Rule fault) = ruled ≡ fault ∷ []
 IsToldBy p ruled (Rules faults) = faults.now ≡ ruled
 
 -- a fault of an item at a place
@@ -38,6 +39,7 @@ rule_at r f = (place_of r f.word, codes.Rule f.code)
 -- the faults of an item that are left, at their places
 abbrev pub places_left : ItemReading → Verdict → List (WordPlace × FaultCode)
 places_left r (Syntax at why) = (record { token = at; start = start_of (unread r) at }, codes.Syntax why) ∷ []
+places_left r (Rule fault) = rule_at r fault ∷ []
 places_left r (Rules faults) = map (rule_at r) faults.now
 
 -- the faults of an item that are left
@@ -51,6 +53,7 @@ IsOnward r (f ∷ fs) = (r.words ≤ f.word + 1) × Ascends (f ∷ fs)
 
 abbrev pub TellsOn : ItemReading → Verdict → Type 0
 TellsOn r (Syntax at why) = Unit {0}
+TellsOn r (Rule fault) = IsOnward r (fault ∷ [])
 TellsOn r (Rules faults) = IsOnward r faults.now
 
 abbrev pub IsTelling : ItemFaults → Type 0
@@ -61,7 +64,7 @@ abbrev pub AreOrdered : List (ItemEntry Content) → Type 0
 AreOrdered entries = All (λ e. Ascends (rule_faults (found_result (kept_found e.kept)))) entries
 
 -- Items one behind another, which have the first of these tokens: it is said of each how many bytes these
--- have, and whether it has faults.
+-- have, whether it has faults, and which one if that is said.
 abbrev pub ArePassed : List Lexeme → List (ItemEntry Content) → Type 0
 ArePassed tokens [] = Unit {0}
 ArePassed tokens (e ∷ es) = (e.tokens ≤ length tokens)

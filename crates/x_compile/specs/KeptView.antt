@@ -42,16 +42,19 @@ abbrev pub kept_parse : Content → parse.Parse
 kept_parse items.Nothing = parse.Nothing
 kept_parse (items.Fault token code) = parse.Fault token code
 kept_parse (items.Sound body) = view_parse body.value.parse
+kept_parse (items.OneFault code word body) = view_parse body.value.parse
 kept_parse (items.Faulty body) = view_parse body.value.parse
 
 -- the lines that pass through
 abbrev pub kept_lines : Content → List ℕ
 kept_lines (items.Sound body) = body.value.lines.items
+kept_lines (items.OneFault code word body) = body.value.lines.items
 kept_lines (items.Faulty body) = body.value.lines.items
 kept_lines k = []
 
 abbrev pub kept_found : Content → Option (Box CheckResult)
 kept_found (items.Sound body) = body.value.found
+kept_found (items.OneFault code word body) = body.value.found
 kept_found (items.Faulty body) = body.value.found
 kept_found k = None
 
@@ -60,6 +63,7 @@ abbrev pub is_marked : Content → Bool
 is_marked items.Nothing = false
 is_marked (items.Fault token code) = true
 is_marked (items.Sound body) = false
+is_marked (items.OneFault code word body) = true
 is_marked (items.Faulty body) = true
 
 -- an item that parses so has faults, where these are by the rules
@@ -68,8 +72,15 @@ has_faults (parse.Fault token code) ruled = true
 has_faults p [] = false
 has_faults p (f ∷ fs) = true
 
--- that is kept where the item has faults, and nowhere else
+-- an item that parses so has this fault alone, where these are by the rules
+abbrev pub HasOnly : WordFault → parse.Parse → List WordFault → Type 0
+HasOnly fault (parse.Fault token code) ruled = ⊥
+HasOnly fault p ruled = ruled ≡ fault ∷ []
+
+-- that is kept where the item has faults, and nowhere else; and a fault that stands beside its box is all
 abbrev pub IsMarked : Content → Type 0
+IsMarked (items.OneFault code word body) = HasOnly (record { word = word; code = code })
+    (view_parse body.value.parse) (rule_faults (found_result body.value.found))
 IsMarked k = is_marked k ≡ has_faults (kept_parse k) (rule_faults (found_result (kept_found k)))
 
 -- the definition of an item

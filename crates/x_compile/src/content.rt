@@ -12,8 +12,8 @@ ghost use Rattle.x_compile.specs.Counting.{faults_with};
 ghost use Rattle.x_compile.specs.FaultWalk.{IsToldBy};
 ghost use Rattle.x_compile.specs.Generated.{lines_of};
 ghost use Rattle.x_compile.specs.KeptView.{IsItem, IsMarked, byte_count, found_pieces, found_result};
-ghost use Rattle.x_compile.specs.KeptView.{has_faults, is_marked, kept_definition, kept_found, kept_lines};
-ghost use Rattle.x_compile.specs.KeptView.{kept_parse, renewed_pieces, view_parse};
+ghost use Rattle.x_compile.specs.KeptView.{is_marked, kept_definition, kept_found, kept_lines, kept_parse};
+ghost use Rattle.x_compile.specs.KeptView.{renewed_pieces, view_parse};
 
 use crate::lines::lines_of;
 use std::alloc::Global;
@@ -21,7 +21,7 @@ use std::mem;
 use x_gen::Pieces;
 use x_item::{Definition, FaultCode, ItemEntry, Parsed, parse_item};
 use x_lex::Token;
-use x_rules::{Checked, WordFault};
+use x_rules::{Checked, RuleCode, WordFault};
 use x_text::{Meter, NoMemory};
 
 /// What an item parses to.
@@ -80,8 +80,8 @@ impl Drop for ItemBody {
 /// What is kept with an item, in few bytes where it has neither a definition nor lines: a text may be 16
 /// million `;`.
 ///
-/// That it has faults stands here and not in its box: boxes lie far apart, and who goes over the items for
-/// their faults opens those of faulty ones alone.
+/// That it has faults stands here and not in its box, and a single one by the rules stands here too: boxes
+/// lie far apart, and most items that have faults have one, so who goes over them opens few.
 #[derive(Drop)]
 pub enum Content {
     /// It has neither words nor lines.
@@ -95,7 +95,16 @@ pub enum Content {
     },
     /// It has a definition or lines, and no fault.
     Sound(Box<ItemBody>),
-    /// It has a definition or lines, and faults.
+    /// It has a definition that breaks one rule, as its box says too.
+    OneFault {
+        /// The rule that it breaks.
+        code: RuleCode,
+        /// The word that breaks it, counted as in [`WordFault`].
+        word: u32,
+        /// The same as of other items.
+        body: Box<ItemBody>,
+    },
+    /// It has a definition or lines, and other faults than a single one by the rules.
     Faulty(Box<ItemBody>),
 }
 
@@ -117,6 +126,8 @@ pub enum Verdict<'k> {
         /// What is wrong.
         code: FaultCode,
     },
+    /// Its definition breaks this one rule.
+    Rule(WordFault),
     /// Its definition breaks these rules, at its words.
     Rules(&'k [WordFault]),
 }
@@ -189,17 +200,27 @@ impl Content {
         Ok(Content::marked(Box::new(alloc, body)?))
     }
 
-    /// This, with what stands in it said of it: whether the item has faults.
+    /// This, with what stands in it said of it: whether the item has faults, and which one if that is all.
     fn marked(body: Box<ItemBody>) -> Content
         ensures parse { kept_parse result ≡ view_parse body.value.parse }
         ensures lines { kept_lines result ≡ body.value.lines.items }
         ensures found { kept_found result ≡ body.value.found }
         ensures marked { IsMarked result }
     {
-        if has_faults(&body.parse, &body.found) {
-            Content::Faulty(body)
-        } else {
-            Content::Sound(body)
+        if matches!(body.parse, Parse::Fault { .. }) {
+            return Content::Faulty(body);
+        }
+        match faults_of(&body.found) {
+            [] => Content::Sound(body),
+            [fault] => {
+                let code = fault.code;
+                match u32::try_from(fault.word) {
+                    Ok(word) => Content::OneFault { code, word, body },
+                    // There is no room for it beside the box.
+                    Err(_) => Content::Faulty(body),
+                }
+            }
+            _ => Content::Faulty(body),
         }
     }
 
@@ -207,7 +228,10 @@ impl Content {
     pub(crate) fn is_faulty(&self) -> bool
         ensures { result ≡ is_marked self.now }
     {
-        matches!(self, Content::Fault { .. } | Content::Faulty(_))
+        matches!(
+            self,
+            Content::Fault { .. } | Content::OneFault { .. } | Content::Faulty(_)
+        )
     }
 
     /// The definition of the item, if it has one.
@@ -215,10 +239,11 @@ impl Content {
         ensures { tree_at result ≡ kept_definition self.now }
     {
         match self {
-            Content::Sound(body) | Content::Faulty(body) => match &body.parse {
-                Parse::Def(definition) => Some(definition),
-                _ => None,
-            },
+            Content::Sound(body) | Content::OneFault { body, .. } | Content::Faulty(body) =>
+                match &body.parse {
+                    Parse::Def(definition) => Some(definition),
+                    _ => None,
+                },
             _ => None,
         }
     }
@@ -228,7 +253,8 @@ impl Content {
         ensures { result.now ≡ kept_lines self.now }
     {
         match self {
-            Content::Sound(body) | Content::Faulty(body) => &body.lines,
+            Content::Sound(body) | Content::OneFault { body, .. } | Content::Faulty(body) =>
+                &body.lines,
             _ => &[],
         }
     }
@@ -238,13 +264,16 @@ impl Content {
         ensures { option_copied result ≡ found_pieces (kept_found self.now) }
     {
         match self {
-            Content::Sound(body) | Content::Faulty(body) => body.found.as_ref()?.pieces.as_ref(),
+            Content::Sound(body) | Content::OneFault { body, .. } | Content::Faulty(body) => {
+                body.found.as_ref()?.pieces.as_ref()
+            }
             _ => None,
         }
     }
 
-    /// The faults of the item.
-    pub fn told(&self) -> Verdict<'_>
+    /// The faults of the item. Where it has one by the rules alone, its box stays closed.
+    pub(crate) fn told(&self) -> Verdict<'_>
+        requires { IsMarked self.now }
         ensures { IsToldBy (kept_parse self.now) (rule_faults (found_result (kept_found self.now))) result }
     {
         match self {
@@ -253,6 +282,10 @@ impl Content {
                 token: *token,
                 code: *code,
             },
+            Content::OneFault { code, word, .. } => Verdict::Rule(WordFault {
+                word: *word as usize,
+                code: *code,
+            }),
             Content::Sound(body) | Content::Faulty(body) => match body.parse {
                 Parse::Fault { token, code } => Verdict::Syntax { token, code },
                 _ => Verdict::Rules(faults_of(&body.found)),
@@ -265,7 +298,9 @@ impl Content {
         ensures { lent_outcome result ≡ found_result (kept_found self.now) }
     {
         match self {
-            Content::Sound(body) | Content::Faulty(body) => Some(&body.found.as_ref()?.checked),
+            Content::Sound(body) | Content::OneFault { body, .. } | Content::Faulty(body) => {
+                Some(&body.found.as_ref()?.checked)
+            }
             _ => None,
         }
     }
@@ -274,9 +309,14 @@ impl Content {
     pub fn fault_count(&self, ruled: &[WordFault]) -> usize
         ensures { result ≡ length (faults_at [] (kept_parse self.now) ruled.now) }
     {
-        match self.told() {
-            Verdict::Syntax { .. } => 1,
-            Verdict::Rules(_) => ruled.len(),
+        match self {
+            Content::Nothing => ruled.len(),
+            Content::Fault { .. } => 1,
+            Content::Sound(body) | Content::OneFault { body, .. } | Content::Faulty(body) =>
+                match body.parse {
+                    Parse::Fault { .. } => 1,
+                    _ => ruled.len(),
+                },
         }
     }
 
@@ -285,9 +325,9 @@ impl Content {
         ensures { result ≡ faults_with self.now (kept_found self.now) }
     {
         match self {
-            Content::Sound(body) | Content::Faulty(body) => self.fault_count(faults_of(
-                &body.found,
-            )),
+            Content::Sound(body) | Content::OneFault { body, .. } | Content::Faulty(body) => {
+                self.fault_count(faults_of(&body.found))
+            }
             _ => self.fault_count(&[]),
         }
     }
@@ -304,7 +344,9 @@ impl Content {
         ensures marked { IsMarked self.old → IsMarked self.new }
     {
         *self = match mem::replace(self, Content::Nothing) {
-            Content::Sound(mut body) | Content::Faulty(mut body) => {
+            Content::Sound(mut body)
+            | Content::OneFault { mut body, .. }
+            | Content::Faulty(mut body) => {
                 let old = body.found.take();
                 body.found = renewed(old, found);
                 Content::marked(body)
@@ -324,16 +366,6 @@ pub fn byte_count(tokens: &[Token]) -> u32
         count = count.saturating_add(token.text.len());
     }
     count as u32
-}
-
-/// Whether an item has faults that parses so, and of whose definition this was found.
-fn has_faults(parse: &Parse, found: &Option<Box<CheckResult>>) -> bool
-    ensures { result ≡ has_faults (view_parse parse.now) (rule_faults (found_result found.now)) }
-{
-    match parse {
-        Parse::Fault { .. } => true,
-        _ => !faults_of(found).is_empty(),
-    }
 }
 
 /// What was found anew, with the pieces of what was found before where those stay.

@@ -5,7 +5,7 @@ ghost use Rattle.x_rules.specs.Rules.{Ascends};
 ghost use Rattle.x_text.specs.declared.text.source.TheConstants.{MAX_TEXT};
 ghost use Rattle.x_compile.specs.Compile.{item_places, rule_faults};
 ghost use Rattle.x_compile.specs.FaultWalk.{IsTelling, faults_here, places_left};
-ghost use Rattle.x_compile.specs.KeptView.{found_result, item_with, kept_found};
+ghost use Rattle.x_compile.specs.KeptView.{IsMarked, found_result, item_with, kept_found};
 
 use crate::content::{Content, Verdict};
 use crate::fault::FaultCode;
@@ -40,6 +40,7 @@ impl<'s> ItemFaults<'s> {
     pub fn of(number: u32, entry: &'s ItemEntry<Content>, walk: TokenIter<'s>) -> ItemFaults<'s>
         requires small { length walk ≤ MAX_TEXT }
         requires ascends { Ascends (rule_faults (found_result (kept_found entry.now.kept))) }
+        requires marked { IsMarked entry.now.kept }
         ensures faults { faults_here result ≡ item_places number (item_with walk.entry entry.now) }
         ensures telling { IsTelling result }
     {
@@ -55,7 +56,7 @@ impl<'s> ItemFaults<'s> {
         ensures { IsTrue result ↔ (places_left self.now.reader self.now.told ≡ []) }
     {
         match self.told {
-            Verdict::Syntax { .. } => false,
+            Verdict::Syntax { .. } | Verdict::Rule(_) => false,
             Verdict::Rules(faults) => faults.is_empty(),
         }
     }
@@ -74,6 +75,10 @@ impl<'s> ItemFaults<'s> {
                 self.told = Verdict::Rules(&[]);
                 let start = self.reader.start_of(token as usize);
                 Some((WordPlace { token, start }, FaultCode::Syntax(code)))
+            }
+            Verdict::Rule(fault) => {
+                self.told = Verdict::Rules(&[]);
+                Some((self.reader.seek(fault.word), FaultCode::Rule(fault.code)))
             }
             Verdict::Rules(faults) => {
                 let (fault, others) = faults.split_first()?;

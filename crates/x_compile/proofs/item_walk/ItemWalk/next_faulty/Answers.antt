@@ -21,6 +21,11 @@ overflow_add-self-in-items c =
     let small = c.items.invariant.small in
     omega (arith, within, small)
 
+pub of-requires-clause-marked : goal.of-requires-clause-marked
+of-requires-clause-marked c =
+    let before = c.items.self-inside in
+    (subst (ArePassed (drop before.token (lexemes before.source.now before.tokens.now.list))) c.in_ok-entry.ensures.steps c.items.invariant.stand.passed).2
+
 pub invariant_of-self-then-is_faulty : goal.invariant_of-self-then-is_faulty
 invariant_of-self-then-is_faulty c =
     let before = c.items.self-inside in
