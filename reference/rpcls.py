@@ -2,7 +2,7 @@
 characters, and is compiled anew by rpclang.py.
 
 Nothing is said here in sentences: of what is told to the user, and of errors, the kind and the number stand
-alone.
+alone, and of what is wrong with a word that word too.
 """
 import bisect
 import functools
@@ -77,11 +77,27 @@ def changed(text, change, encoding):
 compiled = functools.lru_cache(rpclang.KEPT_TEXTS)(rpclang.Compilation)
 
 
+# What a sentence has in quotes where that is no word of the text.
+QUOTED = {"OpenComment": "*/", "Directive": ""}
+
+
+def quoted_word(name, token):
+    """What the sentence of a fault at a token has in quotes."""
+    try:
+        return QUOTED.get(name, token.text.decode())
+    except UnicodeDecodeError:
+        return "?"
+
+
+def diagnostic(lines, fault, token):
+    name = rpclang.CODE_NAMES[fault.code]
+    return {"code": fault.code, "message": f"{fault.code} {name}: {quoted_word(name, token)}", "severity": 1,
+            "source": "rpcgen", "range": lines.range(token)}
+
+
 def diagnostics(lines):
     compilation = compiled(lines.bytes)
-    return [{"code": fault.code, "message": f"{fault.code} {rpclang.CODE_NAMES[fault.code]}", "severity": 1,
-             "source": "rpcgen", "range": lines.range(compilation.items[fault.item][fault.token])}
-            for fault in compilation.faults]
+    return [diagnostic(lines, fault, compilation.items[fault.item][fault.token]) for fault in compilation.faults]
 
 
 def names_of(compilation):
@@ -203,13 +219,17 @@ class Server:
         return [{"uri": uri, "range": lines.range(token)} for token in tokens]
 
 
+QUOTE = "'"
+
+
 def without_sentences(said):
-    """What a server said, as it is said here."""
+    """What a server said, as it is said here: of a sentence the word that it has in quotes."""
     params = said.get("params", {})
     if "error" in said:
         said["error"]["message"] = ""
     if said.get("method") == "window/showMessage":
         params["message"] = ""
-    for diagnostic in params.get("diagnostics", []):
-        diagnostic["message"] = diagnostic["message"].partition(":")[0]
+    for published in params.get("diagnostics", []):
+        name, _, sentence = published["message"].partition(": ")
+        published["message"] = f"{name}: {sentence.partition(QUOTE)[2].rpartition(QUOTE)[0]}"
     return said

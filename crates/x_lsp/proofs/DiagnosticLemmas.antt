@@ -1,8 +1,9 @@
 -- What is published of faults.
-use Rattle.std.proofs.Common.{◌≡◌, ℕ, Option, None, Some, length, take, get_or, arith, ne_eqb, eq-eqb, List, [], ◌∷◌, ◌++◌, map, refl, sym, subst, ap, ◌∙◌}
+use Rattle.std.proofs.Common.{◌≡◌, ℕ, Option, None, Some, length, take, drop, get_or, arith, ne_eqb, eq-eqb, List, [], ◌∷◌, ◌++◌, map, refl, sym, subst, ap, ◌∙◌}
 use Rattle.std.specs.Prelude.{◌==◌}
 use Rattle.std.specs.List.{before_first}
-use Rattle.std.proofs.lemmas.List.{take_all}
+use Rattle.std.proofs.lemmas.List.{take_all, take-append-drop}
+use Rattle.std.proofs.Math.Seq.{take-append_seam}
 use Rattle.std.proofs.lemmas.List.Sums.{position_or_len_is}
 use Rattle.memchr.specs.Find.{IsFirstByte, is_byte}
 use Rattle.x_lines.proofs.Parting.{first_is}
@@ -32,6 +33,13 @@ pub all_diagnostics : (c : Client) (uri text : List ℕ) (told all : List FaultP
 all_diagnostics c uri text told all ds same faults are =
     let one : faults.1 ≡ are.1 = (one_compilation text faults.0 are.0 faults.1 are.1 faults.2 are.2).1 in
     (are.0, are.1, are.2, subst (λ fs. AreDiagnostics c uri text are.1 fs ds) (same ∙ faults.3 ∙ ap places_of one) are.3)
+
+-- a text that begins so, and what stands behind that
+pub begins : (p s t : List ℕ) → t ≡ p ++ s → take (length p) t ≡ p
+begins p s t is = ap (take (length p)) is ∙ take-append_seam p s
+
+pub begun_so : (p t : List ℕ) → take (length p) t ≡ p → t ≡ p ++ drop (length p) t
+begun_so p t is = sym (take-append-drop (length p) t) ∙ ap (λ l. l ++ drop (length p) t) is
 
 -- the bytes before a place, or all
 abbrev pub front_of : Option ℕ → List ℕ → List ℕ

@@ -30,10 +30,11 @@ abbrev pub IsWaymark : Encoding → List ℕ → Waymark → Type 0
 IsWaymark encoding text mark =
     IsAt encoding text mark.at (record { line = mark.line; character = mark.character })
 
--- these are waymarks of the text
+-- these are waymarks of the text, those of faults among them
 pub record AreWaymarks (text : List ℕ) (marks : Waymarks) : Type 0 where
   pub small : length text ≤ most_text
   pub marked : All (IsWaymark marks.encoding text) marks.list.items
+  pub faults : All (IsWaymark marks.encoding text) marks.faults.items
 
 -- the edit leaves this text of one whose waymarks these are
 pub record IsLeft (encoding : Encoding) (marks : List Waymark) (edit : Edit) (text : List ℕ) : Type 0 where

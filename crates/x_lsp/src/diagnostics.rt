@@ -17,38 +17,41 @@ ghost use Rattle.x_lsp.specs.Waymarks.{AreWaymarks};
 use crate::answers::note;
 use crate::changes::Range;
 use crate::client::Client;
-use crate::head::number;
+use crate::fault_messages::FaultMessages;
+use crate::marking::Marker;
 use crate::other_places::OtherPlaces;
 use crate::positions::Position;
 use crate::published::{Diagnostic, Place, published_text};
-use crate::sentences::add_sentence;
 use crate::token_end::token_end;
 use crate::waymarks::Waymarks;
-use memchr::memchr;
 use serde_json::{Value, json};
 use std::alloc::{AllocError, Global};
-use std::str;
-use x_session::{FaultCode, Session};
+use x_session::Session;
 use x_text::NoMemory;
 
-/// How much room is made at once for what stands around the word of a message.
-const FRAME: usize = 64;
-
-/// The note that publishes the faults of a document's text, by waymarks of it.
+/// The note that publishes the faults of a document's text, by waymarks of it and by the messages of those that
+/// were published before. Keeps these faults among the waymarks, and their messages.
 pub fn publish(
     alloc: Global,
     client: Client,
     uri: &str,
     version: i64,
     session: &Session,
-    marks: &Waymarks,
+    marks: &mut Waymarks,
+    messages: &mut FaultMessages,
 ) -> Result<Vec<u8>, NoMemory>
-    requires marks { AreWaymarks session.now.text marks.now }
-    requires encoding { marks.now.encoding ≡ client.encoding }
-    ensures { IfOk result (λ said. IsPublished client uri.now version session.now.text said.items) }
+    requires marks { AreWaymarks session.now.text marks.old }
+    requires encoding { marks.old.encoding ≡ client.encoding }
+    ensures said { IfOk result (λ said. IsPublished client uri.now version session.now.text said.items) }
+    ensures marks { AreWaymarks session.now.text marks.new }
+    ensures encoding { marks.new.encoding ≡ marks.old.encoding }
 {
-    let list = diagnostics(alloc, client, uri, session, marks)?;
-    Ok(published_text(alloc, uri, version, list)?)
+    let mut marker = Marker::at_start(alloc, marks.encoding, session.bytes());
+    let list = diagnostics(alloc, client, uri, session, marks, &mut marker, messages)?;
+    let (said, list) = published_text(alloc, uri, version, list)?;
+    messages.keep(list);
+    marks.keep_faults(marker.list);
+    Ok(said)
 }
 
 /// The note that publishes that nothing is wrong with a document which was closed.
@@ -59,17 +62,23 @@ pub(crate) fn closing_note(alloc: Global, uri: &str) -> Result<Vec<u8>, AllocErr
     note(alloc, "textDocument/publishDiagnostics", params)
 }
 
-/// The diagnostics of a text.
+/// The diagnostics of a text. Marks where its faults stand.
 fn diagnostics<'d>(
     alloc: Global,
     client: Client,
     uri: &'d str,
     session: &Session,
     marks: &Waymarks,
+    marker: &mut Marker,
+    messages: &mut FaultMessages,
 ) -> Result<Vec<Diagnostic<'d>>, NoMemory>
     requires marks { AreWaymarks session.now.text marks.now }
     requires encoding { marks.now.encoding ≡ client.encoding }
-    ensures { IfOk result (λ list. Compiles session.now.text (λ items.
+    requires marker_text { marker.old.text.now ≡ session.now.text }
+    requires marker_encoding { marker.old.encoding ≡ client.encoding }
+    ensures text { marker.new.text.now ≡ session.now.text }
+    ensures counted { marker.new.encoding ≡ client.encoding }
+    ensures diagnostics { IfOk result (λ list. Compiles session.now.text (λ items.
         AreDiagnostics client uri.now session.now.text items (places_of items)
         (map data_of list.items))) }
 {
@@ -80,11 +89,16 @@ fn diagnostics<'d>(
         let start = fault.start;
         let end = token_end(text, start);
         let range = marks.range(text, start, end);
+        marker.mark_place(start, range.start)?;
         let word = word_at(text, start, end);
-        let code = fault.code;
-        let other = others.range(alloc, code, word, start)?;
+        let other = others.range(alloc, fault.code, word, start)?;
         let related = place_of(uri, other);
-        list.push(diagnostic(alloc, code, range, word, related)?)?;
+        let message = messages.next(alloc, fault.code, word)?;
+        list.push(Diagnostic {
+            message,
+            range,
+            related,
+        })?;
     }
     Ok(list)
 }
@@ -108,56 +122,6 @@ fn place_of(uri: &str, range: Option<Range>) -> Option<Place<'_>>
     match range {
         Some(range) => Some(Place { uri, range }),
         None => None,
-    }
-}
-
-/// The diagnostic of a fault at a word.
-fn diagnostic<'d>(
-    alloc: Global,
-    code: FaultCode,
-    range: Range,
-    word: &[u8],
-    related: Option<Place<'d>>,
-) -> Result<Diagnostic<'d>, AllocError>
-    ensures { IfOk result (λ d. (sentence : List ℕ) × (data_of d
-        ≡ diagnostic_data (fault_number code) (range_data range.start range.end)
-        (fault_text code ++ codes ": " ++ sentence) (option_map place_data related.entry))) }
-{
-    Ok(Diagnostic {
-        number: fault_number(code),
-        message: message(alloc, code, str::from_utf8(word).unwrap_or("?"))?,
-        range,
-        related,
-    })
-}
-
-/// The name of a fault, and a sentence that tells it of a word.
-fn message(alloc: Global, code: FaultCode, word: &str) -> Result<String, AllocError>
-    ensures { IfOk result (λ s. (sentence : List ℕ)
-        × (string_bytes s ≡ fault_text code ++ codes ": " ++ sentence)) }
-{
-    let mut text = String::with_capacity(alloc, FRAME.saturating_add(word.len()))?;
-    text.push_str(code.text())?;
-    text.push_str(": ")?;
-    add_sentence(&mut text, code, word)?;
-    Ok(text)
-}
-
-/// The number of a fault, which its text begins with.
-fn fault_number(code: FaultCode) -> usize
-    ensures { result ≡ fault_number code }
-{
-    number(first_word(code.text().as_bytes())).unwrap_or(0)
-}
-
-/// The bytes before the first space.
-#[tactic(auto, using(crate::proofs::DiagnosticLemmas::word_found))]
-fn first_word(text: &[u8]) -> &[u8]
-    ensures { result.now ≡ before_first (λ b. b == 32) text.now }
-{
-    match memchr(b' ', text) {
-        Some(at) => &text[..at],
-        None => text,
     }
 }
 

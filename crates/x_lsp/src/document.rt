@@ -11,6 +11,7 @@ use crate::base::base_of;
 use crate::changes::{TextChange, apply_change};
 use crate::client::Client;
 use crate::diagnostics::publish;
+use crate::fault_messages::FaultMessages;
 use crate::kept::{ChangeFault, Reply, told};
 use crate::positions::Position;
 use crate::waymarks::Waymarks;
@@ -26,6 +27,8 @@ pub(crate) struct OpenDocument {
     pub(crate) session: Session,
     /// Places of the text near which others are found.
     marks: Waymarks,
+    /// What was said of its faults last.
+    messages: FaultMessages,
     /// Whether the text is the client's: no change was refused since it was sent whole.
     in_step: bool,
     ghost marked: { AreWaymarks session.text marks },
@@ -59,6 +62,7 @@ impl OpenDocument {
             client,
             session,
             marks,
+            messages: FaultMessages::new(alloc),
             in_step: true,
         })
     }
@@ -89,9 +93,9 @@ impl OpenDocument {
     }
 
     /// What publishes what is wrong with the text.
-    pub(crate) fn publish(&self, alloc: Global) -> Reply
-        ensures { Publishes self.now.client (string_bytes self.now.uri) self.now.version self.now.session.text
-            (said_of result) }
+    pub(crate) fn publish(&mut self, alloc: Global) -> Reply
+        ensures { Publishes self.old.client (string_bytes self.old.uri) self.old.version
+            self.old.session.text (said_of result) }
     {
         match publish(
             alloc,
@@ -99,7 +103,8 @@ impl OpenDocument {
             self.uri.as_str(),
             self.version,
             &self.session,
-            &self.marks,
+            &mut self.marks,
+            &mut self.messages,
         ) {
             Ok(text) => Reply::Text(text),
             Err(_) => Reply::NoMemoryNote,

@@ -3,11 +3,12 @@
 ghost use Rattle.std.specs.Prelude.{◌≡◌, ◌≤◌, ◌<◌, ℕ, All, IfOk, IfSome, OnOk, List, length};
 ghost use Rattle.x_text.specs.Limits.{most_text};
 ghost use Rattle.x_lsp.specs.declared.encoding.Encoding.{Encoding};
+ghost use Rattle.x_lsp.specs.Positions.{position_of};
 ghost use Rattle.x_lsp.specs.Waymarks.{HasMoved, IsAt, IsLeft, IsWaymark};
 
 use crate::encoding::Encoding;
 use crate::positions::Position;
-use crate::spots::{START, Spot, position_from};
+use crate::spots::{START, Spot, spot_from};
 use crate::waymarks::Waymark;
 use std::alloc::{AllocError, Global};
 use x_text::Edit;
@@ -20,10 +21,10 @@ const NEAR: usize = APART / 4;
 
 /// Marks places of a text, one behind another.
 #[derive(Drop)]
-struct Marker<'t> {
+pub(crate) struct Marker<'t> {
     encoding: Encoding,
     text: &'t [u8],
-    list: Vec<Waymark>,
+    pub(crate) list: Vec<Waymark>,
     /// The spot from which this goes on.
     last: Spot,
     ghost small: { length text.now ≤ most_text },
@@ -72,6 +73,44 @@ pub(crate) fn marked_behind(
     Ok(marker.list)
 }
 
+/// What is left of marks once an edit left this text: those before the edit, and what those behind it have
+/// become. Where the first of these stands is found by other marks of the text.
+pub(crate) fn kept_behind(
+    alloc: Global,
+    encoding: Encoding,
+    marks: &[Waymark],
+    text: &[u8],
+    edit: &Edit,
+    others: &[Waymark],
+) -> Result<Vec<Waymark>, AllocError>
+    requires small { length text.now ≤ most_text }
+    requires left { IsLeft encoding marks.now edit.now text.now }
+    requires others { All (IsWaymark encoding text.now) others.now }
+    ensures { IfOk result (λ list. All (IsWaymark encoding text.now) list.items) }
+{
+    let mut marker = Marker::at_start(alloc, encoding, text);
+    marker.keep_before(marks, edit.start)?;
+    if let Some((from, rest)) = marks_from(marks, edit.end) {
+        let at = edit.start + edit.insert.len() + (from.at - edit.end);
+        marker.last = spot_from(encoding, text, last_before(others, at), at);
+        marker.mark_moved(rest, from)?;
+    }
+    Ok(marker.list)
+}
+
+/// The last spot that is marked at a place or before it; else the start of the text.
+pub(crate) fn last_before(marks: &[Waymark], at: usize) -> Spot
+    ensures spot { (e : Encoding) → (text : List ℕ) → All (IsWaymark e text) marks.now
+        → IsAt e text result.at result.position }
+    ensures before { result.at ≤ at }
+{
+    let count = marks.partition_point(|mark| mark.at as usize <= at);
+    match count.checked_sub(1) {
+        Some(last) if last < marks.len() && marks[last].at as usize <= at => marks[last].spot(),
+        _ => START,
+    }
+}
+
 /// The spot of the first mark at a place or behind it, with the marks from that one on.
 fn marks_from(marks: &[Waymark], at: usize) -> Option<(Spot, &[Waymark])>
     ensures { IfSome result (λ found. (at ≤ found.0.at) × ((e : Encoding) → (text : List ℕ)
@@ -95,7 +134,7 @@ fn marks_from(marks: &[Waymark], at: usize) -> Option<(Spot, &[Waymark])>
 
 impl<'t> Marker<'t> {
     /// A marker at the start of a text.
-    fn at_start(alloc: Global, encoding: Encoding, text: &'t [u8]) -> Marker<'t>
+    pub(crate) fn at_start(alloc: Global, encoding: Encoding, text: &'t [u8]) -> Marker<'t>
         requires { length text.now ≤ most_text }
         ensures text { result.text.now ≡ text.now }
         ensures encoding { result.encoding ≡ encoding }
@@ -107,6 +146,18 @@ impl<'t> Marker<'t> {
             list: Vec::new(alloc),
             last: START,
         }
+    }
+
+    /// Marks a place that has this position, if it is one of the text.
+    pub(crate) fn mark_place(&mut self, at: usize, position: Position) -> Result<(), AllocError>
+        requires { position ≡ position_of self.old.encoding self.old.text.now at }
+        ensures text { self.new.text.now ≡ self.old.text.now }
+        ensures encoding { self.new.encoding ≡ self.old.encoding }
+    {
+        if at > self.text.len() {
+            return Ok(());
+        }
+        self.mark(Spot { at, position })
     }
 
     /// Marks a spot, from which this goes on.
@@ -164,10 +215,7 @@ impl<'t> Marker<'t> {
         ensures at { result.at ≡ at }
         ensures spot { IsAt self.now.encoding self.now.text.now at result.position }
     {
-        Spot {
-            at,
-            position: position_from(self.encoding, self.text, self.last, at),
-        }
+        spot_from(self.encoding, self.text, self.last, at)
     }
 
     /// Marks what marks from a spot on have become that stands at the last spot now.

@@ -11,6 +11,7 @@ ghost use Rattle.x_lsp.specs.Diagnostics.{rest_members};
 ghost use Rattle.x_lsp.specs.Published.{data_of, place_data};
 
 use crate::changes::Range;
+use crate::fault_messages::FaultMessage;
 use crate::positions::Position;
 use serde::{Described, Serialize, Serializer};
 use serde_json::Value;
@@ -29,8 +30,7 @@ pub(crate) struct Place<'d> {
 /// What is published of a fault.
 #[derive(Drop)]
 pub(crate) struct Diagnostic<'d> {
-    pub(crate) number: usize,
-    pub(crate) message: String,
+    pub(crate) message: FaultMessage,
     pub(crate) range: Range,
     /// Another place that matters.
     pub(crate) related: Option<Place<'d>>,
@@ -47,9 +47,9 @@ impl<'d> Serialize for Diagnostic<'d> {
     fn serialize<S: Serializer>(&self, out: &mut S) -> Result<(), S::Error> {
         out.begin_map(Some(member_count(&self.related)))?;
         out.key("code")?;
-        out.u64(self.number as u64)?;
+        out.u64(self.message.number as u64)?;
         out.key("message")?;
-        out.str(self.message.as_str())?;
+        out.str(self.message.text.as_str())?;
         out.key("range")?;
         write_range(out, &self.range)?;
         write_rest(out, &self.related)
@@ -174,15 +174,15 @@ impl<'d> Serialize for Publication<'d> {
     }
 }
 
-/// The text of the note that publishes diagnostics of a version of a document.
-pub(crate) fn published_text(
+/// The text of the note that publishes diagnostics of a version of a document, and these diagnostics.
+pub(crate) fn published_text<'d>(
     alloc: Global,
-    uri: &str,
+    uri: &'d str,
     version: i64,
-    list: Vec<Diagnostic>,
-) -> Result<Vec<u8>, AllocError>
-    ensures { IfOk result
-        (λ said. said.items ≡ compact_text (published_data uri.now version (map data_of list.entry.items))) }
+    list: Vec<Diagnostic<'d>>,
+) -> Result<(Vec<u8>, Vec<Diagnostic<'d>>), AllocError>
+    ensures { IfOk result (λ said. said.0.items
+        ≡ compact_text (published_data uri.now version (map data_of list.entry.items))) }
 {
     let publication = Publication {
         uri,
@@ -190,7 +190,7 @@ pub(crate) fn published_text(
         list,
     };
     match serde_json::to_vec(alloc, &publication) {
-        Ok(text) => Ok(text),
+        Ok(text) => Ok((text, publication.list)),
         Err(_) => Err(AllocError),
     }
 }

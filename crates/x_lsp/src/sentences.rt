@@ -1,26 +1,15 @@
 //! What is wrong with a word, in a sentence.
 
-ghost use Rattle.std.specs.Prelude.{◌≡◌, ◌++◌, ℕ, List, OnOk, string_bytes};
-
-use std::alloc::AllocError;
 use x_item::FaultCode as ItemCode;
 use x_session::{FaultCode, RuleCode};
 
-/// Adds what is wrong with a word, in a sentence.
-pub(crate) fn add_sentence(text: &mut String, code: FaultCode, word: &str) -> Result<(), AllocError>
-    ensures { OnOk result
-        ((sentence : List ℕ) × (string_bytes text.new ≡ string_bytes text.old ++ sentence)) }
-{
-    let (front, rear) = match code {
+/// What is wrong with a word, in a sentence: what stands before the word, and what stands behind it, unless it
+/// is not shown.
+pub(crate) fn sentence_of(code: FaultCode) -> (&'static str, Option<&'static str>) {
+    match code {
         FaultCode::Syntax(code) => item_sentence(code),
         FaultCode::Rule(rule) => rule_sentence(rule),
-    };
-    text.push_str(front)?;
-    if let Some(rear) = rear {
-        text.push_str(word)?;
-        text.push_str(rear)?;
     }
-    Ok(())
 }
 
 /// What is wrong with a word of an item that spells no definition: what stands before the word, and what

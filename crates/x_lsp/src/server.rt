@@ -236,7 +236,7 @@ impl Server {
         ensures says { Publishes self.old.client uri.now version text.now (said_of result) }
         ensures life { self.new.life ≡ self.old.life }
     {
-        let opened = match OpenDocument::open(self.alloc, self.client, uri, version, text) {
+        let mut opened = match OpenDocument::open(self.alloc, self.client, uri, version, text) {
             Ok(opened) => opened,
             Err(fault) => return told(self.alloc, ChangeFault::Edit(fault)),
         };

@@ -69,6 +69,21 @@ pub(crate) fn outside_pair(text: &[u8], spot: Spot) -> Spot
     spot
 }
 
+/// The spot of a place, from one before it on.
+pub(crate) fn spot_from(encoding: Encoding, text: &[u8], from: Spot, at: usize) -> Spot
+    requires small { length text.now ≤ most_text }
+    requires from { IsAt encoding text.now from.at from.position }
+    requires before { from.at ≤ at }
+    requires within { at ≤ length text.now }
+    ensures at { result.at ≡ at }
+    ensures spot { IsAt encoding text.now at result.position }
+{
+    Spot {
+        at,
+        position: position_from(encoding, text, from, at),
+    }
+}
+
 /// The position of a place, from a spot before it on. Of what stands behind the place one byte is looked at.
 pub(crate) fn position_from(encoding: Encoding, text: &[u8], from: Spot, at: usize) -> Position
     requires small { length text.now ≤ most_text }

@@ -1,15 +1,15 @@
 //! Places of a text that are kept with their positions, so that others are found near them.
 
-ghost use Rattle.std.specs.Prelude.{◌≡◌, ◌≤◌, ◌↔◌, ◌*◌, ℕ, IfOk, IsTrue, List, length};
+ghost use Rattle.std.specs.Prelude.{◌≡◌, ◌≤◌, ◌↔◌, ◌*◌, ℕ, All, IfOk, IsTrue, List, length};
 ghost use Rattle.x_text.specs.Limits.{most_text};
 ghost use Rattle.x_lsp.specs.Positions.{offset_of, position_of};
-ghost use Rattle.x_lsp.specs.Waymarks.{AreWaymarks, IsAt, IsLeft, IsNotBehind};
+ghost use Rattle.x_lsp.specs.Waymarks.{AreWaymarks, IsAt, IsLeft, IsNotBehind, IsWaymark};
 
 use crate::changes::Range;
 use crate::encoding::Encoding;
-use crate::marking::{marked, marked_behind};
+use crate::marking::{kept_behind, last_before, marked, marked_behind};
 use crate::positions::Position;
-use crate::spots::{START, Spot, offset_from, outside_pair, position_from};
+use crate::spots::{START, Spot, offset_from, outside_pair, position_from, spot_from};
 use std::alloc::{AllocError, Global};
 use x_text::Edit;
 
@@ -21,12 +21,15 @@ pub struct Waymark {
     character: u32,
 }
 
-/// Places of a text that are kept with their positions, a few bytes apart.
+/// Places of a text that are kept with their positions: some a few bytes apart, and those of faults that were
+/// published.
 #[derive(Debug, Drop)]
 pub struct Waymarks {
     /// How characters are counted.
     pub encoding: Encoding,
     list: Vec<Waymark>,
+    /// Where faults stand that were published last, so that those which stay are found at once.
+    faults: Vec<Waymark>,
 }
 
 impl Waymark {
@@ -74,7 +77,11 @@ impl Waymarks {
         ensures encoding { IfOk result (λ marks. marks.encoding ≡ encoding) }
     {
         let list = marked(alloc, encoding, text)?;
-        Ok(Waymarks { encoding, list })
+        Ok(Waymarks {
+            encoding,
+            list,
+            faults: Vec::new(alloc),
+        })
     }
 
     /// The position of a place of the text.
@@ -93,10 +100,11 @@ impl Waymarks {
         ensures before { result.at ≤ at }
     {
         let at = at.min(text.len());
-        Spot {
-            at,
-            position: position_from(self.encoding, text, self.spot_before(at), at),
+        let found = last_before(&self.faults, at);
+        if found.at == at {
+            return found;
         }
+        spot_from(self.encoding, text, last_before(&self.list, at), at)
     }
 
     /// The positions of two places of the text. That of the second is found from the first on.
@@ -129,10 +137,20 @@ impl Waymarks {
         offset_from(self.encoding, text, spot, position)
     }
 
+    /// Keeps the marks of faults that are published now, and no others.
+    pub(crate) fn keep_faults(&mut self, faults: Vec<Waymark>)
+        ensures marks { (text : List ℕ) → AreWaymarks text self.old
+            → All (IsWaymark self.old.encoding text) faults.items → AreWaymarks text self.new }
+        ensures encoding { self.new.encoding ≡ self.old.encoding }
+    {
+        self.faults = faults;
+    }
+
     /// Follows an edit that leaves this text. Where memory runs out no place is kept, until the next edit.
     pub(crate) fn follow(&mut self, alloc: Global, text: &[u8], edit: &Edit)
         requires small { length text.now ≤ most_text }
         requires left { IsLeft self.old.encoding self.old.list.items edit.now text.now }
+        requires faults { IsLeft self.old.encoding self.old.faults.items edit.now text.now }
         ensures marks { AreWaymarks text.now self.new }
         ensures encoding { self.new.encoding ≡ self.old.encoding }
     {
@@ -140,21 +158,14 @@ impl Waymarks {
             Ok(list) => list,
             Err(AllocError) => Vec::new(alloc),
         };
-    }
-
-    /// The last spot that is marked at a place or before it; else the start of the text.
-    fn spot_before(&self, at: usize) -> Spot
-        ensures spot { (text : List ℕ) → AreWaymarks text self.now
-            → IsAt self.now.encoding text result.at result.position }
-        ensures before { result.at ≤ at }
-    {
-        let count = self.list.partition_point(|mark| mark.at as usize <= at);
-        match count.checked_sub(1) {
-            Some(last) if last < self.list.len() && self.list[last].at as usize <= at => {
-                self.list[last].spot()
-            }
-            _ => START,
-        }
+        self.faults = kept_behind(
+            alloc,
+            self.encoding,
+            &self.faults,
+            text,
+            edit,
+            &self.list,
+        ).unwrap_or(Vec::new(alloc));
     }
 
     /// The last spot that is marked whose position is not behind this one; else the start of the text.

@@ -1,8 +1,8 @@
 //! Each public call of `x_lsp` once.
 use std::test::Fail;
 use x_lsp::{
-    Client, Encoding, MessageReader, Places, Position, Server, TextChange, Waymarks, apply_change,
-    definition_at, offset_of, positions_lead_back, publish, references_at, serve,
+    Client, Encoding, FaultMessages, MessageReader, Places, Position, Server, TextChange, Waymarks,
+    apply_change, definition_at, offset_of, positions_lead_back, publish, references_at, serve,
 };
 use x_session::Session;
 use x_text::{MemSink, MemTap};
@@ -41,7 +41,8 @@ fn a_change_is_published(rt: HostRuntime) -> Result<(), Fail> {
         encoding: Encoding::Utf8,
         shows_related: true,
     };
-    let note = publish(alloc, client, "t.x", 1, &session, &marks)?;
+    let mut messages = FaultMessages::new(alloc);
+    let note = publish(alloc, client, "t.x", 1, &session, &mut marks, &mut messages)?;
     assert!(rt; note.len() > 200);
     Ok(())
 }

@@ -12,6 +12,8 @@ invariant-loop-fault l = record {
   session : l.others.session.now ≡ l.fn.session;
   marks : l.others.marks.now ≡ l.fn.marks;
   others : AreOfText l.others;
+  marked : l.marker.text.now ≡ l.text;
+  counted : l.marker.encoding ≡ l.fn.client.encoding;
   told : (told : List FaultPlace) × (l.initial.fault-iterator ≡ told ++ l.fault-iterator)
       × Compiles l.text (λ items. AreDiagnostics l.fn.client l.fn.uri l.text items told (map data_of l.list.items));
 }

@@ -1,0 +1,157 @@
+//! What is said of faults, kept from one publication to the next.
+
+ghost use Rattle.std.specs.List.{before_first};
+ghost use Rattle.std.specs.Prelude.{◌≡◌, ◌==◌, ◌++◌, IfOk, IfSome, IsTrue, codes, length, string_bytes};
+ghost use Rattle.std.specs.Prelude.{take};
+ghost use Rattle.x_compile.specs.Faults.{fault_text};
+ghost use Rattle.x_lsp.specs.Diagnostics.{fault_number};
+
+use crate::head::number;
+use crate::published::Diagnostic;
+use crate::sentences::sentence_of;
+use memchr::memchr;
+use std::alloc::{AllocError, Global};
+use std::str;
+use x_session::FaultCode;
+
+/// How much room is made at once for what stands around the word of a message.
+const FRAME: usize = 96;
+
+/// What is said of a fault at a word: the name of the fault, and a sentence that tells it of the word.
+#[derive(Debug, Drop)]
+pub(crate) struct FaultMessage {
+    code: FaultCode,
+    pub(crate) number: usize,
+    pub(crate) text: String,
+    /// Where the word stands in the text, and how long it is; none if the sentence does not show it.
+    word: Option<(usize, usize)>,
+    ghost numbered: { number ≡ fault_number code },
+    ghost told: { take (length (fault_text code ++ codes ": ")) (string_bytes text)
+        ≡ fault_text code ++ codes ": " },
+}
+
+impl FaultMessage {
+    /// The message of a fault at a word.
+    fn of(alloc: Global, code: FaultCode, word: &[u8]) -> Result<FaultMessage, AllocError>
+        ensures { IfOk result (λ message. message.code ≡ code) }
+    {
+        let word = str::from_utf8(word).unwrap_or("?");
+        let (front, rear) = sentence_of(code);
+        let mut text = String::with_capacity(alloc, FRAME.saturating_add(word.len()))?;
+        text.push_str(code.text())?;
+        text.push_str(": ")?;
+        text.push_str(front)?;
+        let shown = match rear {
+            Some(rear) => {
+                let at = text.len();
+                text.push_str(word)?;
+                text.push_str(rear)?;
+                Some((at, word.len()))
+            }
+            None => None,
+        };
+        Ok(FaultMessage {
+            code,
+            number: fault_number(code),
+            text,
+            word: shown,
+        })
+    }
+
+    /// Whether this is the message of a fault at a word.
+    fn is_of(&self, code: FaultCode, word: &[u8]) -> bool
+        ensures { IsTrue result → self.now.code ≡ code }
+    {
+        if self.code != code {
+            return false;
+        }
+        match self.word {
+            None => true,
+            Some((at, length)) => match self.text.as_bytes().get(at..) {
+                Some(rest) => word.len() == length && rest.starts_with(word),
+                None => false,
+            },
+        }
+    }
+}
+
+/// The messages of the faults that were published last.
+#[derive(Debug, Drop)]
+pub struct FaultMessages {
+    /// Those that are left, from the last to the first.
+    list: Vec<FaultMessage>,
+}
+
+impl FaultMessages {
+    /// The messages of no fault.
+    pub fn new(alloc: Global) -> FaultMessages {
+        FaultMessages {
+            list: Vec::new(alloc),
+        }
+    }
+
+    /// The message of the next fault: the one that was published, where it is of the same word, else a new one.
+    pub(crate) fn next(
+        &mut self,
+        alloc: Global,
+        code: FaultCode,
+        word: &[u8],
+    ) -> Result<FaultMessage, AllocError>
+        ensures { IfOk result (λ message. message.code ≡ code) }
+    {
+        match self.take(code, word) {
+            Some(message) => Ok(message),
+            None => FaultMessage::of(alloc, code, word),
+        }
+    }
+
+    /// Takes the next message, or the one behind it, if it is of this word.
+    fn take(&mut self, code: FaultCode, word: &[u8]) -> Option<FaultMessage>
+        ensures { IfSome result (λ message. message.code ≡ code) }
+    {
+        let message = self.list.pop()?;
+        if message.is_of(code, word) {
+            return Some(message);
+        }
+        // Where a fault is gone, its message is to be passed over, and where one came, none.
+        let behind = self.list.pop()?;
+        if behind.is_of(code, word) {
+            return Some(behind);
+        }
+        self.list.push(behind).ok()?;
+        self.list.push(message).ok()?;
+        None
+    }
+
+    /// Keeps the messages of what was published, and no others; none where memory for them runs out.
+    pub(crate) fn keep(&mut self, published: Vec<Diagnostic>) {
+        let mut published = published;
+        self.list.clear();
+        if self.list.reserve(published.len()).is_err() {
+            return;
+        }
+        while let Some(diagnostic) = published.pop() {
+            if self.list.push(diagnostic.message).is_err() {
+                return;
+            }
+        }
+    }
+}
+
+/// The number of a fault, which its text begins with.
+fn fault_number(code: FaultCode) -> usize
+    ensures { result ≡ fault_number code }
+{
+    number(first_word(code.text().as_bytes())).unwrap_or(0)
+}
+
+/// The bytes before the first space.
+#[tactic(auto, using(crate::proofs::DiagnosticLemmas::word_found))]
+fn first_word(text: &[u8]) -> &[u8]
+    ensures { result.now ≡ before_first (λ b. b == 32) text.now }
+{
+    match memchr(b' ', text) {
+        Some(at) => &text[..at],
+        None => text,
+    }
+}
