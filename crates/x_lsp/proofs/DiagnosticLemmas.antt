@@ -8,9 +8,7 @@ use Rattle.std.proofs.lemmas.List.Sums.{position_or_len_is}
 use Rattle.memchr.specs.Find.{IsFirstByte, is_byte}
 use Rattle.x_lines.proofs.Parting.{first_is}
 use Rattle.serde_json.specs.Data.{Data}
-use Rattle.x_compile.specs.Compile.{Item, places_of}
-use Rattle.x_compile.proofs.Compiled.{one_compilation}
-use Rattle.x_session.specs.Session.{Compiles}
+use Rattle.x_compile.specs.Compile.{Item}
 use Rattle.x_compile.specs.declared.fault.FaultPlace.{FaultPlace}
 use Rattle.x_lsp.specs.declared.client.Client.{Client}
 use Rattle.x_lsp.specs.Diagnostics.{AreDiagnostics, IsDiagnostic}
@@ -23,16 +21,11 @@ diagnostics_more c uri text items [] (x ∷ ds) f d are is = absurd are
 diagnostics_more c uri text items (g ∷ faults) [] f d are is = absurd are
 diagnostics_more c uri text items (g ∷ faults) (x ∷ ds) f d are is = (are.0, diagnostics_more c uri text items faults ds f d are.1 is)
 
--- nothing is published of no fault
-pub no_diagnostics : {P : List Item → Type 0} (c : Client) (uri text : List ℕ) → Compiles text P → Compiles text (λ items. AreDiagnostics c uri text items [] [])
-no_diagnostics c uri text h = (h.0, h.1, h.2, tt)
-
--- all faults are told
-pub all_diagnostics : (c : Client) (uri text : List ℕ) (told all : List FaultPlace) (ds : List Data) → told ≡ all → Compiles text (λ items. all ≡ places_of items)
-    → Compiles text (λ items. AreDiagnostics c uri text items told ds) → Compiles text (λ items. AreDiagnostics c uri text items (places_of items) ds)
-all_diagnostics c uri text told all ds same faults are =
-    let one : faults.1 ≡ are.1 = (one_compilation text faults.0 are.0 faults.1 are.1 faults.2 are.2).1 in
-    (are.0, are.1, are.2, subst (λ fs. AreDiagnostics c uri text are.1 fs ds) (same ∙ faults.3 ∙ ap places_of one) are.3)
+-- what is published of a fault is so of each with its code and its place
+pub same_diagnostic : (c : Client) (uri text : List ℕ) (items : List Item) (f g : FaultPlace) (d : Data) → f.code ≡ g.code → f.start ≡ g.start → IsDiagnostic c uri text items f d → IsDiagnostic c uri text items g d
+same_diagnostic c uri text items f g d code start is =
+    subst (λ (g : FaultPlace). IsDiagnostic c uri text items g d) (λ i. record { item = g.item; token = g.token; start = start i; code = code i })
+    (record { end = is.end; sentence = is.sentence; other = is.other; token = is.token; other_is = is.other_is; data_is = is.data_is })
 
 -- a text that begins so, and what stands behind that
 pub begins : (p s t : List ℕ) → t ≡ p ++ s → take (length p) t ≡ p

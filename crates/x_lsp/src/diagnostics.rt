@@ -18,19 +18,19 @@ use crate::answers::note;
 use crate::changes::Range;
 use crate::client::Client;
 use crate::fault_messages::FaultMessages;
+use crate::found_faults::found_faults;
 use crate::marking::Marker;
 use crate::other_places::OtherPlaces;
 use crate::positions::Position;
 use crate::published::{Diagnostic, Place, published_text};
-use crate::token_end::token_end;
 use crate::waymarks::Waymarks;
 use serde_json::{Value, json};
 use std::alloc::{AllocError, Global};
 use x_session::Session;
 use x_text::NoMemory;
 
-/// The note that publishes the faults of a document's text, by waymarks of it and by the messages of those that
-/// were published before. Keeps these faults among the waymarks, and their messages.
+/// The note that publishes the faults of a document's text, by waymarks of it and by the messages of those
+/// that were published before. Keeps these faults among the waymarks, and their messages.
 pub fn publish(
     alloc: Global,
     client: Client,
@@ -83,14 +83,14 @@ fn diagnostics<'d>(
         (map data_of list.items))) }
 {
     let text = session.bytes();
-    let mut list = Vec::with_capacity(alloc, session.fault_count())?;
+    let found = found_faults(alloc, session)?;
+    let mut list = Vec::with_capacity(alloc, found.len())?;
     let mut others = OtherPlaces::of(client.shows_related, session, marks);
-    for fault in session.fault_places() {
+    for fault in &found {
         let start = fault.start;
-        let end = token_end(text, start);
-        let range = marks.range(text, start, end);
+        let range = marks.range(text, start, fault.end);
         marker.mark_place(start, range.start)?;
-        let word = word_at(text, start, end);
+        let word = word_at(text, start, fault.end);
         let other = others.range(alloc, fault.code, word, start)?;
         let related = place_of(uri, other);
         let message = messages.next(alloc, fault.code, word)?;

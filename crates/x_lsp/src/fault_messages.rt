@@ -90,7 +90,7 @@ impl FaultMessages {
         }
     }
 
-    /// The message of the next fault: the one that was published, where it is of the same word, else a new one.
+    /// The message of the next fault: the one that was published, if it is of the same word, else a new one.
     pub(crate) fn next(
         &mut self,
         alloc: Global,

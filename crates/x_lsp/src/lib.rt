@@ -12,6 +12,7 @@ mod diagnostics;
 mod document;
 mod encoding;
 mod fault_messages;
+mod found_faults;
 mod framing;
 mod head;
 mod kept;

@@ -3,8 +3,8 @@
 use x_item::FaultCode as ItemCode;
 use x_session::{FaultCode, RuleCode};
 
-/// What is wrong with a word, in a sentence: what stands before the word, and what stands behind it, unless it
-/// is not shown.
+/// What is wrong with a word, in a sentence: what stands before the word, and what stands behind it, unless
+/// it is not shown.
 pub(crate) fn sentence_of(code: FaultCode) -> (&'static str, Option<&'static str>) {
     match code {
         FaultCode::Syntax(code) => item_sentence(code),

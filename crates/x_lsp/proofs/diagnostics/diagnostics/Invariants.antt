@@ -1,8 +1,9 @@
-use Rattle.std.proofs.Common.{◌≡◌, ◌++◌, List, map}
-use Rattle.x_compile.specs.declared.fault.FaultPlace.{FaultPlace}
+use Rattle.std.proofs.Common.{◌≡◌, map, take}
+use Rattle.x_compile.specs.Compile.{places_of}
 use Rattle.x_session.specs.Session.{Compiles}
 use Rattle.x_lsp.specs.DeclaredPlaces.{AreOfText}
 use Rattle.x_lsp.specs.Diagnostics.{AreDiagnostics}
+use Rattle.x_lsp.specs.FoundFaults.{AreFound}
 use Rattle.x_lsp.specs.Published.{data_of}
 use Rattle.x_lsp.proofs.diagnostics.diagnostics.Given as goal
 
@@ -14,6 +15,6 @@ invariant-loop-fault l = record {
   others : AreOfText l.others;
   marked : l.marker.text.now ≡ l.text;
   counted : l.marker.encoding ≡ l.fn.client.encoding;
-  told : (told : List FaultPlace) × (l.initial.fault-iterator ≡ told ++ l.fault-iterator)
-      × Compiles l.text (λ items. AreDiagnostics l.fn.client l.fn.uri l.text items told (map data_of l.list.items));
+  told : Compiles l.text (λ items. AreFound l.text (places_of items) l.fault-items
+      × AreDiagnostics l.fn.client l.fn.uri l.text items (take l.fault-index (places_of items)) (map data_of l.list.items));
 }

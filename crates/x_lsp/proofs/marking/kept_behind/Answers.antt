@@ -1,4 +1,4 @@
-use Rattle.std.proofs.Common.{◌≡◌, ◌∙◌, ◌+◌, ◌-◌, ◌<◌, ◌≤◌, ap, sym, subst, arith, length, drop}
+use Rattle.std.proofs.Common.{◌≡◌, ◌∙◌, ◌+◌, ◌-◌, ◌<◌, ap, sym, subst, arith, length, drop}
 use Rattle.std.specs.Prelude.{All}
 use Rattle.x_lsp.specs.Waymarks.{IsAt, IsWaymark}
 use Rattle.x_lsp.proofs.MarkLemmas.{behind_edit, left_size, stay}
