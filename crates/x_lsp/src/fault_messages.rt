@@ -17,6 +17,9 @@ use x_session::FaultCode;
 /// How much room is made at once for what stands around the word of a message.
 const FRAME: usize = 96;
 
+/// How many messages are kept at most, so that a text of faults alone takes no more memory for good.
+const MOST_KEPT: usize = 65_536;
+
 /// What is said of a fault at a word: the name of the fault, and a sentence that tells it of the word.
 #[derive(Debug, Drop)]
 pub(crate) struct FaultMessage {
@@ -123,11 +126,12 @@ impl FaultMessages {
         None
     }
 
-    /// Keeps the messages of what was published, and no others; none where memory for them runs out.
+    /// Keeps the messages of what was published, and no others; none where there are too many of them, or
+    /// memory runs out.
     pub(crate) fn keep(&mut self, published: Vec<Diagnostic>) {
         let mut published = published;
         self.list.clear();
-        if self.list.reserve(published.len()).is_err() {
+        if published.len() > MOST_KEPT || self.list.reserve(published.len()).is_err() {
             return;
         }
         while let Some(diagnostic) = published.pop() {
