@@ -100,6 +100,12 @@ stay e marks edit text h = All-weaker (IsWaymark e h.old) (λ mark. mark.at < ed
           position_is = sym (same_position e h.old text mark.at edit.start lt same) ∙ is.position_is;
         }
 
+-- the same of a marker, which has the text and the encoding
+pub stay_in : (e v : Encoding) (marks : List Waymark) (edit : Edit) (text t : List ℕ) → v ≡ e → t ≡ text → IsLeft e marks edit text → All (λ mark. mark.at < edit.start → IsWaymark v t mark) marks
+stay_in e v marks edit text t encoding same h =
+    subst (λ x. All (λ mark. mark.at < edit.start → IsWaymark x t mark) marks) (sym encoding)
+    (subst (λ l. All (λ mark. mark.at < edit.start → IsWaymark e l mark) marks) (sym same) (stay e marks edit text h))
+
 -- what stood behind the edit stands behind it
 pub behind_edit : (e : Encoding) (marks : List Waymark) (edit : Edit) (text : List ℕ) (at : ℕ) → (h : IsLeft e marks edit text) → edit.end ≤ at
     → drop at h.old ≡ drop (edit.start + length edit.insert.now + (at - edit.end)) text

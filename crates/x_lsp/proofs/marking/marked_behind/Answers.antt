@@ -1,16 +1,12 @@
-use Rattle.std.proofs.Common.{◌≡◌, ◌∙◌, ◌+◌, ◌-◌, ◌<◌, ◌≤◌, ap, sym, subst, arith, length, drop}
+use Rattle.std.proofs.Common.{◌≡◌, ◌∙◌, ◌+◌, ◌-◌, ◌≤◌, ap, sym, subst, arith, length, drop}
 use Rattle.std.specs.Prelude.{All}
 use Rattle.x_lsp.specs.Waymarks.{IsAt, IsWaymark}
-use Rattle.x_lsp.proofs.MarkLemmas.{behind_edit, left_size, stay}
+use Rattle.x_lsp.proofs.MarkLemmas.{behind_edit, left_size, stay_in}
 use Rattle.x_lsp.proofs.marking.marked_behind.Goals as goal
 
 pub keep_before-requires-clause-marks : goal.keep_before-requires-clause-marks
 keep_before-requires-clause-marks c =
-    let marks = c.args.marks.now in
-    let edit = c.args.edit.now in
-    let start = c.at_start-marker in
-    subst (λ e. All (λ mark. mark.at < edit.start → IsWaymark e start.result.text.now mark) marks) (sym start.ensures.encoding)
-    (subst (λ t. All (λ mark. mark.at < edit.start → IsWaymark c.args.encoding t mark) marks) (sym start.ensures.text) (stay c.args.encoding marks edit c.args.text.now c.requires.left))
+    stay_in c.args.encoding _ c.args.marks.now c.args.edit.now c.args.text.now _ c.at_start-marker.ensures.encoding c.at_start-marker.ensures.text c.requires.left
 
 pub overflow_add-inserted-in-Some : goal.overflow_add-inserted-in-Some
 overflow_add-inserted-in-Some c =
