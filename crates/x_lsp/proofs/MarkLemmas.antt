@@ -132,3 +132,10 @@ left_size e marks edit text h =
     let size_front = length-append front edit.insert.now in
     let size_rest = length-drop edit.end h.old in
     omega (arith, forward, room, size, size_all, size_front, size_rest)
+
+-- and is a place of the text
+pub left_within : (e : Encoding) (marks : List Waymark) (edit : Edit) (text : List ℕ) (at : ℕ) (p : Position) → (h : IsLeft e marks edit text) → edit.end ≤ at → IsAt e h.old at p → edit.start + length edit.insert.now + (at - edit.end) ≤ length text
+left_within e marks edit text at p h le is =
+    let sizes = left_size e marks edit text h in
+    let within = is.within in
+    omega (arith, sizes, within, le)

@@ -1,7 +1,7 @@
 use Rattle.std.proofs.Common.{◌≡◌, ◌∙◌, ◌+◌, ◌-◌, ap, sym, subst, arith, length, drop}
 use Rattle.std.specs.Prelude.{All}
 use Rattle.x_lsp.specs.Waymarks.{IsAt, IsWaymark}
-use Rattle.x_lsp.proofs.MarkLemmas.{behind_edit, left_size, stay_in}
+use Rattle.x_lsp.proofs.MarkLemmas.{behind_edit, left_within, stay_in}
 use Rattle.x_lsp.proofs.marking.kept_behind.Goals as goal
 
 pub keep_before-requires-clause-marks : goal.keep_before-requires-clause-marks
@@ -11,11 +11,10 @@ keep_before-requires-clause-marks c =
 pub overflow_add-at-in-Some : goal.overflow_add-at-in-Some
 overflow_add-at-in-Some c =
     let h = c.requires.left in
-    let sizes = left_size c.args.encoding c.args.marks.now c.args.edit.now c.args.text.now h in
-    let from = (c.in-Some.ensures.1 c.args.encoding h.old h.marked).0.within in
+    let from = c.in-Some.ensures in
+    let within = left_within c.args.encoding c.args.marks.now c.args.edit.now c.args.text.now c.in-Some.from.at _ h from.0 (from.1 c.args.encoding h.old h.marked).0 in
     let small = c.requires.small in
-    let found = c.in-Some.ensures.0 in
-    omega (arith, sizes, from, small, found)
+    omega (arith, within, small)
 
 pub spot_from-marker-requires-clause-from : goal.spot_from-marker-requires-clause-from
 spot_from-marker-requires-clause-from c = c.last_before.ensures.spot c.args.encoding c.args.text.now c.requires.others
@@ -23,10 +22,8 @@ spot_from-marker-requires-clause-from c = c.last_before.ensures.spot c.args.enco
 pub spot_from-marker-requires-clause-within : goal.spot_from-marker-requires-clause-within
 spot_from-marker-requires-clause-within c =
     let h = c.requires.left in
-    let sizes = left_size c.args.encoding c.args.marks.now c.args.edit.now c.args.text.now h in
-    let from = (c.in-Some.ensures.1 c.args.encoding h.old h.marked).0.within in
-    let found = c.in-Some.ensures.0 in
-    omega (arith, sizes, from, found)
+    let from = c.in-Some.ensures in
+    left_within c.args.encoding c.args.marks.now c.args.edit.now c.args.text.now c.in-Some.from.at _ h from.0 (from.1 c.args.encoding h.old h.marked).0
 
 pub mark_moved-requires : goal.mark_moved-requires
 mark_moved-requires c =
