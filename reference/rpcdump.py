@@ -117,7 +117,7 @@ class Dump:
 
 
 class Stop(Exception):
-    """The run can't be carried out: the line that says why."""
+    """The run can't be carried out: the line that says why, if one is told."""
 
 
 def read_schema(path):
@@ -168,6 +168,8 @@ def write_texts(texts):
         for text in texts:
             out.write(text)
             out.flush()
+    except BrokenPipeError:
+        raise Stop from None
     except OSError:
         raise Stop(b"output cannot be written") from None
 
@@ -260,8 +262,9 @@ class CommandLine:
 
 
 def main(words):
-    def stop(reason):
-        os.write(2, b"rpcdump: %s\n" % reason)
+    def stop(*reasons):
+        for reason in reasons:
+            os.write(2, b"rpcdump: %s\n" % reason)
         return 2
     try:
         line = CommandLine(words)

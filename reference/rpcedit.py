@@ -108,6 +108,8 @@ def main(words):
                 try:
                     out.write(answer)
                     out.flush()
+                except BrokenPipeError:
+                    return 2
                 except OSError:
                     return stop("output cannot be written")
     except OSError:

@@ -48,6 +48,8 @@ def main(words):
     try:
         out.write(texts.text_of(modes[0], rpcedit.base_of(os.fsencode(path)), compilation))
         out.flush()
+    except BrokenPipeError:
+        return 2
     except OSError:
         return stop("output cannot be written")
     return 0

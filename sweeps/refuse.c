@@ -1,7 +1,7 @@
 /*
  * Refuses allocations of a program. To be loaded before the C library (LD_PRELOAD). `./test sweeps` builds
  * it, and runs compiled tests over it. Which allocations are refused is said by
- *   - the variable REFUSE: that of this number, counting from 1, alone;
+ *   - the variable REFUSE: that of this number, counting from 1, alone, or with all after it where REFUSE_ONWARD is set;
  *   - the program itself, between two marks: a mark is an allocation of a size that nothing else asks for, as
  *     the crate `refusals` makes them. The first says from which number on, and whether that one alone or all
  *     after it too. The second ends it, and is refused where one was refused in between.
@@ -31,6 +31,7 @@ static int is_refused(void) {
     if (left < 0) {
         const char *number = getenv("REFUSE");
         left = number == NULL ? 0 : atol(number);
+        goes_on = getenv("REFUSE_ONWARD") != NULL;
     }
     if (left == 0) return 0;
     if (left > 1) {

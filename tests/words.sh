@@ -33,9 +33,50 @@ short() (
     "$@"
 )
 
+# full_at KIB COMMAND..: where no file takes more than so many KiB.
+full_at() (
+    trap '' XFSZ
+    ulimit -f "$1"
+    "${@:2}"
+)
+
+# unread COMMAND..: with a standard output whose reader has ended.
+unread() (
+    exec 3> >(:)
+    wait $!
+    "$@" >&3
+)
+
+# bound COMMAND..: where permission bits count, for root too.
+bound() {
+    if [ "$(id -u)" = 0 ]; then
+        setpriv --bounding-set=-dac_override,-dac_read_search "$@"
+    else
+        "$@"
+    fi
+}
+
+# state_of FILE: its inode, permissions, times and bytes.
+state_of() {
+    stat -c '%i %a %y %z' "$1"
+    cksum <"$1"
+}
+
 # within KIB COMMAND..: where there is so much memory, the program itself included.
 within() (
     ulimit -v "$1"
+    "${@:2}"
+)
+
+# keyed KEY COMMAND..: where the system's random bytes are all this one, or there are none if it is empty.
+keyed() (
+    [ -f keys.so ] || cc -shared -fPIC -O1 -o keys.so "$top/sweeps/keys.c"
+    KEY=$1 LD_PRELOAD=$PWD/keys.so exec "${@:2}"
+)
+
+# cpu SECONDS COMMAND..: where there is so much time of a processor.
+cpu() (
+    ulimit -t "$1"
     "${@:2}"
 )
 
@@ -294,6 +335,21 @@ refusals() {
 
 # notes: of the messages that come, the last parts of their methods, on one line.
 notes() { grep -oE '"method":"[^"]*"' | sed 's|.*/||; s|"||' | paste -sd ' '; }
+
+# flood KIND ..: names or numbers that collide in a table that hashes by the kit's default (flood.c), one a line.
+flood() {
+    if ! [ -x flood ]; then cc -O2 -o flood "$top/tests/flood.c"; fi
+    ./flood "$@"
+}
+
+# calls_of: a call of procedure 0 of NFS version 2 for each xid that comes.
+calls_of() {
+    python3 -c '
+import struct, sys
+
+for line in sys.stdin:
+    sys.stdout.buffer.write(struct.pack(">11I", 2 ** 31 + 40, int(line), 0, 2, 100003, 2, 0, 0, 0, 0, 0))'
+}
 
 # repeat COUNT TEXT: the text so often.
 repeat() { yes "$2" | head -n "$1" | tr -d '\n'; }

@@ -1,7 +1,9 @@
 //! `rpcedit`: carries out a script of edits and questions on a `.x` file.
 #![tactic(auto)]
 
-use rpcx::{RPCEDIT, Status, answer_words, edit_args, edit_run, read_text, read_words};
+use rpcx::{
+    RPCEDIT, Status, answer_words, draw_key, edit_args, edit_run_keyed, read_text, read_words,
+};
 use std::process::ExitCode;
 use x_text::{In, Out};
 
@@ -17,9 +19,18 @@ fn run(rt: &HostRuntime) -> Result<Status, Status> {
         }
     };
     let bytes = read_text(rt, "rpcedit", args.file, &mut err)?;
+    let hash_key = draw_key(rt, "rpcedit", &mut err)?;
     let mut input = In::new(rt.stdin());
     let mut out = Out::new(rt.stdout());
-    Ok(edit_run(rt.alloc(), &args, &bytes, &mut input, &mut out, &mut err))
+    Ok(edit_run_keyed(
+        rt.alloc(),
+        hash_key,
+        &args,
+        &bytes,
+        &mut input,
+        &mut out,
+        &mut err,
+    ))
 }
 
 fn main(rt: HostRuntime) -> ExitCode {

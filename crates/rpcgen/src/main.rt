@@ -1,45 +1,20 @@
 //! `rpcgen`: writes a text that is generated of a `.x` file.
 #![tactic(auto)]
 
-use rpcx::{
-    GenArgs, Output, RPCGEN, Status, answer_words, gen_args, gen_mode, gen_run, read_text,
-    read_words,
-};
-use std::fs::{self, File};
-use std::io::Stdout;
+mod draft;
+mod named;
+mod standard;
+
+use named::{Named, lead_to_one_file};
+use rpcx::{RPCGEN, Status, answer_words, gen_args, gen_mode, gen_run, read_text, read_words};
+use standard::Standard;
 use std::process::ExitCode;
 use x_text::Out;
 
-/// The standard output.
-#[derive(Clone, Copy)]
-struct Standard<'a> {
-    rt: &'a HostRuntime,
-}
-
-impl Output for Standard<'_> {
-    type Opened = Out<Stdout>;
-
-    fn open(&self) -> Option<Out<Stdout>> {
-        Some(Out::new(self.rt.stdout()))
-    }
-}
-
-/// The file of this name.
-#[derive(Clone, Copy)]
-struct Named<'a> {
-    rt: &'a HostRuntime,
-    name: &'a str,
-}
-
-impl Output for Named<'_> {
-    type Opened = Out<File>;
-
-    fn open(&self) -> Option<Out<File>> {
-        match fs::create(self.rt, self.name) {
-            Ok(file) => Some(Out::new(file)),
-            Err(_) => None,
-        }
-    }
+/// Whether a file is to be written beside the standard output, and is not what that goes to. One that is read
+/// is never taken for the standard output.
+fn is_named(rt: &HostRuntime, name: &str, file: &str) -> bool {
+    !lead_to_one_file(rt, name, "/dev/stdout") || lead_to_one_file(rt, name, file)
 }
 
 /// Carries out the command line. Where that stops early, it answers the status as an error.
@@ -57,16 +32,16 @@ fn run(rt: &HostRuntime) -> Result<Status, Status> {
         return Err(Status::Failed);
     };
     let bytes = read_text(rt, "rpcgen", args.file, &mut err)?;
+    let alloc = rt.alloc();
     Ok(match args.output {
-        Some(name) => gen_run(
-            rt.alloc(),
-            which,
-            &args,
-            &bytes,
-            &Named { rt, name },
-            &mut err,
-        ),
-        None => gen_run(rt.alloc(), which, &args, &bytes, &Standard { rt }, &mut err),
+        Some(name) if is_named(rt, name, args.file) => {
+            let mut output = Named::new(rt, name, args.file);
+            gen_run(alloc, which, &args, &bytes, &mut output, &mut err)
+        }
+        _ => {
+            let mut output = Standard { rt };
+            gen_run(alloc, which, &args, &bytes, &mut output, &mut err)
+        }
     })
 }
 

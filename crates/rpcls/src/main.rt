@@ -2,7 +2,7 @@
 #![tactic(auto)]
 
 use std::process::ExitCode;
-use x_args::{RPCLS, Status, answer_words, read_words, serve_args};
+use x_args::{RPCLS, Status, answer_words, draw_key, read_words, serve_args};
 use x_lsp::serve_run;
 use x_text::{In, Out};
 
@@ -14,9 +14,10 @@ fn run(rt: &HostRuntime) -> Result<Status, Status> {
         let mut out = Out::new(rt.stdout());
         return Err(answer_words(rt.alloc(), &RPCLS, &error, &mut out, &mut err));
     }
+    let hash_key = draw_key(rt, "rpcls", &mut err)?;
     let mut input = In::new(rt.stdin());
     let mut out = Out::new(rt.stdout());
-    Ok(serve_run(rt.alloc(), &mut input, &mut out, &mut err))
+    Ok(serve_run(rt.alloc(), hash_key, &mut input, &mut out, &mut err))
 }
 
 fn main(rt: HostRuntime) -> ExitCode {

@@ -18,8 +18,8 @@ use Rattle.x_text.specs.declared.streams.outcome.EngineFault.{EngineFault}
 use Rattle.x_wire.specs.StreamTexts.{DumpsMessage, DumpsStream}
 use Rattle.x_wire.specs.declared.nfs2.TheConstants.{NFS2_X}
 use Rattle.rpcx.specs.Course.{Course, IsIdle}
-use Rattle.rpcx.specs.Generate.{IsFaultless, NotOpened, stop_told, told_faults}
-use Rattle.x_args.specs.Telling.{IsTold}
+use Rattle.rpcx.specs.Generate.{IsFaultless, NotOpened, TellsStop, told_faults}
+use Rattle.x_args.specs.Telling.{Complains, IsTold}
 use Rattle.rpcx.specs.declared.rpcdump.halt.Halt.{Halt}
 use Rattle.rpcx.specs.declared.rpcdump.halt.Halt.TheVariants.{NoType, Unread, TooLarge, NoRoom, Ended}
 use Rattle.rpcx.specs.declared.rpcdump.halt.Halt.TheVariants.{Unwritten}
@@ -138,14 +138,19 @@ Halts mode type s c Unwritten =
     ((outcome : Outcome) × ShowsFile mode type s c (Ok outcome)) × (c.out'.failed ≡ true)
 Halts mode type s c halt = StopsReading mode c halt
 
--- and what is told of it
-abbrev pub halt_told : (type file : List ℕ) → Halt → List ℕ
-halt_told type file NoType = codes "rpcdump: no type " ++ type ++ codes "\n"
-halt_told type file Unread = codes "rpcdump: " ++ file ++ codes ": cannot be read\n"
-halt_told type file TooLarge = codes "rpcdump: " ++ file ++ codes ": 2 TooLarge\n"
-halt_told type file NoRoom = codes "rpcdump: out of memory\n"
-halt_told type file (Ended fault) = stop_told (codes "rpcdump") file fault
-halt_told type file Unwritten = codes "rpcdump: output cannot be written\n"
+-- And what is told of it: nothing where the output's reader has enough.
+abbrev pub TellsHalt : (is_closed : Bool) → (type file : List ℕ) → Halt → (before after : Stream) → Type 0
+TellsHalt is_closed type file NoType before after =
+    IsTold before after (codes "rpcdump: no type " ++ type ++ codes "\n")
+TellsHalt is_closed type file Unread before after =
+    IsTold before after (codes "rpcdump: " ++ file ++ codes ": cannot be read\n")
+TellsHalt is_closed type file TooLarge before after =
+    IsTold before after (codes "rpcdump: " ++ file ++ codes ": 2 TooLarge\n")
+TellsHalt is_closed type file NoRoom before after = IsTold before after (codes "rpcdump: out of memory\n")
+TellsHalt is_closed type file (Ended fault) before after =
+    TellsStop is_closed (codes "rpcdump") file fault before after
+TellsHalt is_closed type file Unwritten before after =
+    Complains is_closed before after (codes "rpcdump: output cannot be written\n")
 
 -- what was written of a file, before the output was asked to pass it on
 abbrev pub Goes : Mode → (type : List ℕ) → Schema → Course → Result Outcome Halt → Type 0
@@ -166,21 +171,24 @@ HasShown mode type text c outcome = (s : Schema) × HasTypes text s × Ends mode
 
 -- Why a run is not carried out, as it is told: the schema's text is not opened, or memory ran out over its
 -- types; or the file is not shown to its end.
-pub data NotDumped (args : DumpArgs) (mode : Mode) (text : List ℕ) (c : Course)
+pub data NotDumped (args : DumpArgs) (mode : Mode) (text : List ℕ) (c : Course) (is_closed : Bool)
     (before after : Stream) : Type 0 where
   unopened : NotOpened (codes "rpcdump") (schema_name args) text before after → IsIdle c
-      → NotDumped args mode text c before after
+      → NotDumped args mode text c is_closed before after
   untyped : IsFaultless text → IsTold before after (codes "rpcdump: out of memory\n") → IsIdle c
-      → NotDumped args mode text c before after
+      → NotDumped args mode text c is_closed before after
   halted : (s : Schema) → HasTypes text s → (halt : Halt) → Halts mode (type_asked args) s c halt
-      → IsTold before after (halt_told (type_asked args) args.file.now halt)
-      → NotDumped args mode text c before after
+      → TellsHalt is_closed (type_asked args) args.file.now halt before after
+      → NotDumped args mode text c is_closed before after
 
 -- A run that ends with this status: the file was shown to its end without a fault; or the schema's text has
--- faults, which were told, or what was shown has one; or the run was not carried out.
-abbrev pub HasDumped : DumpArgs → Mode → (text : List ℕ) → Course → (before after : Stream) → Status → Type 0
-HasDumped args mode text c before after Done = HasShown mode (type_asked args) text c Clean × (after ≡ before)
-HasDumped args mode text c before after Faulty =
+-- faults, which were told, or what was shown has one; or the run was not carried out. The output's reader may
+-- have enough at its end.
+abbrev pub HasDumped : DumpArgs → Mode → (text : List ℕ) → Course → (is_closed : Bool)
+    → (before after : Stream) → Status → Type 0
+HasDumped args mode text c is_closed before after Done =
+    HasShown mode (type_asked args) text c Clean × (after ≡ before)
+HasDumped args mode text c is_closed before after Faulty =
     HasFaults text (λ all. IsTold before after (told_faults (schema_name args) all)) × IsIdle c
     ⊎ HasShown mode (type_asked args) text c Refused × (after ≡ before)
-HasDumped args mode text c before after Failed = NotDumped args mode text c before after
+HasDumped args mode text c is_closed before after Failed = NotDumped args mode text c is_closed before after

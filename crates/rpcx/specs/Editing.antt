@@ -7,11 +7,10 @@ use Rattle.x_text.specs.declared.streams.outcome.EngineFault.{EngineFault}
 use Rattle.x_session.specs.Session.{Document, IsOpenOf}
 use Rattle.x_lines.specs.Lines.{script_lines}
 use Rattle.x_session.specs.Script.{HasRun, Runs}
-use Rattle.x_args.specs.Telling.{IsTold}
 use Rattle.x_args.specs.declared.status.Status.{Status}
 use Rattle.x_args.specs.declared.status.Status.TheVariants.{Done, Faulty}
 use Rattle.rpcx.specs.Course.{Course, IsIdle}
-use Rattle.rpcx.specs.Generate.{base_of, stop_told, NotOpened}
+use Rattle.rpcx.specs.Generate.{base_of, NotOpened, TellsStop}
 
 -- the status of a run that carried out each line, whether or not one was refused
 abbrev pub status_of : Bool → Status
@@ -37,15 +36,17 @@ pub record EndsBy (fault : EngineFault) (base text : List ℕ) (c : Course) : Ty
   pub run : MatchOption c.file.bytes (Unit {0})
       (λ script. EndsEarly script c.file'.bytes base text c.out c.out' fault)
 
--- a fault ends the run of a script over a text, and that fault is told
-abbrev pub IsStopped : (base text : List ℕ) → Course → (before after : Stream) → Type 0
-IsStopped base text c before after =
+-- A fault ends the run of a script over a text, and that fault is told, unless the output's reader has
+-- enough.
+abbrev pub IsStopped : (base text : List ℕ) → Course → (is_closed : Bool) → (before after : Stream) → Type 0
+IsStopped base text c is_closed before after =
     (fault : EngineFault) × EndsBy fault base text c
-    × IsTold before after (stop_told (codes "rpcedit") (codes "-") fault)
+    × TellsStop is_closed (codes "rpcedit") (codes "-") fault before after
 
 -- Why `rpcedit` does not carry a script out to its end on a file's text that it can read, as it tells it: the
 -- text is not opened, and then nothing is read and nothing is written; or a fault ends the run.
-pub data NotRun (file text : List ℕ) (c : Course) (before after : Stream) : Type 0 where
-  unopened : NotOpened (codes "rpcedit") file text before after → IsIdle c → NotRun file text c before after
-  stopped : length text ≤ most_text → IsStopped (base_of file) text c before after
-      → NotRun file text c before after
+pub data NotRun (file text : List ℕ) (c : Course) (is_closed : Bool) (before after : Stream) : Type 0 where
+  unopened : NotOpened (codes "rpcedit") file text before after → IsIdle c
+      → NotRun file text c is_closed before after
+  stopped : length text ≤ most_text → IsStopped (base_of file) text c is_closed before after
+      → NotRun file text c is_closed before after

@@ -1,5 +1,5 @@
 -- What runs of the programs do, and what they tell.
-use Rattle.std.specs.Prelude.{◌≡◌, ◌⊎◌, ℕ, ◌-◌, ◌<◌, ◌≤◌, ◌==◌, List, []}
+use Rattle.std.specs.Prelude.{◌≡◌, ◌⊎◌, ℕ, Bool, ◌-◌, ◌<◌, ◌≤◌, ◌==◌, List, []}
 use Rattle.std.specs.Prelude.{◌++◌, length, take, drop, codes, if◌then◌else◌, option_map, unwrap_or}
 use Rattle.std.specs.Prelude.{Result, IfOk, OnOk, IfErr, IsErrOf}
 use Rattle.std.specs.List.{after_last, flat_map}
@@ -15,8 +15,10 @@ use Rattle.x_session.specs.Answers.{fault_place}
 use Rattle.x_text.specs.declared.text.fault.TextFault.{TextFault}
 use Rattle.x_text.specs.declared.text.fault.TextFault.TheVariants as faults
 use Rattle.x_text.specs.Limits.{most_text}
-use Rattle.x_args.specs.Telling.{IsTold, told_of}
+use Rattle.x_args.specs.Telling.{Complains, IsTold, told_of}
 use Rattle.x_args.specs.declared.generating_args.GenArgs.{GenArgs}
+use Rattle.rpcx.specs.declared.rpcgen.output.OutputFault.{OutputFault}
+use Rattle.rpcx.specs.declared.rpcgen.output.OutputFault.TheVariants as outputs
 use Rattle.x_args.specs.declared.status.Status.{Status}
 use Rattle.x_args.specs.declared.status.Status.TheVariants.{Faulty, Failed}
 
@@ -76,20 +78,40 @@ stop_told program file (Read written) = program ++ codes ": " ++ file ++ codes "
 stop_told program file (Write written) = told_of program (codes "output cannot be written")
 stop_told program file (NoMemory written) = told_of program (codes "out of memory")
 
--- what `rpcgen` tells where its output cannot be opened, whose name is `-` for the standard output
+-- The same, but of an output whose reader has enough: of that nothing is told.
+abbrev pub TellsStop : (is_closed : Bool) → (program file : List ℕ) → EngineFault → (before after : Stream)
+    → Type 0
+TellsStop is_closed program file (Write written) before after =
+    Complains is_closed before after (stop_told program file (Write written))
+TellsStop is_closed program file fault before after = IsTold before after (stop_told program file fault)
+
+-- what `rpcgen` tells of an output that it cannot write, whose name is `-` for the standard output
 abbrev pub no_output_told : GenArgs → List ℕ
 no_output_told args =
     codes "rpcgen: " ++ unwrap_or (option_map (λ s. s.now) args.output) (codes "-")
     ++ codes ": cannot be written\n"
 
--- Why `rpcgen` does not write a generated text, as it tells it: its output cannot be opened, or has failed.
-abbrev pub NotWritten : GenArgs → (before after : Stream) → Type 0
-NotWritten args before after =
-    IsTold before after (no_output_told args)
-    ⊎ IsTold before after (codes "rpcgen: output cannot be written\n")
+-- what it tells of an output that is not opened
+abbrev pub output_told : GenArgs → OutputFault → List ℕ
+output_told args outputs.Refused = no_output_told args
+output_told args outputs.NoMemory = codes "rpcgen: out of memory\n"
+
+-- Why `rpcgen` does not write a generated text, as it tells it: its output is not opened; or what was opened
+-- has failed, of which nothing is told where its reader has enough; or the output does not take the whole.
+pub data NotWritten (args : GenArgs) (HasFailed : (is_closed : Bool) → Type 0) (before after : Stream)
+    : Type 0 where
+  refused : (fault : OutputFault) → IsTold before after (output_told args fault)
+      → NotWritten args HasFailed before after
+  broken : (is_closed : Bool) → HasFailed is_closed
+      → Complains is_closed before after (codes "rpcgen: output cannot be written\n")
+      → NotWritten args HasFailed before after
+  unkept : IsTold before after (no_output_told args) → NotWritten args HasFailed before after
 
 -- Why a run of `rpcgen` fails on a file's text that it can read, as it tells it: the text is not opened; or
 -- it has no fault, and what is generated of it is not written.
-pub data NotGenerated (args : GenArgs) (text : List ℕ) (before after : Stream) : Type 0 where
-  unopened : NotOpened (codes "rpcgen") args.file.now text before after → NotGenerated args text before after
-  unwritten : IsFaultless text → NotWritten args before after → NotGenerated args text before after
+pub data NotGenerated (args : GenArgs) (text : List ℕ) (HasFailed : (is_closed : Bool) → Type 0)
+    (before after : Stream) : Type 0 where
+  unopened : NotOpened (codes "rpcgen") args.file.now text before after
+      → NotGenerated args text HasFailed before after
+  unwritten : IsFaultless text → NotWritten args HasFailed before after
+      → NotGenerated args text HasFailed before after

@@ -2,3 +2,4 @@ pub mod Course
 pub mod Dumping
 pub mod Editing
 pub mod Generate
+pub mod Outputs

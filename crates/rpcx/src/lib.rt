@@ -8,10 +8,10 @@ mod rpcgen;
 
 pub use files::reading::read_text;
 pub use rpcdump::dump_run;
-pub use rpcedit::edit_run;
-pub use rpcgen::{Output, gen_open, gen_run, gen_write};
+pub use rpcedit::{edit_run, edit_run_keyed};
+pub use rpcgen::{Output, OutputFault, gen_open, gen_run, gen_write};
 pub use x_args::{
     DumpArgs, EditArgs, GenArgs, Manual, Mode, RPCDUMP, RPCEDIT, RPCGEN, Status, VERSION,
-    answer_words, complain, dump_args, dump_mode, edit_args, gen_args, gen_mode, read_words,
-    request_first, tell_of_file,
+    answer_words, complain_of_output, draw_key, dump_args, dump_mode, edit_args, gen_args,
+    gen_mode, read_words, request_first, tell_of_file,
 };

@@ -14,14 +14,14 @@ use showing::show;
 use std::alloc::Global;
 use std::mem;
 use x_args::{DumpArgs, Mode, Status, tell_of_file};
-use x_text::{Sink, Tap};
+use x_text::{Outlet, Sink, Tap};
 use x_wire::{NFS2_X, Outcome, Schema};
 
 /// Shows the bytes of a file by the types of the schema's text, that of NFS version 2 where none is given,
 /// and answers the status: `Done` where all was shown and has no fault, `Faulty` where a fault was shown, or
 /// where the text has faults, which it tells, and `Failed` where the run could not be carried out, which it
-/// tells.
-pub fn dump_run<I: Tap, O: Sink, E: Sink>(
+/// tells, unless the output's reader has enough.
+pub fn dump_run<I: Tap, O: Outlet, E: Sink>(
     alloc: Global,
     args: &DumpArgs,
     mode: Mode,
@@ -32,7 +32,7 @@ pub fn dump_run<I: Tap, O: Sink, E: Sink>(
 ) -> Status
     ensures dumped { HasDumped args.now mode (schema_text (option_map (λ t. t.now) schema.entry))
         (course (I.state input.old) (I.state input.new) (O.state out.old) (O.state out.new))
-        (E.state err.old) (E.state err.new) result }
+        (O.is_closed out.new) (E.state err.old) (E.state err.new) result }
     ensures quiet { result ≡ Status.Done → err.new ≡ err.old }
 {
     let schema = match open_schema(alloc, args, schema, err) {
@@ -46,7 +46,7 @@ pub fn dump_run<I: Tap, O: Sink, E: Sink>(
         Ok(Outcome::Clean) => Status::Done,
         Ok(Outcome::Refused) => Status::Faulty,
         Err(halt) => {
-            tell_halt(halt, args, err);
+            tell_halt(halt, args, out, err);
             Status::Failed
         }
     }

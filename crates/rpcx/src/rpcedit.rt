@@ -12,13 +12,13 @@ use crate::files::complaint::{tell_stop, tell_unopened};
 use std::alloc::Global;
 use std::mem;
 use x_args::{EditArgs, Status};
+use x_hash::HashKey;
 use x_session::{Outcome, Session, run_script};
-use x_text::{Sink, Tap};
+use x_text::{Outlet, Sink, Tap};
 
-/// Opens the text of a file, carries out the script of the input, and answers the status: `Done` where each
-/// line was carried out, `Faulty` where one was refused, and `Failed` where the run could not be carried out,
-/// which it tells.
-pub fn edit_run<I: Tap, O: Sink, E: Sink>(
+/// As [`edit_run_keyed`], over tables that hash by a key which is made of the text. Who writes a script may
+/// know it.
+pub fn edit_run<I: Tap, O: Outlet, E: Sink>(
     alloc: Global,
     args: &EditArgs,
     bytes: &[u8],
@@ -30,7 +30,7 @@ pub fn edit_run<I: Tap, O: Sink, E: Sink>(
     ensures failed { result ≡ Status.Failed
         → NotRun args.now.file.now bytes.now
         (course (I.state input.old) (I.state input.new) (O.state out.old) (O.state out.new))
-        (E.state err.old) (E.state err.new) }
+        (O.is_closed out.new) (E.state err.old) (E.state err.new) }
     ensures quiet { result ≢ Status.Failed → err.new ≡ err.old }
     ensures reading { result ≢ Status.Failed → (I.state input.new).failed ≡ (I.state input.old).failed }
     ensures working { result ≢ Status.Failed → WorksOn (O.state out.old).failed (O.state out.new).failed }
@@ -38,7 +38,36 @@ pub fn edit_run<I: Tap, O: Sink, E: Sink>(
         (λ script. Answers script (base_of args.now.file.now) bytes.now (O.state out.old)
         (O.state out.new) result) }
 {
-    let mut session = match Session::open(alloc, base_of_file(args.file), bytes) {
+    let hash_key = HashKey::of_bytes(bytes);
+    edit_run_keyed(alloc, hash_key, args, bytes, input, out, err)
+}
+
+/// Opens the text of a file, carries out the script of the input, and answers the status: `Done` where each
+/// line was carried out, `Faulty` where one was refused, and `Failed` where the run could not be carried out,
+/// which it tells, unless the output's reader has enough. Tables of the text's names hash by the key, which
+/// whoever wrote the text or the script does not know.
+pub fn edit_run_keyed<I: Tap, O: Outlet, E: Sink>(
+    alloc: Global,
+    hash_key: HashKey,
+    args: &EditArgs,
+    bytes: &[u8],
+    input: &mut I,
+    out: &mut O,
+    err: &mut E,
+) -> Status
+    ensures too_large { most_text < length bytes.now → result ≡ Status.Failed }
+    ensures failed { result ≡ Status.Failed
+        → NotRun args.now.file.now bytes.now
+        (course (I.state input.old) (I.state input.new) (O.state out.old) (O.state out.new))
+        (O.is_closed out.new) (E.state err.old) (E.state err.new) }
+    ensures quiet { result ≢ Status.Failed → err.new ≡ err.old }
+    ensures reading { result ≢ Status.Failed → (I.state input.new).failed ≡ (I.state input.old).failed }
+    ensures working { result ≢ Status.Failed → WorksOn (O.state out.old).failed (O.state out.new).failed }
+    ensures answers { MatchOption (I.state input.old).bytes (Unit {0})
+        (λ script. Answers script (base_of args.now.file.now) bytes.now (O.state out.old)
+        (O.state out.new) result) }
+{
+    let mut session = match Session::keyed(alloc, hash_key, base_of_file(args.file), bytes) {
         Ok(session) => session,
         Err(fault) => {
             tell_unopened("rpcedit", args.file, fault, err);
@@ -52,7 +81,7 @@ pub fn edit_run<I: Tap, O: Sink, E: Sink>(
 }
 
 /// Carries out the script of the input, and answers the status.
-fn answer_input<I: Tap, O: Sink, E: Sink>(
+fn answer_input<I: Tap, O: Outlet, E: Sink>(
     alloc: Global,
     session: &mut Session,
     input: &mut I,
@@ -62,7 +91,7 @@ fn answer_input<I: Tap, O: Sink, E: Sink>(
     ensures stopped { result ≡ Status.Failed
         → IsStopped session.old.base session.old.text
         (course (I.state input.old) (I.state input.new) (O.state out.old) (O.state out.new))
-        (E.state err.old) (E.state err.new) }
+        (O.is_closed out.new) (E.state err.old) (E.state err.new) }
     ensures quiet { result ≢ Status.Failed → err.new ≡ err.old }
     ensures reading { result ≢ Status.Failed → (I.state input.new).failed ≡ (I.state input.old).failed }
     ensures working { result ≢ Status.Failed → WorksOn (O.state out.old).failed (O.state out.new).failed }
@@ -74,7 +103,7 @@ fn answer_input<I: Tap, O: Sink, E: Sink>(
         Ok(Outcome::Clean) => Status::Done,
         Ok(Outcome::Refused) => Status::Faulty,
         Err(fault) => {
-            tell_stop("rpcedit", "-", fault, err);
+            tell_stop("rpcedit", "-", fault, out, err);
             Status::Failed
         }
     }

@@ -1,31 +1,26 @@
 //! What `rpcgen` does, over a text that was read and sinks.
 
-ghost use Rattle.std.specs.Prelude.{◌≡◌, ◌≢◌, ◌<◌, false, not, codes, length, IsTrue, OnOk, if◌then◌else◌};
+ghost use Rattle.std.specs.Prelude.{◌≡◌, ◌≢◌, ◌⊎◌, ◌<◌, false, not, codes, length, IsTrue, OnOk};
+ghost use Rattle.std.specs.Prelude.{if◌then◌else◌};
 ghost use Rattle.std.specs.Io.KnownBytes.{Appends};
 ghost use Rattle.rpcx.specs.Generate.{IsFaultless, IsOpened, NotGenerated, NotWritten, base_of};
-ghost use Rattle.rpcx.specs.Generate.{no_output_told, told_faults};
-ghost use Rattle.x_args.specs.Telling.{Grows, IsTold};
+ghost use Rattle.rpcx.specs.Generate.{no_output_told, output_told, told_faults};
+ghost use Rattle.rpcx.specs.Outputs.{Holds, IsNamed};
+ghost use Rattle.x_args.specs.Telling.{Complains, Grows, IsTold};
 ghost use Rattle.x_session.specs.Session.{Compiles};
 ghost use Rattle.x_compile.specs.Compile.{faults_of};
 ghost use Rattle.x_compile.specs.Generated.{text_of};
 ghost use Rattle.x_text.specs.Limits.{most_text};
 
+mod output;
+
 use crate::files::opening::open_text;
+pub use output::{Output, OutputFault};
 use std::alloc::Global;
 use std::mem;
-use x_args::{GenArgs, Status, complain, tell_of_file};
+use x_args::{GenArgs, Status, complain_of_output, tell_of_file};
 use x_session::{Session, Which};
-use x_text::Sink;
-
-/// Where a run of `rpcgen` writes to. It is opened once the text was found to have no fault, so that no file
-/// is emptied for nothing.
-pub trait Output {
-    /// What takes the bytes.
-    type Opened: Sink + Drop;
-
-    /// Opens it, where it can be.
-    fn open(&self) -> Option<Self::Opened>;
-}
+use x_text::{Outlet, Sink};
 
 /// Opens the text of a file for a run of `rpcgen`, or tells what is wrong with it and answers the status:
 /// `Faulty` where the text has faults, which are written one a line, and `Failed` where it is too large or
@@ -59,8 +54,9 @@ fn is_written<O: Sink>(which: Which, session: &Session, out: &mut O) -> bool
     out.flush().is_ok()
 }
 
-/// Writes a generated text, and answers the status: `Failed` where the output fails, which it tells.
-pub fn gen_write<O: Sink, E: Sink>(
+/// Writes a generated text, and answers the status: `Failed` where the output fails, which it tells, unless
+/// the output's reader has enough.
+pub fn gen_write<O: Outlet, E: Sink>(
     which: Which,
     session: &Session,
     out: &mut O,
@@ -75,25 +71,29 @@ pub fn gen_write<O: Sink, E: Sink>(
         (λ items. Grows (O.state out.old) (O.state out.new) (text_of which session.now.base items)) }
     ensures status { result ≡ (if (O.state out.new).failed then Status.Failed else Status.Done) }
     ensures told { result ≢ Status.Done
-        → IsTold (E.state err.old) (E.state err.new) (codes "rpcgen: output cannot be written\n") }
+        → Complains (O.is_closed out.new) (E.state err.old) (E.state err.new)
+        (codes "rpcgen: output cannot be written\n") }
     ensures quiet { result ≡ Status.Done → err.new ≡ err.old }
 {
     if is_written(which, session, out) {
         return Status::Done;
     }
-    complain("rpcgen: output cannot be written\n", err);
+    complain_of_output("rpcgen", out, err);
     Status::Failed
 }
 
 /// Opens the text of a file, writes what is asked for to the output, and answers the status: `Done` where
 /// that was written, `Faulty` where the text has faults, which are written one a line, and `Failed` where the
-/// run could not be carried out, which it tells.
+/// run could not be carried out, which it tells, unless the output's reader has enough.
+///
+/// The output is opened only where the text has no fault, and a whole text or nothing stands under its name
+/// that did not before.
 pub fn gen_run<O: Output, E: Sink>(
     alloc: Global,
     which: Which,
     args: &GenArgs,
     bytes: &[u8],
-    output: &O,
+    output: &mut O,
     err: &mut E,
 ) -> Status
     ensures faulty { result ≡ Status.Faulty
@@ -106,15 +106,24 @@ pub fn gen_run<O: Output, E: Sink>(
     ensures written { result ≡ Status.Done → (opened : O.Opened) × (left : O.Opened)
         × Compiles bytes.now (λ items. Appends (O.Opened.state opened).bytes (O.Opened.state left).bytes
         (text_of which (base_of args.now.file.now) items)) }
-    ensures failed { result ≡ Status.Failed
-        → NotGenerated args.now bytes.now (E.state err.old) (E.state err.new) }
+    ensures failed { result ≡ Status.Failed → NotGenerated args.now bytes.now
+        (λ is_closed. (left : O.Opened) × IsTrue (O.Opened.state left).failed
+        × (O.Opened.is_closed left ≡ is_closed))
+        (E.state err.old) (E.state err.new) }
     ensures quiet { result ≡ Status.Done → err.new ≡ err.old }
+    ensures whole { result ≡ Status.Done
+        → Compiles bytes.now (λ items. Holds (O.standing output.old) (O.standing output.new)
+        (text_of which (base_of args.now.file.now) items)) }
+    ensures as_it_was { result ≢ Status.Done → O.standing output.new ≡ O.standing output.old }
+    ensures untouched { result ≡ Status.Faulty → output.new ≡ output.old }
+    ensures faultless { IsFaultless bytes.now ⊎ (output.new ≡ output.old) }
+    ensures tidy { O.has_draft output.old ≡ false → O.has_draft output.new ≡ false }
 {
     let session = match gen_open(alloc, args.file, bytes, err) {
         Ok(session) => session,
         Err(status) => return status,
     };
-    let status = write_opened(which, args, &session, output, err);
+    let status = write_output(which, args, &session, output, err);
     // The process ends next, and gives all memory back at once.
     mem::forget(session);
     status
@@ -122,29 +131,94 @@ pub fn gen_run<O: Output, E: Sink>(
 
 /// Opens the output and writes a generated text, and answers the status: `Failed` where the output cannot be
 /// opened or fails, which it tells.
-fn write_opened<O: Output, E: Sink>(
+fn write_output<O: Output, E: Sink>(
     which: Which,
     args: &GenArgs,
     session: &Session,
-    output: &O,
+    output: &mut O,
     err: &mut E,
 ) -> Status
     ensures written { result ≡ Status.Done → (opened : O.Opened) × (left : O.Opened)
         × Compiles session.now.text
         (λ items. Appends (O.Opened.state opened).bytes (O.Opened.state left).bytes
         (text_of which session.now.base items)) }
-    ensures faultless { result ≢ Status.Faulty }
-    ensures failed { result ≡ Status.Failed → NotWritten args.now (E.state err.old) (E.state err.new) }
+    ensures status { result ≢ Status.Faulty }
+    ensures failed { result ≡ Status.Failed → NotWritten args.now
+        (λ is_closed. (left : O.Opened) × IsTrue (O.Opened.state left).failed
+        × (O.Opened.is_closed left ≡ is_closed))
+        (E.state err.old) (E.state err.new) }
     ensures quiet { result ≡ Status.Done → err.new ≡ err.old }
+    ensures whole { result ≡ Status.Done
+        → Compiles session.now.text (λ items. Holds (O.standing output.old) (O.standing output.new)
+        (text_of which session.now.base items)) }
+    ensures as_it_was { result ≢ Status.Done → O.standing output.new ≡ O.standing output.old }
+    ensures tidy { O.has_draft output.old ≡ false → O.has_draft output.new ≡ false }
 {
-    let Some(mut out) = output.open() else {
-        tell_no_output(args, err);
-        return Status::Failed;
-    };
-    gen_write(which, session, &mut out, err)
+    match output.open() {
+        Ok(opened) => write_opened(which, args, session, opened, output, err),
+        Err(fault) => {
+            tell_unopened_output(fault, args, err);
+            Status::Failed
+        }
+    }
 }
 
-/// Writes that the output cannot be opened.
+/// Writes a generated text to what was opened, gives that the output's name where it took all, and answers
+/// the status: `Failed` where it fails, which it tells.
+fn write_opened<O: Output, E: Sink>(
+    which: Which,
+    args: &GenArgs,
+    session: &Session,
+    opened: O::Opened,
+    output: &mut O,
+    err: &mut E,
+) -> Status
+    ensures written { result ≡ Status.Done → (left : O.Opened)
+        × Compiles session.now.text
+        (λ items. Appends (O.Opened.state opened).bytes (O.Opened.state left).bytes
+        (text_of which session.now.base items)
+        × IsNamed (O.standing output.new) (O.Opened.state left).bytes) }
+    ensures status { result ≢ Status.Faulty }
+    ensures failed { result ≡ Status.Failed → NotWritten args.now
+        (λ is_closed. (left : O.Opened) × IsTrue (O.Opened.state left).failed
+        × (O.Opened.is_closed left ≡ is_closed))
+        (E.state err.old) (E.state err.new) }
+    ensures quiet { result ≡ Status.Done → err.new ≡ err.old }
+    ensures as_it_was { result ≢ Status.Done → O.standing output.new ≡ O.standing output.old }
+    ensures tidy { O.has_draft output.new ≡ false }
+{
+    let mut opened = opened;
+    match gen_write(which, session, &mut opened, err) {
+        Status::Done => {
+            if output.keep(opened) {
+                return Status::Done;
+            }
+            tell_no_output(args, err);
+        }
+        _ => take_away(opened, output),
+    }
+    Status::Failed
+}
+
+/// Takes away what an output did not take whole.
+fn take_away<O: Output>(opened: O::Opened, output: &mut O)
+    ensures standing { O.standing output.new ≡ O.standing output.old }
+    ensures tidy { O.has_draft output.new ≡ false }
+{
+    output.let_go(opened);
+}
+
+/// Writes why the output is not opened.
+fn tell_unopened_output<E: Sink>(fault: OutputFault, args: &GenArgs, err: &mut E)
+    ensures { IsTold (E.state err.old) (E.state err.new) (output_told args.now fault) }
+{
+    match fault {
+        OutputFault::Refused => tell_no_output(args, err),
+        OutputFault::NoMemory => tell_of_file("rpcgen", "out of memory", "\n", err),
+    }
+}
+
+/// Writes that the output cannot be written.
 fn tell_no_output<E: Sink>(args: &GenArgs, err: &mut E)
     ensures { IsTold (E.state err.old) (E.state err.new) (no_output_told args.now) }
 {

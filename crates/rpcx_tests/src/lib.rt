@@ -4,4 +4,6 @@
 #[cfg(test)]
 mod arguments;
 #[cfg(test)]
+mod outputs;
+#[cfg(test)]
 mod runs;

@@ -1,13 +1,13 @@
 -- What is answered to a command line that no run comes of: one that asks for help or the version, and one
 -- that is refused.
-use Rattle.std.specs.Prelude.{◌≡◌, ◌≢◌, ◌⊎◌, ℕ, true, false, List, ◌++◌, codes}
+use Rattle.std.specs.Prelude.{◌≡◌, ◌≢◌, ◌⊎◌, ℕ, Bool, true, false, List, ◌++◌, codes}
 use Rattle.std.specs.List.{All}
 use Rattle.std.specs.Io.KnownBytes.{Appends}
 use Rattle.clap.specs.declared.error.kind.ErrorKind.{ErrorKind}
 use Rattle.clap.specs.declared.error.kind.ErrorKind.TheVariants.{DisplayHelp, DisplayVersion}
 use Rattle.clap.specs.declared.error.kind.ErrorKind.TheVariants.{MissingRequiredArgument, OutOfMemory}
 use Rattle.x_text.specs.Streams.{Stream}
-use Rattle.x_args.specs.Telling.{Grows, IsTold, told_of}
+use Rattle.x_args.specs.Telling.{Complains, Grows, IsTold, told_of}
 use Rattle.x_args.specs.declared.manual.Manual.{Manual}
 use Rattle.x_args.specs.declared.manual.TheConstants.{VERSION}
 use Rattle.x_args.specs.declared.status.Status.{Status}
@@ -33,14 +33,15 @@ abbrev pub IsOneLine : List ℕ → Type 0
 IsOneLine text = All (λ b. b ≢ 10) text
 
 -- The output took a text, and nothing was told; or it has failed with a front of the text, which the program
--- tells.
-abbrev pub IsShown : (program text : List ℕ) → (out out' err err' : Stream) → Status → Type 0
-IsShown program text out out' err err' Done =
+-- tells, unless the output's reader has enough.
+abbrev pub IsShown : (program text : List ℕ) → (is_closed : Bool) → (out out' err err' : Stream)
+    → Status → Type 0
+IsShown program text is_closed out out' err err' Done =
     Appends out.bytes out'.bytes text × (out'.failed ≡ false) × (err' ≡ err)
-IsShown program text out out' err err' Faulty = ⊥
-IsShown program text out out' err err' Failed =
+IsShown program text is_closed out out' err err' Faulty = ⊥
+IsShown program text is_closed out out' err err' Failed =
     Grows out out' text × (out'.failed ≡ true)
-    × IsTold err err' (told_of program (codes "output cannot be written"))
+    × Complains is_closed err err' (told_of program (codes "output cannot be written"))
 
 -- Why words are refused, as it is told: memory ran out; or there is no FILE; or what clap says, in one line,
 -- for which there may be no memory either.
@@ -54,9 +55,11 @@ IsRefused m kind before after =
 
 -- What is answered to words by the kind of clap's error: the help, the version, or why they are refused, and
 -- then nothing is shown.
-abbrev pub AnswersWords : Manual → ErrorKind → (out out' err err' : Stream) → Status → Type 0
-AnswersWords m DisplayHelp out out' err err' status =
-    IsShown m.name.now (help_text m) out out' err err' status
-AnswersWords m DisplayVersion out out' err err' status =
-    IsShown m.name.now (version_text m) out out' err err' status
-AnswersWords m kind out out' err err' status = (status ≡ Failed) × (out' ≡ out) × IsRefused m kind err err'
+abbrev pub AnswersWords : Manual → ErrorKind → (is_closed : Bool) → (out out' err err' : Stream)
+    → Status → Type 0
+AnswersWords m DisplayHelp is_closed out out' err err' status =
+    IsShown m.name.now (help_text m) is_closed out out' err err' status
+AnswersWords m DisplayVersion is_closed out out' err err' status =
+    IsShown m.name.now (version_text m) is_closed out out' err err' status
+AnswersWords m kind is_closed out out' err err' status =
+    (status ≡ Failed) × (out' ≡ out) × IsRefused m kind err err'

@@ -1,5 +1,5 @@
 -- What the programs tell on standard error, as far as it takes that.
-use Rattle.std.specs.Prelude.{ℕ, MatchBool, ◌≤◌, List, ◌++◌, length, take, codes}
+use Rattle.std.specs.Prelude.{◌≡◌, ℕ, Bool, MatchBool, ◌≤◌, List, ◌++◌, length, take, codes}
 use Rattle.std.specs.Io.KnownBytes.{Appends}
 use Rattle.x_text.specs.Streams.{Stream}
 
@@ -12,6 +12,10 @@ Grows before after text =
 abbrev pub IsTold : Stream → Stream → List ℕ → Type 0
 IsTold before after text =
     MatchBool after.failed (Grows before after text) (Appends before.bytes after.bytes text)
+
+-- what is written of an output that has failed: nothing where its reader has enough, and else a text
+abbrev pub Complains : (is_closed : Bool) → Stream → Stream → List ℕ → Type 0
+Complains is_closed before after text = MatchBool is_closed (after ≡ before) (IsTold before after text)
 
 -- `PROGRAM: WHAT`
 abbrev pub told_of : List ℕ → List ℕ → List ℕ

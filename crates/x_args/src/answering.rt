@@ -8,26 +8,26 @@ ghost use Rattle.x_args.specs.Telling.{IsTold};
 ghost use Rattle.x_args.specs.Answering.{help_text, refused_told, version_text, AnswersWords};
 ghost use Rattle.x_args.specs.Answering.{IsOneLine, IsRefused, IsShown};
 
-use crate::complaint::tell_of_file;
+use crate::complaint::{complain_of_output, tell_of_file};
 use crate::manual::{Manual, VERSION};
 use crate::status::Status;
 use clap::Error;
 use clap::error::ErrorKind;
 use memchr::memchr;
 use std::alloc::Global;
-use x_text::{Pen, Sink};
+use x_text::{Outlet, Pen, Sink};
 
 /// Answers words of which `clap` read no arguments: it shows the help or the version where they ask for it,
 /// or tells why they are refused, and answers the status.
-pub fn answer_words<O: Sink, E: Sink>(
+pub fn answer_words<O: Outlet, E: Sink>(
     alloc: Global,
     manual: &Manual,
     error: &Error,
     out: &mut O,
     err: &mut E,
 ) -> Status
-    ensures answers { AnswersWords manual.now (kind_of error.now) (O.state out.old) (O.state out.new)
-        (E.state err.old) (E.state err.new) result }
+    ensures answers { AnswersWords manual.now (kind_of error.now) (O.is_closed out.new)
+        (O.state out.old) (O.state out.new) (E.state err.old) (E.state err.new) result }
     ensures quiet { result ≡ Status.Done → err.new ≡ err.old }
 {
     match error.kind() {
@@ -41,9 +41,9 @@ pub fn answer_words<O: Sink, E: Sink>(
 }
 
 /// Shows the help of a program.
-fn show_help<O: Sink, E: Sink>(manual: &Manual, out: &mut O, err: &mut E) -> Status
-    ensures shown { IsShown manual.now.name.now (help_text manual.now) (O.state out.old) (O.state out.new)
-        (E.state err.old) (E.state err.new) result }
+fn show_help<O: Outlet, E: Sink>(manual: &Manual, out: &mut O, err: &mut E) -> Status
+    ensures shown { IsShown manual.now.name.now (help_text manual.now) (O.is_closed out.new)
+        (O.state out.old) (O.state out.new) (E.state err.old) (E.state err.new) result }
     ensures quiet { result ≡ Status.Done → err.new ≡ err.old }
 {
     let mut pen = Pen::new();
@@ -55,9 +55,9 @@ fn show_help<O: Sink, E: Sink>(manual: &Manual, out: &mut O, err: &mut E) -> Sta
 }
 
 /// Shows the version of a program.
-fn show_version<O: Sink, E: Sink>(manual: &Manual, out: &mut O, err: &mut E) -> Status
-    ensures shown { IsShown manual.now.name.now (version_text manual.now) (O.state out.old) (O.state out.new)
-        (E.state err.old) (E.state err.new) result }
+fn show_version<O: Outlet, E: Sink>(manual: &Manual, out: &mut O, err: &mut E) -> Status
+    ensures shown { IsShown manual.now.name.now (version_text manual.now) (O.is_closed out.new)
+        (O.state out.old) (O.state out.new) (E.state err.old) (E.state err.new) result }
     ensures quiet { result ≡ Status.Done → err.new ≡ err.old }
 {
     let mut pen = Pen::new();
@@ -70,16 +70,16 @@ fn show_version<O: Sink, E: Sink>(manual: &Manual, out: &mut O, err: &mut E) -> 
 
 /// Writes what a pen held back, has the output pass it on, and answers the status: `Failed` where the output
 /// fails, which it tells.
-fn end_showing<O: Sink, E: Sink>(pen: Pen, manual: &Manual, out: &mut O, err: &mut E) -> Status
+fn end_showing<O: Outlet, E: Sink>(pen: Pen, manual: &Manual, out: &mut O, err: &mut E) -> Status
     ensures shown { (start : Stream) (text : List ℕ) → Writes start text pen (O.state out.old)
-        → IsShown manual.now.name.now text start (O.state out.new)
+        → IsShown manual.now.name.now text (O.is_closed out.new) start (O.state out.new)
         (E.state err.old) (E.state err.new) result }
     ensures quiet { result ≡ Status.Done → err.new ≡ err.old }
 {
     let mut pen = pen;
     pen.flush(out);
     if pen.has_stopped() {
-        tell_of_file(manual.name, "output cannot be written", "\n", err);
+        complain_of_output(manual.name, out, err);
         return Status::Failed;
     }
     Status::Done

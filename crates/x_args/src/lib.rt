@@ -4,6 +4,7 @@
 mod answering;
 mod arguments;
 mod complaint;
+mod drawing;
 mod dumping_args;
 mod editing_args;
 mod generating_args;
@@ -14,7 +15,8 @@ mod status;
 mod words;
 
 pub use answering::answer_words;
-pub use complaint::{complain, tell_of_file};
+pub use complaint::{complain_of_output, tell_of_file};
+pub use drawing::draw_key;
 pub use dumping_args::{DumpArgs, Mode, dump_args, dump_mode};
 pub use editing_args::{EditArgs, edit_args};
 pub use generating_args::{GenArgs, gen_args, gen_mode};

@@ -21,6 +21,7 @@ ghost use Rattle.x_compile.specs.KeptView.{kept_definition, kept_found, renewed_
 use crate::content::{CheckResult, Content, faults_of};
 use std::alloc::Global;
 use x_gen::{Pieces, Renderer};
+use x_hash::HashKey;
 use x_item::Definition;
 use x_names::{Declarer, Names};
 use x_rules::{Checked, Outline, View, check_outline};
@@ -36,9 +37,14 @@ pub struct Checks {
     pub faults: usize,
 }
 
-/// Checks the items of a text, none of which is checked yet, in their order. Counts each that has a
-/// definition as checked.
-pub fn check_all(alloc: Global, items: &[&Content], meter: &mut Meter) -> Result<Checks, NoMemory>
+/// Checks the items of a text, none of which is checked yet, in their order, over tables that hash by the
+/// key. Counts each that has a definition as checked.
+pub fn check_all(
+    alloc: Global,
+    hash_key: HashKey,
+    items: &[&Content],
+    meter: &mut Meter,
+) -> Result<Checks, NoMemory>
     requires short { AreShort (kept_definitions (map (λ k. k.now) items.now)) }
     requires unchecked { All (λ k. kept_found k.now ≡ None) items.now }
     ensures checked { IfOk result
@@ -46,17 +52,21 @@ pub fn check_all(alloc: Global, items: &[&Content], meter: &mut Meter) -> Result
     ensures counted { IfOk result
         (λ checks. meter.new ≡ counted meter.old (kept_definitions (map (λ k. k.now) items.now))) }
 {
-    let names = names_of(alloc, items)?;
+    let names = names_of(alloc, hash_key, items)?;
     check_items(alloc, items, &names, meter)
 }
 
 /// The table of the names that the items declare.
-fn names_of<'i>(alloc: Global, items: &[&'i Content]) -> Result<Names<'i>, NoMemory>
+fn names_of<'i>(
+    alloc: Global,
+    hash_key: HashKey,
+    items: &[&'i Content],
+) -> Result<Names<'i>, NoMemory>
     ensures { IfOk result (λ names. AreShort (kept_definitions (map (λ k. k.now) items.now))
         → (name : List ℕ)
         → FirstIs (kept_definitions (map (λ k. k.now) items.now)) name (first_in names name)) }
 {
-    Names::of(alloc, &definitions_in(alloc, items)?)
+    Names::keyed(alloc, hash_key, &definitions_in(alloc, items)?)
 }
 
 /// The definition of each item.
@@ -154,7 +164,7 @@ fn check<'i>(
         names,
         results,
     )?;
-    let checked = check_outline(alloc, &outline, &views, meter)?;
+    let checked = check_outline(alloc, names.hash_key(), &outline, &views, meter)?;
     walk.declared = walk.declared.saturating_add(outline.declared().len());
     walk.last = Some(outline);
     let pieces = new_pieces(&mut walk.renderer, definition, &checked, false)?;

@@ -9,6 +9,7 @@ use crate::item_table::ItemTable;
 use crate::keeping::keep_results;
 use crate::parsing::parse_items;
 use std::alloc::Global;
+use x_hash::HashKey;
 use x_item::ItemEntry;
 use x_lex::{Tokens, lex};
 use x_text::{Meter, NoMemory, Source};
@@ -20,8 +21,14 @@ pub struct Compilation {
     pub items: ItemTable,
 }
 
-/// Compiles a text from scratch. Tokens and items have their seats behind the last of them.
-pub fn compile(alloc: Global, source: &Source, meter: &mut Meter) -> Result<Compilation, NoMemory>
+/// Compiles a text from scratch, over tables that hash by the key. Tokens and items have their seats behind
+/// the last of them.
+pub fn compile(
+    alloc: Global,
+    hash_key: HashKey,
+    source: &Source,
+    meter: &mut Meter,
+) -> Result<Compilation, NoMemory>
     ensures kept { IfOk result
         (λ c. IsKept source.now c.tokens.list c.items.entries.list c.items.faults c.items.uses) }
     ensures token_seat { IfOk result (λ c. c.tokens.seat ≡ length c.tokens.list) }
@@ -29,9 +36,9 @@ pub fn compile(alloc: Global, source: &Source, meter: &mut Meter) -> Result<Comp
 {
     let tokens = lex(alloc, source, meter)?;
     let mut entries = parse_items(alloc, &tokens, source, meter)?;
-    let Checks { results, faults } = check_all(alloc, &kept_of(alloc, &entries)?, meter)?;
+    let Checks { results, faults } = check_all(alloc, hash_key, &kept_of(alloc, &entries)?, meter)?;
     keep_results(&mut entries, results);
-    let items = ItemTable::of(alloc, entries, faults)?;
+    let items = ItemTable::of(alloc, hash_key, entries, faults)?;
     Ok(Compilation { tokens, items })
 }
 

@@ -12,6 +12,7 @@ ghost use Rattle.x_rules.specs.Results.{result_at};
 use crate::content::Content;
 use std::alloc::Global;
 use x_gen::{PieceList, Pieces};
+use x_hash::HashKey;
 use x_item::{Definition, ItemEntry, Items};
 use x_rules::Checked;
 use x_text::{GapIter, NoMemory};
@@ -24,6 +25,8 @@ pub struct ItemTable {
     pub faults: usize,
     /// Which of them declare and use each name: made at the first edit, so that who makes none pays nothing.
     pub uses: Option<Uses>,
+    /// What tables of their names and numbers hash by.
+    pub hash_key: HashKey,
 }
 
 // By hand, so that who lets it go calls this, and need not prove anew how its parts are let go.
@@ -33,14 +36,16 @@ impl Drop for ItemTable {
             entries: _,
             faults: _,
             uses: _,
+            hash_key: _,
         } = self;
     }
 }
 
 impl ItemTable {
-    /// These items, which have so many faults.
+    /// These items, which have so many faults, and what tables of their names and numbers hash by.
     pub fn of(
         alloc: Global,
+        hash_key: HashKey,
         entries: Vec<ItemEntry<Content>>,
         faults: usize,
     ) -> Result<ItemTable, NoMemory>
@@ -55,6 +60,7 @@ impl ItemTable {
             entries,
             faults,
             uses: None,
+            hash_key,
         })
     }
 

@@ -7,7 +7,7 @@ use Rattle.x_schema.specs.Schemas.{IsSchemaOf}
 use Rattle.x_schema.specs.declared.procedure.CompactProcedure.{CompactProcedure}
 use Rattle.x_schema.specs.declared.procedure.ProcedureNumbers.{ProcedureNumbers}
 use Rattle.x_schema.specs.declared.schema.TypeId.{TypeId}
-use Rattle.x_wire.specs.Calls.{Calls, arguments_called, call_of, name_called, numbers_called, numbers_heard, procedure_called, results_called}
+use Rattle.x_wire.specs.Calls.{Calls, arguments_called, call_of, name_called, number_heard, numbers_called, numbers_heard, procedure_called, results_called}
 use Rattle.x_wire.specs.Headers.{Accepted, Call, Denied, GarbageArgs, Header, ProcUnavail, ProgMismatch, ProgUnavail, Success, SystemErr}
 use Rattle.x_wire.specs.MessageTexts.{Told, IsBehindHead, IsBodyText, IsMessageText, head_text, plain, then_told, read, shown, unread}
 use Rattle.x_wire.specs.MessageTexts as texts
@@ -99,10 +99,10 @@ same_head s t number calls (Call xid rpcvers prog vers proc cred verf) one =
     ap (λ name. texts.call_line number xid rpcvers prog vers proc name ++ texts.auth_line (codes "cred") cred ++ texts.auth_line (codes "verf") verf)
     (name_other s t (numbers_called rpcvers prog vers proc) one)
 same_head s t number calls (Accepted xid verf accept) one =
-    ap (λ name. texts.reply_line number xid (codes "accepted " ++ texts.accept_name accept) (call_of calls xid) name ++ texts.auth_line (codes "verf") verf ++ texts.accept_details accept)
+    ap (λ name. texts.reply_line number xid (codes "accepted " ++ texts.accept_name accept) (number_heard (call_of calls xid)) name ++ texts.auth_line (codes "verf") verf ++ texts.accept_details accept)
     (name_other s t (numbers_heard (call_of calls xid)) one)
 same_head s t number calls (Denied xid reject) one =
-    ap (λ name. texts.reply_line number xid (codes "denied " ++ texts.reject_name reject) (call_of calls xid) name ++ texts.reject_details reject)
+    ap (λ name. texts.reply_line number xid (codes "denied " ++ texts.reject_name reject) (number_heard (call_of calls xid)) name ++ texts.reject_details reject)
     (name_other s t (numbers_heard (call_of calls xid)) one)
 
 behind_other : (s t : Schema) (calls : Calls) (h : Header) (body : List ℕ) (told : Told) → AreOne s t → IsBehindHead s calls h body told → IsBehindHead t calls h body told

@@ -1,10 +1,11 @@
 -- A conversation: the messages of an input, one behind another, and what is said to each.
 use Rattle.std.specs.Prelude.{◌≡◌, ◌⊎◌, ◌≤◌, ℕ, Bool, true, false, List, [], ◌∷◌, ◌++◌, length}
-use Rattle.std.specs.Prelude.{Option, None, Some, Result, Ok, Err, MatchOption}
+use Rattle.std.specs.Prelude.{Option, None, Some, Result, Ok, Err, IfErr, MatchOption, codes}
 use Rattle.std.specs.Io.KnownBytes.{Appends, Consumes}
 use Rattle.x_text.specs.Engines.{WorksOn}
 use Rattle.x_text.specs.Streams.{Stream}
 use Rattle.x_text.specs.Writing.{Adds, HasFront, Inked, counted}
+use Rattle.x_args.specs.Telling.{Complains, IsTold}
 use Rattle.x_args.specs.declared.status.Status.{Status}
 use Rattle.x_args.specs.declared.status.Status.TheVariants.{Done, Faulty, Failed}
 use Rattle.x_lsp.specs.Answers.{IsSaid, framed_if}
@@ -98,12 +99,23 @@ status_of (Ok true) = Done
 status_of (Ok false) = Faulty
 status_of (Err fault) = Failed
 
--- A run of this status is a conversation.
-pub record IsRun (tap tap' sink sink' : Stream) (status : Status) : Type 0 where
+-- what `rpcls` tells of the fault that ends its run: nothing where its output's reader has enough
+abbrev pub TellsFault : (is_closed : Bool) → ServeFault → (before after : Stream) → Type 0
+TellsFault is_closed (Read count) before after = IsTold before after (codes "rpcls: -: cannot be read\n")
+TellsFault is_closed (Bad count) before after =
+    IsTold before after (codes "rpcls: -: no message of the Language Server Protocol\n")
+TellsFault is_closed (Write count) before after =
+    Complains is_closed before after (codes "rpcls: output cannot be written\n")
+TellsFault is_closed (NoMemory count) before after = IsTold before after (codes "rpcls: out of memory\n")
+
+-- A run of this status is a conversation, and its fault is told.
+pub record IsRun (tap tap' sink sink' : Stream) (is_closed : Bool) (before after : Stream) (status : Status)
+    : Type 0 where
   pub ended : Result Bool ServeFault
   pub status_is : status ≡ status_of ended
   pub serves : MatchOption tap.bytes (Unit {0}) (λ input. Serves input tap'.bytes sink sink' ended)
   pub fault : NamesFault ended tap.failed tap'.failed sink.failed sink'.failed
+  pub told : IfErr ended (λ fault. TellsFault is_closed fault before after)
 
 -- the fault that stops a conversation where no message is found
 abbrev pub stop_by : FrameFault → ℕ → ServeFault

@@ -54,7 +54,7 @@ fn names(alloc: Global, session: &Session) -> Result<Names<'_>, NoMemory>
     // So many tokens fit, and no definition has more words.
     let _ = session.token_count();
     let definitions = definitions(alloc, session)?;
-    Names::of(alloc, &definitions)
+    Names::keyed(alloc, session.hash_key(), &definitions)
 }
 
 /// Where the words of each item of a text start.

@@ -16,6 +16,7 @@ use crate::kept::{ChangeFault, Reply, told};
 use crate::positions::Position;
 use crate::waymarks::Waymarks;
 use std::alloc::Global;
+use x_hash::HashKey;
 use x_session::{EditFault, Session};
 
 /// A document that a client has open: its text, and what is found in it.
@@ -36,9 +37,10 @@ pub(crate) struct OpenDocument {
 }
 
 impl OpenDocument {
-    /// Opens a document of a client.
+    /// Opens a document of a client. Tables of its names hash by the key.
     pub(crate) fn open(
         alloc: Global,
+        hash_key: HashKey,
         client: Client,
         uri: &str,
         version: i64,
@@ -52,7 +54,7 @@ impl OpenDocument {
         let Ok(name) = String::from_str(alloc, uri) else {
             return Err(EditFault::NoMemory);
         };
-        let session = Session::open(alloc, base_of(uri), text.as_bytes())?;
+        let session = Session::keyed(alloc, hash_key, base_of(uri), text.as_bytes())?;
         let Ok(marks) = Waymarks::of(alloc, client.encoding, session.bytes()) else {
             return Err(EditFault::NoMemory);
         };

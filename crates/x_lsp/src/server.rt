@@ -28,11 +28,14 @@ use crate::params::{changed_in, opened_in, text_changes, uri_in};
 use crate::questions::result_of;
 use serde_json::Value;
 use std::alloc::{AllocError, Global};
+use x_hash::HashKey;
 
 /// A server of a client.
 #[derive(Drop)]
 pub struct Server {
     alloc: Global,
+    /// What tables of the names of documents hash by.
+    hash_key: HashKey,
     life: Life,
     client: Client,
     documents: Vec<OpenDocument>,
@@ -40,12 +43,14 @@ pub struct Server {
 }
 
 impl Server {
-    /// A server that no client has initialized.
-    pub fn new(alloc: Global) -> Result<Server, AllocError>
+    /// A server that no client has initialized. Whoever writes what the client opens and types must not know
+    /// the key, by which tables of the names in it hash.
+    pub fn new(alloc: Global, hash_key: HashKey) -> Result<Server, AllocError>
         ensures { IfOk result (λ server. server.life ≡ Fresh) }
     {
         Ok(Server {
             alloc,
+            hash_key,
             life: Life::Fresh,
             client: Client {
                 encoding: Encoding::Utf16,
@@ -236,7 +241,14 @@ impl Server {
         ensures says { Publishes self.old.client uri.now version text.now (said_of result) }
         ensures life { self.new.life ≡ self.old.life }
     {
-        let mut opened = match OpenDocument::open(self.alloc, self.client, uri, version, text) {
+        let mut opened = match OpenDocument::open(
+            self.alloc,
+            self.hash_key,
+            self.client,
+            uri,
+            version,
+            text,
+        ) {
             Ok(opened) => opened,
             Err(fault) => return told(self.alloc, ChangeFault::Edit(fault)),
         };

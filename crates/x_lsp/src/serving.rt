@@ -13,6 +13,7 @@ use crate::kept::Reply;
 use crate::server::Server;
 use std::alloc::Global;
 use thiserror::Error;
+use x_hash::HashKey;
 use x_text::{Pen, Sink, Tap};
 use x_value::add_number;
 
@@ -34,19 +35,25 @@ pub enum ServeFault {
 }
 
 /// Answers the messages that a tap gives, one by one, until the client ends the server or there are no more.
-/// It tells whether the client had asked it to shut down.
+/// It tells whether the client had asked it to shut down. Tables of names hash by the key, as [`Server::new`]
+/// says.
 ///
 /// # Errors
 ///
 /// The tap failed: what is said to all messages that are whole in what was read is written. What was read is
 /// no message, or memory ran out: what is said to the messages before is written. The sink failed.
-pub fn serve<I: Tap, O: Sink>(alloc: Global, input: &mut I, out: &mut O) -> Result<bool, ServeFault>
+pub fn serve<I: Tap, O: Sink>(
+    alloc: Global,
+    hash_key: HashKey,
+    input: &mut I,
+    out: &mut O,
+) -> Result<bool, ServeFault>
     ensures serves { MatchOption (I.state input.old).bytes (Unit {0})
         (λ bytes. Serves bytes (I.state input.new).bytes (O.state out.old) (O.state out.new) result) }
     ensures fault { NamesFault result (I.state input.old).failed (I.state input.new).failed
         (O.state out.old).failed (O.state out.new).failed }
 {
-    match Server::new(alloc) {
+    match Server::new(alloc, hash_key) {
         Ok(server) => {
             let mut server = server;
             converse(alloc, &mut server, input, out)

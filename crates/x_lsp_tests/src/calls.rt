@@ -1,5 +1,6 @@
 //! Each public call of `x_lsp` once.
 use std::test::Fail;
+use x_hash::HashKey;
 use x_lsp::{
     Client, Encoding, FaultMessages, MessageReader, Places, Position, Server, TextChange, Waymarks,
     apply_change, definition_at, offset_of, positions_lead_back, publish, references_at, serve,
@@ -69,7 +70,7 @@ fn names_are_found(rt: HostRuntime) -> Result<(), Fail> {
 
 #[test]
 fn a_server_ends(rt: HostRuntime) -> Result<(), Fail> {
-    let mut server = Server::new(rt.alloc())?;
+    let mut server = Server::new(rt.alloc(), HashKey::of_bytes(b""))?;
     let reply = server.reply(b"{\"id\":1,\"method\":\"shutdown\"}");
     assert!(rt; server.text_of(&reply).is_some());
     assert!(rt; server.end().is_none());
@@ -85,5 +86,5 @@ fn a_conversation_ends(rt: HostRuntime) {
     let mut bytes = [0u8; 16];
     let mut sink = MemSink::new(&mut bytes, 3, 16);
     let mut tap = MemTap::new(EXIT, 3, 1000);
-    assert!(rt; serve(rt.alloc(), &mut tap, &mut sink) == Ok(false));
+    assert!(rt; serve(rt.alloc(), HashKey::of_bytes(b""), &mut tap, &mut sink) == Ok(false));
 }

@@ -5,3 +5,5 @@
 mod calls;
 #[cfg(test)]
 mod memory;
+#[cfg(test)]
+mod requests;

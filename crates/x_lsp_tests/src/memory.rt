@@ -5,6 +5,7 @@ use refusals::{MOST_TURNS, begin, end};
 use std::alloc::Global;
 use std::process::Abort;
 use std::test::Fail;
+use x_hash::HashKey;
 use x_lsp::Server;
 
 const INITIALIZE: &[u8] = b"{\"id\":1,\"method\":\"initialize\",\"params\":{\"capabilities\":{}}}";
@@ -42,10 +43,10 @@ const REFERRED: &[u8] =
 
 /// What tells that memory ran out: an answer to the request, an answer to a message that was not read, and a
 /// note.
-const ANSWER: &[u8] =
+pub const ANSWER: &[u8] =
     b"{\"error\":{\"code\":-32603,\"message\":\"out of memory\"},\"id\":7,\"jsonrpc\":\"2.0\"}";
 
-const ANSWER_TO_NONE: &[u8] =
+pub const ANSWER_TO_NONE: &[u8] =
     b"{\"error\":{\"code\":-32603,\"message\":\"out of memory\"},\"id\":null,\"jsonrpc\":\"2.0\"}";
 
 const NOTE: &[u8] = b"{\"jsonrpc\":\"2.0\",\"method\":\"window/showMessage\",\"params\":{\
@@ -106,7 +107,7 @@ fn say_with_little_memory(
     exchange: Exchange,
 ) -> Result<usize, Fail> {
     for turn in 0..MOST_TURNS {
-        let mut server = Server::new(alloc)?;
+        let mut server = Server::new(alloc, HashKey::of_bytes(b""))?;
         let _first = server.reply(INITIALIZE);
         let _opened = server.reply(OPEN);
         let refused = say(rt, alloc, &mut server, turn, exchange)?;

@@ -14,7 +14,9 @@ ghost use Rattle.x_trees.specs.View.{tree_at};
 use indexmap::IndexMap;
 use std::alloc::Global;
 use std::borrow::CowSlice;
+use std::hash::{DefaultHasher, Hasher};
 use std::marker::Model;
+use x_hash::{HashKey, KeyedTable};
 use x_text::NoMemory;
 use x_trees::{Definition, Glossary, NameKind};
 
@@ -38,7 +40,7 @@ pub struct Declarer {
 #[derive(Drop)]
 pub struct Names<'d> {
     /// A name lies in the definition that declares it first, but for that of an inline type.
-    table: IndexMap<CowSlice<'d, u8>, Declarer>,
+    table: KeyedTable<CowSlice<'d, u8>, Declarer>,
 }
 
 impl<'d> Model for Names<'d> {
@@ -53,7 +55,7 @@ impl<'d> Model for Names<'d> {
 
 impl<'d> Names<'d> {
     /// The table of the items' definitions; an item without one declares nothing. It takes time in proportion
-    /// to the definitions.
+    /// to the definitions, whatever their names are: it hashes by a key that is made of all of these.
     ///
     /// # Errors
     ///
@@ -62,9 +64,30 @@ impl<'d> Names<'d> {
         ensures { IfOk result (λ names. AreShort (map tree_at definitions.now)
             → (name : List ℕ) → FirstIs (map tree_at definitions.now) name (first_in names name)) }
     {
+        Names::keyed(alloc, key_of_names(alloc, definitions)?, definitions)
+    }
+
+    /// As [`Names::of`], by a key that whoever chose the names did not know.
+    ///
+    /// # Errors
+    ///
+    /// [`NoMemory`] where the table, or a name in it, could not grow.
+    pub fn keyed(
+        alloc: Global,
+        key: HashKey,
+        definitions: &[Option<&'d Definition>],
+    ) -> Result<Names<'d>, NoMemory>
+        ensures { IfOk result (λ names. AreShort (map tree_at definitions.now)
+            → (name : List ℕ) → FirstIs (map tree_at definitions.now) name (first_in names name)) }
+    {
         Ok(Names {
-            table: table_of(alloc, definitions)?,
+            table: table_of(alloc, key, definitions)?,
         })
+    }
+
+    /// What the table hashes by.
+    pub fn hash_key(&self) -> HashKey {
+        *self.table.hasher()
     }
 
     /// The first declarer of the name (RFC 4506, section 6.4). A name that was declared beforehand has none:
@@ -92,16 +115,30 @@ impl<'d> Names<'d> {
     }
 }
 
+/// A key that is made of all names that the definitions declare.
+fn key_of_names(alloc: Global, definitions: &[Option<&Definition>]) -> Result<HashKey, NoMemory> {
+    let mut glossary = Glossary::new(alloc);
+    let mut hasher = DefaultHasher::new();
+    for definition in definitions.iter().flatten() {
+        glossary.read(alloc, definition)?;
+        for declared in &glossary.declared {
+            hasher.write(&declared.name);
+        }
+    }
+    Ok(HashKey::of_hasher(hasher))
+}
+
 /// The table of the items' definitions, also of names that were declared beforehand. It is made from the last
 /// item to the first, so that the first declarer of a name is what it is left with.
 fn table_of<'d>(
     alloc: Global,
+    key: HashKey,
     definitions: &[Option<&'d Definition>],
-) -> Result<IndexMap<CowSlice<'d, u8>, Declarer>, NoMemory>
+) -> Result<KeyedTable<CowSlice<'d, u8>, Declarer>, NoMemory>
     ensures { IfOk result (λ table. AreShort (map tree_at definitions.now)
         → (name : List ℕ) → entry_in table.entries name ≡ first_from 0 (map tree_at definitions.now) name) }
 {
-    let mut table = IndexMap::with_capacity(alloc, definition_count(definitions))?;
+    let mut table = IndexMap::with_capacity_and_hasher(alloc, definition_count(definitions), key)?;
     let mut glossary = Glossary::new(alloc);
     for item in (0..definitions.len()).rev() {
         if let Some(definition) = definitions[item] {
@@ -123,7 +160,7 @@ fn definition_count(definitions: &[Option<&Definition>]) -> usize {
 }
 
 /// What the table has for the name.
-fn entry(table: &IndexMap<CowSlice<u8>, Declarer>, name: &[u8]) -> Option<Declarer>
+fn entry(table: &KeyedTable<CowSlice<u8>, Declarer>, name: &[u8]) -> Option<Declarer>
     ensures { result ≡ entry_in table.now.entries name.now }
 {
     table.get(name).copied()
@@ -132,7 +169,7 @@ fn entry(table: &IndexMap<CowSlice<u8>, Declarer>, name: &[u8]) -> Option<Declar
 /// What the table has for the name, which is tried first at the entry where it stands if each name is
 /// declared once: the last name was put in first.
 fn entry_near(
-    table: &IndexMap<CowSlice<u8>, Declarer>,
+    table: &KeyedTable<CowSlice<u8>, Declarer>,
     place: usize,
     name: &[u8],
 ) -> Option<Declarer>
@@ -147,7 +184,10 @@ fn entry_near(
 
 /// Makes room for so many names where the table has fewer yet, so that a large item does not make it grow
 /// again and again.
-fn reserve_names(table: &mut IndexMap<CowSlice<u8>, Declarer>, count: usize) -> Result<(), NoMemory>
+fn reserve_names(
+    table: &mut KeyedTable<CowSlice<u8>, Declarer>,
+    count: usize,
+) -> Result<(), NoMemory>
     ensures { table.new.entries ≡ table.old.entries }
 {
     if table.len() < count {
@@ -160,7 +200,7 @@ fn reserve_names(table: &mut IndexMap<CowSlice<u8>, Declarer>, count: usize) -> 
 /// memory that is used again.
 fn add<'d>(
     alloc: Global,
-    table: &mut IndexMap<CowSlice<'d, u8>, Declarer>,
+    table: &mut KeyedTable<CowSlice<'d, u8>, Declarer>,
     glossary: &mut Glossary<'d>,
     item: usize,
     definition: &'d Definition,
@@ -187,7 +227,7 @@ fn add<'d>(
 
 /// Takes in a name with its declarer, in place of another that the name has.
 fn note<'d>(
-    table: &mut IndexMap<CowSlice<'d, u8>, Declarer>,
+    table: &mut KeyedTable<CowSlice<'d, u8>, Declarer>,
     name: CowSlice<'d, u8>,
     declarer: Declarer,
 ) -> Result<(), NoMemory>

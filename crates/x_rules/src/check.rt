@@ -25,6 +25,7 @@ use crate::rules::cases::{add_repeated_cases, bad_cases};
 use crate::rules::constants::{Constants, enumerators};
 use crate::rules::duplicates::add_duplicates;
 use crate::rules::heights::add_too_high;
+use crate::rules::keys::key_of;
 use crate::rules::meanings::meanings;
 use crate::rules::mentioned::add_mentioned;
 use crate::rules::repeats::{add_repeated_fields, add_repeated_members};
@@ -33,6 +34,7 @@ use crate::rules::words::{add_past_last, add_words};
 use crate::views::View;
 use smallvec::SmallVec;
 use std::alloc::Global;
+use x_hash::HashKey;
 use x_outline::{Outline, members};
 use x_text::{Meter, NoMemory};
 use x_trees::Definition;
@@ -70,8 +72,8 @@ fn add_body_faults(
 {
     let groups = members(alloc, outline.definition)?;
     add_repeated_cases(alloc, faults, &outline.bodies, sights, constants)?;
-    add_repeated_fields(alloc, faults, &outline.bodies)?;
-    add_repeated_members(alloc, faults, &groups)?;
+    add_repeated_fields(alloc, sights.hash_key, faults, &outline.bodies)?;
+    add_repeated_members(alloc, sights.hash_key, faults, &groups)?;
     add_too_high(
         faults,
         outline.definition,
@@ -170,14 +172,19 @@ fn outcome_seen(alloc: Global, outline: &Outline, sights: &Sights) -> Result<Che
     checked(alloc, outline, sights, &constants)
 }
 
-/// What is found of a definition under these views.
-fn outcome(alloc: Global, outline: &Outline, views: &[View]) -> Result<Checked, NoMemory>
+/// What is found of a definition under these views, over tables that hash by the key.
+fn outcome(
+    alloc: Global,
+    hash_key: HashKey,
+    outline: &Outline,
+    views: &[View],
+) -> Result<Checked, NoMemory>
     ensures { IfOk result (λ checked. IsOutline outline.now
         → IsOutcome (outlined outline.now) (map view_view views.now) checked) }
 {
     let mut names = SmallVec::new(alloc);
     list_names(&mut names, &outline.declared, &outline.mentioned)?;
-    let sights = Sights::of(alloc, &names, views)?;
+    let sights = Sights::of(alloc, hash_key, &names, views)?;
     outcome_seen(alloc, outline, &sights)
 }
 
@@ -201,16 +208,18 @@ pub fn check_item(
 {
     meter.tick_checked();
     let outline = Outline::of(alloc, definition)?;
-    outcome(alloc, &outline, views)
+    outcome(alloc, key_of(alloc, &outline)?, &outline, views)
 }
 
-/// As [`check_item`], of a definition whose outline is there.
+/// As [`check_item`], of a definition whose outline is there, by a key that whoever chose the names and
+/// numbers of the definition did not know.
 ///
 /// # Errors
 ///
 /// As [`check_item`].
 pub fn check_outline(
     alloc: Global,
+    hash_key: HashKey,
     outline: &Outline,
     views: &[View],
     meter: &mut Meter,
@@ -220,5 +229,5 @@ pub fn check_outline(
     ensures counted { meter.new ≡ record meter.old { checked = raised meter.old.checked 1 } }
 {
     meter.tick_checked();
-    outcome(alloc, outline, views)
+    outcome(alloc, hash_key, outline, views)
 }

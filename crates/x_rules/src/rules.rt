@@ -7,6 +7,7 @@ pub mod duplicates;
 pub mod first_places;
 pub mod found;
 pub mod heights;
+pub mod keys;
 pub mod meanings;
 pub mod mentioned;
 pub mod packed_numbers;

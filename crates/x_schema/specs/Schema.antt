@@ -1,6 +1,7 @@
 -- The types of a text: forms by their places, and the names that lead to them.
 use Rattle.std.specs.Prelude.{ℕ, ◌≡◌, ◌<◌, nat_eq, Bool, ◌&&◌, List, [], Option, Some, map, option_map}
 use Rattle.std.specs.Prelude.{length}
+use Rattle.std.specs.List.{slice_get}
 use Rattle.std.specs.Map.{lookup}
 use Rattle.std.specs.Str.{bytes_eq}
 use Rattle.std.specs.Global.{Global}
@@ -68,6 +69,10 @@ same_numbers a b =
 abbrev pub procedure_at : Schema → ProcedureNumbers → Option CompactProcedure
 procedure_at s numbers = lookup (same_numbers numbers) s.procedures
 
+-- the procedure at an index
+abbrev pub kept_at : Schema → ℕ → Option CompactProcedure
+kept_at s index = option_map (λ e. e.1) (slice_get s.procedures index)
+
 -- what it is called with, and what it answers
 abbrev pub arguments_id : CompactProcedure → TypeId
 arguments_id kept = record { root = roots.Arguments; form = kept.arguments }
@@ -80,6 +85,15 @@ pub record IsProcedureAt (s : Schema) (numbers : ProcedureNumbers) (name : List 
     (arg res : TypeId) : Type 0 where
   pub kept : CompactProcedure
   pub found : procedure_at s numbers ≡ Some kept
+  pub name_is : name ≡ name_at s kept.name
+  pub arg_is : arg ≡ arguments_id kept
+  pub res_is : res ≡ results_id kept
+
+-- what is kept of a procedure is shown by this name, these arguments and these results
+pub record IsShownAs (s : Schema) (procedure : Option CompactProcedure) (name : List ℕ)
+    (arg res : TypeId) : Type 0 where
+  pub kept : CompactProcedure
+  pub is_kept : procedure ≡ Some kept
   pub name_is : name ≡ name_at s kept.name
   pub arg_is : arg ≡ arguments_id kept
   pub res_is : res ≡ results_id kept

@@ -17,6 +17,7 @@ ghost use Rattle.x_schema.specs.SchemaOf.{signed_word, unsigned_word, with_first
 use indexmap::IndexMap;
 use std::alloc::Global;
 use std::marker::Model;
+use x_hash::{HashKey, KeyedTable};
 use x_numbers::{next_number, number_value};
 use x_text::NoMemory;
 use x_trees::{Arm, Body, DataType, Declaration, Definition, Enumerator, UnionBody, Value};
@@ -47,7 +48,7 @@ pub fn signed_word(number: i128) -> Option<u32>
 /// The constants of a text with their numbers: the first of a name has it. They are seen as that list.
 #[derive(Drop)]
 pub struct Constants<'d> {
-    table: IndexMap<&'d [u8], i128>,
+    table: KeyedTable<&'d [u8], i128>,
 }
 
 impl<'d> Model for Constants<'d> {
@@ -60,14 +61,15 @@ impl<'d> Model for Constants<'d> {
 }
 
 impl<'d> Constants<'d> {
-    /// The constants of the items' definitions.
+    /// The constants of the items' definitions, in a table that hashes by the key.
     pub fn of(
         alloc: Global,
+        hash_key: HashKey,
         definitions: &[Option<&'d Definition>],
     ) -> Result<Constants<'d>, NoMemory>
         ensures { IfOk result (λ constants. constants ≡ numbers_of (map tree_at definitions.now)) }
     {
-        let mut constants = Constants::beforehand(alloc)?;
+        let mut constants = Constants::beforehand(alloc, hash_key)?;
         for definition in definitions {
             if let Some(definition) = definition {
                 constants.definition(definition)?;
@@ -77,11 +79,11 @@ impl<'d> Constants<'d> {
     }
 
     /// Those that are declared beforehand.
-    fn beforehand(alloc: Global) -> Result<Constants<'d>, NoMemory>
+    fn beforehand(alloc: Global, hash_key: HashKey) -> Result<Constants<'d>, NoMemory>
         ensures { IfOk result (λ constants. constants ≡ beforehand) }
     {
         let mut constants = Constants {
-            table: IndexMap::new(alloc),
+            table: IndexMap::with_hasher(alloc, hash_key),
         };
         constants.add(b"TRUE", Some(1))?;
         constants.add(b"FALSE", Some(0))?;

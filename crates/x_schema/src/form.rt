@@ -2,9 +2,9 @@
 ghost use Rattle.std.specs.Prelude.{◌≡◌, IfSome, Some, length, slice_get};
 ghost use Rattle.x_schema.specs.Choices.{Choice, arm_for, name_for};
 
-use indexmap::IndexMap;
 use std::alloc::Global;
 use std::marker::Model;
+use x_hash::KeyedTable;
 use x_text::NoMemory;
 
 /// A place in a schema's list of names.
@@ -39,7 +39,7 @@ pub enum Arm {
 /// their names.
 #[derive(Drop)]
 pub struct Enumerators {
-    pub(crate) names: IndexMap<u32, NameIndex>,
+    pub(crate) names: KeyedTable<u32, NameIndex>,
 }
 
 impl Model for Enumerators {
@@ -81,7 +81,7 @@ impl Enumerators {
 /// 4506, section 4.15).
 #[derive(Drop)]
 pub struct Arms {
-    pub(crate) cases: IndexMap<u32, Arm>,
+    pub(crate) cases: KeyedTable<u32, Arm>,
     pub(crate) default: Option<Arm>,
 }
 

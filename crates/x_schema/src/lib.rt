@@ -9,5 +9,5 @@ mod procedures;
 mod schema;
 
 pub use form::{Arm, Arms, Enumerators, Field, Form, FormIndex, LinkIndex, NameIndex};
-pub use procedure::{Procedure, ProcedureNumbers};
+pub use procedure::{Procedure, ProcedureIndex, ProcedureNumbers};
 pub use schema::{Root, Schema, TypeId};

@@ -39,6 +39,7 @@ use crate::schema::{NamedType, Schema};
 use indexmap::IndexMap;
 use std::alloc::Global;
 use std::marker::Model;
+use x_hash::{HashKey, KeyedTable};
 use x_numbers::next_number;
 use x_text::NoMemory;
 use x_trees::{
@@ -47,7 +48,7 @@ use x_trees::{
 };
 
 /// The types of names.
-pub type TypeTable = IndexMap<Vec<u8>, NamedType>;
+pub type TypeTable = KeyedTable<Vec<u8>, NamedType>;
 
 /// What an item is read by. It is seen as the constants with their numbers, and the types of names.
 #[derive(Drop)]
@@ -55,6 +56,8 @@ pub struct Known<'d> {
     constants: Constants<'d>,
     /// The types of the items before it.
     types: TypeTable,
+    /// What the tables of names and of numbers hash by.
+    pub(super) hash_key: HashKey,
 }
 
 impl<'d> Model for Known<'d> {
@@ -146,7 +149,7 @@ fn opaque_form(constants: &Constants, length: &Length) -> Form
 }
 
 /// The form of an enum; one without a number is `void`.
-fn enum_form(names: IndexMap<u32, NameIndex>) -> Form
+fn enum_form(names: KeyedTable<u32, NameIndex>) -> Form
     ensures { result ≡ enum_form names.entries }
 {
     if names.is_empty() {
@@ -156,7 +159,7 @@ fn enum_form(names: IndexMap<u32, NameIndex>) -> Form
 }
 
 /// The form of a union; one without a case is `void`.
-fn union_form(discriminant: Field, cases: IndexMap<u32, Arm>, default: Option<Arm>) -> Form
+fn union_form(discriminant: Field, cases: KeyedTable<u32, Arm>, default: Option<Arm>) -> Form
     ensures { result ≡ union_form discriminant (record { cases = cases.entries; default = default }) }
 {
     if cases.is_empty() {
@@ -211,7 +214,7 @@ fn case_word(constants: &Constants, form: &Form, value: &Value) -> Option<u32>
 }
 
 /// Adds the arm of a word, if the word has none.
-fn add_word(cases: &mut IndexMap<u32, Arm>, word: Option<u32>, arm: Arm) -> Result<(), NoMemory>
+fn add_word(cases: &mut KeyedTable<u32, Arm>, word: Option<u32>, arm: Arm) -> Result<(), NoMemory>
     ensures { OnOk result (cases.new.entries ≡ with_word cases.old.entries word arm) }
 {
     let Some(word) = word else {
@@ -228,7 +231,7 @@ fn add_word(cases: &mut IndexMap<u32, Arm>, word: Option<u32>, arm: Arm) -> Resu
 fn add_cases(
     constants: &Constants,
     form: &Form,
-    cases: &mut IndexMap<u32, Arm>,
+    cases: &mut KeyedTable<u32, Arm>,
     values: &[Value],
     arm: Arm,
 ) -> Result<(), NoMemory>
@@ -301,7 +304,7 @@ impl<'d> Maker<'d> {
     fn put_enumerator(
         &mut self,
         alloc: Global,
-        names: &mut IndexMap<u32, NameIndex>,
+        names: &mut KeyedTable<u32, NameIndex>,
         word: u32,
         name: &[u8],
     ) -> Result<(), NoMemory>
@@ -322,7 +325,7 @@ impl<'d> Maker<'d> {
     fn enumerator(
         &mut self,
         alloc: Global,
-        names: &mut IndexMap<u32, NameIndex>,
+        names: &mut KeyedTable<u32, NameIndex>,
         word: Option<u32>,
         name: &[u8],
     ) -> Result<(), NoMemory>
@@ -340,14 +343,15 @@ impl<'d> Maker<'d> {
     fn enumerators(
         &mut self,
         alloc: Global,
+        hash_key: HashKey,
         constants: &Constants,
         enumerators: &[Enumerator],
-    ) -> Result<IndexMap<u32, NameIndex>, NoMemory>
+    ) -> Result<KeyedTable<u32, NameIndex>, NoMemory>
         ensures { IfOk result (λ names. (known : schema.Known) → PutsAll known self.old self.new [] (λ n i s.
             (words_named s names.entries ≡ words_from constants.now (Some (pos 0)) []
             (map view_enumerator enumerators.now)) × AreSoundWords n names.entries)) }
     {
-        let mut names = IndexMap::new(alloc);
+        let mut names = IndexMap::with_hasher(alloc, hash_key);
         let mut next = Some(0);
         for enumerator in enumerators {
             let number = constants.number_given(next, &enumerator.value);
@@ -367,7 +371,7 @@ impl<'d> Maker<'d> {
         ensures { IfOk result (λ place. PutsPlace known.now self.old self.new [] place
             (λ s at. IsEnum s known.now.numbers (map view_enumerator enumerators.now) at)) }
     {
-        let names = self.enumerators(alloc, known.constants(), enumerators)?;
+        let names = self.enumerators(alloc, known.hash_key, known.constants(), enumerators)?;
         self.form(enum_form(names))
     }
 
@@ -376,7 +380,7 @@ impl<'d> Maker<'d> {
         &self,
         constants: &Constants,
         discriminant: FormIndex,
-        cases: &mut IndexMap<u32, Arm>,
+        cases: &mut KeyedTable<u32, Arm>,
         values: &[Value],
         arm: Arm,
     ) -> Result<(), NoMemory>
@@ -585,13 +589,13 @@ impl<'d> Maker<'d> {
         around: &[u8],
         discriminant: FormIndex,
         arms: &'d [ArmTree],
-    ) -> Result<IndexMap<u32, Arm>, NoMemory>
+    ) -> Result<KeyedTable<u32, Arm>, NoMemory>
         ensures { IfOk result (λ cases. discriminant < length self.old.forms.items
             → PutsAll known.now self.old self.new (typedefs_of_arms around.now (view_arms arms.now))
             (λ n i s. AreArms s known.now (form_at s discriminant) (view_arms arms.now) [] cases.entries
             × AreSoundCases n i (form_at s discriminant) cases.entries)) }
     {
-        let mut cases = IndexMap::new(alloc);
+        let mut cases = IndexMap::with_hasher(alloc, known.hash_key);
         for arm in arms {
             let held = self.arm(alloc, known, around, &arm.declaration)?;
             self.cases(
@@ -845,17 +849,26 @@ fn places_linked(
 impl Schema {
     /// The types and procedures of the items' definitions; an item without one declares none. They are those
     /// of the text where it has no fault, and where it has, a name that is no type counts as `void`. It takes
-    /// time in proportion to the definitions.
+    /// time in proportion to the definitions, where whoever chose their names and numbers did not know the
+    /// key, by which its tables hash.
     ///
     /// # Errors
     ///
     /// [`NoMemory`] where a list, or a name in it, could not grow.
-    pub fn of(alloc: Global, definitions: &[Option<&Definition>]) -> Result<Schema, NoMemory>
+    pub fn of(
+        alloc: Global,
+        hash_key: HashKey,
+        definitions: &[Option<&Definition>],
+    ) -> Result<Schema, NoMemory>
         ensures { IfOk result (λ schema. IsSchemaOf (map tree_at definitions.now) schema) }
     {
-        let constants = Constants::of(alloc, definitions)?;
-        let types = IndexMap::new(alloc);
-        let mut known = Known { constants, types };
+        let constants = Constants::of(alloc, hash_key, definitions)?;
+        let types = IndexMap::with_hasher(alloc, hash_key);
+        let mut known = Known {
+            constants,
+            types,
+            hash_key,
+        };
         let mut maker = Maker::new(alloc)?;
         maker.items(alloc, &mut known, definitions)?;
         let procedures = maker.procedures(alloc, &known, definitions)?;

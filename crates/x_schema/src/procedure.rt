@@ -15,6 +15,9 @@ pub struct ProcedureNumbers {
     pub procedure: u32,
 }
 
+/// Where a procedure stands among those of a schema.
+pub type ProcedureIndex = usize;
+
 /// A procedure, its parts by their places.
 #[derive(Clone, Copy, Debug, PartialEq, Eq)]
 pub(crate) struct CompactProcedure {

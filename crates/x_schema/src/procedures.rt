@@ -20,12 +20,13 @@ use crate::procedure::{CompactProcedure, ProcedureNumbers};
 use indexmap::IndexMap;
 use itoa::Buffer;
 use std::alloc::Global;
+use x_hash::KeyedTable;
 use x_numbers::number_value;
 use x_text::NoMemory;
 use x_trees::{Argument, DataType, Definition, Procedure, Version};
 
 /// Procedures by their numbers.
-pub type ProcedureTable = IndexMap<ProcedureNumbers, CompactProcedure>;
+pub type ProcedureTable = KeyedTable<ProcedureNumbers, CompactProcedure>;
 
 /// A number of 32 bits as it is spelled.
 fn number_of(text: &[u8]) -> Option<u32>
@@ -362,7 +363,7 @@ impl<'d> Maker<'d> {
         ensures { IfOk result (λ table. PutsProcedures known.now self.old self.new
             [] table.entries (procedures_of (map tree_at definitions.now))) }
     {
-        let mut table = IndexMap::new(alloc);
+        let mut table = IndexMap::with_hasher(alloc, known.hash_key);
         for definition in definitions {
             self.add_procedures(alloc, known, *definition, &mut table)?;
         }

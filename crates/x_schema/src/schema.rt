@@ -2,12 +2,14 @@
 ghost use Rattle.std.specs.Prelude.{◌≡◌, ◌<◌, List, length, Some, None, IfSome, MatchOption};
 ghost use Rattle.x_schema.specs.Schema.{form_at, target_at, name_at, named_type, type_id, IsTypeId, id_named};
 ghost use Rattle.x_schema.specs.Schema.{procedure_at, IsProcedureAt, IsKeptWithin, arguments_id, results_id};
+ghost use Rattle.std.specs.Prelude.{option_and_then};
+ghost use Rattle.x_schema.specs.Schema.{IsShownAs, kept_at};
 ghost use Rattle.x_schema.specs.Sound.{IsSound};
 
 use crate::form::{Form, FormIndex, LinkIndex, NameIndex};
-use crate::procedure::{CompactProcedure, Procedure, ProcedureNumbers};
-use indexmap::IndexMap;
+use crate::procedure::{CompactProcedure, Procedure, ProcedureIndex, ProcedureNumbers};
 use std::marker::Model;
+use x_hash::KeyedTable;
 
 /// What asked for a type: it decides how the root of a value is labelled.
 #[derive(Clone, Copy, Debug, PartialEq, Eq)]
@@ -59,8 +61,8 @@ pub struct Schema {
     pub(crate) forms: Vec<Form>,
     /// The forms that links lead to: a link may look ahead.
     pub(crate) links: Vec<FormIndex>,
-    pub(crate) types: IndexMap<Vec<u8>, NamedType>,
-    pub(crate) procedures: IndexMap<ProcedureNumbers, CompactProcedure>,
+    pub(crate) types: KeyedTable<Vec<u8>, NamedType>,
+    pub(crate) procedures: KeyedTable<ProcedureNumbers, CompactProcedure>,
 }
 
 // By hand, so that who lets it go calls this, and need not prove anew how its parts are let go.
@@ -142,6 +144,37 @@ impl Schema {
         };
         match self.kept(numbers) {
             Some(kept) => Some(self.shown(kept)),
+            None => None,
+        }
+    }
+
+    /// Where the procedure of these numbers stands, if the text has one: what stands at the index
+    /// ([`Schema::procedure_at`]) is what [`Schema::procedure`] finds.
+    pub fn procedure_index(&self, numbers: ProcedureNumbers) -> Option<ProcedureIndex>
+        ensures found { option_and_then (kept_at self.now) result ≡ procedure_at self.now numbers }
+        ensures within { IfSome result (λ index. index < length self.now.procedures) }
+    {
+        self.procedures.get_index_of(&numbers)
+    }
+
+    /// The procedure that stands at an index, if one does.
+    pub fn procedure_at(&self, index: ProcedureIndex) -> Option<Procedure<'_>>
+        ensures found { MatchOption result (kept_at self.now index ≡ None)
+            (λ p. IsShownAs self.now (kept_at self.now index) p.name.now p.arg p.res) }
+        ensures known { IfSome result (λ p. IsTypeId self.now p.arg × IsTypeId self.now p.res) }
+    {
+        let kept = self.kept_at(index)?;
+        Some(self.shown(kept))
+    }
+
+    /// What is kept of the procedure at an index.
+    fn kept_at(&self, index: ProcedureIndex) -> Option<CompactProcedure>
+        ensures kept { result ≡ kept_at self.now index }
+        ensures within { IfSome result
+            (λ kept. IsKeptWithin (length self.now.names) (length self.now.forms) kept) }
+    {
+        match self.procedures.get_index(index) {
+            Some((_, kept)) => Some(*kept),
             None => None,
         }
     }

@@ -2,6 +2,7 @@
 use std::alloc::Global;
 use std::process::Abort;
 use std::test::Fail;
+use x_hash::HashKey;
 use x_item::{Definition, Parsed, parse_item};
 use x_lex::lex;
 use x_schema::{Arm, Form, Schema};
@@ -73,7 +74,11 @@ fn forms_lead_to_their_parts(rt: HostRuntime) -> Result<(), Fail> {
         alloc,
         b"union U switch (E e) { case A: U *next; default: int x; };",
     )?;
-    let schema = Schema::of(alloc, &[colours.as_ref(), list.as_ref()])?;
+    let schema = Schema::of(
+        alloc,
+        HashKey::of_bytes(b""),
+        &[colours.as_ref(), list.as_ref()],
+    )?;
     expect_enumerators(&rt, &schema);
     expect_arms(&rt, &schema);
     Ok(())

@@ -27,6 +27,7 @@ use std::alloc::Global;
 use std::marker::Model;
 pub use work::Work;
 use x_compile::{Compilation, Fault, FaultPlaces, Faults, ItemTable, compile};
+use x_hash::HashKey;
 use x_item::Definition;
 use x_lex::{Token, TokenIter, Tokens};
 use x_names::Declarer;
@@ -75,7 +76,8 @@ impl Model for Session {
 
 impl Session {
     /// Opens a text: [`TextFault::TooLarge`] or [`TextFault::NoMemory`]. `base` is the name that the
-    /// generated texts use.
+    /// generated texts use. Tables of its names hash by a key that is made of the text. Whoever chooses names
+    /// for later edits may know it: [`Session::keyed`] takes another.
     pub fn open(alloc: Global, base: &[u8], bytes: &[u8]) -> Result<Session, TextFault>
         ensures base { IfOk result (λ s. s.base ≡ base.now) }
         ensures text { IfOk result (λ s. s.text ≡ bytes.now) }
@@ -85,15 +87,43 @@ impl Session {
             (λ s. Compiles s.text (λ items. s.token_seat ≡ length (tokens_of items))) }
         ensures item_seat { IfOk result (λ s. Compiles s.text (λ items. s.item_seat ≡ length items)) }
     {
+        Session::keyed(alloc, HashKey::of_bytes(bytes), base, bytes)
+    }
+
+    /// As [`Session::open`], over tables that hash by a key which whoever chose the names of the text, or
+    /// chooses those of later edits, does not know.
+    ///
+    /// # Errors
+    ///
+    /// As [`Session::open`].
+    pub fn keyed(
+        alloc: Global,
+        hash_key: HashKey,
+        base: &[u8],
+        bytes: &[u8],
+    ) -> Result<Session, TextFault>
+        ensures base { IfOk result (λ s. s.base ≡ base.now) }
+        ensures text { IfOk result (λ s. s.text ≡ bytes.now) }
+        ensures too_large { IsErrOf result TextFault.TooLarge ↔ (most_text < length bytes.now) }
+        ensures in_range { IsErrOf result TextFault.BadRange → ⊥ }
+        ensures token_seat { IfOk result
+            (λ s. Compiles s.text (λ items. s.token_seat ≡ length (tokens_of items))) }
+        ensures item_seat { IfOk result (λ s. Compiles s.text (λ items. s.item_seat ≡ length items)) }
+    {
         let source = Source::from_bytes(alloc, bytes)?;
-        match Session::compiled(alloc, base, source) {
+        match Session::compiled(alloc, hash_key, base, source) {
             Ok(session) => Ok(session),
             Err(NoMemory) => Err(TextFault::NoMemory),
         }
     }
 
     /// The session of a text.
-    fn compiled(alloc: Global, base: &[u8], source: Source) -> Result<Session, NoMemory>
+    fn compiled(
+        alloc: Global,
+        hash_key: HashKey,
+        base: &[u8],
+        source: Source,
+    ) -> Result<Session, NoMemory>
         ensures base { IfOk result (λ s. s.base ≡ base.now) }
         ensures text { IfOk result (λ s. s.text ≡ source) }
         ensures token_seat { IfOk result
@@ -102,7 +132,7 @@ impl Session {
     {
         let mut meter = Meter::new();
         let base = Vec::from_slice(alloc, base)?;
-        let Compilation { tokens, items } = compile(alloc, &source, &mut meter)?;
+        let Compilation { tokens, items } = compile(alloc, hash_key, &source, &mut meter)?;
         Ok(Session {
             alloc,
             base,
@@ -161,6 +191,11 @@ impl Session {
             }
         }
         Ok(total)
+    }
+
+    /// What tables of its names hash by.
+    pub fn hash_key(&self) -> HashKey {
+        self.items.hash_key
     }
 
     /// The bytes of the text.
@@ -273,5 +308,5 @@ impl Session {
 fn schema_of(alloc: Global, items: &ItemTable) -> Result<Schema, NoMemory>
     ensures { IfOk result (λ schema. IsSchemaOf (entry_definitions items.now.entries.list) schema) }
 {
-    Schema::of(alloc, &items.definitions(alloc)?)
+    Schema::of(alloc, items.hash_key, &items.definitions(alloc)?)
 }

@@ -273,6 +273,22 @@ impl Row {
         Ok(answers)
     }
 
+    /// How many lines of the script are whole in its first bytes, and how many bytes their answers have.
+    pub fn answered(&self, read: usize) -> (usize, usize) {
+        let mut lines = 0usize;
+        let mut asked = 0usize;
+        let mut bytes = 0usize;
+        for line in &self.lines {
+            asked = asked.saturating_add(line.asked.len());
+            if asked > read {
+                break;
+            }
+            bytes = bytes.saturating_add(line.answer.len());
+            lines = lines.saturating_add(1);
+        }
+        (lines, bytes)
+    }
+
     /// How many answers are whole in the first bytes of all, and how many bytes these have.
     pub fn whole_answers(&self, written: usize) -> (usize, usize) {
         let mut lines = 0usize;
@@ -396,10 +412,13 @@ fn apply_with_little_memory(rt: &impl Abort, alloc: Global, row: &Row) -> Result
     apply_in_turns(rt, alloc, row, &script, &answers)
 }
 
-/// The types of the text, which there are where it has no fault, with one allocation refused after another.
-fn make_schema(rt: &impl Abort, alloc: Global, text: &[u8]) -> Result<usize, Fail> {
+/// The types of the text, which there are where it has no fault, with one allocation refused after another;
+/// of a text with a fault it is told so without memory.
+fn make_schema(rt: &impl Abort, alloc: Global, text: &[u8]) -> Result<Option<usize>, Fail> {
     let session = Session::open(alloc, b"t", text)?;
-    make_in_turns(rt, alloc, &session)
+    let turns = make_in_turns(rt, alloc, &session)?;
+    assert!(rt; session.fault_count() == 0 || turns == 0);
+    Ok((session.fault_count() == 0).then_some(turns))
 }
 
 fn make_in_turns(rt: &impl Abort, alloc: Global, session: &Session) -> Result<usize, Fail> {
@@ -501,9 +520,12 @@ fn refused_rows(rt: HostRuntime) -> Result<(), Fail> {
         let opening = open_with_little_memory(&rt, alloc, row.text)?;
         let editing = apply_with_little_memory(&rt, alloc, row)?;
         let running = run_with_little_memory(&rt, alloc, row)?;
-        let types = make_schema(&rt, alloc, row.text)?;
-        let types_then = make_schema(&rt, alloc, row.edited)?;
-        println!(rt; "turns: {opening} {editing} {running} {types} {types_then}")?;
+        println!(rt; "turns: {opening} {editing} {running}")?;
+        for text in [row.text, row.edited] {
+            if let Some(types) = make_schema(&rt, alloc, text)? {
+                println!(rt; "turns: {types}")?;
+            }
+        }
     }
     Ok(())
 }

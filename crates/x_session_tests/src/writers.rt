@@ -1,6 +1,7 @@
 //! Writers that fail: what they took is the first bytes of what was to be written, and so many are told.
 
 use crate::edits::{ROWS, Row, expect_text};
+use refusals::{ALL, begin, end};
 use std::alloc::Global;
 use std::io::{self, Write};
 use std::process::Abort;
@@ -122,6 +123,78 @@ fn cut_text(rt: &impl Abort, alloc: Global, session: &Session, which: Which) -> 
     }
     let answer = session.write_text(which, &mut Out::new(Stuck));
     assert_eq!(rt; answer, Err(WriteFault { written: 0 }));
+    Ok(())
+}
+
+/// Writes the four texts whole with every allocation refused: none takes memory.
+#[test]
+fn bare_texts(rt: HostRuntime) -> Result<(), Fail> {
+    let session = Session::open(rt.alloc(), b"t", TEXT_OF_ALL)?;
+    let mut room = vec![in rt.alloc(); 0u8; 65_536]?;
+    for which in TEXTS {
+        let text = whole_text(rt.alloc(), &session, which)?;
+        let mut sink = MemSink::new(&mut room, 512, 65_536);
+        begin(rt.alloc(), ALL)?;
+        let answer = session.write_text(which, &mut sink);
+        assert!(rt; !end(rt.alloc()) && answer.is_ok() && text.len() > 100);
+        assert!(rt; sink.bytes() == text.as_slice());
+    }
+    Ok(())
+}
+
+/// A text with something in each of the four generated texts.
+const TEXT_OF_ALL: &[u8] =
+    b"struct s { int a; }; program P { version V { s F(s) = 1; } = 1; } = 3;";
+
+/// Runs the script from a tap that gives a byte a call and fails behind so many. What is written is the
+/// answers of the lines that are whole in them, and the session is as these left it.
+fn read_behind(
+    rt: &impl Abort,
+    alloc: Global,
+    row: &Row,
+    script: &[u8],
+    answers: &[u8],
+    count: usize,
+) -> Result<(), Fail> {
+    let mut session = Session::open(alloc, b"t", row.text)?;
+    read_to(rt, alloc, &mut session, row, script, answers, count);
+    Ok(())
+}
+
+fn read_to(
+    rt: &impl Abort,
+    alloc: Global,
+    session: &mut Session,
+    row: &Row,
+    script: &[u8],
+    answers: &[u8],
+    count: usize,
+) {
+    let mut buffer = [0u8; 2048];
+    let mut sink = MemSink::new(&mut buffer, 2048, 2048);
+    let mut tap = MemTap::new(script, 1, count);
+    let outcome = run_script(alloc, session, &mut tap, &mut sink);
+    let (lines, length) = row.answered(count);
+    let written = length as u64;
+    assert_eq!(rt; outcome, Err(EngineFault::Read { written }));
+    assert!(rt; answers.get(..length) == Some(sink.bytes()));
+    expect_text(rt, session, row.text_behind(lines));
+}
+
+fn read_everywhere(rt: &impl Abort, alloc: Global, row: &Row) -> Result<(), Fail> {
+    let script = row.script(alloc, 0)?;
+    let answers = row.answers(alloc, 0)?;
+    for count in 0..=script.len() {
+        read_behind(rt, alloc, row, &script, &answers, count)?;
+    }
+    Ok(())
+}
+
+#[test]
+fn a_script_stops_at_the_first_byte_that_is_not_read(rt: HostRuntime) -> Result<(), Fail> {
+    for row in &ROWS {
+        read_everywhere(&rt, rt.alloc(), row)?;
+    }
     Ok(())
 }
 

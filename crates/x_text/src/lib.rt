@@ -10,6 +10,6 @@ mod text;
 pub use lists::{GapIter, GapSeq, Measured, MeasuredSeq, PatchedIter, PlainSeq, Seq, SeqPatch};
 pub use no_memory::NoMemory;
 pub use streams::{
-    Broken, EngineFault, In, MemSink, MemTap, Out, Outcome, Pen, Sink, Tap, WriteFault,
+    Broken, EngineFault, In, MemSink, MemTap, Out, Outcome, Outlet, Pen, Sink, Tap, WriteFault,
 };
 pub use text::{Edit, Lines, MAX_TEXT, Meter, Source, TextBuffers, TextFault};

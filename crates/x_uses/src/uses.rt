@@ -18,6 +18,7 @@ use room::make_room_in;
 use std::alloc::Global;
 use std::marker::Model;
 use table::{Table, first_after_in, first_in, users_in};
+use x_hash::HashKey;
 use x_names::{Declarer, is_beforehand};
 use x_text::NoMemory;
 use x_trees::Definition;
@@ -56,18 +57,28 @@ impl Model for Uses {
 }
 
 impl Uses {
-    /// The table of the items' definitions. An item without one declares and sees nothing.
+    /// The table of the items' definitions. An item without one declares and sees nothing. Whoever chooses
+    /// their names, and those of later edits, must not know the key, by which the table hashes.
     ///
     /// # Errors
     ///
     /// [`NoMemory`] where the table could not grow, or for an item or a word of an item from number 2^32 on.
-    pub fn of(alloc: Global, definitions: &[Option<&Definition>]) -> Result<Uses, NoMemory>
+    pub fn of(
+        alloc: Global,
+        hash_key: HashKey,
+        definitions: &[Option<&Definition>],
+    ) -> Result<Uses, NoMemory>
         ensures { IfOk result (λ uses. AreShort (map tree_at definitions.now)
             → IsUsesOf (map tree_at definitions.now) uses) }
     {
         Ok(Uses {
-            table: table_of(alloc, definitions)?,
+            table: table_of(alloc, hash_key, definitions)?,
         })
+    }
+
+    /// What the table hashes by.
+    pub fn hash_key(&self) -> HashKey {
+        *self.table.hasher()
     }
 
     /// The first declarer of the name. One that was declared beforehand, `TRUE` or `FALSE`, has none.

@@ -2,6 +2,7 @@
 use std::alloc::Global;
 use std::process::Abort;
 use std::test::Fail;
+use x_hash::HashKey;
 use x_item::{Definition, Parsed, parse_item};
 use x_lex::lex;
 use x_sema::Names;
@@ -35,8 +36,8 @@ fn follow(
     gone: &[Option<&Definition>],
     fresh: &[Option<&Definition>],
 ) -> Result<(), NoMemory> {
-    let gone = Uses::of(alloc, gone)?;
-    let fresh = Uses::of(alloc, fresh)?;
+    let gone = Uses::of(alloc, uses.hash_key(), gone)?;
+    let fresh = Uses::of(alloc, uses.hash_key(), fresh)?;
     uses.make_room(alloc, &fresh)?;
     let first = uses.first_after(&fresh, place, b"A");
     uses.replace(place, &gone, &fresh);
@@ -103,7 +104,7 @@ fn follow_both(
 ) -> Result<(), NoMemory> {
     let [first, using, second] = all;
     let before = [first, None, using, second];
-    let mut uses = Uses::of(alloc, &before)?;
+    let mut uses = Uses::of(alloc, HashKey::of_bytes(b"edits"), &before)?;
     expect_uses(rt, alloc, &uses, &before, (&[0, 2, 3], &[2]))?;
     take_away(rt, alloc, &mut uses, all)?;
     put_back(rt, alloc, &mut uses, all)

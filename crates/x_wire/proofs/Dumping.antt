@@ -9,16 +9,16 @@ use Rattle.x_schema.specs.Schema.{Schema}
 use Rattle.x_wire.specs.Calls.{Calls}
 use Rattle.x_wire.specs.Dumpers.{HasTold, TellsMore, IsAt, Tells, TellsFront, front_taken}
 use Rattle.x_wire.specs.Framers.{left_by, whole_in, FedBytes, RefusedBytes}
+use Rattle.x_wire.specs.LastCalls.{last_call}
 use Rattle.x_wire.specs.MessageTexts.{Told, plain, then_told, IsMessageText}
 use Rattle.x_wire.specs.RecordFaults.{fault_at}
 use Rattle.x_wire.specs.Records.{Left, left, records, after, told}
 use Rattle.x_wire.specs.StreamTexts.{AreTold, IsTextOf, IsFrontText}
-use Rattle.x_wire.specs.Tellers.{Knows, TellsMessage}
+use Rattle.x_wire.specs.Tellers.{Knows, LastCalls, TellsMessage}
 use Rattle.x_wire.specs.declared.records.framer.Framer.{Framer}
 use Rattle.x_wire.specs.declared.records.RecordCode.{RecordCode}
 use Rattle.x_wire.specs.declared.records.RecordCode.TheVariants.{NoMemory, RecordTooLong, Truncated}
 use Rattle.x_wire.specs.declared.telling.dumper.Dumper.{Dumper}
-use Rattle.x_wire.specs.declared.telling.teller.CallOfXid.{CallOfXid}
 use Rattle.x_wire.specs.declared.telling.teller.Teller.{Teller}
 use Rattle.x_wire.proofs.Composing.{fault_stays}
 use Rattle.x_wire.proofs.Feeding.{left_append, records_append}
@@ -70,16 +70,16 @@ told_more s number at calls (q ∷ rs) r t last between behind is are text = (
 -- the next message was told
 pub tells_more : (s : Schema) (rs : List (List ℕ)) (r bytes : List ℕ) (t : Told) (old new : Teller) (refused refuses refused' : Bool)
     (p q : Inked) (now now' : Stream) → HasTold s rs t old refused → bytes ≡ r
-    → TellsMessage s (old.count + 1) old.calls.entries bytes refuses new.calls.entries p now q now'
-    → new.count ≡ old.count + 1 → refused' ≡ (refused || refuses) → TellsMore s rs (r ∷ []) t new refused' p now q now'
+    → TellsMessage s (old.calls.count + 1) (last_call old.calls) bytes refuses (last_call new.calls) p now q now'
+    → new.calls.count ≡ old.calls.count + 1 → refused' ≡ (refused || refuses) → TellsMore s rs (r ∷ []) t new refused' p now q now'
 tells_more s rs r bytes t old new refused refuses refused' p q now now' h same tells count is =
     let k = tells h.calls h.knows in
     record {
       text = k.0;
       has_told = record {
         calls = k.1;
-        are = told_more s 1 (old.count + 1) [] rs r t k.0 h.calls k.1 (let c = h.count_is in omega (arith, c)) h.are
-            (subst (λ b. IsMessageText s (old.count + 1) h.calls b k.0 k.1) same k.2);
+        are = told_more s 1 (old.calls.count + 1) [] rs r t k.0 h.calls k.1 (let c = h.count_is in omega (arith, c)) h.are
+            (subst (λ b. IsMessageText s (old.calls.count + 1) h.calls b k.0 k.1) same k.2);
         knows = k.3;
         count_is = (let c = h.count_is in omega (arith, c, count, length-append rs (r ∷ [])));
         refused_is = is ∙ (λ i. h.refused_is i || k.4.refused_is i);
@@ -88,7 +88,7 @@ tells_more s rs r bytes t old new refused refuses refused' p q now now' h same t
     }
 
 -- nothing was read
-pub at_start : (s : Schema) (d : Dumper) → left_by d.framer ≡ left [] → Knows d.teller.calls.entries [] → d.teller.count ≡ 0 → d.refused ≡ false
+pub at_start : (s : Schema) (d : Dumper) → left_by d.framer ≡ left [] → Knows s (last_call d.teller.calls) [] → d.teller.calls.count ≡ 0 → d.refused ≡ false
     → IsAt s [] (plain []) d
 at_start s d left_is knows count refused = record {
   left_is = sym left_is;
@@ -267,14 +267,14 @@ pub record IsAlone (s : Schema) (bytes : List ℕ) (refused : Bool) (start : Str
   pub writes : Writes start text.text pen now
   pub refused_is : refused ≡ text.refused
 
-pub told_alone : (s : Schema) (bytes : List ℕ) (old : Teller) (entries : List (ℕ × CallOfXid)) (refused : Bool) (start : Stream) (p q : Inked) (now : Stream)
-    → Knows old.calls.entries [] → old.count ≡ 0 → p ≡ record { pending = []; written = 0; stopped = false }
-    → TellsMessage s (old.count + 1) old.calls.entries bytes refused entries p start q now → IsAlone s bytes refused start q now
-told_alone s bytes old entries refused start p q now knows count is tells =
+pub told_alone : (s : Schema) (bytes : List ℕ) (old : Teller) (last : LastCalls) (refused : Bool) (start : Stream) (p q : Inked) (now : Stream)
+    → Knows s (last_call old.calls) [] → old.calls.count ≡ 0 → p ≡ record { pending = []; written = 0; stopped = false }
+    → TellsMessage s (old.calls.count + 1) (last_call old.calls) bytes refused last p start q now → IsAlone s bytes refused start q now
+told_alone s bytes old last refused start p q now knows count is tells =
     let k = tells [] knows in
     record {
       text = k.0;
-      are = (k.1, told_more s 1 (old.count + 1) [] [] bytes (plain []) k.0 [] k.1 (omega (arith, count)) (refl, refl) k.2);
+      are = (k.1, told_more s 1 (old.calls.count + 1) [] [] bytes (plain []) k.0 [] k.1 (omega (arith, count)) (refl, refl) k.2);
       writes = k.4.added.goes_on start [] (subst (λ (p : Inked). Writes start [] p start) (sym is) (writes_none start));
       refused_is = k.4.refused_is;
     }

@@ -11,3 +11,4 @@ pub mod OneFault
 pub mod OneText
 pub mod TellerLemmas
 pub mod Turning
+pub mod Generations

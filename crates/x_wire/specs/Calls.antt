@@ -7,7 +7,11 @@ use Rattle.x_schema.specs.declared.schema.TypeId.{TypeId}
 use Rattle.x_schema.specs.declared.procedure.CompactProcedure.{CompactProcedure}
 use Rattle.x_schema.specs.declared.procedure.ProcedureNumbers.{ProcedureNumbers}
 use Rattle.x_wire.specs.Headers.{Header, Call, Accepted, Denied}
-use Rattle.x_wire.specs.declared.telling.teller.CallOfXid.{CallOfXid}
+
+-- a call: its number among the messages, from 1, and the procedure that it names
+pub record CallOfXid : Type 0 where
+  pub number : ℕ
+  pub procedure : Option ProcedureNumbers
 
 -- The calls so far by their xids, the last one first.
 abbrev pub Calls : Type 0
@@ -34,6 +38,9 @@ calls_behind number calls (Denied xid reject) = calls
 
 abbrev pub procedure_called : Schema → Option ProcedureNumbers → Option CompactProcedure
 procedure_called s numbers = option_and_then (procedure_at s) numbers
+
+abbrev pub number_heard : Option CallOfXid → Option ℕ
+number_heard heard = option_map (λ h. h.number) heard
 
 abbrev pub numbers_heard : Option CallOfXid → Option ProcedureNumbers
 numbers_heard heard = option_and_then (λ h. h.procedure) heard

@@ -7,6 +7,7 @@ use Rattle.x_schema.specs.Schema.{Schema}
 use Rattle.x_text.specs.Engines.{is_refused}
 use Rattle.x_wire.specs.Calls.{Calls}
 use Rattle.x_wire.specs.Framers.{left_by}
+use Rattle.x_wire.specs.LastCalls.{last_call}
 use Rattle.x_wire.specs.MessageTexts.{Told, then_told}
 use Rattle.x_wire.specs.RecordFaults.{fault_at}
 use Rattle.x_wire.specs.Records.{left, records}
@@ -23,8 +24,8 @@ pub record HasTold (s : Schema) (told : List (List ℕ)) (t : Told) (teller : Te
     (refused : Bool) : Type 0 where
   pub calls : Calls
   pub are : AreTold s 1 [] told t calls
-  pub knows : Knows teller.calls.entries calls
-  pub count_is : teller.count ≡ length told
+  pub knows : Knows s (last_call teller.calls) calls
+  pub count_is : teller.calls.count ≡ length told
   pub refused_is : refused ≡ t.refused
 
 -- these records more were told

@@ -7,6 +7,7 @@ pub mod Framing
 pub mod HeaderFaults
 pub mod HeaderForms
 pub mod Headers
+pub mod LastCalls
 pub mod Limits
 pub mod MessageTexts
 pub mod Messages

@@ -9,13 +9,12 @@ use Rattle.x_value.specs.Lines.{hex_text, node_lines}
 use Rattle.x_value.specs.Shown.{Node}
 use Rattle.x_value.specs.declared.fault.ReadCode.{ReadCode}
 use Rattle.x_value.specs.declared.fault.ReadCode.TheVariants.{NoMemory}
-use Rattle.x_wire.specs.Calls.{Calls, call_of, calls_behind, numbers_called, numbers_heard, procedure_called}
-use Rattle.x_wire.specs.Calls.{name_called, arguments_called, results_called}
+use Rattle.x_wire.specs.Calls.{CallOfXid, Calls, call_of, calls_behind, number_heard, numbers_called}
+use Rattle.x_wire.specs.Calls.{numbers_heard, procedure_called, name_called, arguments_called, results_called}
 use Rattle.x_wire.specs.HeaderFaults.{IsHeaderFault}
 use Rattle.x_wire.specs.Headers.{Auth, Accept, Success, ProgUnavail, ProgMismatch, ProcUnavail, GarbageArgs}
 use Rattle.x_wire.specs.Headers.{SystemErr, Reject, RpcMismatch, AuthError, Header, Call, Accepted, Denied}
 use Rattle.x_wire.specs.Headers.{IsMessage}
-use Rattle.x_wire.specs.declared.telling.teller.CallOfXid.{CallOfXid}
 
 -- Lines, and whether a fault is among them.
 pub record Told : Type 0 where
@@ -63,15 +62,15 @@ call_line number xid rpcvers prog vers proc name =
     ++ (codes " " ++ name ++ codes "\n")
 
 -- the number of the call
-abbrev pub call_number : Option CallOfXid → List ℕ
+abbrev pub call_number : Option ℕ → List ℕ
 call_number None = codes "none"
-call_number (Some heard) = decimal heard.number
+call_number (Some number) = decimal number
 
 -- `# K reply xid=X STATE call=J NAME`
-abbrev pub reply_line : (number xid : ℕ) → (state : List ℕ) → Option CallOfXid → (name : List ℕ) → List ℕ
-reply_line number xid state heard name =
+abbrev pub reply_line : (number xid : ℕ) → (state : List ℕ) → (call : Option ℕ) → (name : List ℕ) → List ℕ
+reply_line number xid state call name =
     (codes "# " ++ decimal number ++ codes " reply xid=" ++ decimal xid)
-    ++ (codes " " ++ state ++ codes " call=" ++ call_number heard)
+    ++ (codes " " ++ state ++ codes " call=" ++ call_number call)
     ++ (codes " " ++ name ++ codes "\n")
 
 -- what became of a call, by the names of RFC 5531, section 9
@@ -103,7 +102,8 @@ reject_details (AuthError stat) = codes "auth_stat " ++ decimal stat ++ codes "\
 -- the lines of a reply that belongs to this call, if to any
 abbrev pub reply_text : Schema → (number xid : ℕ) → (state : List ℕ) → Option CallOfXid → List ℕ
 reply_text s number xid state heard =
-    reply_line number xid state heard (name_called s (procedure_called s (numbers_heard heard)))
+    reply_line number xid state (number_heard heard)
+    (name_called s (procedure_called s (numbers_heard heard)))
 
 -- the lines of a header
 abbrev pub head_text : Schema → ℕ → Calls → Header → List ℕ

@@ -1,6 +1,7 @@
 //! What is printed of recorded calls: a stream of them, or one message.
 
 mod body;
+mod calls;
 mod dumper;
 mod heading;
 mod laws;

@@ -16,7 +16,7 @@ pub const NULL_CALL: &[u8] =
     b"\x80\0\0\x28\0\0\0\x01\0\0\0\0\0\0\0\x02\0\x01\x86\xa3\0\0\0\x02\0\0\0\0\
 \0\0\0\0\0\0\0\0\0\0\0\0\0\0\0\0\x80\0\0\x18\0\0\0\x01\0\0\0\x01\0\0\0\0\0\0\0\0\0\0\0\0\0\0\0\0";
 
-const CALL_TEXT: &[u8] = b"# 1 call xid=1 rpcvers=2 prog=100003 vers=2 proc=0 NFSPROC_NULL
+pub const CALL_TEXT: &[u8] = b"# 1 call xid=1 rpcvers=2 prog=100003 vers=2 proc=0 NFSPROC_NULL
 cred 0 0x
 verf 0 0x
 0 args = void
@@ -35,7 +35,7 @@ pub const READDIR: &[u8] =
 \0\x05\0\0\0\x01a\0\0\0\0\0\0\x01\0\0\0\x01\0\0\0\x06\0\0\0\x02bc\0\0\0\0\0\x02\0\0\0\0\0\0\0\
 \x01";
 
-const READDIR_CALL_TEXT: &[u8] =
+pub const READDIR_CALL_TEXT: &[u8] =
     b"# 1 call xid=7 rpcvers=2 prog=100003 vers=2 proc=16 NFSPROC_READDIR
 cred 0 0x
 verf 0 0x
@@ -48,6 +48,24 @@ verf 0 0x
 const READDIR_REPLY_TEXT: &[u8] = b"# 2 reply xid=7 accepted SUCCESS call=1 NFSPROC_READDIR
 verf 0 0x
 0 results = union
+1 status = NFS_OK (0)
+1 readdirok = struct
+2 entries = link
+3 * = struct
+4 fileid = 5
+4 name = \"a\"
+4 cookie = 0x00000001
+4 nextentry = link
+5 * = struct
+6 fileid = 6
+6 name = \"bc\"
+6 cookie = 0x00000002
+6 nextentry = null
+2 eof = TRUE
+";
+
+/// The results alone, as a value of their type.
+pub const READDIR_RESULTS: &[u8] = b"0 readdirres = union
 1 status = NFS_OK (0)
 1 readdirok = struct
 2 entries = link
@@ -400,7 +418,8 @@ fn refused_streams(rt: HostRuntime) -> Result<(), Fail> {
     println!(rt; "turns: {turns}")?;
     let schema = nfs2_schema(rt.alloc())?;
     for row in &ROWS {
-        tell_with_little_memory(&rt, rt.alloc(), &schema, row)?;
+        let turns = tell_with_little_memory(&rt, rt.alloc(), &schema, row)?;
+        println!(rt; "turns: {turns}")?;
     }
     Ok(())
 }

@@ -1,11 +1,11 @@
 //! Why a run over a file does not go on, as a program tells it.
 
-ghost use Rattle.rpcx.specs.Generate.{stop_told, unopened_told};
+ghost use Rattle.rpcx.specs.Generate.{unopened_told, TellsStop};
 ghost use Rattle.x_args.specs.Telling.{IsTold};
 
-use x_args::tell_of_file;
+use x_args::{complain_of_output, tell_of_file};
 use x_session::EngineFault;
-use x_text::{Sink, TextFault};
+use x_text::{Outlet, Sink, TextFault};
 
 /// Writes why a file's text is not opened, behind the name of the program.
 pub(crate) fn tell_unopened<E: Sink>(program: &str, file: &str, fault: TextFault, err: &mut E)
@@ -19,13 +19,21 @@ pub(crate) fn tell_unopened<E: Sink>(program: &str, file: &str, fault: TextFault
     }
 }
 
-/// Writes why a run stopped that reads a file, behind the name of the program.
-pub(crate) fn tell_stop<E: Sink>(program: &str, file: &str, fault: EngineFault, err: &mut E)
-    ensures { IsTold (E.state err.old) (E.state err.new) (stop_told program.now file.now fault) }
+/// Writes why a run stopped that reads a file, behind the name of the program. Where the output's reader has
+/// enough it writes nothing.
+pub(crate) fn tell_stop<O: Outlet, E: Sink>(
+    program: &str,
+    file: &str,
+    fault: EngineFault,
+    out: &O,
+    err: &mut E,
+)
+    ensures { TellsStop (O.is_closed out.now) program.now file.now fault
+        (E.state err.old) (E.state err.new) }
 {
     match fault {
         EngineFault::Read { .. } => tell_of_file(program, file, ": cannot be read\n", err),
-        EngineFault::Write { .. } => tell_of_file(program, "output cannot be written", "\n", err),
+        EngineFault::Write { .. } => complain_of_output(program, out, err),
         EngineFault::NoMemory { .. } => tell_of_file(program, "out of memory", "\n", err),
     }
 }

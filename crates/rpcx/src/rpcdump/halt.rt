@@ -1,12 +1,12 @@
 //! Why `rpcdump` does not show a file to its end, and how that is told.
 
 ghost use Rattle.std.specs.Prelude.{◌++◌, codes};
-ghost use Rattle.rpcx.specs.Dumping.{halt_told, type_asked};
+ghost use Rattle.rpcx.specs.Dumping.{type_asked, TellsHalt};
 ghost use Rattle.x_args.specs.Telling.{IsTold};
 
 use crate::files::complaint::tell_stop;
-use x_args::{DumpArgs, tell_of_file};
-use x_text::{EngineFault, Pen, Sink};
+use x_args::{DumpArgs, complain_of_output, tell_of_file};
+use x_text::{EngineFault, Outlet, Pen, Sink};
 
 /// Why the bytes of a file are not shown to their end.
 #[derive(Clone, Copy)]
@@ -25,18 +25,18 @@ pub enum Halt {
     Unwritten,
 }
 
-/// Writes why a file is not shown to its end.
-pub fn tell_halt<E: Sink>(halt: Halt, args: &DumpArgs, err: &mut E)
-    ensures { IsTold (E.state err.old) (E.state err.new)
-        (halt_told (type_asked args.now) args.now.file.now halt) }
+/// Writes why a file is not shown to its end. Where the output's reader has enough it writes nothing.
+pub fn tell_halt<O: Outlet, E: Sink>(halt: Halt, args: &DumpArgs, out: &O, err: &mut E)
+    ensures { TellsHalt (O.is_closed out.now) (type_asked args.now) args.now.file.now halt
+        (E.state err.old) (E.state err.new) }
 {
     match halt {
         Halt::NoType => tell_no_type(args.type_name.unwrap_or(""), err),
         Halt::Unread => tell_of_file("rpcdump", args.file, ": cannot be read\n", err),
         Halt::TooLarge => tell_of_file("rpcdump", args.file, ": 2 TooLarge\n", err),
         Halt::NoRoom => tell_of_file("rpcdump", "out of memory", "\n", err),
-        Halt::Ended(fault) => tell_stop("rpcdump", args.file, fault, err),
-        Halt::Unwritten => tell_of_file("rpcdump", "output cannot be written", "\n", err),
+        Halt::Ended(fault) => tell_stop("rpcdump", args.file, fault, out, err),
+        Halt::Unwritten => complain_of_output("rpcdump", out, err),
     }
 }
 

@@ -1,5 +1,5 @@
 //! Where items end.
-ghost use Rattle.std.specs.Prelude.{◌≡◌, ◌<◌, ◌≤◌, ◌+◌};
+ghost use Rattle.std.specs.Prelude.{◌≡◌, ◌<◌, ◌≤◌, ◌+◌, ◌-◌};
 ghost use Rattle.x_cutting.specs.Items.{is_punct};
 ghost use Rattle.x_cutting.specs.Cutting.{role_by, depth_after, ends_at};
 
@@ -40,7 +40,7 @@ impl Cutter {
             return false;
         }
         if is_punct(kind, text, b'}') {
-            self.depth = self.depth.saturating_sub(1);
+            self.depth = depth_closed(self.depth);
             return false;
         }
         if is_punct(kind, text, b';') {
@@ -48,6 +48,13 @@ impl Cutter {
         }
         false
     }
+}
+
+/// The depth after a closing brace: at 0 it stays 0.
+fn depth_closed(depth: usize) -> usize
+    ensures { result ≡ depth - 1 }
+{
+    depth.saturating_sub(1)
 }
 
 /// Whether the token is this mark of punctuation.

@@ -87,7 +87,7 @@ fn add_names(
     expected: Expected,
 ) -> Result<(), NoMemory> {
     let definitions = definitions(alloc, session)?;
-    let names = Names::of(alloc, &definitions)?;
+    let names = Names::keyed(alloc, session.hash_key(), &definitions)?;
     let mut glossary = Glossary::new(alloc);
     for item in 0..definitions.len() {
         if let Some(definition) = definitions[item] {

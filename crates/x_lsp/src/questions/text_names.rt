@@ -31,7 +31,7 @@ pub(crate) fn definitions(
 /// The names that a text declares.
 pub(crate) fn names(alloc: Global, session: &Session) -> Result<Names<'_>, NoMemory> {
     let definitions = definitions(alloc, session)?;
-    Names::of(alloc, &definitions)
+    Names::keyed(alloc, session.hash_key(), &definitions)
 }
 
 /// A word that is a name which the text declares, and where it is declared first.

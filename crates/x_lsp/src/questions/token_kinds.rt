@@ -90,7 +90,7 @@ pub(crate) fn token_kinds(
 {
     let session = &document.session;
     let definitions = definitions(alloc, session)?;
-    let names = Names::of(alloc, &definitions)?;
+    let names = Names::keyed(alloc, session.hash_key(), &definitions)?;
     let mut told = ToldTokens::new(alloc, encoding);
     let mut walk = session.tokens();
     let mut tokens = Vec::new(alloc);

@@ -52,7 +52,7 @@ fn find_result<L: CheckedItems>(
         }
     }
     let views = views_of(alloc, items, rechecked, item, outline)?;
-    let checked = check_outline(alloc, outline, &views, meter)?;
+    let checked = check_outline(alloc, items.uses.hash_key(), outline, &views, meter)?;
     Ok(Some(checked))
 }
 

@@ -55,7 +55,13 @@ pub fn add_repeated_cases(
 {
     for body in bodies {
         let numbers = case_numbers(alloc, &body.cases, sights, constants)?;
-        add_repeated_numbers(alloc, faults, &numbers, RuleCode::RepeatedCase)?;
+        add_repeated_numbers(
+            alloc,
+            sights.hash_key,
+            faults,
+            &numbers,
+            RuleCode::RepeatedCase,
+        )?;
     }
     Ok(())
 }

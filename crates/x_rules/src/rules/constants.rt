@@ -136,7 +136,7 @@ impl<'v> Constants<'v> {
             HasNumbers constants all (knowns (seen_by sights.now) all)) }
     {
         let mut constants = Constants {
-            list: FirstPlaces::of(alloc, list)?,
+            list: FirstPlaces::of(alloc, sights.hash_key, list)?,
             numbers: PackedNumbers::new(alloc),
         };
         constants.number(sights)?;

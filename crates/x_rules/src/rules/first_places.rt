@@ -8,6 +8,7 @@ use indexmap::IndexMap;
 use std::alloc::Global;
 use std::hash::Hash;
 use std::marker::Model;
+use x_hash::{HashKey, KeyedTable};
 use x_text::NoMemory;
 
 /// So many elements are few. They are compared one by one: most definitions have no more, and making a table
@@ -37,7 +38,7 @@ impl<'v> Keyed<&'v [u8]> for &'v [u8] {
 pub struct FirstPlaces<'v, T: Keyed<K>, K: Copy + Eq + Hash> {
     items: &'v [T],
     /// The first place of each key, if there are many.
-    table: Option<IndexMap<K, usize>>,
+    table: Option<KeyedTable<K, usize>>,
 }
 
 impl<'v, T: Keyed<K>, K: Copy + Eq + Hash> Model for FirstPlaces<'v, T, K> {
@@ -55,7 +56,7 @@ impl<'v, T: Keyed<K>, K: Copy + Eq + Hash> Model for FirstPlaces<'v, T, K> {
 /// Puts the first place of each key of a list into a table that has none, from the last to the first, so that
 /// the first place of a key is what it is left with.
 fn fill<T: Keyed<K>, K: Copy + Eq + Hash>(
-    table: &mut IndexMap<K, usize>,
+    table: &mut KeyedTable<K, usize>,
     items: &[T],
 ) -> Result<(), NoMemory>
     requires { table.old.entries ≡ [] }
@@ -70,11 +71,12 @@ fn fill<T: Keyed<K>, K: Copy + Eq + Hash>(
 /// A table of the first place of each key.
 fn table_of<T: Keyed<K>, K: Copy + Eq + Hash>(
     alloc: Global,
+    hash_key: HashKey,
     items: &[T],
-) -> Result<IndexMap<K, usize>, NoMemory>
+) -> Result<KeyedTable<K, usize>, NoMemory>
     ensures { IfOk result (λ table. HasFirsts K.eq T.has_key table.entries items.now) }
 {
-    let mut table = IndexMap::with_capacity(alloc, items.len())?;
+    let mut table = IndexMap::with_capacity_and_hasher(alloc, items.len(), hash_key)?;
     fill(&mut table, items)?;
     Ok(table)
 }
@@ -102,14 +104,18 @@ pub fn is_behind(first: Option<usize>, place: usize) -> bool
 }
 
 impl<'v, T: Keyed<K>, K: Copy + Eq + Hash> FirstPlaces<'v, T, K> {
-    /// The list, and a table of it if it is long.
-    pub fn of(alloc: Global, items: &'v [T]) -> Result<FirstPlaces<'v, T, K>, NoMemory>
+    /// The list, and a table of it if it is long, which hashes by the key.
+    pub fn of(
+        alloc: Global,
+        hash_key: HashKey,
+        items: &'v [T],
+    ) -> Result<FirstPlaces<'v, T, K>, NoMemory>
         ensures { IfOk result (λ places. places ≡ items.now) }
     {
         let table = if items.len() <= MOST_FEW {
             None
         } else {
-            Some(table_of(alloc, items)?)
+            Some(table_of(alloc, hash_key, items)?)
         };
         Ok(FirstPlaces { items, table })
     }

@@ -185,6 +185,6 @@ pub fn meanings(
         → list_any is_too_high (heights d see) ≡ false
         → map kept_meaning list.items ≡ map (meaning_of d see) (map view_name declared.now)) }
 {
-    let bodies = FirstPlaces::of(alloc, bodies)?;
+    let bodies = FirstPlaces::of(alloc, sights.hash_key, bodies)?;
     meanings_by(alloc, definition, declared, &bodies, sights, constants)
 }

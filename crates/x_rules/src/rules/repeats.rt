@@ -13,6 +13,7 @@ use super::first_places::{FirstPlaces, Keyed};
 use super::found::add_fault;
 use crate::fault::{RuleCode, WordFault};
 use std::alloc::Global;
+use x_hash::HashKey;
 use x_numbers::number_value;
 use x_outline::{BodyAt, Members, NameAt, NumberAt};
 use x_text::NoMemory;
@@ -75,13 +76,14 @@ fn has_earlier(numbers: &FirstPlaces<Numbered, i128>, here: &Numbered, place: us
 /// Adds the fault at each number that has an earlier word too.
 pub fn add_repeated_numbers(
     alloc: Global,
+    hash_key: HashKey,
     faults: &mut Vec<WordFault>,
     numbers: &[Numbered],
     code: RuleCode,
 ) -> Result<(), NoMemory>
     ensures { OnOk result (faults.new.items ≡ faults.old.items ++ repeated_numbers code numbers.now) }
 {
-    let places = FirstPlaces::of(alloc, numbers)?;
+    let places = FirstPlaces::of(alloc, hash_key, numbers)?;
     for (place, here) in numbers.iter().enumerate() {
         let is_new = !has_earlier(&places, here, place);
         add_fault(faults, here.word, number_fault(code, is_new))?;
@@ -103,13 +105,14 @@ fn name_fault(is_repeated: bool) -> Option<RuleCode>
 /// Adds the fault at each name of a group that has an earlier word too.
 fn add_repeated_names(
     alloc: Global,
+    hash_key: HashKey,
     faults: &mut Vec<WordFault>,
     names: &[NameAt],
 ) -> Result<(), NoMemory>
     ensures { OnOk result (faults.new.items ≡ faults.old.items
         ++ repeated_names (map view_name_at names.now)) }
 {
-    let places = FirstPlaces::of(alloc, names)?;
+    let places = FirstPlaces::of(alloc, hash_key, names)?;
     for (place, name) in names.iter().enumerate() {
         let code = name_fault(places.has_before(place, name.name));
         add_fault(faults, name.word, code)?;
@@ -131,6 +134,7 @@ fn numbers_of(alloc: Global, numbers: &[NumberAt]) -> Result<Vec<Numbered>, NoMe
 /// Adds the faults of names of fields that stand twice.
 pub fn add_repeated_fields(
     alloc: Global,
+    hash_key: HashKey,
     faults: &mut Vec<WordFault>,
     bodies: &[BodyAt],
 ) -> Result<(), NoMemory>
@@ -138,7 +142,7 @@ pub fn add_repeated_fields(
         ++ flat_map (λ b. repeated_names (map view_name_at b.fields.items)) bodies.now) }
 {
     for body in bodies {
-        add_repeated_names(alloc, faults, &body.fields)?;
+        add_repeated_names(alloc, hash_key, faults, &body.fields)?;
     }
     Ok(())
 }
@@ -146,20 +150,22 @@ pub fn add_repeated_fields(
 /// Adds the faults of the versions of a program, or of the procedures of a version.
 fn add_repeats_of(
     alloc: Global,
+    hash_key: HashKey,
     faults: &mut Vec<WordFault>,
     group: &Members,
 ) -> Result<(), NoMemory>
     ensures { OnOk result (faults.new.items ≡ faults.old.items
         ++ repeated_members (view_members group.now)) }
 {
-    add_repeated_names(alloc, faults, &group.names)?;
+    add_repeated_names(alloc, hash_key, faults, &group.names)?;
     let numbers = numbers_of(alloc, &group.numbers)?;
-    add_repeated_numbers(alloc, faults, &numbers, RuleCode::RepeatedNumber)
+    add_repeated_numbers(alloc, hash_key, faults, &numbers, RuleCode::RepeatedNumber)
 }
 
 /// Adds the faults of names and numbers of versions and procedures that stand twice.
 pub fn add_repeated_members(
     alloc: Global,
+    hash_key: HashKey,
     faults: &mut Vec<WordFault>,
     members: &[Members],
 ) -> Result<(), NoMemory>
@@ -167,7 +173,7 @@ pub fn add_repeated_members(
         ++ flat_map (λ m. repeated_members (view_members m)) members.now) }
 {
     for group in members {
-        add_repeats_of(alloc, faults, group)?;
+        add_repeats_of(alloc, hash_key, faults, group)?;
     }
     Ok(())
 }

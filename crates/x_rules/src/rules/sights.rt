@@ -8,6 +8,7 @@ use super::first_places::{FirstPlaces, MOST_FEW};
 use crate::views::View;
 use smallvec::SmallVec;
 use std::alloc::Global;
+use x_hash::HashKey;
 use x_text::NoMemory;
 use x_trees::{DeclaredName, Mention};
 
@@ -48,12 +49,15 @@ pub fn list_names<'v>(
 pub struct Sights<'v> {
     names: FirstPlaces<'v, &'v [u8], &'v [u8]>,
     views: &'v [View<'v>],
+    /// What the tables of its names and numbers hash by.
+    pub hash_key: HashKey,
 }
 
 impl<'v> Sights<'v> {
     /// The views of these names.
     pub fn of(
         alloc: Global,
+        hash_key: HashKey,
         names: &'v [&'v [u8]],
         views: &'v [View<'v>],
     ) -> Result<Sights<'v>, NoMemory>
@@ -61,8 +65,9 @@ impl<'v> Sights<'v> {
         ensures views { IfOk result (λ sights. sights.views.now ≡ views.now) }
     {
         Ok(Sights {
-            names: FirstPlaces::of(alloc, names)?,
+            names: FirstPlaces::of(alloc, hash_key, names)?,
             views,
+            hash_key,
         })
     }
 

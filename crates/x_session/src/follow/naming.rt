@@ -45,8 +45,13 @@ pub fn change_names(
     ensures change { IfOk result (λ names. IsNameChange items.old.entries.list patch.now names) }
     ensures room { IfOk result (λ names. HasRoomForNames items.new.uses names) }
 {
-    let gone = Uses::of(alloc, &removed_definitions(alloc, &items.entries, patch)?)?;
-    let fresh = Uses::of(alloc, put)?;
+    let hash_key = items.hash_key;
+    let gone = Uses::of(
+        alloc,
+        hash_key,
+        &removed_definitions(alloc, &items.entries, patch)?,
+    )?;
+    let fresh = Uses::of(alloc, hash_key, put)?;
     let mut uses = take_table(alloc, items)?;
     let room = uses.make_room(alloc, &fresh);
     items.uses = Some(uses);
@@ -73,7 +78,7 @@ fn take_table(alloc: Global, items: &mut ItemTable) -> Result<Uses, NoMemory>
 {
     match items.uses.take() {
         Some(uses) => Ok(uses),
-        None => Uses::of(alloc, &items.definitions(alloc)?),
+        None => Uses::of(alloc, items.hash_key, &items.definitions(alloc)?),
     }
 }
 

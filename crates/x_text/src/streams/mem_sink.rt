@@ -4,7 +4,7 @@ ghost use Rattle.std.specs.Io.KnownBytes.{Keeps};
 ghost use Rattle.x_text.specs.Memory.{in_memory, share, Fails};
 ghost use Rattle.x_text.specs.Streams.{FailsForGood, Puts};
 
-use crate::{Broken, Sink};
+use crate::{Broken, Outlet, Sink};
 use std::marker::Model;
 
 /// A [`Sink`] over memory, for tests: it takes at most a set number of bytes a call, and fails after a set
@@ -92,5 +92,14 @@ impl Sink for MemSink<'_> {
         ensures unchanged { self.new ≡ self.old }
     {
         if self.failed { Err(Broken) } else { Ok(()) }
+    }
+}
+
+/// Somebody always reads what is in memory.
+impl Outlet for MemSink<'_> {
+    ghost is_closed = { λ _. false };
+
+    fn is_closed(&self) -> bool {
+        false
     }
 }

@@ -1,8 +1,8 @@
 //! A sink over a writer.
-ghost use Rattle.std.specs.Prelude.{◌≡◌, false};
+ghost use Rattle.std.specs.Prelude.{◌≡◌, ◌↔◌, ◌&&◌, false, IsTrue};
 
-use crate::{Broken, Sink};
-use std::io::Write;
+use crate::{Broken, Outlet, Sink};
+use std::io::{ErrorKind, Write};
 
 /// A [`Sink`] made of a writer of std. It tells what the writer tells.
 ///
@@ -11,6 +11,8 @@ use std::io::Write;
 pub struct Out<W> {
     writer: W,
     failed: bool,
+    // Whether the writer failed as a pipe does that nobody reads.
+    closed: bool,
 }
 
 impl<W: Write> Out<W> {
@@ -21,7 +23,25 @@ impl<W: Write> Out<W> {
         Out {
             writer,
             failed: false,
+            closed: false,
         }
+    }
+
+    /// The writer.
+    pub fn into_inner(self) -> W
+        ensures { W.contents result ≡ (⟦<Out<W> as Sink>⟧.state self).bytes }
+    {
+        self.writer
+    }
+
+    /// Notes that the writer failed, and by what.
+    fn fail_by(&mut self, kind: ErrorKind)
+        ensures writer { self.new.writer ≡ self.old.writer }
+        ensures failed { IsTrue self.new.failed }
+        ensures closed { IsTrue self.new.closed ↔ (kind ≡ ErrorKind.BrokenPipe) }
+    {
+        self.failed = true;
+        self.closed = matches!(kind, ErrorKind::BrokenPipe);
     }
 }
 
@@ -34,8 +54,12 @@ impl<W: Write> Sink for Out<W> {
         }
         match self.writer.write(bytes) {
             Ok(count) if count > 0 || bytes.is_empty() => Ok(count),
-            _ => {
+            Ok(_) => {
                 self.failed = true;
+                Err(Broken)
+            }
+            Err(error) => {
+                self.fail_by(error.kind());
                 Err(Broken)
             }
         }
@@ -47,10 +71,18 @@ impl<W: Write> Sink for Out<W> {
         }
         match self.writer.flush() {
             Ok(()) => Ok(()),
-            Err(_) => {
-                self.failed = true;
+            Err(error) => {
+                self.fail_by(error.kind());
                 Err(Broken)
             }
         }
+    }
+}
+
+impl<W: Write> Outlet for Out<W> {
+    ghost is_closed = { λ s. s.failed && s.closed };
+
+    fn is_closed(&self) -> bool {
+        self.failed && self.closed
     }
 }

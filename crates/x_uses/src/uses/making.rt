@@ -15,6 +15,7 @@ use super::slot::{CompactDeclarer, Slot};
 use super::table::Table;
 use indexmap::IndexMap;
 use std::alloc::Global;
+use x_hash::HashKey;
 use x_text::NoMemory;
 use x_trees::{DeclaredName, Definition, Glossary, Mention};
 
@@ -148,8 +149,12 @@ fn add_item<'d>(
     }
 }
 
-/// The table of the items' definitions.
-pub fn table_of(alloc: Global, definitions: &[Option<&Definition>]) -> Result<Table, NoMemory>
+/// The table of the items' definitions, which hashes by the key.
+pub fn table_of(
+    alloc: Global,
+    hash_key: HashKey,
+    definitions: &[Option<&Definition>],
+) -> Result<Table, NoMemory>
     ensures declarers { IfOk result (λ table. AreShort (map tree_at definitions.now)
         → (name : List ℕ) → declarers_at (slot_at table.entries name)
         ≡ declarers_of 0 (map tree_at definitions.now) name) }
@@ -157,7 +162,7 @@ pub fn table_of(alloc: Global, definitions: &[Option<&Definition>]) -> Result<Ta
         → (name : List ℕ) → users_at (slot_at table.entries name)
         ≡ users_of 0 (map tree_at definitions.now) name) }
 {
-    let mut table = IndexMap::new(alloc);
+    let mut table = IndexMap::with_hasher(alloc, hash_key);
     let mut glossary = Glossary::new(alloc);
     for index in 0..definitions.len() {
         let Ok(item) = u32::try_from(index) else {

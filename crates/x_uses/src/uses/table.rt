@@ -7,11 +7,11 @@ ghost use Rattle.x_uses.specs.Slots.{with_item, first_of, first_after};
 use super::ItemSplice;
 use super::places::count_below;
 use super::slot::{CompactDeclarer, Slot};
-use indexmap::IndexMap;
+use x_hash::KeyedTable;
 use x_names::Declarer;
 
 /// The names of a text with their slots.
-pub type Table = IndexMap<Vec<u8>, Slot>;
+pub type Table = KeyedTable<Vec<u8>, Slot>;
 
 /// The declarers of the name.
 fn declarers_in<'t>(table: &'t Table, name: &[u8]) -> &'t [CompactDeclarer]

@@ -1,7 +1,5 @@
 //! What the first line of a message says.
 
-use super::teller::CallOfXid;
-
 /// Which message it is: its number among the messages, from 1, and the xid that it shares with its call or
 /// its replies.
 #[derive(Clone, Copy, Debug)]
@@ -14,8 +12,8 @@ pub(super) struct MessageId {
 #[derive(Clone, Copy, Debug)]
 pub(super) struct Heading<'n> {
     pub(super) id: MessageId,
-    /// The call that a reply belongs to, if to any; of a call this one itself.
-    pub(super) call: Option<CallOfXid>,
+    /// The number of the call that a reply belongs to, if to any; of a call its own.
+    pub(super) call: Option<u64>,
     /// The name of the procedure.
     pub(super) name: &'n [u8],
 }

@@ -8,7 +8,6 @@ ghost use Rattle.x_wire.specs.MessageTexts.{reject_details, reject_name};
 ghost use Rattle.x_wire.specs.StreamTexts.{record_line};
 
 use super::heading::Heading;
-use super::teller::CallOfXid;
 use crate::{AcceptStat, Auth, Call, RecordFault, RejectStat};
 use itoa::Integer;
 use x_text::{Pen, Sink};
@@ -87,11 +86,11 @@ pub(super) fn add_call<S: Sink>(heading: &Heading, call: &Call, pen: &mut Pen, s
 }
 
 /// Adds the number of the call that a reply belongs to.
-fn add_call_number<S: Sink>(heard: Option<CallOfXid>, pen: &mut Pen, sink: &mut S)
-    ensures { Adds pen.old (S.state sink.old) pen.new (S.state sink.new) (call_number heard) }
+fn add_call_number<S: Sink>(call: Option<u64>, pen: &mut Pen, sink: &mut S)
+    ensures { Adds pen.old (S.state sink.old) pen.new (S.state sink.new) (call_number call) }
 {
-    match heard {
-        Some(heard) => add_number(heard.number, pen, sink),
+    match call {
+        Some(number) => add_number(number, pen, sink),
         None => pen.add(b"none", sink),
     }
 }
@@ -107,20 +106,14 @@ fn add_words<S: Sink>(first: &str, second: &str, pen: &mut Pen, sink: &mut S)
 
 /// Adds what became of a call, and the number of the call.
 #[tactic(auto, using(x_text::proofs::Adding::four))]
-fn add_state<S: Sink>(
-    word: &str,
-    state: &str,
-    heard: Option<CallOfXid>,
-    pen: &mut Pen,
-    sink: &mut S,
-)
+fn add_state<S: Sink>(word: &str, state: &str, call: Option<u64>, pen: &mut Pen, sink: &mut S)
     ensures { Adds pen.old (S.state sink.old) pen.new (S.state sink.new)
-        (codes " " ++ (word.now ++ state.now) ++ codes " call=" ++ call_number heard) }
+        (codes " " ++ (word.now ++ state.now) ++ codes " call=" ++ call_number call) }
 {
     pen.add(b" ", sink);
     add_words(word, state, pen, sink);
     pen.add(b" call=", sink);
-    add_call_number(heard, pen, sink);
+    add_call_number(call, pen, sink);
 }
 
 /// Adds the first line of a reply.

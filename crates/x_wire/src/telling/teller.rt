@@ -1,38 +1,30 @@
 //! What is printed of messages, one after another.
 ghost use Rattle.std.specs.Prelude.{◌≡◌, ◌+◌, [], IfOk, OnErr};
-ghost use Rattle.x_wire.specs.Calls.{numbers_called, numbers_heard};
+ghost use Rattle.x_schema.specs.Schema.{Schema};
+ghost use Rattle.x_wire.specs.Calls.{numbers_called, procedure_called};
+ghost use Rattle.x_wire.specs.LastCalls.{last_call};
 ghost use Rattle.x_wire.specs.Messages.{body_of, body_of_reply, header_of, header_of_kind, header_of_reply};
 ghost use Rattle.x_wire.specs.Tellers.{IsFound, Knows, TellsHeader, TellsMessage, TellsReply};
-ghost use Rattle.x_wire.specs.Tellers.{arg_found, name_found, res_found};
+ghost use Rattle.x_wire.specs.Tellers.{arg_found, kept_by, name_found, number_kept};
+ghost use Rattle.x_wire.specs.Tellers.{procedure_heard, res_found};
 ghost use Rattle.x_wire.specs.declared.messages.parts.MessageKind.TheVariants as kinds;
 
 use super::body::read_body;
+use super::calls::{Calls, LastCall};
 use super::heading::{Heading, MessageId};
 use super::lines::{add_accepted, add_bad_header, add_call, add_denied};
 use crate::{AcceptStat, Call, Message, MessageKind, RejectStat, Reply, message};
-use indexmap::IndexMap;
 use std::alloc::Global;
-use x_schema::{Procedure, ProcedureNumbers, Schema, TypeId};
+use x_schema::{Procedure, ProcedureIndex, ProcedureNumbers, Schema, TypeId};
 use x_text::{NoMemory, Pen, Sink};
 
 /// The version of the protocol whose messages are read (RFC 5531, section 9).
 const RPC_VERSION: u32 = 2;
 
-/// A call, as its replies need it.
-#[derive(Clone, Copy, Debug)]
-pub(super) struct CallOfXid {
-    /// Its number among the messages, from 1.
-    pub(super) number: u64,
-    /// The procedure that it names.
-    pub(super) procedure: Option<ProcedureNumbers>,
-}
-
-/// Tells messages one after another. It keeps the last call of each xid.
+/// Tells messages one after another. It counts them, and keeps the last call of each xid.
 #[derive(Drop)]
 pub(super) struct Teller {
-    /// How many messages were told.
-    count: u64,
-    calls: IndexMap<u32, CallOfXid>,
+    calls: Calls,
 }
 
 /// The procedure that a call names; what a call of another version of the protocol names is not said.
@@ -49,20 +41,36 @@ fn numbers_called(call: &Call) -> Option<ProcedureNumbers>
     })
 }
 
-/// The procedure of these numbers, if the schema has it.
-fn find(schema: &Schema, numbers: Option<ProcedureNumbers>) -> Option<Procedure<'_>>
-    ensures { IsFound schema.now numbers result }
+/// Where the procedure of these numbers stands, if the schema has it.
+fn find(schema: &Schema, numbers: Option<ProcedureNumbers>) -> Option<ProcedureIndex>
+    ensures { kept_by schema.now result ≡ procedure_called schema.now numbers }
 {
-    let numbers = numbers?;
-    schema.procedure(numbers.program, numbers.version, numbers.procedure)
+    schema.procedure_index(numbers?)
 }
 
-/// The procedure of a call, if the schema has it.
-fn find_heard(schema: &Schema, heard: Option<CallOfXid>) -> Option<Procedure<'_>>
-    ensures { IsFound schema.now (numbers_heard heard) result }
+/// The procedure at an index, if there is one.
+fn procedure_by(schema: &Schema, index: Option<ProcedureIndex>) -> Option<Procedure<'_>>
+    ensures { IsFound schema.now (kept_by schema.now index) result }
+{
+    schema.procedure_at(index?)
+}
+
+/// The procedure of a call that was kept, if the schema has it.
+fn procedure_of(schema: &Schema, heard: Option<LastCall>) -> Option<Procedure<'_>>
+    ensures { IsFound schema.now (procedure_heard schema.now heard) result }
 {
     match heard {
-        Some(heard) => find(schema, heard.procedure),
+        Some(heard) => procedure_by(schema, heard.procedure),
+        None => None,
+    }
+}
+
+/// The number of a call that was kept.
+fn number_of(heard: Option<LastCall>) -> Option<u64>
+    ensures { result ≡ number_kept heard }
+{
+    match heard {
+        Some(heard) => Some(heard.number),
         None => None,
     }
 }
@@ -100,12 +108,11 @@ fn res_of(procedure: &Option<Procedure<'_>>) -> Option<TypeId>
 impl Teller {
     /// One that told no message. It takes no memory.
     pub(super) fn new(alloc: Global) -> Teller
-        ensures knows { Knows result.calls.entries [] }
-        ensures count { result.count ≡ 0 }
+        ensures knows { (s : Schema) → Knows s (last_call result.calls) [] }
+        ensures count { result.calls.count ≡ 0 }
     {
         Teller {
-            count: 0,
-            calls: IndexMap::new(alloc),
+            calls: Calls::new(alloc),
         }
     }
 
@@ -118,39 +125,35 @@ impl Teller {
         pen: &mut Pen,
         sink: &mut S,
     ) -> Result<bool, NoMemory>
-        ensures told { IfOk result (λ refused. TellsMessage schema.now (self.old.count + 1)
-            self.old.calls.entries bytes.now refused self.new.calls.entries
+        ensures told { IfOk result (λ refused. TellsMessage schema.now (self.old.calls.count + 1)
+            (last_call self.old.calls) bytes.now refused (last_call self.new.calls)
             pen.old (S.state sink.old) pen.new (S.state sink.new)) }
-        ensures count { IfOk result (λ _. self.new.count ≡ self.old.count + 1) }
+        ensures count { IfOk result (λ _. self.new.calls.count ≡ self.old.calls.count + 1) }
         ensures same { OnErr result ((pen.new ≡ pen.old) × (sink.new ≡ sink.old)) }
     {
-        // No stream comes to so many messages.
-        let number = self.count.checked_add(1).ok_or(NoMemory)?;
-        let refused = self.tell_bytes(alloc, schema, number, bytes, pen, sink)?;
-        self.count = number;
-        Ok(refused)
+        self.calls.count_message()?;
+        self.tell_bytes(alloc, schema, bytes, pen, sink)
     }
 
-    /// Tells the message of this number.
+    /// Tells the message that was counted last.
     fn tell_bytes<S: Sink>(
         &mut self,
         alloc: Global,
         schema: &Schema,
-        number: u64,
         bytes: &[u8],
         pen: &mut Pen,
         sink: &mut S,
     ) -> Result<bool, NoMemory>
-        ensures told { IfOk result (λ refused. TellsMessage schema.now number
-            self.old.calls.entries bytes.now refused self.new.calls.entries
+        ensures told { IfOk result (λ refused. TellsMessage schema.now self.old.calls.count
+            (last_call self.old.calls) bytes.now refused (last_call self.new.calls)
             pen.old (S.state sink.old) pen.new (S.state sink.new)) }
         ensures same { OnErr result ((pen.new ≡ pen.old) × (sink.new ≡ sink.old)) }
-        ensures count { self.new.count ≡ self.old.count }
+        ensures count { self.new.calls.count ≡ self.old.calls.count }
     {
         match message(bytes) {
-            Ok(message) => self.tell_message(alloc, schema, number, &message, pen, sink),
+            Ok(message) => self.tell_message(alloc, schema, &message, pen, sink),
             Err(fault) => {
-                add_bad_header(number, &fault, bytes, pen, sink);
+                add_bad_header(self.calls.count(), &fault, bytes, pen, sink);
                 Ok(true)
             }
         }
@@ -161,25 +164,27 @@ impl Teller {
         &mut self,
         alloc: Global,
         schema: &Schema,
-        number: u64,
         message: &Message,
         pen: &mut Pen,
         sink: &mut S,
     ) -> Result<bool, NoMemory>
-        ensures told { IfOk result (λ refused. TellsHeader schema.now number self.old.calls.entries
-            (header_of message.now) (body_of message.now) refused self.new.calls.entries
+        ensures told { IfOk result (λ refused. TellsHeader schema.now self.old.calls.count
+            (last_call self.old.calls)
+            (header_of message.now) (body_of message.now) refused (last_call self.new.calls)
             pen.old (S.state sink.old) pen.new (S.state sink.new)) }
         ensures same { OnErr result ((pen.new ≡ pen.old) × (sink.new ≡ sink.old)) }
-        ensures count { self.new.count ≡ self.old.count }
+        ensures count { self.new.calls.count ≡ self.old.calls.count }
     {
-        let id = MessageId {
-            number,
-            xid: message.xid,
-        };
         match &message.kind {
-            MessageKind::Call(call) => self.tell_call(alloc, schema, id, call, pen, sink),
+            MessageKind::Call(call) => {
+                self.tell_call(alloc, schema, message.xid, call, pen, sink)
+            }
             MessageKind::Reply(reply) => {
-                let heard = self.calls.get(&message.xid).copied();
+                let id = MessageId {
+                    number: self.calls.count(),
+                    xid: message.xid,
+                };
+                let heard = self.calls.get(message.xid);
                 tell_reply(alloc, schema, id, heard, reply, pen, sink)
             }
         }
@@ -190,28 +195,26 @@ impl Teller {
         &mut self,
         alloc: Global,
         schema: &Schema,
-        id: MessageId,
+        xid: u32,
         call: &Call,
         pen: &mut Pen,
         sink: &mut S,
     ) -> Result<bool, NoMemory>
-        ensures told { IfOk result (λ refused. TellsHeader schema.now id.number self.old.calls.entries
-            (header_of_kind id.xid (kinds.Call call.now)) call.now.body.now refused self.new.calls.entries
+        ensures told { IfOk result (λ refused. TellsHeader schema.now self.old.calls.count
+            (last_call self.old.calls)
+            (header_of_kind xid (kinds.Call call.now)) call.now.body.now refused (last_call self.new.calls)
             pen.old (S.state sink.old) pen.new (S.state sink.new)) }
         ensures same { OnErr result ((pen.new ≡ pen.old) × (sink.new ≡ sink.old)) }
-        ensures count { self.new.count ≡ self.old.count }
+        ensures count { self.new.calls.count ≡ self.old.calls.count }
     {
-        let numbers = numbers_called(call);
-        let procedure = find(schema, numbers);
+        let number = self.calls.count();
+        let index = find(schema, numbers_called(call));
+        let procedure = procedure_by(schema, index);
         let arguments = read_body(alloc, schema, arg_of(&procedure), call.body)?;
-        let heard = CallOfXid {
-            number: id.number,
-            procedure: numbers,
-        };
-        self.calls.insert(id.xid, heard)?;
+        self.calls.put(alloc, xid, index)?;
         let heading = Heading {
-            id,
-            call: Some(heard),
+            id: MessageId { number, xid },
+            call: Some(number),
             name: name_of(&procedure),
         };
         add_call(&heading, call, pen, sink);
@@ -224,7 +227,7 @@ fn tell_reply<S: Sink>(
     alloc: Global,
     schema: &Schema,
     id: MessageId,
-    heard: Option<CallOfXid>,
+    heard: Option<LastCall>,
     reply: &Reply,
     pen: &mut Pen,
     sink: &mut S,
@@ -234,10 +237,10 @@ fn tell_reply<S: Sink>(
         pen.old (S.state sink.old) pen.new (S.state sink.new)) }
     ensures same { OnErr result ((pen.new ≡ pen.old) × (sink.new ≡ sink.old)) }
 {
-    let procedure = find_heard(schema, heard);
+    let procedure = procedure_of(schema, heard);
     let heading = Heading {
         id,
-        call: heard,
+        call: number_of(heard),
         name: name_of(&procedure),
     };
     match reply {

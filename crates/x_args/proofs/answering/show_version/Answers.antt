@@ -14,5 +14,5 @@ returns-clause-shown g c =
     let four = c.add-4.ensures.goes_on start (c.as_bytes.result.now ++ codes " " ++ c.as_bytes-2.result.now) three in
     let whole = c.as_bytes.result.now ++ codes " " ++ c.as_bytes-2.result.now ++ codes "\n" in
     let is : whole ≡ version_text c.args.manual.now = λ i. c.as_bytes.ensures.value i ++ codes " " ++ c.as_bytes-2.ensures.value i ++ codes "\n" in
-    subst (λ t. IsShown c.args.manual.now.name.now t start (g.O.Sink.state c.end_showing.new.out) (g.E.Sink.state c.args.err.now)
+    subst (λ t. IsShown c.args.manual.now.name.now t (g.O.Outlet.is_closed c.end_showing.new.out) start (g.O.Sink.state c.end_showing.new.out) (g.E.Sink.state c.args.err.now)
     (g.E.Sink.state c.end_showing.new.err) c.end_showing.result) is (c.end_showing.ensures.shown start whole four)

@@ -26,7 +26,7 @@ pub arms-loop-arm-init : goal.arms-loop-arm-init
 arms-loop-arm-init t c lt g =
     let known = c.args.known.now in
     let all = view_arms c.args.arms.now in
-    subst (λ es. ArmsSoFar known c.args.self.now c.args.self.now c.args.around.now c.args.discriminant es all all) (sym c.new-cases.ensures.empty)
+    subst (λ es. ArmsSoFar known c.args.self.now c.args.self.now c.args.around.now c.args.discriminant es all all) (sym c.with_hasher-cases.ensures.empty)
     (arms_start known c.args.self.now c.args.around.now c.args.discriminant all g)
 
 pub arms-loop-arm-preserved : goal.arms-loop-arm-preserved

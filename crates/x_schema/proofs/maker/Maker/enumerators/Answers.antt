@@ -10,7 +10,7 @@ pub loop-enumerator-init : goal.loop-enumerator-init
 loop-enumerator-init c known g =
     let all = map view_enumerator c.args.enumerators.now in
     let numbers = c.args.constants.now in
-    subst (λ es. EnumSoFar known c.args.self.now c.args.self.now numbers (Some (pos 0)) es all all) (sym c.new-names.ensures.empty)
+    subst (λ es. EnumSoFar known c.args.self.now c.args.self.now numbers (Some (pos 0)) es all all) (sym c.with_hasher-names.ensures.empty)
     (enum_start known c.args.self.now numbers all g)
 
 pub loop-enumerator-preserved : goal.loop-enumerator-preserved

@@ -9,7 +9,7 @@ use Rattle.x_schema.proofs.maker.Maker.procedures.Goals as goal
 pub loop-definition-init : goal.loop-definition-init
 loop-definition-init c =
     let known = c.args.known.now in
-    subst (λ t. PutsProcedures known c.args.self.now c.args.self.now [] t []) (sym c.new-table.ensures.empty) (grows_none known c.args.self.now [])
+    subst (λ t. PutsProcedures known c.args.self.now c.args.self.now [] t []) (sym c.with_hasher-table.ensures.empty) (grows_none known c.args.self.now [])
 
 pub loop-definition-preserved : goal.loop-definition-preserved
 loop-definition-preserved c =

@@ -19,7 +19,7 @@ returns-then-is_punct-2-clause-ends c =
 
 pub returns-then-is_punct-2-clause-moved : goal.returns-then-is_punct-2-clause-moved
 returns-then-is_punct-2-clause-moved c =
-    c.saturating_sub-self-inside.ensures
+    c.depth_closed-self-inside.ensures
     ∙ ap (λ d. d - 1) c.self.view_is
     ∙ ap (depth_after c.args.self.now) (sym (is_closing c.args.kind c.args.text.now c.is_punct.result c.is_punct-2.result c.is_punct.ensures c.if-is_punct.false c.is_punct-2.ensures c.if-is_punct-2.true))
 

@@ -4,7 +4,7 @@ use Rattle.rpcx.specs.Course.{course}
 use Rattle.rpcx.specs.Editing.{Answers, IsStopped, stopped, unopened}
 use Rattle.rpcx.proofs.Editing.{opened_fits}
 use Rattle.rpcx.proofs.Unopened.{not_opened}
-use Rattle.rpcx.proofs.rpcedit.edit_run.Goals as goal
+use Rattle.rpcx.proofs.rpcedit.edit_run_keyed.Goals as goal
 
 pub returns-clause-answers : goal.returns-clause-answers
 returns-clause-answers g c =
@@ -18,7 +18,7 @@ returns-clause-failed g c e =
     let before = g.E.Sink.state c.args.err.now in
     let after = g.E.Sink.state c.answer_input-status.new.err in
     stopped (opened_fits c.args.bytes.now c.in-Ok.session c.in-Ok.ensures.too_large)
-    (subst (λ (p : List ℕ × List ℕ). IsStopped p.0 p.1 whole before after)
+    (subst (λ (p : List ℕ × List ℕ). IsStopped p.0 p.1 whole (g.O.Outlet.is_closed c.answer_input-status.new.out) before after)
     (λ i. ((c.in-Ok.ensures.base ∙ c.base_of_file.ensures) i, c.in-Ok.ensures.text i))
     (c.answer_input-status.ensures.stopped e))
 
