@@ -2,8 +2,8 @@
 //! one place of a table.
 #![tactic(auto)]
 
-ghost use Rattle.std.specs.Prelude.{◌≡◌};
-ghost use Rattle.x_hash.specs.Keys.{folded_product, key_after, key_of, write};
+ghost use Rattle.std.specs.Prelude.{◌≡◌, [], ◌∷◌};
+ghost use Rattle.x_hash.specs.Keys.{folded_product, hashed, key_after, key_of, write};
 
 use indexmap::IndexMap;
 use std::hash::{BuildHasher, DefaultHasher, Hasher};
@@ -68,12 +68,32 @@ impl BuildHasher for HashKey {
     }
 }
 
-/// Hashes bytes one by one: the state and a byte, joined by xor, times the factor, with both halves of the
-/// product joined by xor.
+/// Hashes words one by one: the state and a word, joined by xor, times the factor, with both halves of the
+/// product joined by xor. Eight bytes, as a length is written, are one word; else each byte is one.
 #[derive(Clone, Copy)]
 pub struct KeyedHasher {
     state: u64,
     factor: u64,
+}
+
+impl KeyedHasher {
+    /// Hashes a word.
+    #[inline(always)]
+    fn add(&mut self, word: u64)
+        ensures { self.new ≡ hashed self.old (word ∷ []) }
+    {
+        self.state = folded_product(self.state ^ word, self.factor);
+    }
+
+    /// Hashes bytes, each as a word.
+    #[inline(always)]
+    fn add_each(&mut self, bytes: &[u8])
+        ensures { self.new ≡ hashed self.old bytes.now }
+    {
+        for byte in bytes {
+            self.add(u64::from(*byte));
+        }
+    }
 }
 
 /// Both halves of a product of 128 bits, joined by xor.
@@ -97,8 +117,10 @@ impl Hasher for KeyedHasher {
 
     #[inline(always)]
     fn write(&mut self, bytes: &[u8]) {
-        for byte in bytes {
-            self.state = folded_product(self.state ^ u64::from(*byte), self.factor);
+        if let Ok(word) = <[u8; 8]>::try_from(bytes) {
+            self.add(u64::from_le_bytes(word));
+        } else {
+            self.add_each(bytes);
         }
     }
 }

@@ -1,6 +1,6 @@
 use Rattle.std.proofs.Common.{rules, take_all}
 use Rattle.x_hash.proofs.Hashing.{write_more}
-use Rattle.x_hash.proofs.KeyedHasherHasher.write.Goals as goal
+use Rattle.x_hash.proofs.KeyedHasher.add_each.Goals as goal
 
 pub loop-byte-preserved : goal.loop-byte-preserved
 loop-byte-preserved c = search (rules, write_more)
