@@ -1,5 +1,5 @@
 -- What stands under the name of an output.
-use Rattle.std.specs.Prelude.{◌≡◌, ℕ, List, [], Option, Some, None, MatchOption}
+use Rattle.std.specs.Prelude.{◌≡◌, ℕ, List, [], Option, Some, MatchOption}
 
 -- where the output tells it: the bytes of a file, or that there is none
 abbrev pub Standing : Type 0

@@ -1,5 +1,6 @@
 -- What a keyed hasher computes, and the key that is made of bytes.
-use Rattle.std.specs.Prelude.{ℕ, ◌-◌, ◌*◌, ◌/◌, ◌^◌, ◌==◌, List, [], ◌∷◌, length, fold, bit_and, bit_xor, if◌then◌else◌}
+use Rattle.std.specs.Prelude.{ℕ, ◌-◌, ◌*◌, ◌/◌, ◌^◌, ◌==◌, List, [], ◌∷◌, length, fold, if◌then◌else◌}
+use Rattle.std.specs.Prelude.{bit_and, bit_xor}
 use Rattle.std.specs.Hash.DefaultHasher as sip
 use Rattle.std.specs.declared.hash.DefaultHasher.{DefaultHasher}
 use Rattle.std.specs.Hash as fed

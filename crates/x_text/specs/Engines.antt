@@ -1,5 +1,5 @@
 -- How runs of engines end: what reads a tap and writes its answers to a sink.
-use Rattle.std.specs.Prelude.{◌≡◌, ℕ, Bool, true, false, Result, Ok, Err}
+use Rattle.std.specs.Prelude.{◌≡◌, Bool, true, false, Result, Ok, Err}
 use Rattle.x_text.specs.declared.streams.outcome.EngineFault.{EngineFault}
 use Rattle.x_text.specs.declared.streams.outcome.EngineFault.TheVariants.{Read, Write, NoMemory}
 use Rattle.x_text.specs.declared.streams.outcome.Outcome.{Outcome}

@@ -1,6 +1,5 @@
-use Rattle.std.proofs.Common.{ℕ, ◌/◌, ◌^◌, nat_eq, cond, List, [], ◌∷◌, ◌++◌, Some, sym, ap, ◌∙◌}
+use Rattle.std.proofs.Common.{◌/◌, ◌^◌, nat_eq, cond, [], ◌∷◌, ◌++◌, Some, sym, ap, ◌∙◌}
 use Rattle.x_wire.specs.LastCalls.{CountedCalls, last_call, last_in}
-use Rattle.x_wire.specs.declared.telling.calls.CompactCall.{CompactCall}
 use Rattle.x_wire.specs.declared.telling.calls.LastCall.{LastCall}
 use Rattle.x_wire.proofs.Dumping.{on_err}
 use Rattle.x_wire.proofs.Generations.{last_same, put_last}

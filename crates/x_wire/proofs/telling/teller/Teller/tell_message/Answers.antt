@@ -1,4 +1,4 @@
-use Rattle.std.proofs.Common.{IfOk, sym, subst, ◌∙◌}
+use Rattle.std.proofs.Common.{IfOk, sym, subst}
 use Rattle.x_wire.specs.Messages.{body_of_kind, body_of_reply, header_of_kind, header_of_reply}
 use Rattle.x_wire.specs.Tellers.{TellsHeader, TellsReply}
 use Rattle.x_wire.specs.declared.messages.parts.MessageKind.{MessageKind}
