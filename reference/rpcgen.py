@@ -1,11 +1,12 @@
 #!/usr/bin/env python3
-"""rpcgen -c|-h|-l|-t [-o OUT] FILE: writes the routines, header, stubs or table of FILE, or its faults."""
+"""rpcgen -c|-h|-l|-t [-o OUT] [--explain] FILE: writes the routines, header, stubs or table of FILE, or its faults."""
 import getopt
 import os
 import sys
 
 sys.dont_write_bytecode = True
 
+import explained
 import rpclang
 import rpcedit
 import texts
@@ -13,12 +14,20 @@ import texts
 LETTERS = {"-c": "routines", "-h": "header", "-l": "stubs", "-t": "table"}
 
 
+def told_of(path, compilation, explains):
+    """The faults of a text, explained or one a line."""
+    if explains:
+        return explained.explanation(os.fsencode(path), compilation)
+    return b"".join(b"%s:%d:%d: %d %s\n" % (os.fsencode(path), fault.line, fault.column, fault.code,
+                                            rpclang.CODE_NAMES[fault.code].encode()) for fault in compilation.faults)
+
+
 def main(words):
     def stop(reason):
         sys.stderr.write(f"rpcgen: {reason}\n")
         return 2
     try:
-        letters, files = getopt.gnu_getopt(words, "chlto:")
+        letters, files = getopt.gnu_getopt(words, "chlto:", ["explain", "plain"])
     except getopt.GetoptError as error:
         return stop(error)
     if len(files) != 1:
@@ -36,10 +45,9 @@ def main(words):
     if len(text) > rpcedit.GREATEST_TEXT:
         return stop(f"{path}: 2 TooLarge")
     compilation = rpclang.Compilation(text)
-    for fault in compilation.faults:
-        name = rpclang.CODE_NAMES[fault.code]
-        sys.stderr.write(f"{path}:{fault.line}:{fault.column}: {fault.code} {name}\n")
     if compilation.faults:
+        sys.stderr.flush()
+        os.write(2, told_of(path, compilation, any(letter == "--explain" for letter, out in letters)))
         return 1
     try:
         out = open(outs[-1], "wb") if outs else rpcedit.standard_output()

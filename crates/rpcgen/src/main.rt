@@ -6,8 +6,11 @@ mod named;
 mod standard;
 
 use named::{Named, lead_to_one_file};
-use rpcx::{RPCGEN, Status, answer_words, gen_args, gen_mode, gen_run, read_text, read_words};
+use rpcx::{
+    GenArgs, RPCGEN, Status, answer_words, gen_args, gen_mode, gen_run, read_text, read_words,
+};
 use standard::Standard;
+use std::io::IsTerminal;
 use std::process::ExitCode;
 use x_text::Out;
 
@@ -15,6 +18,12 @@ use x_text::Out;
 /// is never taken for the standard output.
 fn is_named(rt: &HostRuntime, name: &str, file: &str) -> bool {
     !lead_to_one_file(rt, name, "/dev/stdout") || lead_to_one_file(rt, name, file)
+}
+
+/// Whether faults are explained: where that is asked for, or a terminal shows them that is not to show them
+/// plain.
+fn explains(rt: &HostRuntime, args: &GenArgs) -> bool {
+    args.explains || (!args.plain && rt.stderr().is_terminal())
 }
 
 /// Carries out the command line. Where that stops early, it answers the status as an error.
@@ -33,6 +42,10 @@ fn run(rt: &HostRuntime) -> Result<Status, Status> {
     };
     let bytes = read_text(rt, "rpcgen", args.file, &mut err)?;
     let alloc = rt.alloc();
+    let args = GenArgs {
+        explains: explains(rt, &args),
+        ..args
+    };
     Ok(match args.output {
         Some(name) if is_named(rt, name, args.file) => {
             let mut output = Named::new(rt, name, args.file);

@@ -1,5 +1,5 @@
 -- What runs of the programs do, and what they tell.
-use Rattle.std.specs.Prelude.{◌≡◌, ◌⊎◌, ℕ, Bool, ◌-◌, ◌<◌, ◌≤◌, ◌==◌, List, []}
+use Rattle.std.specs.Prelude.{◌≡◌, ◌⊎◌, ℕ, Bool, true, false, ◌-◌, ◌<◌, ◌≤◌, ◌==◌, List, []}
 use Rattle.std.specs.Prelude.{◌++◌, length, take, drop, codes, if◌then◌else◌, option_map, unwrap_or}
 use Rattle.std.specs.Prelude.{Result, IfOk, OnOk, IfErr, IsErrOf}
 use Rattle.std.specs.List.{after_last, flat_map}
@@ -7,7 +7,7 @@ use Rattle.std.specs.Str.{bytes_eq}
 use Rattle.x_text.specs.Streams.{Stream}
 use Rattle.x_compile.specs.declared.fault.Fault.{Fault}
 use Rattle.x_session.specs.Session.{Compiles, Document}
-use Rattle.x_compile.specs.Compile.{faults_of}
+use Rattle.x_compile.specs.Compile.{Item, faults_of, places_of}
 use Rattle.x_compile.specs.Faults.{fault_text}
 use Rattle.x_text.specs.declared.streams.outcome.EngineFault.{EngineFault}
 use Rattle.x_text.specs.declared.streams.outcome.EngineFault.TheVariants.{Read, Write, NoMemory}
@@ -15,6 +15,7 @@ use Rattle.x_session.specs.Answers.{fault_place}
 use Rattle.x_text.specs.declared.text.fault.TextFault.{TextFault}
 use Rattle.x_text.specs.declared.text.fault.TextFault.TheVariants as faults
 use Rattle.x_text.specs.Limits.{most_text}
+use Rattle.x_explain.specs.Explained.{AreExplained}
 use Rattle.x_args.specs.Telling.{Complains, IsTold, told_of}
 use Rattle.x_args.specs.declared.generating_args.GenArgs.{GenArgs}
 use Rattle.rpcx.specs.declared.rpcgen.output.OutputFault.{OutputFault}
@@ -58,16 +59,23 @@ pub data NotOpened (program file text : List ℕ) (before after : Stream) : Type
   NoRoom : length text ≤ most_text → IsTold before after (told_of program (codes "out of memory"))
       → NotOpened program file text before after
 
+-- How the faults of a file's text are told: one a line, or explained.
+abbrev pub TellsFaults : (explains : Bool) → (file text : List ℕ) → List Item → (before after : Stream) → Type 0
+TellsFaults false file text items before after =
+    IsTold before after (told_faults file (faults_of text items))
+TellsFaults true file text items before after =
+    (said : List ℕ) × AreExplained file text (places_of items) said × IsTold before after said
+
 -- What opening the text of a file for a run of a program comes to: a session of a text without faults, or the
 -- status of a run that does not go on, which was told why.
-pub record IsOpened (program file bytes : List ℕ) (before after : Stream) (result : Result Document Status)
-    : Type 0 where
+pub record IsOpened (explains : Bool) (program file bytes : List ℕ) (before after : Stream)
+    (result : Result Document Status) : Type 0 where
   pub base : IfOk result (λ s. s.base ≡ base_of file)
   pub text : IfOk result (λ s. s.text ≡ bytes)
   pub clean : OnOk result (Compiles bytes (λ items. faults_of bytes items ≡ []))
   pub faulty : IsErrOf result Faulty
       → Compiles bytes (λ items. (0 < length (faults_of bytes items))
-      × IsTold before after (told_faults file (faults_of bytes items)))
+      × TellsFaults explains file bytes items before after)
   pub too_large : most_text < length bytes → IsErrOf result Failed
   pub failed : IsErrOf result Failed → NotOpened program file bytes before after
   pub others : IfErr result (λ status. (status ≡ Faulty) ⊎ (status ≡ Failed))

@@ -77,7 +77,7 @@ fn open_types<E: Sink>(
     ensures opens { Opens file.now text.now (E.state err.old) (E.state err.new) result }
     ensures quiet { OnOk result (err.new ≡ err.old) }
 {
-    let session = open_text(alloc, "rpcdump", file, text, err)?;
+    let session = open_text(alloc, "rpcdump", file, text, false, err)?;
     let schema = session.schema();
     // The process ends soon, and gives all memory back at once.
     mem::forget(session);

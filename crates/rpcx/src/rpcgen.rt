@@ -4,7 +4,7 @@ ghost use Rattle.std.specs.Prelude.{◌≡◌, ◌≢◌, ◌⊎◌, ◌<◌, fa
 ghost use Rattle.std.specs.Prelude.{if◌then◌else◌};
 ghost use Rattle.std.specs.Io.KnownBytes.{Appends};
 ghost use Rattle.rpcx.specs.Generate.{IsFaultless, IsOpened, NotGenerated, NotWritten, base_of};
-ghost use Rattle.rpcx.specs.Generate.{no_output_told, output_told, told_faults};
+ghost use Rattle.rpcx.specs.Generate.{TellsFaults, no_output_told, output_told};
 ghost use Rattle.rpcx.specs.Outputs.{Holds, IsNamed};
 ghost use Rattle.x_args.specs.Telling.{Complains, Grows, IsTold};
 ghost use Rattle.x_session.specs.Session.{Compiles};
@@ -23,18 +23,20 @@ use x_session::{Session, Which};
 use x_text::{Outlet, Sink};
 
 /// Opens the text of a file for a run of `rpcgen`, or tells what is wrong with it and answers the status:
-/// `Faulty` where the text has faults, which are written one a line, and `Failed` where it is too large or
-/// memory runs out.
+/// `Faulty` where the text has faults, which are written one a line, or explained, and `Failed` where it is
+/// too large or memory runs out.
 pub fn gen_open<E: Sink>(
     alloc: Global,
     file: &str,
     bytes: &[u8],
+    explains: bool,
     err: &mut E,
 ) -> Result<Session, Status>
-    ensures opened { IsOpened (codes "rpcgen") file.now bytes.now (E.state err.old) (E.state err.new) result }
+    ensures opened { IsOpened explains (codes "rpcgen") file.now bytes.now
+        (E.state err.old) (E.state err.new) result }
     ensures quiet { OnOk result (err.new ≡ err.old) }
 {
-    open_text(alloc, "rpcgen", file, bytes, err)
+    open_text(alloc, "rpcgen", file, bytes, explains, err)
 }
 
 /// Writes a generated text and flushes the output, and answers whether it took all.
@@ -83,8 +85,9 @@ pub fn gen_write<O: Outlet, E: Sink>(
 }
 
 /// Opens the text of a file, writes what is asked for to the output, and answers the status: `Done` where
-/// that was written, `Faulty` where the text has faults, which are written one a line, and `Failed` where the
-/// run could not be carried out, which it tells, unless the output's reader has enough.
+/// that was written, `Faulty` where the text has faults, which are written one a line, or explained where
+/// that is asked for, and `Failed` where the run could not be carried out, which it tells, unless the
+/// output's reader has enough.
 ///
 /// The output is opened only where the text has no fault, and a whole text or nothing stands under its name
 /// that did not before.
@@ -99,8 +102,8 @@ pub fn gen_run<O: Output, E: Sink>(
     ensures faulty { result ≡ Status.Faulty
         → Compiles bytes.now
         (λ items. (0 < length (faults_of bytes.now items))
-        × IsTold (E.state err.old) (E.state err.new)
-        (told_faults args.now.file.now (faults_of bytes.now items))) }
+        × TellsFaults args.now.explains args.now.file.now bytes.now items
+        (E.state err.old) (E.state err.new)) }
     ensures too_large { most_text < length bytes.now → result ≡ Status.Failed }
     ensures clean { result ≡ Status.Done → IsFaultless bytes.now }
     ensures written { result ≡ Status.Done → (opened : O.Opened) × (left : O.Opened)
@@ -119,7 +122,7 @@ pub fn gen_run<O: Output, E: Sink>(
     ensures faultless { IsFaultless bytes.now ⊎ (output.new ≡ output.old) }
     ensures tidy { O.has_draft output.old ≡ false → O.has_draft output.new ≡ false }
 {
-    let session = match gen_open(alloc, args.file, bytes, err) {
+    let session = match gen_open(alloc, args.file, bytes, args.explains, err) {
         Ok(session) => session,
         Err(status) => return status,
     };

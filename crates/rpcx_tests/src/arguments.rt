@@ -13,6 +13,8 @@ fn sweep_reading(rt: HostRuntime) -> Result<(), Fail> {
         stubs: false,
         table: false,
         output: None,
+        explains: false,
+        plain: false,
         file: "t.x",
     };
     match gen_args(rt.alloc(), ["rpcgen", "-h", "t.x"].as_slice()) {

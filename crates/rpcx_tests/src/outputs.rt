@@ -50,6 +50,8 @@ const ARGS: GenArgs<'static> = GenArgs {
     stubs: false,
     table: false,
     output: Some("t.h"),
+    explains: false,
+    plain: false,
     file: "t.x",
 };
 

@@ -27,6 +27,8 @@ const TWO_LETTERS: GenArgs<'static> = GenArgs {
     stubs: false,
     table: false,
     output: None,
+    explains: false,
+    plain: false,
     file: "t.x",
 };
 
@@ -39,7 +41,7 @@ fn a_generator_wants_one_letter_and_no_fault(rt: HostRuntime) {
     let mut err = MemSink::new(&mut told, 128, 128);
     let mode = gen_mode(&TWO_LETTERS, &mut err);
     assert!(rt; mode.is_none());
-    let opened = gen_open(rt.alloc(), "t.x", FAULTY, &mut err);
+    let opened = gen_open(rt.alloc(), "t.x", FAULTY, false, &mut err);
     assert!(rt; matches!(opened, Err(Status::Faulty)));
     let wanted = "rpcgen: exactly one of -c, -h, -l, -t\nt.x:1:42: 21 Unknown\n";
     assert_eq!(rt; err.bytes(), wanted.as_bytes());

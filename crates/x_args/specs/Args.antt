@@ -75,6 +75,14 @@ table_rule = flag_rule (codes "table") (slice_get (codes "t") 0)
 abbrev pub output_rule : Rule
 output_rule = valued_rule (codes "output") (slice_get (codes "o") 0)
 
+-- `--explain`
+abbrev pub explain_rule : Rule
+explain_rule = request_rule (codes "explain") (codes "explain") SetTrue
+
+-- `--plain`
+abbrev pub plain_rule : Rule
+plain_rule = request_rule (codes "plain") (codes "plain") SetTrue
+
 -- FILE, which has to be there
 abbrev pub file_rule : Rule
 file_rule = record (new_rule (codes "file")) { action = Some Set; required = true }
@@ -92,9 +100,13 @@ abbrev pub with_letters : App → App
 with_letters app =
     with_rule (with_rule (with_rule (with_rule app routines_rule) header_rule) stubs_rule) table_rule
 
--- `rpcgen [--help] [--version] [-c] [-h] [-l] [-t] [-o OUT] FILE`
+-- the options of `rpcgen` with a letter
+abbrev pub lettered_app : App
+lettered_app = with_rule (with_letters (plain_app (codes "rpcgen"))) output_rule
+
+-- `rpcgen [--help] [--version] [-c] [-h] [-l] [-t] [-o OUT] [--explain] [--plain] FILE`
 unfoldable pub gen_app : App
-gen_app = with_rule (with_rule (with_letters (plain_app (codes "rpcgen"))) output_rule) file_rule
+gen_app = with_rule (with_rule (with_rule lettered_app explain_rule) plain_rule) file_rule
 
 -- `-x SCHEMA`
 abbrev pub schema_rule : Rule
@@ -162,6 +174,8 @@ pub record IsGenArgs (rows : List Row) (args : GenArgs) : Type 0 where
   pub stubs : args.stubs ≡ is_in_words (codes "stubs") rows
   pub table : args.table ≡ is_in_words (codes "table") rows
   pub output : option_map (λ s. s.now) args.output ≡ first_of (codes "output") rows
+  pub explains : args.explains ≡ is_in_words (codes "explain") rows
+  pub plain : args.plain ≡ is_in_words (codes "plain") rows
   pub file : Some args.file.now ≡ first_of (codes "file") rows
 
 -- the value of `rpcedit`, as clap read it

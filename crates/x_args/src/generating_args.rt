@@ -5,9 +5,9 @@ ghost use Rattle.clap.specs.Words.{FailsBy, app_of, fault_of, matches_of};
 ghost use Rattle.x_args.specs.Telling.{IsTold};
 ghost use Rattle.x_args.specs.Args.{AlwaysHas, IsGenArgs, asked_by, gen_app, only_of};
 
-use crate::arguments::{file, flag, is_given, plain_command, valued};
+use crate::arguments::{file, flag, is_given, plain_command, request, valued};
 use crate::complaint::complain;
-use clap::{Command, Error};
+use clap::{ArgAction, Command, Error};
 use std::alloc::{AllocError, Global};
 use std::convert::AsStr;
 use x_pieces::Which;
@@ -26,6 +26,10 @@ pub struct GenArgs<'a> {
     pub table: bool,
     /// `-o OUT`: the file that the text goes to, in place of standard output.
     pub output: Option<&'a str>,
+    /// `--explain`: faults are explained.
+    pub explains: bool,
+    /// `--plain`: they are not, also on a terminal.
+    pub plain: bool,
     /// FILE: the text that is read.
     pub file: &'a str,
 }
@@ -45,6 +49,8 @@ pub fn gen_args<'a, S: AsStr>(alloc: Global, words: &'a [S]) -> Result<GenArgs<'
         stubs: is_given(&matches, "stubs"),
         table: is_given(&matches, "table"),
         output: matches.get_str("output"),
+        explains: is_given(&matches, "explain"),
+        plain: is_given(&matches, "plain"),
         file: matches.get_str("file").unwrap(),
     })
 }
@@ -60,6 +66,8 @@ fn gen_command<'a>(alloc: Global) -> Result<Command<'a>, AllocError>
         .arg(flag(alloc, "stubs", 'l'))?
         .arg(flag(alloc, "table", 't'))?
         .arg(valued(alloc, "output", 'o', "OUT"))?
+        .arg(request(alloc, "explain", "explain", ArgAction::SetTrue))?
+        .arg(request(alloc, "plain", "plain", ArgAction::SetTrue))?
         .arg(file(alloc))
 }
 

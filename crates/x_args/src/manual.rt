@@ -27,6 +27,8 @@ tells its faults on standard error, one a line.
   -l         write the client's stubs, a function for each procedure
   -t         write the server's tables, a row for each procedure
   -o OUT     write to the file OUT in place of standard output
+  --explain  show each fault with its line and what helps, as on a terminal
+  --plain    show faults one a line, also on a terminal
   --help     show this text
   --version  show the version
 

@@ -1,7 +1,6 @@
 pub mod Choices
 pub mod DeclarerLemmas
 pub mod DiagnosticLemmas
-pub mod FoundLemmas
 pub mod FrameLemmas
 pub mod ItemsLeft
 pub mod JsonLemmas

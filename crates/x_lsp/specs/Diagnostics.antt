@@ -1,6 +1,6 @@
 -- What is published of a text's faults (LSP 3.17, `textDocument/publishDiagnostics`).
-use Rattle.std.specs.Prelude.{◌≡◌, ◌⊎◌, ℕ, ℤ, ◌≤◌, ◌==◌, List, []}
-use Rattle.std.specs.Prelude.{◌∷◌, ◌++◌, length, codes, Option, None, Some, option_and_then, option_map}
+use Rattle.std.specs.Prelude.{◌≡◌, ℕ, ℤ, ◌==◌, List, []}
+use Rattle.std.specs.Prelude.{◌∷◌, ◌++◌, codes, Option, None, Some, option_and_then, option_map}
 use Rattle.std.specs.Prelude.{if◌then◌else◌, unwrap_or, Bool, true, false, ◌&&◌, slice_range}
 use Rattle.std.specs.List.{before_first}
 use Rattle.serde_json.specs.Data.{Data, Members, array, number, string, object, member, item, no_items}
@@ -8,8 +8,6 @@ use Rattle.serde_json.specs.Data.{no_members, unsigned}
 use Rattle.serde_json.specs.Find.{of_integer}
 use Rattle.serde_json.specs.View.{items_of}
 use Rattle.serde_json.specs.Written.{compact_text}
-use Rattle.x_lex.specs.declared.kind.Kind.{Kind}
-use Rattle.x_lex.specs.Places.{IsTokenAt}
 use Rattle.x_compile.specs.declared.fault.FaultPlace.{FaultPlace}
 use Rattle.x_compile.specs.declared.fault.FaultCode.{FaultCode}
 use Rattle.x_compile.specs.declared.fault.FaultCode.TheVariants.{Rule}
@@ -18,6 +16,7 @@ use Rattle.x_rules.specs.declared.fault.RuleCode.TheVariants.{UsesFaulty}
 use Rattle.x_compile.specs.Compile.{Item, places_of}
 use Rattle.x_compile.specs.Faults.{fault_text}
 use Rattle.x_session.specs.Session.{Compiles}
+use Rattle.x_explain.specs.Found.{IsEndOfToken}
 use Rattle.x_lsp.specs.declared.changes.Range.{Range}
 use Rattle.x_lsp.specs.declared.client.Client.{Client}
 use Rattle.x_lsp.specs.declared.encoding.Encoding.{Encoding}
@@ -26,11 +25,6 @@ use Rattle.x_lsp.specs.Answers.{note_data}
 use Rattle.x_lsp.specs.Framing.{number_of}
 use Rattle.x_lsp.specs.NamePlaces.{definition_of}
 use Rattle.x_lsp.specs.Positions.{position_of}
-
--- the token that starts at a place ends at this one; behind all tokens it is the same place
-abbrev pub IsEndOfToken : List ℕ → ℕ → ℕ → Type 0
-IsEndOfToken text start end =
-    ((kind : Kind) × IsTokenAt text kind start end) ⊎ ((length text ≤ start) × (end ≡ start))
 
 -- a position, and a range, as LSP writes them
 abbrev pub position_data : Position → Data
@@ -50,7 +44,7 @@ abbrev pub related_data : List ℕ → Range → Data
 related_data uri range = object
     (member (codes "location") (object (member (codes "range") (range_data range.start range.end)
     (member (codes "uri") (string uri) no_members)))
-    (member (codes "message") (string (codes "it is declared first here")) no_members))
+    (member (codes "message") (string (codes "first declared here")) no_members))
 
 -- the members of a diagnostic behind its range; with the other place, if there is one
 abbrev pub last_members : Members

@@ -5,7 +5,6 @@ pub mod Diagnostics
 pub mod DocumentTexts
 pub mod Documents
 pub mod Encodings
-pub mod FoundFaults
 pub mod FrameSteps
 pub mod Framing
 pub mod KeptSaid

@@ -8,10 +8,10 @@ ghost use Rattle.x_lsp.specs.Diagnostics.{fault_number};
 
 use crate::head::number;
 use crate::published::Diagnostic;
-use crate::sentences::sentence_of;
 use memchr::memchr;
 use std::alloc::{AllocError, Global};
 use std::str;
+use x_explain::{Sentence, escape_of, sentence_of};
 use x_session::FaultCode;
 
 /// How much room is made at once for what stands around the word of a message.
@@ -38,8 +38,13 @@ impl FaultMessage {
     fn of(alloc: Global, code: FaultCode, word: &[u8]) -> Result<FaultMessage, AllocError>
         ensures { IfOk result (λ message. message.code ≡ code) }
     {
-        let word = str::from_utf8(word).unwrap_or("?");
-        let (front, rear) = sentence_of(code);
+        let escape = escape_of(word.first().copied().unwrap_or(0));
+        // A word that is no UTF-8 is one byte that begins no token.
+        let word = match str::from_utf8(word) {
+            Ok(word) => word,
+            Err(_) => str::from_utf8(&escape).unwrap_or("?"),
+        };
+        let Sentence { front, rear, .. } = sentence_of(code);
         let mut text = String::with_capacity(alloc, FRAME.saturating_add(word.len()))?;
         text.push_str(code.text())?;
         text.push_str(": ")?;

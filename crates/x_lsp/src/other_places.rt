@@ -9,9 +9,9 @@ ghost use Rattle.x_lsp.specs.Waymarks.{AreWaymarks};
 
 use crate::changes::Range;
 use crate::declared_places::DeclaredPlaces;
-use crate::token_end::token_end;
 use crate::waymarks::Waymarks;
 use std::alloc::Global;
+use x_explain::token_end;
 use x_session::{FaultCode, RuleCode, Session};
 use x_text::NoMemory;
 

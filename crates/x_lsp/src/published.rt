@@ -107,7 +107,7 @@ fn write_place<S: Serializer>(out: &mut S, place: &Place) -> Result<(), S::Error
     out.str(place.uri)?;
     out.end_map()?;
     out.key("message")?;
-    out.str("it is declared first here")?;
+    out.str("first declared here")?;
     out.end_map()
 }
 

@@ -23,7 +23,7 @@ const CHANGE: &[u8] =
 
 const CHANGED: &[u8] =
     b"{\"jsonrpc\":\"2.0\",\"method\":\"textDocument/publishDiagnostics\",\"params\":{\
-\"diagnostics\":[{\"code\":21,\"message\":\"21 Unknown: nobody declares 'M'\",\"range\":{\"end\":{\
+\"diagnostics\":[{\"code\":21,\"message\":\"21 Unknown: undeclared name 'M'\",\"range\":{\"end\":{\
 \"character\":31,\"line\":0},\"start\":{\"character\":30,\"line\":0}},\"severity\":1,\
 \"source\":\"rpcgen\"}],\"uri\":\"t.x\",\"version\":2}}";
 

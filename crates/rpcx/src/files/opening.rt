@@ -1,34 +1,38 @@
 //! The text of a file, opened for a run.
 
-ghost use Rattle.std.specs.Prelude.{◌≡◌, OnOk};
+ghost use Rattle.std.specs.Prelude.{◌≡◌, true, OnOk};
 ghost use Rattle.x_text.specs.Writing.{Adds};
-ghost use Rattle.rpcx.specs.Generate.{told_fault, told_faults, IsOpened};
+ghost use Rattle.rpcx.specs.Generate.{told_fault, told_faults, IsOpened, TellsFaults};
 ghost use Rattle.x_args.specs.Telling.{IsTold};
+ghost use Rattle.x_session.specs.Session.{Compiles};
 
 use crate::files::base::base_of_file;
 use crate::files::complaint::tell_unopened;
 use std::alloc::Global;
 use x_args::Status;
+use x_explain::add_explained_faults;
 use x_session::{Fault, Faults, Session, add_place};
 use x_text::{Pen, Sink};
 
 /// Opens the text of a file for a run of the program, or tells what is wrong with it and answers the status:
-/// `Faulty` where the text has faults, which are written one a line, and `Failed` where it is too large or
-/// memory runs out.
+/// `Faulty` where the text has faults, which are written one a line, or explained, and `Failed` where it is
+/// too large or memory runs out.
 pub fn open_text<E: Sink>(
     alloc: Global,
     program: &str,
     file: &str,
     bytes: &[u8],
+    explains: bool,
     err: &mut E,
 ) -> Result<Session, Status>
-    ensures opened { IsOpened program.now file.now bytes.now (E.state err.old) (E.state err.new) result }
+    ensures opened { IsOpened explains program.now file.now bytes.now
+        (E.state err.old) (E.state err.new) result }
     ensures quiet { OnOk result (err.new ≡ err.old) }
 {
     match Session::open(alloc, base_of_file(file), bytes) {
         Ok(session) => {
             if session.fault_count() > 0 {
-                tell_faults(file, session.faults(), err);
+                tell_all_faults(explains, file, &session, err);
                 return Err(Status::Faulty);
             }
             Ok(session)
@@ -38,6 +42,28 @@ pub fn open_text<E: Sink>(
             Err(Status::Failed)
         }
     }
+}
+
+/// Writes the faults of a file's text, explained or one a line.
+fn tell_all_faults<E: Sink>(explains: bool, file: &str, session: &Session, err: &mut E)
+    ensures { Compiles session.now.text (λ items.
+        TellsFaults explains file.now session.now.text items (E.state err.old) (E.state err.new)) }
+{
+    if explains {
+        explain_faults(file, session, err);
+    } else {
+        tell_faults(file, session.faults(), err);
+    }
+}
+
+/// Writes the faults of a file's text, explained.
+fn explain_faults<E: Sink>(file: &str, session: &Session, err: &mut E)
+    ensures { Compiles session.now.text (λ items.
+        TellsFaults true file.now session.now.text items (E.state err.old) (E.state err.new)) }
+{
+    let mut pen = Pen::new();
+    add_explained_faults(file, session, &mut pen, err);
+    let _ = pen.finish(err);
 }
 
 /// Writes the faults of a file's text, one a line.

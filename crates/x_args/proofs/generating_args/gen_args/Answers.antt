@@ -25,6 +25,8 @@ returns-clause-reads g c =
       stubs = c.is_given-3.ensures ∙ ap (is_in_words (codes "stubs")) rows;
       table = c.is_given-4.ensures ∙ ap (is_in_words (codes "table")) rows;
       output = c.get_str.ensures ∙ value_is found (codes "output") _ rows;
+      explains = c.is_given-5.ensures ∙ ap (is_in_words (codes "explain")) rows;
+      plain = c.is_given-6.ensures ∙ ap (is_in_words (codes "plain")) rows;
       file = ap (option_map (λ s. s.now)) (sym c.unwrap.ensures) ∙ c.get_str-2.ensures ∙ value_is found (codes "file") _ rows;
     }
 

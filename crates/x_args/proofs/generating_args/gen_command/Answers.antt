@@ -13,7 +13,9 @@ returns-clause-app c =
     let three = c.in_ok-arg-3.ensures.shape (search rules) ∙ ap₂ with_rule two c.flag-3.ensures.rule in
     let four = c.in_ok-arg-4.ensures.shape (search rules) ∙ ap₂ with_rule three c.flag-4.ensures.rule in
     let five = c.in_ok-arg-5.ensures.shape (search rules) ∙ ap₂ with_rule four c.valued.ensures.rule in
-    IfOk-weaker c.arg-6.result _ _ (λ r h. h.shape (search rules) ∙ ap₂ with_rule five c.file.ensures.rule) c.arg-6.ensures
+    let six = c.in_ok-arg-6.ensures.shape (search rules) ∙ ap₂ with_rule five c.request.ensures.rule in
+    let seven = c.in_ok-arg-7.ensures.shape (search rules) ∙ ap₂ with_rule six c.request-2.ensures.rule in
+    IfOk-weaker c.arg-8.result _ _ (λ r h. h.shape (search rules) ∙ ap₂ with_rule seven c.file.ensures.rule) c.arg-8.ensures
 
 pub returns-clause-file : goal.returns-clause-file
 returns-clause-file c =
@@ -23,6 +25,8 @@ returns-clause-file c =
     let three = chain_on _ _ _ c.flag-3.result (codes "stubs") two c.in_ok-arg-3.ensures c.flag-3.ensures.fits (ap id c.flag-3.ensures.rule) in
     let four = chain_on _ _ _ c.flag-4.result (codes "table") three c.in_ok-arg-4.ensures c.flag-4.ensures.fits (ap id c.flag-4.ensures.rule) in
     let five = chain_on _ _ _ c.valued.result (codes "output") four c.in_ok-arg-5.ensures c.valued.ensures.fits (ap id c.valued.ensures.rule) in
-    IfOk-weaker c.arg-6.result _ _
-    (λ r h. last_has _ _ r c.file.result (codes "file") five h c.file.ensures.fits c.file.ensures.value (ap id c.file.ensures.rule) refl)
-    c.arg-6.ensures
+    let six = chain_on _ _ _ c.request.result (codes "explain") five c.in_ok-arg-6.ensures c.request.ensures.fits (ap id c.request.ensures.rule) in
+    let seven = chain_on _ _ _ c.request-2.result (codes "plain") six c.in_ok-arg-7.ensures c.request-2.ensures.fits (ap id c.request-2.ensures.rule) in
+    IfOk-weaker c.arg-8.result _ _
+    (λ r h. last_has _ _ r c.file.result (codes "file") seven h c.file.ensures.fits c.file.ensures.value (ap id c.file.ensures.rule) refl)
+    c.arg-8.ensures

@@ -5,8 +5,7 @@ use Rattle.x_session.specs.Session.{Compiles, Document}
 use Rattle.x_compile.specs.Compile.{faults_of}
 use Rattle.x_compile.specs.declared.fault.Fault.{Fault}
 use Rattle.x_args.specs.declared.status.Status.TheVariants as status
-use Rattle.rpcx.specs.Generate.{told_faults}
-use Rattle.x_args.specs.Telling.{IsTold}
+use Rattle.rpcx.specs.Generate.{TellsFaults}
 use Rattle.x_compile.proofs.Compiled.{one_compilation}
 use Rattle.rpcx.proofs.Unopened.{not_opened}
 use Rattle.rpcx.proofs.files.opening.open_text.Goals as goal
@@ -43,21 +42,19 @@ returns-else-fault_count-gt0-clause-opened g c =
 pub returns-then-fault_count-gt0-clause-opened : goal.returns-then-fault_count-gt0-clause-opened
 returns-then-fault_count-gt0-clause-opened g c =
     let count = c.fault_count.ensures in
-    let all = c.faults.ensures in
+    let all = c.tell_all_faults.ensures in
     let here = c.in-Ok.session.text in
     let before = g.E.Sink.state c.args.err.now in
-    let after = g.E.Sink.state c.tell_faults.new.err in
+    let after = g.E.Sink.state c.tell_all_faults.new.err in
     let same : count.1 ≡ all.1 = (one_compilation here count.0 all.0 count.1 all.1 count.2 all.2).1 in
     let long : c.fault_count.result ≡ length (faults_of here all.1) = count.3 ∙ ap (λ is. length (faults_of here is)) same in
     let some : 0 < length (faults_of here all.1) = let more = c.if-fault_count-gt0.true in omega (arith, long, more) in
-    let told : IsTold before after (told_faults c.args.file.now (faults_of here all.1)) =
-    subst (λ fs. IsTold before after (told_faults c.args.file.now fs)) all.3 c.tell_faults.ensures in
     record {
       base = tt;
       text = tt;
       clean = tt;
-      faulty = λ e. subst (λ t. Compiles t (λ items. (0 < length (faults_of t items)) × IsTold before after (told_faults c.args.file.now (faults_of t items))))
-          c.in-Ok.ensures.text (all.0, all.1, all.2, (some, told));
+      faulty = λ e. subst (λ t. Compiles t (λ items. (0 < length (faults_of t items)) × TellsFaults c.args.explains c.args.file.now t items before after))
+          c.in-Ok.ensures.text (all.0, all.1, all.2, (some, all.3));
       too_large = λ more. absurd (no_error c.in-Ok.session fault.TooLarge (c.in-Ok.ensures.too_large.1 more));
       failed = λ e. absurd (other_error {T = Document} status.Faulty status.Failed differs e);
       others = inl refl;

@@ -1,0 +1,14 @@
+use Rattle.std.proofs.Common.{[], sym, subst}
+use Rattle.x_text.specs.Writing.{Inked, Writes}
+use Rattle.x_text.proofs.Pens.{writes_none}
+use Rattle.x_args.proofs.Grown.{told}
+use Rattle.rpcx.proofs.files.opening.explain_faults.Goals as goal
+
+pub returns : goal.returns
+returns g c =
+    let start = g.E.Sink.state c.args.err.now in
+    let now = g.E.Sink.state c.finish.new.sink in
+    let all = c.add_explained_faults.ensures in
+    let text = all.3.0 in
+    let none : Writes start [] c.new-pen.result start = subst (λ (p : Inked). Writes start [] p start) (sym c.new-pen.ensures) (writes_none start) in
+    (all.0, all.1, all.2, (text, all.3.1, told c.finish.result start now text (c.finish.ensures.written start text (all.3.2.goes_on start [] none))))

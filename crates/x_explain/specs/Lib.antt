@@ -1,0 +1,5 @@
+pub mod Excerpts
+pub mod Explained
+pub mod Found
+pub mod Sentences
+pub mod Shown

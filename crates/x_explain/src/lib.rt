@@ -1,0 +1,14 @@
+//! Faults as a compiler explains them: in a sentence, with the line of the text and a mark under the word.
+#![tactic(auto)]
+
+mod excerpt;
+mod explained;
+mod found;
+mod sentences;
+mod shown;
+
+pub use excerpt::{Excerpt, excerpt_at};
+pub use explained::add_explained_faults;
+pub use found::{FoundFault, found_faults, token_end};
+pub use sentences::{Sentence, add_sentence, sentence_of};
+pub use shown::escape_of;

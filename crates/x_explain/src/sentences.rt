@@ -1,0 +1,166 @@
+//! What is wrong with a word, in a sentence, and what helps.
+
+ghost use Rattle.std.specs.Prelude.{◌≡◌, None, Some, option_map};
+ghost use Rattle.x_text.specs.Writing.{Adds};
+ghost use Rattle.x_explain.specs.Sentences.{about, alone, helped, item_saying, rule_saying, saying, sentence};
+ghost use Rattle.x_explain.specs.Sentences.{view_sentence};
+
+use crate::shown::add_shown;
+use x_item::FaultCode as ItemCode;
+use x_session::{FaultCode, RuleCode};
+use x_text::{Pen, Sink};
+
+/// What is said of a word.
+#[derive(Clone, Copy, Debug)]
+pub struct Sentence {
+    /// What stands before the word, or all of it.
+    pub front: &'static str,
+    /// What comes after the word; none where the word is not shown.
+    pub rear: Option<&'static str>,
+    /// What helps, where there is something.
+    pub help: Option<&'static str>,
+}
+
+/// A sentence with its word.
+fn about(front: &'static str, rear: &'static str) -> Sentence
+    ensures { view_sentence result ≡ about front.now rear.now }
+{
+    Sentence {
+        front,
+        rear: Some(rear),
+        help: None,
+    }
+}
+
+/// The same with what helps.
+fn helped(front: &'static str, rear: &'static str, help: &'static str) -> Sentence
+    ensures { view_sentence result ≡ helped front.now rear.now help.now }
+{
+    Sentence {
+        front,
+        rear: Some(rear),
+        help: Some(help),
+    }
+}
+
+/// A sentence without its word.
+fn alone(front: &'static str, help: Option<&'static str>) -> Sentence
+    ensures { view_sentence result ≡ alone front.now (option_map (λ h. h.now) help.entry) }
+{
+    Sentence {
+        front,
+        rear: None,
+        help,
+    }
+}
+
+/// What is said of a word with a fault.
+pub fn sentence_of(code: FaultCode) -> Sentence
+    ensures { view_sentence result ≡ saying code }
+{
+    match code {
+        FaultCode::Syntax(code) => item_sentence(code),
+        FaultCode::Rule(rule) => rule_sentence(rule),
+    }
+}
+
+/// What is said of a word of an item that spells no definition.
+fn item_sentence(code: ItemCode) -> Sentence
+    ensures { view_sentence result ≡ item_saying code }
+{
+    match code {
+        ItemCode::Syntax => about("unexpected '", "'"),
+        ItemCode::BadByte => helped(
+            "unexpected character '",
+            "'",
+            "names are of ASCII letters, digits and '_'; a comment is written /* .. */",
+        ),
+        ItemCode::BadNumber => helped(
+            "invalid number '",
+            "'",
+            "write decimal digits, 0x and hexadecimal digits, or 0 and octal digits",
+        ),
+        ItemCode::OpenComment => alone("unterminated comment", Some("end it with */")),
+        ItemCode::Directive => alone(
+            "preprocessor directive",
+            Some("run cpp first, and this on its output"),
+        ),
+        ItemCode::Unfinished => helped(
+            "unexpected end of text after '",
+            "'",
+            "a definition ends with ';'",
+        ),
+    }
+}
+
+/// What is said of a word that breaks a rule.
+fn rule_sentence(rule: RuleCode) -> Sentence
+    ensures { view_sentence result ≡ rule_saying rule }
+{
+    match rule {
+        RuleCode::Duplicate => about("'", "' is declared already"),
+        RuleCode::Unknown => helped("undeclared name '", "'", "declare it before this line"),
+        RuleCode::LateName => helped(
+            "'",
+            "' is used before its declaration",
+            "move its definition before this one; only a link, as in 'b *x', may come first",
+        ),
+        RuleCode::NotType => helped(
+            "expected a type, found '",
+            "'",
+            "after struct, union or enum, name a type of that keyword",
+        ),
+        RuleCode::NotConst => helped(
+            "expected a constant, found '",
+            "'",
+            "write a number, or the name of a constant or an enumerator",
+        ),
+        RuleCode::Range => helped(
+            "the value of '",
+            "' is out of range",
+            "constants: -2^63 to 2^64-1; enumerators: -2^31 to 2^31-1; numbers of a program: 0 to 2^32-1",
+        ),
+        RuleCode::BadSize => helped("invalid size '", "'", "a size is from 0 to 2^32-1"),
+        RuleCode::VoidPlace => helped(
+            "'",
+            "' is not allowed here",
+            "void is an arm of a union, the only argument, or a result",
+        ),
+        RuleCode::EmptyArray => alone("array size must be at least 1", None),
+        RuleCode::BadDiscriminant => about(
+            "'",
+            "' cannot be a discriminant: it must be int, unsigned int, bool or an enum",
+        ),
+        RuleCode::BadCase => about("'", "' is no value of the discriminant"),
+        RuleCode::RepeatedCase => about("duplicate case '", "'"),
+        RuleCode::RepeatedField => about("duplicate member '", "'"),
+        RuleCode::RepeatedNumber => helped(
+            "duplicate number '",
+            "'",
+            "give each version of a program, and each procedure of a version, its own number",
+        ),
+        RuleCode::TooHigh => helped(
+            "types are nested too deeply at '",
+            "'",
+            "at most 32 types may hold one another by value; a link, as in 's *x', ends the chain",
+        ),
+        RuleCode::InlineArgument => helped(
+            "expected the name of a type, found '",
+            "'",
+            "declare the type of an argument or a result first, and name it here",
+        ),
+        RuleCode::UsesFaulty => about("not checked further, '", "' has faults"),
+    }
+}
+
+/// Adds the sentence of a fault and its word.
+pub fn add_sentence<S: Sink>(code: FaultCode, word: &[u8], pen: &mut Pen, sink: &mut S)
+    ensures { Adds pen.old (S.state sink.old) pen.new (S.state sink.new) (sentence code word.now) }
+{
+    let sentence = sentence_of(code);
+    pen.add(sentence.front.as_bytes(), sink);
+    if let Some(rear) = sentence.rear {
+        add_shown(word, false, pen, sink);
+        pen.add(rear.as_bytes(), sink);
+    }
+}

@@ -1,6 +1,0 @@
-use Rattle.std.proofs.Common.{◌≡◌, ◌++◌}
-use Rattle.x_lsp.proofs.found_faults.listed.Given as goal
-
--- the places so far, and those that are left
-abbrev pub invariant-loop-place : goal.invariant-loop-place
-invariant-loop-place l = l.places.items ++ l.place-iterator ≡ l.initial.place-iterator

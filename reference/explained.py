@@ -1,0 +1,115 @@
+"""Faults as `rpcgen --explain` shows them: each with its sentence, its line of the text, a mark and what helps."""
+import rpclang
+
+# What stands before the word, what comes after it (None where the word is not shown), and what helps.
+SAYINGS = {
+    10: ("unexpected '", "'", None),
+    11: ("unexpected character '", "'",
+         "names are of ASCII letters, digits and '_'; a comment is written /* .. */"),
+    12: ("invalid number '", "'", "write decimal digits, 0x and hexadecimal digits, or 0 and octal digits"),
+    13: ("unterminated comment", None, "end it with */"),
+    14: ("preprocessor directive", None, "run cpp first, and this on its output"),
+    15: ("unexpected end of text after '", "'", "a definition ends with ';'"),
+    20: ("'", "' is declared already", None),
+    21: ("undeclared name '", "'", "declare it before this line"),
+    22: ("'", "' is used before its declaration",
+         "move its definition before this one; only a link, as in 'b *x', may come first"),
+    23: ("expected a type, found '", "'", "after struct, union or enum, name a type of that keyword"),
+    24: ("expected a constant, found '", "'", "write a number, or the name of a constant or an enumerator"),
+    25: ("the value of '", "' is out of range",
+         "constants: -2^63 to 2^64-1; enumerators: -2^31 to 2^31-1; numbers of a program: 0 to 2^32-1"),
+    26: ("invalid size '", "'", "a size is from 0 to 2^32-1"),
+    27: ("'", "' is not allowed here", "void is an arm of a union, the only argument, or a result"),
+    28: ("array size must be at least 1", None, None),
+    29: ("'", "' cannot be a discriminant: it must be int, unsigned int, bool or an enum", None),
+    30: ("'", "' is no value of the discriminant", None),
+    31: ("duplicate case '", "'", None),
+    32: ("duplicate member '", "'", None),
+    33: ("duplicate number '", "'",
+         "give each version of a program, and each procedure of a version, its own number"),
+    34: ("types are nested too deeply at '", "'",
+         "at most 32 types may hold one another by value; a link, as in 's *x', ends the chain"),
+    36: ("expected the name of a type, found '", "'",
+         "declare the type of an argument or a result first, and name it here"),
+    37: ("not checked further, '", "' has faults", None),
+}
+NOTE = 37
+LONGEST_LINE, BEFORE, AFTER = 100, 40, 60
+
+
+def escaped(data, plain=False):
+    """What is printable in ASCII, and tabs; `plain` lets all that is no ASCII be, too."""
+    return b"".join(
+        bytes([byte]) if byte == 9 or 32 <= byte <= 126 or plain and byte >= 128 else b"\\x%02x" % byte
+        for byte in data)
+
+
+def is_utf8(data):
+    try:
+        data.decode("utf-8")
+    except UnicodeDecodeError:
+        return False
+    return True
+
+
+def columns(shown):
+    """How many columns a shown text has, where bytes within a character have none."""
+    return sum(1 for byte in shown if not 128 <= byte <= 191)
+
+
+def room(shown):
+    """As much room as a shown text takes, with its tabs."""
+    return b"".join(b"\t" if byte == 9 else b" " for byte in shown if not 128 <= byte <= 191)
+
+
+def token_text(compilation, fault):
+    return compilation.items[fault.item][fault.token]
+
+
+def headline(path, compilation, fault):
+    front, rear, _ = SAYINGS[fault.code]
+    said = front.encode()
+    if rear is not None:
+        said += escaped(token_text(compilation, fault).text) + rear.encode()
+    return b"%s:%d:%d: %d %s: %s\n" % (
+        path, fault.line, fault.column, fault.code, rpclang.CODE_NAMES[fault.code].encode(), said)
+
+
+def explained(path, compilation, fault):
+    token = token_text(compilation, fault)
+    line = compilation.text.split(b"\n")[fault.line - 1]
+    front, rear = line[:fault.column - 1], line[fault.column - 1:]
+    rear = rear.removesuffix(b"\r")
+    plain = len(front) + len(rear) <= LONGEST_LINE and is_utf8(front) and is_utf8(rear)
+    before = after = b""
+    if len(front) + len(rear) > LONGEST_LINE:
+        before = b"..." if len(front) > BEFORE else b""
+        after = b"..." if len(rear) > AFTER else b""
+        front, rear = front[max(0, len(front) - BEFORE):], rear[:AFTER]
+    number = b"%5d" % fault.line
+    gutter = b" " * len(number)
+    word = rear[:token.end - token.start]
+    told = headline(path, compilation, fault)
+    told += number + b" | " + before + escaped(front, plain) + escaped(rear, plain) + after + b"\n"
+    told += gutter + b" | " + room(before + escaped(front, plain)) + b"^"
+    told += b"~" * columns(escaped(word[1:], plain)) + b"\n"
+    help_text = SAYINGS[fault.code][2]
+    if help_text is not None:
+        told += gutter + b" | help: " + help_text.encode() + b"\n"
+    return told
+
+
+def counted(number, noun):
+    return f"{number} {noun}" + ("" if number == 1 else "s")
+
+
+def explanation(path, compilation):
+    """The errors, then the faults that come of others, and how many there are."""
+    errors = [fault for fault in compilation.faults if fault.code != NOTE]
+    notes = [fault for fault in compilation.faults if fault.code == NOTE]
+    told = [explained(path, compilation, fault) for fault in errors]
+    told += [headline(path, compilation, fault) for fault in notes]
+    summary = counted(len(errors), "error")
+    if notes:
+        summary += ", " + counted(len(notes), "note")
+    return b"".join(told) + summary.encode() + b"\n"
