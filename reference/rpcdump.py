@@ -15,10 +15,11 @@ CODE_NAMES = {**values.CODE_NAMES, 60: "RecordTooLong", 61: "Truncated"}
 USAGE = "rpcdump [-x SCHEMA] [-b | -t TYPE] FILE"
 HELP = f"""usage: {USAGE}
 
-Shows the calls and replies of FILE, a recorded stream of Sun RPC (RFC 5531), by
-a .x file. What is no encoding is refused, with the reason and the place.
+Prints the calls and replies of FILE, a recorded stream of Sun RPC (RFC 5531),
+by a .x file. Bytes that are not a valid encoding are refused, with the reason
+and the place.
 
-  -x SCHEMA  the .x file; without it the schema is that of NFS version 2
+  -x SCHEMA  the .x file; the default is the schema of NFS version 2
   -b         FILE is one message, without a record around it
   -t TYPE    FILE is one value of TYPE
   --help     show this text
@@ -26,8 +27,8 @@ a .x file. What is no encoding is refused, with the reason and the place.
 
 Example: rpcdump -x add.x add.stream
 
-Status: 0 done; 1 SCHEMA has faults, or a fault was shown; 2 the run could not
-be carried out.
+Exit status: 0 done; 1 SCHEMA has faults, or a fault was printed; 2 the run
+failed.
 """
 ASKED = {"help": HELP, "version": "rpcdump 0.1.0\n"}
 VALUE_NAMES = {"b": None, "t": "TYPE", "x": "SCHEMA"}

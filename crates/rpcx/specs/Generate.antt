@@ -60,7 +60,8 @@ pub data NotOpened (program file text : List ℕ) (before after : Stream) : Type
       → NotOpened program file text before after
 
 -- How the faults of a file's text are told: one a line, or explained.
-abbrev pub TellsFaults : (explains : Bool) → (file text : List ℕ) → List Item → (before after : Stream) → Type 0
+abbrev pub TellsFaults : (explains : Bool) → (file text : List ℕ) → List Item → (before after : Stream)
+    → Type 0
 TellsFaults false file text items before after =
     IsTold before after (told_faults file (faults_of text items))
 TellsFaults true file text items before after =

@@ -15,3 +15,4 @@ pub use x_args::{
     answer_words, complain_of_output, draw_key, dump_args, dump_mode, edit_args, gen_args,
     gen_mode, read_words, request_first, tell_of_file,
 };
+pub use x_explain::mark_under_word;

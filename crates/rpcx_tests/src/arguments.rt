@@ -1,6 +1,6 @@
 //! Command lines.
 use clap::error::ErrorKind;
-use rpcx::{GenArgs, RPCGEN, Status, answer_words, gen_args, request_first};
+use rpcx::{GenArgs, RPCGEN, Status, answer_words, gen_args, mark_under_word, request_first};
 use std::test::Fail;
 use x_text::MemSink;
 
@@ -72,6 +72,7 @@ fn sweep_asking(rt: HostRuntime) -> Result<(), Fail> {
 }
 
 #[test]
-fn law() {
+fn laws() {
+    mark_under_word();
     request_first();
 }

@@ -10,7 +10,7 @@ pub struct Manual<'a> {
     pub name: &'a str,
     /// What a command line looks like.
     pub usage: &'a str,
-    /// What its `--help` shows behind that line.
+    /// What its `--help` shows after that line.
     pub help: &'a str,
 }
 
@@ -19,26 +19,26 @@ pub const RPCGEN: Manual<'static> = Manual {
     name: "rpcgen",
     usage: "rpcgen -c|-h|-l|-t [-o OUT] FILE",
     help: "\
-Makes C of FILE, a .x file of the Sun RPC language (RFC 4506, RFC 5531), or
-tells its faults on standard error, one a line.
+Compiles FILE, a .x file of the Sun RPC language (RFC 4506, RFC 5531), to C, or
+reports what is wrong with it on standard error.
 
   -c         write the XDR routines of the types
   -h         write the header: types, constants and declarations
   -l         write the client's stubs, a function for each procedure
   -t         write the server's tables, a row for each procedure
   -o OUT     write to the file OUT in place of standard output
-  --explain  show each fault with its line and what helps, as on a terminal
-  --plain    show faults one a line, also on a terminal
+  --explain  show each fault with its line and a hint, as on a terminal
+  --plain    report one fault a line, also on a terminal
   --help     show this text
   --version  show the version
 
-Exactly one of -c, -h, -l and -t is to be there. Where FILE has #include,
-#define or the like, run cpp first.
+Give exactly one of -c, -h, -l and -t. If FILE has #include, #define or the
+like, run cpp first.
 
 Example: rpcgen -h -o point.h point.x
 
-Status: 0 done; 1 FILE has faults, and nothing was written; 2 the run could
-not be carried out.
+Exit status: 0 done; 1 FILE has faults, and nothing was written; 2 the run
+failed.
 ",
 };
 
@@ -47,23 +47,23 @@ pub const RPCEDIT: Manual<'static> = Manual {
     name: "rpcedit",
     usage: "rpcedit FILE",
     help: "\
-Keeps the text of FILE, a .x file of the Sun RPC language, and answers lines of
-standard input, each before the next is carried out. FILE stays as it is.
+Opens FILE, a .x file of the Sun RPC language, and answers commands from
+standard input, one a line and in order. FILE itself is never changed.
 
-  edit START END [HEX]  put bytes in place of those from START to END
-  tokens                the tokens and where they stand
-  definitions           the definitions
-  faults                the faults and where they stand
+  edit START END [HEX]  replace the bytes from START to END
+  tokens                list the tokens and their places
+  definitions           list the definitions
+  faults                list the faults and their places
   header, routines, stubs, table
-                        what rpcgen -h, -c, -l or -t writes
-  dump TYPE [HEX]       the value of TYPE that these bytes encode
+                        print what rpcgen -h, -c, -l or -t writes
+  dump TYPE [HEX]       print the value of TYPE that these bytes encode
 
   --help                show this text
   --version             show the version
 
 Example: echo faults | rpcedit point.x
 
-Status: 0 done; 1 a line was refused; 2 the run could not be carried out.
+Exit status: 0 done; 1 a line was refused; 2 the run failed.
 ",
 };
 
@@ -72,10 +72,11 @@ pub const RPCDUMP: Manual<'static> = Manual {
     name: "rpcdump",
     usage: "rpcdump [-x SCHEMA] [-b | -t TYPE] FILE",
     help: "\
-Shows the calls and replies of FILE, a recorded stream of Sun RPC (RFC 5531), by
-a .x file. What is no encoding is refused, with the reason and the place.
+Prints the calls and replies of FILE, a recorded stream of Sun RPC (RFC 5531),
+by a .x file. Bytes that are not a valid encoding are refused, with the reason
+and the place.
 
-  -x SCHEMA  the .x file; without it the schema is that of NFS version 2
+  -x SCHEMA  the .x file; the default is the schema of NFS version 2
   -b         FILE is one message, without a record around it
   -t TYPE    FILE is one value of TYPE
   --help     show this text
@@ -83,8 +84,8 @@ a .x file. What is no encoding is refused, with the reason and the place.
 
 Example: rpcdump -x add.x add.stream
 
-Status: 0 done; 1 SCHEMA has faults, or a fault was shown; 2 the run could not
-be carried out.
+Exit status: 0 done; 1 SCHEMA has faults, or a fault was printed; 2 the run
+failed.
 ",
 };
 
@@ -93,18 +94,17 @@ pub const RPCLS: Manual<'static> = Manual {
     name: "rpcls",
     usage: "rpcls [--stdio]",
     help: "\
-Serves an editor that has .x files of the Sun RPC language open, by the Language
-Server Protocol (LSP 3.17) on standard input and output: it follows each change
-and publishes what is wrong.
+A language server for .x files of the Sun RPC language: it speaks LSP 3.17 on
+standard input and output, follows each change and publishes what is wrong.
 
-  --stdio    as without it
+  --stdio    accepted for compatibility; has no effect
   --help     show this text
   --version  show the version
 
 Example, a line for Neovim:
   vim.lsp.start({ name = 'rpcls', cmd = { 'rpcls' } })
 
-Status: 0 the editor asked it to shut down and to exit; 1 it ended otherwise;
-2 the run could not be carried out.
+Exit status: 0 the editor asked it to shut down and to exit; 1 it ended
+otherwise; 2 the run failed.
 ",
 };

@@ -1,3 +1,4 @@
+pub mod ColumnLemmas
 pub mod ExcerptLemmas
 pub mod FoundLemmas
 pub mod PassLemmas

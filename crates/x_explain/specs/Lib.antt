@@ -1,3 +1,4 @@
+pub mod Columns
 pub mod Excerpts
 pub mod Explained
 pub mod Found

@@ -22,21 +22,21 @@ const SHOWN_AFTER: usize = 60;
 
 /// What is shown of a line.
 #[derive(Clone, Copy, Debug)]
-pub struct Excerpt<'t> {
+pub(crate) struct Excerpt<'t> {
     /// The bytes before the word.
-    pub front: &'t [u8],
+    pub(crate) front: &'t [u8],
     /// The bytes from the word on.
-    pub rear: &'t [u8],
+    pub(crate) rear: &'t [u8],
     /// Whether bytes before these are not shown.
-    pub lacks_before: bool,
+    pub(crate) lacks_before: bool,
     /// Whether bytes after these are not shown.
-    pub lacks_after: bool,
+    pub(crate) lacks_after: bool,
     /// Whether what is no ASCII is UTF-8, and shown so.
-    pub utf8: bool,
+    pub(crate) utf8: bool,
 }
 
 /// What is shown of the line in which a place has this column, counted from 1.
-pub fn excerpt_at(text: &[u8], start: usize, column: u32) -> Excerpt<'_>
+pub(crate) fn excerpt_at(text: &[u8], start: usize, column: u32) -> Excerpt<'_>
     ensures { view_excerpt result ≡ excerpt text.now start column }
 {
     let front = line_front(text, start, column as usize);

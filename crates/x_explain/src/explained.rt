@@ -202,7 +202,7 @@ fn word_at(text: &[u8], start: usize, end: usize) -> &[u8]
 
 /// Faults are gone over twice: for those that are errors, and for those that come of others.
 #[derive(Clone, Copy, Debug)]
-pub enum Pass {
+pub(crate) enum Pass {
     Errors,
     Notes,
 }

@@ -4,11 +4,12 @@
 mod excerpt;
 mod explained;
 mod found;
+mod laws;
 mod sentences;
 mod shown;
 
-pub use excerpt::{Excerpt, excerpt_at};
 pub use explained::add_explained_faults;
 pub use found::{FoundFault, found_faults, token_end};
-pub use sentences::{Sentence, add_sentence, sentence_of};
+pub use laws::mark_under_word;
+pub use sentences::{Sentence, sentence_of};
 pub use shown::escape_of;

@@ -154,7 +154,7 @@ fn rule_sentence(rule: RuleCode) -> Sentence
 }
 
 /// Adds the sentence of a fault and its word.
-pub fn add_sentence<S: Sink>(code: FaultCode, word: &[u8], pen: &mut Pen, sink: &mut S)
+pub(crate) fn add_sentence<S: Sink>(code: FaultCode, word: &[u8], pen: &mut Pen, sink: &mut S)
     ensures { Adds pen.old (S.state sink.old) pen.new (S.state sink.new) (sentence code word.now) }
 {
     let sentence = sentence_of(code);

@@ -45,7 +45,7 @@ fn add_shown_byte<S: Sink>(byte: u8, is_utf8: bool, pen: &mut Pen, sink: &mut S)
 }
 
 /// Adds bytes as they are shown.
-pub fn add_shown<S: Sink>(bytes: &[u8], is_utf8: bool, pen: &mut Pen, sink: &mut S)
+pub(crate) fn add_shown<S: Sink>(bytes: &[u8], is_utf8: bool, pen: &mut Pen, sink: &mut S)
     ensures { Adds pen.old (S.state sink.old) pen.new (S.state sink.new)
         (flat_map (shown_byte is_utf8) bytes.now) }
 {
@@ -68,7 +68,7 @@ fn columns(byte: u8, is_utf8: bool) -> usize
 }
 
 /// Adds spaces as wide as bytes are, and a tab for a tab.
-pub fn add_blanks<S: Sink>(bytes: &[u8], is_utf8: bool, pen: &mut Pen, sink: &mut S)
+pub(crate) fn add_blanks<S: Sink>(bytes: &[u8], is_utf8: bool, pen: &mut Pen, sink: &mut S)
     ensures { Adds pen.old (S.state sink.old) pen.new (S.state sink.new)
         (flat_map (blank is_utf8) bytes.now) }
 {
@@ -88,7 +88,7 @@ fn blank(byte: u8, is_utf8: bool) -> &'static [u8]
 }
 
 /// Adds marks as wide as bytes are.
-pub fn add_tildes<S: Sink>(bytes: &[u8], is_utf8: bool, pen: &mut Pen, sink: &mut S)
+pub(crate) fn add_tildes<S: Sink>(bytes: &[u8], is_utf8: bool, pen: &mut Pen, sink: &mut S)
     ensures { Adds pen.old (S.state sink.old) pen.new (S.state sink.new)
         (flat_map (tildes is_utf8) bytes.now) }
 {
@@ -98,7 +98,7 @@ pub fn add_tildes<S: Sink>(bytes: &[u8], is_utf8: bool, pen: &mut Pen, sink: &mu
 }
 
 /// The first so many bytes, or all.
-pub fn first_of(bytes: &[u8], count: usize) -> &[u8]
+pub(crate) fn first_of(bytes: &[u8], count: usize) -> &[u8]
     ensures { result.now ≡ take count bytes.now }
 {
     &bytes[..count.min(bytes.len())]

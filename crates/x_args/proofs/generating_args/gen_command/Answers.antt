@@ -1,4 +1,4 @@
-use Rattle.std.proofs.Common.{◌∙◌, rules, refl, ap, ap₂, codes}
+use Rattle.std.proofs.Common.{◌∙◌, refl, ap, ap₂, codes}
 use Rattle.std.proofs.lemmas.Result.{IfOk-weaker}
 use Rattle.clap.specs.Words.{Rule, Text, with_rule}
 use Rattle.x_args.specs.Args.{gen_app}
@@ -8,14 +8,14 @@ use Rattle.x_args.proofs.generating_args.gen_command.Goals as goal
 pub returns-clause-app : goal.returns-clause-app
 unfolding gen_app
 returns-clause-app c =
-    let one = c.in_ok-arg.ensures.shape (search rules) ∙ ap₂ with_rule c.in_ok-plain_command.ensures.app c.flag.ensures.rule in
-    let two = c.in_ok-arg-2.ensures.shape (search rules) ∙ ap₂ with_rule one c.flag-2.ensures.rule in
-    let three = c.in_ok-arg-3.ensures.shape (search rules) ∙ ap₂ with_rule two c.flag-3.ensures.rule in
-    let four = c.in_ok-arg-4.ensures.shape (search rules) ∙ ap₂ with_rule three c.flag-4.ensures.rule in
-    let five = c.in_ok-arg-5.ensures.shape (search rules) ∙ ap₂ with_rule four c.valued.ensures.rule in
-    let six = c.in_ok-arg-6.ensures.shape (search rules) ∙ ap₂ with_rule five c.request.ensures.rule in
-    let seven = c.in_ok-arg-7.ensures.shape (search rules) ∙ ap₂ with_rule six c.request-2.ensures.rule in
-    IfOk-weaker c.arg-8.result _ _ (λ r h. h.shape (search rules) ∙ ap₂ with_rule seven c.file.ensures.rule) c.arg-8.ensures
+    let one = c.in_ok-arg.ensures.shape c.flag.ensures.fits.1 ∙ ap₂ with_rule c.in_ok-plain_command.ensures.app c.flag.ensures.rule in
+    let two = c.in_ok-arg-2.ensures.shape c.flag-2.ensures.fits.1 ∙ ap₂ with_rule one c.flag-2.ensures.rule in
+    let three = c.in_ok-arg-3.ensures.shape c.flag-3.ensures.fits.1 ∙ ap₂ with_rule two c.flag-3.ensures.rule in
+    let four = c.in_ok-arg-4.ensures.shape c.flag-4.ensures.fits.1 ∙ ap₂ with_rule three c.flag-4.ensures.rule in
+    let five = c.in_ok-arg-5.ensures.shape c.valued.ensures.fits.1 ∙ ap₂ with_rule four c.valued.ensures.rule in
+    let six = c.in_ok-arg-6.ensures.shape c.request.ensures.fits.1 ∙ ap₂ with_rule five c.request.ensures.rule in
+    let seven = c.in_ok-arg-7.ensures.shape c.request-2.ensures.fits.1 ∙ ap₂ with_rule six c.request-2.ensures.rule in
+    IfOk-weaker c.arg-8.result _ _ (λ r h. h.shape c.file.ensures.fits.1 ∙ ap₂ with_rule seven c.file.ensures.rule) c.arg-8.ensures
 
 pub returns-clause-file : goal.returns-clause-file
 returns-clause-file c =

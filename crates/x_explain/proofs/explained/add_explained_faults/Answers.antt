@@ -1,11 +1,10 @@
-use Rattle.std.proofs.Common.{◌≡◌, ◌∙◌, ◌+◌, ◌-◌, ◌≤◌, ◌++◌, ℕ, List, length, ap, ap₂, refl, sym, subst, arith}
+use Rattle.std.proofs.Common.{◌≡◌, ◌∙◌, ◌-◌, ◌++◌, length, ap, refl, subst, arith}
 use Rattle.std.specs.List.{flat_map}
 use Rattle.x_text.specs.Writing.{Adds}
 use Rattle.x_text.proofs.Adding.{three}
-use Rattle.x_compile.specs.Compile.{Item, faults_of, places_of}
+use Rattle.x_compile.specs.Compile.{places_of}
 use Rattle.x_compile.proofs.Compiled.{one_compilation}
 use Rattle.x_compile.proofs.FaultLemmas.{places_many}
-use Rattle.x_session.specs.Session.{Compiles}
 use Rattle.x_explain.specs.declared.explained.Pass.TheVariants.{Errors, Notes}
 use Rattle.x_explain.specs.Explained.{IsPass, explanation, notes_at, said_in, summary}
 use Rattle.x_explain.proofs.explained.add_explained_faults.Goals as goal

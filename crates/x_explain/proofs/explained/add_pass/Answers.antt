@@ -1,6 +1,5 @@
-use Rattle.std.proofs.Common.{◌≡◌, ◌∙◌, ◌∷◌, List, map, ap, sym, subst}
+use Rattle.std.proofs.Common.{◌≡◌, ◌∙◌, map, ap, sym, subst}
 use Rattle.x_compile.specs.Compile.{in_lines, places_of}
-use Rattle.x_compile.specs.declared.fault.Fault.{Fault}
 use Rattle.x_compile.proofs.Compiled.{one_compilation}
 use Rattle.x_compile.proofs.FaultLemmas.{in_lines_from}
 use Rattle.x_explain.proofs.PassLemmas.{HasPassed, passed_more, passed_none, tail_is}
@@ -15,9 +14,9 @@ loop-place-init g c =
     let places = c.into_iter-place-iterator.result in
     let same = (one_compilation here told.0 all.0 told.1 all.1 told.2 all.2).1 in
     let faults : c.faults-faults.result ≡ map (in_lines text) places = told.3 ∙ sym (in_lines_from here 0 told.1)
-        ∙ ap (λ t. map (in_lines t) (places_of told.1)) (sym c.bytes-text.ensures)
-        ∙ ap (λ items. map (in_lines text) (places_of items)) same
-        ∙ ap (map (in_lines text)) (sym all.3 ∙ sym c.into_iter-place-iterator.ensures.into_iter_gives) in
+    ∙ ap (λ t. map (in_lines t) (places_of told.1)) (sym c.bytes-text.ensures)
+    ∙ ap (λ items. map (in_lines text) (places_of items)) same
+    ∙ ap (map (in_lines text)) (sym all.3 ∙ sym c.into_iter-place-iterator.ensures.into_iter_gives) in
     (faults, passed_none c.args.pass c.args.file.now text places c.args.pen.now (g.S.Sink.state c.args.sink.now))
 
 pub loop-place-preserved : goal.loop-place-preserved

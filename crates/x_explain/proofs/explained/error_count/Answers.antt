@@ -1,4 +1,4 @@
-use Rattle.std.proofs.Common.{◌≡◌, ◌∙◌, ◌+◌, ◌-◌, ◌≤◌, [], ◌∷◌, length, true, false, ap, sym, subst, arith}
+use Rattle.std.proofs.Common.{◌≡◌, ◌∙◌, ◌+◌, length, true, false, ap, sym, subst, arith}
 use Rattle.std.proofs.lemmas.List.Sums.{count_by-le-length}
 use Rattle.x_compile.specs.Compile.{places_of}
 use Rattle.x_compile.specs.declared.fault.FaultPlace.{FaultPlace}
@@ -16,7 +16,7 @@ loop-place-init c =
     let places = c.into_iter-place-iterator.result in
     let same = (one_compilation text count.0 all.0 count.1 all.1 count.2 all.2).1 in
     let many : c.fault_count-errors.result ≡ length places = count.3 ∙ places_many text 0 count.1 ∙ ap (λ items. length (places_of items)) same
-        ∙ ap length (sym all.3) ∙ ap length (sym c.into_iter-place-iterator.ensures.into_iter_gives) in
+    ∙ ap length (sym all.3) ∙ ap length (sym c.into_iter-place-iterator.ensures.into_iter_gives) in
     ap (λ n. n + notes_at places) many
 
 pub overflow_sub-errors : goal.overflow_sub-errors

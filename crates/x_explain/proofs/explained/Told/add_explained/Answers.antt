@@ -1,10 +1,9 @@
-use Rattle.std.proofs.Common.{◌++◌, ◌∙◌, ◌-◌, ap, sym, subst}
-use Rattle.x_text.specs.Text.{column_of, line_of}
+use Rattle.std.proofs.Common.{◌++◌, ◌∙◌, ap, subst}
 use Rattle.x_text.specs.Writing.{Adds}
 use Rattle.x_text.proofs.Adding.{four}
 use Rattle.x_explain.specs.Excerpts.{excerpt, view_excerpt}
 use Rattle.x_explain.specs.Explained.{caret_line, headline, help_line, source_line}
-use Rattle.x_explain.specs.Sentences.{Saying, saying, view_sentence}
+use Rattle.x_explain.specs.Sentences.{Saying, view_sentence}
 use Rattle.x_explain.proofs.explained.Told.add_explained.Goals as goal
 
 pub returns : goal.returns
@@ -25,4 +24,4 @@ returns g c =
     c.add_headline.ensures c.add_source_line.ensures c.add_caret_line.ensures c.add_help_line.ensures in
     subst (λ t. Adds c.args.pen.now start c.add_help_line.new.pen end t)
     (λ i. headline told.file.now text told.found ++ source_line (told.line_is i) (is_shown i)
-        ++ caret_line (told.line_is i) (is_shown i) (c.saturating_sub-width.ensures i) ++ help_line (told.line_is i) (is_help i)) added
+    ++ caret_line (told.line_is i) (is_shown i) (c.saturating_sub-width.ensures i) ++ help_line (told.line_is i) (is_help i)) added

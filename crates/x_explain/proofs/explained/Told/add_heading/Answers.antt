@@ -1,4 +1,4 @@
-use Rattle.std.proofs.Common.{codes, ◌++◌, sym, subst}
+use Rattle.std.proofs.Common.{codes, ◌++◌, subst}
 use Rattle.std.specs.Fmt.{decimal}
 use Rattle.x_text.specs.Writing.{Adds}
 use Rattle.x_text.proofs.Adding.{six}

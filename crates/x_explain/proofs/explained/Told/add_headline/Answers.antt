@@ -1,5 +1,4 @@
 use Rattle.std.proofs.Common.{codes, ◌++◌, ◌∙◌, ap, subst}
-use Rattle.std.specs.Prelude.{slice_range}
 use Rattle.x_text.specs.Writing.{Adds}
 use Rattle.x_text.proofs.Adding.{five}
 use Rattle.x_explain.specs.Explained.{heading}
