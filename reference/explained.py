@@ -3,33 +3,35 @@ import rpclang
 
 # What stands before the word, what comes after it (None where the word is not shown), and what helps.
 SAYINGS = {
-    10: ("unexpected '", "'", None),
+    10: ("unexpected '", "'", "a ';' or another word may be missing before it"),
     11: ("unexpected character '", "'",
-         "names are of ASCII letters, digits and '_'; a comment is written /* .. */"),
-    12: ("invalid number '", "'", "write decimal digits, 0x and hexadecimal digits, or 0 and octal digits"),
+         "words are made of ASCII letters, digits and '_'; comments are written /* .. */"),
+    12: ("invalid number '", "'", "write decimal digits, or 0x and hexadecimal, or 0 and octal ones; only decimals can be negative"),
     13: ("unterminated comment", None, "end it with */"),
-    14: ("preprocessor directive", None, "run cpp first, and this on its output"),
+    14: ("preprocessor directive", None, "run cpp on it first, and rpcgen on the result"),
     15: ("unexpected end of text after '", "'", "a definition ends with ';'"),
-    20: ("'", "' is declared already", None),
-    21: ("undeclared name '", "'", "declare it before this line"),
+    20: ("'", "' is declared already",
+         "enumerators count too, and so do inline types: field b of struct a declares 'a_b'"),
+    21: ("undeclared name '", "'",
+         "declare it before this definition, or mend its declaration; C's own types are not known"),
     22: ("'", "' is used before its declaration",
-         "move its definition before this one; only a link, as in 'b *x', may come first"),
-    23: ("expected a type, found '", "'", "after struct, union or enum, name a type of that keyword"),
+         "declare it first; only a link to a struct or union, as in 'b *x', may come before or within it"),
+    23: ("'", "' is not a type, or not one of this keyword", "name a type, and after struct, union or enum one that was declared with that word"),
     24: ("expected a constant, found '", "'", "write a number, or the name of a constant or an enumerator"),
     25: ("the value of '", "' is out of range",
-         "constants: -2^63 to 2^64-1; enumerators: -2^31 to 2^31-1; numbers of a program: 0 to 2^32-1"),
-    26: ("invalid size '", "'", "a size is from 0 to 2^32-1"),
+         "constants: -2^63 to 2^64-1; enumerators: -2^31 to 2^31-1; other numbers: 0 to 2^32-1"),
+    26: ("invalid size '", "'", "a size is from 0 to 2^32-1, and that of an array in [ ] at least 1"),
     27: ("'", "' is not allowed here", "void is an arm of a union, the only argument, or a result"),
     28: ("array size must be at least 1", None, None),
-    29: ("'", "' cannot be a discriminant: it must be int, unsigned int, bool or an enum", None),
-    30: ("'", "' is no value of the discriminant", None),
+    29: ("a discriminant must be a plain int, unsigned int, bool or enum", None, None),
+    30: ("'", "' is not a value of the discriminant", None),
     31: ("duplicate case '", "'", None),
     32: ("duplicate member '", "'", None),
     33: ("duplicate number '", "'",
          "give each version of a program, and each procedure of a version, its own number"),
     34: ("types are nested too deeply at '", "'",
          "at most 32 types may hold one another by value; a link, as in 's *x', ends the chain"),
-    36: ("expected the name of a type, found '", "'",
+    36: ("expected the name of a type or a basic type, found '", "'",
          "declare the type of an argument or a result first, and name it here"),
     37: ("not checked further, '", "' has faults", None),
 }
@@ -45,11 +47,29 @@ def escaped(data, plain=False):
 
 
 def is_utf8(data):
+    """That a terminal takes for no order: without control characters beyond ASCII."""
     try:
-        data.decode("utf-8")
+        return not any("\x80" <= character <= "\x9f" for character in data.decode("utf-8"))
     except UnicodeDecodeError:
         return False
-    return True
+
+
+def without_part(data):
+    """Without the end of a character that is cut."""
+    for _ in range(3):
+        if data and 128 <= data[0] <= 191:
+            data = data[1:]
+    return data
+
+
+def without_cut(data):
+    """Without the front of a character that is cut."""
+    try:
+        data.decode("utf-8")
+    except UnicodeDecodeError as error:
+        if error.start >= AFTER - 3:
+            return data[:error.start]
+    return data
 
 
 def columns(shown):
@@ -80,19 +100,20 @@ def explained(path, compilation, fault):
     line = compilation.text.split(b"\n")[fault.line - 1]
     front, rear = line[:fault.column - 1], line[fault.column - 1:]
     rear = rear.removesuffix(b"\r")
-    plain = len(front) + len(rear) <= LONGEST_LINE and is_utf8(front) and is_utf8(rear)
     before = after = b""
     if len(front) + len(rear) > LONGEST_LINE:
-        before = b"..." if len(front) > BEFORE else b""
-        after = b"..." if len(rear) > AFTER else b""
-        front, rear = front[max(0, len(front) - BEFORE):], rear[:AFTER]
+        if len(front) > BEFORE:
+            before, front = b"...", without_part(front[-BEFORE:])
+        if len(rear) > AFTER:
+            after, rear = b"...", without_cut(rear[:AFTER])
+    plain = is_utf8(front) and is_utf8(rear)
     number = b"%5d" % fault.line
     gutter = b" " * len(number)
     word = rear[:token.end - token.start]
     told = headline(path, compilation, fault)
     told += number + b" | " + before + escaped(front, plain) + escaped(rear, plain) + after + b"\n"
     told += gutter + b" | " + room(before + escaped(front, plain)) + b"^"
-    told += b"~" * columns(escaped(word[1:], plain)) + b"\n"
+    told += b"~" * max(0, columns(escaped(word[:1], plain)) - 1) + b"~" * columns(escaped(word[1:], plain)) + b"\n"
     help_text = SAYINGS[fault.code][2]
     if help_text is not None:
         told += gutter + b" | help: " + help_text.encode() + b"\n"

@@ -1,7 +1,9 @@
 -- At which column of a terminal a text ends.
-use Rattle.std.specs.Prelude.{◌≡◌, ℕ, suc, ◌+◌, ◌*◌, ◌/◌, ◌==◌, List, [], ◌∷◌, if◌then◌else◌}
+use Rattle.std.specs.Prelude.{◌≡◌, ◌<◌, ◌≤◌, ℕ, suc, ◌+◌, ◌*◌, ◌/◌, ◌^◌, ◌==◌, List, [], ◌∷◌, ◌++◌, codes}
+use Rattle.std.specs.Prelude.{length, if◌then◌else◌}
+use Rattle.std.specs.Fmt.{decimal}
 use Rattle.x_explain.specs.Excerpts.{Excerpt}
-use Rattle.x_explain.specs.Explained.{blank_front, shown_front}
+use Rattle.x_explain.specs.Explained.{blank_front, gutter, number_field, shown_front}
 use Rattle.x_explain.specs.Shown.{is_within}
 
 -- the column after a byte that is written at a column, both from 0: a tab goes to the next stop, of which
@@ -15,7 +17,10 @@ abbrev pub ends_at : (stop column : ℕ) → List ℕ → ℕ
 ends_at stop column [] = column
 ends_at stop column (b ∷ bs) = ends_at stop (step stop column b) bs
 
--- the mark stands under the first byte of the word: the room before it ends at the column at which what is
--- shown before the word ends
-abbrev pub IsUnderWord : Excerpt → Type 0
-IsUnderWord e = (stop column : ℕ) → ends_at stop column (blank_front e) ≡ ends_at stop column (shown_front e)
+-- The mark stands under the first byte of the word: in the line with the mark, the room before it ends at the
+-- column at which, in the line of the text with this number, what is shown before the word ends. A number has
+-- ten digits at most.
+abbrev pub IsUnderWord : ℕ → Excerpt → Type 0
+IsUnderWord line e = (stop : ℕ) → 0 < line → line < 2 ^ 64 → length (decimal line) ≤ 10
+    → ends_at stop 0 (gutter line ++ codes " | " ++ blank_front e)
+    ≡ ends_at stop 0 (number_field line ++ codes " | " ++ shown_front e)

@@ -1,6 +1,6 @@
 -- The faults of a text, explained.
-use Rattle.std.specs.Prelude.{◌≡◌, ℕ, ◌-◌, max, Bool, true, false, ◌==◌, List, [], ◌++◌, codes, length, take}
-use Rattle.std.specs.Prelude.{drop, count_by, Option, None, Some, if◌then◌else◌, slice_range}
+use Rattle.std.specs.Prelude.{◌≡◌, ℕ, ◌-◌, max, Bool, true, false, ◌==◌, List, [], ◌∷◌, ◌++◌, codes}
+use Rattle.std.specs.Prelude.{length, take, count_by, Option, None, Some, if◌then◌else◌, slice_range}
 use Rattle.std.specs.List.{flat_map}
 use Rattle.std.specs.Fmt.{decimal}
 use Rattle.x_text.specs.Streams.{Stream}
@@ -17,7 +17,7 @@ use Rattle.x_explain.specs.declared.explained.Pass.TheVariants.{Errors, Notes}
 use Rattle.x_explain.specs.Excerpts.{Excerpt, excerpt}
 use Rattle.x_explain.specs.Found.{AreFound}
 use Rattle.x_explain.specs.Sentences.{saying, sentence}
-use Rattle.x_explain.specs.Shown.{blank, shown_byte, tildes}
+use Rattle.x_explain.specs.Shown.{blank, columns, shown_byte, tildes}
 
 -- ten spaces, as wide as the greatest number of a line
 abbrev pub margin : List ℕ
@@ -44,8 +44,13 @@ source_line line e = number_field line ++ codes " | " ++ shown_front e ++ shown_
 abbrev pub blank_front : Excerpt → List ℕ
 blank_front e = (if e.lacks_before then codes "   " else []) ++ flat_map (blank e.utf8) e.front
 
+-- but for the first of its columns, which the mark begins with
+abbrev pub other_tildes : (utf8 : Bool) → (word : List ℕ) → List ℕ
+other_tildes utf8 [] = []
+other_tildes utf8 (b ∷ bs) = take (columns utf8 b - 1) (codes "~~~") ++ flat_map (tildes utf8) bs
+
 abbrev pub word_tildes : Excerpt → ℕ → List ℕ
-word_tildes e width = flat_map (tildes e.utf8) (drop 1 (take width e.rear))
+word_tildes e width = other_tildes e.utf8 (take width e.rear)
 
 abbrev pub caret_line : ℕ → Excerpt → ℕ → List ℕ
 caret_line line e width =

@@ -37,44 +37,48 @@ alone front help = record { front = front; rear = None; help = help }
 
 -- of a word of an item that spells no definition
 abbrev pub item_saying : item.FaultCode → Saying
-item_saying items.Syntax = about (codes "unexpected '") (codes "'")
+item_saying items.Syntax =
+    helped (codes "unexpected '") (codes "'") (codes "a ';' or another word may be missing before it")
 item_saying items.BadByte = helped (codes "unexpected character '") (codes "'")
-    (codes "names are of ASCII letters, digits and '_'; a comment is written /* .. */")
+    (codes "words are made of ASCII letters, digits and '_'; comments are written /* .. */")
 item_saying items.BadNumber = helped (codes "invalid number '") (codes "'")
-    (codes "write decimal digits, 0x and hexadecimal digits, or 0 and octal digits")
+    (codes "write decimal digits, or 0x and hexadecimal, or 0 and octal ones; only decimals can be negative")
 item_saying items.OpenComment = alone (codes "unterminated comment") (Some (codes "end it with */"))
 item_saying items.Directive =
-    alone (codes "preprocessor directive") (Some (codes "run cpp first, and this on its output"))
+    alone (codes "preprocessor directive") (Some (codes "run cpp on it first, and rpcgen on the result"))
 item_saying items.Unfinished =
     helped (codes "unexpected end of text after '") (codes "'") (codes "a definition ends with ';'")
 
 -- of a word that breaks a rule
 abbrev pub rule_saying : RuleCode → Saying
-rule_saying rules.Duplicate = about (codes "'") (codes "' is declared already")
-rule_saying rules.Unknown =
-    helped (codes "undeclared name '") (codes "'") (codes "declare it before this line")
+rule_saying rules.Duplicate = helped (codes "'") (codes "' is declared already")
+    (codes "enumerators count too, and so do inline types: field b of struct a declares 'a_b'")
+rule_saying rules.Unknown = helped (codes "undeclared name '") (codes "'")
+    (codes "declare it before this definition, or mend its declaration; C's own types are not known")
 rule_saying rules.LateName = helped (codes "'") (codes "' is used before its declaration")
-    (codes "move its definition before this one; only a link, as in 'b *x', may come first")
-rule_saying rules.NotType = helped (codes "expected a type, found '") (codes "'")
-    (codes "after struct, union or enum, name a type of that keyword")
+    (codes "declare it first; only a link to a struct or union, as in 'b *x', may come before or within it")
+rule_saying rules.NotType = helped (codes "'") (codes "' is not a type, or not one of this keyword")
+    (codes "name a type, and after struct, union or enum one that was declared with that word")
 rule_saying rules.NotConst = helped (codes "expected a constant, found '") (codes "'")
     (codes "write a number, or the name of a constant or an enumerator")
 rule_saying rules.Range = helped (codes "the value of '") (codes "' is out of range")
-    (codes "constants: -2^63 to 2^64-1; enumerators: -2^31 to 2^31-1; numbers of a program: 0 to 2^32-1")
-rule_saying rules.BadSize = helped (codes "invalid size '") (codes "'") (codes "a size is from 0 to 2^32-1")
+    (codes "constants: -2^63 to 2^64-1; enumerators: -2^31 to 2^31-1; other numbers: 0 to 2^32-1")
+rule_saying rules.BadSize = helped (codes "invalid size '") (codes "'")
+    (codes "a size is from 0 to 2^32-1, and that of an array in [ ] at least 1")
 rule_saying rules.VoidPlace = helped (codes "'") (codes "' is not allowed here")
     (codes "void is an arm of a union, the only argument, or a result")
 rule_saying rules.EmptyArray = alone (codes "array size must be at least 1") None
-rule_saying rules.BadDiscriminant = about (codes "'")
-    (codes "' cannot be a discriminant: it must be int, unsigned int, bool or an enum")
-rule_saying rules.BadCase = about (codes "'") (codes "' is no value of the discriminant")
+rule_saying rules.BadDiscriminant =
+    alone (codes "a discriminant must be a plain int, unsigned int, bool or enum") None
+rule_saying rules.BadCase = about (codes "'") (codes "' is not a value of the discriminant")
 rule_saying rules.RepeatedCase = about (codes "duplicate case '") (codes "'")
 rule_saying rules.RepeatedField = about (codes "duplicate member '") (codes "'")
 rule_saying rules.RepeatedNumber = helped (codes "duplicate number '") (codes "'")
     (codes "give each version of a program, and each procedure of a version, its own number")
 rule_saying rules.TooHigh = helped (codes "types are nested too deeply at '") (codes "'")
     (codes "at most 32 types may hold one another by value; a link, as in 's *x', ends the chain")
-rule_saying rules.InlineArgument = helped (codes "expected the name of a type, found '") (codes "'")
+rule_saying rules.InlineArgument =
+    helped (codes "expected the name of a type or a basic type, found '") (codes "'")
     (codes "declare the type of an argument or a result first, and name it here")
 rule_saying rules.UsesFaulty = about (codes "not checked further, '") (codes "' has faults")
 

@@ -2,10 +2,12 @@
 
 ghost use Rattle.std.specs.Prelude.{◌≡◌, ◌==◌, ◌-◌, true, false, drop, length};
 ghost use Rattle.std.specs.List.{before_first};
-ghost use Rattle.x_explain.specs.Excerpts.{cut, excerpt, excerpt_of, is_long, is_utf8, line_front};
-ghost use Rattle.x_explain.specs.Excerpts.{line_rear, view_excerpt, without_return};
+ghost use Rattle.x_explain.specs.Excerpts.{begins_control, cut, cut_front, cut_rear, excerpt, has_control};
+ghost use Rattle.x_explain.specs.Excerpts.{is_utf8, line_front};
+ghost use Rattle.x_explain.specs.Excerpts.{line_rear, shown, view_excerpt, without_part, without_return};
+ghost use Rattle.std.specs.Str.Lossy.{utf8_valid_len};
 
-use crate::shown::first_of;
+use crate::shown::{first_of, is_within};
 use memchr::memchr;
 use std::str;
 
@@ -19,6 +21,9 @@ const MOST_SEEN: usize = 102;
 const SHOWN_BEFORE: usize = 40;
 
 const SHOWN_AFTER: usize = 60;
+
+/// So many bytes of the latter lack no more than a character that is cut.
+const LEAST_AFTER: usize = 57;
 
 /// What is shown of a line.
 #[derive(Clone, Copy, Debug)]
@@ -44,7 +49,7 @@ pub(crate) fn excerpt_at(text: &[u8], start: usize, column: u32) -> Excerpt<'_>
     if front.len() + rear.len() > MOST_SHOWN {
         long(front, rear)
     } else {
-        short(front, rear)
+        shown(front, rear, false, false)
     }
 }
 
@@ -81,29 +86,80 @@ fn without_return(line: &[u8]) -> &[u8]
     line.strip_suffix(b"\r").unwrap_or(line)
 }
 
-/// A line that is shown whole.
-fn short<'t>(front: &'t [u8], rear: &'t [u8]) -> Excerpt<'t>
-    ensures { view_excerpt result ≡ cut false front.now rear.now }
+/// What is shown of a line by these parts of it.
+fn shown<'t>(front: &'t [u8], rear: &'t [u8], lacks_before: bool, lacks_after: bool) -> Excerpt<'t>
+    ensures { view_excerpt result ≡ shown front.now rear.now lacks_before lacks_after }
 {
     Excerpt {
         front,
         rear,
-        lacks_before: false,
-        lacks_after: false,
+        lacks_before,
+        lacks_after,
         utf8: is_utf8(front) && is_utf8(rear),
     }
 }
 
-/// A line of which a part is shown. Since a character may be cut, what is no ASCII is not taken for UTF-8.
+/// A line of which a part is shown.
 fn long<'t>(front: &'t [u8], rear: &'t [u8]) -> Excerpt<'t>
     ensures { view_excerpt result ≡ cut true front.now rear.now }
 {
-    Excerpt {
-        front: last_of(front, SHOWN_BEFORE),
-        rear: first_of(rear, SHOWN_AFTER),
-        lacks_before: front.len() > SHOWN_BEFORE,
-        lacks_after: rear.len() > SHOWN_AFTER,
-        utf8: false,
+    let before = cut_front(front);
+    let after = cut_rear(rear);
+    shown(
+        before,
+        after,
+        front.len() > SHOWN_BEFORE,
+        rear.len() > SHOWN_AFTER,
+    )
+}
+
+/// The last bytes before a word, but for a character that is cut.
+fn cut_front(front: &[u8]) -> &[u8]
+    ensures { result.now ≡ cut_front front.now }
+{
+    if front.len() <= SHOWN_BEFORE {
+        return front;
+    }
+    let last = last_of(front, SHOWN_BEFORE);
+    // A character has three more bytes at most.
+    let last = without_part(last);
+    let last = without_part(last);
+    without_part(last)
+}
+
+/// Bytes without the first, if it is within a character.
+fn without_part(bytes: &[u8]) -> &[u8]
+    ensures { result.now ≡ without_part bytes.now }
+{
+    match bytes {
+        [first, rest @ ..] if is_within(*first) => rest,
+        _ => bytes,
+    }
+}
+
+/// The first bytes from a word on, but for a character that is cut.
+fn cut_rear(rear: &[u8]) -> &[u8]
+    ensures { result.now ≡ cut_rear rear.now }
+{
+    if rear.len() <= SHOWN_AFTER {
+        return rear;
+    }
+    let first = first_of(rear, SHOWN_AFTER);
+    let valid = valid_len(first);
+    if valid >= LEAST_AFTER {
+        first_of(first, valid)
+    } else {
+        first
+    }
+}
+
+/// The length of the longest front that is UTF-8.
+fn valid_len(bytes: &[u8]) -> usize
+    ensures { result ≡ utf8_valid_len bytes.now }
+{
+    match str::from_utf8(bytes) {
+        Ok(text) => text.len(),
+        Err(error) => error.valid_up_to(),
     }
 }
 
@@ -114,9 +170,33 @@ fn last_of(bytes: &[u8], count: usize) -> &[u8]
     &bytes[bytes.len().saturating_sub(count)..]
 }
 
-/// Whether bytes are UTF-8.
+/// Whether a control character beyond ASCII, U+0080 to U+009F, stands in some UTF-8.
+fn has_control(bytes: &[u8]) -> bool
+    ensures { result ≡ has_control bytes.now }
+{
+    let mut rest = bytes;
+    while let [first, more @ ..] = rest {
+        if *first == 0xC2 && begins_control(more) {
+            return true;
+        }
+        rest = more;
+    }
+    false
+}
+
+/// Whether the rest of such a character begins some bytes.
+fn begins_control(bytes: &[u8]) -> bool
+    ensures { result ≡ begins_control bytes.now }
+{
+    match bytes {
+        [first, ..] => 128 <= *first && *first <= 159,
+        [] => false,
+    }
+}
+
+/// Whether bytes are UTF-8, of which a terminal takes none for an order.
 fn is_utf8(bytes: &[u8]) -> bool
     ensures { result ≡ is_utf8 bytes.now }
 {
-    str::from_utf8(bytes).is_ok()
+    valid_len(bytes) == bytes.len() && !has_control(bytes)
 }

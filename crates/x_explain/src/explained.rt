@@ -15,7 +15,7 @@ ghost use Rattle.x_explain.specs.Sentences.{saying};
 use crate::excerpt::{Excerpt, excerpt_at};
 use crate::found::{FoundFault, token_end};
 use crate::sentences::{add_sentence, sentence_of};
-use crate::shown::{add_blanks, add_shown, add_tildes, first_of};
+use crate::shown::{add_blanks, add_other_tildes, add_shown, first_of};
 use itoa::Buffer;
 use x_session::{FaultCode, RuleCode, Session};
 use x_text::{Pen, Sink};
@@ -93,7 +93,7 @@ fn add_word_tildes<S: Sink>(excerpt: &Excerpt, width: usize, pen: &mut Pen, sink
         (word_tildes (view_excerpt excerpt.now) width) }
 {
     let word = first_of(excerpt.rear, width);
-    add_tildes(word.get(1..).unwrap_or(&[]), excerpt.utf8, pen, sink);
+    add_other_tildes(word, excerpt.utf8, pen, sink);
 }
 
 /// Adds the mark under a word of so many bytes.

@@ -69,21 +69,25 @@ fn item_sentence(code: ItemCode) -> Sentence
     ensures { view_sentence result ≡ item_saying code }
 {
     match code {
-        ItemCode::Syntax => about("unexpected '", "'"),
+        ItemCode::Syntax => helped(
+            "unexpected '",
+            "'",
+            "a ';' or another word may be missing before it",
+        ),
         ItemCode::BadByte => helped(
             "unexpected character '",
             "'",
-            "names are of ASCII letters, digits and '_'; a comment is written /* .. */",
+            "words are made of ASCII letters, digits and '_'; comments are written /* .. */",
         ),
         ItemCode::BadNumber => helped(
             "invalid number '",
             "'",
-            "write decimal digits, 0x and hexadecimal digits, or 0 and octal digits",
+            "write decimal digits, or 0x and hexadecimal, or 0 and octal ones; only decimals can be negative",
         ),
         ItemCode::OpenComment => alone("unterminated comment", Some("end it with */")),
         ItemCode::Directive => alone(
             "preprocessor directive",
-            Some("run cpp first, and this on its output"),
+            Some("run cpp on it first, and rpcgen on the result"),
         ),
         ItemCode::Unfinished => helped(
             "unexpected end of text after '",
@@ -98,17 +102,25 @@ fn rule_sentence(rule: RuleCode) -> Sentence
     ensures { view_sentence result ≡ rule_saying rule }
 {
     match rule {
-        RuleCode::Duplicate => about("'", "' is declared already"),
-        RuleCode::Unknown => helped("undeclared name '", "'", "declare it before this line"),
+        RuleCode::Duplicate => helped(
+            "'",
+            "' is declared already",
+            "enumerators count too, and so do inline types: field b of struct a declares 'a_b'",
+        ),
+        RuleCode::Unknown => helped(
+            "undeclared name '",
+            "'",
+            "declare it before this definition, or mend its declaration; C's own types are not known",
+        ),
         RuleCode::LateName => helped(
             "'",
             "' is used before its declaration",
-            "move its definition before this one; only a link, as in 'b *x', may come first",
+            "declare it first; only a link to a struct or union, as in 'b *x', may come before or within it",
         ),
         RuleCode::NotType => helped(
-            "expected a type, found '",
             "'",
-            "after struct, union or enum, name a type of that keyword",
+            "' is not a type, or not one of this keyword",
+            "name a type, and after struct, union or enum one that was declared with that word",
         ),
         RuleCode::NotConst => helped(
             "expected a constant, found '",
@@ -118,20 +130,24 @@ fn rule_sentence(rule: RuleCode) -> Sentence
         RuleCode::Range => helped(
             "the value of '",
             "' is out of range",
-            "constants: -2^63 to 2^64-1; enumerators: -2^31 to 2^31-1; numbers of a program: 0 to 2^32-1",
+            "constants: -2^63 to 2^64-1; enumerators: -2^31 to 2^31-1; other numbers: 0 to 2^32-1",
         ),
-        RuleCode::BadSize => helped("invalid size '", "'", "a size is from 0 to 2^32-1"),
+        RuleCode::BadSize => helped(
+            "invalid size '",
+            "'",
+            "a size is from 0 to 2^32-1, and that of an array in [ ] at least 1",
+        ),
         RuleCode::VoidPlace => helped(
             "'",
             "' is not allowed here",
             "void is an arm of a union, the only argument, or a result",
         ),
         RuleCode::EmptyArray => alone("array size must be at least 1", None),
-        RuleCode::BadDiscriminant => about(
-            "'",
-            "' cannot be a discriminant: it must be int, unsigned int, bool or an enum",
+        RuleCode::BadDiscriminant => alone(
+            "a discriminant must be a plain int, unsigned int, bool or enum",
+            None,
         ),
-        RuleCode::BadCase => about("'", "' is no value of the discriminant"),
+        RuleCode::BadCase => about("'", "' is not a value of the discriminant"),
         RuleCode::RepeatedCase => about("duplicate case '", "'"),
         RuleCode::RepeatedField => about("duplicate member '", "'"),
         RuleCode::RepeatedNumber => helped(
@@ -145,7 +161,7 @@ fn rule_sentence(rule: RuleCode) -> Sentence
             "at most 32 types may hold one another by value; a link, as in 's *x', ends the chain",
         ),
         RuleCode::InlineArgument => helped(
-            "expected the name of a type, found '",
+            "expected the name of a type or a basic type, found '",
             "'",
             "declare the type of an argument or a result first, and name it here",
         ),

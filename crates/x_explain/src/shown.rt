@@ -4,6 +4,7 @@ ghost use Rattle.std.specs.Prelude.{◌≡◌, [], ◌∷◌, ◌++◌, codes, t
 ghost use Rattle.hex.specs.Hex.{encode_lower};
 ghost use Rattle.std.specs.List.{flat_map};
 ghost use Rattle.x_text.specs.Writing.{Adds};
+ghost use Rattle.x_explain.specs.Explained.{other_tildes};
 ghost use Rattle.x_explain.specs.Shown.{blank, columns, is_shown, is_within, shown_byte, tildes};
 
 use hex::encode_to_slice;
@@ -54,13 +55,20 @@ pub(crate) fn add_shown<S: Sink>(bytes: &[u8], is_utf8: bool, pen: &mut Pen, sin
     }
 }
 
+/// Whether a byte of UTF-8 is within a character, which its first byte has the column of.
+pub(crate) fn is_within(byte: u8) -> bool
+    ensures { result ≡ is_within byte }
+{
+    128 <= byte && byte <= 191
+}
+
 /// How many columns a byte has where it is shown.
 fn columns(byte: u8, is_utf8: bool) -> usize
     ensures { result ≡ columns is_utf8 byte }
 {
     if !is_shown(byte, is_utf8) {
         4
-    } else if 128 <= byte && byte <= 191 {
+    } else if is_within(byte) {
         0
     } else {
         1
@@ -94,6 +102,19 @@ pub(crate) fn add_tildes<S: Sink>(bytes: &[u8], is_utf8: bool, pen: &mut Pen, si
 {
     for byte in bytes {
         pen.add(first_of(b"~~~~", columns(*byte, is_utf8)), sink);
+    }
+}
+
+/// Adds marks as wide as a word is, but for its first column.
+#[tactic(auto, using(x_text::proofs::Adding::two))]
+pub(crate) fn add_other_tildes<S: Sink>(word: &[u8], is_utf8: bool, pen: &mut Pen, sink: &mut S)
+    ensures { Adds pen.old (S.state sink.old) pen.new (S.state sink.new)
+        (other_tildes is_utf8 word.now) }
+{
+    if let [first, rest @ ..] = word {
+        let others = columns(*first, is_utf8).saturating_sub(1);
+        pen.add(first_of(b"~~~", others), sink);
+        add_tildes(rest, is_utf8, pen, sink);
     }
 }
 
