@@ -1,13 +1,13 @@
 """What a language server of `.x` files says to a client's messages: LSP 3.17 read plainly. Each text is kept as
 characters, and is compiled anew by rpclang.py.
 
-Nothing is said here in sentences: of what is told to the user, and of errors, the kind and the number stand
-alone, and of what is wrong with a word that word too.
+Of what is told to the user, and of errors, the kind and the number stand alone here, without a sentence.
 """
 import bisect
 import functools
 import re
 
+import explained
 import rpclang
 
 LINE_END = re.compile("\r\n|\r|\n")
@@ -77,21 +77,20 @@ def changed(text, change, encoding):
 compiled = functools.lru_cache(rpclang.KEPT_TEXTS)(rpclang.Compilation)
 
 
-# What a sentence has in quotes where that is no word of the text.
-QUOTED = {"OpenComment": "*/", "Directive": ""}
-
-
-def quoted_word(name, token):
-    """What the sentence of a fault at a token has in quotes."""
+def sentence(code, token):
+    """What is wrong at a token. One that is no UTF-8 is a byte that begins no word."""
+    front, rear, _ = explained.SAYINGS[code]
+    if rear is None:
+        return front
     try:
-        return QUOTED.get(name, token.text.decode())
+        return front + token.text.decode() + rear
     except UnicodeDecodeError:
-        return "?"
+        return front + explained.escaped(token.text[:1]).decode() + rear
 
 
 def diagnostic(lines, fault, token):
     name = rpclang.CODE_NAMES[fault.code]
-    return {"code": fault.code, "message": f"{fault.code} {name}: {quoted_word(name, token)}", "severity": 1,
+    return {"code": fault.code, "message": f"{fault.code} {name}: {sentence(fault.code, token)}", "severity": 1,
             "source": "rpcgen", "range": lines.range(token)}
 
 
@@ -219,17 +218,11 @@ class Server:
         return [{"uri": uri, "range": lines.range(token)} for token in tokens]
 
 
-QUOTE = "'"
-
-
 def without_sentences(said):
-    """What a server said, as it is said here: of a sentence the word that it has in quotes."""
+    """What a server said, as it is said here: of errors and of what is told to the user no sentence."""
     params = said.get("params", {})
     if "error" in said:
         said["error"]["message"] = ""
     if said.get("method") == "window/showMessage":
         params["message"] = ""
-    for published in params.get("diagnostics", []):
-        name, _, sentence = published["message"].partition(": ")
-        published["message"] = f"{name}: {sentence.partition(QUOTE)[2].rpartition(QUOTE)[0]}"
     return said
