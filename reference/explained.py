@@ -14,10 +14,8 @@ SAYINGS = {
          "enumerators count too, and so do inline types: field b of struct a declares 'a_b'"),
     21: ("undeclared name '", "'",
          "declare it before this definition, or mend its declaration; C's own types are not known"),
-    22: ("'", "' is used before its declaration",
+    22: ("'", "' is used before it is fully declared",
          "declare it first; only a link to a struct or union, as in 'b *x', may come before or within it"),
-    23: ("'", "' is not a type, or not one of this keyword", "name a type, and after struct, union or enum one that was declared with that word"),
-    24: ("expected a constant, found '", "'", "write a number, or the name of a constant or an enumerator"),
     25: ("the value of '", "' is out of range",
          "constants: -2^63 to 2^64-1; enumerators: -2^31 to 2^31-1; other numbers: 0 to 2^32-1"),
     26: ("invalid size '", "'", "a size is from 0 to 2^32-1, and that of an array in [ ] at least 1"),
@@ -35,6 +33,18 @@ SAYINGS = {
          "declare the type of an argument or a result first, and name it here"),
     37: ("not checked further, '", "' has faults", None),
 }
+# The same of a name that is no type (23) or no constant (24), by what it is declared as.
+NAME_A_TYPE = "name a type here; struct, union, enum and typedef declare types"
+NO_TYPE = {
+    None: ("expected a type, found '", "'", NAME_A_TYPE),
+    "constant": ("expected a type, found constant '", "'", NAME_A_TYPE),
+    "program": ("expected a type, found program '", "'", NAME_A_TYPE),
+    "enum": ("'", "' is declared as an enum", "write enum before it, or no keyword"),
+    "struct": ("'", "' is declared as a struct", "write struct before it, or no keyword"),
+    "union": ("'", "' is declared as a union", "write union before it, or no keyword"),
+    "typedef": ("'", "' is declared with typedef", "write no keyword before it"),
+}
+NAME_A_CONSTANT = "write a number, or the name of a constant or an enumerator"
 NOTE = 37
 LONGEST_LINE, BEFORE, AFTER = 100, 40, 60
 
@@ -86,8 +96,25 @@ def token_text(compilation, fault):
     return compilation.items[fault.item][fault.token]
 
 
+def first_place(compilation, fault):
+    """Where the word is declared first, if that matters to the fault and an item declares it."""
+    first = compilation.first.get(token_text(compilation, fault).text)
+    return first if fault.code in (20, 22, 23, 24) and first and first.item >= 0 else None
+
+
+def saying(compilation, fault):
+    first = first_place(compilation, fault)
+    kind = first.shape if first else None
+    if fault.code == 23:
+        return NO_TYPE[kind]
+    if fault.code == 24:
+        found = f"{kind} " if kind not in (None, "constant") else ""
+        return f"expected a constant, found {found}'", "'", NAME_A_CONSTANT
+    return SAYINGS[fault.code]
+
+
 def headline(path, compilation, fault):
-    front, rear, _ = SAYINGS[fault.code]
+    front, rear, _ = saying(compilation, fault)
     said = front.encode()
     if rear is not None:
         said += escaped(token_text(compilation, fault).text) + rear.encode()
@@ -114,7 +141,13 @@ def explained(path, compilation, fault):
     told += number + b" | " + before + escaped(front, plain) + escaped(rear, plain) + after + b"\n"
     told += gutter + b" | " + room(before + escaped(front, plain)) + b"^"
     told += b"~" * max(0, columns(escaped(word[:1], plain)) - 1) + b"~" * columns(escaped(word[1:], plain)) + b"\n"
-    help_text = SAYINGS[fault.code][2]
+    first = first_place(compilation, fault)
+    if first:
+        place = compilation.items[first.item][first.place].start
+        if place != token.start:
+            line_column = b":%d:%d" % rpclang.line_and_column(compilation.text, place)
+            told += gutter + b" | note: declared at " + path + line_column + b"\n"
+    help_text = saying(compilation, fault)[2]
     if help_text is not None:
         told += gutter + b" | help: " + help_text.encode() + b"\n"
     return told

@@ -77,9 +77,9 @@ def changed(text, change, encoding):
 compiled = functools.lru_cache(rpclang.KEPT_TEXTS)(rpclang.Compilation)
 
 
-def sentence(code, token):
+def sentence(compilation, fault, token):
     """What is wrong at a token. One that is no UTF-8 is a byte that begins no word."""
-    front, rear, _ = explained.SAYINGS[code]
+    front, rear, _ = explained.saying(compilation, fault)
     if rear is None:
         return front
     try:
@@ -88,15 +88,16 @@ def sentence(code, token):
         return front + explained.escaped(token.text[:1]).decode() + rear
 
 
-def diagnostic(lines, fault, token):
+def diagnostic(lines, compilation, fault):
+    token = compilation.items[fault.item][fault.token]
     name = rpclang.CODE_NAMES[fault.code]
-    return {"code": fault.code, "message": f"{fault.code} {name}: {sentence(fault.code, token)}", "severity": 1,
-            "source": "rpcgen", "range": lines.range(token)}
+    said = f"{fault.code} {name}: {sentence(compilation, fault, token)}"
+    return {"code": fault.code, "message": said, "severity": 1, "source": "rpcgen", "range": lines.range(token)}
 
 
 def diagnostics(lines):
     compilation = compiled(lines.bytes)
-    return [diagnostic(lines, fault, compilation.items[fault.item][fault.token]) for fault in compilation.faults]
+    return [diagnostic(lines, compilation, fault) for fault in compilation.faults]
 
 
 def names_of(compilation):

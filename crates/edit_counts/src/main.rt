@@ -6,7 +6,8 @@
 use std::io::{self, BufRead, BufReader, BufWriter, ErrorKind, Read, Write};
 use std::process::ExitCode;
 use std::{env, fs};
-use x_session::{Command, Session, Work, parse_command};
+use x_script::{Command, parse_command};
+use x_session::{Session, Work};
 use x_text::{Edit, MAX_TEXT, TextFault};
 
 /// The status of a run that could not be carried out.

@@ -3,7 +3,7 @@
 
 use rpcx::{
     RPCDUMP, Status, answer_words, dump_args, dump_mode, dump_run, read_text, read_words,
-    tell_of_file,
+    tell_of_file, usual_style,
 };
 use std::fs;
 use std::process::ExitCode;
@@ -39,6 +39,7 @@ fn run(rt: &HostRuntime) -> Result<Status, Status> {
         &args,
         mode,
         text,
+        usual_style(rt),
         &mut input,
         &mut out,
         &mut err,

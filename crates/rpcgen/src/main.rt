@@ -1,16 +1,19 @@
-//! `rpcgen`: writes a text that is generated of a `.x` file.
+//! `rpcgen`: writes a text that is generated of a `.x` file, or checks several.
 #![tactic(auto)]
 
 mod draft;
 mod named;
+mod progress;
 mod standard;
 
 use named::{Named, lead_to_one_file};
+use progress::Progress;
 use rpcx::{
-    GenArgs, RPCGEN, Status, answer_words, gen_args, gen_mode, gen_run, read_text, read_words,
+    FaultStyle, RPCGEN, Status, answer_words, asks_check, check_args, check_run, explained_style,
+    gen_args, gen_mode, gen_run, read_text, read_words, usual_style,
 };
 use standard::Standard;
-use std::io::IsTerminal;
+use std::io::Stderr;
 use std::process::ExitCode;
 use x_text::Out;
 
@@ -20,17 +23,49 @@ fn is_named(rt: &HostRuntime, name: &str, file: &str) -> bool {
     !lead_to_one_file(rt, name, "/dev/stdout") || lead_to_one_file(rt, name, file)
 }
 
-/// Whether faults are explained: where that is asked for, or a terminal shows them that is not to show them
-/// plain.
-fn explains(rt: &HostRuntime, args: &GenArgs) -> bool {
-    args.explains || (!args.plain && rt.stderr().is_terminal())
+/// How faults are reported, by the words that ask for it.
+fn style(rt: &HostRuntime, is_asked: bool, is_plain: bool) -> FaultStyle {
+    if is_asked {
+        explained_style(rt)
+    } else if is_plain {
+        FaultStyle::Plain
+    } else {
+        usual_style(rt)
+    }
 }
 
 /// Carries out the command line. Where that stops early, it answers the status as an error.
 fn run(rt: &HostRuntime) -> Result<Status, Status> {
     let mut err = Out::new(rt.stderr());
     let words = read_words(rt, "rpcgen", &mut err)?;
-    let args = match gen_args(rt.alloc(), words.as_slice()) {
+    if asks_check(words.as_slice()) {
+        check(rt, words.as_slice(), err)
+    } else {
+        generate(rt, words.as_slice(), err)
+    }
+}
+
+/// Reports the faults of files.
+fn check(rt: &HostRuntime, words: &[String], err: Out<Stderr>) -> Result<Status, Status> {
+    let mut err = err;
+    let args = match check_args(rt.alloc(), words) {
+        Ok(args) => args,
+        Err(error) => {
+            let mut out = Out::new(rt.stdout());
+            return Err(answer_words(rt.alloc(), &RPCGEN, &error, &mut out, &mut err));
+        }
+    };
+    let style = style(rt, args.explains, args.plain);
+    let mut screen = Progress::new(rt, args.files.len(), err);
+    let status = check_run(rt, &args, style, &mut screen);
+    screen.erase();
+    Ok(status)
+}
+
+/// Writes the text that is generated of a file.
+fn generate(rt: &HostRuntime, words: &[String], err: Out<Stderr>) -> Result<Status, Status> {
+    let mut err = err;
+    let args = match gen_args(rt.alloc(), words) {
         Ok(args) => args,
         Err(error) => {
             let mut out = Out::new(rt.stdout());
@@ -42,18 +77,15 @@ fn run(rt: &HostRuntime) -> Result<Status, Status> {
     };
     let bytes = read_text(rt, "rpcgen", args.file, &mut err)?;
     let alloc = rt.alloc();
-    let args = GenArgs {
-        explains: explains(rt, &args),
-        ..args
-    };
+    let style = style(rt, args.explains, args.plain);
     Ok(match args.output {
         Some(name) if is_named(rt, name, args.file) => {
             let mut output = Named::new(rt, name, args.file);
-            gen_run(alloc, which, &args, &bytes, &mut output, &mut err)
+            gen_run(alloc, which, &args, style, &bytes, &mut output, &mut err)
         }
         _ => {
             let mut output = Standard { rt };
-            gen_run(alloc, which, &args, &bytes, &mut output, &mut err)
+            gen_run(alloc, which, &args, style, &bytes, &mut output, &mut err)
         }
     })
 }

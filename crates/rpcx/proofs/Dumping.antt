@@ -15,8 +15,8 @@ use Rattle.rpcx.proofs.Unopened.{fits}
 use Rattle.rpcx.specs.Course.{course}
 use Rattle.rpcx.specs.Dumping.{HasTypes, IsWholeFile, Opens, ReadsAll, ReadsOn, Shows, ShowsFile}
 use Rattle.rpcx.specs.Dumping.{StopsAt}
-use Rattle.rpcx.specs.Generate.{IsFaultless, NotOpened, told_faults}
-use Rattle.x_args.specs.Telling.{IsTold}
+use Rattle.rpcx.specs.declared.files.opening.FaultStyle.{FaultStyle}
+use Rattle.rpcx.specs.Generate.{IsFaultless, NotOpened, TellsFaults}
 use Rattle.rpcx.specs.declared.rpcdump.halt.Halt.{Halt}
 use Rattle.rpcx.specs.declared.rpcdump.halt.Halt.TheVariants.{NoType, Unread, TooLarge, NoRoom, Ended, Unwritten}
 use Rattle.x_args.specs.declared.dumping_args.Mode.{Mode}
@@ -55,13 +55,13 @@ abbrev FailsWith : Status → Status → Type 0
 FailsWith status other = let r : Result Session Status = Err status in IsErrOf r other
 
 -- a text that is not opened, by its status
-pub not_opened : (file text : List ℕ) (before after : Stream) (status : Status)
-    → (FailsWith status Faulty → Compiles text (λ items. (0 < length (faults_of text items)) × IsTold before after (told_faults file (faults_of text items))))
+pub not_opened : (style : FaultStyle) (file text : List ℕ) (before after : Stream) (status : Status)
+    → (FailsWith status Faulty → Compiles text (λ items. (0 < length (faults_of text items)) × TellsFaults style file text items before after))
     → (MAX_TEXT < length text → FailsWith status Failed) → (FailsWith status Failed → NotOpened (codes "rpcdump") file text before after)
-    → (status ≡ Faulty) ⊎ (status ≡ Failed) → Opens file text before after (Err status)
-not_opened file text before after Done faulty large failed others = elim others [ inl other ↦ absurd (cc) | inr other ↦ absurd (cc) ]
-not_opened file text before after Faulty faulty large failed others = (fits (length text) (λ more. let off = large more in cc), faulty refl)
-not_opened file text before after Failed faulty large failed others = inl (failed refl)
+    → (status ≡ Faulty) ⊎ (status ≡ Failed) → Opens style file text before after (Err status)
+not_opened style file text before after Done faulty large failed others = elim others [ inl other ↦ absurd (cc) | inr other ↦ absurd (cc) ]
+not_opened style file text before after Faulty faulty large failed others = (fits (length text) (λ more. let off = large more in cc), faulty refl)
+not_opened style file text before after Failed faulty large failed others = inl (failed refl)
 
 -- the types of a text that was opened
 pub has_types : (text : List ℕ) (s : Schema) → (MAX_TEXT < length text → ⊥) → Compiles text (λ items. GivesSchema text items (Ok s)) → HasTypes text s

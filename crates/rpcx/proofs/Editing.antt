@@ -8,7 +8,7 @@ use Rattle.x_text.specs.declared.text.fault.TextFault.TheVariants as faults
 use Rattle.x_text.specs.declared.text.source.TheConstants.{MAX_TEXT}
 use Rattle.x_session.specs.Session.{Document}
 use Rattle.x_lines.specs.Lines.{script_lines}
-use Rattle.x_session.specs.Script.{HasRun, Runs}
+use Rattle.x_script.specs.Script.{HasRun, Runs}
 use Rattle.x_text.specs.Engines.{is_refused, NamesCause}
 use Rattle.x_text.specs.declared.streams.outcome.Outcome.{Outcome}
 use Rattle.x_text.specs.declared.streams.outcome.EngineFault.{EngineFault}

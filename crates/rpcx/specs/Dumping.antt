@@ -8,17 +8,17 @@ use Rattle.x_schema.specs.Schema.{Schema, id_named}
 use Rattle.x_schema.specs.Schemas.{IsSchemaOf}
 use Rattle.x_schema.specs.declared.schema.TypeId.{TypeId}
 use Rattle.x_session.specs.Session.{Compiles}
-use Rattle.x_compile.specs.Compile.{definitions_of, faults_of}
+use Rattle.x_compile.specs.Compile.{Item, definitions_of, faults_of}
 use Rattle.x_text.specs.Engines.{NamesCause}
 use Rattle.x_value.specs.ValueTexts.{WritesValue}
-use Rattle.x_compile.specs.declared.fault.Fault.{Fault}
 use Rattle.x_text.specs.declared.streams.outcome.Outcome.{Outcome}
 use Rattle.x_text.specs.declared.streams.outcome.Outcome.TheVariants.{Clean, Refused}
 use Rattle.x_text.specs.declared.streams.outcome.EngineFault.{EngineFault}
 use Rattle.x_wire.specs.StreamTexts.{DumpsMessage, DumpsStream}
 use Rattle.x_wire.specs.declared.nfs2.TheConstants.{NFS2_X}
 use Rattle.rpcx.specs.Course.{Course, IsIdle}
-use Rattle.rpcx.specs.Generate.{IsFaultless, NotOpened, TellsStop, told_faults}
+use Rattle.rpcx.specs.declared.files.opening.FaultStyle.{FaultStyle}
+use Rattle.rpcx.specs.Generate.{IsFaultless, NotOpened, TellsFaults, TellsStop}
 use Rattle.x_args.specs.Telling.{Complains, IsTold}
 use Rattle.rpcx.specs.declared.rpcdump.halt.Halt.{Halt}
 use Rattle.rpcx.specs.declared.rpcdump.halt.Halt.TheVariants.{NoType, Unread, TooLarge, NoRoom, Ended}
@@ -43,11 +43,10 @@ schema_name args = unwrap_or (option_map (λ s. s.now) args.schema) (codes "nfs2
 abbrev pub type_asked : DumpArgs → List ℕ
 type_asked args = unwrap_or (option_map (λ s. s.now) args.type_name) []
 
--- the text is one that can be compiled, and has faults of which this holds
-abbrev pub HasFaults : List ℕ → (List Fault → Type 0) → Type 0
+-- the text is one that can be compiled, and has faults, of which this holds by its items
+abbrev pub HasFaults : List ℕ → (List Item → Type 0) → Type 0
 HasFaults text P =
-    (length text ≤ most_text)
-    × Compiles text (λ items. (0 < length (faults_of text items)) × P (faults_of text items))
+    (length text ≤ most_text) × Compiles text (λ items. (0 < length (faults_of text items)) × P items)
 
 -- the text has no fault, and these are its types
 abbrev pub HasTypes : List ℕ → Schema → Type 0
@@ -57,12 +56,13 @@ HasTypes text s =
 
 -- What opening the types of a text comes to: there are such; or its faults were told, or why it is not
 -- opened.
-abbrev pub Opens : (file text : List ℕ) → (before after : Stream) → Result Schema Status → Type 0
-Opens file text before after (Ok s) = HasTypes text s
-Opens file text before after (Err Faulty) = HasFaults text (λ all. IsTold before after (told_faults file all))
-Opens file text before after (Err Failed) = NotOpened (codes "rpcdump") file text before after
+abbrev pub Opens : FaultStyle → (file text : List ℕ) → (before after : Stream) → Result Schema Status → Type 0
+Opens style file text before after (Ok s) = HasTypes text s
+Opens style file text before after (Err Faulty) =
+    HasFaults text (λ items. TellsFaults style file text items before after)
+Opens style file text before after (Err Failed) = NotOpened (codes "rpcdump") file text before after
     ⊎ IsFaultless text × IsTold before after (codes "rpcdump: out of memory\n")
-Opens file text before after (Err Done) = ⊥
+Opens style file text before after (Err Done) = ⊥
 
 -- ---- what is shown
 
@@ -184,11 +184,12 @@ pub data NotDumped (args : DumpArgs) (mode : Mode) (text : List ℕ) (c : Course
 -- A run that ends with this status: the file was shown to its end without a fault; or the schema's text has
 -- faults, which were told, or what was shown has one; or the run was not carried out. The output's reader may
 -- have enough at its end.
-abbrev pub HasDumped : DumpArgs → Mode → (text : List ℕ) → Course → (is_closed : Bool)
+abbrev pub HasDumped : FaultStyle → DumpArgs → Mode → (text : List ℕ) → Course → (is_closed : Bool)
     → (before after : Stream) → Status → Type 0
-HasDumped args mode text c is_closed before after Done =
+HasDumped style args mode text c is_closed before after Done =
     HasShown mode (type_asked args) text c Clean × (after ≡ before)
-HasDumped args mode text c is_closed before after Faulty =
-    HasFaults text (λ all. IsTold before after (told_faults (schema_name args) all)) × IsIdle c
+HasDumped style args mode text c is_closed before after Faulty =
+    HasFaults text (λ items. TellsFaults style (schema_name args) text items before after) × IsIdle c
     ⊎ HasShown mode (type_asked args) text c Refused × (after ≡ before)
-HasDumped args mode text c is_closed before after Failed = NotDumped args mode text c is_closed before after
+HasDumped style args mode text c is_closed before after Failed =
+    NotDumped args mode text c is_closed before after

@@ -6,7 +6,7 @@ use Rattle.x_text.specs.Limits.{most_text}
 use Rattle.x_text.specs.declared.streams.outcome.EngineFault.{EngineFault}
 use Rattle.x_session.specs.Session.{Document, IsOpenOf}
 use Rattle.x_lines.specs.Lines.{script_lines}
-use Rattle.x_session.specs.Script.{HasRun, Runs}
+use Rattle.x_script.specs.Script.{HasRun, Runs}
 use Rattle.x_args.specs.declared.status.Status.{Status}
 use Rattle.x_args.specs.declared.status.Status.TheVariants.{Done, Faulty}
 use Rattle.rpcx.specs.Course.{Course, IsIdle}

@@ -7,17 +7,19 @@ use Rattle.std.specs.Str.{bytes_eq}
 use Rattle.x_text.specs.Streams.{Stream}
 use Rattle.x_compile.specs.declared.fault.Fault.{Fault}
 use Rattle.x_session.specs.Session.{Compiles, Document}
-use Rattle.x_compile.specs.Compile.{Item, faults_of, places_of}
+use Rattle.x_compile.specs.Compile.{Item, faults_of}
 use Rattle.x_compile.specs.Faults.{fault_text}
 use Rattle.x_text.specs.declared.streams.outcome.EngineFault.{EngineFault}
 use Rattle.x_text.specs.declared.streams.outcome.EngineFault.TheVariants.{Read, Write, NoMemory}
-use Rattle.x_session.specs.Answers.{fault_place}
+use Rattle.x_session.specs.FaultLines.{fault_place}
 use Rattle.x_text.specs.declared.text.fault.TextFault.{TextFault}
 use Rattle.x_text.specs.declared.text.fault.TextFault.TheVariants as faults
 use Rattle.x_text.specs.Limits.{most_text}
 use Rattle.x_explain.specs.Explained.{AreExplained}
 use Rattle.x_args.specs.Telling.{Complains, IsTold, told_of}
 use Rattle.x_args.specs.declared.generating_args.GenArgs.{GenArgs}
+use Rattle.rpcx.specs.declared.files.opening.FaultStyle.{FaultStyle}
+use Rattle.rpcx.specs.declared.files.opening.FaultStyle.TheVariants.{Plain, Explained, Coloured}
 use Rattle.rpcx.specs.declared.rpcgen.output.OutputFault.{OutputFault}
 use Rattle.rpcx.specs.declared.rpcgen.output.OutputFault.TheVariants as outputs
 use Rattle.x_args.specs.declared.status.Status.{Status}
@@ -59,24 +61,30 @@ pub data NotOpened (program file text : List ℕ) (before after : Stream) : Type
   NoRoom : length text ≤ most_text → IsTold before after (told_of program (codes "out of memory"))
       → NotOpened program file text before after
 
--- How the faults of a file's text are told: one a line, or explained.
-abbrev pub TellsFaults : (explains : Bool) → (file text : List ℕ) → List Item → (before after : Stream)
+-- The faults of a file's text are told with their lines.
+abbrev pub ExplainsFaults : (coloured : Bool) → (file text : List ℕ) → List Item → (before after : Stream)
     → Type 0
-TellsFaults false file text items before after =
+ExplainsFaults coloured file text items before after =
+    (said : List ℕ) × AreExplained (record { coloured = coloured; file = file; text = text }) items said
+    × IsTold before after said
+
+-- How the faults of a file's text are told: one a line, or explained.
+abbrev pub TellsFaults : FaultStyle → (file text : List ℕ) → List Item → (before after : Stream) → Type 0
+TellsFaults Plain file text items before after =
     IsTold before after (told_faults file (faults_of text items))
-TellsFaults true file text items before after =
-    (said : List ℕ) × AreExplained file text (places_of items) said × IsTold before after said
+TellsFaults Explained file text items before after = ExplainsFaults false file text items before after
+TellsFaults Coloured file text items before after = ExplainsFaults true file text items before after
 
 -- What opening the text of a file for a run of a program comes to: a session of a text without faults, or the
 -- status of a run that does not go on, which was told why.
-pub record IsOpened (explains : Bool) (program file bytes : List ℕ) (before after : Stream)
+pub record IsOpened (style : FaultStyle) (program file bytes : List ℕ) (before after : Stream)
     (result : Result Document Status) : Type 0 where
   pub base : IfOk result (λ s. s.base ≡ base_of file)
   pub text : IfOk result (λ s. s.text ≡ bytes)
   pub clean : OnOk result (Compiles bytes (λ items. faults_of bytes items ≡ []))
   pub faulty : IsErrOf result Faulty
       → Compiles bytes (λ items. (0 < length (faults_of bytes items))
-      × TellsFaults explains file bytes items before after)
+      × TellsFaults style file bytes items before after)
   pub too_large : most_text < length bytes → IsErrOf result Failed
   pub failed : IsErrOf result Failed → NotOpened program file bytes before after
   pub others : IfErr result (λ status. (status ≡ Faulty) ⊎ (status ≡ Failed))

@@ -1,3 +1,4 @@
+pub mod Checking
 pub mod Course
 pub mod Dumping
 pub mod Editing

@@ -5,3 +5,4 @@ pub mod base;
 pub mod complaint;
 pub mod opening;
 pub mod reading;
+pub mod terminal;

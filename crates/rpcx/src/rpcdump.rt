@@ -8,7 +8,7 @@ mod halt;
 mod input;
 mod showing;
 
-use crate::files::opening::open_text;
+use crate::files::opening::{FaultStyle, open_text};
 use halt::tell_halt;
 use showing::show;
 use std::alloc::Global;
@@ -19,23 +19,24 @@ use x_wire::{NFS2_X, Outcome, Schema};
 
 /// Shows the bytes of a file by the types of the schema's text, that of NFS version 2 where none is given,
 /// and answers the status: `Done` where all was shown and has no fault, `Faulty` where a fault was shown, or
-/// where the text has faults, which it tells, and `Failed` where the run could not be carried out, which it
-/// tells, unless the output's reader has enough.
+/// where the text has faults, which it reports in this style, and `Failed` where the run could not be carried
+/// out, which it tells, unless the output's reader has enough.
 pub fn dump_run<I: Tap, O: Outlet, E: Sink>(
     alloc: Global,
     args: &DumpArgs,
     mode: Mode,
     schema: Option<&[u8]>,
+    style: FaultStyle,
     input: &mut I,
     out: &mut O,
     err: &mut E,
 ) -> Status
-    ensures dumped { HasDumped args.now mode (schema_text (option_map (λ t. t.now) schema.entry))
+    ensures dumped { HasDumped style args.now mode (schema_text (option_map (λ t. t.now) schema.entry))
         (course (I.state input.old) (I.state input.new) (O.state out.old) (O.state out.new))
         (O.is_closed out.new) (E.state err.old) (E.state err.new) result }
     ensures quiet { result ≡ Status.Done → err.new ≡ err.old }
 {
-    let schema = match open_schema(alloc, args, schema, err) {
+    let schema = match open_schema(alloc, args, schema, style, err) {
         Ok(schema) => schema,
         Err(status) => return status,
     };
@@ -57,14 +58,15 @@ fn open_schema<E: Sink>(
     alloc: Global,
     args: &DumpArgs,
     text: Option<&[u8]>,
+    style: FaultStyle,
     err: &mut E,
 ) -> Result<Schema, Status>
-    ensures opens { Opens (schema_name args.now) (schema_text (option_map (λ t. t.now) text.entry))
+    ensures opens { Opens style (schema_name args.now) (schema_text (option_map (λ t. t.now) text.entry))
         (E.state err.old) (E.state err.new) result }
     ensures quiet { OnOk result (err.new ≡ err.old) }
 {
     let file = args.schema.unwrap_or("nfs2.x");
-    open_types(alloc, file, text.unwrap_or(NFS2_X), err)
+    open_types(alloc, file, text.unwrap_or(NFS2_X), style, err)
 }
 
 /// The types of the text of a file, or where it has none the status, as [`open_text`] tells why.
@@ -72,12 +74,13 @@ fn open_types<E: Sink>(
     alloc: Global,
     file: &str,
     text: &[u8],
+    style: FaultStyle,
     err: &mut E,
 ) -> Result<Schema, Status>
-    ensures opens { Opens file.now text.now (E.state err.old) (E.state err.new) result }
+    ensures opens { Opens style file.now text.now (E.state err.old) (E.state err.new) result }
     ensures quiet { OnOk result (err.new ≡ err.old) }
 {
-    let session = open_text(alloc, "rpcdump", file, text, false, err)?;
+    let session = open_text(alloc, "rpcdump", file, text, style, err)?;
     let schema = session.schema();
     // The process ends soon, and gives all memory back at once.
     mem::forget(session);

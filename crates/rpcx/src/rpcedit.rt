@@ -13,7 +13,8 @@ use std::alloc::Global;
 use std::mem;
 use x_args::{EditArgs, Status};
 use x_hash::HashKey;
-use x_session::{Outcome, Session, run_script};
+use x_script::{Outcome, run_script};
+use x_session::Session;
 use x_text::{Outlet, Sink, Tap};
 
 /// As [`edit_run_keyed`], over tables that hash by a key which is made of the text. Who writes a script may

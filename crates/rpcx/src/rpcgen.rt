@@ -12,9 +12,11 @@ ghost use Rattle.x_compile.specs.Compile.{faults_of};
 ghost use Rattle.x_compile.specs.Generated.{text_of};
 ghost use Rattle.x_text.specs.Limits.{most_text};
 
+mod checking;
 mod output;
 
-use crate::files::opening::open_text;
+use crate::files::opening::{FaultStyle, open_text};
+pub use checking::{Screen, check_run};
 pub use output::{Output, OutputFault};
 use std::alloc::Global;
 use std::mem;
@@ -29,14 +31,14 @@ pub fn gen_open<E: Sink>(
     alloc: Global,
     file: &str,
     bytes: &[u8],
-    explains: bool,
+    style: FaultStyle,
     err: &mut E,
 ) -> Result<Session, Status>
-    ensures opened { IsOpened explains (codes "rpcgen") file.now bytes.now
+    ensures opened { IsOpened style (codes "rpcgen") file.now bytes.now
         (E.state err.old) (E.state err.new) result }
     ensures quiet { OnOk result (err.new ≡ err.old) }
 {
-    open_text(alloc, "rpcgen", file, bytes, explains, err)
+    open_text(alloc, "rpcgen", file, bytes, style, err)
 }
 
 /// Writes a generated text and flushes the output, and answers whether it took all.
@@ -95,6 +97,7 @@ pub fn gen_run<O: Output, E: Sink>(
     alloc: Global,
     which: Which,
     args: &GenArgs,
+    style: FaultStyle,
     bytes: &[u8],
     output: &mut O,
     err: &mut E,
@@ -102,7 +105,7 @@ pub fn gen_run<O: Output, E: Sink>(
     ensures faulty { result ≡ Status.Faulty
         → Compiles bytes.now
         (λ items. (0 < length (faults_of bytes.now items))
-        × TellsFaults args.now.explains args.now.file.now bytes.now items
+        × TellsFaults style args.now.file.now bytes.now items
         (E.state err.old) (E.state err.new)) }
     ensures too_large { most_text < length bytes.now → result ≡ Status.Failed }
     ensures clean { result ≡ Status.Done → IsFaultless bytes.now }
@@ -122,7 +125,7 @@ pub fn gen_run<O: Output, E: Sink>(
     ensures faultless { IsFaultless bytes.now ⊎ (output.new ≡ output.old) }
     ensures tidy { O.has_draft output.old ≡ false → O.has_draft output.new ≡ false }
 {
-    let session = match gen_open(alloc, args.file, bytes, args.explains, err) {
+    let session = match gen_open(alloc, args.file, bytes, style, err) {
         Ok(session) => session,
         Err(status) => return status,
     };

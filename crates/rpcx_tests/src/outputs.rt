@@ -1,7 +1,7 @@
 //! Runs of `rpcgen` over an output in memory, which tells what stands under its name.
 ghost use Rattle.std.specs.Prelude.{Some, option_map};
 
-use rpcx::{GenArgs, Output, OutputFault, Status, gen_run};
+use rpcx::{FaultStyle, GenArgs, Output, OutputFault, Status, gen_run};
 use std::alloc::Global;
 use std::test::Fail;
 use x_session::Which;
@@ -79,16 +79,40 @@ fn a_generator_leaves_the_whole_text_or_what_stood(rt: HostRuntime) -> Result<()
     };
     let which = Which::Header;
     let faulty = b"const A = 12; const A = 12;";
-    let status = gen_run(alloc, which, &ARGS, faulty, &mut output, &mut err);
+    let status = gen_run(
+        alloc,
+        which,
+        &ARGS,
+        FaultStyle::Plain,
+        faulty,
+        &mut output,
+        &mut err,
+    );
     assert_eq!(rt; status, Status::Faulty);
     let text = b"const A = 12;";
-    let status = gen_run(alloc, which, &ARGS, text, &mut output, &mut err);
+    let status = gen_run(
+        alloc,
+        which,
+        &ARGS,
+        FaultStyle::Plain,
+        text,
+        &mut output,
+        &mut err,
+    );
     assert_eq!(rt; status, Status::Failed);
     assert!(rt; output.file.is_none());
     let wanted = "t.x:1:21: 20 Duplicate\nrpcgen: t.h: cannot be written\n";
     assert_eq!(rt; err.bytes(), wanted.as_bytes());
     output.takes = true;
-    let status = gen_run(alloc, which, &ARGS, text, &mut output, &mut err);
+    let status = gen_run(
+        alloc,
+        which,
+        &ARGS,
+        FaultStyle::Plain,
+        text,
+        &mut output,
+        &mut err,
+    );
     assert_eq!(rt; status, Status::Done);
     assert_eq!(rt; output.file.as_deref(), Some(HEADER));
     assert!(rt; !output.has_draft);

@@ -1,6 +1,7 @@
 //! Runs of the programs.
 use rpcx::{
-    DumpArgs, EditArgs, GenArgs, Mode, Status, dump_run, edit_run, gen_mode, gen_open, gen_write,
+    DumpArgs, EditArgs, FaultStyle, GenArgs, Mode, Status, dump_run, edit_run, gen_mode, gen_open,
+    gen_write,
 };
 use std::test::Fail;
 use x_session::{Session, Which};
@@ -41,7 +42,7 @@ fn a_generator_wants_one_letter_and_no_fault(rt: HostRuntime) {
     let mut err = MemSink::new(&mut told, 128, 128);
     let mode = gen_mode(&TWO_LETTERS, &mut err);
     assert!(rt; mode.is_none());
-    let opened = gen_open(rt.alloc(), "t.x", FAULTY, false, &mut err);
+    let opened = gen_open(rt.alloc(), "t.x", FAULTY, FaultStyle::Plain, &mut err);
     assert!(rt; matches!(opened, Err(Status::Faulty)));
     let wanted = "rpcgen: exactly one of -c, -h, -l, -t\nt.x:1:42: 21 Unknown\n";
     assert_eq!(rt; err.bytes(), wanted.as_bytes());
@@ -81,6 +82,7 @@ fn a_dumper_tells_of_a_failed_tap_and_a_full_sink(rt: HostRuntime) {
         &STREAM,
         Mode::Stream,
         None,
+        FaultStyle::Plain,
         &mut broken,
         &mut full,
         &mut err,
@@ -93,6 +95,7 @@ fn a_dumper_tells_of_a_failed_tap_and_a_full_sink(rt: HostRuntime) {
         &STREAM,
         Mode::Stream,
         None,
+        FaultStyle::Plain,
         &mut input,
         &mut full,
         &mut err,
@@ -119,6 +122,7 @@ fn a_dumper_tells_of_a_failed_tap_before_a_value(rt: HostRuntime) {
         &args,
         Mode::Value,
         schema,
+        FaultStyle::Plain,
         &mut broken,
         &mut out,
         &mut err,
@@ -132,6 +136,7 @@ fn a_dumper_tells_of_a_failed_tap_before_a_value(rt: HostRuntime) {
         &args,
         Mode::Value,
         schema,
+        FaultStyle::Plain,
         &mut input,
         &mut out,
         &mut err,
@@ -152,6 +157,7 @@ fn a_dumper_tells_of_a_bad_stream_before_a_failed_tap(rt: HostRuntime) {
         &STREAM,
         Mode::Stream,
         None,
+        FaultStyle::Plain,
         &mut cut,
         &mut out,
         &mut err,
@@ -164,6 +170,7 @@ fn a_dumper_tells_of_a_bad_stream_before_a_failed_tap(rt: HostRuntime) {
         &STREAM,
         Mode::Stream,
         None,
+        FaultStyle::Plain,
         &mut broken,
         &mut out,
         &mut err,

@@ -1,6 +1,6 @@
 -- What the proofs of commands that are built by a chain of `.arg(..)` calls share.
-use Rattle.std.proofs.Common.{◌≡◌, ◌∙◌, ◌<◌, ℕ, Bool, List, [], ◌∷◌, ◌++◌, ◌&&◌, true, false, zero, suc, not, ap, sym, subst, refl, length, length-append, map, inl, inr, arith, codes, Option, Some, None, is_some, Result, Ok, Err}
-use Rattle.std.specs.List.{list_any, slice_index_or}
+use Rattle.std.proofs.Common.{◌≡◌, ◌∙◌, ◌<◌, ℕ, Bool, List, [], ◌∷◌, ◌++◌, ◌&&◌, ◌||◌, true, false, zero, suc, not, ap, sym, subst, refl, length, length-append, map, inl, inr, arith, codes, Option, Some, None, is_some, Result, Ok, Err}
+use Rattle.std.specs.List.{All, list_any, slice_index_or}
 use Rattle.std.specs.Str.{bytes_eq}
 use Rattle.std.proofs.lemmas.Slice.Eq.{bytes_eq-Decides}
 use Rattle.std.proofs.Math.Seq.{get_or-append_seam}
@@ -8,8 +8,8 @@ use Rattle.std.proofs.lemmas.List.{map-append}
 use Rattle.std.proofs.lemmas.List.Elements.{All-nil, All-push}
 use Rattle.std.proofs.lemmas.List.Folds.{list_any_at}
 use Rattle.std.proofs.lemmas.Bool.{and_parts, both_ways, not-true}
-use Rattle.clap.proofs.CallerLemmas.{required_in_chain}
-use Rattle.clap.proofs.WalkLemmas.{find_row, first_value-rows, list_any-map}
+use Rattle.clap.proofs.CallerLemmas.{added_plain, present_has_entry, required_in_chain, required_present}
+use Rattle.clap.proofs.WalkLemmas.{find_row, first_value-rows, list_any-map, raw_values-rows}
 use Rattle.std.specs.Prelude.{find, option_and_then, option_map, IsErrAnd}
 use Rattle.clap.specs.Facts.{Entry}
 use Rattle.clap.specs.Walk.{row_of}
@@ -18,14 +18,14 @@ use Rattle.clap.specs.declared.error.Error.{Error}
 use Rattle.clap.specs.declared.parser.matches.ArgMatches.{ArgMatches}
 use Rattle.clap.specs.declared.parser.matches.Found.{Found}
 use Rattle.clap.specs.declared.parser.matches.MatchedArg.{MatchedArg}
-use Rattle.clap.specs.Words.{App, Text, app_of, new_app, IsPlainArg, Row, first_of, first_value, found_of, args_of, groups_of, subcommands_of, AddsArg, AddsInTurn, matched_of, rows_of}
+use Rattle.clap.specs.Words.{App, Text, app_of, new_app, IsPlainArg, Row, all_of, first_of, first_value, found_of, raw_values, args_of, groups_of, subcommands_of, AddsArg, AddsInTurn, matched_of, rows_of}
 use Rattle.clap.specs.Words.{FailsBy, HasMatchesOf, fault_of, is_simple, is_simple_and_free, matches_of}
 use Rattle.clap.specs.Simple.{app_of_fields, on_top}
-use Rattle.clap.specs.Built.{FitsChain, HasDistinctIds, TakesValue}
+use Rattle.clap.specs.Built.{FitsChain, HasDistinctIds, IsPlain, TakesValue}
 use Rattle.clap.specs.declared.builder.arg.Arg.{Arg}
 use Rattle.clap.specs.declared.builder.command.Command.{Command}
 use Rattle.clap.specs.declared.builder.command.Command.TheViews.{out-Command}
-use Rattle.x_args.specs.Args.{AlwaysHas, IsChain, bare_app, is_own, source_of}
+use Rattle.x_args.specs.Args.{AlwaysHas, HasSome, IsChain, bare_app, is_own, source_of}
 
 -- a new command without clap's own help flag
 pub bare_is : (old new : Command) (name : Text) → app_of old ≡ new_app name
@@ -138,6 +138,39 @@ last_has ids mid cmd a id chain added fits value is distinct m parsed =
     whole.fit (distinct_ids all (ids ++ id ∷ []) whole.ids_are distinct) (omega (arith, length-append chain.args (a ∷ [])))
     (subst TakesValue (sym last) value) parsed)
 
+-- what a chain keeps: nothing in it excludes anything or is global, and no subcommand lifts what it asks for
+chain_keeps : (start cmd : Command) (xs : List Arg) → AddsInTurn AddsArg start xs cmd → All FitsChain xs → IsPlain start
+    → (out-Command start).has_globals ≡ false → (out-Command start).subcommand_negates_reqs ≡ false
+    → IsPlain cmd × ((out-Command cmd).has_globals ≡ false) × ((out-Command cmd).subcommand_negates_reqs ≡ false)
+chain_keeps start cmd [] steps fit plain globals negates =
+    (subst IsPlain steps plain, subst (λ c. (out-Command c).has_globals ≡ false) steps globals, subst (λ c. (out-Command c).subcommand_negates_reqs ≡ false) steps negates)
+chain_keeps start cmd (x ∷ xs) steps fit plain globals negates =
+    let first = fit 0 x (omega arith) in
+    let added = steps.1 in
+    chain_keeps steps.0 cmd xs steps.2 (λ k d lt. fit (suc k) d (omega arith)) (added_plain start steps.0 x added plain first.0)
+    (added.globals ∙ ap (λ b. b || x.global) globals ∙ ap (λ b. false || b) first.1) (added.negates ∙ negates)
+
+-- the last argument of a chain, where it is required, always has an entry
+pub last_has_some : (ids : List Text) (mid cmd : Command) (a : Arg) (id : Text) → IsChain ids mid → AddsArg mid a cmd → FitsChain a
+    → a.required ≡ true → a.id.now ≡ id → HasSome id cmd
+last_has_some ids mid cmd a id chain added fits required is =
+    let bare : IsPlain chain.start = (subst (All IsPlainArg) (sym chain.nothing.0) (All-nil IsPlainArg), chain.nothing.1) in
+    let kept = chain_keeps chain.start mid chain.args chain.steps chain.fit bare chain.local chain.negates in
+    let at = length (args_of mid) in
+    let last : slice_index_or (args_of cmd) at a ≡ added.arg = ap (λ l. slice_index_or l at a) added.args ∙ get_or-append_seam (args_of mid) added.arg [] a in
+    let there : at < length (args_of cmd) =
+    subst (λ l. at < length l) (sym added.args) (omega (arith, length-append (args_of mid) (added.arg ∷ []))) in
+    let plain = added_plain mid cmd a added kept.0 fits.0 in
+    let globals = added.globals ∙ ap (λ b. b || a.global) kept.1 ∙ ap (λ b. false || b) fits.1 in
+    let wanted : (slice_index_or (args_of cmd) at a).required ≡ true = ap (λ x. x.required) last ∙ added.rules.required ∙ required in
+    let name : (slice_index_or (args_of cmd) at a).id.now ≡ id = ap id_of last ∙ ap (λ x. x.now) added.rules.id ∙ is in
+    record {
+      plain = plain;
+      local = globals;
+      has = λ m parsed. subst (λ t. is_some (matched_of (found_of m) t) ≡ true) name
+          (present_has_entry (found_of m) _ (required_present cmd m parsed plain globals (added.negates ∙ kept.2) at a there wanted));
+    }
+
 -- ---- what a parse by such a command reads, and why it fails
 
 -- the matches are those of the words, where the command is known
@@ -149,6 +182,10 @@ rows_are is known words m same free has =
 -- a value by its id
 pub value_is : (f : Found) (id : Text) (rows : List Row) → rows_of f ≡ rows → first_value f id ≡ first_of id rows
 value_is f id rows is = first_value-rows f id ∙ ap (first_of id) is
+
+-- all values by their id
+pub values_are : (f : Found) (id : Text) (rows : List Row) → rows_of f ≡ rows → option_map raw_values (matched_of f id) ≡ all_of id rows
+values_are f id rows is = raw_values-rows f id ∙ ap (all_of id) is
 
 -- a parse that succeeds has no fault
 pub none_fails : (is known : App) (words : List Text) → is ≡ known → is_simple_and_free known ≡ true → (is_simple_and_free is ≡ true → fault_of is words ≡ [])

@@ -1,2 +1,4 @@
+pub mod Checks
 pub mod Commands
+pub mod Filled
 pub mod Grown

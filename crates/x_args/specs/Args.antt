@@ -1,16 +1,16 @@
 -- The command lines of the programs, in clap's words: what a program knows, and what it reads.
-use Rattle.std.specs.Prelude.{◌≡◌, ℕ, Bool, ◌&&◌, not, List, [], ◌∷◌, ◌++◌, Option, None, Some}
-use Rattle.std.specs.Prelude.{true, false, codes, find, is_some, map}
+use Rattle.std.specs.Prelude.{◌≡◌, ◌<◌, ℕ, Bool, ◌&&◌, ◌||◌, not, List, [], ◌∷◌, ◌++◌, Option, None, Some}
+use Rattle.std.specs.Prelude.{true, false, codes, drop, find, is_some, length, map}
 use Rattle.std.specs.List.{All}
 use Rattle.std.specs.Prelude.{option_and_then, option_map, slice_get}
 use Rattle.std.specs.Str.{bytes_eq}
 use Rattle.clap.specs.Words.{AddsArg, AddsInTurn, App, IsParsedFrom, Row, Rule, Text}
-use Rattle.clap.specs.Words.{args_of, fault_of, first_of, first_value}
+use Rattle.clap.specs.Words.{all_of, args_of, fault_of, first_of, first_value, matched_of}
 use Rattle.clap.specs.Words.{found_of, groups_of, new_app, new_rule, with_rule}
-use Rattle.clap.specs.Built.{FitsChain}
+use Rattle.clap.specs.Built.{FitsChain, IsPlain}
 use Rattle.clap.specs.Simple.{on_top}
 use Rattle.clap.specs.declared.builder.action.ArgAction.{ArgAction}
-use Rattle.clap.specs.declared.builder.action.ArgAction.TheVariants.{Help, Set, SetTrue, Version}
+use Rattle.clap.specs.declared.builder.action.ArgAction.TheVariants.{Append, Help, Set, SetTrue, Version}
 use Rattle.clap.specs.declared.builder.arg.Arg.{Arg}
 use Rattle.clap.specs.declared.builder.command.Command.{Command}
 use Rattle.clap.specs.declared.builder.command.Command.TheViews.{out-Command}
@@ -20,6 +20,7 @@ use Rattle.clap.specs.declared.parser.matches.ValueSource.{ValueSource}
 use Rattle.clap.specs.declared.parser.matches.ValueSource.TheVariants.{CommandLine}
 use Rattle.x_pieces.specs.declared.which.Which.{Which}
 use Rattle.x_pieces.specs.declared.which.Which.TheVariants.{Header, Routines, Stubs, Table}
+use Rattle.x_args.specs.declared.checking_args.CheckArgs.{CheckArgs}
 use Rattle.x_args.specs.declared.dumping_args.DumpArgs.{DumpArgs}
 use Rattle.x_args.specs.declared.dumping_args.Mode.{Mode}
 use Rattle.x_args.specs.declared.dumping_args.Mode.TheVariants.{Stream, Message, Value}
@@ -108,6 +109,30 @@ lettered_app = with_rule (with_letters (plain_app (codes "rpcgen"))) output_rule
 unfoldable pub gen_app : App
 gen_app = with_rule (with_rule (with_rule lettered_app explain_rule) plain_rule) file_rule
 
+-- `--check`
+abbrev pub check_rule : Rule
+check_rule = request_rule (codes "check") (codes "check") SetTrue
+
+-- FILE, once or more often
+abbrev pub files_rule : Rule
+files_rule = record (new_rule (codes "file")) { action = Some Append; required = true }
+
+-- `rpcgen [--help] [--version] --check [--explain] [--plain] FILE..`
+unfoldable pub check_app : App
+check_app = with_rule
+    (with_rule (with_rule
+    (with_rule (plain_app (codes "rpcgen")) check_rule) explain_rule) plain_rule) files_rule
+
+-- one of the words is `--check`, and stands before each `--`
+unfoldable pub has_check : List Text → Bool
+has_check [] = false
+has_check (word ∷ rest) =
+    not (bytes_eq word (codes "--")) && (bytes_eq word (codes "--check") || has_check rest)
+
+-- words whose first is the program's name ask for a check of files
+abbrev pub asks_check : List Text → Bool
+asks_check words = has_check (drop 1 words)
+
 -- `-x SCHEMA`
 abbrev pub schema_rule : Rule
 schema_rule = valued_rule (codes "schema") (slice_get (codes "x") 0)
@@ -154,6 +179,13 @@ pub record IsChain (ids : List Text) (cmd : Command) : Type 0 where
 abbrev pub AlwaysHas : Text → Command → Type 0
 AlwaysHas id c = (m : ArgMatches) → IsParsedFrom c m → is_some (first_value (found_of m) id) ≡ true
 
+-- Every parse by the command that succeeds has an entry of the argument. Nothing in it excludes anything,
+-- and no argument of it is global.
+pub record HasSome (id : Text) (c : Command) : Type 0 where
+  pub plain : IsPlain c
+  pub local : (out-Command c).has_globals ≡ false
+  pub has : (m : ArgMatches) → IsParsedFrom c m → is_some (matched_of (found_of m) id) ≡ true
+
 -- where the entry of an id came from
 abbrev pub source_of : Text → List Row → Option ValueSource
 source_of id rows = option_and_then (λ r. r.source) (find (λ r. bytes_eq r.id id) rows)
@@ -177,6 +209,13 @@ pub record IsGenArgs (rows : List Row) (args : GenArgs) : Type 0 where
   pub explains : args.explains ≡ is_in_words (codes "explain") rows
   pub plain : args.plain ≡ is_in_words (codes "plain") rows
   pub file : Some args.file.now ≡ first_of (codes "file") rows
+
+-- the words and files of `rpcgen --check`, as clap read them
+pub record IsCheckArgs (rows : List Row) (args : CheckArgs) : Type 0 where
+  pub explains : args.explains ≡ is_in_words (codes "explain") rows
+  pub plain : args.plain ≡ is_in_words (codes "plain") rows
+  pub files : Some (map (λ s. s.now) args.files.items) ≡ all_of (codes "file") rows
+  pub some : 0 < length args.files.items
 
 -- the value of `rpcedit`, as clap read it
 pub record IsEditArgs (rows : List Row) (args : EditArgs) : Type 0 where

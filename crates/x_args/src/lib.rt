@@ -3,6 +3,7 @@
 
 mod answering;
 mod arguments;
+mod checking_args;
 mod complaint;
 mod drawing;
 mod dumping_args;
@@ -15,6 +16,7 @@ mod status;
 mod words;
 
 pub use answering::answer_words;
+pub use checking_args::{CheckArgs, asks_check, check_args};
 pub use complaint::{complain_of_output, tell_of_file};
 pub use drawing::draw_key;
 pub use dumping_args::{DumpArgs, Mode, dump_args, dump_mode};

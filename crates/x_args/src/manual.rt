@@ -27,6 +27,7 @@ reports what is wrong with it on standard error.
   -l         write the client's stubs, a function for each procedure
   -t         write the server's tables, a row for each procedure
   -o OUT     write to the file OUT in place of standard output
+  --check    report the faults of one or more files: rpcgen --check FILE...
   --explain  show each fault with its line and a hint, as on a terminal
   --plain    report one fault a line, also on a terminal
   --help     show this text

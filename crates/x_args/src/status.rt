@@ -1,6 +1,6 @@
 //! The status that a program ends with.
-ghost use Rattle.std.specs.Prelude.{◌≡◌};
-ghost use Rattle.x_args.specs.Status.{exit_code};
+ghost use Rattle.std.specs.Prelude.{◌≡◌, max};
+ghost use Rattle.x_args.specs.Status.{exit_code, worse};
 
 /// How a run of a program ended.
 #[derive(Clone, Copy, Debug, PartialEq, Eq)]
@@ -19,5 +19,17 @@ impl Status {
         ensures { result ≡ exit_code self }
     {
         self as u8
+    }
+
+    /// The worse of two statuses: that of a run of two parts.
+    pub fn worse(self, other: Status) -> Status
+        ensures worse { result ≡ worse self other }
+        ensures code { exit_code result ≡ max (exit_code self) (exit_code other) }
+    {
+        match (self, other) {
+            (Status::Failed, _) | (_, Status::Failed) => Status::Failed,
+            (Status::Faulty, _) | (_, Status::Faulty) => Status::Faulty,
+            (Status::Done, Status::Done) => Status::Done,
+        }
     }
 }

@@ -1,4 +1,6 @@
 pub mod ColumnLemmas
+pub mod DeclaredLemmas
 pub mod ExcerptLemmas
 pub mod FoundLemmas
+pub mod ItemsLeft
 pub mod PassLemmas

@@ -10,11 +10,14 @@ use Rattle.x_rules.specs.declared.fault.RuleCode.TheVariants.{UsesFaulty}
 use Rattle.x_compile.specs.declared.fault.FaultCode.{FaultCode}
 use Rattle.x_compile.specs.declared.fault.FaultCode.TheVariants.{Rule}
 use Rattle.x_compile.specs.declared.fault.FaultPlace.{FaultPlace}
+use Rattle.x_compile.specs.Compile.{Item, places_of}
 use Rattle.x_compile.specs.Faults.{fault_text}
+use Rattle.x_explain.specs.declared.declared.FirstPlace.{FirstPlace}
 use Rattle.x_explain.specs.declared.found.FoundFault.{FoundFault}
 use Rattle.x_explain.specs.declared.explained.Pass.{Pass}
 use Rattle.x_explain.specs.declared.explained.Pass.TheVariants.{Errors, Notes}
 use Rattle.x_explain.specs.Excerpts.{Excerpt, excerpt}
+use Rattle.x_explain.specs.Facts.{first_of, kind_of}
 use Rattle.x_explain.specs.Found.{AreFound}
 use Rattle.x_explain.specs.Sentences.{saying, sentence}
 use Rattle.x_explain.specs.Shown.{blank, columns, shown_byte, tildes}
@@ -40,6 +43,24 @@ shown_rear e = flat_map (shown_byte e.utf8) e.rear ++ (if e.lacks_after then cod
 abbrev pub source_line : ℕ → Excerpt → List ℕ
 source_line line e = number_field line ++ codes " | " ++ shown_front e ++ shown_rear e ++ codes "\n"
 
+-- the orders by which a terminal begins a colour, and ends it (ECMA-48, 8.3.117): bold red for a fault, bold
+-- green for the mark, and bold cyan for what is said beside
+abbrev pub red : List ℕ
+red = 27 ∷ codes "[1;31m"
+
+abbrev pub green : List ℕ
+green = 27 ∷ codes "[1;32m"
+
+abbrev pub cyan : List ℕ
+cyan = 27 ∷ codes "[1;36m"
+
+abbrev pub plain : List ℕ
+plain = 27 ∷ codes "[0m"
+
+abbrev pub painted : (coloured : Bool) → (colour bytes : List ℕ) → List ℕ
+painted coloured colour bytes =
+    (if coloured then colour else []) ++ bytes ++ (if coloured then plain else [])
+
 -- the mark under a word of so many bytes
 abbrev pub blank_front : Excerpt → List ℕ
 blank_front e = (if e.lacks_before then codes "   " else []) ++ flat_map (blank e.utf8) e.front
@@ -52,31 +73,65 @@ other_tildes utf8 (b ∷ bs) = take (columns utf8 b - 1) (codes "~~~") ++ flat_m
 abbrev pub word_tildes : Excerpt → ℕ → List ℕ
 word_tildes e width = other_tildes e.utf8 (take width e.rear)
 
-abbrev pub caret_line : ℕ → Excerpt → ℕ → List ℕ
-caret_line line e width =
-    gutter line ++ codes " | " ++ blank_front e ++ codes "^" ++ word_tildes e width ++ codes "\n"
+abbrev pub mark : Excerpt → ℕ → List ℕ
+mark e width = codes "^" ++ word_tildes e width
+
+abbrev pub caret_line : Bool → ℕ → Excerpt → ℕ → List ℕ
+caret_line coloured line e width =
+    gutter line ++ codes " | " ++ blank_front e ++ painted coloured green (mark e width) ++ codes "\n"
+
+-- `FILE:LINE:COL`
+abbrev pub place : (file : List ℕ) → (line column : ℕ) → List ℕ
+place file line column = file ++ codes ":" ++ decimal line ++ codes ":" ++ decimal column
+
+-- where the word is declared first, if that is not here
+abbrev pub declared_line : (coloured : Bool) → (file : List ℕ) → ℕ → FirstPlace → List ℕ
+declared_line coloured file line f =
+    gutter line ++ codes " | " ++ painted coloured cyan (codes "note:") ++ codes " declared at "
+    ++ place file f.spot.line f.spot.column ++ codes "\n"
+
+abbrev pub note_line : (coloured : Bool) → (file : List ℕ) → (line start : ℕ) → Option FirstPlace → List ℕ
+note_line coloured file line start None = []
+note_line coloured file line start (Some f) =
+    if f.spot.start == start then [] else declared_line coloured file line f
 
 -- what helps
-abbrev pub help_line : ℕ → Option (List ℕ) → List ℕ
-help_line line None = []
-help_line line (Some help) = gutter line ++ codes " | help: " ++ help ++ codes "\n"
+abbrev pub help_line : (coloured : Bool) → ℕ → Option (List ℕ) → List ℕ
+help_line coloured line None = []
+help_line coloured line (Some help) =
+    gutter line ++ codes " | " ++ painted coloured cyan (codes "help:") ++ codes " " ++ help ++ codes "\n"
 
 -- `FILE:LINE:COL: CODE NAME: SENTENCE`
 abbrev pub heading : (file text : List ℕ) → FoundFault → List ℕ
-heading file text d = file ++ codes ":" ++ decimal (line_of text d.start) ++ codes ":"
-    ++ decimal (column_of text d.start) ++ codes ": "
+heading file text d = place file (line_of text d.start) (column_of text d.start) ++ codes ": "
 
-abbrev pub headline : (file text : List ℕ) → FoundFault → List ℕ
-headline file text d = heading file text d ++ fault_text d.code ++ codes ": "
-    ++ sentence d.code (slice_range text d.start d.end) ++ codes "\n"
+-- how a file's text is told: with or without colours
+pub record Telling : Type 0 where
+  pub coloured : Bool
+  pub file : List ℕ
+  pub text : List ℕ
 
--- a fault with its line and what helps
-abbrev pub explained : (file text : List ℕ) → FoundFault → List ℕ
-explained file text d =
-    headline file text d
-    ++ source_line (line_of text d.start) (excerpt text d.start (column_of text d.start))
-    ++ caret_line (line_of text d.start) (excerpt text d.start (column_of text d.start)) (d.end - d.start)
-    ++ help_line (line_of text d.start) (saying d.code).help
+abbrev pub word_of : List ℕ → FoundFault → List ℕ
+word_of text d = slice_range text d.start d.end
+
+-- the line that says what is wrong with a word, by where it is declared first
+abbrev pub headline : Telling → FoundFault → Option FirstPlace → List ℕ
+headline t d first = heading t.file t.text d ++ painted t.coloured red (fault_text d.code) ++ codes ": "
+    ++ sentence d.code (kind_of first) (word_of t.text d) ++ codes "\n"
+
+-- that line, the line of the text, and what helps
+abbrev pub line_by : Telling → FoundFault → ℕ
+line_by t d = line_of t.text d.start
+
+abbrev pub excerpt_by : Telling → FoundFault → Excerpt
+excerpt_by t d = excerpt t.text d.start (column_of t.text d.start)
+
+abbrev pub explained : Telling → FoundFault → Option FirstPlace → List ℕ
+explained t d first =
+    headline t d first ++ source_line (line_by t d) (excerpt_by t d)
+    ++ caret_line t.coloured (line_by t d) (excerpt_by t d) (d.end - d.start)
+    ++ note_line t.coloured t.file (line_by t d) d.start first
+    ++ help_line t.coloured (line_by t d) (saying d.code (kind_of first)).help
 
 -- a fault that comes of others: the definition of the word has faults
 abbrev pub is_note : FaultCode → Bool
@@ -84,15 +139,19 @@ is_note (Rule UsesFaulty) = true
 is_note code = false
 
 -- what a pass over the faults says of one
-abbrev pub error_said : (file text : List ℕ) → FoundFault → List ℕ
-error_said file text d = if is_note d.code then [] else explained file text d
+abbrev pub error_said : Telling → FoundFault → Option FirstPlace → List ℕ
+error_said t d first = if is_note d.code then [] else explained t d first
 
-abbrev pub note_said : (file text : List ℕ) → FoundFault → List ℕ
-note_said file text d = if is_note d.code then headline file text d else []
+abbrev pub note_said : Telling → FoundFault → Option FirstPlace → List ℕ
+note_said t d first = if is_note d.code then headline t d first else []
 
-abbrev pub said_in : Pass → (file text : List ℕ) → FoundFault → List ℕ
-said_in Errors file text d = error_said file text d
-said_in Notes file text d = note_said file text d
+abbrev pub said_in : Pass → Telling → FoundFault → Option FirstPlace → List ℕ
+said_in Errors t d first = error_said t d first
+said_in Notes t d first = note_said t d first
+
+-- what it says of one, by the items of the text
+abbrev pub said_by : Pass → Telling → List Item → FoundFault → List ℕ
+said_by pass t items d = said_in pass t d (first_of t.text items d.code (word_of t.text d))
 
 -- `3 errors, 1 note`
 abbrev pub counted : ℕ → List ℕ → List ℕ
@@ -108,20 +167,20 @@ abbrev pub notes_at : List FaultPlace → ℕ
 notes_at places = count_by (λ p. is_note p.code) places
 
 -- the errors of a text, then the notes, and how many there are
-abbrev pub explanation : (file text : List ℕ) → List FaultPlace → (errors notes : List FoundFault) → List ℕ
-explanation file text places errors notes =
-    flat_map (error_said file text) errors ++ flat_map (note_said file text) notes
-    ++ summary (length places - notes_at places) (notes_at places)
+abbrev pub explanation : Telling → List Item → (errors notes : List FoundFault) → List ℕ
+explanation t items errors notes =
+    flat_map (said_by Errors t items) errors ++ flat_map (said_by Notes t items) notes
+    ++ summary (length (places_of items) - notes_at (places_of items)) (notes_at (places_of items))
 
--- the faults at these places of a text are explained so
-pub record AreExplained (file text : List ℕ) (places : List FaultPlace) (said : List ℕ) : Type 0 where
+-- the faults of a text, which has these items, are explained so
+pub record AreExplained (t : Telling) (items : List Item) (said : List ℕ) : Type 0 where
   pub errors : List FoundFault
   pub notes : List FoundFault
-  pub are_found : AreFound text places errors
-  pub are_found_too : AreFound text places notes
-  pub said_is : said ≡ explanation file text places errors notes
+  pub are_found : AreFound t.text (places_of items) errors
+  pub are_found_too : AreFound t.text (places_of items) notes
+  pub said_is : said ≡ explanation t items errors notes
 
 -- a pass added what it says of the faults at these places
-abbrev pub IsPass : Pass → (file text : List ℕ) → List FaultPlace → Inked → Stream → Inked → Stream → Type 0
-IsPass pass file text places p before q after = (found : List FoundFault) × AreFound text places found
-    × Adds p before q after (flat_map (said_in pass file text) found)
+abbrev pub IsPass : Pass → Telling → List Item → List FaultPlace → Inked → Stream → Inked → Stream → Type 0
+IsPass pass t items places p before q after = (found : List FoundFault) × AreFound t.text places found
+    × Adds p before q after (flat_map (said_by pass t items) found)

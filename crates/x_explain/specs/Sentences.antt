@@ -2,6 +2,8 @@
 use Rattle.std.specs.Prelude.{ℕ, false, List, [], ◌++◌, codes, Option, None, Some, option_map}
 use Rattle.std.specs.List.{flat_map}
 use Rattle.std.specs.Option.{option_map_or}
+use Rattle.x_trees.specs.declared.names.declared_name.NameKind.{NameKind}
+use Rattle.x_trees.specs.declared.names.declared_name.NameKind.TheVariants as kinds
 use Rattle.x_item.specs.declared.parsing.fault_code.FaultCode as item
 use Rattle.x_item.specs.declared.parsing.fault_code.FaultCode.TheVariants as items
 use Rattle.x_rules.specs.declared.fault.RuleCode.{RuleCode}
@@ -49,45 +51,77 @@ item_saying items.Directive =
 item_saying items.Unfinished =
     helped (codes "unexpected end of text after '") (codes "'") (codes "a definition ends with ';'")
 
--- of a word that breaks a rule
-abbrev pub rule_saying : RuleCode → Saying
-rule_saying rules.Duplicate = helped (codes "'") (codes "' is declared already")
+-- a name that is no type, or a type of another keyword than the one before it
+abbrev pub not_a_type : (front : List ℕ) → Saying
+not_a_type front =
+    helped front (codes "'") (codes "name a type here; struct, union, enum and typedef declare types")
+
+abbrev pub other_type : (rear help : List ℕ) → Saying
+other_type rear help = helped (codes "'") rear help
+
+abbrev pub not_type_saying : Option NameKind → Saying
+not_type_saying None = not_a_type (codes "expected a type, found '")
+not_type_saying (Some kinds.Constant) = not_a_type (codes "expected a type, found constant '")
+not_type_saying (Some kinds.Program) = not_a_type (codes "expected a type, found program '")
+not_type_saying (Some kinds.Enum) =
+    other_type (codes "' is declared as an enum") (codes "write enum before it, or no keyword")
+not_type_saying (Some kinds.Struct) =
+    other_type (codes "' is declared as a struct") (codes "write struct before it, or no keyword")
+not_type_saying (Some kinds.Union) =
+    other_type (codes "' is declared as a union") (codes "write union before it, or no keyword")
+not_type_saying (Some kinds.Typedef) =
+    other_type (codes "' is declared with typedef") (codes "write no keyword before it")
+
+-- a name that is no constant
+abbrev pub no_constant : (front : List ℕ) → Saying
+no_constant front =
+    helped front (codes "'") (codes "write a number, or the name of a constant or an enumerator")
+
+abbrev pub not_const_saying : Option NameKind → Saying
+not_const_saying (Some kinds.Enum) = no_constant (codes "expected a constant, found enum '")
+not_const_saying (Some kinds.Struct) = no_constant (codes "expected a constant, found struct '")
+not_const_saying (Some kinds.Union) = no_constant (codes "expected a constant, found union '")
+not_const_saying (Some kinds.Typedef) = no_constant (codes "expected a constant, found typedef '")
+not_const_saying (Some kinds.Program) = no_constant (codes "expected a constant, found program '")
+not_const_saying kind = no_constant (codes "expected a constant, found '")
+
+-- of a word that breaks a rule, by what its name is declared as
+abbrev pub rule_saying : RuleCode → Option NameKind → Saying
+rule_saying rules.Duplicate kind = helped (codes "'") (codes "' is declared already")
     (codes "enumerators count too, and so do inline types: field b of struct a declares 'a_b'")
-rule_saying rules.Unknown = helped (codes "undeclared name '") (codes "'")
+rule_saying rules.Unknown kind = helped (codes "undeclared name '") (codes "'")
     (codes "declare it before this definition, or mend its declaration; C's own types are not known")
-rule_saying rules.LateName = helped (codes "'") (codes "' is used before its declaration")
+rule_saying rules.LateName kind = helped (codes "'") (codes "' is used before it is fully declared")
     (codes "declare it first; only a link to a struct or union, as in 'b *x', may come before or within it")
-rule_saying rules.NotType = helped (codes "'") (codes "' is not a type, or not one of this keyword")
-    (codes "name a type, and after struct, union or enum one that was declared with that word")
-rule_saying rules.NotConst = helped (codes "expected a constant, found '") (codes "'")
-    (codes "write a number, or the name of a constant or an enumerator")
-rule_saying rules.Range = helped (codes "the value of '") (codes "' is out of range")
+rule_saying rules.NotType kind = not_type_saying kind
+rule_saying rules.NotConst kind = not_const_saying kind
+rule_saying rules.Range kind = helped (codes "the value of '") (codes "' is out of range")
     (codes "constants: -2^63 to 2^64-1; enumerators: -2^31 to 2^31-1; other numbers: 0 to 2^32-1")
-rule_saying rules.BadSize = helped (codes "invalid size '") (codes "'")
+rule_saying rules.BadSize kind = helped (codes "invalid size '") (codes "'")
     (codes "a size is from 0 to 2^32-1, and that of an array in [ ] at least 1")
-rule_saying rules.VoidPlace = helped (codes "'") (codes "' is not allowed here")
+rule_saying rules.VoidPlace kind = helped (codes "'") (codes "' is not allowed here")
     (codes "void is an arm of a union, the only argument, or a result")
-rule_saying rules.EmptyArray = alone (codes "array size must be at least 1") None
-rule_saying rules.BadDiscriminant =
+rule_saying rules.EmptyArray kind = alone (codes "array size must be at least 1") None
+rule_saying rules.BadDiscriminant kind =
     alone (codes "a discriminant must be a plain int, unsigned int, bool or enum") None
-rule_saying rules.BadCase = about (codes "'") (codes "' is not a value of the discriminant")
-rule_saying rules.RepeatedCase = about (codes "duplicate case '") (codes "'")
-rule_saying rules.RepeatedField = about (codes "duplicate member '") (codes "'")
-rule_saying rules.RepeatedNumber = helped (codes "duplicate number '") (codes "'")
+rule_saying rules.BadCase kind = about (codes "'") (codes "' is not a value of the discriminant")
+rule_saying rules.RepeatedCase kind = about (codes "duplicate case '") (codes "'")
+rule_saying rules.RepeatedField kind = about (codes "duplicate member '") (codes "'")
+rule_saying rules.RepeatedNumber kind = helped (codes "duplicate number '") (codes "'")
     (codes "give each version of a program, and each procedure of a version, its own number")
-rule_saying rules.TooHigh = helped (codes "types are nested too deeply at '") (codes "'")
+rule_saying rules.TooHigh kind = helped (codes "types are nested too deeply at '") (codes "'")
     (codes "at most 32 types may hold one another by value; a link, as in 's *x', ends the chain")
-rule_saying rules.InlineArgument =
+rule_saying rules.InlineArgument kind =
     helped (codes "expected the name of a type or a basic type, found '") (codes "'")
     (codes "declare the type of an argument or a result first, and name it here")
-rule_saying rules.UsesFaulty = about (codes "not checked further, '") (codes "' has faults")
+rule_saying rules.UsesFaulty kind = about (codes "not checked further, '") (codes "' has faults")
 
--- of a word with a fault
-abbrev pub saying : FaultCode → Saying
-saying (Syntax code) = item_saying code
-saying (Rule rule) = rule_saying rule
+-- of a word with a fault, by what its name is declared as
+abbrev pub saying : FaultCode → Option NameKind → Saying
+saying (Syntax code) kind = item_saying code
+saying (Rule rule) kind = rule_saying rule kind
 
 -- the sentence of a fault and its word
-abbrev pub sentence : FaultCode → List ℕ → List ℕ
-sentence code word = (saying code).front
-    ++ option_map_or (λ rear. flat_map (shown_byte false) word ++ rear) (saying code).rear []
+abbrev pub sentence : FaultCode → Option NameKind → List ℕ → List ℕ
+sentence code kind word = (saying code kind).front
+    ++ option_map_or (λ rear. flat_map (shown_byte false) word ++ rear) (saying code kind).rear []

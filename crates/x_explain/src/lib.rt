@@ -1,13 +1,16 @@
 //! Faults as a compiler explains them: in a sentence, with the line of the text and a mark under the word.
 #![tactic(auto)]
 
+mod declared;
 mod excerpt;
 mod explained;
 mod found;
 mod laws;
+mod lines;
 mod sentences;
 mod shown;
 
+pub use declared::{DeclaredNames, FirstPlace, Spot, definitions};
 pub use explained::add_explained_faults;
 pub use found::{FoundFault, found_faults, token_end};
 pub use laws::mark_under_word;

@@ -2,11 +2,12 @@
 
 ghost use Rattle.std.specs.Prelude.{◌≡◌, None, Some, option_map};
 ghost use Rattle.x_text.specs.Writing.{Adds};
-ghost use Rattle.x_explain.specs.Sentences.{about, alone, helped, item_saying, rule_saying, saying, sentence};
-ghost use Rattle.x_explain.specs.Sentences.{view_sentence};
+ghost use Rattle.x_explain.specs.Sentences.{about, alone, helped, item_saying, no_constant, not_a_type};
+ghost use Rattle.x_explain.specs.Sentences.{not_const_saying, not_type_saying, other_type, rule_saying};
+ghost use Rattle.x_explain.specs.Sentences.{saying, sentence, view_sentence};
 
 use crate::shown::add_shown;
-use x_item::FaultCode as ItemCode;
+use x_item::{FaultCode as ItemCode, NameKind};
 use x_session::{FaultCode, RuleCode};
 use x_text::{Pen, Sink};
 
@@ -54,13 +55,13 @@ fn alone(front: &'static str, help: Option<&'static str>) -> Sentence
     }
 }
 
-/// What is said of a word with a fault.
-pub fn sentence_of(code: FaultCode) -> Sentence
-    ensures { view_sentence result ≡ saying code }
+/// What is said of a word with a fault, by what its name is declared as.
+pub fn sentence_of(code: FaultCode, kind: Option<NameKind>) -> Sentence
+    ensures { view_sentence result ≡ saying code kind }
 {
     match code {
         FaultCode::Syntax(code) => item_sentence(code),
-        FaultCode::Rule(rule) => rule_sentence(rule),
+        FaultCode::Rule(rule) => rule_sentence(rule, kind),
     }
 }
 
@@ -97,9 +98,78 @@ fn item_sentence(code: ItemCode) -> Sentence
     }
 }
 
-/// What is said of a word that breaks a rule.
-fn rule_sentence(rule: RuleCode) -> Sentence
-    ensures { view_sentence result ≡ rule_saying rule }
+/// A sentence on a name that is no type.
+fn not_a_type(front: &'static str) -> Sentence
+    ensures { view_sentence result ≡ not_a_type front.now }
+{
+    helped(
+        front,
+        "'",
+        "name a type here; struct, union, enum and typedef declare types",
+    )
+}
+
+/// A sentence on a type of another keyword.
+fn other_type(rear: &'static str, help: &'static str) -> Sentence
+    ensures { view_sentence result ≡ other_type rear.now help.now }
+{
+    helped("'", rear, help)
+}
+
+/// What is said of a name that is no type, or one of another keyword.
+fn not_type_sentence(kind: Option<NameKind>) -> Sentence
+    ensures { view_sentence result ≡ not_type_saying kind }
+{
+    match kind {
+        None => not_a_type("expected a type, found '"),
+        Some(NameKind::Constant) => not_a_type("expected a type, found constant '"),
+        Some(NameKind::Program) => not_a_type("expected a type, found program '"),
+        Some(NameKind::Enum) => other_type(
+            "' is declared as an enum",
+            "write enum before it, or no keyword",
+        ),
+        Some(NameKind::Struct) => other_type(
+            "' is declared as a struct",
+            "write struct before it, or no keyword",
+        ),
+        Some(NameKind::Union) => other_type(
+            "' is declared as a union",
+            "write union before it, or no keyword",
+        ),
+        Some(NameKind::Typedef) => {
+            other_type("' is declared with typedef", "write no keyword before it")
+        }
+    }
+}
+
+/// A sentence on a name that is no constant.
+fn no_constant(front: &'static str) -> Sentence
+    ensures { view_sentence result ≡ no_constant front.now }
+{
+    helped(
+        front,
+        "'",
+        "write a number, or the name of a constant or an enumerator",
+    )
+}
+
+/// What is said of a name that is no constant.
+fn not_const_sentence(kind: Option<NameKind>) -> Sentence
+    ensures { view_sentence result ≡ not_const_saying kind }
+{
+    match kind {
+        Some(NameKind::Enum) => no_constant("expected a constant, found enum '"),
+        Some(NameKind::Struct) => no_constant("expected a constant, found struct '"),
+        Some(NameKind::Union) => no_constant("expected a constant, found union '"),
+        Some(NameKind::Typedef) => no_constant("expected a constant, found typedef '"),
+        Some(NameKind::Program) => no_constant("expected a constant, found program '"),
+        Some(NameKind::Constant) | None => no_constant("expected a constant, found '"),
+    }
+}
+
+/// What is said of a word that breaks a rule, by what its name is declared as.
+fn rule_sentence(rule: RuleCode, kind: Option<NameKind>) -> Sentence
+    ensures { view_sentence result ≡ rule_saying rule kind }
 {
     match rule {
         RuleCode::Duplicate => helped(
@@ -114,19 +184,11 @@ fn rule_sentence(rule: RuleCode) -> Sentence
         ),
         RuleCode::LateName => helped(
             "'",
-            "' is used before its declaration",
+            "' is used before it is fully declared",
             "declare it first; only a link to a struct or union, as in 'b *x', may come before or within it",
         ),
-        RuleCode::NotType => helped(
-            "'",
-            "' is not a type, or not one of this keyword",
-            "name a type, and after struct, union or enum one that was declared with that word",
-        ),
-        RuleCode::NotConst => helped(
-            "expected a constant, found '",
-            "'",
-            "write a number, or the name of a constant or an enumerator",
-        ),
+        RuleCode::NotType => not_type_sentence(kind),
+        RuleCode::NotConst => not_const_sentence(kind),
         RuleCode::Range => helped(
             "the value of '",
             "' is out of range",
@@ -169,11 +231,17 @@ fn rule_sentence(rule: RuleCode) -> Sentence
     }
 }
 
-/// Adds the sentence of a fault and its word.
-pub(crate) fn add_sentence<S: Sink>(code: FaultCode, word: &[u8], pen: &mut Pen, sink: &mut S)
-    ensures { Adds pen.old (S.state sink.old) pen.new (S.state sink.new) (sentence code word.now) }
+/// Adds the sentence of a fault and its word, by what that is declared as.
+pub(crate) fn add_sentence<S: Sink>(
+    code: FaultCode,
+    kind: Option<NameKind>,
+    word: &[u8],
+    pen: &mut Pen,
+    sink: &mut S,
+)
+    ensures { Adds pen.old (S.state sink.old) pen.new (S.state sink.new) (sentence code kind word.now) }
 {
-    let sentence = sentence_of(code);
+    let sentence = sentence_of(code, kind);
     pen.add(sentence.front.as_bytes(), sink);
     if let Some(rear) = sentence.rear {
         add_shown(word, false, pen, sink);

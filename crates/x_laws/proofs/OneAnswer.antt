@@ -7,12 +7,12 @@ use Rattle.x_schema.specs.declared.schema.TypeId.{TypeId}
 use Rattle.x_value.proofs.OneReading.{not_both, one_refusal}
 use Rattle.x_value.proofs.OneReading as reading
 use Rattle.x_value.specs.FaultTexts.{fault_line}
-use Rattle.x_session.specs.Answers.{Answer, answered, refused}
-use Rattle.x_session.specs.Commands.{dump_asked}
+use Rattle.x_script.specs.Answers.{Answer, answered, refused}
+use Rattle.x_script.specs.Commands.{dump_asked}
 use Rattle.x_compile.specs.Compile.{Item, definitions_of, faults_of}
-use Rattle.x_session.specs.LineAnswers.{IsLineAnswer, within, shows, too_long}
-use Rattle.x_session.specs.Script.{AreAnswered, then_answer}
-use Rattle.x_session.specs.Showing.{IsDumpAnswer, IsMessageAnswer, IsTypedAnswer, shown, stuck, no_type, typed, faulty, faultless, value_answer}
+use Rattle.x_script.specs.LineAnswers.{IsLineAnswer, within, shows, too_long}
+use Rattle.x_script.specs.Script.{AreAnswered, then_answer}
+use Rattle.x_script.specs.Showing.{IsDumpAnswer, IsMessageAnswer, IsTypedAnswer, shown, stuck, no_type, typed, faulty, faultless, value_answer}
 use Rattle.x_compile.proofs.Compiled.{one_compilation}
 use Rattle.x_laws.specs.Showing.{ShowsAlike}
 use Rattle.x_laws.proofs.OneShowing.{types_show}

@@ -16,8 +16,10 @@ use Rattle.x_names.specs.declared.names.Declarer.{Declarer}
 use Rattle.x_item.specs.Parse.{IsParse, Parse}
 use Rattle.x_compile.specs.Compile.{Item, AreParses, definitions_of, parsed_definition}
 use Rattle.x_lsp.specs.declared.questions.name_places.Standing.TheVariants.{Uses}
-use Rattle.x_lsp.specs.NamePlaces.{NamePlace, declared_on, first_of, is_use, mentioned_on, name_on, names_by, names_of, names_on, standing_of, tokens_where, word_at, words_in}
-use Rattle.x_lsp.proofs.NamePlaceLemmas.{short_definition, where_append}
+use Rattle.x_lsp.specs.NamePlaces.{NamePlace, declared_on, first_of, is_use, mentioned_on, name_on, names_by, names_of, names_on, standing_of, tokens_where}
+use Rattle.x_explain.specs.DeclaredNames.{word_at, words_in}
+use Rattle.x_explain.proofs.ItemsLeft.{short_definition}
+use Rattle.x_lsp.proofs.NamePlaceLemmas.{where_append}
 
 -- ---- the words that declare names
 

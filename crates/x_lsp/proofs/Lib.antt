@@ -2,7 +2,6 @@ pub mod Choices
 pub mod DeclarerLemmas
 pub mod DiagnosticLemmas
 pub mod FrameLemmas
-pub mod ItemsLeft
 pub mod JsonLemmas
 pub mod LineLemmas
 pub mod ListLemmas

@@ -18,8 +18,9 @@ use Rattle.x_compile.specs.Compile.{Item, IsCompilation, definition_at, parsed_d
 use Rattle.x_compile.proofs.Compiled.{one_compilation}
 use Rattle.x_session.specs.Session.{Compiles}
 use Rattle.x_lsp.specs.declared.questions.name_places.Standing.{Standing}
-use Rattle.x_lsp.specs.NamePlaces.{NamePlace, declared_on, mentioned_on, name_on, names_by, names_of, tokens_where, words_in}
-use Rattle.x_lsp.proofs.ItemsLeft.{AreLeft, item_at, next_item_is}
+use Rattle.x_explain.specs.DeclaredNames.{words_in}
+use Rattle.x_explain.proofs.ItemsLeft.{AreLeft, all_left, item_at, next_item_is, none_left}
+use Rattle.x_lsp.specs.NamePlaces.{NamePlace, declared_on, mentioned_on, name_on, names_by, names_of, tokens_where}
 
 -- ---- lists of names
 
@@ -45,10 +46,6 @@ pub record HasFound (text : List ℕ) (test : NamePlace → Bool) (n : ℕ) (wal
   pub compiles : IsCompilation text tokens items
   pub left : AreLeft walk (map (λ i. i.tokens) (drop n items))
   pub found_is : found ++ tokens_where test (names_of (drop n items)) ≡ tokens_where test (names_of items)
-
-pub all_left : (all walk : List Lexeme) (parts : List (List Lexeme)) → AreItems all parts → walk ≡ all → AreLeft walk parts
-all_left all walk [] h is = tt
-all_left all walk (p ∷ ps) h is = subst (λ l. AreItems l (p ∷ ps)) (sym is) h
 
 pub found_none : (text : List ℕ) (test : NamePlace → Bool) (walk : List Lexeme) → Compiles text (λ items. walk ≡ tokens_of items) → HasFound text test 0 walk []
 found_none text test walk c = record {
@@ -85,12 +82,6 @@ found_item text test n m count whole walk walk' part found found' o step lt many
           (where_over test (λ i. names_by i.tokens (parsed_definition i.parse)) at.item (drop n had.items) rest at.here) had.found_is;
     }
 
-pub none_left : (items : List Item) (n : ℕ) → length items ≤ n → drop n items ≡ []
-none_left [] zero le = refl
-none_left [] (suc n) le = refl
-none_left (i ∷ is) zero le = absurd (omega arith)
-none_left (i ∷ is) (suc n) le = none_left is n (omega arith)
-
 -- all is found
 pub found_all : (text : List ℕ) (test : NamePlace → Bool) (n count : ℕ) (walk found : List Lexeme) → count ≤ n → Compiles text (λ items. count ≡ length items) → HasFound text test n walk found
     → Compiles text (λ items. found ≡ tokens_where test (names_of items))
@@ -109,14 +100,6 @@ found_all text test n count walk found le many had =
 -- one without a definition has none
 pub names_without : (test : NamePlace → Bool) (part : List Lexeme) (o : Option Definition) → o ≡ None → [] ≡ tokens_where test (names_by part o)
 names_without test part o none = ap (λ d. tokens_where test (names_by part d)) (sym none)
-
--- the words of a definition are as many as fit
-pub short_definition : (part : List Lexeme) (p : Parse) (d : Definition) (n : ℕ) → IsParse part p → Some d ≡ parsed_definition p → length (words_in part) ≡ n → length (spell d) ≡ n
-short_definition part Nothing d n parsed is long = absurd (cc)
-short_definition part (Def e) d n parsed is long =
-    let same : d ≡ e = cc in
-    ap length (ap spell same ∙ parsed.1) ∙ length-map (words_in part) word_of ∙ long
-short_definition part (Fault token code) d n parsed is long = absurd (cc)
 
 -- ---- words
 

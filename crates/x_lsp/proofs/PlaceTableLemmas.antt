@@ -1,204 +1,20 @@
--- Where the names of a text are declared first.
-use Rattle.std.proofs.Common.{Bor, ◌≡◌, ℕ, zero, suc, ◌+◌, ◌<◌, ◌≤◌, ◌^◌, Bool, true, false, cond, Option, None, Some, get_or, length, drop, arith, List, [], ◌∷◌, ◌++◌, map, refl, sym, subst, ap, ◌∙◌}
-use Rattle.std.specs.Prelude.{◌&&◌, option_and_then, option_map, slice_get, IfSome, MatchOption}
-use Rattle.std.specs.Option.{option_copied}
-use Rattle.std.proofs.lemmas.List.{append-nil, length-append}
-use Rattle.std.proofs.lemmas.List.Sums.{length-filter, count_by-le-length}
-use Rattle.std.proofs.lemmas.Option.{slice_get-map, slice_get_read}
+-- What is told beside a fault.
+use Rattle.std.proofs.Common.{◌≡◌, ℕ, Bool, true, false, cond, Option, None, Some, List, refl, sym, subst, ap, ◌∙◌}
+use Rattle.std.specs.Prelude.{◌&&◌, option_and_then, option_map}
 use Rattle.x_lex.specs.declared.kind.Kind.{Kind}
-use Rattle.x_lex.specs.declared.tokens.token.Token.{Token}
-use Rattle.x_lex.specs.Places.{Lexeme, lexeme}
-use Rattle.x_cutting.specs.Items.{AreItems, IsNext}
-use Rattle.x_trees.specs.Words.{is_significant}
-use Rattle.x_trees.specs.Spell.{spell}
-use Rattle.x_trees.specs.Tree.{Definition}
-use Rattle.x_names.specs.Declarers.{AreShort, FirstIs, first_declarer}
-use Rattle.x_names.specs.DeclarerTable.{first_in}
+use Rattle.x_lex.specs.Places.{Lexeme}
+use Rattle.x_names.specs.Declarers.{first_declarer}
 use Rattle.x_names.specs.declared.names.Declarer.{Declarer}
-use Rattle.x_names.proofs.DeclarerLaws.{as_found}
-use Rattle.x_compile.specs.Compile.{AreParses, IsCompilation, Item, definition_at, definitions_of, parsed_definition, tokens_of}
-use Rattle.x_compile.proofs.Compiled.{one_compilation}
+use Rattle.x_compile.specs.Compile.{IsCompilation, Item, definitions_of}
+use Rattle.x_compile.specs.declared.fault.FaultCode.{FaultCode}
 use Rattle.x_session.specs.Session.{Compiles}
-use Rattle.x_lsp.specs.declared.declared_places.DeclaredPlaces.{DeclaredPlaces}
+use Rattle.x_explain.specs.declared.declared.DeclaredNames.{DeclaredNames}
+use Rattle.x_explain.specs.declared.declared.FirstPlace.{FirstPlace}
+use Rattle.x_explain.specs.DeclaredNames.{IsTableOf, declared_at, definition_of, first_place, first_place_by, spot_at, word_at}
+use Rattle.x_explain.proofs.DeclaredLemmas.{of_each}
 use Rattle.x_lsp.specs.declared.changes.Range.{Range}
 use Rattle.x_lsp.specs.declared.encoding.Encoding.{Encoding}
-use Rattle.x_compile.specs.declared.fault.FaultCode.{FaultCode}
-use Rattle.x_lsp.specs.DeclaredPlaces.{IsTableOf, word_starts}
 use Rattle.x_lsp.specs.Diagnostics.{IsRangeAt, declared_elsewhere, is_of_declarer, other_place}
-use Rattle.x_lsp.specs.NamePlaces.{definition_of, word_at, words_in}
-use Rattle.x_lsp.proofs.ItemsLeft.{AreLeft, item_at, next_item_is}
-use Rattle.x_lsp.proofs.NamePlaceLemmas.{all_left, none_left, short_definition}
-
--- what holds of one compilation holds of each
-pub of_each : {P : List Item → Type 0} (text : List ℕ) → Compiles text P → (tokens : List (Kind × ℕ)) (items : List Item) → IsCompilation text tokens items → P items
-of_each {P = P} text h tokens items is = subst P (one_compilation text h.0 tokens h.1 items h.2 is).1 h.3
-
--- ---- where a name is declared first
-
-word_found : (o : Option Item) (word : ℕ) (words : List ℕ) → option_map word_starts o ≡ Some words
-    → slice_get words word ≡ option_map (λ (t : Lexeme). t.start) (option_and_then (λ (i : Item). slice_get (words_in i.tokens) word) o)
-word_found None word words is = absurd (cc)
-word_found (Some i) word words is =
-    let same : word_starts i ≡ words = cc in
-    ap (λ l. slice_get l word) (sym same) ∙ slice_get-map (λ (t : Lexeme). t.start) (words_in i.tokens) word
-
-pub place_found : (items : List Item) (table : DeclaredPlaces) (name : List ℕ) (d : Declarer) (words : List ℕ) (r : Option ℕ) → IsTableOf items table → Some d ≡ first_in table.names name
-    → Some words ≡ slice_get (map (λ v. v.items) table.words.items) d.item → r ≡ slice_get words d.word → r ≡ option_map (λ (t : Lexeme). t.start) (definition_of items name)
-place_found items table name d words r h first found is =
-    let there : option_map word_starts (slice_get items d.item) ≡ Some words =
-    sym (slice_get-map word_starts items d.item) ∙ ap (λ l. slice_get l d.item) (sym h.words) ∙ sym found in
-    is ∙ word_found (slice_get items d.item) d.word words there
-    ∙ ap (λ o. option_map (λ (t : Lexeme). t.start) (option_and_then (word_at items) o)) (first ∙ h.names name)
-
-none_at : (xs : List ℕ) (k : ℕ) → length xs ≤ k → None ≡ slice_get xs k
-none_at [] zero le = refl
-none_at [] (suc k) le = refl
-none_at (x ∷ xs) zero le = absurd (omega arith)
-none_at (x ∷ xs) (suc k) le = none_at xs k (omega arith)
-
--- what is got of a list
-pub got : (o : Option (Bor ℕ)) (xs ys : List ℕ) (k : ℕ) → ys ≡ xs → IfSome o (λ x. x.now ≡ get_or ys k x.now) → MatchOption o (length ys ≤ k) (λ x. k < length ys) → option_copied o ≡ slice_get xs k
-got None xs ys k is one at = none_at ys k at ∙ ap (λ l. slice_get l k) is
-got (Some x) xs ys k is one at = sym (slice_get_read ys (length ys) k x.now refl at one) ∙ ap (λ l. slice_get l k) is
-
-pub looked_up : (o : Option (Bor ℕ)) (n k : ℕ) (P : Bor ℕ → Type 0) → MatchOption o (n ≤ k) (λ x. (k < n) × P x) → MatchOption o (n ≤ k) (λ x. k < n)
-looked_up None n k P h = h
-looked_up (Some x) n k P h = h.0
-
-pub got_list : {X : Type 0} (lists : X → List ℕ) (xs ys : List X) (k : ℕ) (x : X) → ys ≡ xs → k < length ys → x ≡ get_or ys k x → Some (lists x) ≡ slice_get (map lists xs) k
-got_list lists xs ys k x is lt one =
-    sym (slice_get-map lists xs k ∙ ap (λ l. option_map lists (slice_get l k)) (sym is) ∙ ap (option_map lists) (slice_get_read ys (length ys) k x refl lt one))
-
--- ---- item by item
-
--- what is told of the items before one
-pub record HasTold {X : Type 0} (told : Item → X) (text : List ℕ) (n : ℕ) (found : List X) : Type 0 where
-  pub tokens : List (Kind × ℕ)
-  pub items : List Item
-  pub compiles : IsCompilation text tokens items
-  pub found_is : found ++ map told (drop n items) ≡ map told items
-
-pub told_none : {X : Type 0} {P : List Item → Type 0} (told : Item → X) (text : List ℕ) → Compiles text P → HasTold told text 0 []
-told_none told text c = record { tokens = c.0; items = c.1; compiles = c.2; found_is = refl }
-
-pub told_all : {X : Type 0} (told : Item → X) (text : List ℕ) (n count : ℕ) (found : List X) → count ≤ n → Compiles text (λ items. count ≡ length items) → HasTold told text n found
-    → Compiles text (λ items. found ≡ map told items)
-told_all told text n count found le many had =
-    let count_is = of_each text many had.tokens had.items had.compiles in
-    let none = none_left had.items n (omega (arith, le, count_is)) in
-    (had.tokens, had.items, had.compiles, sym (append-nil found) ∙ ap (λ is. found ++ map told is) (sym none) ∙ had.found_is)
-
--- one more
-pub told_more : {X : Type 0} (told : Item → X) (text : List ℕ) (n m count : ℕ) (found : List X) (x : X) → m ≡ n + 1 → n < count → Compiles text (λ items. count ≡ length items) → HasTold told text n found
-    → ((tokens : List (Kind × ℕ)) (items : List Item) (i : Item) → IsCompilation text tokens items → drop n items ≡ i ∷ drop (suc n) items → definition_at items n ≡ parsed_definition i.parse → x ≡ told i)
-    → HasTold told text m (found ++ x ∷ [])
-told_more told text n m count found x step lt many had is =
-    let count_is = of_each text many had.tokens had.items had.compiles in
-    let at = item_at had.items n (omega (arith, lt, count_is)) had.compiles.are_parses in
-    let suc_is : suc n ≡ m = omega (arith, step) in
-    let one = is had.tokens had.items at.item had.compiles at.here at.definition in
-    subst (λ k. HasTold told text k (found ++ x ∷ [])) suc_is record {
-      tokens = had.tokens;
-      items = had.items;
-      compiles = had.compiles;
-      found_is = moved found x (told at.item) (map told (drop (suc n) had.items)) one ∙ ap (λ l. found ++ map told l) (sym at.here) ∙ had.found_is;
-    }
-  where
-    moved : {X : Type 0} (found : List X) (x y : X) (rest : List X) → x ≡ y → (found ++ x ∷ []) ++ rest ≡ found ++ y ∷ rest
-    moved [] x y rest is = ap (λ z. z ∷ rest) is
-    moved (f ∷ found) x y rest is = ap (λ l. f ∷ l) (moved found x y rest is)
-
--- ---- words
-
-pub record HasWords (text : List ℕ) (n : ℕ) (walk : List Lexeme) (found : List (List ℕ)) : Type 0 where
-  pub told : HasTold word_starts text n found
-  pub left : AreLeft walk (map (λ i. i.tokens) (drop n told.items))
-
-pub words_none : (text : List ℕ) (walk : List Lexeme) → Compiles text (λ items. walk ≡ tokens_of items) → HasWords text 0 walk []
-words_none text walk c = record {
-  told = record { tokens = c.0; items = c.1; compiles = c.2; found_is = refl };
-  left = all_left (tokens_of c.1) walk (map (λ i. i.tokens) c.1) (subst (λ l. AreItems l (map (λ i. i.tokens) c.1)) (sym c.2.are_items.all) c.2.are_items) c.3;
-}
-
-pub words_more : (text : List ℕ) (n m count : ℕ) (whole : Bool) (walk walk' part : List Lexeme) (found : List (List ℕ)) (x : List ℕ) → m ≡ n + 1 → n < count → Compiles text (λ items. count ≡ length items)
-    → HasWords text n walk found → IsNext whole walk part walk' → x ≡ map (λ (t : Lexeme). t.start) (words_in part) → HasWords text m walk' (found ++ x ∷ [])
-words_more text n m count whole walk walk' part found x step lt many had next is =
-    let h = had.told in
-    let count_is = of_each text many h.tokens h.items h.compiles in
-    let at = item_at h.items n (omega (arith, lt, count_is)) h.compiles.are_parses in
-    let rest = drop (suc n) h.items in
-    let here : map (λ i. i.tokens) (drop n h.items) ≡ at.item.tokens ∷ map (λ i. i.tokens) rest = ap (map (λ i. i.tokens)) at.here in
-    let left = next_item_is whole walk part walk' at.item.tokens (map (λ i. i.tokens) rest) (subst (AreLeft walk) here had.left) next in
-    let one : x ≡ word_starts at.item = is ∙ ap (λ ts. map (λ (t : Lexeme). t.start) (words_in ts)) left.0 in
-    let suc_is : suc n ≡ m = omega (arith, step) in
-    subst (λ k. HasWords text k walk' (found ++ x ∷ [])) suc_is record {
-      told = record {
-        tokens = h.tokens;
-        items = h.items;
-        compiles = h.compiles;
-        found_is = moved found x (word_starts at.item) (map word_starts rest) one ∙ ap (λ l. found ++ map word_starts l) (sym at.here) ∙ h.found_is;
-      };
-      left = left.1;
-    }
-  where
-    moved : {X : Type 0} (found : List X) (x y : X) (rest : List X) → x ≡ y → (found ++ x ∷ []) ++ rest ≡ found ++ y ∷ rest
-    moved [] x y rest is = ap (λ z. z ∷ rest) is
-    moved (f ∷ found) x y rest is = ap (λ l. f ∷ l) (moved found x y rest is)
-
--- ---- where words start
-
-kept_start : (b : Bool) (t : Lexeme) (l : List Lexeme) → map (λ (t : Lexeme). t.start) (cond b (t ∷ l) l) ≡ cond b (t.start ∷ map (λ (t : Lexeme). t.start) l) (map (λ (t : Lexeme). t.start) l)
-kept_start true t l = refl
-kept_start false t l = refl
-
-abbrev pub starts_in : List Token → List ℕ
-starts_in tokens = map (λ (t : Lexeme). t.start) (words_in (map lexeme tokens))
-
--- a word more, or none
-pub start_of_word : (t : Token) (rest : List Token) → is_significant t.kind ≡ true → starts_in (t ∷ rest) ≡ t.start ∷ starts_in rest
-start_of_word t rest is = kept_start (is_significant t.kind) (lexeme t) (words_in (map lexeme rest)) ∙ ap (λ b. cond b (t.start ∷ starts_in rest) (starts_in rest)) is
-
-pub start_of_none : (t : Token) (rest : List Token) → is_significant t.kind ≡ false → starts_in (t ∷ rest) ≡ starts_in rest
-start_of_none t rest is = kept_start (is_significant t.kind) (lexeme t) (words_in (map lexeme rest)) ∙ ap (λ b. cond b (t.start ∷ starts_in rest) (starts_in rest)) is
-
--- ---- first declarers
-
-fewer : (tokens : List Lexeme) → length (words_in tokens) ≤ length tokens
-fewer tokens =
-    let kept = length-filter (λ t. is_significant t.kind) tokens in
-    let most = count_by-le-length (λ t. is_significant t.kind) tokens in
-    omega (arith, kept, most)
-
-short_each : (items : List Item) (index : ℕ) (d : Definition) (n : ℕ) → AreParses items → length (tokens_of items) ≤ n → n < 2 ^ 64 → slice_get (definitions_of items) index ≡ Some (Some d) → length (spell d) < 2 ^ 64
-short_each [] index d n are le few is = absurd (cc)
-short_each (i ∷ items) zero d n are le few is =
-    let def : Some d ≡ parsed_definition i.parse = cc in
-    let long = short_definition i.tokens i.parse d (length (words_in i.tokens)) are.0 def refl in
-    let less = fewer i.tokens in
-    let l = length-append i.tokens (tokens_of items) in
-    omega (arith, long, less, l, le, few)
-short_each (i ∷ items) (suc index) d n are le few is =
-    let l = length-append i.tokens (tokens_of items) in
-    short_each items index d n are.1 (omega (arith, l, le)) few is
-
--- a table of names has the first declarers
-pub names_found : (text : List ℕ) (definitions : List (Option Definition)) (table : List (List ℕ × Declarer)) (count : ℕ) → count < 2 ^ 64 → Compiles text (λ items. count ≡ length (tokens_of items))
-    → Compiles text (λ items. definitions ≡ definitions_of items) → (AreShort definitions → (name : List ℕ) → FirstIs definitions name (first_in table name))
-    → Compiles text (λ items. (name : List ℕ) → first_in table name ≡ first_declarer (definitions_of items) name)
-names_found text definitions table count few tokens are first =
-    let many = of_each text tokens are.0 are.1 are.2 in
-    let le : length (tokens_of are.1) ≤ count = omega (arith, many) in
-    let short : AreShort definitions = subst AreShort (sym are.3) (λ index d is. short_each are.1 index d count are.2.are_parses le few is) in (
-      are.0,
-      are.1,
-      are.2,
-      λ name. as_found definitions name (first_in table name) (first short name) ∙ ap (λ ds. first_declarer ds name) are.3,
-    )
-
--- both are of one compilation
-pub table_found : (text : List ℕ) (table : DeclaredPlaces) → Compiles text (λ items. map (λ v. v.items) table.words.items ≡ map word_starts items)
-    → Compiles text (λ items. (name : List ℕ) → first_in table.names name ≡ first_declarer (definitions_of items) name) → Compiles text (λ items. IsTableOf items table)
-table_found text table words names = (names.0, names.1, names.2, record { words = of_each text words names.0 names.1 names.2; names = names.3 })
 
 -- ---- beside a fault
 
@@ -208,9 +24,23 @@ chosen true false o p q = absurd (cc)
 chosen false b o p q = absurd (cc)
 
 -- what is found of a text is told beside a fault
-pub is_beside : (e : Encoding) (text : List ℕ) (shown : Bool) (code : FaultCode) (word : List ℕ) (start : ℕ) (table : DeclaredPlaces) (found : Option Range) → shown ≡ true → is_of_declarer code ≡ true
-    → Compiles text (λ items. IsTableOf items table) → ((items : List Item) → IsTableOf items table → IsRangeAt e text (declared_elsewhere items word start) found)
+pub is_beside : (e : Encoding) (text : List ℕ) (shown : Bool) (code : FaultCode) (word : List ℕ) (start : ℕ) (table : DeclaredNames) (found : Option Range) → shown ≡ true → is_of_declarer code ≡ true
+    → Compiles text (λ items. IsTableOf text items table) → ((items : List Item) → IsTableOf text items table → IsRangeAt e text (declared_elsewhere items word start) found)
     → (tokens : List (Kind × ℕ)) (items : List Item) → IsCompilation text tokens items → IsRangeAt e text (other_place shown items code word start) found
 is_beside e text shown code word start table found is_shown declares made range tokens items is =
     let there = range items (of_each text made tokens items is) in
     subst (λ o. IsRangeAt e text o found) (sym (chosen shown (is_of_declarer code) (declared_elsewhere items word start) is_shown declares)) there
+
+-- where a name is declared first is where the token is that declares it
+start_by : (text : List ℕ) (d : Declarer) (o : Option Lexeme) → option_map (λ (f : FirstPlace). f.spot.start) (option_map (λ (t : Lexeme). declared_at d (spot_at text t.start)) o) ≡ option_map (λ (t : Lexeme). t.start) o
+start_by text d None = refl
+start_by text d (Some t) = refl
+
+start_of : (text : List ℕ) (items : List Item) (o : Option Declarer) → option_map (λ (f : FirstPlace). f.spot.start) (option_and_then (first_place_by text items) o)
+    ≡ option_map (λ (t : Lexeme). t.start) (option_and_then (word_at items) o)
+start_of text items None = refl
+start_of text items (Some d) = start_by text d (word_at items d)
+
+pub start_found : (text : List ℕ) (items : List Item) (name : List ℕ) (r : Option FirstPlace) → r ≡ first_place text items name
+    → option_map (λ (f : FirstPlace). f.spot.start) r ≡ option_map (λ (t : Lexeme). t.start) (definition_of items name)
+start_found text items name r is = ap (option_map (λ (f : FirstPlace). f.spot.start)) is ∙ start_of text items (first_declarer (definitions_of items) name)

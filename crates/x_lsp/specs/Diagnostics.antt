@@ -16,6 +16,7 @@ use Rattle.x_rules.specs.declared.fault.RuleCode.TheVariants.{UsesFaulty}
 use Rattle.x_compile.specs.Compile.{Item, places_of}
 use Rattle.x_compile.specs.Faults.{fault_text}
 use Rattle.x_session.specs.Session.{Compiles}
+use Rattle.x_explain.specs.DeclaredNames.{definition_of}
 use Rattle.x_explain.specs.Found.{IsEndOfToken}
 use Rattle.x_lsp.specs.declared.changes.Range.{Range}
 use Rattle.x_lsp.specs.declared.client.Client.{Client}
@@ -23,7 +24,6 @@ use Rattle.x_lsp.specs.declared.encoding.Encoding.{Encoding}
 use Rattle.x_lsp.specs.declared.positions.Position.{Position}
 use Rattle.x_lsp.specs.Answers.{note_data}
 use Rattle.x_lsp.specs.Framing.{number_of}
-use Rattle.x_lsp.specs.NamePlaces.{definition_of}
 use Rattle.x_lsp.specs.Positions.{position_of}
 
 -- a position, and a range, as LSP writes them

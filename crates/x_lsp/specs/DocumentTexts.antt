@@ -3,7 +3,7 @@ use Rattle.std.specs.Prelude.{ℕ, List}
 use Rattle.std.specs.List.{flat_map}
 use Rattle.x_compile.specs.Compile.{Item, faults_of}
 use Rattle.x_compile.specs.Generated.{text_of}
-use Rattle.x_session.specs.Answers.{fault_line}
+use Rattle.x_session.specs.FaultLines.{fault_line}
 use Rattle.x_session.specs.Session.{Document}
 use Rattle.x_lsp.specs.declared.params.Wanted.{Wanted}
 use Rattle.x_lsp.specs.declared.params.Wanted.TheVariants.{Generated, Faults}

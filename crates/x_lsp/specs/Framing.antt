@@ -7,7 +7,7 @@ use Rattle.std.specs.Str.Parse.{digits_value}
 use Rattle.std.specs.Io.KnownBytes.{Consumes, IsAtEnd}
 use Rattle.httparse.specs.Grammar.{Field, LineEnd, ReadsSection, print_section}
 use Rattle.httparse.specs.Spans.{name_and_value}
-use Rattle.x_session.specs.Commands.{is_number}
+use Rattle.x_session.specs.Numbers.{is_number}
 use Rattle.x_lsp.specs.declared.framing.FrameFault.{FrameFault}
 use Rattle.x_lsp.specs.declared.framing.FrameFault.TheVariants.{Read, Bad, NoMemory}
 use Rattle.x_lsp.specs.declared.framing.FrameFound.{FrameFound}

@@ -1,6 +1,5 @@
 pub mod Answers
 pub mod Changes
-pub mod DeclaredPlaces
 pub mod Diagnostics
 pub mod DocumentTexts
 pub mod Documents
@@ -12,6 +11,7 @@ pub mod LineStarts
 pub mod Lives
 pub mod Messages
 pub mod NamePlaces
+pub mod OtherPlaces
 pub mod PassedLines
 pub mod Positions
 pub mod Published

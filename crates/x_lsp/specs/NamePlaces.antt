@@ -1,16 +1,14 @@
 -- Where names stand in a text: each is declared there, or used.
 use Rattle.std.specs.Prelude.{◌&&◌, ◌||◌, ℕ, Bool, true, false, nat_le, List, [], ◌∷◌, ◌++◌, map}
-use Rattle.std.specs.Prelude.{Option, None, Some, option_and_then, option_map, slice_get, if◌then◌else◌}
+use Rattle.std.specs.Prelude.{Option, None, Some, option_map, slice_get, if◌then◌else◌}
 use Rattle.std.specs.List.{filter, flat_map}
 use Rattle.std.specs.Str.{bytes_eq}
 use Rattle.x_lex.specs.Places.{Lexeme}
-use Rattle.x_trees.specs.Words.{is_significant}
 use Rattle.x_trees.specs.Tree.{Definition}
 use Rattle.x_trees.specs.Names.{Declared, declared}
 use Rattle.x_trees.specs.Mentions.{Mention, mentioned}
-use Rattle.x_names.specs.Declarers.{first_declarer}
-use Rattle.x_names.specs.declared.names.Declarer.{Declarer}
-use Rattle.x_compile.specs.Compile.{Item, definitions_of, parsed_definition}
+use Rattle.x_compile.specs.Compile.{Item, parsed_definition}
+use Rattle.x_explain.specs.DeclaredNames.{words_in}
 use Rattle.x_lsp.specs.declared.questions.name_places.Standing.{Standing}
 use Rattle.x_lsp.specs.declared.questions.name_places.Standing.TheVariants.{Declares, Lifts, Uses}
 
@@ -19,10 +17,6 @@ pub record NamePlace : Type 0 where
   pub name : List ℕ
   pub token : Lexeme
   pub standing : Standing
-
--- the words of an item: its tokens that count
-abbrev pub words_in : List Lexeme → List Lexeme
-words_in tokens = filter (λ t. is_significant t.kind) tokens
 
 -- the name at a token, where there is one
 abbrev pub name_on : Option Lexeme → List ℕ → Standing → List NamePlace
@@ -85,14 +79,6 @@ name_at items at =
 abbrev pub uses_of : List Item → Bool → List ℕ → List Lexeme
 uses_of items declared name =
     tokens_where (λ n. bytes_eq name n.name && (declared || is_use n.standing)) (names_of items)
-
--- the token of a word of the item at an index
-abbrev pub word_at : List Item → Declarer → Option Lexeme
-word_at items d = option_and_then (λ i. slice_get (words_in i.tokens) d.word) (slice_get items d.item)
-
--- the token that declares a name first
-abbrev pub definition_of : List Item → List ℕ → Option Lexeme
-definition_of items name = option_and_then (word_at items) (first_declarer (definitions_of items) name)
 
 -- the tokens that use the name at a place
 abbrev pub references_of : List Item → Bool → Option (List ℕ) → List Lexeme

@@ -94,7 +94,8 @@ fn diagnostics<'d>(
         let word = word_at(text, start, fault.end);
         let other = others.range(alloc, fault.code, word, start)?;
         let related = place_of(uri, other);
-        let message = messages.next(alloc, fault.code, word)?;
+        let kind = others.kind(alloc, fault.code, word)?;
+        let message = messages.next(alloc, fault.code, kind, word)?;
         list.push(Diagnostic {
             message,
             range,

@@ -12,6 +12,7 @@ use memchr::memchr;
 use std::alloc::{AllocError, Global};
 use std::str;
 use x_explain::{Sentence, escape_of, sentence_of};
+use x_item::NameKind;
 use x_session::FaultCode;
 
 /// How much room is made at once for what stands around the word of a message.
@@ -24,6 +25,8 @@ const MOST_KEPT: usize = 65_536;
 #[derive(Debug, Drop)]
 pub(crate) struct FaultMessage {
     code: FaultCode,
+    /// What its word is declared as, if the sentence says that.
+    kind: Option<NameKind>,
     pub(crate) number: usize,
     pub(crate) text: String,
     /// Where the word stands in the text, and how long it is; none if the sentence does not show it.
@@ -35,7 +38,12 @@ pub(crate) struct FaultMessage {
 
 impl FaultMessage {
     /// The message of a fault at a word.
-    fn of(alloc: Global, code: FaultCode, word: &[u8]) -> Result<FaultMessage, AllocError>
+    fn of(
+        alloc: Global,
+        code: FaultCode,
+        kind: Option<NameKind>,
+        word: &[u8],
+    ) -> Result<FaultMessage, AllocError>
         ensures { IfOk result (λ message. message.code ≡ code) }
     {
         let escape = escape_of(word.first().copied().unwrap_or(0));
@@ -44,7 +52,7 @@ impl FaultMessage {
             Ok(word) => word,
             Err(_) => str::from_utf8(&escape).unwrap_or("?"),
         };
-        let Sentence { front, rear, .. } = sentence_of(code);
+        let Sentence { front, rear, .. } = sentence_of(code, kind);
         let mut text = String::with_capacity(alloc, FRAME.saturating_add(word.len()))?;
         text.push_str(code.text())?;
         text.push_str(": ")?;
@@ -60,6 +68,7 @@ impl FaultMessage {
         };
         Ok(FaultMessage {
             code,
+            kind,
             number: fault_number(code),
             text,
             word: shown,
@@ -67,10 +76,10 @@ impl FaultMessage {
     }
 
     /// Whether this is the message of a fault at a word.
-    fn is_of(&self, code: FaultCode, word: &[u8]) -> bool
+    fn is_of(&self, code: FaultCode, kind: Option<NameKind>, word: &[u8]) -> bool
         ensures { IsTrue result → self.now.code ≡ code }
     {
-        if self.code != code {
+        if self.code != code || self.kind != kind {
             return false;
         }
         match self.word {
@@ -103,27 +112,28 @@ impl FaultMessages {
         &mut self,
         alloc: Global,
         code: FaultCode,
+        kind: Option<NameKind>,
         word: &[u8],
     ) -> Result<FaultMessage, AllocError>
         ensures { IfOk result (λ message. message.code ≡ code) }
     {
-        match self.take(code, word) {
+        match self.take(code, kind, word) {
             Some(message) => Ok(message),
-            None => FaultMessage::of(alloc, code, word),
+            None => FaultMessage::of(alloc, code, kind, word),
         }
     }
 
     /// Takes the next message, or the one behind it, if it is of this word.
-    fn take(&mut self, code: FaultCode, word: &[u8]) -> Option<FaultMessage>
+    fn take(&mut self, code: FaultCode, kind: Option<NameKind>, word: &[u8]) -> Option<FaultMessage>
         ensures { IfSome result (λ message. message.code ≡ code) }
     {
         let message = self.list.pop()?;
-        if message.is_of(code, word) {
+        if message.is_of(code, kind, word) {
             return Some(message);
         }
         // Where a fault is gone, its message is to be passed over, and where one came, none.
         let behind = self.list.pop()?;
-        if behind.is_of(code, word) {
+        if behind.is_of(code, kind, word) {
             return Some(behind);
         }
         self.list.push(behind).ok()?;

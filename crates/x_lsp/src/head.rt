@@ -5,7 +5,7 @@ ghost use Rattle.std.specs.Char.{is_ascii_digit};
 ghost use Rattle.std.specs.List.{list_all};
 ghost use Rattle.std.specs.Str.Parse.{digits_value};
 ghost use Rattle.httparse.specs.Spans.{IsHeaderWithin, IsSectionOf, IsSectionWithin, header_bytes};
-ghost use Rattle.x_session.specs.Commands.{is_number};
+ghost use Rattle.x_session.specs.Numbers.{is_number};
 ghost use Rattle.x_lsp.specs.Framing.{announced, is_named, length_field};
 ghost use Rattle.x_lsp.specs.FrameSteps.{FrontIs};
 

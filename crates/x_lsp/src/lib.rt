@@ -7,7 +7,6 @@ mod base;
 mod capabilities;
 mod changes;
 mod client;
-mod declared_places;
 mod diagnostics;
 mod document;
 mod encoding;

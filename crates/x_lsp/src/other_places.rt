@@ -1,17 +1,18 @@
 //! Other places that matter to the faults of a text.
 
-ghost use Rattle.std.specs.Prelude.{◌≡◌, ℕ, IfOk, List};
+ghost use Rattle.std.specs.Prelude.{◌≡◌, ℕ, IfOk, List, option_map};
 ghost use Rattle.x_lex.specs.declared.kind.Kind.{Kind};
 ghost use Rattle.x_compile.specs.Compile.{IsCompilation, Item};
-ghost use Rattle.x_lsp.specs.DeclaredPlaces.{AreOfText, IsTableOf};
+ghost use Rattle.x_explain.specs.DeclaredNames.{IsTableOf, definition_of};
 ghost use Rattle.x_lsp.specs.Diagnostics.{IsRangeAt, declared_elsewhere, is_of_declarer, other_place};
+ghost use Rattle.x_lsp.specs.OtherPlaces.{AreOfText};
 ghost use Rattle.x_lsp.specs.Waymarks.{AreWaymarks};
 
 use crate::changes::Range;
-use crate::declared_places::DeclaredPlaces;
 use crate::waymarks::Waymarks;
 use std::alloc::Global;
-use x_explain::token_end;
+use x_explain::{DeclaredNames, token_end};
+use x_item::NameKind;
 use x_session::{FaultCode, RuleCode, Session};
 use x_text::NoMemory;
 
@@ -22,7 +23,7 @@ pub(crate) struct OtherPlaces<'s> {
     session: &'s Session,
     marks: &'s Waymarks,
     /// Made where they are first needed, since this takes the time of going over the text.
-    names: Option<DeclaredPlaces<'s>>,
+    names: Option<DeclaredNames<'s>>,
 }
 
 impl<'s> OtherPlaces<'s> {
@@ -68,26 +69,70 @@ impl<'s> OtherPlaces<'s> {
         if let Some(names) = &self.names {
             return Ok(declared_range(names, session.bytes(), marks, word, start));
         }
-        let names = DeclaredPlaces::of(alloc, session)?;
+        let names = DeclaredNames::of(alloc, session)?;
         let range = declared_range(&names, session.bytes(), marks, word, start);
         self.names = Some(names);
         Ok(range)
+    }
+
+    /// What a word with a fault is declared as, if what is said of the fault says that.
+    pub(crate) fn kind(
+        &mut self,
+        alloc: Global,
+        code: FaultCode,
+        word: &[u8],
+    ) -> Result<Option<NameKind>, NoMemory>
+        requires { AreOfText self.old }
+        ensures of_text { AreOfText self.new }
+        ensures shown { self.new.shown ≡ self.old.shown }
+        ensures session { self.new.session.now ≡ self.old.session.now }
+        ensures marks { self.new.marks.now ≡ self.old.marks.now }
+    {
+        if !matches!(
+            code,
+            FaultCode::Rule(RuleCode::NotType | RuleCode::NotConst)
+        ) {
+            return Ok(None);
+        }
+        if let Some(names) = &self.names {
+            return Ok(kind_in(names, word));
+        }
+        let names = DeclaredNames::of(alloc, self.session)?;
+        let kind = kind_in(&names, word);
+        self.names = Some(names);
+        Ok(kind)
+    }
+}
+
+/// What a word is declared as.
+fn kind_in(names: &DeclaredNames, word: &[u8]) -> Option<NameKind> {
+    Some(names.first(word)?.kind)
+}
+
+/// Where a word is declared first.
+fn place_in(names: &DeclaredNames, word: &[u8]) -> Option<usize>
+    ensures { (text : List ℕ) (items : List Item) → IsTableOf text items names.now
+        → result ≡ option_map (λ t. t.start) (definition_of items word.now) }
+{
+    match names.first(word) {
+        Some(first) => Some(first.spot.start),
+        None => None,
     }
 }
 
 /// The range of the token that declares a word first, if that is not the token at this place.
 fn declared_range(
-    names: &DeclaredPlaces,
+    names: &DeclaredNames,
     text: &[u8],
     marks: &Waymarks,
     word: &[u8],
     start: usize,
 ) -> Option<Range>
     requires { AreWaymarks text.now marks.now }
-    ensures { (items : List Item) → IsTableOf items names.now
+    ensures { (items : List Item) → IsTableOf text.now items names.now
         → IsRangeAt marks.now.encoding text.now (declared_elsewhere items word.now start) result }
 {
-    let place = names.place(word)?;
+    let place = place_in(names, word)?;
     if place == start {
         return None;
     }

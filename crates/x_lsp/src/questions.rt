@@ -38,7 +38,6 @@ use renaming::{rename, renamed_range};
 use serde_json::Value;
 use std::alloc::Global;
 use symbols::symbols;
-pub(crate) use text_names::definitions;
 use token_kinds::token_kinds;
 use x_lex::Token;
 use x_text::NoMemory;

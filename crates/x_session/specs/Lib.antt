@@ -1,13 +1,9 @@
-pub mod Answers
-pub mod Commands
+pub mod FaultLines
 pub mod Following
-pub mod LineAnswers
 pub mod Moves
+pub mod Numbers
 pub mod Planned
-pub mod Refusals
 pub mod Rendered
-pub mod Script
 pub mod Session
-pub mod Showing
 pub mod Typed
 pub mod Work

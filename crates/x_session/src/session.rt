@@ -33,7 +33,7 @@ use x_lex::{Token, TokenIter, Tokens};
 use x_names::Declarer;
 use x_rules::Meaning;
 use x_sema::Schema;
-use x_text::{Edit, Meter, NoMemory, Source, TextBuffers, TextFault};
+use x_text::{Edit, Lines, Meter, NoMemory, Source, TextBuffers, TextFault};
 
 /// A text that stays open: its tokens, definitions and faults, and what is generated of it.
 pub struct Session {
@@ -205,6 +205,13 @@ impl Session {
         self.texts.text().bytes()
     }
 
+    /// The lines of the text, and the columns of its places.
+    pub fn lines(&self) -> Lines<'_>
+        ensures { result ≡ self.now.text }
+    {
+        Lines::of(self.texts.text())
+    }
+
     /// How many tokens the text has.
     pub fn token_count(&self) -> usize
         ensures { Compiles self.now.text (λ items. result ≡ length (tokens_of items)) }
@@ -253,7 +260,7 @@ impl Session {
     }
 
     /// How many items have a definition.
-    pub(crate) fn definition_count(&self) -> usize
+    pub fn definition_count(&self) -> usize
         ensures { Compiles self.now.text (λ items. result ≡ length (numbered 0 (definitions_of items))) }
     {
         self.items.definition_count()

@@ -2,7 +2,8 @@
 
 use std::alloc::Global;
 use std::process::Abort;
-use x_session::{EngineFault, Session, run_script};
+use x_script::{EngineFault, run_script};
+use x_session::Session;
 use x_text::{MemSink, MemTap};
 
 /// Writes what a session answers to these lines, and tells how many bytes that is.

@@ -8,7 +8,8 @@ use refusals::{MOST_TURNS, begin, end};
 use std::alloc::Global;
 use std::process::Abort;
 use std::test::Fail;
-use x_session::{EngineFault, SchemaFault, Session, Work, run_script};
+use x_script::{EngineFault, run_script};
+use x_session::{SchemaFault, Session, Work};
 use x_text::{Edit, MemSink, MemTap, Source, TextFault};
 
 /// What is asked of a session before and after a refusal.

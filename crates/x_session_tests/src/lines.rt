@@ -5,7 +5,7 @@ ghost use Rattle.x_lines.specs.Lines.{script_lines};
 use std::alloc::Global;
 use std::process::Abort;
 use std::test::Fail;
-use x_session::{LineEvent, LineFault, LineReader};
+use x_script::{LineEvent, LineFault, LineReader};
 use x_text::{MemTap, Tap};
 
 /// Checks that the reader finds a line next.

@@ -3,7 +3,8 @@ use std::alloc::Global;
 use std::io::{self, Write};
 use std::process::Abort;
 use std::test::Fail;
-use x_session::{EngineFault, Session, run_script};
+use x_script::{EngineFault, run_script};
+use x_session::Session;
 use x_text::{MemSink, MemTap, Out, Sink, Tap};
 
 /// Runs a script on a session of the text `int s`, which an edit makes `ints`.

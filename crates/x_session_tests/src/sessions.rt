@@ -3,8 +3,9 @@ use refusals::{ALL, begin, end};
 use std::process::Abort;
 use std::test::Fail;
 use x_lex::Kind;
+use x_script::dump_words;
 use x_sema::Form;
-use x_session::{FaultCode, Schema, SchemaFault, Session, Which, Work, dump_words};
+use x_session::{FaultCode, Schema, SchemaFault, Session, Which, Work};
 use x_text::{Edit, MemSink, TextFault, WriteFault};
 
 /// Checks the token and the definition of a session of the text `const A = 12;;`.

@@ -3,7 +3,8 @@ use std::alloc::Global;
 use std::fmt::Display;
 use std::process::Abort;
 use std::test::Fail;
-use x_session::{EngineFault, LineFault, SchemaFault, near_edits, one_compilation, one_work};
+use x_script::{EngineFault, LineFault};
+use x_session::{SchemaFault, near_edits, one_compilation, one_work};
 
 /// Checks the text of a fault.
 fn expect_text(

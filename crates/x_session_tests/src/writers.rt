@@ -6,7 +6,8 @@ use std::alloc::Global;
 use std::io::{self, Write};
 use std::process::Abort;
 use std::test::Fail;
-use x_session::{EngineFault, Session, Which, run_script};
+use x_script::{EngineFault, run_script};
+use x_session::{Session, Which};
 use x_text::{MemSink, MemTap, Out, WriteFault};
 
 /// A writer that takes nothing.

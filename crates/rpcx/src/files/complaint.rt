@@ -4,8 +4,7 @@ ghost use Rattle.rpcx.specs.Generate.{unopened_told, TellsStop};
 ghost use Rattle.x_args.specs.Telling.{IsTold};
 
 use x_args::{complain_of_output, tell_of_file};
-use x_session::EngineFault;
-use x_text::{Outlet, Sink, TextFault};
+use x_text::{EngineFault, Outlet, Sink, TextFault};
 
 /// Writes why a file's text is not opened, behind the name of the program.
 pub(crate) fn tell_unopened<E: Sink>(program: &str, file: &str, fault: TextFault, err: &mut E)

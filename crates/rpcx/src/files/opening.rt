@@ -1,18 +1,29 @@
 //! The text of a file, opened for a run.
 
-ghost use Rattle.std.specs.Prelude.{◌≡◌, true, OnOk};
+ghost use Rattle.std.specs.Prelude.{◌≡◌, ◌⊎◌, codes, OnErr, OnOk};
 ghost use Rattle.x_text.specs.Writing.{Adds};
-ghost use Rattle.rpcx.specs.Generate.{told_fault, told_faults, IsOpened, TellsFaults};
-ghost use Rattle.x_args.specs.Telling.{IsTold};
+ghost use Rattle.rpcx.specs.Generate.{told_fault, told_faults, ExplainsFaults, IsOpened, TellsFaults};
+ghost use Rattle.x_args.specs.Telling.{IsTold, told_of};
 ghost use Rattle.x_session.specs.Session.{Compiles};
 
 use crate::files::base::base_of_file;
 use crate::files::complaint::tell_unopened;
 use std::alloc::Global;
-use x_args::Status;
-use x_explain::add_explained_faults;
+use x_args::{Status, tell_of_file};
+use x_explain::{DeclaredNames, add_explained_faults};
 use x_session::{Fault, Faults, Session, add_place};
-use x_text::{Pen, Sink};
+use x_text::{NoMemory, Pen, Sink};
+
+/// How the faults of a text are reported.
+#[derive(Clone, Copy, Debug, PartialEq, Eq)]
+pub enum FaultStyle {
+    /// One a line, as other programs read them.
+    Plain,
+    /// Each with its line, a mark and what helps.
+    Explained,
+    /// The same in the colours of a terminal.
+    Coloured,
+}
 
 /// Opens the text of a file for a run of the program, or tells what is wrong with it and answers the status:
 /// `Faulty` where the text has faults, which are written one a line, or explained, and `Failed` where it is
@@ -22,18 +33,17 @@ pub fn open_text<E: Sink>(
     program: &str,
     file: &str,
     bytes: &[u8],
-    explains: bool,
+    style: FaultStyle,
     err: &mut E,
 ) -> Result<Session, Status>
-    ensures opened { IsOpened explains program.now file.now bytes.now
+    ensures opened { IsOpened style program.now file.now bytes.now
         (E.state err.old) (E.state err.new) result }
     ensures quiet { OnOk result (err.new ≡ err.old) }
 {
     match Session::open(alloc, base_of_file(file), bytes) {
         Ok(session) => {
             if session.fault_count() > 0 {
-                tell_all_faults(explains, file, &session, err);
-                return Err(Status::Faulty);
+                return Err(report_faults(alloc, program, style, file, &session, err));
             }
             Ok(session)
         }
@@ -44,26 +54,69 @@ pub fn open_text<E: Sink>(
     }
 }
 
-/// Writes the faults of a file's text, explained or one a line.
-fn tell_all_faults<E: Sink>(explains: bool, file: &str, session: &Session, err: &mut E)
-    ensures { Compiles session.now.text (λ items.
-        TellsFaults explains file.now session.now.text items (E.state err.old) (E.state err.new)) }
+/// Writes the faults of a file's text and answers the status: `Failed` where memory runs out, which it tells.
+fn report_faults<E: Sink>(
+    alloc: Global,
+    program: &str,
+    style: FaultStyle,
+    file: &str,
+    session: &Session,
+    err: &mut E,
+) -> Status
+    ensures faulty { result ≡ Status.Faulty → Compiles session.now.text (λ items.
+        TellsFaults style file.now session.now.text items (E.state err.old) (E.state err.new)) }
+    ensures failed { result ≡ Status.Failed
+        → IsTold (E.state err.old) (E.state err.new) (told_of program.now (codes "out of memory")) }
+    ensures others { (result ≡ Status.Faulty) ⊎ (result ≡ Status.Failed) }
 {
-    if explains {
-        explain_faults(file, session, err);
-    } else {
-        tell_faults(file, session.faults(), err);
+    match tell_all_faults(alloc, style, file, session, err) {
+        Ok(()) => Status::Faulty,
+        Err(NoMemory) => {
+            tell_of_file(program, "out of memory", "\n", err);
+            Status::Failed
+        }
+    }
+}
+
+/// Writes the faults of a file's text, explained or one a line.
+fn tell_all_faults<E: Sink>(
+    alloc: Global,
+    style: FaultStyle,
+    file: &str,
+    session: &Session,
+    err: &mut E,
+) -> Result<(), NoMemory>
+    ensures told { OnOk result (Compiles session.now.text (λ items.
+        TellsFaults style file.now session.now.text items (E.state err.old) (E.state err.new))) }
+    ensures quiet { OnErr result (err.new ≡ err.old) }
+{
+    match style {
+        FaultStyle::Plain => {
+            tell_faults(file, session.faults(), err);
+            Ok(())
+        }
+        FaultStyle::Explained => explain_faults(alloc, false, file, session, err),
+        FaultStyle::Coloured => explain_faults(alloc, true, file, session, err),
     }
 }
 
 /// Writes the faults of a file's text, explained.
-fn explain_faults<E: Sink>(file: &str, session: &Session, err: &mut E)
-    ensures { Compiles session.now.text (λ items.
-        TellsFaults true file.now session.now.text items (E.state err.old) (E.state err.new)) }
+fn explain_faults<E: Sink>(
+    alloc: Global,
+    coloured: bool,
+    file: &str,
+    session: &Session,
+    err: &mut E,
+) -> Result<(), NoMemory>
+    ensures told { OnOk result (Compiles session.now.text (λ items.
+        ExplainsFaults coloured file.now session.now.text items (E.state err.old) (E.state err.new))) }
+    ensures quiet { OnErr result (err.new ≡ err.old) }
 {
+    let declared = DeclaredNames::of(alloc, session)?;
     let mut pen = Pen::new();
-    add_explained_faults(file, session, &mut pen, err);
+    add_explained_faults(coloured, file, session, &declared, &mut pen, err);
     let _ = pen.finish(err);
+    Ok(())
 }
 
 /// Writes the faults of a file's text, one a line.

@@ -9,7 +9,7 @@ ghost use Rattle.serde_json.specs.Written.{has_float};
 ghost use Rattle.x_text.specs.Writing.{Adds};
 ghost use Rattle.x_compile.specs.Compile.{faults_of};
 ghost use Rattle.x_compile.specs.Generated.{text_of};
-ghost use Rattle.x_session.specs.Answers.{fault_line};
+ghost use Rattle.x_session.specs.FaultLines.{fault_line};
 ghost use Rattle.x_session.specs.Session.{Compiles};
 ghost use Rattle.x_lsp.specs.DocumentTexts.{told_text};
 

@@ -3,7 +3,8 @@
 ghost use Rattle.std.specs.Prelude.{◌≡◌, IfOk, map, option_and_then, option_map};
 ghost use Rattle.x_lex.specs.Places.{lexeme};
 ghost use Rattle.x_session.specs.Session.{Compiles};
-ghost use Rattle.x_lsp.specs.NamePlaces.{definition_of, first_of, name_at, references_of};
+ghost use Rattle.x_explain.specs.DeclaredNames.{definition_of};
+ghost use Rattle.x_lsp.specs.NamePlaces.{first_of, name_at, references_of};
 
 use crate::questions::name_places::{Sought, find_names};
 use std::alloc::Global;

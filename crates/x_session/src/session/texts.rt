@@ -22,7 +22,7 @@ impl Session {
     }
 
     /// Adds a generated text.
-    pub(crate) fn add_text<S: Sink>(&self, which: Which, pen: &mut Pen, sink: &mut S)
+    pub fn add_text<S: Sink>(&self, which: Which, pen: &mut Pen, sink: &mut S)
         ensures { Compiles self.now.text
             (λ items. Adds pen.old (S.state sink.old) pen.new (S.state sink.new)
             (text_of which self.now.base items)) }
@@ -31,7 +31,7 @@ impl Session {
     }
 
     /// How many bytes a generated text has.
-    pub(crate) fn text_length(&self, which: Which) -> u128
+    pub fn text_length(&self, which: Which) -> u128
         ensures { Compiles self.now.text (λ items. result ≡ length (text_of which self.now.base items)) }
     {
         x_gen::text_length(which, &self.base, &self.items)

@@ -11,8 +11,8 @@ returns-in_err-session-clause-opens g c =
     let before = g.E.Sink.state c.args.err.now in
     let after = g.E.Sink.state c.open_text.new.err in
     let h = c.in_err-session.ensures.opened in
-    passed_on (Opens c.args.file.now c.args.text.now before after) c.from_residual.result c.in_err-session.field-0.0 c.from_residual.ensures.1
-    (not_opened c.args.file.now c.args.text.now before after c.in_err-session.field-0.0 h.faulty h.too_large h.failed h.others)
+    passed_on (Opens c.args.style c.args.file.now c.args.text.now before after) c.from_residual.result c.in_err-session.field-0.0 c.from_residual.ensures.1
+    (not_opened c.args.style c.args.file.now c.args.text.now before after c.in_err-session.field-0.0 h.faulty h.too_large h.failed h.others)
 
 pub returns-in-Ok-clause-opens : goal.returns-in-Ok-clause-opens
 returns-in-Ok-clause-opens g c =

@@ -1,7 +1,7 @@
 use Rattle.std.proofs.Common.{◌≡◌, map, take}
 use Rattle.x_compile.specs.Compile.{places_of}
 use Rattle.x_session.specs.Session.{Compiles}
-use Rattle.x_lsp.specs.DeclaredPlaces.{AreOfText}
+use Rattle.x_lsp.specs.OtherPlaces.{AreOfText}
 use Rattle.x_lsp.specs.Diagnostics.{AreDiagnostics}
 use Rattle.x_explain.specs.Found.{AreFound}
 use Rattle.x_lsp.specs.Published.{data_of}

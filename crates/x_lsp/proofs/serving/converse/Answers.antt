@@ -1,5 +1,5 @@
 use Rattle.std.proofs.Common.{sym, ap, subst, false, ◌∙◌, Ok, Err}
-use Rattle.x_session.proofs.Running.{works_at_start, works_on}
+use Rattle.x_session.proofs.Working.{works_at_start, works_on}
 use Rattle.x_text.proofs.Cases.{match_some}
 use Rattle.x_text.specs.Streams.{Stream}
 use Rattle.x_lsp.specs.Answers.{framed_if}

@@ -1,5 +1,5 @@
 use Rattle.std.proofs.Common.{◌≡◌, List, ℕ, Some}
-use Rattle.x_session.proofs.Running.{IsWorking}
+use Rattle.x_session.proofs.Working.{IsWorking}
 use Rattle.x_lsp.proofs.ServingLemmas.{IsBetween}
 use Rattle.x_lsp.proofs.serving.converse.Given as goal
 

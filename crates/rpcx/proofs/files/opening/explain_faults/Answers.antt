@@ -4,8 +4,8 @@ use Rattle.x_text.proofs.Pens.{writes_none}
 use Rattle.x_args.proofs.Grown.{told}
 use Rattle.rpcx.proofs.files.opening.explain_faults.Goals as goal
 
-pub returns : goal.returns
-returns g c =
+pub returns-clause-told : goal.returns-clause-told
+returns-clause-told g c =
     let start = g.E.Sink.state c.args.err.now in
     let now = g.E.Sink.state c.finish.new.sink in
     let all = c.add_explained_faults.ensures in

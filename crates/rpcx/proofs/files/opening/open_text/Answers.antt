@@ -1,13 +1,18 @@
-use Rattle.std.proofs.Common.{◌≡◌, ◌∙◌, ◌<◌, ◌≤◌, ℕ, List, [], ◌∷◌, length, ap, subst, refl, arith, inl, inr}
+use Rattle.std.proofs.Common.{◌≡◌, ◌∙◌, ◌<◌, ◌≤◌, ◌⊎◌, ℕ, List, [], ◌∷◌, length, codes, ap, subst, refl, arith, inl, inr}
 use Rattle.std.specs.Prelude.{IsErrOf, Ok, Err}
 use Rattle.x_text.specs.declared.text.fault.TextFault.TheVariants as fault
 use Rattle.x_session.specs.Session.{Compiles, Document}
 use Rattle.x_compile.specs.Compile.{faults_of}
 use Rattle.x_compile.specs.declared.fault.Fault.{Fault}
 use Rattle.x_args.specs.declared.status.Status.TheVariants as status
-use Rattle.rpcx.specs.Generate.{TellsFaults}
+use Rattle.x_text.specs.Streams.{Stream}
+use Rattle.x_text.specs.Limits.{most_text}
+use Rattle.x_args.specs.declared.status.Status.{Status}
+use Rattle.x_args.specs.Telling.{IsTold, told_of}
+use Rattle.rpcx.specs.declared.files.opening.FaultStyle.{FaultStyle}
+use Rattle.rpcx.specs.Generate.{IsOpened, NoRoom, TellsFaults}
 use Rattle.x_compile.proofs.Compiled.{one_compilation}
-use Rattle.rpcx.proofs.Unopened.{not_opened}
+use Rattle.rpcx.proofs.Unopened.{fits, not_opened}
 use Rattle.rpcx.proofs.files.opening.open_text.Goals as goal
 
 no_fault : (fs : List Fault) (n : ℕ) → n ≡ length fs → n ≤ 0 → fs ≡ []
@@ -18,11 +23,13 @@ no_fault (f ∷ fs) n is none = absurd (omega (arith, is, none))
 no_error : {T E : Type 0} (v : T) (e : E) → IsErrOf (Ok v) e → ⊥
 no_error v e h = cc
 
-differs : status.Faulty ≡ status.Failed → ⊥
-differs e = cc
-
-other_error : {T E : Type 0} (e f : E) → (e ≡ f → ⊥) → IsErrOf {T = T} (Err e) f → ⊥
-other_error e f apart h = let same : e ≡ f = cc in apart same
+-- a text that has faults, all of which were told
+some_faults : (text : List ℕ) (style : FaultStyle) (file : List ℕ) (before after : Stream) (n : ℕ) → 0 < n → Compiles text (λ items. n ≡ length (faults_of text items))
+    → Compiles text (λ items. TellsFaults style file text items before after) → Compiles text (λ items. (0 < length (faults_of text items)) × TellsFaults style file text items before after)
+some_faults text style file before after n more count all =
+    let same : count.1 ≡ all.1 = (one_compilation text count.0 all.0 count.1 all.1 count.2 all.2).1 in
+    let long : n ≡ length (faults_of text all.1) = count.3 ∙ ap (λ is. length (faults_of text is)) same in
+    (all.0, all.1, all.2, (omega (arith, long, more), all.3))
 
 pub returns-else-fault_count-gt0-clause-opened : goal.returns-else-fault_count-gt0-clause-opened
 returns-else-fault_count-gt0-clause-opened g c =
@@ -39,26 +46,37 @@ returns-else-fault_count-gt0-clause-opened g c =
       others = tt;
     }
 
+-- what a text with faults comes to, by the status of their report
+reported : (style : FaultStyle) (program file text : List ℕ) (before after : Stream) (status' : Status) → (most_text < length text → ⊥)
+    → (status' ≡ status.Faulty → Compiles text (λ items. (0 < length (faults_of text items)) × TellsFaults style file text items before after))
+    → (status' ≡ status.Failed → IsTold before after (told_of program (codes "out of memory"))) → (status' ≡ status.Faulty) ⊎ (status' ≡ status.Failed)
+    → IsOpened style program file text before after (Err status')
+reported style program file text before after status' few faulty failed others = record {
+  base = tt;
+  text = tt;
+  clean = tt;
+  faulty = λ e. faulty (same_error e);
+  too_large = λ more. absurd (few more);
+  failed = λ e. NoRoom (fits (length text) few) (failed (same_error e));
+  others = others;
+}
+  where
+    same_error : {s t : Status} → IsErrOf {T = Document} (Err s) t → s ≡ t
+    same_error e = cc
+
 pub returns-then-fault_count-gt0-clause-opened : goal.returns-then-fault_count-gt0-clause-opened
 returns-then-fault_count-gt0-clause-opened g c =
     let count = c.fault_count.ensures in
-    let all = c.tell_all_faults.ensures in
     let here = c.in-Ok.session.text in
+    let style = c.args.style in
+    let file = c.args.file.now in
     let before = g.E.Sink.state c.args.err.now in
-    let after = g.E.Sink.state c.tell_all_faults.new.err in
-    let same : count.1 ≡ all.1 = (one_compilation here count.0 all.0 count.1 all.1 count.2 all.2).1 in
-    let long : c.fault_count.result ≡ length (faults_of here all.1) = count.3 ∙ ap (λ is. length (faults_of here is)) same in
-    let some : 0 < length (faults_of here all.1) = let more = c.if-fault_count-gt0.true in omega (arith, long, more) in
-    record {
-      base = tt;
-      text = tt;
-      clean = tt;
-      faulty = λ e. subst (λ t. Compiles t (λ items. (0 < length (faults_of t items)) × TellsFaults c.args.explains c.args.file.now t items before after))
-          c.in-Ok.ensures.text (all.0, all.1, all.2, (some, all.3));
-      too_large = λ more. absurd (no_error c.in-Ok.session fault.TooLarge (c.in-Ok.ensures.too_large.1 more));
-      failed = λ e. absurd (other_error {T = Document} status.Faulty status.Failed differs e);
-      others = inl refl;
-    }
+    let after = g.E.Sink.state c.report_faults.new.err in
+    let few : most_text < length c.args.bytes.now → ⊥ = λ more. no_error c.in-Ok.session fault.TooLarge (c.in-Ok.ensures.too_large.1 more) in
+    reported style c.args.program.now file c.args.bytes.now before after c.report_faults.result few
+    (λ e. subst (λ t. Compiles t (λ items. (0 < length (faults_of t items)) × TellsFaults style file t items before after)) c.in-Ok.ensures.text
+    (some_faults here style file before after c.fault_count.result c.if-fault_count-gt0.true count (c.report_faults.ensures.faulty e)))
+    c.report_faults.ensures.failed c.report_faults.ensures.others
 
 pub returns-in-Err-clause-opened : goal.returns-in-Err-clause-opened
 returns-in-Err-clause-opened g c = record {

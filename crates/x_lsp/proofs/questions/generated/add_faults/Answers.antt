@@ -4,7 +4,7 @@ use Rattle.x_text.specs.Writing.{Adds}
 use Rattle.x_text.proofs.Listing.{HasListed, lists_more, lists_all}
 use Rattle.x_compile.specs.Compile.{faults_of}
 use Rattle.x_compile.specs.declared.fault.Fault.{Fault}
-use Rattle.x_session.specs.Answers.{fault_line}
+use Rattle.x_session.specs.FaultLines.{fault_line}
 use Rattle.x_lsp.proofs.questions.generated.add_faults.Goals as goal
 
 pub loop-fault-preserved : goal.loop-fault-preserved

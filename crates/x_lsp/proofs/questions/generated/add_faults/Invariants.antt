@@ -1,4 +1,4 @@
-use Rattle.x_session.specs.Answers.{fault_line}
+use Rattle.x_session.specs.FaultLines.{fault_line}
 use Rattle.x_compile.specs.declared.fault.Fault.{Fault}
 use Rattle.x_text.proofs.Listing.{HasListed}
 use Rattle.x_lsp.proofs.questions.generated.add_faults.Given as goal

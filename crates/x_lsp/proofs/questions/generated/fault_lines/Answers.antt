@@ -6,7 +6,7 @@ use Rattle.x_text.specs.Streams.{Stream}
 use Rattle.x_text.specs.Writing.{Inked, Writes}
 use Rattle.x_text.proofs.Pens.{writes_none}
 use Rattle.x_compile.specs.Compile.{faults_of}
-use Rattle.x_session.specs.Answers.{fault_line}
+use Rattle.x_session.specs.FaultLines.{fault_line}
 use Rattle.x_lsp.proofs.questions.generated.fault_lines.Goals as goal
 
 pub returns-in-Ok : goal.returns-in-Ok

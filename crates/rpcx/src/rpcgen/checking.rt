@@ -1,0 +1,79 @@
+//! What `rpcgen --check` does: it reports the faults of files, and writes no text.
+
+ghost use Rattle.std.specs.Prelude.{◌≡◌, ◌<◌, codes, length, map};
+ghost use Rattle.rpcx.specs.Checking.{AreChecked, IsChecked};
+ghost use Rattle.rpcx.specs.Generate.{IsFaultless, NotOpened, TellsFaults};
+ghost use Rattle.x_session.specs.Session.{Compiles};
+ghost use Rattle.x_compile.specs.Compile.{faults_of};
+ghost use Rattle.x_text.specs.Limits.{most_text};
+
+use crate::files::opening::FaultStyle;
+use crate::files::reading::read_text;
+use crate::rpcgen::gen_open;
+use std::alloc::Global;
+use x_args::{CheckArgs, Status};
+use x_text::Sink;
+
+/// Where faults are reported, and where it may be shown meanwhile how far the check of many files is.
+pub trait Screen: Sink {
+    /// Notes that the check of the next file begins. What is shown of that is gone before the next write, and
+    /// no part of what the sink holds.
+    fn begin_file(&mut self, file: &str)
+        ensures { Self.state self.new ≡ Self.state self.old };
+}
+
+/// Reports the faults of a file's text, and answers the status: `Done` where it has none, `Faulty` where it
+/// has some, which are written one a line, or explained where that is asked for, and `Failed` where it is too
+/// large or memory runs out, which it tells.
+fn check_text<E: Sink>(
+    alloc: Global,
+    file: &str,
+    bytes: &[u8],
+    style: FaultStyle,
+    err: &mut E,
+) -> Status
+    ensures faulty { result ≡ Status.Faulty
+        → Compiles bytes.now
+        (λ items. (0 < length (faults_of bytes.now items))
+        × TellsFaults style file.now bytes.now items (E.state err.old) (E.state err.new)) }
+    ensures too_large { most_text < length bytes.now → result ≡ Status.Failed }
+    ensures clean { result ≡ Status.Done → IsFaultless bytes.now }
+    ensures failed { result ≡ Status.Failed
+        → NotOpened (codes "rpcgen") file.now bytes.now (E.state err.old) (E.state err.new) }
+    ensures quiet { result ≡ Status.Done → err.new ≡ err.old }
+{
+    match gen_open(alloc, file, bytes, style, err) {
+        Ok(_) => Status::Done,
+        Err(status) => status,
+    }
+}
+
+/// Reads the text of a file and reports its faults. Where it cannot be read that is told.
+fn check_file<E: Sink>(rt: &HostRuntime, file: &str, style: FaultStyle, err: &mut E) -> Status
+    ensures { IsChecked style file.now (E.state err.old) (E.state err.new) result }
+{
+    match read_text(rt, "rpcgen", file, err) {
+        Ok(bytes) => check_text(rt.alloc(), file, &bytes, style, err),
+        Err(status) => status,
+    }
+}
+
+/// Reports the faults of the texts of all files, one file after the other, and answers the worst of their
+/// statuses: `Faulty` where a text has faults, and `Failed` where a file cannot be read, its text is too
+/// large or memory runs out for it, which is told. No file keeps those after it from being checked.
+pub fn check_run<E: Screen>(
+    rt: &HostRuntime,
+    args: &CheckArgs<'_>,
+    style: FaultStyle,
+    err: &mut E,
+) -> Status
+    ensures { AreChecked style (map (λ f. f.now) args.now.files.items)
+        (E.state err.old) (E.state err.new) result }
+{
+    let mut status = Status::Done;
+    for file in &args.files {
+        err.begin_file(file);
+        status = status.worse(check_file(rt, file, style, err));
+    }
+    status
+}

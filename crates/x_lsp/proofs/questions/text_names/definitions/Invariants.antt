@@ -1,8 +1,0 @@
-use Rattle.std.proofs.Common.{map}
-use Rattle.x_trees.specs.View.{tree_at}
-use Rattle.x_compile.specs.Compile.{parsed_definition}
-use Rattle.x_lsp.proofs.PlaceTableLemmas.{HasTold}
-use Rattle.x_lsp.proofs.questions.text_names.definitions.Given as goal
-
-abbrev pub invariant-loop-item : goal.invariant-loop-item
-invariant-loop-item l = HasTold (λ i. parsed_definition i.parse) l.session.text l.item (map tree_at l.list.items)

@@ -1,0 +1,6 @@
+pub mod Answers
+pub mod Commands
+pub mod LineAnswers
+pub mod Refusals
+pub mod Script
+pub mod Showing

@@ -1,0 +1,19 @@
+-- What a line of a script is answered, over a text and its items, in one way (`one_answer` of `x_laws`).
+use Rattle.std.specs.Prelude.{◌≡◌, ◌<◌, ◌≤◌, ℕ, List, length, Some, None}
+use Rattle.x_script.specs.Answers.{Answer, answer, refused_by}
+use Rattle.x_script.specs.Commands.{command_of, dump_asked}
+use Rattle.x_compile.specs.Compile.{Item}
+use Rattle.x_script.specs.Showing.{IsDumpAnswer}
+use Rattle.x_script.specs.declared.script.refusal.LineRefusal.TheVariants.{LongLine}
+use Rattle.x_lines.specs.Limits.{most_line}
+
+-- A line is answered so, over a text that has these items: it may ask to show a value, or be any other
+-- command; or it is too long.
+pub data IsLineAnswer (base text : List ℕ) (items : List Item) (line : List ℕ) (a : Answer) : Type 0 where
+  within : length line ≤ most_line → dump_asked line ≡ None → a ≡ answer base text items (command_of line)
+      → IsLineAnswer base text items line a
+  shows : (name message : List ℕ) → length line ≤ most_line → dump_asked line ≡ Some (name, message)
+      → IsDumpAnswer text items name message a
+      → IsLineAnswer base text items line a
+  too_long : most_line < length line → a ≡ refused_by text LongLine
+      → IsLineAnswer base text items line a

@@ -1,0 +1,17 @@
+-- Why a line of a script is refused, and what is answered then.
+use Rattle.std.specs.Prelude.{ℕ, List, ◌++◌, codes}
+use Rattle.x_script.specs.declared.script.refusal.LineRefusal.{LineRefusal}
+use Rattle.x_script.specs.declared.script.refusal.LineRefusal.TheVariants as refusals
+
+-- the number and the name of the reason
+abbrev pub refusal_text : LineRefusal → List ℕ
+refusal_text refusals.BadRange = codes "1 BadRange"
+refusal_text refusals.TooLarge = codes "2 TooLarge"
+refusal_text refusals.Faulty = codes "40 Faulty"
+refusal_text refusals.NoType = codes "42 NoType"
+refusal_text refusals.BadLine = codes "43 BadLine"
+refusal_text refusals.LongLine = codes "44 LongLine"
+
+-- `refused CODE NAME`
+abbrev pub refusal_line : LineRefusal → List ℕ
+refusal_line refusal = codes "refused " ++ refusal_text refusal ++ codes "\n"

@@ -1,0 +1,105 @@
+//! What a script is answered that asks to show a value.
+
+ghost use Rattle.std.specs.Prelude.{◌≡◌, ◌<◌, true, length, IfOk, OnErr};
+ghost use Rattle.x_text.specs.Writing.{Adds};
+ghost use Rattle.x_schema.specs.Schema.{IsTypeId};
+ghost use Rattle.x_script.specs.Answers.{Answer};
+ghost use Rattle.x_script.specs.Commands.{bytes_of, is_hex};
+ghost use Rattle.x_script.specs.Script.{AddsAnswer, TellsOver};
+ghost use Rattle.x_session.specs.Session.{Compiles};
+ghost use Rattle.x_script.specs.Showing.{IsDumpAnswer, IsMessageAnswer, IsTypedAnswer, value_answer};
+
+use super::answer::add_counted;
+use super::command::message_bytes;
+use super::refusal::LineRefusal;
+use std::alloc::Global;
+use x_session::{Schema, SchemaFault, Session, TypeId};
+use x_text::{NoMemory, Pen, Sink};
+use x_value::{Dump, ReadCode, dump};
+
+/// Adds the nodes of a value.
+fn add_value<S: Sink>(dump: &Dump, pen: &mut Pen, sink: &mut S)
+    ensures { Adds pen.old (S.state sink.old) pen.new (S.state sink.new) (value_answer dump.now) }
+{
+    add_counted("value", dump.len(), pen, sink);
+    dump.add_lines(pen, sink);
+}
+
+/// Answers what value of the type the message is, and answers whether that refuses it. Without memory nothing
+/// is done.
+fn answer_message<S: Sink>(
+    alloc: Global,
+    schema: &Schema,
+    id: TypeId,
+    message: &[u8],
+    pen: &mut Pen,
+    sink: &mut S,
+) -> Result<bool, NoMemory>
+    requires { IsTypeId schema.now id }
+    ensures told { IfOk result (λ refused. TellsOver (IsMessageAnswer schema.now id message.now) refused
+        pen.old (S.state sink.old) pen.new (S.state sink.new)) }
+    ensures same { OnErr result ((pen.new ≡ pen.old) × (sink.new ≡ sink.old)) }
+{
+    match dump(alloc, schema, id, message) {
+        Ok(dump) => {
+            add_value(&dump, pen, sink);
+            Ok(false)
+        }
+        Err(fault) => {
+            if fault.code == ReadCode::NoMemory {
+                return Err(NoMemory);
+            }
+            fault.add_line(pen, sink);
+            Ok(true)
+        }
+    }
+}
+
+/// Answers what value of the type of this name the message is, whose bytes these digits write, and answers
+/// whether that refuses it. Without memory nothing is done.
+fn answer_typed<S: Sink>(
+    alloc: Global,
+    schema: &Schema,
+    name: &[u8],
+    hex: &[u8],
+    pen: &mut Pen,
+    sink: &mut S,
+) -> Result<bool, NoMemory>
+    requires { 0 < length hex.now → is_hex hex.now ≡ true }
+    ensures told { IfOk result
+        (λ refused. TellsOver (IsTypedAnswer schema.now name.now (bytes_of hex.now)) refused
+        pen.old (S.state sink.old) pen.new (S.state sink.new)) }
+    ensures same { OnErr result ((pen.new ≡ pen.old) × (sink.new ≡ sink.old)) }
+{
+    let Some(id) = schema.type_named(name) else {
+        LineRefusal::NoType.add_line(pen, sink);
+        return Ok(true);
+    };
+    let message = message_bytes(alloc, hex)?;
+    answer_message(alloc, schema, id, &message, pen, sink)
+}
+
+/// As [`answer_typed`], by the types of the session's text, which has some where it has no fault.
+pub(crate) fn answer_dump<S: Sink>(
+    alloc: Global,
+    session: &Session,
+    name: &[u8],
+    hex: &[u8],
+    pen: &mut Pen,
+    sink: &mut S,
+) -> Result<bool, NoMemory>
+    requires { 0 < length hex.now → is_hex hex.now ≡ true }
+    ensures told { IfOk result (λ refused. Compiles session.now.text (λ items. (a : Answer)
+        × IsDumpAnswer session.now.text items name.now (bytes_of hex.now) a
+        × AddsAnswer a session.now.text refused pen.old (S.state sink.old) pen.new (S.state sink.new))) }
+    ensures same { OnErr result ((pen.new ≡ pen.old) × (sink.new ≡ sink.old)) }
+{
+    match session.schema() {
+        Ok(schema) => answer_typed(alloc, &schema, name, hex, pen, sink),
+        Err(SchemaFault::Faulty) => {
+            LineRefusal::Faulty.add_line(pen, sink);
+            Ok(true)
+        }
+        Err(SchemaFault::NoMemory) => Err(NoMemory),
+    }
+}

@@ -1,5 +1,0 @@
-use Rattle.x_session.proofs.DefinitionLemmas.{HasDefinitions}
-use Rattle.x_session.proofs.script.answer.add_definitions.Given as goal
-
-abbrev pub invariant-loop-item : goal.invariant-loop-item
-invariant-loop-item g l = HasDefinitions l.session.text l.item l.initial.pen (g.S.Sink.state l.initial.sink) l.pen (g.S.Sink.state l.sink)

@@ -1,9 +1,0 @@
-use Rattle.std.proofs.Common.{◌≡◌, List, ℕ, Some}
-use Rattle.x_text.specs.Engines.{is_refused}
-use Rattle.x_session.proofs.Running.{IsBetween, IsWorking}
-use Rattle.x_session.proofs.script.run_script.Given as goal
-
-abbrev pub invariant-loop : goal.invariant-loop
-invariant-loop g l =
-    IsWorking (g.S.Sink.state l.fn.sink) l.pen (g.S.Sink.state l.sink) (g.R.Tap.state l.fn.tap).failed (g.R.Tap.state l.tap).failed
-    × ((script : List ℕ) → (g.R.Tap.state l.fn.tap).bytes ≡ Some script → IsBetween script l.fn.session (g.S.Sink.state l.fn.sink) l.session l.reader (g.R.Tap.state l.tap).bytes (is_refused l.outcome) l.pen (g.S.Sink.state l.sink))
