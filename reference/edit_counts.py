@@ -11,7 +11,7 @@ import work
 
 def main(words):
     with open(words[0], "rb") as file:
-        session = rpcedit.Session(b"t", file.read())
+        session = rpcedit.Session(b"t.x", file.read())
     reading = work.Reading(session.text)
     seats = work.seats_of(reading)
     for line in rpcedit.script_lines(sys.stdin.buffer.read()):

@@ -1,28 +1,31 @@
 """Faults as `rpcgen --explain` shows them: each with its sentence, its line of the text, a mark and what helps."""
+import functools
+
 import rpclang
 
 # What stands before the word, what comes after it (None where the word is not shown), and what helps.
 SAYINGS = {
-    10: ("unexpected '", "'", "a ';' or another word may be missing before it"),
+    10: ("unexpected '", "'", "a word may be misspelt, missing before it, or one too many"),
     11: ("unexpected character '", "'",
          "words are made of ASCII letters, digits and '_'; comments are written /* .. */"),
     12: ("invalid number '", "'", "write decimal digits, or 0x and hexadecimal, or 0 and octal ones; only decimals can be negative"),
     13: ("unterminated comment", None, "end it with */"),
     14: ("preprocessor directive", None, "run cpp on it first, and rpcgen on the result"),
-    15: ("unexpected end of text after '", "'", "a definition ends with ';'"),
+    15: ("unexpected end of text after '", "'", "close each '{' with '}', and end the definition with ';'"),
     20: ("'", "' is declared already",
-         "enumerators count too, and so do inline types: field b of struct a declares 'a_b'"),
+         "constants, enumerators, types and programs need different names; so do inline types"),
     21: ("undeclared name '", "'",
-         "declare it before this definition, or mend its declaration; C's own types are not known"),
+         "declare it first; a syntax fault hides all up to the next ';' outside braces"),
     22: ("'", "' is used before it is fully declared",
-         "declare it first; only a link to a struct or union, as in 'b *x', may come before or within it"),
+         "declare it first; only links to structs and unions, as in 'b *x' and 'b x<>', may come earlier"),
     25: ("the value of '", "' is out of range",
          "constants: -2^63 to 2^64-1; enumerators: -2^31 to 2^31-1; other numbers: 0 to 2^32-1"),
     26: ("invalid size '", "'", "a size is from 0 to 2^32-1, and that of an array in [ ] at least 1"),
     27: ("'", "' is not allowed here", "void is an arm of a union, the only argument, or a result"),
-    28: ("array size must be at least 1", None, None),
+    28: ("array size must be at least 1", None, "an array in < > may be empty"),
     29: ("a discriminant must be a plain int, unsigned int, bool or enum", None, None),
-    30: ("'", "' is not a value of the discriminant", None),
+    30: ("'", "' is not a value of the discriminant",
+         "write an enumerator of its enum, TRUE or FALSE for a bool, or a number for an int"),
     31: ("duplicate case '", "'", None),
     32: ("duplicate member '", "'", None),
     33: ("duplicate number '", "'",
@@ -46,6 +49,17 @@ NO_TYPE = {
 }
 NAME_A_CONSTANT = "write a number, or the name of a constant or an enumerator"
 NOTE = 37
+# Types of C by their names there, each with the type here that has its values.
+TYPES_OF_C = {name.encode(): here.encode() for here, names in {
+    "int": "int32_t int16_t short",
+    "unsigned int": "uint32_t u_int32_t uint16_t u_int16_t u_int uint u_short ushort",
+    "unsigned long": "u_long ulong",
+    "hyper": "int64_t longlong_t quad_t",
+    "unsigned hyper": "uint64_t u_int64_t u_longlong_t u_quad_t",
+    "bool": "bool_t boolean",
+}.items() for name in names.split()}
+# Something is suggested for so many undeclared words, by so many declared names, each of up to so many bytes.
+MOST_WORDS, MOST_NAMES, LONGEST = 16, 1024, 64
 LONGEST_LINE, BEFORE, AFTER = 100, 40, 60
 
 
@@ -96,10 +110,54 @@ def token_text(compilation, fault):
     return compilation.items[fault.item][fault.token]
 
 
+def name_of(compilation, fault):
+    """The name that a fault is about: the word, or at a word that declares an inline type again and no other name,
+    the whole name of that."""
+    if fault.code == 20:
+        here = [name for name in rpclang.declared(compilation.definitions[fault.item])
+                if name.place == fault.token]
+        if here[0].lifted:
+            for name in here:
+                first = compilation.first[name.name]
+                if (first.item, first.place) != (fault.item, fault.token):
+                    return name.name
+    return token_text(compilation, fault).text
+
+
 def first_place(compilation, fault):
-    """Where the word is declared first, if that matters to the fault and an item declares it."""
-    first = compilation.first.get(token_text(compilation, fault).text)
+    """Where the name is declared first, if that matters to the fault and an item declares it."""
+    first = compilation.first.get(name_of(compilation, fault))
     return first if fault.code in (20, 22, 23, 24) and first and first.item >= 0 else None
+
+
+@functools.lru_cache(None)
+def distance(word, name):
+    """In how many steps the name is made of the word: a byte is put in, left out or replaced, or two neighbours are
+    swapped, also apart, with what is put in or left out between them (Damerau and Levenshtein)."""
+    if not word or not name:
+        return len(word) + len(name)
+    steps = [distance(word[:-1], name) + 1, distance(word, name[:-1]) + 1,
+             distance(word[:-1], name[:-1]) + (word[-1] != name[-1])]
+    # The last place before the end of each at which it has the last byte of the other.
+    i, j = word[:-1].rfind(name[-1:]), name[:-1].rfind(word[-1:])
+    if i >= 0 and j >= 0:
+        steps.append(distance(word[:i], name[:j]) + (len(word) - i - 2) + 1 + (len(name) - j - 2))
+    return min(steps)
+
+
+def suggested(compilation, fault):
+    """What an undeclared word may have been meant as: a type that C calls so, or the nearest name, if one is near."""
+    unknown = [other for other in compilation.faults if other.code == 21]
+    word = token_text(compilation, fault).text
+    if fault not in unknown[:MOST_WORDS]:
+        return None
+    if word in TYPES_OF_C:
+        return TYPES_OF_C[word]
+    names = [name.name for definition in compilation.definitions if definition
+             for name in rpclang.declared(definition)][:MOST_NAMES]
+    near = [(distance(word, name), name) for name in names if max(len(word), len(name)) <= LONGEST]
+    near = [pair for pair in near if 3 * pair[0] <= len(word)]
+    return min(near, key=lambda pair: pair[0])[1] if near else None
 
 
 def saying(compilation, fault):
@@ -117,7 +175,7 @@ def headline(path, compilation, fault):
     front, rear, _ = saying(compilation, fault)
     said = front.encode()
     if rear is not None:
-        said += escaped(token_text(compilation, fault).text) + rear.encode()
+        said += escaped(name_of(compilation, fault)) + rear.encode()
     return b"%s:%d:%d: %d %s: %s\n" % (
         path, fault.line, fault.column, fault.code, rpclang.CODE_NAMES[fault.code].encode(), said)
 
@@ -148,7 +206,10 @@ def explained(path, compilation, fault):
             line_column = b":%d:%d" % rpclang.line_and_column(compilation.text, place)
             told += gutter + b" | note: declared at " + path + line_column + b"\n"
     help_text = saying(compilation, fault)[2]
-    if help_text is not None:
+    name = suggested(compilation, fault)
+    if name is not None:
+        told += gutter + b" | help: did you mean '" + name + b"'?\n"
+    elif help_text is not None:
         told += gutter + b" | help: " + help_text.encode() + b"\n"
     return told
 

@@ -617,7 +617,7 @@ def long_case(seed):
 
 def random_line(chance):
     """A script line that is nearly one of those that are answered."""
-    line = chance.choice([b"tokens", b"definitions", b"faults", b"edit 0 1", b"edit 0 0 2f2A", b"edit 123456789 0",
+    line = chance.choice([b"tokens", b"definitions", b"faults", b"explain", b"edit 0 1", b"edit 0 0 2f2A", b"edit 123456789 0",
                           b"edit 1 2 0", b"edit", b"edit 0000000001 0", b"edit -1 0", b"edit 0x1 2", b"%tokens"])
     for _ in range(chance.choice([1, 1, 2])):
         at = chance.randrange(len(line) + 1)

@@ -21,13 +21,13 @@ BAD_LINE = "refused 43 BadLine\n"
 
 def ask(text, *lines):
     """The answers to these lines, each as one string."""
-    session = rpcedit.Session(b"t", text.encode("latin-1"))
+    session = rpcedit.Session(b"t.x", text.encode("latin-1"))
     return [session.answer(line.encode("latin-1")).decode("latin-1") for line in lines]
 
 
 def after(text, edit):
     """The text after one accepted edit."""
-    session = rpcedit.Session(b"t", text.encode())
+    session = rpcedit.Session(b"t.x", text.encode())
     assert session.answer(edit.encode()) == b"ok %d\n" % len(session.text)
     return session.text.decode()
 
@@ -93,7 +93,7 @@ def tokens_and_edits():
     same(ask("const A = 1;", "edit 11 11 32", "header"), ["ok 13\n", "text 121\n" + written("header", number)])
     same(ask("const A = 1;", "edit 5 4", "edit 13 13", "edit 0 0 zz"),
          ["refused 1 BadRange\n", "refused 1 BadRange\n", BAD_LINE])
-    session = rpcedit.Session(b"t", b"12345" + b" " * (16_777_216 - 6))
+    session = rpcedit.Session(b"t.x", b"12345" + b" " * (16_777_216 - 6))
     same(session.answer(b"edit 0 0 2020"), b"refused 2 TooLarge\n")
     same(session.answer(b"edit 0 0 20"), b"ok 16777216\n")
     same(session.answer(b"edit 0 0 20"), b"refused 2 TooLarge\n")

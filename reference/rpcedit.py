@@ -6,6 +6,7 @@ import sys
 
 sys.dont_write_bytecode = True
 
+import explained
 import rpclang
 import texts
 import values
@@ -28,10 +29,11 @@ def standard_output():
 
 
 class Session:
-    """One text with its base. A line's answer depends on the text alone."""
+    """The text of one file. A line's answer depends on the text and the file's name alone."""
 
-    def __init__(self, base, text):
-        self.base = base
+    def __init__(self, file, text):
+        self.file = file
+        self.base = base_of(file)
         self.text = text
         self.refused = False
         self.last = None
@@ -64,6 +66,9 @@ class Session:
             return b"faults %d\n" % len(faults) + b"".join(
                 b"%d:%d %d %s\n" % (fault.line, fault.column, fault.code, rpclang.CODE_NAMES[fault.code].encode())
                 for fault in faults)
+        if line == b"explain":
+            compilation = self.compiled()
+            return b"explained %d\n" % len(compilation.faults) + explained.explanation(self.file, compilation)
         if line.decode("latin-1") in texts.KINDS:
             text = texts.text_of(line.decode(), self.base, self.compiled())
             return b"text %d\n" % len(text) + text
@@ -99,7 +104,7 @@ def main(words):
         return stop(f"{words[0]}: cannot be read")
     if len(text) > GREATEST_TEXT:
         return stop(f"{words[0]}: 2 TooLarge")
-    session = Session(base_of(os.fsencode(words[0])), text)
+    session = Session(os.fsencode(words[0]), text)
     out = standard_output()
     try:
         for line in sys.stdin.buffer:

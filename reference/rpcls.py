@@ -77,21 +77,24 @@ def changed(text, change, encoding):
 compiled = functools.lru_cache(rpclang.KEPT_TEXTS)(rpclang.Compilation)
 
 
-def sentence(compilation, fault, token):
+def sentence(compilation, fault):
     """What is wrong at a token. One that is no UTF-8 is a byte that begins no word."""
     front, rear, _ = explained.saying(compilation, fault)
     if rear is None:
         return front
+    name = explained.name_of(compilation, fault)
     try:
-        return front + token.text.decode() + rear
+        said = front + name.decode() + rear
     except UnicodeDecodeError:
-        return front + explained.escaped(token.text[:1]).decode() + rear
+        said = front + explained.escaped(name[:1]).decode() + rear
+    suggested = explained.suggested(compilation, fault)
+    return said if suggested is None else f"{said}; did you mean '{suggested.decode()}'?"
 
 
 def diagnostic(lines, compilation, fault):
     token = compilation.items[fault.item][fault.token]
     name = rpclang.CODE_NAMES[fault.code]
-    said = f"{fault.code} {name}: {sentence(compilation, fault, token)}"
+    said = f"{fault.code} {name}: {sentence(compilation, fault)}"
     return {"code": fault.code, "message": said, "severity": 1, "source": "rpcgen", "range": lines.range(token)}
 
 

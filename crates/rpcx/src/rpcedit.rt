@@ -36,8 +36,8 @@ pub fn edit_run<I: Tap, O: Outlet, E: Sink>(
     ensures reading { result ≢ Status.Failed → (I.state input.new).failed ≡ (I.state input.old).failed }
     ensures working { result ≢ Status.Failed → WorksOn (O.state out.old).failed (O.state out.new).failed }
     ensures answers { MatchOption (I.state input.old).bytes (Unit {0})
-        (λ script. Answers script (base_of args.now.file.now) bytes.now (O.state out.old)
-        (O.state out.new) result) }
+        (λ script. Answers script args.now.file.now (base_of args.now.file.now) bytes.now
+        (O.state out.old) (O.state out.new) result) }
 {
     let hash_key = HashKey::of_bytes(bytes);
     edit_run_keyed(alloc, hash_key, args, bytes, input, out, err)
@@ -65,8 +65,8 @@ pub fn edit_run_keyed<I: Tap, O: Outlet, E: Sink>(
     ensures reading { result ≢ Status.Failed → (I.state input.new).failed ≡ (I.state input.old).failed }
     ensures working { result ≢ Status.Failed → WorksOn (O.state out.old).failed (O.state out.new).failed }
     ensures answers { MatchOption (I.state input.old).bytes (Unit {0})
-        (λ script. Answers script (base_of args.now.file.now) bytes.now (O.state out.old)
-        (O.state out.new) result) }
+        (λ script. Answers script args.now.file.now (base_of args.now.file.now) bytes.now
+        (O.state out.old) (O.state out.new) result) }
 {
     let mut session = match Session::keyed(alloc, hash_key, base_of_file(args.file), bytes) {
         Ok(session) => session,
@@ -75,32 +75,33 @@ pub fn edit_run_keyed<I: Tap, O: Outlet, E: Sink>(
             return Status::Failed;
         }
     };
-    let status = answer_input(alloc, &mut session, input, out, err);
+    let status = answer_input(alloc, &mut session, args.file, input, out, err);
     // The process ends next, and gives all memory back at once.
     mem::forget(session);
     status
 }
 
-/// Carries out the script of the input, and answers the status.
+/// Carries out the script of the input over the text of `file`, and answers the status.
 fn answer_input<I: Tap, O: Outlet, E: Sink>(
     alloc: Global,
     session: &mut Session,
+    file: &str,
     input: &mut I,
     out: &mut O,
     err: &mut E,
 ) -> Status
     ensures stopped { result ≡ Status.Failed
-        → IsStopped session.old.base session.old.text
+        → IsStopped file.now session.old.base session.old.text
         (course (I.state input.old) (I.state input.new) (O.state out.old) (O.state out.new))
         (O.is_closed out.new) (E.state err.old) (E.state err.new) }
     ensures quiet { result ≢ Status.Failed → err.new ≡ err.old }
     ensures reading { result ≢ Status.Failed → (I.state input.new).failed ≡ (I.state input.old).failed }
     ensures working { result ≢ Status.Failed → WorksOn (O.state out.old).failed (O.state out.new).failed }
     ensures answers { MatchOption (I.state input.old).bytes (Unit {0})
-        (λ script. Answers script session.old.base session.old.text (O.state out.old)
+        (λ script. Answers script file.now session.old.base session.old.text (O.state out.old)
         (O.state out.new) result) }
 {
-    match run_script(alloc, session, input, out) {
+    match run_script(alloc, session, file, input, out) {
         Ok(Outcome::Clean) => Status::Done,
         Ok(Outcome::Refused) => Status::Faulty,
         Err(fault) => {

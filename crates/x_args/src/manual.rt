@@ -33,8 +33,8 @@ reports what is wrong with it on standard error.
   --help     show this text
   --version  show the version
 
-Give exactly one of -c, -h, -l and -t. If FILE has #include, #define or the
-like, run cpp first.
+Give exactly one of -c, -h, -l and -t, or --check alone. If FILE has #include,
+#define or the like, run cpp first.
 
 Example: rpcgen -h -o point.h point.x
 
@@ -55,6 +55,7 @@ standard input, one a line and in order. FILE itself is never changed.
   tokens                list the tokens and their places
   definitions           list the definitions
   faults                list the faults and their places
+  explain               print what rpcgen --explain says of them
   header, routines, stubs, table
                         print what rpcgen -h, -c, -l or -t writes
   dump TYPE [HEX]       print the value of TYPE that these bytes encode

@@ -199,7 +199,7 @@ fewer tokens =
     let most = count_by-le-length (λ t. is_significant t.kind) tokens in
     omega (arith, kept, most)
 
-short_each : (items : List Item) (index : ℕ) (d : Definition) (n : ℕ) → AreParses items → length (tokens_of items) ≤ n → n < 2 ^ 64 → slice_get (definitions_of items) index ≡ Some (Some d) → length (spell d) < 2 ^ 64
+pub short_each : (items : List Item) (index : ℕ) (d : Definition) (n : ℕ) → AreParses items → length (tokens_of items) ≤ n → n < 2 ^ 64 → slice_get (definitions_of items) index ≡ Some (Some d) → length (spell d) < 2 ^ 64
 short_each [] index d n are le few is = absurd (cc)
 short_each (i ∷ items) zero d n are le few is =
     let def : Some d ≡ parsed_definition i.parse = cc in

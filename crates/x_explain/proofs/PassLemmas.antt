@@ -13,9 +13,8 @@ use Rattle.x_explain.specs.declared.found.FoundFault.{FoundFault}
 use Rattle.x_lex.specs.declared.kind.Kind.{Kind}
 use Rattle.x_compile.specs.Compile.{IsCompilation, Item, places_of}
 use Rattle.x_session.specs.Session.{Compiles}
-use Rattle.x_explain.specs.declared.declared.FirstPlace.{FirstPlace}
 use Rattle.x_explain.specs.Explained.{IsPass, Telling, is_note, notes_at, said_by, said_in}
-use Rattle.x_explain.specs.Facts.{first_of}
+use Rattle.x_explain.specs.Facts.{Known, known_of}
 use Rattle.x_explain.specs.Found.{AreFound, IsFound}
 use Rattle.x_explain.proofs.DeclaredLemmas.{of_each}
 use Rattle.x_explain.proofs.FoundLemmas.{found_more}
@@ -25,7 +24,11 @@ pub note_more : (p : FaultPlace) (ps : List FaultPlace) (b : Bool) → is_note p
 note_more p ps b is = sum_by-cons (λ (q : FaultPlace). cond (is_note q.code) 1 0) p ps ∙ ap (λ x. cond x 1 0 + notes_at ps) is
 
 -- what a pass says of all but the places that are left was added, by the items of the text
-pub record HasPassed (pass : Pass) (t : Telling) (all left : List FaultPlace) (p : Inked) (before : Stream) (q : Inked) (now : Stream) : Type 0 where
+abbrev pub Near : Type 0
+Near = List (ℕ × Option (List ℕ))
+
+pub record HasPassed (pass : Pass) (t : Telling) (near : Near) (all left : List FaultPlace)
+    (p : Inked) (before : Stream) (q : Inked) (now : Stream) : Type 0 where
   pub tokens : List (Kind × ℕ)
   pub items : List Item
   pub compiles : IsCompilation t.text tokens items
@@ -33,16 +36,29 @@ pub record HasPassed (pass : Pass) (t : Telling) (all left : List FaultPlace) (p
   pub split : seen ++ left ≡ all
   pub found : List FoundFault
   pub are : AreFound t.text seen found
-  pub added : Adds p before q now (flat_map (said_by pass t items) found)
+  pub added : Adds p before q now (flat_map (said_by pass t items near) found)
 
-pub passed_none : {P : List Item → Type 0} (pass : Pass) (t : Telling) (all : List FaultPlace) (p : Inked) (now : Stream) → Compiles t.text P → HasPassed pass t all all p now p now
-passed_none pass t all p now c = record { tokens = c.0; items = c.1; compiles = c.2; seen = []; split = refl; found = []; are = tt; added = adds_none p now }
+pub passed_none : {P : List Item → Type 0} (pass : Pass) (t : Telling) (near : Near) (all : List FaultPlace)
+    (p : Inked) (now : Stream) → Compiles t.text P → HasPassed pass t near all all p now p now
+passed_none pass t near all p now c = record {
+  tokens = c.0;
+  items = c.1;
+  compiles = c.2;
+  seen = [];
+  split = refl;
+  found = [];
+  are = tt;
+  added = adds_none p now;
+}
 
-pub passed_more : (pass : Pass) (t : Telling) (all left : List FaultPlace) (f : FaultPlace) (d : FoundFault) (p q r : Inked) (a b c : Stream)
-    → HasPassed pass t all (f ∷ left) p a q b → IsFound t.text f d → ((tokens : List (Kind × ℕ)) (items : List Item) → IsCompilation t.text tokens items → Adds q b r c (said_by pass t items d))
-    → HasPassed pass t all left p a r c
-passed_more pass t all left f d p q r a b c so is adds =
-    let say = said_by pass t so.items in
+pub passed_more : (pass : Pass) (t : Telling) (near : Near) (all left : List FaultPlace) (f : FaultPlace)
+    (d : FoundFault) (p q r : Inked) (a b c : Stream)
+    → HasPassed pass t near all (f ∷ left) p a q b → IsFound t.text f d
+    → ((tokens : List (Kind × ℕ)) (items : List Item) → IsCompilation t.text tokens items
+    → Adds q b r c (said_by pass t items near d))
+    → HasPassed pass t near all left p a r c
+passed_more pass t near all left f d p q r a b c so is adds =
+    let say = said_by pass t so.items near in
     let more = adds so.tokens so.items so.compiles in
     let one = append-nil (say d) in
     record {
@@ -53,26 +69,35 @@ passed_more pass t all left f d p q r a b c so is adds =
       split = append_assoc so.seen (f ∷ []) left ∙ so.split;
       found = so.found ++ d ∷ [];
       are = found_more t.text so.seen so.found f d so.are is;
-      added = subst (λ s. Adds p a r c s) (ap (λ s. flat_map say so.found ++ s) (sym one) ∙ sym (flat_map-append say so.found (d ∷ [])))
+      added = subst (λ s. Adds p a r c s)
+          (ap (λ s. flat_map say so.found ++ s) (sym one) ∙ sym (flat_map-append say so.found (d ∷ [])))
           (adds_trans p q r a b c (flat_map say so.found) (say d) so.added more);
     }
 
-pub passed_all : (pass : Pass) (t : Telling) (all left : List FaultPlace) (p q : Inked) (a b : Stream) → left ≡ [] → Compiles t.text (λ items. all ≡ places_of items) → HasPassed pass t all left p a q b
-    → Compiles t.text (λ items. IsPass pass t items (places_of items) p a q b)
-passed_all pass t all left p q a b none places so =
+pub passed_all : (pass : Pass) (t : Telling) (near : Near) (all left : List FaultPlace) (p q : Inked)
+    (a b : Stream) → left ≡ [] → Compiles t.text (λ items. all ≡ places_of items)
+    → HasPassed pass t near all left p a q b
+    → Compiles t.text (λ items. IsPass pass t items near (places_of items) p a q b)
+passed_all pass t near all left p q a b none places so =
     let whole = sym (append-nil so.seen) ∙ ap (λ l. so.seen ++ l) (sym none) ∙ so.split in
-    let is = of_each t.text places so.tokens so.items so.compiles in
-    (so.tokens, so.items, so.compiles, (so.found, subst (λ l. AreFound t.text l so.found) (whole ∙ is) so.are, so.added))
+    let is = of_each t.text places so.tokens so.items so.compiles in (
+      so.tokens,
+      so.items,
+      so.compiles,
+      (so.found, subst (λ l. AreFound t.text l so.found) (whole ∙ is) so.are, so.added),
+    )
 
--- how a fault is told is how all are, and where its word is declared first is what the items say
-pub said_as : (pass : Pass) (coloured : Bool) (file text here : List ℕ) (items : List Item) (d : FoundFault) (word : List ℕ) (first : Option FirstPlace) (p q : Inked) (a b : Stream) → text ≡ here
-    → word ≡ slice_range text d.start d.end → first ≡ first_of here items d.code word
-    → Adds p a q b (said_in pass (record { coloured = coloured; file = file; text = text }) d first)
-    → Adds p a q b (said_by pass (record { coloured = coloured; file = file; text = here }) items d)
-said_as pass coloured file text here items d word first p q a b is word_is first_is added =
+-- how a fault is told is how all are, and what is known of its word is what the items say
+pub said_as : (pass : Pass) (coloured : Bool) (file text here : List ℕ) (items : List Item) (near : Near)
+    (d : FoundFault) (word : List ℕ) (k : Known) (p q : Inked) (a b : Stream) → text ≡ here
+    → word ≡ slice_range text d.start d.end → k ≡ known_of here items near d.code d.start word
+    → Adds p a q b (said_in pass (record { coloured = coloured; file = file; text = text }) d k)
+    → Adds p a q b (said_by pass (record { coloured = coloured; file = file; text = here }) items near d)
+said_as pass coloured file text here items near d word k p q a b is word_is known_is added =
     let w = word_is ∙ ap (λ x. slice_range x d.start d.end) is in
-    let f = first_is ∙ ap (first_of here items d.code) w in
-    subst (λ s. Adds p a q b s) (λ i. said_in pass (record { coloured = coloured; file = file; text = is i }) d (f i)) added
+    let f = known_is ∙ ap (known_of here items near d.code d.start) w in
+    subst (λ s. Adds p a q b s)
+    (λ i. said_in pass (record { coloured = coloured; file = file; text = is i }) d (f i)) added
 
 pub tail_is : {X : Type 0} (x y : X) (xs ys : List X) → x ∷ xs ≡ y ∷ ys → xs ≡ ys
 tail_is x y xs ys is = cc

@@ -4,7 +4,6 @@ use Rattle.std.specs.List.{filter}
 use Rattle.x_text.specs.Text.{line_of, column_of}
 use Rattle.x_lex.specs.Places.{Lexeme}
 use Rattle.x_trees.specs.Words.{is_significant}
-use Rattle.x_trees.specs.declared.names.declared_name.NameKind.{NameKind}
 use Rattle.x_names.specs.Declarers.{first_declarer}
 use Rattle.x_names.specs.DeclarerTable.{first_in}
 use Rattle.x_names.specs.declared.names.Declarer.{Declarer}

@@ -1,7 +1,9 @@
 -- The faults of a text, explained.
 use Rattle.std.specs.Prelude.{◌≡◌, ℕ, ◌-◌, max, Bool, true, false, ◌==◌, List, [], ◌∷◌, ◌++◌, codes}
 use Rattle.std.specs.Prelude.{length, take, count_by, Option, None, Some, if◌then◌else◌, slice_range}
+use Rattle.std.specs.Prelude.{option_map}
 use Rattle.std.specs.List.{flat_map}
+use Rattle.std.specs.Option.{option_or}
 use Rattle.std.specs.Fmt.{decimal}
 use Rattle.x_text.specs.Streams.{Stream}
 use Rattle.x_text.specs.Text.{line_of, column_of}
@@ -17,10 +19,11 @@ use Rattle.x_explain.specs.declared.found.FoundFault.{FoundFault}
 use Rattle.x_explain.specs.declared.explained.Pass.{Pass}
 use Rattle.x_explain.specs.declared.explained.Pass.TheVariants.{Errors, Notes}
 use Rattle.x_explain.specs.Excerpts.{Excerpt, excerpt}
-use Rattle.x_explain.specs.Facts.{first_of, kind_of}
+use Rattle.x_explain.specs.Facts.{Known, kind_of, known_of}
 use Rattle.x_explain.specs.Found.{AreFound}
 use Rattle.x_explain.specs.Sentences.{saying, sentence}
 use Rattle.x_explain.specs.Shown.{blank, columns, shown_byte, tildes}
+use Rattle.x_explain.specs.Suggestions.{AreSuggested}
 
 -- ten spaces, as wide as the greatest number of a line
 abbrev pub margin : List ℕ
@@ -84,7 +87,7 @@ caret_line coloured line e width =
 abbrev pub place : (file : List ℕ) → (line column : ℕ) → List ℕ
 place file line column = file ++ codes ":" ++ decimal line ++ codes ":" ++ decimal column
 
--- where the word is declared first, if that is not here
+-- where a name is declared first, if that is not here
 abbrev pub declared_line : (coloured : Bool) → (file : List ℕ) → ℕ → FirstPlace → List ℕ
 declared_line coloured file line f =
     gutter line ++ codes " | " ++ painted coloured cyan (codes "note:") ++ codes " declared at "
@@ -101,7 +104,7 @@ help_line coloured line None = []
 help_line coloured line (Some help) =
     gutter line ++ codes " | " ++ painted coloured cyan (codes "help:") ++ codes " " ++ help ++ codes "\n"
 
--- `FILE:LINE:COL: CODE NAME: SENTENCE`
+-- `FILE:LINE:COL: `
 abbrev pub heading : (file text : List ℕ) → FoundFault → List ℕ
 heading file text d = place file (line_of text d.start) (column_of text d.start) ++ codes ": "
 
@@ -114,10 +117,17 @@ pub record Telling : Type 0 where
 abbrev pub word_of : List ℕ → FoundFault → List ℕ
 word_of text d = slice_range text d.start d.end
 
--- the line that says what is wrong with a word, by where it is declared first
-abbrev pub headline : Telling → FoundFault → Option FirstPlace → List ℕ
-headline t d first = heading t.file t.text d ++ painted t.coloured red (fault_text d.code) ++ codes ": "
-    ++ sentence d.code (kind_of first) (word_of t.text d) ++ codes "\n"
+-- `FILE:LINE:COL: CODE NAME: SENTENCE`, by what is known of the word
+abbrev pub headline : Telling → FoundFault → Known → List ℕ
+headline t d k = heading t.file t.text d ++ painted t.coloured red (fault_text d.code) ++ codes ": "
+    ++ sentence d.code (kind_of k.first) k.name ++ codes "\n"
+
+-- what helps: the name that may have been meant, or what helps against such faults
+abbrev pub meant : List ℕ → List ℕ
+meant name = codes "did you mean '" ++ name ++ codes "'?"
+
+abbrev pub help_of : FaultCode → Known → Option (List ℕ)
+help_of code k = option_or (option_map meant k.suggested) (saying code (kind_of k.first)).help
 
 -- that line, the line of the text, and what helps
 abbrev pub line_by : Telling → FoundFault → ℕ
@@ -126,12 +136,12 @@ line_by t d = line_of t.text d.start
 abbrev pub excerpt_by : Telling → FoundFault → Excerpt
 excerpt_by t d = excerpt t.text d.start (column_of t.text d.start)
 
-abbrev pub explained : Telling → FoundFault → Option FirstPlace → List ℕ
-explained t d first =
-    headline t d first ++ source_line (line_by t d) (excerpt_by t d)
+abbrev pub explained : Telling → FoundFault → Known → List ℕ
+explained t d k =
+    headline t d k ++ source_line (line_by t d) (excerpt_by t d)
     ++ caret_line t.coloured (line_by t d) (excerpt_by t d) (d.end - d.start)
-    ++ note_line t.coloured t.file (line_by t d) d.start first
-    ++ help_line t.coloured (line_by t d) (saying d.code (kind_of first)).help
+    ++ note_line t.coloured t.file (line_by t d) d.start k.first
+    ++ help_line t.coloured (line_by t d) (help_of d.code k)
 
 -- a fault that comes of others: the definition of the word has faults
 abbrev pub is_note : FaultCode → Bool
@@ -139,19 +149,20 @@ is_note (Rule UsesFaulty) = true
 is_note code = false
 
 -- what a pass over the faults says of one
-abbrev pub error_said : Telling → FoundFault → Option FirstPlace → List ℕ
-error_said t d first = if is_note d.code then [] else explained t d first
+abbrev pub error_said : Telling → FoundFault → Known → List ℕ
+error_said t d k = if is_note d.code then [] else explained t d k
 
-abbrev pub note_said : Telling → FoundFault → Option FirstPlace → List ℕ
-note_said t d first = if is_note d.code then headline t d first else []
+abbrev pub note_said : Telling → FoundFault → Known → List ℕ
+note_said t d k = if is_note d.code then headline t d k else []
 
-abbrev pub said_in : Pass → Telling → FoundFault → Option FirstPlace → List ℕ
-said_in Errors t d first = error_said t d first
-said_in Notes t d first = note_said t d first
+abbrev pub said_in : Pass → Telling → FoundFault → Known → List ℕ
+said_in Errors t d k = error_said t d k
+said_in Notes t d k = note_said t d k
 
--- what it says of one, by the items of the text
-abbrev pub said_by : Pass → Telling → List Item → FoundFault → List ℕ
-said_by pass t items d = said_in pass t d (first_of t.text items d.code (word_of t.text d))
+-- what it says of one, by the items of the text, and by what is suggested for its words
+abbrev pub said_by : Pass → Telling → List Item → List (ℕ × Option (List ℕ)) → FoundFault → List ℕ
+said_by pass t items near d =
+    said_in pass t d (known_of t.text items near d.code d.start (word_of t.text d))
 
 -- `3 errors, 1 note`
 abbrev pub counted : ℕ → List ℕ → List ℕ
@@ -167,20 +178,24 @@ abbrev pub notes_at : List FaultPlace → ℕ
 notes_at places = count_by (λ p. is_note p.code) places
 
 -- the errors of a text, then the notes, and how many there are
-abbrev pub explanation : Telling → List Item → (errors notes : List FoundFault) → List ℕ
-explanation t items errors notes =
-    flat_map (said_by Errors t items) errors ++ flat_map (said_by Notes t items) notes
+abbrev pub explanation : Telling → List Item → List (ℕ × Option (List ℕ))
+    → (errors notes : List FoundFault) → List ℕ
+explanation t items near errors notes =
+    flat_map (said_by Errors t items near) errors ++ flat_map (said_by Notes t items near) notes
     ++ summary (length (places_of items) - notes_at (places_of items)) (notes_at (places_of items))
 
 -- the faults of a text, which has these items, are explained so
 pub record AreExplained (t : Telling) (items : List Item) (said : List ℕ) : Type 0 where
+  pub near : List (ℕ × Option (List ℕ))
   pub errors : List FoundFault
   pub notes : List FoundFault
+  pub are_near : AreSuggested t.text items near
   pub are_found : AreFound t.text (places_of items) errors
   pub are_found_too : AreFound t.text (places_of items) notes
-  pub said_is : said ≡ explanation t items errors notes
+  pub said_is : said ≡ explanation t items near errors notes
 
 -- a pass added what it says of the faults at these places
-abbrev pub IsPass : Pass → Telling → List Item → List FaultPlace → Inked → Stream → Inked → Stream → Type 0
-IsPass pass t items places p before q after = (found : List FoundFault) × AreFound t.text places found
-    × Adds p before q after (flat_map (said_by pass t items) found)
+abbrev pub IsPass : Pass → Telling → List Item → List (ℕ × Option (List ℕ)) → List FaultPlace
+    → Inked → Stream → Inked → Stream → Type 0
+IsPass pass t items near places p before q after = (found : List FoundFault) × AreFound t.text places found
+    × Adds p before q after (flat_map (said_by pass t items near) found)

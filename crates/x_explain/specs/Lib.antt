@@ -1,3 +1,4 @@
+pub mod AgainNames
 pub mod Columns
 pub mod DeclaredNames
 pub mod Excerpts
@@ -6,3 +7,4 @@ pub mod Facts
 pub mod Found
 pub mod Sentences
 pub mod Shown
+pub mod Suggestions

@@ -40,7 +40,8 @@ alone front help = record { front = front; rear = None; help = help }
 -- of a word of an item that spells no definition
 abbrev pub item_saying : item.FaultCode → Saying
 item_saying items.Syntax =
-    helped (codes "unexpected '") (codes "'") (codes "a ';' or another word may be missing before it")
+    helped (codes "unexpected '") (codes "'")
+    (codes "a word may be misspelt, missing before it, or one too many")
 item_saying items.BadByte = helped (codes "unexpected character '") (codes "'")
     (codes "words are made of ASCII letters, digits and '_'; comments are written /* .. */")
 item_saying items.BadNumber = helped (codes "invalid number '") (codes "'")
@@ -49,7 +50,8 @@ item_saying items.OpenComment = alone (codes "unterminated comment") (Some (code
 item_saying items.Directive =
     alone (codes "preprocessor directive") (Some (codes "run cpp on it first, and rpcgen on the result"))
 item_saying items.Unfinished =
-    helped (codes "unexpected end of text after '") (codes "'") (codes "a definition ends with ';'")
+    helped (codes "unexpected end of text after '") (codes "'")
+    (codes "close each '{' with '}', and end the definition with ';'")
 
 -- a name that is no type, or a type of another keyword than the one before it
 abbrev pub not_a_type : (front : List ℕ) → Saying
@@ -88,11 +90,11 @@ not_const_saying kind = no_constant (codes "expected a constant, found '")
 -- of a word that breaks a rule, by what its name is declared as
 abbrev pub rule_saying : RuleCode → Option NameKind → Saying
 rule_saying rules.Duplicate kind = helped (codes "'") (codes "' is declared already")
-    (codes "enumerators count too, and so do inline types: field b of struct a declares 'a_b'")
+    (codes "constants, enumerators, types and programs need different names; so do inline types")
 rule_saying rules.Unknown kind = helped (codes "undeclared name '") (codes "'")
-    (codes "declare it before this definition, or mend its declaration; C's own types are not known")
+    (codes "declare it first; a syntax fault hides all up to the next ';' outside braces")
 rule_saying rules.LateName kind = helped (codes "'") (codes "' is used before it is fully declared")
-    (codes "declare it first; only a link to a struct or union, as in 'b *x', may come before or within it")
+    (codes "declare it first; only links to structs and unions, as in 'b *x' and 'b x<>', may come earlier")
 rule_saying rules.NotType kind = not_type_saying kind
 rule_saying rules.NotConst kind = not_const_saying kind
 rule_saying rules.Range kind = helped (codes "the value of '") (codes "' is out of range")
@@ -101,10 +103,12 @@ rule_saying rules.BadSize kind = helped (codes "invalid size '") (codes "'")
     (codes "a size is from 0 to 2^32-1, and that of an array in [ ] at least 1")
 rule_saying rules.VoidPlace kind = helped (codes "'") (codes "' is not allowed here")
     (codes "void is an arm of a union, the only argument, or a result")
-rule_saying rules.EmptyArray kind = alone (codes "array size must be at least 1") None
+rule_saying rules.EmptyArray kind =
+    alone (codes "array size must be at least 1") (Some (codes "an array in < > may be empty"))
 rule_saying rules.BadDiscriminant kind =
     alone (codes "a discriminant must be a plain int, unsigned int, bool or enum") None
-rule_saying rules.BadCase kind = about (codes "'") (codes "' is not a value of the discriminant")
+rule_saying rules.BadCase kind = helped (codes "'") (codes "' is not a value of the discriminant")
+    (codes "write an enumerator of its enum, TRUE or FALSE for a bool, or a number for an int")
 rule_saying rules.RepeatedCase kind = about (codes "duplicate case '") (codes "'")
 rule_saying rules.RepeatedField kind = about (codes "duplicate member '") (codes "'")
 rule_saying rules.RepeatedNumber kind = helped (codes "duplicate number '") (codes "'")

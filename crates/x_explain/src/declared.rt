@@ -76,8 +76,16 @@ impl<'s> DeclaredNames<'s> {
         }
     }
 
-    /// Where the word starts that declares a name first.
-    fn spot(&self, declarer: &Declarer) -> Option<Spot>
+    /// Who declares a name first (RFC 4506, section 6.4).
+    pub(crate) fn first_declarer(&self, name: &[u8]) -> Option<Declarer>
+        ensures { (text : List ℕ) (items : List Item) → IsTableOf text items self.now
+            → result ≡ first_declarer (definitions_of items) name.now }
+    {
+        self.names.first(name)
+    }
+
+    /// Where the word starts that declares a name.
+    pub(crate) fn spot(&self, declarer: &Declarer) -> Option<Spot>
         ensures { (text : List ℕ) (items : List Item) → IsTableOf text items self.now
             → result ≡ option_map (λ t. spot_at text t.start) (word_at items declarer.now) }
     {

@@ -1,37 +1,38 @@
 //! The faults of a text, explained.
 
-ghost use Rattle.std.specs.Prelude.{◌≡◌, ◌+◌, ℕ, List, length, slice_range};
+ghost use Rattle.std.specs.Prelude.{◌≡◌, ◌+◌, ℕ, List, length};
 ghost use Rattle.x_text.specs.Text.{line_of, column_of};
 ghost use Rattle.x_text.specs.Writing.{Adds};
 ghost use Rattle.x_compile.specs.Compile.{places_of};
 ghost use Rattle.x_session.specs.Session.{Compiles};
-ghost use Rattle.x_explain.specs.DeclaredNames.{IsTableOf};
 ghost use Rattle.x_explain.specs.Explained.{AreExplained, IsPass, counted, counted_notes, explained, heading};
-ghost use Rattle.x_explain.specs.Explained.{headline, is_note, notes_at, said_in, summary};
-ghost use Rattle.x_explain.specs.Facts.{kind_of};
+ghost use Rattle.x_explain.specs.Explained.{headline, help_line, help_of, is_note, notes_at, said_in};
+ghost use Rattle.x_explain.specs.Explained.{summary};
+ghost use Rattle.x_explain.specs.Facts.{AreFactsOf, kind_of, near_in, view_known};
 ghost use Rattle.x_explain.specs.Sentences.{saying, view_sentence};
 
-use crate::declared::{DeclaredNames, FirstPlace};
+use crate::declared::FirstPlace;
 use crate::excerpt::excerpt_at;
-use crate::found::{FoundFault, token_end};
+use crate::facts::{FaultFacts, Known};
+use crate::found::{FoundFault, token_end, word_at};
 use crate::lines::{
     RED, add_caret_line, add_help_line, add_note_line, add_painted, add_place, add_source_line,
+    add_suggestion_line,
 };
 use crate::sentences::{Sentence, add_sentence, sentence_of};
-use crate::shown::first_of;
 use x_item::NameKind;
 use x_session::{FaultCode, RuleCode, Session};
 use x_text::{Pen, Sink};
 use x_value::add_number;
 
-/// A fault of a text, with the line and the column of its token, and where its word is declared first.
+/// A fault of a text, with the line and the column of its token, and what is known of its word.
 #[derive(Drop)]
 struct Told<'t> {
     coloured: bool,
     file: &'t str,
     text: &'t [u8],
     found: FoundFault,
-    first: Option<FirstPlace>,
+    known: Known<'t>,
     line: u32,
     column: u32,
     ghost line_is: { line ≡ line_of text.now found.start },
@@ -41,9 +42,9 @@ struct Told<'t> {
 impl Told<'_> {
     /// What is said of its word.
     fn sentence(&self) -> Sentence
-        ensures { view_sentence result ≡ saying self.now.found.code (kind_of self.now.first) }
+        ensures { view_sentence result ≡ saying self.now.found.code (kind_of self.now.known.first) }
     {
-        sentence_of(self.found.code, kind_of(self.first))
+        sentence_of(self.found.code, kind_of(self.known.first))
     }
 
     /// Adds `FILE:LINE:COL: `.
@@ -64,14 +65,19 @@ impl Told<'_> {
               coloured = self.now.coloured;
               file = self.now.file.now;
               text = self.now.text.now;
-            }) self.now.found self.now.first) }
+            }) self.now.found (view_known self.now.known)) }
     {
         let code = self.found.code.text().as_bytes();
-        let word = word_at(self.text, self.found.start, self.found.end);
         self.add_heading(pen, sink);
         add_painted(self.coloured, RED, code, pen, sink);
         pen.add(b": ", sink);
-        add_sentence(self.found.code, kind_of(self.first), word, pen, sink);
+        add_sentence(
+            self.found.code,
+            kind_of(self.known.first),
+            self.known.name,
+            pen,
+            sink,
+        );
         pen.add(b"\n", sink);
     }
 
@@ -83,7 +89,7 @@ impl Told<'_> {
               coloured = self.now.coloured;
               file = self.now.file.now;
               text = self.now.text.now;
-            }) self.now.found self.now.first) }
+            }) self.now.found (view_known self.now.known)) }
     {
         let excerpt = excerpt_at(self.text, self.found.start, self.column);
         let width = self.found.end.saturating_sub(self.found.start);
@@ -96,11 +102,23 @@ impl Told<'_> {
             self.file,
             self.line,
             start,
-            self.first,
+            self.known.first,
             pen,
             sink,
         );
-        add_help_line(self.coloured, self.line, self.sentence().help, pen, sink);
+        self.add_help(pen, sink);
+    }
+
+    /// Adds what helps: the name that may have been meant, or what helps against such faults.
+    fn add_help<S: Sink>(&self, pen: &mut Pen, sink: &mut S)
+        ensures { Adds pen.old (S.state sink.old) pen.new (S.state sink.new)
+            (help_line self.now.coloured self.now.line
+            (help_of self.now.found.code (view_known self.now.known))) }
+    {
+        match self.known.suggested {
+            Some(name) => add_suggestion_line(self.coloured, self.line, name, pen, sink),
+            None => add_help_line(self.coloured, self.line, self.sentence().help, pen, sink),
+        }
     }
 
     /// Adds what the pass says of the fault: that of errors explains them, and that of notes says them.
@@ -110,7 +128,7 @@ impl Told<'_> {
               coloured = self.now.coloured;
               file = self.now.file.now;
               text = self.now.text.now;
-            }) self.now.found self.now.first) }
+            }) self.now.found (view_known self.now.known)) }
     {
         match (pass, is_note(self.found.code)) {
             (Pass::Errors, false) => self.add_explained(pen, sink),
@@ -128,14 +146,6 @@ fn kind_of(first: Option<FirstPlace>) -> Option<NameKind>
         Some(first) => Some(first.kind),
         None => None,
     }
-}
-
-/// The bytes of the token between two places.
-fn word_at(text: &[u8], start: usize, end: usize) -> &[u8]
-    ensures { result.now ≡ slice_range text.now start end }
-{
-    let from = text.get(start..).unwrap_or(&[]);
-    first_of(from, end.saturating_sub(start))
 }
 
 /// Faults are gone over twice: for those that are errors, and for those that come of others.
@@ -158,19 +168,19 @@ struct Telling<'t, 's> {
     coloured: bool,
     file: &'t str,
     session: &'t Session,
-    declared: &'t DeclaredNames<'s>,
+    facts: &'t FaultFacts<'s>,
 }
 
 impl Telling<'_, '_> {
     /// Adds what a pass says of the faults.
     fn add_pass<S: Sink>(&self, pass: Pass, pen: &mut Pen, sink: &mut S)
         requires { Compiles self.now.session.now.text
-            (λ items. IsTableOf self.now.session.now.text items self.now.declared.now) }
+            (λ items. AreFactsOf self.now.session.now.text items self.now.facts.now) }
         ensures { Compiles self.now.session.now.text (λ items. IsPass pass (record {
           coloured = self.now.coloured;
           file = self.now.file.now;
           text = self.now.session.now.text;
-        }) items
+        }) items (near_in self.now.facts.now)
             (places_of items) pen.old (S.state sink.old) pen.new (S.state sink.new)) }
     {
         let text = self.session.bytes();
@@ -190,9 +200,9 @@ impl Telling<'_, '_> {
                 file: self.file,
                 text,
                 found,
-                first: self
-                    .declared
-                    .first_of(place.code, word_at(text, place.start, end)),
+                known: self
+                    .facts
+                    .known(place.code, place.start, word_at(text, place.start, end)),
                 line: fault.line,
                 column: fault.col,
             };
@@ -248,18 +258,18 @@ fn add_summary<S: Sink>(errors: usize, notes: usize, pen: &mut Pen, sink: &mut S
 }
 
 /// Adds the faults of a file's text, explained: each error with its line and what helps, then each fault that
-/// comes of others in a line, and then how many there are. `declared` are the names of the text.
+/// comes of others in a line, and then how many there are. `facts` are those of the text.
 ///
 /// Goes over the faults three times, and takes no memory.
 pub fn add_explained_faults<S: Sink>(
     coloured: bool,
     file: &str,
     session: &Session,
-    declared: &DeclaredNames,
+    facts: &FaultFacts,
     pen: &mut Pen,
     sink: &mut S,
 )
-    requires { Compiles session.now.text (λ items. IsTableOf session.now.text items declared.now) }
+    requires { Compiles session.now.text (λ items. AreFactsOf session.now.text items facts.now) }
     ensures { Compiles session.now.text (λ items. (said : List ℕ)
         × AreExplained (record { coloured = coloured; file = file.now; text = session.now.text }) items said
         × Adds pen.old (S.state sink.old) pen.new (S.state sink.new) said) }
@@ -270,7 +280,7 @@ pub fn add_explained_faults<S: Sink>(
         coloured,
         file,
         session,
-        declared,
+        facts,
     };
     telling.add_pass(Pass::Errors, pen, sink);
     telling.add_pass(Pass::Notes, pen, sink);

@@ -1,10 +1,11 @@
 //! The faults of a text, each with the place where its token ends.
 
-ghost use Rattle.std.specs.Prelude.{◌≡◌, IfOk};
+ghost use Rattle.std.specs.Prelude.{◌≡◌, IfOk, slice_range};
 ghost use Rattle.x_compile.specs.Compile.{places_of};
 ghost use Rattle.x_session.specs.Session.{Compiles};
 ghost use Rattle.x_explain.specs.Found.{AreFound, IsEndOfToken};
 
+use crate::shown::first_of;
 use std::alloc::Global;
 use x_lex::lex_one;
 use x_session::{FaultCode, FaultPlace, Session};
@@ -42,10 +43,20 @@ pub fn found_faults(alloc: Global, session: &Session) -> Result<Vec<FoundFault>,
     ensures { IfOk result (λ found. Compiles session.now.text (λ items.
         AreFound session.now.text (places_of items) found.items)) }
 {
-    let text = session.bytes();
     let places = listed(alloc, session)?;
+    found_at(alloc, session.bytes(), &places)
+}
+
+/// The faults at these places of a text.
+pub(crate) fn found_at(
+    alloc: Global,
+    text: &[u8],
+    places: &[FaultPlace],
+) -> Result<Vec<FoundFault>, NoMemory>
+    ensures { IfOk result (λ found. AreFound text.now places.now found.items) }
+{
     let mut found = Vec::with_capacity(alloc, places.len())?;
-    for place in &places {
+    for place in places {
         found.push(FoundFault {
             code: place.code,
             start: place.start,
@@ -53,6 +64,14 @@ pub fn found_faults(alloc: Global, session: &Session) -> Result<Vec<FoundFault>,
         })?;
     }
     Ok(found)
+}
+
+/// The bytes of the token between two places.
+pub(crate) fn word_at(text: &[u8], start: usize, end: usize) -> &[u8]
+    ensures { result.now ≡ slice_range text.now start end }
+{
+    let from = text.get(start..).unwrap_or(&[]);
+    first_of(from, end.saturating_sub(start))
 }
 
 /// The places of the faults.

@@ -1,18 +1,23 @@
 //! Faults as a compiler explains them: in a sentence, with the line of the text and a mark under the word.
 #![tactic(auto)]
 
+mod again;
 mod declared;
 mod excerpt;
 mod explained;
+mod facts;
 mod found;
 mod laws;
 mod lines;
 mod sentences;
 mod shown;
+mod suggestions;
 
 pub use declared::{DeclaredNames, FirstPlace, Spot, definitions};
 pub use explained::add_explained_faults;
+pub use facts::{FaultFacts, FaultNames, Known};
 pub use found::{FoundFault, found_faults, token_end};
 pub use laws::mark_under_word;
-pub use sentences::{Sentence, sentence_of};
+pub use sentences::{MEANT, MEANT_END, Sentence, sentence_of};
 pub use shown::escape_of;
+pub use suggestions::Suggestions;

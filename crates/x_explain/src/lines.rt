@@ -1,11 +1,11 @@
 //! The lines that explain a fault.
 
-ghost use Rattle.std.specs.Prelude.{◌≡◌, option_map};
+ghost use Rattle.std.specs.Prelude.{◌≡◌, Some, option_map};
 ghost use Rattle.x_text.specs.Writing.{Adds};
 ghost use Rattle.x_explain.specs.Excerpts.{view_excerpt};
 ghost use Rattle.x_explain.specs.Explained.{blank_front, caret_line, declared_line, green, gutter, help_line};
-ghost use Rattle.x_explain.specs.Explained.{mark, note_line, number_field, painted, place, shown_front};
-ghost use Rattle.x_explain.specs.Explained.{shown_rear, source_line, word_tildes};
+ghost use Rattle.x_explain.specs.Explained.{mark, meant, note_line, number_field, painted, place};
+ghost use Rattle.x_explain.specs.Explained.{shown_front, shown_rear, source_line, word_tildes};
 
 use crate::declared::FirstPlace;
 use crate::excerpt::Excerpt;
@@ -216,6 +216,36 @@ pub(crate) fn add_note_line<S: Sink>(
     {
         add_declared_line(coloured, file, line, &first, pen, sink);
     }
+}
+
+/// Adds the question that has a name which may have been meant.
+#[tactic(auto, using(x_text::proofs::Adding::three))]
+fn add_meant<S: Sink>(name: &[u8], pen: &mut Pen, sink: &mut S)
+    ensures { Adds pen.old (S.state sink.old) pen.new (S.state sink.new) (meant name.now) }
+{
+    pen.add(b"did you mean '", sink);
+    pen.add(name, sink);
+    pen.add(b"'?", sink);
+}
+
+/// Adds that a name may have been meant.
+#[tactic(auto, using(x_text::proofs::Adding::six))]
+pub(crate) fn add_suggestion_line<S: Sink>(
+    coloured: bool,
+    line: u32,
+    name: &[u8],
+    pen: &mut Pen,
+    sink: &mut S,
+)
+    ensures { Adds pen.old (S.state sink.old) pen.new (S.state sink.new)
+        (help_line coloured line (Some (meant name.now))) }
+{
+    add_gutter(line, pen, sink);
+    pen.add(b" | ", sink);
+    add_painted(coloured, CYAN, b"help:", pen, sink);
+    pen.add(b" ", sink);
+    add_meant(name, pen, sink);
+    pen.add(b"\n", sink);
 }
 
 /// Adds what helps, where there is something.

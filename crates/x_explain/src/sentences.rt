@@ -22,6 +22,12 @@ pub struct Sentence {
     pub help: Option<&'static str>,
 }
 
+/// What stands between a sentence and a name that may have been meant, where both are in one line,
+pub const MEANT: &str = "; did you mean '";
+
+/// and what comes after the name.
+pub const MEANT_END: &str = "'?";
+
 /// A sentence with its word.
 fn about(front: &'static str, rear: &'static str) -> Sentence
     ensures { view_sentence result ≡ about front.now rear.now }
@@ -73,7 +79,7 @@ fn item_sentence(code: ItemCode) -> Sentence
         ItemCode::Syntax => helped(
             "unexpected '",
             "'",
-            "a ';' or another word may be missing before it",
+            "a word may be misspelt, missing before it, or one too many",
         ),
         ItemCode::BadByte => helped(
             "unexpected character '",
@@ -93,7 +99,7 @@ fn item_sentence(code: ItemCode) -> Sentence
         ItemCode::Unfinished => helped(
             "unexpected end of text after '",
             "'",
-            "a definition ends with ';'",
+            "close each '{' with '}', and end the definition with ';'",
         ),
     }
 }
@@ -175,17 +181,17 @@ fn rule_sentence(rule: RuleCode, kind: Option<NameKind>) -> Sentence
         RuleCode::Duplicate => helped(
             "'",
             "' is declared already",
-            "enumerators count too, and so do inline types: field b of struct a declares 'a_b'",
+            "constants, enumerators, types and programs need different names; so do inline types",
         ),
         RuleCode::Unknown => helped(
             "undeclared name '",
             "'",
-            "declare it before this definition, or mend its declaration; C's own types are not known",
+            "declare it first; a syntax fault hides all up to the next ';' outside braces",
         ),
         RuleCode::LateName => helped(
             "'",
             "' is used before it is fully declared",
-            "declare it first; only a link to a struct or union, as in 'b *x', may come before or within it",
+            "declare it first; only links to structs and unions, as in 'b *x' and 'b x<>', may come earlier",
         ),
         RuleCode::NotType => not_type_sentence(kind),
         RuleCode::NotConst => not_const_sentence(kind),
@@ -204,12 +210,19 @@ fn rule_sentence(rule: RuleCode, kind: Option<NameKind>) -> Sentence
             "' is not allowed here",
             "void is an arm of a union, the only argument, or a result",
         ),
-        RuleCode::EmptyArray => alone("array size must be at least 1", None),
+        RuleCode::EmptyArray => alone(
+            "array size must be at least 1",
+            Some("an array in < > may be empty"),
+        ),
         RuleCode::BadDiscriminant => alone(
             "a discriminant must be a plain int, unsigned int, bool or enum",
             None,
         ),
-        RuleCode::BadCase => about("'", "' is not a value of the discriminant"),
+        RuleCode::BadCase => helped(
+            "'",
+            "' is not a value of the discriminant",
+            "write an enumerator of its enum, TRUE or FALSE for a bool, or a number for an int",
+        ),
         RuleCode::RepeatedCase => about("duplicate case '", "'"),
         RuleCode::RepeatedField => about("duplicate member '", "'"),
         RuleCode::RepeatedNumber => helped(

@@ -15,6 +15,7 @@ pub mod NumberFold
 pub mod NumberMeant
 pub mod OneAnswer
 pub mod OneDump
+pub mod OneExplanation
 pub mod OneShowing
 pub mod Paired
 pub mod Placing

@@ -1,5 +1,7 @@
 -- A line of a script has one answer.
-use Rattle.std.proofs.Common.{◌≡◌, ℕ, ◌<◌, ◌≤◌, List, [], ◌∷◌, length, Option, None, Some, sym, ap, subst, ◌∙◌, arith}
+use Rattle.std.proofs.Common.{◌≡◌, ℕ, ◌<◌, ◌≤◌, Bool, true, false, List, [], ◌∷◌, length, Option, None, Some, sym, ap, subst, ◌∙◌, arith}
+use Rattle.std.specs.Prelude.{codes}
+use Rattle.std.proofs.lemmas.Slice.Eq.{bytes_eq-Decides}
 use Rattle.x_trees.specs.Tree.{Definition}
 use Rattle.x_schema.specs.Schema.{Schema, id_named}
 use Rattle.x_schema.specs.Schemas.{IsSchemaOf}
@@ -8,13 +10,15 @@ use Rattle.x_value.proofs.OneReading.{not_both, one_refusal}
 use Rattle.x_value.proofs.OneReading as reading
 use Rattle.x_value.specs.FaultTexts.{fault_line}
 use Rattle.x_script.specs.Answers.{Answer, answered, refused}
-use Rattle.x_script.specs.Commands.{dump_asked}
+use Rattle.x_script.specs.Commands.{dump_asked, explain_asked}
 use Rattle.x_compile.specs.Compile.{Item, definitions_of, faults_of}
-use Rattle.x_script.specs.LineAnswers.{IsLineAnswer, within, shows, too_long}
+use Rattle.x_script.specs.Explaining.{IsExplainAnswer, explained_answer, telling_of}
+use Rattle.x_script.specs.LineAnswers.{IsLineAnswer, within, shows, explains, too_long}
 use Rattle.x_script.specs.Script.{AreAnswered, then_answer}
 use Rattle.x_script.specs.Showing.{IsDumpAnswer, IsMessageAnswer, IsTypedAnswer, shown, stuck, no_type, typed, faulty, faultless, value_answer}
 use Rattle.x_compile.proofs.Compiled.{one_compilation}
 use Rattle.x_laws.specs.Showing.{ShowsAlike}
+use Rattle.x_laws.proofs.OneExplanation.{one_explanation}
 use Rattle.x_laws.proofs.OneShowing.{types_show}
 
 -- ---- a line that asks to show a value
@@ -61,6 +65,17 @@ one_dump text items name message a b (faulty x e) (faultless t none k y) = absur
 one_dump text items name message a b (faultless s none h x) (faulty y f) = absurd (none_left (faults_of text items) y none)
 one_dump text items name message a b (faultless s none h x) (faultless t none' k y) = one_typed (definitions_of items) s t name message text a b h k x y
 
+-- ---- a line that asks to explain the faults
+
+one_explained : (file text : List ℕ) (items : List Item) (a b : Answer) → IsExplainAnswer file text items a → IsExplainAnswer file text items b → a ≡ b
+one_explained file text items a b h k =
+    let same = one_explanation (telling_of file text) items h.said k.said h.are_explained k.are_explained in
+    h.answer_is ∙ ap (λ s. answered text (explained_answer (length (faults_of text items)) s)) same ∙ sym k.answer_is
+
+-- it asks to show no value
+explains_no_value : (line : List ℕ) → explain_asked line ≡ true → dump_asked line ≡ None
+explains_no_value line is = ap dump_asked ((bytes_eq-Decides line (codes "explain")).0 is)
+
 -- ---- a line
 
 asked_both : {X Y : Type 0} (o : Option (X × Y)) (a c : X) (b d : Y) → o ≡ Some (a, b) → o ≡ Some (c, d) → (a ≡ c) × (b ≡ d)
@@ -69,28 +84,38 @@ asked_both o a c b d e f = let same = same_some o (a, b) (c, d) e f in (ap (λ p
 asked_none : {X : Type 0} (o : Option X) (a : X) → o ≡ None → o ≡ Some a → ⊥
 asked_none o a e f = absurd cc
 
+explained_or_not : (b : Bool) → b ≡ true → b ≡ false → ⊥
+explained_or_not b is not = absurd cc
+
 too_much : (n m : ℕ) → n ≤ m → m < n → ⊥
 too_much n m le lt = omega (arith, le, lt)
 
-pub one_line : (base text line : List ℕ) (items : List Item) (a b : Answer) → IsLineAnswer base text items line a → IsLineAnswer base text items line b → a ≡ b
-one_line base text line items a b (within x none e) (within y none' f) = e ∙ sym f
-one_line base text line items a b (within x none e) (shows name message y asked f) = absurd (asked_none (dump_asked line) (name, message) none asked)
-one_line base text line items a b (within x none e) (too_long y f) = absurd (too_much (length line) _ x y)
-one_line base text line items a b (shows name message x asked e) (within y none f) = absurd (asked_none (dump_asked line) (name, message) none asked)
-one_line base text line items a b (shows name message x asked e) (shows name' message' y asked' f) =
+pub one_line : (file base text line : List ℕ) (items : List Item) (a b : Answer) → IsLineAnswer file base text items line a → IsLineAnswer file base text items line b → a ≡ b
+one_line file base text line items a b (within x none unasked e) (within y none' unasked' f) = e ∙ sym f
+one_line file base text line items a b (within x none unasked e) (shows name message y asked f) = absurd (asked_none (dump_asked line) (name, message) none asked)
+one_line file base text line items a b (within x none unasked e) (explains y is f) = absurd (explained_or_not (explain_asked line) is unasked)
+one_line file base text line items a b (within x none unasked e) (too_long y f) = absurd (too_much (length line) _ x y)
+one_line file base text line items a b (shows name message x asked e) (within y none unasked f) = absurd (asked_none (dump_asked line) (name, message) none asked)
+one_line file base text line items a b (shows name message x asked e) (shows name' message' y asked' f) =
     let same = asked_both (dump_asked line) name name' message message' asked asked' in
     one_dump text items name' message' a b (subst (λ n. IsDumpAnswer text items n message' a) same.0 (subst (λ m. IsDumpAnswer text items name m a) same.1 e)) f
-one_line base text line items a b (shows name message x asked e) (too_long y f) = absurd (too_much (length line) _ x y)
-one_line base text line items a b (too_long x e) (within y none f) = absurd (too_much (length line) _ y x)
-one_line base text line items a b (too_long x e) (shows name message y asked f) = absurd (too_much (length line) _ y x)
-one_line base text line items a b (too_long x e) (too_long y f) = e ∙ sym f
+one_line file base text line items a b (shows name message x asked e) (explains y is f) = absurd (asked_none (dump_asked line) (name, message) (explains_no_value line is) asked)
+one_line file base text line items a b (shows name message x asked e) (too_long y f) = absurd (too_much (length line) _ x y)
+one_line file base text line items a b (explains x is e) (within y none unasked f) = absurd (explained_or_not (explain_asked line) is unasked)
+one_line file base text line items a b (explains x is e) (shows name message y asked f) = absurd (asked_none (dump_asked line) (name, message) (explains_no_value line is) asked)
+one_line file base text line items a b (explains x is e) (explains y is' f) = one_explained file text items a b e f
+one_line file base text line items a b (explains x is e) (too_long y f) = absurd (too_much (length line) _ x y)
+one_line file base text line items a b (too_long x e) (within y none unasked f) = absurd (too_much (length line) _ y x)
+one_line file base text line items a b (too_long x e) (shows name message y asked f) = absurd (too_much (length line) _ y x)
+one_line file base text line items a b (too_long x e) (explains y is f) = absurd (too_much (length line) _ y x)
+one_line file base text line items a b (too_long x e) (too_long y f) = e ∙ sym f
 
 -- ---- a script
 
-pub one_script : (base text : List ℕ) (lines : List (List ℕ)) (a b : Answer) → AreAnswered base text lines a → AreAnswered base text lines b → a ≡ b
-one_script base text [] a b h k = h ∙ sym k
-one_script base text (line ∷ lines) a b h k =
+pub one_script : (file base text : List ℕ) (lines : List (List ℕ)) (a b : Answer) → AreAnswered file base text lines a → AreAnswered file base text lines b → a ≡ b
+one_script file base text [] a b h k = h ∙ sym k
+one_script file base text (line ∷ lines) a b h k =
     let items = (one_compilation text h.0 k.0 h.1 k.1 h.2 k.2).1 in
-    let one : h.3.0 ≡ k.3.0 = one_line base text line k.1 h.3.0 k.3.0 (subst (λ is. IsLineAnswer base text is line h.3.0) items h.3.1) k.3.1 in
-    let rest : h.3.2.0 ≡ k.3.2.0 = one_script base k.3.0.text lines h.3.2.0 k.3.2.0 (subst (λ t. AreAnswered base t lines h.3.2.0) (ap (λ x. x.text) one) h.3.2.1) k.3.2.1 in
+    let one : h.3.0 ≡ k.3.0 = one_line file base text line k.1 h.3.0 k.3.0 (subst (λ is. IsLineAnswer file base text is line h.3.0) items h.3.1) k.3.1 in
+    let rest : h.3.2.0 ≡ k.3.2.0 = one_script file base k.3.0.text lines h.3.2.0 k.3.2.0 (subst (λ t. AreAnswered file base t lines h.3.2.0) (ap (λ x. x.text) one) h.3.2.1) k.3.2.1 in
     h.3.2.2 ∙ ap (λ x. then_answer x h.3.2.0) one ∙ ap (then_answer k.3.0) rest ∙ sym k.3.2.2

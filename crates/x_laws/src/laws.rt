@@ -51,13 +51,13 @@ pub fn bodies_in_place()
         → IsShownAt s id bytes a → IsShownAt s id bytes b → a ≡ b }
 {}
 
-/// A line of a script has one answer, over a text and its items, and the lines of a script have one list of
-/// answers, one behind another.
+/// A line of a script has one answer, over a file's text and its items, and the lines of a script have one
+/// list of answers, one behind another.
 pub fn one_answer()
-    ensures line { (base text line : List ℕ) (items : List Item) (a b : Answer)
-        → IsLineAnswer base text items line a → IsLineAnswer base text items line b → a ≡ b }
-    ensures script { (base text : List ℕ) (lines : List (List ℕ)) (a b : Answer)
-        → AreAnswered base text lines a → AreAnswered base text lines b → a ≡ b }
+    ensures line { (file base text line : List ℕ) (items : List Item) (a b : Answer)
+        → IsLineAnswer file base text items line a → IsLineAnswer file base text items line b → a ≡ b }
+    ensures script { (file base text : List ℕ) (lines : List (List ℕ)) (a b : Answer)
+        → AreAnswered file base text lines a → AreAnswered file base text lines b → a ≡ b }
 {}
 
 /// By two schemas of the same definitions messages one behind another have one text, and so has a stream.

@@ -8,9 +8,10 @@ use Rattle.x_names.specs.declared.names.Declarer.{Declarer}
 use Rattle.x_compile.specs.Compile.{IsCompilation, Item, definitions_of}
 use Rattle.x_compile.specs.declared.fault.FaultCode.{FaultCode}
 use Rattle.x_session.specs.Session.{Compiles}
-use Rattle.x_explain.specs.declared.declared.DeclaredNames.{DeclaredNames}
 use Rattle.x_explain.specs.declared.declared.FirstPlace.{FirstPlace}
-use Rattle.x_explain.specs.DeclaredNames.{IsTableOf, declared_at, definition_of, first_place, first_place_by, spot_at, word_at}
+use Rattle.x_explain.specs.declared.facts.FaultNames.{FaultNames}
+use Rattle.x_explain.specs.DeclaredNames.{declared_at, definition_of, first_place, first_place_by, spot_at, word_at}
+use Rattle.x_explain.specs.Facts.{AreNamesOf, name_of}
 use Rattle.x_explain.proofs.DeclaredLemmas.{of_each}
 use Rattle.x_lsp.specs.declared.changes.Range.{Range}
 use Rattle.x_lsp.specs.declared.encoding.Encoding.{Encoding}
@@ -24,12 +25,12 @@ chosen true false o p q = absurd (cc)
 chosen false b o p q = absurd (cc)
 
 -- what is found of a text is told beside a fault
-pub is_beside : (e : Encoding) (text : List ℕ) (shown : Bool) (code : FaultCode) (word : List ℕ) (start : ℕ) (table : DeclaredNames) (found : Option Range) → shown ≡ true → is_of_declarer code ≡ true
-    → Compiles text (λ items. IsTableOf text items table) → ((items : List Item) → IsTableOf text items table → IsRangeAt e text (declared_elsewhere items word start) found)
+pub is_beside : (e : Encoding) (text : List ℕ) (shown : Bool) (code : FaultCode) (word : List ℕ) (start : ℕ) (names : FaultNames) (found : Option Range) → shown ≡ true → is_of_declarer code ≡ true
+    → Compiles text (λ items. AreNamesOf text items names) → ((items : List Item) → AreNamesOf text items names → IsRangeAt e text (declared_elsewhere items (name_of items code start word) start) found)
     → (tokens : List (Kind × ℕ)) (items : List Item) → IsCompilation text tokens items → IsRangeAt e text (other_place shown items code word start) found
-is_beside e text shown code word start table found is_shown declares made range tokens items is =
+is_beside e text shown code word start names found is_shown declares made range tokens items is =
     let there = range items (of_each text made tokens items is) in
-    subst (λ o. IsRangeAt e text o found) (sym (chosen shown (is_of_declarer code) (declared_elsewhere items word start) is_shown declares)) there
+    subst (λ o. IsRangeAt e text o found) (sym (chosen shown (is_of_declarer code) (declared_elsewhere items (name_of items code start word) start) is_shown declares)) there
 
 -- where a name is declared first is where the token is that declares it
 start_by : (text : List ℕ) (d : Declarer) (o : Option Lexeme) → option_map (λ (f : FirstPlace). f.spot.start) (option_map (λ (t : Lexeme). declared_at d (spot_at text t.start)) o) ≡ option_map (λ (t : Lexeme). t.start) o

@@ -17,6 +17,7 @@ use Rattle.x_compile.specs.Compile.{Item, places_of}
 use Rattle.x_compile.specs.Faults.{fault_text}
 use Rattle.x_session.specs.Session.{Compiles}
 use Rattle.x_explain.specs.DeclaredNames.{definition_of}
+use Rattle.x_explain.specs.Facts.{name_of}
 use Rattle.x_explain.specs.Found.{IsEndOfToken}
 use Rattle.x_lsp.specs.declared.changes.Range.{Range}
 use Rattle.x_lsp.specs.declared.client.Client.{Client}
@@ -79,10 +80,11 @@ abbrev pub declared_elsewhere : List Item → List ℕ → ℕ → Option ℕ
 declared_elsewhere items word start =
     option_and_then (if_elsewhere start) (option_map (λ t. t.start) (definition_of items word))
 
--- the other place that matters to a fault at a word: where the word is declared first
+-- the other place that matters to a fault at a word: where the name that it is about is declared first
 abbrev pub other_place : Bool → List Item → FaultCode → List ℕ → ℕ → Option ℕ
 other_place shown items code word start =
-    if shown && is_of_declarer code then declared_elsewhere items word start else None
+    if shown && is_of_declarer code then declared_elsewhere items (name_of items code start word) start
+    else None
 
 -- the range is that of the token at a place, where there is one
 abbrev pub IsRangeAt : Encoding → List ℕ → Option ℕ → Option Range → Type 0

@@ -4,6 +4,7 @@ pub mod Diagnostics
 pub mod DocumentTexts
 pub mod Documents
 pub mod Encodings
+pub mod FaultMessages
 pub mod FrameSteps
 pub mod Framing
 pub mod KeptSaid

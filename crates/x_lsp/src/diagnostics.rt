@@ -94,8 +94,9 @@ fn diagnostics<'d>(
         let word = word_at(text, start, fault.end);
         let other = others.range(alloc, fault.code, word, start)?;
         let related = place_of(uri, other);
-        let kind = others.kind(alloc, fault.code, word)?;
-        let message = messages.next(alloc, fault.code, kind, word)?;
+        others.make(alloc, fault.code)?;
+        let known = others.known(fault.code, start, word);
+        let message = messages.next(alloc, fault.code, &known)?;
         list.push(Diagnostic {
             message,
             range,

@@ -2,16 +2,17 @@
 
 ghost use Rattle.std.specs.List.{before_first};
 ghost use Rattle.std.specs.Prelude.{◌≡◌, ◌==◌, ◌++◌, IfOk, IfSome, IsTrue, codes, length, string_bytes};
-ghost use Rattle.std.specs.Prelude.{take};
+ghost use Rattle.std.specs.Prelude.{OnOk, take};
 ghost use Rattle.x_compile.specs.Faults.{fault_text};
 ghost use Rattle.x_lsp.specs.Diagnostics.{fault_number};
+ghost use Rattle.x_lsp.specs.FaultMessages.{GoesOn};
 
 use crate::head::number;
 use crate::published::Diagnostic;
 use memchr::memchr;
 use std::alloc::{AllocError, Global};
 use std::str;
-use x_explain::{Sentence, escape_of, sentence_of};
+use x_explain::{Known, MEANT, MEANT_END, Sentence, escape_of, sentence_of};
 use x_item::NameKind;
 use x_session::FaultCode;
 
@@ -31,65 +32,114 @@ pub(crate) struct FaultMessage {
     pub(crate) text: String,
     /// Where the word stands in the text, and how long it is; none if the sentence does not show it.
     word: Option<(usize, usize)>,
+    /// The same of the name that is suggested for it.
+    suggested: Option<(usize, usize)>,
     ghost numbered: { number ≡ fault_number code },
     ghost told: { take (length (fault_text code ++ codes ": ")) (string_bytes text)
         ≡ fault_text code ++ codes ": " },
 }
 
 impl FaultMessage {
-    /// The message of a fault at a word.
-    fn of(
-        alloc: Global,
-        code: FaultCode,
-        kind: Option<NameKind>,
-        word: &[u8],
-    ) -> Result<FaultMessage, AllocError>
+    /// The message of a fault, by what is known of its word.
+    fn of(alloc: Global, code: FaultCode, known: &Known) -> Result<FaultMessage, AllocError>
         ensures { IfOk result (λ message. message.code ≡ code) }
     {
-        let escape = escape_of(word.first().copied().unwrap_or(0));
-        // A word that is no UTF-8 is one byte that begins no token.
-        let word = match str::from_utf8(word) {
-            Ok(word) => word,
-            Err(_) => str::from_utf8(&escape).unwrap_or("?"),
-        };
-        let Sentence { front, rear, .. } = sentence_of(code, kind);
-        let mut text = String::with_capacity(alloc, FRAME.saturating_add(word.len()))?;
+        let mut text = String::with_capacity(alloc, FRAME.saturating_add(known.name.len()))?;
         text.push_str(code.text())?;
         text.push_str(": ")?;
-        text.push_str(front)?;
-        let shown = match rear {
-            Some(rear) => {
-                let at = text.len();
-                text.push_str(word)?;
-                text.push_str(rear)?;
-                Some((at, word.len()))
-            }
-            None => None,
-        };
+        let word = add_sentence(&mut text, code, known)?;
+        let suggested = add_suggestion(&mut text, known)?;
         Ok(FaultMessage {
             code,
-            kind,
+            kind: kind_of(known),
             number: fault_number(code),
             text,
-            word: shown,
+            word,
+            suggested,
         })
     }
 
-    /// Whether this is the message of a fault at a word.
-    fn is_of(&self, code: FaultCode, kind: Option<NameKind>, word: &[u8]) -> bool
+    /// Whether this is the message of a fault, by what is known of its word.
+    fn is_of(&self, code: FaultCode, known: &Known) -> bool
         ensures { IsTrue result → self.now.code ≡ code }
     {
-        if self.code != code || self.kind != kind {
+        if self.code != code || self.kind != kind_of(known) {
             return false;
         }
-        match self.word {
+        let same_word = match self.word {
             None => true,
-            Some((at, length)) => match self.text.as_bytes().get(at..) {
-                Some(rest) => word.len() == length && rest.starts_with(word),
-                None => false,
-            },
+            Some(at) => self.has(at, known.name),
+        };
+        let same_suggestion = match (self.suggested, known.suggested) {
+            (None, None) => true,
+            (Some(at), Some(name)) => self.has(at, name),
+            _ => false,
+        };
+        same_word && same_suggestion
+    }
+
+    /// Whether a word stands at a place of the text, and has this length.
+    fn has(&self, (at, length): (usize, usize), word: &[u8]) -> bool {
+        match self.text.as_bytes().get(at..) {
+            Some(rest) => word.len() == length && rest.starts_with(word),
+            None => false,
         }
     }
+}
+
+/// What the name of a fault is declared as.
+fn kind_of(known: &Known) -> Option<NameKind> {
+    Some(known.first?.kind)
+}
+
+/// Adds what is wrong to a text, and tells where the word stands there, and how long it is.
+fn add_sentence(
+    text: &mut String,
+    code: FaultCode,
+    known: &Known,
+) -> Result<Option<(usize, usize)>, AllocError>
+    ensures { OnOk result (GoesOn (string_bytes text.old) (string_bytes text.new)) }
+{
+    let Sentence { front, rear, .. } = sentence_of(code, kind_of(known));
+    match rear {
+        Some(rear) => Ok(Some(add_quoted(text, front, known.name, rear)?)),
+        None => {
+            text.push_str(front)?;
+            Ok(None)
+        }
+    }
+}
+
+/// Adds the name that may have been meant, and tells where it stands, and how long it is.
+fn add_suggestion(text: &mut String, known: &Known) -> Result<Option<(usize, usize)>, AllocError>
+    ensures { OnOk result (GoesOn (string_bytes text.old) (string_bytes text.new)) }
+{
+    match known.suggested {
+        Some(name) => Ok(Some(add_quoted(text, MEANT, name, MEANT_END)?)),
+        None => Ok(None),
+    }
+}
+
+/// Adds a word with what stands before and after it, and tells where it stands, and how long it is.
+fn add_quoted(
+    text: &mut String,
+    front: &str,
+    word: &[u8],
+    rear: &str,
+) -> Result<(usize, usize), AllocError>
+    ensures { OnOk result (GoesOn (string_bytes text.old) (string_bytes text.new)) }
+{
+    let escape = escape_of(word.first().copied().unwrap_or(0));
+    // A word that is no UTF-8 is one byte that begins no token.
+    let word = match str::from_utf8(word) {
+        Ok(word) => word,
+        Err(_) => str::from_utf8(&escape).unwrap_or("?"),
+    };
+    text.push_str(front)?;
+    let at = text.len();
+    text.push_str(word)?;
+    text.push_str(rear)?;
+    Ok((at, word.len()))
 }
 
 /// The messages of the faults that were published last.
@@ -112,28 +162,27 @@ impl FaultMessages {
         &mut self,
         alloc: Global,
         code: FaultCode,
-        kind: Option<NameKind>,
-        word: &[u8],
+        known: &Known,
     ) -> Result<FaultMessage, AllocError>
         ensures { IfOk result (λ message. message.code ≡ code) }
     {
-        match self.take(code, kind, word) {
+        match self.take(code, known) {
             Some(message) => Ok(message),
-            None => FaultMessage::of(alloc, code, kind, word),
+            None => FaultMessage::of(alloc, code, known),
         }
     }
 
     /// Takes the next message, or the one behind it, if it is of this word.
-    fn take(&mut self, code: FaultCode, kind: Option<NameKind>, word: &[u8]) -> Option<FaultMessage>
+    fn take(&mut self, code: FaultCode, known: &Known) -> Option<FaultMessage>
         ensures { IfSome result (λ message. message.code ≡ code) }
     {
         let message = self.list.pop()?;
-        if message.is_of(code, kind, word) {
+        if message.is_of(code, known) {
             return Some(message);
         }
         // Where a fault is gone, its message is to be passed over, and where one came, none.
         let behind = self.list.pop()?;
-        if behind.is_of(code, kind, word) {
+        if behind.is_of(code, known) {
             return Some(behind);
         }
         self.list.push(behind).ok()?;

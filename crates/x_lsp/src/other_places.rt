@@ -3,7 +3,8 @@
 ghost use Rattle.std.specs.Prelude.{◌≡◌, ℕ, IfOk, List, option_map};
 ghost use Rattle.x_lex.specs.declared.kind.Kind.{Kind};
 ghost use Rattle.x_compile.specs.Compile.{IsCompilation, Item};
-ghost use Rattle.x_explain.specs.DeclaredNames.{IsTableOf, definition_of};
+ghost use Rattle.x_explain.specs.DeclaredNames.{definition_of};
+ghost use Rattle.x_explain.specs.Facts.{AreNamesOf};
 ghost use Rattle.x_lsp.specs.Diagnostics.{IsRangeAt, declared_elsewhere, is_of_declarer, other_place};
 ghost use Rattle.x_lsp.specs.OtherPlaces.{AreOfText};
 ghost use Rattle.x_lsp.specs.Waymarks.{AreWaymarks};
@@ -11,19 +12,21 @@ ghost use Rattle.x_lsp.specs.Waymarks.{AreWaymarks};
 use crate::changes::Range;
 use crate::waymarks::Waymarks;
 use std::alloc::Global;
-use x_explain::{DeclaredNames, token_end};
-use x_item::NameKind;
+use x_explain::{FaultNames, Known, Suggestions, token_end};
 use x_session::{FaultCode, RuleCode, Session};
 use x_text::NoMemory;
 
-/// Tells the other places that matter to the faults of a text, if the client shows them.
+/// Tells the other places that matter to the faults of a text, if the client shows them, and what else the
+/// text says of their words.
 #[derive(Drop)]
 pub(crate) struct OtherPlaces<'s> {
     shown: bool,
     session: &'s Session,
     marks: &'s Waymarks,
     /// Made where they are first needed, since this takes the time of going over the text.
-    names: Option<DeclaredNames<'s>>,
+    names: Option<FaultNames<'s>>,
+    /// Made so, too.
+    suggestions: Option<Suggestions>,
 }
 
 impl<'s> OtherPlaces<'s> {
@@ -40,6 +43,7 @@ impl<'s> OtherPlaces<'s> {
             session,
             marks,
             names: None,
+            suggestions: None,
         }
     }
 
@@ -67,51 +71,99 @@ impl<'s> OtherPlaces<'s> {
         let session = self.session;
         let marks = self.marks;
         if let Some(names) = &self.names {
-            return Ok(declared_range(names, session.bytes(), marks, word, start));
+            let name = names.name(code, start, word);
+            return Ok(declared_range(names, session.bytes(), marks, name, start));
         }
-        let names = DeclaredNames::of(alloc, session)?;
-        let range = declared_range(&names, session.bytes(), marks, word, start);
+        let names = FaultNames::of(alloc, session)?;
+        let name = names.name(code, start, word);
+        let range = declared_range(&names, session.bytes(), marks, name, start);
         self.names = Some(names);
         Ok(range)
     }
 
-    /// What a word with a fault is declared as, if what is said of the fault says that.
-    pub(crate) fn kind(
-        &mut self,
-        alloc: Global,
-        code: FaultCode,
-        word: &[u8],
-    ) -> Result<Option<NameKind>, NoMemory>
+    /// Makes what is needed to say what is wrong with a word.
+    pub(crate) fn make(&mut self, alloc: Global, code: FaultCode) -> Result<(), NoMemory>
         requires { AreOfText self.old }
         ensures of_text { AreOfText self.new }
         ensures shown { self.new.shown ≡ self.old.shown }
         ensures session { self.new.session.now ≡ self.old.session.now }
         ensures marks { self.new.marks.now ≡ self.old.marks.now }
     {
-        if !matches!(
-            code,
-            FaultCode::Rule(RuleCode::NotType | RuleCode::NotConst)
-        ) {
-            return Ok(None);
+        if says_name(code) {
+            self.make_names(alloc)
+        } else if is_unknown(code) {
+            self.make_suggestions(alloc)
+        } else {
+            Ok(())
         }
-        if let Some(names) = &self.names {
-            return Ok(kind_in(names, word));
+    }
+
+    fn make_names(&mut self, alloc: Global) -> Result<(), NoMemory>
+        requires { AreOfText self.old }
+        ensures of_text { AreOfText self.new }
+        ensures shown { self.new.shown ≡ self.old.shown }
+        ensures session { self.new.session.now ≡ self.old.session.now }
+        ensures marks { self.new.marks.now ≡ self.old.marks.now }
+    {
+        if self.names.is_none() {
+            let names = FaultNames::of(alloc, self.session)?;
+            self.names = Some(names);
         }
-        let names = DeclaredNames::of(alloc, self.session)?;
-        let kind = kind_in(&names, word);
-        self.names = Some(names);
-        Ok(kind)
+        Ok(())
+    }
+
+    fn make_suggestions(&mut self, alloc: Global) -> Result<(), NoMemory>
+        requires { AreOfText self.old }
+        ensures of_text { AreOfText self.new }
+        ensures shown { self.new.shown ≡ self.old.shown }
+        ensures session { self.new.session.now ≡ self.old.session.now }
+        ensures marks { self.new.marks.now ≡ self.old.marks.now }
+    {
+        if self.suggestions.is_none() {
+            let suggestions = Suggestions::of(alloc, self.session)?;
+            self.suggestions = Some(suggestions);
+        }
+        Ok(())
+    }
+
+    /// What is known of a word with a fault that starts at a place, by what was made for the fault.
+    pub(crate) fn known<'f>(&'f self, code: FaultCode, start: usize, word: &'f [u8]) -> Known<'f> {
+        let name = match &self.names {
+            Some(names) => names.name(code, start, word),
+            None => word,
+        };
+        let first = match &self.names {
+            Some(names) if says_name(code) => names.first(name),
+            _ => None,
+        };
+        let suggested = match &self.suggestions {
+            Some(suggestions) if is_unknown(code) => suggestions.at(start),
+            _ => None,
+        };
+        Known {
+            name,
+            first,
+            suggested,
+        }
     }
 }
 
-/// What a word is declared as.
-fn kind_in(names: &DeclaredNames, word: &[u8]) -> Option<NameKind> {
-    Some(names.first(word)?.kind)
+/// Whether what is said of a fault tells the name, or what that is declared as.
+fn says_name(code: FaultCode) -> bool {
+    matches!(
+        code,
+        FaultCode::Rule(RuleCode::Duplicate | RuleCode::NotType | RuleCode::NotConst)
+    )
+}
+
+/// Whether the word of a fault is not declared.
+fn is_unknown(code: FaultCode) -> bool {
+    matches!(code, FaultCode::Rule(RuleCode::Unknown))
 }
 
 /// Where a word is declared first.
-fn place_in(names: &DeclaredNames, word: &[u8]) -> Option<usize>
-    ensures { (text : List ℕ) (items : List Item) → IsTableOf text items names.now
+fn place_in(names: &FaultNames, word: &[u8]) -> Option<usize>
+    ensures { (text : List ℕ) (items : List Item) → AreNamesOf text items names.now
         → result ≡ option_map (λ t. t.start) (definition_of items word.now) }
 {
     match names.first(word) {
@@ -122,14 +174,14 @@ fn place_in(names: &DeclaredNames, word: &[u8]) -> Option<usize>
 
 /// The range of the token that declares a word first, if that is not the token at this place.
 fn declared_range(
-    names: &DeclaredNames,
+    names: &FaultNames,
     text: &[u8],
     marks: &Waymarks,
     word: &[u8],
     start: usize,
 ) -> Option<Range>
     requires { AreWaymarks text.now marks.now }
-    ensures { (items : List Item) → IsTableOf text.now items names.now
+    ensures { (items : List Item) → AreNamesOf text.now items names.now
         → IsRangeAt marks.now.encoding text.now (declared_elsewhere items word.now start) result }
 {
     let place = place_in(names, word)?;

@@ -1,6 +1,7 @@
+pub mod AskedLines
 pub mod CommandLemmas
 pub mod DefinitionLemmas
-pub mod DumpLines
+pub mod ExplainingLemmas
 pub mod Running
 pub mod Scripts
 pub mod ShowingLemmas

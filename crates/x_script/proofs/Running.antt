@@ -15,21 +15,21 @@ use Rattle.x_script.specs.Script.{then_answer, LineAnswers, AreAnswered, IsGiven
 use Rattle.x_script.proofs.Scripts.{answered_more}
 
 -- between two lines: the lines that were given are answered, and their answers are written
-pub record IsBetween (script : List ℕ) (old : Document) (start : Stream) (session : Document) (reader : Reading) (left : Option (List ℕ)) (refused : Bool) (pen : Inked) (now : Stream) : Type 0 where
+pub record IsBetween (file script : List ℕ) (old : Document) (start : Stream) (session : Document) (reader : Reading) (left : Option (List ℕ)) (refused : Bool) (pen : Inked) (now : Stream) : Type 0 where
   pub given : List (List ℕ)
   pub all : Answer
   pub reads : HasGiven script reader left given
-  pub answered : AreAnswered old.base old.text given all
+  pub answered : AreAnswered file old.base old.text given all
   pub session_is : LeavesText old session all.text
   pub refused_is : refused ≡ all.refused
   pub writes : Writes start all.told pen now
   pub goes : pen.stopped ≡ false
   pub empty : pen.pending ≡ []
 
-pub at_start : (script : List ℕ) (old : Document) (start : Stream) (reader : Reading) (left : Option (List ℕ)) (pen : Inked)
+pub at_start : (file script : List ℕ) (old : Document) (start : Stream) (reader : Reading) (left : Option (List ℕ)) (pen : Inked)
     → left ≡ Some script → reader ≡ record { line = []; bytes = []; state = Between } → pen ≡ record { pending = []; written = 0; stopped = false }
-    → IsBetween script old start old reader left false pen start
-at_start script old start reader left pen left_is reader_is pen_is = record {
+    → IsBetween file script old start old reader left false pen start
+at_start file script old start reader left pen left_is reader_is pen_is = record {
   given = [];
   all = record { told = []; refused = false; text = old.text };
   reads = record {
@@ -51,7 +51,7 @@ at_start script old start reader left pen left_is reader_is pen_is = record {
 }
 
 -- a line is answered behind the others, and its answer is passed on, or the sink has failed
-pub record IsBehind (script : List ℕ) (old : Document) (start : Stream) (session : Document) (reader : Reading) (left : Option (List ℕ)) (refused : Bool) (pen : Inked) (now : Stream) : Type 0 where
+pub record IsBehind (file script : List ℕ) (old : Document) (start : Stream) (session : Document) (reader : Reading) (left : Option (List ℕ)) (refused : Bool) (pen : Inked) (now : Stream) : Type 0 where
   pub earlier : List (List ℕ)
   pub last : List ℕ
   pub all : Answer
@@ -59,9 +59,9 @@ pub record IsBehind (script : List ℕ) (old : Document) (start : Stream) (sessi
   pub items : List Item
   pub answer : Answer
   pub reads : HasGiven script reader left (earlier ++ last ∷ [])
-  pub answered : AreAnswered old.base old.text earlier all
+  pub answered : AreAnswered file old.base old.text earlier all
   pub compiled : IsCompilation all.text tokens items
-  pub is_answer : IsLineAnswer old.base all.text items last answer
+  pub is_answer : IsLineAnswer file old.base all.text items last answer
   pub session_is : LeavesText old session answer.text
   pub refused_is : refused ≡ (all.refused || answer.refused)
   pub writes : Writes start (all.told ++ answer.told) pen now
@@ -70,18 +70,18 @@ pub record IsBehind (script : List ℕ) (old : Document) (start : Stream) (sessi
 no_fewer_then : (a b c d : ℕ) → b ≡ a → b ≤ c → c ≤ d → a ≤ d
 no_fewer_then a b c d is first second = omega (arith, is, first, second)
 
-pub behind : (script : List ℕ) (old : Document) (start : Stream) (session new : Document) (reader reader' : Reading) (left left' : Option (List ℕ)) (refused refuses : Bool)
-    (p q r : Inked) (now now' now'' : Stream) → (h : IsBetween script old start session reader left refused p now)
-    → ((line : List ℕ) × HasGiven script reader' left' (h.given ++ line ∷ []) × LineAnswers session.base session.text line (λ a. IsGiven a session new refuses p now q now'))
+pub behind : (file script : List ℕ) (old : Document) (start : Stream) (session new : Document) (reader reader' : Reading) (left left' : Option (List ℕ)) (refused refuses : Bool)
+    (p q r : Inked) (now now' now'' : Stream) → (h : IsBetween file script old start session reader left refused p now)
+    → ((line : List ℕ) × HasGiven script reader' left' (h.given ++ line ∷ []) × LineAnswers file session.base session.text line (λ a. IsGiven a session new refuses p now q now'))
     → Adds q now' r now'' []
-    → IsBehind script old start new reader' left' (refused || refuses) r now''
-behind script old start session new reader reader' left left' refused refuses p q r now now' now'' h k flushed =
+    → IsBehind file script old start new reader' left' (refused || refuses) r now''
+behind file script old start session new reader reader' left left' refused refuses p q r now now' now'' h k flushed =
     let line = k.0 in
     let items = k.2.1 in
     let text_is : session.text ≡ h.all.text = h.session_is.text_is in
     let base_is : session.base ≡ old.base = h.session_is.base_is in
     let a = k.2.3.0 in
-    let is_answer : IsLineAnswer old.base h.all.text items line a = subst (λ b. IsLineAnswer b h.all.text items line a) base_is (subst (λ t. IsLineAnswer session.base t items line a) text_is k.2.3.1) in
+    let is_answer : IsLineAnswer file old.base h.all.text items line a = subst (λ b. IsLineAnswer file b h.all.text items line a) base_is (subst (λ t. IsLineAnswer file session.base t items line a) text_is k.2.3.1) in
     let given : IsGiven a session new refuses p now q now' = k.2.3.2 in
     let told = flushed.goes_on start (h.all.told ++ a.told) (given.added.goes_on start h.all.told h.writes) in
     record {
@@ -101,13 +101,13 @@ behind script old start session new reader reader' left left' refused refuses p 
       whole = no_fewer_then (counted (length h.all.told)) p.written q.written r.written (counted_all p start now h.all.told h.goes h.empty h.writes) given.added.no_fewer flushed.no_fewer;
     }
 
-pub between : (script : List ℕ) (old : Document) (start : Stream) (session : Document) (reader : Reading) (left : Option (List ℕ)) (refused : Bool) (pen : Inked) (now : Stream)
-    → IsBehind script old start session reader left refused pen now → pen.stopped ≡ false → pen.pending ≡ [] → IsBetween script old start session reader left refused pen now
-between script old start session reader left refused pen now h goes empty = record {
+pub between : (file script : List ℕ) (old : Document) (start : Stream) (session : Document) (reader : Reading) (left : Option (List ℕ)) (refused : Bool) (pen : Inked) (now : Stream)
+    → IsBehind file script old start session reader left refused pen now → pen.stopped ≡ false → pen.pending ≡ [] → IsBetween file script old start session reader left refused pen now
+between file script old start session reader left refused pen now h goes empty = record {
   given = h.earlier ++ h.last ∷ [];
   all = then_answer h.all h.answer;
   reads = h.reads;
-  answered = answered_more old.base old.text h.earlier h.last h.all h.answered h.answer (λ P k. (h.tokens, h.items, h.compiled, (h.answer, h.is_answer, k)));
+  answered = answered_more file old.base old.text h.earlier h.last h.all h.answered h.answer (λ P k. (h.tokens, h.items, h.compiled, (h.answer, h.is_answer, k)));
   session_is = h.session_is;
   refused_is = h.refused_is;
   writes = h.writes;
@@ -116,12 +116,12 @@ between script old start session reader left refused pen now h goes empty = reco
 }
 
 -- the sink failed
-pub at_stop : (script : List ℕ) (old : Document) (start : Stream) (session : Document) (reader : Reading) (left : Option (List ℕ)) (refused : Bool) (pen : Inked) (now : Stream)
-    → IsBehind script old start session reader left refused pen now → pen.stopped ≡ true → IsFrontOf script (λ lines. HasFailed lines old session start now pen.written) × (now.failed ≡ true)
-at_stop script old start session reader left refused pen now h stops =
+pub at_stop : (file script : List ℕ) (old : Document) (start : Stream) (session : Document) (reader : Reading) (left : Option (List ℕ)) (refused : Bool) (pen : Inked) (now : Stream)
+    → IsBehind file script old start session reader left refused pen now → pen.stopped ≡ true → IsFrontOf script (λ lines. HasFailed file lines old session start now pen.written) × (now.failed ≡ true)
+at_stop file script old start session reader left refused pen now h stops =
     let last = h.answer in
     let front = front_written pen start now (h.all.told ++ last.told) stops h.writes in
-    let fails : HasFailed (h.earlier ++ h.last ∷ []) old session start now pen.written = record {
+    let fails : HasFailed file (h.earlier ++ h.last ∷ []) old session start now pen.written = record {
       earlier = h.earlier;
       last = h.last;
       lines_are = refl;
@@ -132,9 +132,9 @@ at_stop script old start session reader left refused pen now h stops =
     ((h.earlier ++ h.last ∷ [], script_lines (h.reads.unread ++ h.reads.later), h.reads.lines_are, fails), front.failed)
 
 -- all lines that were given are answered
-pub so_far : (script : List ℕ) (old : Document) (start : Stream) (session : Document) (reader : Reading) (left : Option (List ℕ)) (refused : Bool) (pen : Inked) (now : Stream)
-    → (h : IsBetween script old start session reader left refused pen now) → HasRun h.given old session start now refused
-so_far script old start session reader left refused pen now h = record {
+pub so_far : (file script : List ℕ) (old : Document) (start : Stream) (session : Document) (reader : Reading) (left : Option (List ℕ)) (refused : Bool) (pen : Inked) (now : Stream)
+    → (h : IsBetween file script old start session reader left refused pen now) → HasRun file h.given old session start now refused
+so_far file script old start session reader left refused pen now h = record {
   all = h.all;
   answered = h.answered;
   written = all_written pen start now h.all.told h.goes h.empty h.writes;
@@ -143,16 +143,16 @@ so_far script old start session reader left refused pen now h = record {
 }
 
 -- nothing more was done, so all lines that were given are still answered
-pub so_still : (script : List ℕ) (old : Document) (start : Stream) (session new : Document) (reader : Reading) (left : Option (List ℕ)) (refused : Bool) (p q : Inked) (now now' : Stream)
-    → (h : IsBetween script old start session reader left refused p now) → IsAsBefore session new p now q now' → HasRun h.given old new start now' refused
-so_still script old start session new reader left refused p q now now' h same =
-    subst (λ s. HasRun h.given old s start now' refused) (sym same.session_same)
-    (subst (λ (n : Stream). HasRun h.given old session start n refused) (sym same.sink_same) (so_far script old start session reader left refused p now h))
+pub so_still : (file script : List ℕ) (old : Document) (start : Stream) (session new : Document) (reader : Reading) (left : Option (List ℕ)) (refused : Bool) (p q : Inked) (now now' : Stream)
+    → (h : IsBetween file script old start session reader left refused p now) → IsAsBefore session new p now q now' → HasRun file h.given old new start now' refused
+so_still file script old start session new reader left refused p q now now' h same =
+    subst (λ s. HasRun file h.given old s start now' refused) (sym same.session_same)
+    (subst (λ (n : Stream). HasRun file h.given old session start n refused) (sym same.sink_same) (so_far file script old start session reader left refused p now h))
 
 -- a fault that is not the sink's
-pub at_fault : (script : List ℕ) (old : Document) (start : Stream) (session new : Document) (reader : Reading) (left : Option (List ℕ)) (refused : Bool) (p q : Inked) (now now' : Stream)
-    (written : ℕ) → (h : IsBetween script old start session reader left refused p now) → IsAsBefore session new p now q now' → written ≡ q.written → HasStopped h.given old new start now' written
-at_fault script old start session new reader left refused p q now now' written h same is = record {
+pub at_fault : (file script : List ℕ) (old : Document) (start : Stream) (session new : Document) (reader : Reading) (left : Option (List ℕ)) (refused : Bool) (p q : Inked) (now now' : Stream)
+    (written : ℕ) → (h : IsBetween file script old start session reader left refused p now) → IsAsBefore session new p now q now' → written ≡ q.written → HasStopped file h.given old new start now' written
+at_fault file script old start session new reader left refused p q now now' written h same is = record {
   refused = refused;
   run = record {
     all = h.all;

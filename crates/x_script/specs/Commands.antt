@@ -57,6 +57,10 @@ asked_by (name ∷ words) = if bytes_eq name (codes "edit") then edit_by words e
 abbrev pub command_of : List ℕ → Command
 command_of line = asked_by (words_of line)
 
+-- the line asks to explain the faults
+abbrev pub explain_asked : List ℕ → Bool
+explain_asked line = bytes_eq line (codes "explain")
+
 -- a type's name and a message, if they are asked for
 abbrev pub asked_if : Bool → List ℕ → List ℕ → Option (List ℕ × List ℕ)
 asked_if is name message = if is then Some (name, message) else None

@@ -1,5 +1,6 @@
 pub mod Answers
 pub mod Commands
+pub mod Explaining
 pub mod LineAnswers
 pub mod Refusals
 pub mod Script

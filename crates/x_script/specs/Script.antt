@@ -20,17 +20,17 @@ abbrev pub then_answer : Answer → Answer → Answer
 then_answer first rest =
     record { told = first.told ++ rest.told; refused = first.refused || rest.refused; text = rest.text }
 
--- this holds of what a line is answered, over what compiling the text gives
-abbrev pub LineAnswers : (base text line : List ℕ) → (Answer → Type 0) → Type 0
-LineAnswers base text line P =
-    Compiles text (λ items. (a : Answer) × IsLineAnswer base text items line a × P a)
+-- this holds of what a line is answered, over what compiling the text of a file gives
+abbrev pub LineAnswers : (file base text line : List ℕ) → (Answer → Type 0) → Type 0
+LineAnswers file base text line P =
+    Compiles text (λ items. (a : Answer) × IsLineAnswer file base text items line a × P a)
 
 -- the lines, one after another, get these answers in all, and leave this text
-abbrev pub AreAnswered : List ℕ → List ℕ → List (List ℕ) → Answer → Type 0
-AreAnswered base text [] all = all ≡ record { told = []; refused = false; text = text }
-AreAnswered base text (line ∷ lines) all =
-    LineAnswers base text line
-    (λ first. (rest : Answer) × AreAnswered base first.text lines rest × (all ≡ then_answer first rest))
+abbrev pub AreAnswered : (file base text : List ℕ) → List (List ℕ) → Answer → Type 0
+AreAnswered file base text [] all = all ≡ record { told = []; refused = false; text = text }
+AreAnswered file base text (line ∷ lines) all =
+    LineAnswers file base text line
+    (λ first. (rest : Answer) × AreAnswered file base first.text lines rest × (all ≡ then_answer first rest))
 
 -- an answer was added to what is written, and it leaves this text
 pub record AddsAnswer (a : Answer) (text : List ℕ) (refused : Bool) (p : Inked) (now : Stream) (q : Inked)
@@ -75,15 +75,15 @@ pub record IsAsBefore (old new : Document) (p : Inked) (now : Stream) (q : Inked
 
 -- A script goes on behind the lines that were given: the next one is answered, or there is none, or nothing
 -- is done.
-abbrev pub GoesOn : (old new : Document) (script : List ℕ) (reader : Reading) (left : Option (List ℕ))
-    (given : List (List ℕ)) → Result (Option Bool) LineFault
+abbrev pub GoesOn : (file : List ℕ) (old new : Document) (script : List ℕ) (reader : Reading)
+    (left : Option (List ℕ)) (given : List (List ℕ)) → Result (Option Bool) LineFault
     → (p : Inked) (now : Stream) (q : Inked) (now' : Stream) → Type 0
-GoesOn old new script reader left given (Ok (Some refused)) p now q now' =
+GoesOn file old new script reader left given (Ok (Some refused)) p now q now' =
     (line : List ℕ) × HasGiven script reader left (given ++ line ∷ [])
-    × LineAnswers old.base old.text line (λ a. IsGiven a old new refused p now q now')
-GoesOn old new script reader left given (Ok None) p now q now' =
+    × LineAnswers file old.base old.text line (λ a. IsGiven a old new refused p now q now')
+GoesOn file old new script reader left given (Ok None) p now q now' =
     (script_lines script ≡ given) × IsAsBefore old new p now q now'
-GoesOn old new script reader left given (Err fault) p now q now' =
+GoesOn file old new script reader left given (Err fault) p now q now' =
     StopsBehind fault script left given × IsAsBefore old new p now q now'
 
 -- this holds of some of the script's lines, from the first on
@@ -93,19 +93,19 @@ IsFrontOf script P =
 
 -- These lines are answered: the sink, which held `before`, has their answers, and the session has the text
 -- that they leave.
-pub record HasRun (lines : List (List ℕ)) (old new : Document) (before after : Stream)
+pub record HasRun (file : List ℕ) (lines : List (List ℕ)) (old new : Document) (before after : Stream)
     (refused : Bool) : Type 0 where
   pub all : Answer
-  pub answered : AreAnswered old.base old.text lines all
+  pub answered : AreAnswered file old.base old.text lines all
   pub written : Appends before.bytes after.bytes all.told
   pub refused_is : refused ≡ all.refused
   pub session_is : LeavesText old new all.text
 
 -- These lines are answered, and so many bytes were written.
-pub record HasStopped (lines : List (List ℕ)) (old new : Document) (before after : Stream)
+pub record HasStopped (file : List ℕ) (lines : List (List ℕ)) (old new : Document) (before after : Stream)
     (written : ℕ) : Type 0 where
   pub refused : Bool
-  pub run : HasRun lines old new before after refused
+  pub run : HasRun file lines old new before after refused
   pub written_is : written ≡ counted (length run.all.told)
 
 -- The earlier lines have these answers in all, and the sink has them whole; it failed within the last line's
@@ -117,29 +117,29 @@ pub record FailsWithin (all last : Answer) (old new : Document) (before after : 
   pub session_is : LeavesText old new last.text
 
 -- These lines are carried out, and the sink failed within the answer of the last of them.
-pub record HasFailed (lines : List (List ℕ)) (old new : Document) (before after : Stream)
+pub record HasFailed (file : List ℕ) (lines : List (List ℕ)) (old new : Document) (before after : Stream)
     (written : ℕ) : Type 0 where
   pub earlier : List (List ℕ)
   pub last : List ℕ
   pub lines_are : lines ≡ earlier ++ last ∷ []
   pub all : Answer
-  pub answered : AreAnswered old.base old.text earlier all
-  pub within : LineAnswers old.base all.text last (λ a. FailsWithin all a old new before after written)
+  pub answered : AreAnswered file old.base old.text earlier all
+  pub within : LineAnswers file old.base all.text last (λ a. FailsWithin all a old new before after written)
 
 -- What a run of a script does, of which the tap has `left` then. A fault of the reader comes behind the
 -- answers of all lines that a line feed ends in what was read, want of memory behind those of some lines,
 -- from the first on, and a fault of the sink within an answer.
-abbrev pub Runs : (script : List ℕ) (left : Option (List ℕ)) (old new : Document) (before after : Stream)
-    → Result Outcome EngineFault → Type 0
-Runs script left old new before after (Ok outcome) =
-    HasRun (script_lines script) old new before after (is_refused outcome)
-Runs script left old new before after (Err (Read written)) =
+abbrev pub Runs : (file script : List ℕ) (left : Option (List ℕ)) (old new : Document)
+    (before after : Stream) → Result Outcome EngineFault → Type 0
+Runs file script left old new before after (Ok outcome) =
+    HasRun file (script_lines script) old new before after (is_refused outcome)
+Runs file script left old new before after (Err (Read written)) =
     (read : List ℕ) × Consumes (Some script) left read
-    × HasStopped (whole_lines read) old new before after written
-Runs script left old new before after (Err (NoMemory written)) =
-    IsFrontOf script (λ lines. HasStopped lines old new before after written)
-Runs script left old new before after (Err (Write written)) =
-    IsFrontOf script (λ lines. HasFailed lines old new before after written) × (after.failed ≡ true)
+    × HasStopped file (whole_lines read) old new before after written
+Runs file script left old new before after (Err (NoMemory written)) =
+    IsFrontOf script (λ lines. HasStopped file lines old new before after written)
+Runs file script left old new before after (Err (Write written)) =
+    IsFrontOf script (λ lines. HasFailed file lines old new before after written) × (after.failed ≡ true)
 
 -- a step that finds no line leaves the sink alone, and one that finds a line adds to it
 abbrev pub AddsIfFound : {S : Type 0} → Result (Option Bool) LineFault → (sink sink' : S) → Type 0 → Type 0

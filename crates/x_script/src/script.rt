@@ -12,11 +12,14 @@ ghost use Rattle.x_lines.specs.Lines.{FailsBy};
 
 mod answer;
 mod command;
+mod explaining;
 mod refusal;
 mod showing;
 
 use answer::{add_counted, add_definitions, add_faults, add_text, add_tokens};
+use command::asks_to_explain;
 pub use command::{Command, Insert, dump_words, parse_command};
+use explaining::answer_explained;
 use refusal::LineRefusal;
 use showing::answer_dump;
 use std::alloc::Global;
@@ -25,19 +28,20 @@ use x_session::Session;
 use x_text::{Edit, EngineFault, NoMemory, Outcome, Pen, Sink, Tap, TextFault};
 
 /// Carries out the script that a tap gives, line by line, and writes the answer to each line before it
-/// carries out the next.
+/// carries out the next. Faults that are explained are those of `file`.
 ///
 /// # Errors The tap or the sink failed, or memory ran out: the lines before are answered and carried out.
 /// Where the sink failed, the line whose answer was not written whole is carried out too.
 pub fn run_script<R: Tap, S: Sink>(
     alloc: Global,
     session: &mut Session,
+    file: &str,
     tap: &mut R,
     sink: &mut S,
 ) -> Result<Outcome, EngineFault>
     ensures runs { MatchOption (R.state tap.old).bytes (Unit {0})
-        (λ script. Runs script (R.state tap.new).bytes session.old session.new (S.state sink.old)
-        (S.state sink.new) result) }
+        (λ script. Runs file.now script (R.state tap.new).bytes session.old session.new
+        (S.state sink.old) (S.state sink.new) result) }
     ensures cause { NamesCause result (R.state tap.old).failed (R.state tap.new).failed
         (S.state sink.old).failed (S.state sink.new).failed }
 {
@@ -45,7 +49,7 @@ pub fn run_script<R: Tap, S: Sink>(
     let mut pen = Pen::new();
     let mut outcome = Outcome::Clean;
     for _ in 0..u64::MAX {
-        match next_answer(alloc, session, &mut reader, tap, &mut pen, sink) {
+        match next_answer(alloc, session, file, &mut reader, tap, &mut pen, sink) {
             Ok(None) => return Ok(outcome),
             Ok(Some(refused)) => outcome = outcome.with(refused),
             Err(LineFault::Read) => {
@@ -77,6 +81,7 @@ pub fn run_script<R: Tap, S: Sink>(
 fn next_answer<R: Tap, S: Sink>(
     alloc: Global,
     session: &mut Session,
+    file: &str,
     reader: &mut LineReader,
     tap: &mut R,
     pen: &mut Pen,
@@ -84,7 +89,7 @@ fn next_answer<R: Tap, S: Sink>(
 ) -> Result<Option<bool>, LineFault>
     ensures given { (script : List ℕ) (given : List (List ℕ))
         → HasGiven script reader.old (R.state tap.old).bytes given →
-        GoesOn session.old session.new script reader.new (R.state tap.new).bytes given result
+        GoesOn file.now session.old session.new script reader.new (R.state tap.new).bytes given result
         pen.old (S.state sink.old) pen.new (S.state sink.new) }
     ensures adds { AddsIfFound result sink.old sink.new
         ((told : List ℕ) × Adds pen.old (S.state sink.old) pen.new (S.state sink.new) told) }
@@ -99,7 +104,7 @@ fn next_answer<R: Tap, S: Sink>(
             LineRefusal::LongLine.add_line(pen, sink);
             true
         }
-        LineEvent::Line => match answer_line(alloc, session, reader.line(), pen, sink) {
+        LineEvent::Line => match answer_line(alloc, session, file, reader.line(), pen, sink) {
             Ok(refused) => refused,
             Err(NoMemory) => return Err(LineFault::NoMemory),
         },
@@ -148,19 +153,23 @@ fn carry_out<S: Sink>(
 fn answer_line<S: Sink>(
     alloc: Global,
     session: &mut Session,
+    file: &str,
     line: &[u8],
     pen: &mut Pen,
     sink: &mut S,
 ) -> Result<bool, NoMemory>
     requires { length line.now ≤ LONGEST }
     ensures given { IfOk result
-        (λ refused. LineAnswers session.old.base session.old.text line.now
+        (λ refused. LineAnswers file.now session.old.base session.old.text line.now
         (λ a. IsGiven a session.old session.new refused pen.old (S.state sink.old) pen.new
         (S.state sink.new))) }
     ensures same { OnErr result ((session.new ≡ session.old) × (pen.new ≡ pen.old) × (sink.new ≡ sink.old)) }
 {
     if let Some((name, hex)) = dump_words(line) {
         return answer_dump(alloc, session, name, hex, pen, sink);
+    }
+    if asks_to_explain(line) {
+        return answer_explained(alloc, session, file, pen, sink);
     }
     let command = parse_command(alloc, line)?;
     carry_out(session, &command, pen, sink)

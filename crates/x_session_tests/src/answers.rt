@@ -15,7 +15,7 @@ pub fn write_answers(
 ) -> Result<usize, EngineFault> {
     let mut sink = MemSink::new(buffer, 1 << 20, 1 << 20);
     let mut tap = MemTap::new(asked, 512, usize::MAX);
-    run_script(alloc, session, &mut tap, &mut sink)?;
+    run_script(alloc, session, "t.x", &mut tap, &mut sink)?;
     Ok(sink.bytes().len())
 }
 

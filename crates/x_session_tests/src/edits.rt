@@ -171,8 +171,15 @@ pub const ROWS: [Row; 5] = [
                 answer: b"definitions 3\n0 const N\n1 const N\n2 typedef v\n",
             },
             Line {
-                asked: b"faults\n",
-                answer: b"faults 1\n1:20 20 Duplicate\n",
+                asked: b"explain\n",
+                answer: b"explained 1\n\
+                    t.x:1:20: 20 Duplicate: 'N' is declared already\n\
+                    \x20   1 | const N = 3; const N = 4; typedef int v[N];\n\
+                    \x20     |                    ^\n\
+                    \x20     | note: declared at t.x:1:7\n\
+                    \x20     | help: constants, enumerators, types and programs need different \
+                    names; so do inline types\n\
+                    1 error\n",
             },
         ],
         edit: Edit {
@@ -455,7 +462,7 @@ fn go_on(
     expect_text(rt, session, row.text_behind(lines));
     let rest = row.script(alloc, lines)?;
     let mut tap = MemTap::new(&rest, 64, usize::MAX);
-    run_script(alloc, session, &mut tap, sink)?;
+    run_script(alloc, session, "t.x", &mut tap, sink)?;
     assert_eq!(rt; sink.bytes(), answers.as_slice());
     expect_text(rt, session, row.edited);
     Ok(written)
@@ -504,7 +511,7 @@ fn run_once(
     let mut sink = MemSink::new(&mut buffer, 64, 2048);
     let mut tap = MemTap::new(script, 64, usize::MAX);
     begin(alloc, turn)?;
-    let outcome = run_script(alloc, session, &mut tap, &mut sink);
+    let outcome = run_script(alloc, session, "t.x", &mut tap, &mut sink);
     let refused = end(alloc);
     let written = go_on(rt, alloc, session, &mut sink, row)? as u64;
     match outcome {
@@ -560,14 +567,14 @@ fn show_once(
 {
     let mut tap = MemTap::new(script, 65_536, usize::MAX);
     begin(alloc, turn)?;
-    let outcome = run_script(alloc, session, &mut tap, sink);
+    let outcome = run_script(alloc, session, "t.x", &mut tap, sink);
     let refused = end(alloc);
     if let Err(fault) = outcome {
         let written = 0;
         assert!(rt; refused && fault == EngineFault::NoMemory { written });
         assert!(rt; sink.bytes().is_empty());
         let mut again = MemTap::new(script, 65_536, usize::MAX);
-        run_script(alloc, session, &mut again, sink)?;
+        run_script(alloc, session, "t.x", &mut again, sink)?;
     }
     Ok(refused)
 }

@@ -15,7 +15,7 @@ fn run_on_ints(
     sink: &mut impl Sink,
 ) -> Result<Option<EngineFault>, Fail> {
     let mut session = Session::open(alloc, b"t", b"int s")?;
-    let fault = run_script(alloc, &mut session, tap, sink).err();
+    let fault = run_script(alloc, &mut session, "t.x", tap, sink).err();
     expect_text(rt, &session, b"ints");
     Ok(fault)
 }

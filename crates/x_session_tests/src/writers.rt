@@ -51,7 +51,7 @@ fn stop_at(
     let mut buffer = [0u8; 2048];
     let mut sink = MemSink::new(&mut buffer, 1, count);
     let mut tap = MemTap::new(script, 64, usize::MAX);
-    let outcome = run_script(alloc, session, &mut tap, &mut sink);
+    let outcome = run_script(alloc, session, "t.x", &mut tap, &mut sink);
     let written = count as u64;
     assert_eq!(rt; outcome, Err(EngineFault::Write { written }));
     assert_eq!(rt; sink.bytes().len(), count);
@@ -87,7 +87,7 @@ fn open_and_stick(rt: &impl Abort, alloc: Global, row: &Row, script: &[u8]) -> R
 /// Nothing of the first answer is taken.
 fn stick(rt: &impl Abort, alloc: Global, session: &mut Session, script: &[u8]) {
     let mut tap = MemTap::new(script, 64, usize::MAX);
-    let outcome = run_script(alloc, session, &mut tap, &mut Out::new(Stuck));
+    let outcome = run_script(alloc, session, "t.x", &mut tap, &mut Out::new(Stuck));
     assert_eq!(rt; outcome, Err(EngineFault::Write { written: 0 }));
 }
 
@@ -174,7 +174,7 @@ fn read_to(
     let mut buffer = [0u8; 2048];
     let mut sink = MemSink::new(&mut buffer, 2048, 2048);
     let mut tap = MemTap::new(script, 1, count);
-    let outcome = run_script(alloc, session, &mut tap, &mut sink);
+    let outcome = run_script(alloc, session, "t.x", &mut tap, &mut sink);
     let (lines, length) = row.answered(count);
     let written = length as u64;
     assert_eq!(rt; outcome, Err(EngineFault::Read { written }));

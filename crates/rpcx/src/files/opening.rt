@@ -10,7 +10,7 @@ use crate::files::base::base_of_file;
 use crate::files::complaint::tell_unopened;
 use std::alloc::Global;
 use x_args::{Status, tell_of_file};
-use x_explain::{DeclaredNames, add_explained_faults};
+use x_explain::{FaultFacts, add_explained_faults};
 use x_session::{Fault, Faults, Session, add_place};
 use x_text::{NoMemory, Pen, Sink};
 
@@ -112,9 +112,9 @@ fn explain_faults<E: Sink>(
         ExplainsFaults coloured file.now session.now.text items (E.state err.old) (E.state err.new))) }
     ensures quiet { OnErr result (err.new ≡ err.old) }
 {
-    let declared = DeclaredNames::of(alloc, session)?;
+    let facts = FaultFacts::of(alloc, session)?;
     let mut pen = Pen::new();
-    add_explained_faults(coloured, file, session, &declared, &mut pen, err);
+    add_explained_faults(coloured, file, session, &facts, &mut pen, err);
     let _ = pen.finish(err);
     Ok(())
 }

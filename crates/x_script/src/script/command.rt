@@ -6,7 +6,7 @@ ghost use Rattle.std.specs.List.{list_all};
 ghost use Rattle.std.specs.Str.Parse.{digits_value};
 ghost use Rattle.x_script.specs.Commands.{edit_by, command_of, words_of, one_word, edit_of};
 ghost use Rattle.x_session.specs.Numbers.{is_number};
-ghost use Rattle.x_script.specs.Commands.{is_hex, bytes_of, asked_if, dump_by, dump_asked};
+ghost use Rattle.x_script.specs.Commands.{is_hex, bytes_of, asked_if, dump_by, dump_asked, explain_asked};
 
 use memchr::memchr;
 use std::alloc::Global;
@@ -102,6 +102,13 @@ pub fn dump_words(line: &[u8]) -> Option<(&[u8], &[u8])>
     } else {
         None
     }
+}
+
+/// Whether a line asks to explain the faults.
+pub(crate) fn asks_to_explain(line: &[u8]) -> bool
+    ensures { result ≡ explain_asked line.now }
+{
+    line == b"explain".as_slice()
 }
 
 /// The type and the digits that the words behind `dump` name.

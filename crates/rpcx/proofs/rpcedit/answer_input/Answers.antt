@@ -7,16 +7,16 @@ use Rattle.rpcx.proofs.rpcedit.answer_input.Goals as goal
 
 pub returns-in-Ok-Clean-clause-answers : goal.returns-in-Ok-Clean-clause-answers
 returns-in-Ok-Clean-clause-answers g c =
-    answers_all (g.I.Tap.state c.args.input.now).bytes (g.I.Tap.state c.run_script.new.tap).bytes c.args.session.now c.run_script.new.session (g.O.Sink.state c.args.out.now) (g.O.Sink.state c.run_script.new.sink) c.in-Ok-Clean.field-0 Done (ap (λ o. status_of (is_refused o)) (sym c.in-Ok-Clean.field-0-is)) c.in-Ok-Clean.ensures.runs
+    answers_all (g.I.Tap.state c.args.input.now).bytes (g.I.Tap.state c.run_script.new.tap).bytes c.args.file.now c.args.session.now c.run_script.new.session (g.O.Sink.state c.args.out.now) (g.O.Sink.state c.run_script.new.sink) c.in-Ok-Clean.field-0 Done (ap (λ o. status_of (is_refused o)) (sym c.in-Ok-Clean.field-0-is)) c.in-Ok-Clean.ensures.runs
 
 pub returns-in-Ok-Refused-clause-answers : goal.returns-in-Ok-Refused-clause-answers
 returns-in-Ok-Refused-clause-answers g c =
-    answers_all (g.I.Tap.state c.args.input.now).bytes (g.I.Tap.state c.run_script.new.tap).bytes c.args.session.now c.run_script.new.session (g.O.Sink.state c.args.out.now) (g.O.Sink.state c.run_script.new.sink) c.in-Ok-Refused.field-0 Faulty (ap (λ o. status_of (is_refused o)) (sym c.in-Ok-Refused.field-0-is)) c.in-Ok-Refused.ensures.runs
+    answers_all (g.I.Tap.state c.args.input.now).bytes (g.I.Tap.state c.run_script.new.tap).bytes c.args.file.now c.args.session.now c.run_script.new.session (g.O.Sink.state c.args.out.now) (g.O.Sink.state c.run_script.new.sink) c.in-Ok-Refused.field-0 Faulty (ap (λ o. status_of (is_refused o)) (sym c.in-Ok-Refused.field-0-is)) c.in-Ok-Refused.ensures.runs
 
 pub returns-in-Err-clause-stopped : goal.returns-in-Err-clause-stopped
 returns-in-Err-clause-stopped g c e = (
   c.in-Err.fault,
-  ends_by (g.I.Tap.state c.args.input.now) (g.I.Tap.state c.run_script.new.tap)
+  ends_by c.args.file.now (g.I.Tap.state c.args.input.now) (g.I.Tap.state c.run_script.new.tap)
       (g.O.Sink.state c.args.out.now) (g.O.Sink.state c.run_script.new.sink)
       c.args.session.now c.run_script.new.session c.in-Err.fault c.in-Err.ensures.cause c.in-Err.ensures.runs,
   c.tell_stop.ensures,

@@ -74,10 +74,10 @@ loop-fault-preserved c =
     let there = same_diagnostic client uri text are.1 f next.place (data_of value) next.is.code next.is.start is in
     let more = diagnostics_more client uri text are.1 (take i all) (map data_of c.loop-fault.list.items) next.place (data_of value) are.3.1 there in
     record {
-      shown = c.in_ok-kind.ensures.shown ∙ c.in_ok-other.ensures.shown ∙ inv.shown;
-      session = c.in_ok-kind.ensures.session ∙ c.in_ok-other.ensures.session ∙ inv.session;
-      marks = c.in_ok-kind.ensures.marks ∙ c.in_ok-other.ensures.marks ∙ inv.marks;
-      others = c.in_ok-kind.ensures.of_text;
+      shown = c.in_ok-make.ensures.shown ∙ c.in_ok-other.ensures.shown ∙ inv.shown;
+      session = c.in_ok-make.ensures.session ∙ c.in_ok-other.ensures.session ∙ inv.session;
+      marks = c.in_ok-make.ensures.marks ∙ c.in_ok-other.ensures.marks ∙ inv.marks;
+      others = c.in_ok-make.ensures.of_text;
       marked = c.in_ok-mark_place.ensures.text ∙ inv.marked;
       counted = c.in_ok-mark_place.ensures.encoding ∙ inv.counted;
       told = (

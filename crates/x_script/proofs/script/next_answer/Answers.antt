@@ -39,7 +39,7 @@ returns-in-Ok-clause-given g c script given h =
     let left = (g.R.Tap.state c.next.new.tap).bytes in
     let read = has_read script given c.args.reader.now c.next.new.self (g.R.Tap.state c.args.tap.now).bytes left c.next.result h c.next.ensures.lines in
     let told = found_as script given c.args.reader.now c.next.new.self left c.next.result Line read (c.in_ok-next.was ∙ ap Ok c.in-Line.is) in
-    let is_given : List ℕ → Type 0 = λ line. LineAnswers c.args.session.now.base c.args.session.now.text line (λ a. IsGiven a c.args.session.now c.answer_line.new.session c.in-Ok.refused
+    let is_given : List ℕ → Type 0 = λ line. LineAnswers c.args.file.now c.args.session.now.base c.args.session.now.text line (λ a. IsGiven a c.args.session.now c.answer_line.new.session c.in-Ok.refused
     c.args.pen.now (g.S.Sink.state c.args.sink.now) c.answer_line.new.pen (g.S.Sink.state c.answer_line.new.sink)) in (
       c.next.new.self.line,
       line_given script given c.args.reader.now c.next.new.self left c.next.result c.next.new.self.line read (before_line c.args.reader.now.state c.next.result c.next.ensures.ended (c.in_ok-next.was ∙ ap Ok c.in-Line.is)) told.1,
@@ -54,6 +54,6 @@ returns-in_err-next-clause-given g c script given h =
     let p = err_from_is_err_and c.from_residual.result c.from_residual.ensures.1 in
     let stops = stops_behind script given c.args.reader.now c.next.new.self left c.next.result fault read
     (before_fault c.args.reader.now.state c.next.result fault c.next.ensures.ended c.in_err-next.was) c.in_err-next.was in
-    let gives : Result (Option Bool) LineFault → Type 0 = λ r. GoesOn c.args.session.now c.args.session.now script c.next.new.self left given r
+    let gives : Result (Option Bool) LineFault → Type 0 = λ r. GoesOn c.args.file.now c.args.session.now c.args.session.now script c.next.new.self left given r
     c.args.pen.now (g.S.Sink.state c.args.sink.now) c.args.pen.now (g.S.Sink.state c.args.sink.now) in
     subst gives (sym (p.1 ∙ ap Err p.2)) (stops, record { session_same = refl; pen_same = refl; sink_same = refl })

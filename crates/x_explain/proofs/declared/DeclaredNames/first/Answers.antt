@@ -1,4 +1,4 @@
-use Rattle.std.proofs.Common.{◌≡◌, ◌∙◌, None, Some, ap, sym}
+use Rattle.std.proofs.Common.{◌∙◌, None, Some, ap, sym}
 use Rattle.std.specs.Prelude.{option_map}
 use Rattle.x_explain.specs.DeclaredNames.{declared_at}
 use Rattle.x_explain.proofs.DeclaredLemmas.{kind_added, named_first}

@@ -1,7 +1,7 @@
-use Rattle.std.proofs.Common.{◌≡◌, ◌∙◌, true, sym, subst}
+use Rattle.std.proofs.Common.{◌≡◌, ◌∙◌, ap, true, sym, subst}
 use Rattle.std.specs.Prelude.{IfSome}
 use Rattle.x_session.specs.Session.{Compiles}
-use Rattle.x_explain.specs.DeclaredNames.{IsTableOf}
+use Rattle.x_explain.specs.Facts.{AreNamesOf, name_of}
 use Rattle.x_lsp.specs.Diagnostics.{IsRangeAt, declared_elsewhere}
 use Rattle.x_lsp.proofs.PlaceTableLemmas.{is_beside}
 use Rattle.x_lsp.proofs.other_places.OtherPlaces.range.Goals as goal
@@ -11,20 +11,29 @@ returns-in-Some-clause-range c =
     let s = c.args.self.now in
     let e = s.marks.now.encoding in
     let text = s.session.now.text in
-    let word = c.args.word.now in
+    let start = c.args.start in
+    let names = c.in-Some.names in
     let found = c.declared_range.result in
-    let made : Compiles text (λ items. IsTableOf text items c.in-Some.names) = subst (λ o. IfSome o (λ table. Compiles text (λ items. IsTableOf text items table))) c.in-Some.is c.requires.of_text in
-    let shown : s.shown ≡ true = c.if-not-self.false in
-    is_beside e text s.shown c.args.code word c.args.start c.in-Some.names found shown (sym c.is_of_declarer.ensures ∙ c.if-not-is_of_declarer.false) made
-    (λ items is. subst (λ t. IsRangeAt e t (declared_elsewhere items word c.args.start) found) c.bytes.ensures (c.declared_range.ensures items (subst (λ t. IsTableOf t items c.in-Some.names) (sym c.bytes.ensures) is)))
+    let made : Compiles text (λ items. AreNamesOf text items names) =
+    subst (λ o. IfSome o (λ names. Compiles text (λ items. AreNamesOf text items names))) c.in-Some.is c.requires.of_text in
+    is_beside e text s.shown c.args.code c.args.word.now start names found c.if-not-self.false (sym c.is_of_declarer.ensures ∙ c.if-not-is_of_declarer.false) made
+    (λ items is.
+    let named = c.name-name.ensures text items is in
+    let ranged = c.declared_range.ensures items (subst (λ t. AreNamesOf t items names) (sym c.bytes.ensures) is) in
+    subst (λ t. IsRangeAt e t (declared_elsewhere items (name_of items c.args.code start c.args.word.now) start) found) c.bytes.ensures
+    (subst (λ n. IsRangeAt e c.bytes.result.now (declared_elsewhere items n start) found) named ranged))
 
 pub returns-clause-range : goal.returns-clause-range
 returns-clause-range c =
     let s = c.args.self.now in
     let e = s.marks.now.encoding in
     let text = s.session.now.text in
-    let word = c.args.word.now in
+    let start = c.args.start in
+    let names = c.in_ok-names.names in
     let found = c.declared_range-range.result in
-    let shown : s.shown ≡ true = c.if-not-self.false in
-    is_beside e text s.shown c.args.code word c.args.start c.in_ok-names.names found shown (sym c.is_of_declarer.ensures ∙ c.if-not-is_of_declarer.false) c.in_ok-names.ensures
-    (λ items is. subst (λ t. IsRangeAt e t (declared_elsewhere items word c.args.start) found) c.bytes-2.ensures (c.declared_range-range.ensures items (subst (λ t. IsTableOf t items c.in_ok-names.names) (sym c.bytes-2.ensures) is)))
+    is_beside e text s.shown c.args.code c.args.word.now start names found c.if-not-self.false (sym c.is_of_declarer.ensures ∙ c.if-not-is_of_declarer.false) c.in_ok-names.ensures
+    (λ items is.
+    let named = c.name-name-2.ensures text items is in
+    let ranged = c.declared_range-range.ensures items (subst (λ t. AreNamesOf t items names) (sym c.bytes-2.ensures) is) in
+    subst (λ t. IsRangeAt e t (declared_elsewhere items (name_of items c.args.code start c.args.word.now) start) found) c.bytes-2.ensures
+    (subst (λ n. IsRangeAt e c.bytes-2.result.now (declared_elsewhere items n start) found) named ranged))

@@ -1,0 +1,361 @@
+//! What undeclared words of a text may have been meant as.
+
+ghost use Rattle.std.specs.Cow.{cow_slice_items};
+ghost use Rattle.std.specs.Prelude.{◌≡◌, ◌≤◌, ◌++◌, IfOk, OnOk, length, map, option_map, take};
+ghost use Rattle.x_trees.specs.Names.{declared};
+ghost use Rattle.x_trees.specs.Spell.{IsShort};
+ghost use Rattle.x_trees.specs.View.{tree_at, view_definition};
+ghost use Rattle.x_names.specs.Declarers.{AreShort};
+ghost use Rattle.x_compile.specs.Compile.{definitions_of, places_of};
+ghost use Rattle.x_session.specs.Session.{Compiles};
+ghost use Rattle.x_explain.specs.Found.{AreFound};
+ghost use Rattle.x_explain.specs.Suggestions.{AreSuggested, compared, distance, is_bool, is_hyper, is_int};
+ghost use Rattle.x_explain.specs.Suggestions.{is_about_as_long, is_near, is_nearer, is_small, is_unknown};
+ghost use Rattle.x_explain.specs.Suggestions.{is_unsigned_hyper};
+ghost use Rattle.x_explain.specs.Suggestions.{is_unsigned_int, is_unsigned_long, is_unsigned_of_width};
+ghost use Rattle.x_explain.specs.Suggestions.{nearest, sought, suggested};
+ghost use Rattle.x_explain.specs.Suggestions.{suggested_at, suggestion, type_of_c, view_suggestion};
+
+use crate::declared::definitions;
+use crate::found::{FoundFault, found_at, word_at};
+use std::alloc::Global;
+use std::borrow::CowSlice;
+use strsim::generic_damerau_levenshtein;
+use x_item::{Definition, declares};
+use x_session::{FaultCode, FaultPlace, RuleCode, Session};
+use x_text::NoMemory;
+
+/// For how many undeclared words of a text something is suggested.
+const MOST_WORDS: usize = 16;
+
+/// With how many of its names they are compared.
+const MOST_NAMES: usize = 1024;
+
+/// How long words and names are at most that are compared, in bytes.
+const LONGEST: usize = 64;
+
+/// What is suggested for an undeclared word.
+#[derive(Debug, Drop)]
+struct Suggestion {
+    /// Where the word starts.
+    start: usize,
+    name: Option<Vec<u8>>,
+}
+
+/// What is suggested for the first undeclared words of a text: the first 16, each compared with the first
+/// 1024 names that the text declares, so that this takes little time whatever the text is.
+#[derive(Debug, Drop)]
+pub struct Suggestions {
+    list: Vec<Suggestion>,
+}
+
+impl Suggestions {
+    /// What is suggested for the words of a text.
+    ///
+    /// # Errors
+    ///
+    /// [`NoMemory`] where a list could not grow.
+    pub fn of(alloc: Global, session: &Session) -> Result<Suggestions, NoMemory>
+        ensures { IfOk result (λ suggestions. Compiles session.now.text
+            (λ items. AreSuggested session.now.text items (map view_suggestion suggestions.list.items))) }
+    {
+        let found = unknown_words(alloc, session)?;
+        if found.is_empty() {
+            return Ok(Suggestions {
+                list: Vec::new(alloc),
+            });
+        }
+        let names = compared_names(alloc, session)?;
+        let list = suggested(alloc, session.bytes(), &names, &found)?;
+        Ok(Suggestions { list })
+    }
+
+    /// What is suggested for the word that starts at a place.
+    pub fn at(&self, start: usize) -> Option<&[u8]>
+        ensures { option_map (λ n. n.now) result
+            ≡ suggested_at (map view_suggestion self.now.list.items) start }
+    {
+        for suggestion in &self.list {
+            if suggestion.start == start {
+                return match &suggestion.name {
+                    Some(name) => Some(name),
+                    None => None,
+                };
+            }
+        }
+        None
+    }
+}
+
+/// The undeclared words for which something is suggested.
+fn unknown_words(alloc: Global, session: &Session) -> Result<Vec<FoundFault>, NoMemory>
+    ensures { IfOk result (λ found. Compiles session.now.text
+        (λ items. AreFound session.now.text (sought (places_of items)) found.items)) }
+{
+    let places = sought(alloc, session)?;
+    found_at(alloc, session.bytes(), &places)
+}
+
+/// Their places.
+fn sought(alloc: Global, session: &Session) -> Result<Vec<FaultPlace>, NoMemory>
+    ensures { IfOk result
+        (λ places. Compiles session.now.text (λ items. places.items ≡ sought (places_of items))) }
+{
+    let mut places = Vec::new(alloc);
+    for place in session.fault_places() {
+        if is_unknown(place.code) && places.len() < MOST_WORDS {
+            places.push(place)?;
+        }
+    }
+    Ok(places)
+}
+
+/// Whether the word of a fault is not declared.
+pub(crate) fn is_unknown(code: FaultCode) -> bool
+    ensures { result ≡ is_unknown code }
+{
+    matches!(code, FaultCode::Rule(RuleCode::Unknown))
+}
+
+/// The names of a text that words are compared with.
+fn compared_names(alloc: Global, session: &Session) -> Result<Vec<CowSlice<'_, u8>>, NoMemory>
+    ensures { IfOk result (λ names. Compiles session.now.text
+        (λ items. map cow_slice_items names.items ≡ compared (definitions_of items))) }
+{
+    // So many tokens fit, and no definition has more words.
+    let _ = session.token_count();
+    let definitions = definitions(alloc, session)?;
+    compared(alloc, &definitions)
+}
+
+/// Those that definitions declare.
+fn compared<'d>(
+    alloc: Global,
+    definitions: &[Option<&'d Definition>],
+) -> Result<Vec<CowSlice<'d, u8>>, NoMemory>
+    ensures { IfOk result (λ names. AreShort (map tree_at definitions.now)
+        → map cow_slice_items names.items ≡ compared (map tree_at definitions.now)) }
+{
+    let mut names = Vec::new(alloc);
+    for item in 0..definitions.len() {
+        if let Some(definition) = definitions[item] {
+            add_names(alloc, &mut names, definition)?;
+        }
+    }
+    Ok(names)
+}
+
+/// Adds the names that a definition declares, as long as there are not too many.
+fn add_names<'d>(
+    alloc: Global,
+    names: &mut Vec<CowSlice<'d, u8>>,
+    definition: &'d Definition,
+) -> Result<(), NoMemory>
+    ensures { OnOk result (IsShort (view_definition definition.now) → length names.old.items ≤ 1024
+        → (length names.new.items ≤ 1024)
+        × (map cow_slice_items names.new.items ≡ take 1024 (map cow_slice_items names.old.items
+        ++ map (λ n. n.name) (declared (view_definition definition.now))))) }
+{
+    if names.len() >= MOST_NAMES {
+        return Ok(());
+    }
+    for declared in declares(alloc, definition)? {
+        if names.len() < MOST_NAMES {
+            names.push(declared.name)?;
+        }
+    }
+    Ok(())
+}
+
+/// What is suggested for words of a text.
+fn suggested(
+    alloc: Global,
+    text: &[u8],
+    names: &[CowSlice<u8>],
+    found: &[FoundFault],
+) -> Result<Vec<Suggestion>, NoMemory>
+    ensures { IfOk result (λ list. map view_suggestion list.items
+        ≡ map (suggested text.now (map cow_slice_items names.now)) found.now) }
+{
+    let mut list = Vec::with_capacity(alloc, found.len())?;
+    for word in found {
+        list.push(Suggestion {
+            start: word.start,
+            name: suggestion_for(alloc, word_at(text, word.start, word.end), names)?,
+        })?;
+    }
+    Ok(list)
+}
+
+/// What is suggested for a word.
+fn suggestion_for(
+    alloc: Global,
+    word: &[u8],
+    names: &[CowSlice<u8>],
+) -> Result<Option<Vec<u8>>, NoMemory>
+    ensures { IfOk result (λ name. option_map (λ v. v.items) name
+        ≡ suggestion word.now (map cow_slice_items names.now)) }
+{
+    if let Some(name) = type_of_c(word) {
+        return Ok(Some(owned(alloc, name.as_bytes())?));
+    }
+    match nearest(alloc, word, names)? {
+        Some(name) => Ok(Some(owned(alloc, name)?)),
+        None => Ok(None),
+    }
+}
+
+/// A copy of bytes.
+fn owned(alloc: Global, bytes: &[u8]) -> Result<Vec<u8>, NoMemory>
+    ensures { IfOk result (λ copy. copy.items ≡ bytes.now) }
+{
+    let mut copy = Vec::with_capacity(alloc, bytes.len())?;
+    copy.extend_from_slice(bytes)?;
+    Ok(copy)
+}
+
+/// The type that is on the wire what the XDR routine of a type of C with this name writes.
+fn type_of_c(word: &[u8]) -> Option<&'static str>
+    ensures { option_map (λ n. n.now) result ≡ type_of_c word.now }
+{
+    if is_int(word) {
+        Some("int")
+    } else if is_unsigned_int(word) {
+        Some("unsigned int")
+    } else if is_unsigned_long(word) {
+        Some("unsigned long")
+    } else if is_hyper(word) {
+        Some("hyper")
+    } else if is_unsigned_hyper(word) {
+        Some("unsigned hyper")
+    } else if is_bool(word) {
+        Some("bool")
+    } else {
+        None
+    }
+}
+
+fn is_int(word: &[u8]) -> bool
+    ensures { result ≡ is_int word.now }
+{
+    word == b"int32_t".as_slice() || word == b"int16_t".as_slice() || word == b"short".as_slice()
+}
+
+fn is_unsigned_of_width(word: &[u8]) -> bool
+    ensures { result ≡ is_unsigned_of_width word.now }
+{
+    word == b"uint32_t".as_slice()
+        || word == b"u_int32_t".as_slice()
+        || word == b"uint16_t".as_slice()
+        || word == b"u_int16_t".as_slice()
+}
+
+fn is_unsigned_int(word: &[u8]) -> bool
+    ensures { result ≡ is_unsigned_int word.now }
+{
+    word == b"u_int".as_slice()
+        || word == b"uint".as_slice()
+        || word == b"u_short".as_slice()
+        || word == b"ushort".as_slice()
+        || is_unsigned_of_width(word)
+}
+
+fn is_unsigned_long(word: &[u8]) -> bool
+    ensures { result ≡ is_unsigned_long word.now }
+{
+    word == b"u_long".as_slice() || word == b"ulong".as_slice()
+}
+
+fn is_hyper(word: &[u8]) -> bool
+    ensures { result ≡ is_hyper word.now }
+{
+    word == b"int64_t".as_slice()
+        || word == b"longlong_t".as_slice()
+        || word == b"quad_t".as_slice()
+}
+
+fn is_unsigned_hyper(word: &[u8]) -> bool
+    ensures { result ≡ is_unsigned_hyper word.now }
+{
+    word == b"uint64_t".as_slice()
+        || word == b"u_int64_t".as_slice()
+        || word == b"u_longlong_t".as_slice()
+        || word == b"u_quad_t".as_slice()
+}
+
+fn is_bool(word: &[u8]) -> bool
+    ensures { result ≡ is_bool word.now }
+{
+    word == b"bool_t".as_slice() || word == b"boolean".as_slice()
+}
+
+/// The nearest of some names, of several at one distance the first.
+fn nearest<'n>(
+    alloc: Global,
+    word: &[u8],
+    names: &'n [CowSlice<u8>],
+) -> Result<Option<&'n [u8]>, NoMemory>
+    ensures { IfOk result (λ found. option_map (λ n. n.now) found
+        ≡ nearest word.now (map cow_slice_items names.now)) }
+{
+    let mut found: Option<&[u8]> = None;
+    for index in (0..names.len()).rev() {
+        let name: &[u8] = &names[index];
+        if is_nearer(alloc, word, name, found)? {
+            found = Some(name);
+        }
+    }
+    Ok(found)
+}
+
+/// Whether a name is near, and no farther than another one.
+fn is_nearer(
+    alloc: Global,
+    word: &[u8],
+    name: &[u8],
+    other: Option<&[u8]>,
+) -> Result<bool, NoMemory>
+    ensures { IfOk result (λ nearer. nearer
+        ≡ is_nearer word.now name.now (option_map (λ n. n.now) other.entry)) }
+{
+    if !is_near(alloc, word, name)? {
+        return Ok(false);
+    }
+    match other {
+        Some(other) => Ok(distance(alloc, word, name)? <= distance(alloc, word, other)?),
+        None => Ok(true),
+    }
+}
+
+/// Whether a name is at a distance of at most a third of the word's length.
+fn is_near(alloc: Global, word: &[u8], name: &[u8]) -> Result<bool, NoMemory>
+    ensures { IfOk result (λ near. near ≡ is_near word.now name.now) }
+{
+    if word.len() > LONGEST || name.len() > LONGEST || !is_about_as_long(word, name) {
+        return Ok(false);
+    }
+    Ok(is_small(word, distance(alloc, word, name)?))
+}
+
+/// Whether the lengths of a word and a name differ by at most a third of the word's.
+fn is_about_as_long(word: &[u8], name: &[u8]) -> bool
+    ensures { result ≡ is_about_as_long word.now name.now }
+{
+    is_small(word, word.len().saturating_sub(name.len()))
+        && is_small(word, name.len().saturating_sub(word.len()))
+}
+
+/// Whether these are at most a third as many as the bytes of a word.
+fn is_small(word: &[u8], steps: usize) -> bool
+    ensures { result ≡ is_small word.now steps }
+{
+    steps.saturating_mul(3) <= word.len()
+}
+
+/// In how many steps the name is made of the word: a byte is put in, left out or replaced, or two neighbours
+/// are swapped.
+fn distance(alloc: Global, word: &[u8], name: &[u8]) -> Result<usize, NoMemory>
+    ensures { IfOk result (λ edits. edits ≡ distance word.now name.now) }
+{
+    Ok(generic_damerau_levenshtein(alloc, word, name)?)
+}
