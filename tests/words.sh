@@ -22,9 +22,11 @@ stubs() { generated -l "$1"; }
 table() { generated -t "$1"; }
 
 generated() {
-    printf %b "$2" >t.x
+    put "$2"
     rpcgen "$1" t.x
 }
+
+put() { printf %b "$1" >t.x; }
 
 # short COMMAND..: where no file takes more than 1,024 bytes.
 short() (
