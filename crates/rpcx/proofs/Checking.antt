@@ -7,6 +7,7 @@ use Rattle.x_args.specs.declared.status.Status.{Status}
 use Rattle.x_args.specs.declared.status.Status.TheVariants.{Done, Faulty, Failed}
 use Rattle.x_session.specs.Session.{Compiles}
 use Rattle.x_compile.specs.Compile.{faults_of}
+use Rattle.x_compile.specs.Known.{nothing_known}
 use Rattle.rpcx.specs.declared.files.opening.FaultStyle.{FaultStyle}
 use Rattle.rpcx.specs.Checking.{AreChecked, IsChecked}
 use Rattle.rpcx.specs.Generate.{IsFaultless, NotOpened, TellsFaults}
@@ -27,7 +28,7 @@ worse_of_three Failed b c = refl
 
 -- what the check of a text that was read comes to, by its status
 pub checked : (style : FaultStyle) (file text : List ℕ) (before after : Stream) (status : Status)
-    → (status ≡ Faulty → Compiles text (λ items. (0 < length (faults_of text items)) × TellsFaults style file text items before after))
+    → (status ≡ Faulty → Compiles nothing_known text (λ items. (0 < length (faults_of text items)) × TellsFaults style file text items before after))
     → (status ≡ Done → IsFaultless text) → (status ≡ Failed → NotOpened (codes "rpcgen") file text before after) → (status ≡ Done → after ≡ before)
     → IsChecked style file before after status
 checked style file text before after Done faulty clean failed quiet = (text, clean refl, quiet refl)

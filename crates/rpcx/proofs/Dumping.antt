@@ -7,6 +7,7 @@ use Rattle.x_text.specs.declared.text.source.TheConstants.{MAX_TEXT}
 use Rattle.x_schema.specs.Schema.{Schema}
 use Rattle.x_session.specs.Session.{Compiles}
 use Rattle.x_compile.specs.Compile.{faults_of}
+use Rattle.x_compile.specs.Known.{nothing_known}
 use Rattle.x_session.specs.Typed.{GivesSchema}
 use Rattle.x_text.specs.declared.streams.outcome.Outcome.{Outcome}
 use Rattle.x_session.specs.declared.session.Session.{Session}
@@ -56,7 +57,7 @@ FailsWith status other = let r : Result Session Status = Err status in IsErrOf r
 
 -- a text that is not opened, by its status
 pub not_opened : (style : FaultStyle) (file text : List ℕ) (before after : Stream) (status : Status)
-    → (FailsWith status Faulty → Compiles text (λ items. (0 < length (faults_of text items)) × TellsFaults style file text items before after))
+    → (FailsWith status Faulty → Compiles nothing_known text (λ items. (0 < length (faults_of text items)) × TellsFaults style file text items before after))
     → (MAX_TEXT < length text → FailsWith status Failed) → (FailsWith status Failed → NotOpened (codes "rpcdump") file text before after)
     → (status ≡ Faulty) ⊎ (status ≡ Failed) → Opens style file text before after (Err status)
 not_opened style file text before after Done faulty large failed others = elim others [ inl other ↦ absurd (cc) | inr other ↦ absurd (cc) ]
@@ -64,11 +65,11 @@ not_opened style file text before after Faulty faulty large failed others = (fit
 not_opened style file text before after Failed faulty large failed others = inl (failed refl)
 
 -- the types of a text that was opened
-pub has_types : (text : List ℕ) (s : Schema) → (MAX_TEXT < length text → ⊥) → Compiles text (λ items. GivesSchema text items (Ok s)) → HasTypes text s
+pub has_types : (text : List ℕ) (s : Schema) → (MAX_TEXT < length text → ⊥) → Compiles nothing_known text (λ items. GivesSchema nothing_known text items (Ok s)) → HasTypes text s
 has_types text s large gives = (fits (length text) large, gives)
 
 -- a text without a fault whose types could not be made
-pub faultless : (text : List ℕ) → (MAX_TEXT < length text → ⊥) → Compiles text (λ items. faults_of text items ≡ []) → IsFaultless text
+pub faultless : (text : List ℕ) → (MAX_TEXT < length text → ⊥) → Compiles nothing_known text (λ items. faults_of text items ≡ []) → IsFaultless text
 faultless text large clean = record { fits = fits (length text) large; clean = clean }
 
 -- ---- reading

@@ -26,23 +26,23 @@ one_status false false e = refl
 
 -- a run without a fault answers its script
 pub answers_all : (tap : Option (List ℕ)) (left : Option (List ℕ)) (file : List ℕ) (old new : Document) (before after : Stream) (outcome : Outcome) (status : Status) → status ≡ status_of (is_refused outcome)
-    → MatchOption tap (Unit {0}) (λ script. Runs file script left old new before after (Ok outcome)) → MatchOption tap (Unit {0}) (λ script. Answers script file old.base old.text before after status)
+    → MatchOption tap (Unit {0}) (λ script. Runs file script left old new before after (Ok outcome)) → MatchOption tap (Unit {0}) (λ script. Answers script file old.base old.known old.text before after status)
 answers_all None left file old new before after outcome status is run = tt
 answers_all (Some script) left file old new before after outcome status is run =
-    λ refused e. (old, new, record { base_is = refl; text_is = refl }, subst (λ r. HasRun file (script_lines script) old new before after r) (one_status (is_refused outcome) refused (sym is ∙ e)) run)
+    λ refused e. (old, new, record { base_is = refl; known_is = refl; text_is = refl }, subst (λ r. HasRun file (script_lines script) old new before after r) (one_status (is_refused outcome) refused (sym is ∙ e)) run)
 
 -- a fault ended a run
 pub ends_by : (file : List ℕ) (tap tap' out out' : Stream) (old new : Document) (fault : EngineFault)
     → NamesCause (Err fault) tap.failed tap'.failed out.failed out'.failed
     → MatchOption tap.bytes (Unit {0}) (λ script. Runs file script tap'.bytes old new out out' (Err fault))
-    → EndsBy fault file old.base old.text (course tap tap' out out')
+    → EndsBy fault file old.base old.known old.text (course tap tap' out out')
 ends_by file tap tap' out out' old new fault cause run = record { cause = cause; run = go tap.bytes run }
   where
     go : (at : Option (List ℕ))
         → MatchOption at (Unit {0}) (λ script. Runs file script tap'.bytes old new out out' (Err fault))
-        → MatchOption at (Unit {0}) (λ script. EndsEarly script tap'.bytes file old.base old.text out out' fault)
+        → MatchOption at (Unit {0}) (λ script. EndsEarly script tap'.bytes file old.base old.known old.text out out' fault)
     go None h = h
-    go (Some script) h = (old, new, record { base_is = refl; text_is = refl }, h)
+    go (Some script) h = (old, new, record { base_is = refl; known_is = refl; text_is = refl }, h)
 
 -- a search through all that is known where this is used would take far longer
 opened_is_not_large : (session : Session) → IsErrOf {E = TextFault} (Ok session) faults.TooLarge → ⊥

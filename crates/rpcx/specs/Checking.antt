@@ -3,6 +3,7 @@ use Rattle.std.specs.Prelude.{◌≡◌, ◌⊎◌, ℕ, ◌<◌, List, [], ◌�
 use Rattle.x_text.specs.Streams.{Stream}
 use Rattle.x_session.specs.Session.{Compiles}
 use Rattle.x_compile.specs.Compile.{faults_of}
+use Rattle.x_compile.specs.Known.{nothing_known}
 use Rattle.x_args.specs.Status.{worse}
 use Rattle.x_args.specs.Telling.{IsTold, told_of}
 use Rattle.x_args.specs.declared.status.Status.{Status}
@@ -22,7 +23,7 @@ IsUnread file before after =
 abbrev pub IsChecked : (style : FaultStyle) → (file : List ℕ) → (before after : Stream) → Status → Type 0
 IsChecked style file before after Done = (text : List ℕ) × IsFaultless text × (after ≡ before)
 IsChecked style file before after Faulty =
-    (text : List ℕ) × Compiles text (λ items. (0 < length (faults_of text items))
+    (text : List ℕ) × Compiles nothing_known text (λ items. (0 < length (faults_of text items))
     × TellsFaults style file text items before after)
 IsChecked style file before after Failed =
     IsUnread file before after

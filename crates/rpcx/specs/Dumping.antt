@@ -9,6 +9,7 @@ use Rattle.x_schema.specs.Schemas.{IsSchemaOf}
 use Rattle.x_schema.specs.declared.schema.TypeId.{TypeId}
 use Rattle.x_session.specs.Session.{Compiles}
 use Rattle.x_compile.specs.Compile.{Item, definitions_of, faults_of}
+use Rattle.x_compile.specs.Known.{nothing_known}
 use Rattle.x_text.specs.Engines.{NamesCause}
 use Rattle.x_value.specs.ValueTexts.{WritesValue}
 use Rattle.x_text.specs.declared.streams.outcome.Outcome.{Outcome}
@@ -46,13 +47,14 @@ type_asked args = unwrap_or (option_map (λ s. s.now) args.type_name) []
 -- the text is one that can be compiled, and has faults, of which this holds by its items
 abbrev pub HasFaults : List ℕ → (List Item → Type 0) → Type 0
 HasFaults text P =
-    (length text ≤ most_text) × Compiles text (λ items. (0 < length (faults_of text items)) × P items)
+    (length text ≤ most_text)
+    × Compiles nothing_known text (λ items. (0 < length (faults_of text items)) × P items)
 
 -- the text has no fault, and these are its types
 abbrev pub HasTypes : List ℕ → Schema → Type 0
 HasTypes text s =
     (length text ≤ most_text)
-    × Compiles text (λ items. (faults_of text items ≡ []) × IsSchemaOf (definitions_of items) s)
+    × Compiles nothing_known text (λ items. (faults_of text items ≡ []) × IsSchemaOf (definitions_of items) s)
 
 -- What opening the types of a text comes to: there are such; or its faults were told, or why it is not
 -- opened.

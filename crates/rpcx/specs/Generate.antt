@@ -9,6 +9,7 @@ use Rattle.x_compile.specs.declared.fault.Fault.{Fault}
 use Rattle.x_session.specs.Session.{Compiles, Document}
 use Rattle.x_compile.specs.Compile.{Item, faults_of}
 use Rattle.x_compile.specs.Faults.{fault_text}
+use Rattle.x_compile.specs.Known.{nothing_known}
 use Rattle.x_text.specs.declared.streams.outcome.EngineFault.{EngineFault}
 use Rattle.x_text.specs.declared.streams.outcome.EngineFault.TheVariants.{Read, Write, NoMemory}
 use Rattle.x_session.specs.FaultLines.{fault_place}
@@ -50,7 +51,7 @@ unopened_told program file fault = told_of program (codes "out of memory")
 -- the text is one that can be compiled, and has no fault
 pub record IsFaultless (text : List ℕ) : Type 0 where
   pub fits : length text ≤ most_text
-  pub clean : Compiles text (λ items. faults_of text items ≡ [])
+  pub clean : Compiles nothing_known text (λ items. faults_of text items ≡ [])
 
 -- Why a program opens no session of a file's text that it can read, as it tells it: the text is too large, or
 -- memory ran out. A text with faults has them told.
@@ -80,10 +81,11 @@ TellsFaults Coloured file text items before after = ExplainsFaults true file tex
 pub record IsOpened (style : FaultStyle) (program file bytes : List ℕ) (before after : Stream)
     (result : Result Document Status) : Type 0 where
   pub base : IfOk result (λ s. s.base ≡ base_of file)
+  pub known : IfOk result (λ s. s.known ≡ nothing_known)
   pub text : IfOk result (λ s. s.text ≡ bytes)
-  pub clean : OnOk result (Compiles bytes (λ items. faults_of bytes items ≡ []))
+  pub clean : OnOk result (Compiles nothing_known bytes (λ items. faults_of bytes items ≡ []))
   pub faulty : IsErrOf result Faulty
-      → Compiles bytes (λ items. (0 < length (faults_of bytes items))
+      → Compiles nothing_known bytes (λ items. (0 < length (faults_of bytes items))
       × TellsFaults style file bytes items before after)
   pub too_large : most_text < length bytes → IsErrOf result Failed
   pub failed : IsErrOf result Failed → NotOpened program file bytes before after

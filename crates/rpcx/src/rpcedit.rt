@@ -3,6 +3,7 @@
 ghost use Rattle.std.specs.Prelude.{◌≡◌, ◌≢◌, ◌<◌, MatchOption, length};
 ghost use Rattle.x_text.specs.Engines.{WorksOn};
 ghost use Rattle.x_text.specs.Limits.{most_text};
+ghost use Rattle.x_compile.specs.Known.{nothing_known};
 ghost use Rattle.rpcx.specs.Course.{course};
 ghost use Rattle.rpcx.specs.Editing.{Answers, IsStopped, NotRun};
 ghost use Rattle.rpcx.specs.Generate.{base_of};
@@ -36,7 +37,7 @@ pub fn edit_run<I: Tap, O: Outlet, E: Sink>(
     ensures reading { result ≢ Status.Failed → (I.state input.new).failed ≡ (I.state input.old).failed }
     ensures working { result ≢ Status.Failed → WorksOn (O.state out.old).failed (O.state out.new).failed }
     ensures answers { MatchOption (I.state input.old).bytes (Unit {0})
-        (λ script. Answers script args.now.file.now (base_of args.now.file.now) bytes.now
+        (λ script. Answers script args.now.file.now (base_of args.now.file.now) nothing_known bytes.now
         (O.state out.old) (O.state out.new) result) }
 {
     let hash_key = HashKey::of_bytes(bytes);
@@ -65,7 +66,7 @@ pub fn edit_run_keyed<I: Tap, O: Outlet, E: Sink>(
     ensures reading { result ≢ Status.Failed → (I.state input.new).failed ≡ (I.state input.old).failed }
     ensures working { result ≢ Status.Failed → WorksOn (O.state out.old).failed (O.state out.new).failed }
     ensures answers { MatchOption (I.state input.old).bytes (Unit {0})
-        (λ script. Answers script args.now.file.now (base_of args.now.file.now) bytes.now
+        (λ script. Answers script args.now.file.now (base_of args.now.file.now) nothing_known bytes.now
         (O.state out.old) (O.state out.new) result) }
 {
     let mut session = match Session::keyed(alloc, hash_key, base_of_file(args.file), bytes) {
@@ -91,15 +92,15 @@ fn answer_input<I: Tap, O: Outlet, E: Sink>(
     err: &mut E,
 ) -> Status
     ensures stopped { result ≡ Status.Failed
-        → IsStopped file.now session.old.base session.old.text
+        → IsStopped file.now session.old.base session.old.known session.old.text
         (course (I.state input.old) (I.state input.new) (O.state out.old) (O.state out.new))
         (O.is_closed out.new) (E.state err.old) (E.state err.new) }
     ensures quiet { result ≢ Status.Failed → err.new ≡ err.old }
     ensures reading { result ≢ Status.Failed → (I.state input.new).failed ≡ (I.state input.old).failed }
     ensures working { result ≢ Status.Failed → WorksOn (O.state out.old).failed (O.state out.new).failed }
     ensures answers { MatchOption (I.state input.old).bytes (Unit {0})
-        (λ script. Answers script file.now session.old.base session.old.text (O.state out.old)
-        (O.state out.new) result) }
+        (λ script. Answers script file.now session.old.base session.old.known session.old.text
+        (O.state out.old) (O.state out.new) result) }
 {
     match run_script(alloc, session, file, input, out) {
         Ok(Outcome::Clean) => Status::Done,

@@ -10,6 +10,7 @@ ghost use Rattle.x_args.specs.Telling.{Complains, Grows, IsTold};
 ghost use Rattle.x_session.specs.Session.{Compiles};
 ghost use Rattle.x_compile.specs.Compile.{faults_of};
 ghost use Rattle.x_compile.specs.Generated.{text_of};
+ghost use Rattle.x_compile.specs.Known.{nothing_known};
 ghost use Rattle.x_text.specs.Limits.{most_text};
 
 mod checking;
@@ -44,11 +45,11 @@ pub fn gen_open<E: Sink>(
 /// Writes a generated text and flushes the output, and answers whether it took all.
 fn is_written<O: Sink>(which: Which, session: &Session, out: &mut O) -> bool
     ensures written { IsTrue result
-        → Compiles session.now.text
+        → Compiles session.now.known session.now.text
         (λ items. Appends (O.state out.old).bytes (O.state out.new).bytes
         (text_of which session.now.base items)) }
     ensures front { result ≡ false
-        → Compiles session.now.text
+        → Compiles session.now.known session.now.text
         (λ items. Grows (O.state out.old) (O.state out.new) (text_of which session.now.base items)) }
     ensures working { result ≡ not (O.state out.new).failed }
 {
@@ -67,11 +68,11 @@ pub fn gen_write<O: Outlet, E: Sink>(
     err: &mut E,
 ) -> Status
     ensures written { result ≡ Status.Done
-        → Compiles session.now.text
+        → Compiles session.now.known session.now.text
         (λ items. Appends (O.state out.old).bytes (O.state out.new).bytes
         (text_of which session.now.base items)) }
     ensures front { result ≢ Status.Done
-        → Compiles session.now.text
+        → Compiles session.now.known session.now.text
         (λ items. Grows (O.state out.old) (O.state out.new) (text_of which session.now.base items)) }
     ensures status { result ≡ (if (O.state out.new).failed then Status.Failed else Status.Done) }
     ensures told { result ≢ Status.Done
@@ -103,14 +104,15 @@ pub fn gen_run<O: Output, E: Sink>(
     err: &mut E,
 ) -> Status
     ensures faulty { result ≡ Status.Faulty
-        → Compiles bytes.now
+        → Compiles nothing_known bytes.now
         (λ items. (0 < length (faults_of bytes.now items))
         × TellsFaults style args.now.file.now bytes.now items
         (E.state err.old) (E.state err.new)) }
     ensures too_large { most_text < length bytes.now → result ≡ Status.Failed }
     ensures clean { result ≡ Status.Done → IsFaultless bytes.now }
     ensures written { result ≡ Status.Done → (opened : O.Opened) × (left : O.Opened)
-        × Compiles bytes.now (λ items. Appends (O.Opened.state opened).bytes (O.Opened.state left).bytes
+        × Compiles nothing_known bytes.now
+        (λ items. Appends (O.Opened.state opened).bytes (O.Opened.state left).bytes
         (text_of which (base_of args.now.file.now) items)) }
     ensures failed { result ≡ Status.Failed → NotGenerated args.now bytes.now
         (λ is_closed. (left : O.Opened) × IsTrue (O.Opened.state left).failed
@@ -118,7 +120,7 @@ pub fn gen_run<O: Output, E: Sink>(
         (E.state err.old) (E.state err.new) }
     ensures quiet { result ≡ Status.Done → err.new ≡ err.old }
     ensures whole { result ≡ Status.Done
-        → Compiles bytes.now (λ items. Holds (O.standing output.old) (O.standing output.new)
+        → Compiles nothing_known bytes.now (λ items. Holds (O.standing output.old) (O.standing output.new)
         (text_of which (base_of args.now.file.now) items)) }
     ensures as_it_was { result ≢ Status.Done → O.standing output.new ≡ O.standing output.old }
     ensures untouched { result ≡ Status.Faulty → output.new ≡ output.old }
@@ -145,7 +147,7 @@ fn write_output<O: Output, E: Sink>(
     err: &mut E,
 ) -> Status
     ensures written { result ≡ Status.Done → (opened : O.Opened) × (left : O.Opened)
-        × Compiles session.now.text
+        × Compiles session.now.known session.now.text
         (λ items. Appends (O.Opened.state opened).bytes (O.Opened.state left).bytes
         (text_of which session.now.base items)) }
     ensures status { result ≢ Status.Faulty }
@@ -155,7 +157,8 @@ fn write_output<O: Output, E: Sink>(
         (E.state err.old) (E.state err.new) }
     ensures quiet { result ≡ Status.Done → err.new ≡ err.old }
     ensures whole { result ≡ Status.Done
-        → Compiles session.now.text (λ items. Holds (O.standing output.old) (O.standing output.new)
+        → Compiles session.now.known session.now.text
+        (λ items. Holds (O.standing output.old) (O.standing output.new)
         (text_of which session.now.base items)) }
     ensures as_it_was { result ≢ Status.Done → O.standing output.new ≡ O.standing output.old }
     ensures tidy { O.has_draft output.old ≡ false → O.has_draft output.new ≡ false }
@@ -180,7 +183,7 @@ fn write_opened<O: Output, E: Sink>(
     err: &mut E,
 ) -> Status
     ensures written { result ≡ Status.Done → (left : O.Opened)
-        × Compiles session.now.text
+        × Compiles session.now.known session.now.text
         (λ items. Appends (O.Opened.state opened).bytes (O.Opened.state left).bytes
         (text_of which session.now.base items)
         × IsNamed (O.standing output.new) (O.Opened.state left).bytes) }

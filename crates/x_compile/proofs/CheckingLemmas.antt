@@ -16,7 +16,7 @@ use Rattle.x_trees.specs.Seen.{names_of}
 use Rattle.x_trees.specs.Spell.{IsShort}
 use Rattle.x_names.specs.Declarers.{AreShort, is_beforehand, FirstIs}
 use Rattle.x_names.specs.declared.names.Declarer.{Declarer}
-use Rattle.x_rules.specs.Results.{Outcome, IsOutcome, IsResult, AreResults, AreResultsFrom, result_at, view_of, view_by, beforehand_meaning}
+use Rattle.x_rules.specs.Results.{KnownNames, known_or, Outcome, IsOutcome, IsResult, AreResults, AreResultsFrom, result_at, view_of, view_by, beforehand_meaning}
 use Rattle.x_rules.specs.declared.fault.WordFault.{WordFault}
 use Rattle.x_pieces.specs.Pieces.{Pieces}
 use Rattle.x_pieces.specs.Rendering.{pieces_of}
@@ -36,36 +36,36 @@ use Rattle.x_compile.specs.declared.content.Content.{Content}
 
 -- ---- one item more
 
-results_push : (definitions : List (Option Definition)) (r s : ℕ → Option Outcome) (n m : ℕ) (ds : List (Option Definition)) (os : List (Option Outcome)) (d : Option Definition) (o : Option Outcome)
-    → AgreeBefore r s m → m ≡ n + length os → AreResultsFrom definitions r n ds os → IsResult definitions s m d o → AreResultsFrom definitions s n (ds ++ d ∷ []) (os ++ o ∷ [])
-results_push definitions r s n m [] [] d o agree place are is = let here : m ≡ n = omega (arith, place) in (subst (λ k. IsResult definitions s k d o) here is, tt)
-results_push definitions r s n m [] (x ∷ os) d o agree place are is = absurd are
-results_push definitions r s n m (y ∷ ds) [] d o agree place are is = absurd are
-results_push definitions r s n m (y ∷ ds) (x ∷ os) d o agree place are is =
+results_push : (known : KnownNames) (definitions : List (Option Definition)) (r s : ℕ → Option Outcome) (n m : ℕ) (ds : List (Option Definition)) (os : List (Option Outcome)) (d : Option Definition) (o : Option Outcome)
+    → AgreeBefore r s m → m ≡ n + length os → AreResultsFrom known definitions r n ds os → IsResult known definitions s m d o → AreResultsFrom known definitions s n (ds ++ d ∷ []) (os ++ o ∷ [])
+results_push known definitions r s n m [] [] d o agree place are is = let here : m ≡ n = omega (arith, place) in (subst (λ k. IsResult known definitions s k d o) here is, tt)
+results_push known definitions r s n m [] (x ∷ os) d o agree place are is = absurd are
+results_push known definitions r s n m (y ∷ ds) [] d o agree place are is = absurd are
+results_push known definitions r s n m (y ∷ ds) (x ∷ os) d o agree place are is =
     let next : m ≡ suc n + length os = omega (arith, place) in
-    (stays_result definitions r s n y x (λ k lt. agree k (omega (arith, lt, place))) are.0, results_push definitions r s (suc n) m ds os d o agree next are.1 is)
+    (stays_result known definitions r s n y x (λ k lt. agree k (omega (arith, lt, place))) are.0, results_push known definitions r s (suc n) m ds os d o agree next are.1 is)
 
 -- the result of the next item joins those of the items before it
-pub results_more : (definitions : List (Option Definition)) (ds : List (Option Definition)) (os : List (Option Outcome)) (item : ℕ) (d : Option Definition) (o : Option Outcome)
-    → item ≡ length os → AreResultsFrom definitions (result_at os) 0 ds os → IsResult definitions (result_at os) item d o
-    → AreResultsFrom definitions (result_at (os ++ o ∷ [])) 0 (ds ++ d ∷ []) (os ++ o ∷ [])
-results_more definitions ds os item d o place are is =
+pub results_more : (known : KnownNames) (definitions : List (Option Definition)) (ds : List (Option Definition)) (os : List (Option Outcome)) (item : ℕ) (d : Option Definition) (o : Option Outcome)
+    → item ≡ length os → AreResultsFrom known definitions (result_at os) 0 ds os → IsResult known definitions (result_at os) item d o
+    → AreResultsFrom known definitions (result_at (os ++ o ∷ [])) 0 (ds ++ d ∷ []) (os ++ o ∷ [])
+results_more known definitions ds os item d o place are is =
     let agree : AgreeBefore (result_at os) (result_at (os ++ o ∷ [])) item = agree_front os (o ∷ []) item place in
-    results_push definitions (result_at os) (result_at (os ++ o ∷ [])) 0 item ds os d o agree (omega (arith, place)) are (stays_result definitions (result_at os) (result_at (os ++ o ∷ [])) item d o agree is)
+    results_push known definitions (result_at os) (result_at (os ++ o ∷ [])) 0 item ds os d o agree (omega (arith, place)) are (stays_result known definitions (result_at os) (result_at (os ++ o ∷ [])) item d o agree is)
 
 -- ---- views by a table of names
 
-pub views_by_first : (definitions : List (Option Definition)) (find : List ℕ → Option Declarer) (results : ℕ → Option Outcome) (item : ℕ) → ((name : List ℕ) → FirstIs definitions name (find name))
-    → (names : List (List ℕ)) → map (view_by_first find results item) names ≡ map (view_by definitions results item) names
-views_by_first definitions find results item first names =
+pub views_by_first : (known : KnownNames) (definitions : List (Option Definition)) (find : List ℕ → Option Declarer) (results : ℕ → Option Outcome) (item : ℕ) → ((name : List ℕ) → FirstIs definitions name (find name))
+    → (names : List (List ℕ)) → map (view_by_first known find results item) names ≡ map (view_by known definitions results item) names
+views_by_first known definitions find results item first names =
     ap (λ f. map f names)
-    (λ i name. ap (λ o. cond (is_beforehand name) (Earlier kinds.Constant false (beforehand_meaning name)) (view_of results item o)) (as_found definitions name (find name) (first name)) i)
+    (λ i name. ap (λ o. cond (is_beforehand name) (Earlier kinds.Constant false (beforehand_meaning name)) (known_or (known name) (view_of results item o))) (as_found definitions name (find name) (first name)) i)
 
 -- what checking a definition gives by views of a table of names
-pub result_by_first : (definitions : List (Option Definition)) (find : List ℕ → Option Declarer) (results : ℕ → Option Outcome) (item : ℕ) (d : Definition) (views : List View) (o : Outcome)
-    → ((name : List ℕ) → FirstIs definitions name (find name)) → views ≡ map (view_by_first find results item) (names_of d) → IsOutcome d views o → IsResult definitions results item (Some d) (Some o)
-result_by_first definitions find results item d views o first are is =
-    subst (λ vs. IsOutcome d vs o) (are ∙ views_by_first definitions find results item first (names_of d)) is
+pub result_by_first : (known : KnownNames) (definitions : List (Option Definition)) (find : List ℕ → Option Declarer) (results : ℕ → Option Outcome) (item : ℕ) (d : Definition) (views : List View) (o : Outcome)
+    → ((name : List ℕ) → FirstIs definitions name (find name)) → views ≡ map (view_by_first known find results item) (names_of d) → IsOutcome d views o → IsResult known definitions results item (Some d) (Some o)
+result_by_first known definitions find results item d views o first are is =
+    subst (λ vs. IsOutcome d vs o) (are ∙ views_by_first known definitions find results item first (names_of d)) is
 
 -- ---- the names that an item sees
 
@@ -82,16 +82,16 @@ names_mentioned f views front n lent ms all so end same are =
 -- ---- an item
 
 -- an item without a definition has no result
-pub no_result : (definitions : List (Option Definition)) (results : ℕ → Option Outcome) (item : ℕ) (d : Option Definition) → None ≡ d → IsResult definitions results item d None
-no_result definitions results item None is = tt
-no_result definitions results item (Some d) is = absurd (cc)
+pub no_result : (known : KnownNames) (definitions : List (Option Definition)) (results : ℕ → Option Outcome) (item : ℕ) (d : Option Definition) → None ≡ d → IsResult known definitions results item d None
+no_result known definitions results item None is = tt
+no_result known definitions results item (Some d) is = absurd (cc)
 
-pub some_result : (definitions : List (Option Definition)) (find : List ℕ → Option Declarer) (results : ℕ → Option Outcome) (item : ℕ) (d : Definition) (kept : Option Definition) (views : List View) (o : Outcome)
-    → Some d ≡ kept → IsShortAt kept → ((name : List ℕ) → FirstIs definitions name (find name)) → (IsShort d → views ≡ map (view_by_first find results item) (names_of d)) → (IsShort d → IsOutcome d views o)
-    → IsResult definitions results item kept (Some o)
-some_result definitions find results item d kept views o same short first are is =
+pub some_result : (known : KnownNames) (definitions : List (Option Definition)) (find : List ℕ → Option Declarer) (results : ℕ → Option Outcome) (item : ℕ) (d : Definition) (kept : Option Definition) (views : List View) (o : Outcome)
+    → Some d ≡ kept → IsShortAt kept → ((name : List ℕ) → FirstIs definitions name (find name)) → (IsShort d → views ≡ map (view_by_first known find results item) (names_of d)) → (IsShort d → IsOutcome d views o)
+    → IsResult known definitions results item kept (Some o)
+some_result known definitions find results item d kept views o same short first are is =
     let fits = short d (sym same) in
-    subst (λ x. IsResult definitions results item x (Some o)) same (result_by_first definitions find results item d views o first (are fits) (is fits))
+    subst (λ x. IsResult known definitions results item x (Some o)) same (result_by_first known definitions find results item d views o first (are fits) (is fits))
 
 -- ---- all items
 
@@ -107,19 +107,19 @@ many_more index rs new r pushed many =
     let more = ap length pushed ∙ length_push rs r in
     omega (arith, many, more)
 
-pub results_next : {X : Type 0} (f : X → Option Definition) (xs : List X) (index : ℕ) (x : X) (rs new : List (Option Outcome)) (r : Option Outcome)
+pub results_next : {X : Type 0} (known : KnownNames) (f : X → Option Definition) (xs : List X) (index : ℕ) (x : X) (rs new : List (Option Outcome)) (r : Option Outcome)
     → index < length xs → x ≡ get_or xs index x → new ≡ rs ++ r ∷ [] → index ≡ length rs
-    → AreResultsFrom (map f xs) (result_at rs) 0 (take index (map f xs)) rs
-    → IsResult (map f xs) (result_at rs) (length rs) (f x) r
-    → AreResultsFrom (map f xs) (result_at new) 0 (take (index + 1) (map f xs)) new
-results_next f xs index x rs new r lt at pushed many are is =
+    → AreResultsFrom known (map f xs) (result_at rs) 0 (take index (map f xs)) rs
+    → IsResult known (map f xs) (result_at rs) (length rs) (f x) r
+    → AreResultsFrom known (map f xs) (result_at new) 0 (take (index + 1) (map f xs)) new
+results_next known f xs index x rs new r lt at pushed many are is =
     let ds = map f xs in
     let next : suc index ≡ index + 1 = omega arith in
     let front : take (index + 1) ds ≡ take index ds ++ f x ∷ [] =
     sym (ap (λ n. take n ds) next) ∙ take_next ds index (f x) (drop (suc index) ds) (mapped_one f xs index x lt at) in
-    subst (λ os. AreResultsFrom ds (result_at os) 0 (take (index + 1) ds) os) (sym pushed)
-    (subst (λ l. AreResultsFrom ds (result_at (rs ++ r ∷ [])) 0 l (rs ++ r ∷ [])) (sym front)
-    (results_more ds (take index ds) rs (length rs) (f x) r refl are is))
+    subst (λ os. AreResultsFrom known ds (result_at os) 0 (take (index + 1) ds) os) (sym pushed)
+    (subst (λ l. AreResultsFrom known ds (result_at (rs ++ r ∷ [])) 0 l (rs ++ r ∷ [])) (sym front)
+    (results_more known ds (take index ds) rs (length rs) (f x) r refl are is))
 
 counted_on : (counts : Counts) (d : Option Definition) (ds : List (Option Definition)) → counted counts (d ∷ ds) ≡ counted (counted counts (d ∷ [])) ds
 counted_on counts None ds = refl
@@ -176,10 +176,10 @@ faults_next f xs index faults x rs new r lt at pushed many is =
     omega (arith, more, same, is)
 
 -- all items are checked
-pub checked_all : {X : Type 0} (f : X → Content) (xs : List X) (n : ℕ) (rs : List (Option (Box CheckResult))) (faults : ℕ) → length xs ≤ n
-    → AreResultsFrom (map (λ x. kept_definition (f x)) xs) (result_at (map found_result rs)) 0 (take n (map (λ x. kept_definition (f x)) xs)) (map found_result rs)
-    → AreRendered (take n (map f xs)) rs → faults ≡ faults_found (take n (map f xs)) rs → AreChecked (map f xs) rs faults
-checked_all f xs n rs faults end are rendered count =
+pub checked_all : {X : Type 0} (known : KnownNames) (f : X → Content) (xs : List X) (n : ℕ) (rs : List (Option (Box CheckResult))) (faults : ℕ) → length xs ≤ n
+    → AreResultsFrom known (map (λ x. kept_definition (f x)) xs) (result_at (map found_result rs)) 0 (take n (map (λ x. kept_definition (f x)) xs)) (map found_result rs)
+    → AreRendered (take n (map f xs)) rs → faults ≡ faults_found (take n (map f xs)) rs → AreChecked known (map f xs) rs faults
+checked_all known f xs n rs faults end are rendered count =
     let ds = map (λ x. kept_definition (f x)) xs in
     let l = length-map xs f in
     let m = length-map xs (λ x. kept_definition (f x)) in
@@ -187,7 +187,7 @@ checked_all f xs n rs faults end are rendered count =
     let whole : take n ds ≡ ds = take_all n ds (omega (arith, m, end)) in
     let same : kept_definitions (map f xs) ≡ ds = sym (map_map kept_definition f xs) in
     record {
-      results = subst (λ l. AreResults l (map found_result rs)) (sym same) (subst (λ l. AreResultsFrom ds (result_at (map found_result rs)) 0 l (map found_result rs)) whole are);
+      results = subst (λ l. AreResults known l (map found_result rs)) (sym same) (subst (λ l. AreResultsFrom known ds (result_at (map found_result rs)) 0 l (map found_result rs)) whole are);
       rendered = subst (λ l. AreRendered l rs) all rendered;
       count = count ∙ ap (λ l. faults_found l rs) all;
     }

@@ -18,6 +18,7 @@ use Rattle.x_compile.specs.KeptView.{kept_definition, kept_found, kept_parse}
 use Rattle.x_compile.proofs.ItemLemmas.{take_part, drop_part}
 use Rattle.x_compile.specs.Compile.{Item, parsed_definition, definitions_of, definition_at, tokens_of, IsCompilation, AreParses}
 use Rattle.x_compile.specs.KeptText.{IsKept, items_of}
+use Rattle.x_compile.specs.Known.{KnownText, known_names}
 use Rattle.x_compile.specs.declared.content.Content.{Content}
 
 pub length-lexemes : (text : List ℕ) (at : ℕ) (ts : List (Kind × ℕ)) → length (lexemes_from text at ts) ≡ length ts
@@ -37,8 +38,8 @@ pub results-items : (tokens : List Lexeme) (entries : List (ItemEntry Content)) 
 results-items tokens [] = refl
 results-items tokens (e ∷ es) = ap (λ os. found_result (kept_found e.kept) ∷ os) (results-items (drop e.tokens tokens) es)
 
-pub tokens_are : (text : List ℕ) (tokens : List (Kind × ℕ)) (items : List Item) → IsCompilation text tokens items → tokens_of items ≡ lexemes text tokens
-tokens_are text tokens items h = h.are_items.all
+pub tokens_are : (known : KnownText) (text : List ℕ) (tokens : List (Kind × ℕ)) (items : List Item) → IsCompilation known text tokens items → tokens_of items ≡ lexemes text tokens
+tokens_are known text tokens items h = h.are_items.all
 
 -- a definition by its index
 pub definition_found : (tokens : List Lexeme) (entries : List (ItemEntry Content)) (index : ℕ)
@@ -67,21 +68,21 @@ parses_are (p ∷ ps) (i ∷ is) tokens e each =
     let rest : drop i.tokens tokens ≡ joined ps = ap (drop i.tokens) (sym e) ∙ drop_part p (joined ps) i.tokens each.0.count in
     (subst (λ part. IsParse part (kept_parse i.kept)) (sym first) each.0.parsed, parses_are ps is (drop i.tokens tokens) (sym rest) each.1)
 
-compiles : (text : List ℕ) (tokens : List (Kind × ℕ)) (entries : List (ItemEntry Content)) → AreTokens text tokens → AreParsed (lexemes text tokens) entries
-    → AreResults (entry_definitions entries) (entry_results entries) → IsCompilation text tokens (items_of text tokens entries)
-compiles text tokens entries are cut results =
+compiles : (known : KnownText) (text : List ℕ) (tokens : List (Kind × ℕ)) (entries : List (ItemEntry Content)) → AreTokens text tokens → AreParsed (lexemes text tokens) entries
+    → AreResults (known_names known) (entry_definitions entries) (entry_results entries) → IsCompilation known text tokens (items_of text tokens entries)
+compiles known text tokens entries are cut results =
     let all = lexemes text tokens in
     record {
       are_tokens = are;
       are_items = subst (λ ps. AreItems all ps) (sym (parts_are cut.parts entries all cut.are.all cut.each)) cut.are;
       are_parses = parses_are cut.parts entries all cut.are.all cut.each;
-      are_results = subst (λ os. AreResults (definitions_of (items_with all entries)) os) (sym (results-items all entries))
-          (subst (λ ds. AreResults ds (entry_results entries)) (sym (definitions-items all entries)) results);
+      are_results = subst (λ os. AreResults (known_names known) (definitions_of (items_with all entries)) os) (sym (results-items all entries))
+          (subst (λ ds. AreResults (known_names known) ds (entry_results entries)) (sym (definitions-items all entries)) results);
     }
 
 -- what is kept of a text is its compilation
-pub compilation : {text : List ℕ} {tokens : List (Kind × ℕ)} {entries : List (ItemEntry Content)} {faults : ℕ} {uses : Option UseTable} → IsKept text tokens entries faults uses → IsCompilation text tokens (items_of text tokens entries)
-compilation {text} {tokens} {entries} h = compiles text tokens entries h.are_tokens h.parsed h.are_results
+pub compilation : {known : KnownText} {text : List ℕ} {tokens : List (Kind × ℕ)} {entries : List (ItemEntry Content)} {faults : ℕ} {uses : Option UseTable} → IsKept known text tokens entries faults uses → IsCompilation known text tokens (items_of text tokens entries)
+compilation {known} {text} {tokens} {entries} h = compiles known text tokens entries h.are_tokens h.parsed h.are_results
 
 -- lists of as many elements each, joined to one list, are the same
 same_parts : (xs ys : List (List Lexeme)) → map length xs ≡ map length ys → joined xs ≡ joined ys → xs ≡ ys
@@ -135,11 +136,11 @@ same_items (i ∷ is) (j ∷ js) e p r =
     let rest = same_items is js tokens_left parses_left results_left in
     λ k. first k ∷ rest k
 
-pub one_compilation : (text : List ℕ) (tokens others : List (Kind × ℕ)) (items more : List Item) → IsCompilation text tokens items → IsCompilation text others more → (tokens ≡ others) × (items ≡ more)
-one_compilation text tokens others items more h k =
+pub one_compilation : (known : KnownText) (text : List ℕ) (tokens others : List (Kind × ℕ)) (items more : List Item) → IsCompilation known text tokens items → IsCompilation known text others more → (tokens ≡ others) × (items ≡ more)
+one_compilation known text tokens others items more h k =
     let same = same_tiles true text tokens others h.are_tokens k.are_tokens in
     let parts = one_cut (lexemes text others) (map (λ i. i.tokens) items) (map (λ i. i.tokens) more) (subst (λ ts. AreItems (lexemes text ts) (map (λ i. i.tokens) items)) same h.are_items) k.are_items in
     let parses = same_parses items more parts h.are_parses k.are_parses in
     let definitions : definitions_of items ≡ definitions_of more = definitions_by items ∙ ap (map parsed_definition) parses ∙ sym (definitions_by more) in
-    let results = one_results (definitions_of more) (map (λ i. i.result) items) (map (λ i. i.result) more) (subst (λ ds. AreResults ds (map (λ i. i.result) items)) definitions h.are_results) k.are_results in
+    let results = one_results (known_names known) (definitions_of more) (map (λ i. i.result) items) (map (λ i. i.result) more) (subst (λ ds. AreResults (known_names known) ds (map (λ i. i.result) items)) definitions h.are_results) k.are_results in
     (same, same_items items more parts parses results)

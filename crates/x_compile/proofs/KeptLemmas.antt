@@ -14,7 +14,7 @@ use Rattle.x_cutting.specs.ItemList as items
 use Rattle.x_trees.specs.Tree.{Definition}
 use Rattle.x_item.specs.Parse.{Parse, Nothing, Def, Fault, IsParse}
 use Rattle.x_cutting.specs.declared.cutting.item_entry.ItemEntry.{ItemEntry}
-use Rattle.x_rules.specs.Results.{Outcome, AreResultsFrom, AreResults, IsResult, result_at}
+use Rattle.x_rules.specs.Results.{KnownNames, Outcome, AreResultsFrom, AreResults, IsResult, result_at}
 use Rattle.x_names.specs.Declarers.{AreShort}
 use Rattle.x_rules.specs.Rules.{Ascends}
 use Rattle.x_rules.specs.declared.fault.WordFault.{WordFault}
@@ -29,6 +29,7 @@ use Rattle.x_compile.specs.Generated.{faultless, part_of}
 use Rattle.x_compile.specs.KeptView.{AreAlong, AreEach, AreParsed, AreWith, IsItem, entry_definitions, entry_results, found_pieces, found_result}
 use Rattle.x_compile.specs.KeptView.{item_with, items_with, kept_definition, kept_found, kept_parse, kept_part}
 use Rattle.x_compile.specs.KeptText.{IsKept, items_of}
+use Rattle.x_compile.specs.Known.{KnownText, known_names}
 use Rattle.x_compile.specs.declared.content.CheckResult.{CheckResult}
 use Rattle.x_compile.specs.declared.content.Content.{Content}
 use Rattle.x_compile.proofs.Compiled.{results-items}
@@ -40,21 +41,21 @@ none_found : (r : Option (Box CheckResult)) → found_result r ≡ None → r �
 none_found None is = refl
 none_found (Some found) is = absurd (cc)
 
-known_one : (definitions : List (Option Definition)) (results : ℕ → Option Outcome) (n : ℕ) (d : Option Definition) (o : Option Outcome) → IsResult definitions results n d o → d ≡ None → o ≡ None
-known_one definitions results n None None is none = refl
-known_one definitions results n None (Some o) is none = absurd is
-known_one definitions results n (Some d) o is none = absurd (cc)
+known_one : (known : KnownNames) (definitions : List (Option Definition)) (results : ℕ → Option Outcome) (n : ℕ) (d : Option Definition) (o : Option Outcome) → IsResult known definitions results n d o → d ≡ None → o ≡ None
+known_one known definitions results n None None is none = refl
+known_one known definitions results n None (Some o) is none = absurd is
+known_one known definitions results n (Some d) o is none = absurd (cc)
 
-known_from : (definitions : List (Option Definition)) (results : ℕ → Option Outcome) (n : ℕ) (ks : List Content) (rs : List (Option (Box CheckResult)))
-    → AreResultsFrom definitions results n (kept_definitions ks) (map found_result rs) → AreKnown ks rs
-known_from definitions results n [] [] are = tt
-known_from definitions results n [] (r ∷ rs) are = absurd are
-known_from definitions results n (k ∷ ks) [] are = absurd are
-known_from definitions results n (k ∷ ks) (r ∷ rs) are =
-    (λ none. none_found r (known_one definitions results n (kept_definition k) (found_result r) are.0 none), known_from definitions results (suc n) ks rs are.1)
+known_from : (known : KnownNames) (definitions : List (Option Definition)) (results : ℕ → Option Outcome) (n : ℕ) (ks : List Content) (rs : List (Option (Box CheckResult)))
+    → AreResultsFrom known definitions results n (kept_definitions ks) (map found_result rs) → AreKnown ks rs
+known_from known definitions results n [] [] are = tt
+known_from known definitions results n [] (r ∷ rs) are = absurd are
+known_from known definitions results n (k ∷ ks) [] are = absurd are
+known_from known definitions results n (k ∷ ks) (r ∷ rs) are =
+    (λ none. none_found r (known_one known definitions results n (kept_definition k) (found_result r) are.0 none), known_from known definitions results (suc n) ks rs are.1)
 
-pub are_known : (ks : List Content) (rs : List (Option (Box CheckResult))) (faults : ℕ) → AreChecked ks rs faults → AreKnown ks rs
-are_known ks rs faults h = known_from (kept_definitions ks) (result_at (map found_result rs)) 0 ks rs h.results
+pub are_known : (known : KnownNames) (ks : List Content) (rs : List (Option (Box CheckResult))) (faults : ℕ) → AreChecked known ks rs faults → AreKnown ks rs
+are_known known ks rs faults h = known_from known (kept_definitions ks) (result_at (map found_result rs)) 0 ks rs h.results
 
 -- the definitions by what is kept
 pub definitions_kept : (es : List (ItemEntry Content)) → kept_definitions (items.kept es) ≡ entry_definitions es
@@ -148,9 +149,9 @@ parts_along (e ∷ es) tokens along sound =
     λ i. record { lines = lines i; pieces = pieces i } ∷ others i
 
 -- what is generated of the items of a text
-pub parts_kept : {text : List ℕ} {tokens : List (Kind × ℕ)} {entries : List (ItemEntry Content)} {faults : ℕ} {uses : Option UseTable} → IsKept text tokens entries faults uses
+pub parts_kept : {known : KnownText} {text : List ℕ} {tokens : List (Kind × ℕ)} {entries : List (ItemEntry Content)} {faults : ℕ} {uses : Option UseTable} → IsKept known text tokens entries faults uses
     → map (λ e. kept_part e.kept) entries ≡ map part_of (items_of text tokens entries)
-parts_kept {text} {tokens} {entries} h = parts_along entries (lexemes text tokens) (along_each h.parsed.parts entries (lexemes text tokens) h.parsed.are.all h.parsed.each) h.sound
+parts_kept {known} {text} {tokens} {entries} h = parts_along entries (lexemes text tokens) (along_each h.parsed.parts entries (lexemes text tokens) h.parsed.are.all h.parsed.each) h.sound
 
 -- what was generated of an item is of its definition
 sound_definition : (d : Option Definition) (fs : List WordFault) (p : Pieces) → option_map pieces_of (sound d fs) ≡ Some p → option_map pieces_of d ≡ Some p
@@ -235,9 +236,9 @@ count_found text n tokens (e ∷ es) [] fs with = absurd with
 count_found text n tokens (e ∷ es) (r ∷ rs) [] with = absurd with
 
 -- all that is kept of a text, once what was found of its items is kept with them
-pub kept_is : (text : List ℕ) (tokens : List (Kind × ℕ)) (es : List (ItemEntry Content)) (rs : List (Option (Box CheckResult))) (count : ℕ) (fs : List (ItemEntry Content)) (uses : Option UseTable) → AreTokens text tokens
-    → AreParsed (lexemes text tokens) es → AreShort (entry_definitions es) → AreOfText (counts es) → AreChecked (items.kept es) rs count → AreWith es rs fs → IfSome uses (IsUsesOf (entry_definitions es)) → IsKept text tokens fs count uses
-kept_is text tokens es rs count fs uses are parsed short of_text checked with used =
+pub kept_is : (known : KnownText) (text : List ℕ) (tokens : List (Kind × ℕ)) (es : List (ItemEntry Content)) (rs : List (Option (Box CheckResult))) (count : ℕ) (fs : List (ItemEntry Content)) (uses : Option UseTable) → AreTokens text tokens
+    → AreParsed (lexemes text tokens) es → AreShort (entry_definitions es) → AreOfText (counts es) → AreChecked (known_names known) (items.kept es) rs count → AreWith es rs fs → IfSome uses (IsUsesOf (entry_definitions es)) → IsKept known text tokens fs count uses
+kept_is known text tokens es rs count fs uses are parsed short of_text checked with used =
     let all = lexemes text tokens in
     let few = of_text.few in
     let counted = length-map es (λ e. e.tokens) in
@@ -248,8 +249,8 @@ kept_is text tokens es rs count fs uses are parsed short of_text checked with us
       are_tokens = are;
       parsed = parsed_with all es rs fs with parsed;
       short = subst AreShort (sym (definitions_with es rs fs with)) short;
-      are_results = subst (λ os. AreResults (entry_definitions fs) os) (sym (results_with es rs fs with))
-          (subst (λ ds. AreResults ds (map found_result rs)) (sym definitions) checked.results);
+      are_results = subst (λ os. AreResults (known_names known) (entry_definitions fs) os) (sym (results_with es rs fs with))
+          (subst (λ ds. AreResults (known_names known) ds (map found_result rs)) (sym definitions) checked.results);
       sound = sound_with es rs fs with checked.rendered;
       few = omega (arith, few, counted, same, parts);
       count_is = checked.count ∙ count_found text 0 all es rs fs with;
@@ -258,28 +259,28 @@ kept_is text tokens es rs count fs uses are parsed short of_text checked with us
 
 -- ---- the faults that were found come in order
 
-ascends_one : (definitions : List (Option Definition)) (results : ℕ → Option Outcome) (n : ℕ) (d : Option Definition) (o : Option Outcome) → IsResult definitions results n d o → Ascends (rule_faults o)
-ascends_one definitions results n None None is = tt
-ascends_one definitions results n None (Some o) is = absurd is
-ascends_one definitions results n (Some d) None is = absurd is
-ascends_one definitions results n (Some d) (Some o) is = is.are_faults.ascend
+ascends_one : (known : KnownNames) (definitions : List (Option Definition)) (results : ℕ → Option Outcome) (n : ℕ) (d : Option Definition) (o : Option Outcome) → IsResult known definitions results n d o → Ascends (rule_faults o)
+ascends_one known definitions results n None None is = tt
+ascends_one known definitions results n None (Some o) is = absurd is
+ascends_one known definitions results n (Some d) None is = absurd is
+ascends_one known definitions results n (Some d) (Some o) is = is.are_faults.ascend
 
-ordered_from : (definitions : List (Option Definition)) (results : ℕ → Option Outcome) (n : ℕ) (ds : List (Option Definition)) (os : List (Option Outcome))
-    → AreResultsFrom definitions results n ds os → All (λ o. Ascends (rule_faults o)) os
-ordered_from definitions results n [] [] are k d lt = absurd (omega (arith, lt))
-ordered_from definitions results n [] (o ∷ os) are k x lt = absurd are
-ordered_from definitions results n (d ∷ ds) [] are k x lt = absurd are
-ordered_from definitions results n (d ∷ ds) (o ∷ os) are zero x lt = ascends_one definitions results n d o are.0
-ordered_from definitions results n (d ∷ ds) (o ∷ os) are (suc k) x lt = ordered_from definitions results (suc n) ds os are.1 k x (omega (arith, lt))
+ordered_from : (known : KnownNames) (definitions : List (Option Definition)) (results : ℕ → Option Outcome) (n : ℕ) (ds : List (Option Definition)) (os : List (Option Outcome))
+    → AreResultsFrom known definitions results n ds os → All (λ o. Ascends (rule_faults o)) os
+ordered_from known definitions results n [] [] are k d lt = absurd (omega (arith, lt))
+ordered_from known definitions results n [] (o ∷ os) are k x lt = absurd are
+ordered_from known definitions results n (d ∷ ds) [] are k x lt = absurd are
+ordered_from known definitions results n (d ∷ ds) (o ∷ os) are zero x lt = ascends_one known definitions results n d o are.0
+ordered_from known definitions results n (d ∷ ds) (o ∷ os) are (suc k) x lt = ordered_from known definitions results (suc n) ds os are.1 k x (omega (arith, lt))
 
 ordered_entries : (entries : List (ItemEntry Content)) → All (λ o. Ascends (rule_faults o)) (entry_results entries) → AreOrdered entries
 ordered_entries [] all k e lt = absurd (omega (arith, lt))
 ordered_entries (x ∷ entries) all zero e lt = all zero None (omega arith)
 ordered_entries (x ∷ entries) all (suc k) e lt = ordered_entries entries (λ j o l. all (suc j) o (omega (arith, l))) k e (omega (arith, lt))
 
-pub are_ordered : (text : List ℕ) (tokens : List (Kind × ℕ)) (entries : List (ItemEntry Content)) → IsCompilation text tokens (items_of text tokens entries) → AreOrdered entries
-are_ordered text tokens entries h =
+pub are_ordered : (known : KnownText) (text : List ℕ) (tokens : List (Kind × ℕ)) (entries : List (ItemEntry Content)) → IsCompilation known text tokens (items_of text tokens entries) → AreOrdered entries
+are_ordered known text tokens entries h =
     let items = items_of text tokens entries in
     let os = map (λ i. i.result) items in
     ordered_entries entries (subst (λ rs. All (λ o. Ascends (rule_faults o)) rs) (results-items (lexemes text tokens) entries)
-    (ordered_from (definitions_of items) (result_at os) 0 (definitions_of items) os h.are_results))
+    (ordered_from (known_names known) (definitions_of items) (result_at os) 0 (definitions_of items) os h.are_results))

@@ -5,6 +5,7 @@ pub mod FaultLemmas
 pub mod ItemLemmas
 pub mod KeepingLemmas
 pub mod KeptLemmas
+pub mod KnownLemmas
 pub mod LookLemmas
 pub mod NumberedLemmas
 pub mod WalkLemmas

@@ -8,7 +8,8 @@ use Rattle.x_trees.specs.declared.names.declared_name.NameKind.TheVariants as ki
 use Rattle.x_rules.specs.Views.{View, Earlier}
 use Rattle.x_trees.specs.Spell.{IsShort}
 use Rattle.x_names.specs.Declarers.{is_beforehand}
-use Rattle.x_rules.specs.Results.{AreResults, Outcome, beforehand_meaning, view_of}
+use Rattle.x_rules.specs.Results.{AreResults, KnownNames, Outcome, beforehand_meaning, known_or}
+use Rattle.x_rules.specs.Results.{view_of}
 use Rattle.x_rules.specs.declared.fault.WordFault.{WordFault}
 use Rattle.x_names.specs.declared.names.Declarer.{Declarer}
 use Rattle.x_pieces.specs.Pieces.{Pieces}
@@ -29,11 +30,11 @@ counted counts [] = counts
 counted counts (None ∷ ds) = counted counts ds
 counted counts (Some d ∷ ds) = counted (record counts { checked = raised counts.checked 1 }) ds
 
--- what an item sees of a name, by first declarers and by results
-abbrev pub view_by_first : (List ℕ → Option Declarer) → (ℕ → Option Outcome) → ℕ → List ℕ → View
-view_by_first first results item name =
+-- what an item sees of a name, by what is known before the text, by first declarers and by results
+abbrev pub view_by_first : KnownNames → (List ℕ → Option Declarer) → (ℕ → Option Outcome) → ℕ → List ℕ → View
+view_by_first known first results item name =
     if is_beforehand name then Earlier kinds.Constant false (beforehand_meaning name)
-    else view_of results item (first name)
+    else known_or (known name) (view_of results item (first name))
 
 -- the definition, unless it has faults by the rules
 abbrev pub sound : Option Definition → List WordFault → Option Definition
@@ -76,7 +77,8 @@ abbrev pub IsKnownAt : List Content → ℕ → Option (Box CheckResult) → Typ
 IsKnownAt ks index r = (k : Content) → slice_get ks index ≡ Some k → kept_definition k ≡ None → r ≡ None
 
 -- this is what checking these items gives, and so many faults
-pub record AreChecked (ks : List Content) (rs : List (Option (Box CheckResult))) (faults : ℕ) : Type 0 where
-  pub results : AreResults (kept_definitions ks) (map found_result rs)
+pub record AreChecked (known : KnownNames) (ks : List Content) (rs : List (Option (Box CheckResult)))
+    (faults : ℕ) : Type 0 where
+  pub results : AreResults known (kept_definitions ks) (map found_result rs)
   pub rendered : AreRendered ks rs
   pub count : faults ≡ faults_found ks rs

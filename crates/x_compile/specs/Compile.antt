@@ -13,6 +13,7 @@ use Rattle.x_item.specs.Parse.{Parse, Nothing, Def, Fault, IsParse}
 use Rattle.x_cutting.specs.Items.{AreItems, joined}
 use Rattle.x_rules.specs.Results.{Outcome, AreResults}
 use Rattle.x_rules.specs.declared.fault.WordFault.{WordFault}
+use Rattle.x_compile.specs.Known.{KnownText, known_names}
 use Rattle.x_compile.specs.declared.fault.FaultCode.TheVariants as codes
 use Rattle.x_compile.specs.declared.fault.TokenFault.{TokenFault}
 use Rattle.x_compile.specs.declared.fault as rust
@@ -37,12 +38,13 @@ parsed_definition (Fault token code) = None
 abbrev pub definitions_of : List Item → List (Option Definition)
 definitions_of items = map (λ i. parsed_definition i.parse) items
 
--- the text has these tokens and these items
-pub record IsCompilation (text : List ℕ) (tokens : List (Kind × ℕ)) (items : List Item) : Type 0 where
+-- the text, before which this is known, has these tokens and these items
+pub record IsCompilation (known : KnownText) (text : List ℕ) (tokens : List (Kind × ℕ))
+    (items : List Item) : Type 0 where
   pub are_tokens : AreTokens text tokens
   pub are_items : AreItems (lexemes text tokens) (map (λ i. i.tokens) items)
   pub are_parses : AreParses items
-  pub are_results : AreResults (definitions_of items) (map (λ i. i.result) items)
+  pub are_results : AreResults (known_names known) (definitions_of items) (map (λ i. i.result) items)
 
 -- the tokens of the text
 abbrev pub tokens_of : List Item → List Lexeme

@@ -8,3 +8,5 @@ pub mod Generated
 pub mod ItemReading
 pub mod KeptText
 pub mod KeptView
+pub mod Known
+pub mod KnownItems

@@ -13,12 +13,14 @@ ghost use Rattle.x_outline.specs.Outlines.{IsOutline, outlined};
 ghost use Rattle.x_rules.specs.Results.{IsResult, result_at};
 ghost use Rattle.x_rules.specs.RustViews.{view_view};
 ghost use Rattle.x_trees.specs.Seen.{names_of};
+ghost use Rattle.x_compile.specs.Known.{known_names};
 ghost use Rattle.x_compile.specs.Checking.{AreChecked, IsShortAt, counted, kept_definitions};
 ghost use Rattle.x_compile.specs.Checking.{sound_pieces, view_by_first};
 ghost use Rattle.x_compile.specs.KeptView.{found_pieces, found_result};
 ghost use Rattle.x_compile.specs.KeptView.{kept_definition, kept_found, renewed_pieces};
 
 use crate::content::{CheckResult, Content, faults_of};
+use crate::known::KnownDefinitions;
 use std::alloc::Global;
 use x_gen::{Pieces, Renderer};
 use x_hash::HashKey;
@@ -38,22 +40,24 @@ pub struct Checks {
 }
 
 /// Checks the items of a text, none of which is checked yet, in their order, over tables that hash by the
-/// key. Counts each that has a definition as checked.
+/// key, where `known` is known before the text. Counts each that has a definition as checked.
 pub fn check_all(
     alloc: Global,
     hash_key: HashKey,
+    known: &KnownDefinitions,
     items: &[&Content],
     meter: &mut Meter,
 ) -> Result<Checks, NoMemory>
     requires short { AreShort (kept_definitions (map (λ k. k.now) items.now)) }
     requires unchecked { All (λ k. kept_found k.now ≡ None) items.now }
     ensures checked { IfOk result
-        (λ checks. AreChecked (map (λ k. k.now) items.now) checks.results.items checks.faults) }
+        (λ checks. AreChecked (known_names known.now) (map (λ k. k.now) items.now) checks.results.items
+        checks.faults) }
     ensures counted { IfOk result
         (λ checks. meter.new ≡ counted meter.old (kept_definitions (map (λ k. k.now) items.now))) }
 {
     let names = names_of(alloc, hash_key, items)?;
-    check_items(alloc, items, &names, meter)
+    check_items(alloc, items, &names, known, meter)
 }
 
 /// The table of the names that the items declare.
@@ -89,6 +93,7 @@ fn check_items(
     alloc: Global,
     items: &[&Content],
     names: &Names,
+    known: &KnownDefinitions,
     meter: &mut Meter,
 ) -> Result<Checks, NoMemory>
     requires short { AreShort (kept_definitions (map (λ k. k.now) items.now)) }
@@ -96,7 +101,8 @@ fn check_items(
         → FirstIs (kept_definitions (map (λ k. k.now) items.now)) name (first_in names.now name) }
     requires unchecked { All (λ k. kept_found k.now ≡ None) items.now }
     ensures checked { IfOk result
-        (λ checks. AreChecked (map (λ k. k.now) items.now) checks.results.items checks.faults) }
+        (λ checks. AreChecked (known_names known.now) (map (λ k. k.now) items.now) checks.results.items
+        checks.faults) }
     ensures counted { IfOk result
         (λ checks. meter.new ≡ counted meter.old (kept_definitions (map (λ k. k.now) items.now))) }
 {
@@ -108,7 +114,7 @@ fn check_items(
         renderer: Renderer::new(alloc),
     };
     for item in items {
-        let found = check(alloc, item, &mut walk, names, &results, meter)?;
+        let found = check(alloc, item, &mut walk, names, known, &results, meter)?;
         faults = sum_of(faults, item.fault_count(faults_of(&found)))?;
         results.push(found)?;
     }
@@ -138,6 +144,7 @@ fn check<'i>(
     item: &'i Content,
     walk: &mut Walk<'i>,
     names: &Names,
+    known: &KnownDefinitions,
     results: &[Option<Box<CheckResult>>],
     meter: &mut Meter,
 ) -> Result<Option<Box<CheckResult>>, NoMemory>
@@ -145,8 +152,8 @@ fn check<'i>(
     ensures result { IfOk result (λ found. (definitions : List (Option tree.Definition))
         → IsShortAt (kept_definition item.now)
         → ((name : List ℕ) → FirstIs definitions name (first_in names.now name))
-        → IsResult definitions (result_at (map found_result results.now)) (length results.now)
-        (kept_definition item.now) (found_result found)) }
+        → IsResult (known_names known.now) definitions (result_at (map found_result results.now))
+        (length results.now) (kept_definition item.now) (found_result found)) }
     ensures rendered { IfOk result (λ found. renewed_pieces (found_pieces (kept_found item.now)) found
         ≡ sound_pieces (kept_definition item.now) (found_result found)) }
     ensures counted { IfOk result
@@ -162,6 +169,7 @@ fn check<'i>(
         &outline,
         walk.declared,
         names,
+        known,
         results,
     )?;
     let checked = check_outline(alloc, names.hash_key(), &outline, &views, meter)?;
@@ -194,11 +202,12 @@ fn views_of<'v>(
     outline: &Outline,
     before: usize,
     names: &Names,
+    known: &'v KnownDefinitions,
     results: &'v [Option<Box<CheckResult>>],
 ) -> Result<Vec<View<'v>>, NoMemory>
     ensures { IfOk result (λ views. IsOutline outline.now → map view_view views.items
-        ≡ map (view_by_first (first_in names.now) (result_at (map found_result results.now)) item)
-        (names_of (outlined outline.now))) }
+        ≡ map (view_by_first (known_names known.now) (first_in names.now)
+        (result_at (map found_result results.now)) item) (names_of (outlined outline.now))) }
 {
     let mut views = Vec::with_capacity(
         alloc,
@@ -209,11 +218,11 @@ fn views_of<'v>(
     )?;
     for (place, declared) in outline.declared().iter().enumerate() {
         let first = names.first_at(before.saturating_add(place), &declared.name);
-        views.push(view_of(item, &declared.name, first, results))?;
+        views.push(view_of(item, &declared.name, known, first, results))?;
     }
     for mention in outline.mentioned() {
         let first = names.first(mention.name);
-        views.push(view_of(item, mention.name, first, results))?;
+        views.push(view_of(item, mention.name, known, first, results))?;
     }
     Ok(views)
 }
@@ -222,17 +231,19 @@ fn views_of<'v>(
 fn view_of<'v>(
     item: usize,
     name: &[u8],
+    known: &'v KnownDefinitions,
     first: Option<Declarer>,
     results: &'v [Option<Box<CheckResult>>],
 ) -> View<'v>
     ensures { view_view result
-        ≡ view_by_first (λ n. first) (result_at (map found_result results.now)) item name.now }
+        ≡ view_by_first (known_names known.now) (λ n. first) (result_at (map found_result results.now)) item
+        name.now }
 {
     let declaring = match first {
         Some(declarer) => checked_at(results, declarer.item),
         None => None,
     };
-    View::of(item, name, first, declaring)
+    View::of(item, name, known.view(name), first, declaring)
 }
 
 /// What was found of the item at an index.

@@ -7,6 +7,7 @@ use crate::checking::{Checks, check_all};
 use crate::content::Content;
 use crate::item_table::ItemTable;
 use crate::keeping::keep_results;
+use crate::known::KnownDefinitions;
 use crate::parsing::parse_items;
 use std::alloc::Global;
 use x_hash::HashKey;
@@ -21,22 +22,29 @@ pub struct Compilation {
     pub items: ItemTable,
 }
 
-/// Compiles a text from scratch, over tables that hash by the key. Tokens and items have their seats behind
-/// the last of them.
+/// Compiles a text from scratch, over tables that hash by the key, where `known` is known before it. Tokens
+/// and items have their seats behind the last of them.
 pub fn compile(
     alloc: Global,
     hash_key: HashKey,
+    known: &KnownDefinitions,
     source: &Source,
     meter: &mut Meter,
 ) -> Result<Compilation, NoMemory>
     ensures kept { IfOk result
-        (λ c. IsKept source.now c.tokens.list c.items.entries.list c.items.faults c.items.uses) }
+        (λ c. IsKept known.now source.now c.tokens.list c.items.entries.list c.items.faults c.items.uses) }
     ensures token_seat { IfOk result (λ c. c.tokens.seat ≡ length c.tokens.list) }
     ensures item_seat { IfOk result (λ c. c.items.entries.seat ≡ length c.items.entries.list) }
 {
     let tokens = lex(alloc, source, meter)?;
     let mut entries = parse_items(alloc, &tokens, source, meter)?;
-    let Checks { results, faults } = check_all(alloc, hash_key, &kept_of(alloc, &entries)?, meter)?;
+    let Checks { results, faults } = check_all(
+        alloc,
+        hash_key,
+        known,
+        &kept_of(alloc, &entries)?,
+        meter,
+    )?;
     keep_results(&mut entries, results);
     let items = ItemTable::of(alloc, hash_key, entries, faults)?;
     Ok(Compilation { tokens, items })

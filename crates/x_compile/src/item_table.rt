@@ -1,20 +1,23 @@
 //! The items of a text.
 
-ghost use Rattle.std.specs.Prelude.{◌≡◌, ◌≤◌, ◌+◌, length, map, IfOk, None, option_and_then, slice_get};
+ghost use Rattle.std.specs.Prelude.{◌≡◌, ◌≤◌, ◌+◌, ◌++◌, length, map, IfOk, OnOk, None};
+ghost use Rattle.std.specs.Prelude.{option_and_then, slice_get};
 ghost use Rattle.x_text.specs.declared.text.source.TheConstants.{MAX_TEXT};
 ghost use Rattle.x_cutting.specs.ItemList.{AreOfText, counts};
 ghost use Rattle.x_trees.specs.View.{tree_at};
 ghost use Rattle.x_compile.specs.Definitions.{numbered};
 ghost use Rattle.x_compile.specs.KeptView.{entry_definitions, entry_results, kept_part};
 ghost use Rattle.x_rules.specs.KeptViews.{lent_outcome};
-ghost use Rattle.x_rules.specs.Results.{result_at};
+ghost use Rattle.x_rules.specs.Results.{meaning_at, result_at};
+ghost use Rattle.x_rules.specs.RustViews.{view_meaning};
 
 use crate::content::Content;
 use std::alloc::Global;
 use x_gen::{PieceList, Pieces};
 use x_hash::HashKey;
 use x_item::{Definition, ItemEntry, Items};
-use x_rules::Checked;
+use x_names::Declarer;
+use x_rules::{Checked, Meaning};
 use x_text::{GapIter, NoMemory};
 use x_uses::Uses;
 
@@ -94,16 +97,39 @@ impl ItemTable {
         self.entries.get(index)?.kept.checked()
     }
 
+    /// What a name means whose first declarer this is: [`Meaning::Bad`] where that item has a fault.
+    pub fn meaning(&self, first: &Declarer) -> Meaning<'_>
+        ensures { view_meaning result
+            ≡ meaning_at (result_at (entry_results self.now.entries.list)) first.now }
+    {
+        match self.checked(first.item) {
+            Some(checked) => checked.meaning(first.place),
+            None => Meaning::Bad,
+        }
+    }
+
     /// The definition of each item.
     pub fn definitions(&self, alloc: Global) -> Result<Vec<Option<&Definition>>, NoMemory>
         ensures { IfOk result
             (λ definitions. map tree_at definitions.items ≡ entry_definitions self.now.entries.list) }
     {
         let mut definitions = Vec::with_capacity(alloc, self.len())?;
+        self.add_definitions(&mut definitions)?;
+        Ok(definitions)
+    }
+
+    /// Adds the definition of each item.
+    pub fn add_definitions<'t>(
+        &'t self,
+        definitions: &mut Vec<Option<&'t Definition>>,
+    ) -> Result<(), NoMemory>
+        ensures { OnOk result (map tree_at definitions.new.items
+            ≡ map tree_at definitions.old.items ++ entry_definitions self.now.entries.list) }
+    {
         for entry in self.iter() {
             definitions.push(entry.kept.definition())?;
         }
-        Ok(definitions)
+        Ok(())
     }
 
     /// How many items have a definition.

@@ -11,6 +11,7 @@ use Rattle.x_trees.specs.Tree.{Definition}
 use Rattle.x_trees.specs.declared.names.declared_name.DeclaredName.{DeclaredName}
 use Rattle.x_names.proofs.NameLemmas.{option_or_after}
 use Rattle.x_compile.specs.Compile.{IsCompilation, Item, definition_at, parsed_definition, tokens_of}
+use Rattle.x_compile.specs.Known.{KnownText}
 use Rattle.x_session.specs.Session.{Compiles}
 use Rattle.x_explain.specs.AgainNames.{again_among, again_from, again_in, at_start, ends_with_own, name_at, start_again}
 use Rattle.x_explain.proofs.DeclaredLemmas.{of_each, short_each}
@@ -47,8 +48,8 @@ name_before items item front longer d ds rest old before after start next is h m
     ∙ sym (ap (λ l. option_or (name_at (again_among items item front l) start) old) is)
 
 -- one item more, in front of those in the table
-pub item_before : (text : List ℕ) (tokens : List (Kind × ℕ)) (items : List Item) (n m count : ℕ) (found : Option Definition) (before after : Option (List ℕ)) (start : ℕ)
-    → m ≡ suc n → n < count → IsCompilation text tokens items → Compiles text (λ items. count ≡ length items) → Compiles text (λ items. found ≡ definition_at items n)
+pub item_before : {known : KnownText} (text : List ℕ) (tokens : List (Kind × ℕ)) (items : List Item) (n m count : ℕ) (found : Option Definition) (before after : Option (List ℕ)) (start : ℕ)
+    → m ≡ suc n → n < count → IsCompilation known text tokens items → Compiles known text (λ items. count ≡ length items) → Compiles known text (λ items. found ≡ definition_at items n)
     → before ≡ name_at (again_from items m (drop m items)) start → after ≡ option_or (name_at (again_in items n found) start) before → after ≡ name_at (again_from items n (drop n items)) start
 item_before text tokens items n m count found before after start next lt is many defined h more =
     let count_is = of_each text many tokens items is in
@@ -61,15 +62,15 @@ item_before text tokens items n m count found before after start next lt is many
     ∙ sym (name_at_both names behind start) ∙ sym (ap (λ l. name_at (again_from items n l) start) at.here)
 
 -- behind all items there is none
-pub none_behind : (text : List ℕ) (tokens : List (Kind × ℕ)) (items : List Item) (count start : ℕ) → IsCompilation text tokens items → Compiles text (λ items. count ≡ length items)
+pub none_behind : {known : KnownText} (text : List ℕ) (tokens : List (Kind × ℕ)) (items : List Item) (count start : ℕ) → IsCompilation known text tokens items → Compiles known text (λ items. count ≡ length items)
     → None ≡ name_at (again_from items count (drop count items)) start
 none_behind text tokens items count start is many =
     let count_is = of_each text many tokens items is in
     sym (ap (λ l. name_at (again_from items count l) start) (none_left items count (omega (arith, count_is))))
 
 -- a definition of the text is short
-pub short_at : (text : List ℕ) (tokens : List (Kind × ℕ)) (items : List Item) (n count all : ℕ) (d : Definition) → n < count → all < 2 ^ 64 → IsCompilation text tokens items
-    → Compiles text (λ items. count ≡ length items) → Compiles text (λ items. all ≡ length (tokens_of items)) → Compiles text (λ items. Some d ≡ definition_at items n) → length (spell d) < 2 ^ 64
+pub short_at : {known : KnownText} (text : List ℕ) (tokens : List (Kind × ℕ)) (items : List Item) (n count all : ℕ) (d : Definition) → n < count → all < 2 ^ 64 → IsCompilation known text tokens items
+    → Compiles known text (λ items. count ≡ length items) → Compiles known text (λ items. all ≡ length (tokens_of items)) → Compiles known text (λ items. Some d ≡ definition_at items n) → length (spell d) < 2 ^ 64
 short_at text tokens items n count all d lt few is many words defined =
     let count_is = of_each text many tokens items is in
     let all_is = of_each text words tokens items is in

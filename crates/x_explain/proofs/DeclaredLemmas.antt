@@ -18,6 +18,7 @@ use Rattle.x_names.specs.declared.names.Declarer.{Declarer}
 use Rattle.x_names.proofs.DeclarerLaws.{as_found}
 use Rattle.x_compile.specs.Compile.{AreParses, IsCompilation, Item, definition_at, definitions_of, parsed_definition, tokens_of}
 use Rattle.x_compile.proofs.Compiled.{one_compilation}
+use Rattle.x_compile.specs.Known.{KnownText}
 use Rattle.x_session.specs.Session.{Compiles}
 use Rattle.x_explain.specs.declared.declared.DeclaredNames.{DeclaredNames}
 use Rattle.x_explain.specs.declared.declared.FirstPlace.{FirstPlace}
@@ -26,8 +27,8 @@ use Rattle.x_explain.specs.DeclaredNames.{IsTableOf, declared_at, first_place, f
 use Rattle.x_explain.proofs.ItemsLeft.{AreLeft, all_left, item_at, next_item_is, none_left, short_definition}
 
 -- what holds of one compilation holds of each
-pub of_each : {P : List Item → Type 0} (text : List ℕ) → Compiles text P → (tokens : List (Kind × ℕ)) (items : List Item) → IsCompilation text tokens items → P items
-of_each {P = P} text h tokens items is = subst P (one_compilation text h.0 tokens h.1 items h.2 is).1 h.3
+pub of_each : {known : KnownText} {P : List Item → Type 0} (text : List ℕ) → Compiles known text P → (tokens : List (Kind × ℕ)) (items : List Item) → IsCompilation known text tokens items → P items
+of_each {known} {P} text h tokens items is = subst P (one_compilation known text h.0 tokens h.1 items h.2 is).1 h.3
 
 -- what holds of a result holds of what follows from it
 pub ok_then : {X E : Type 0} {P Q : X → Type 0} (r : Result X E) → ((x : X) → P x → Q x) → IfOk r P → IfOk r Q
@@ -101,32 +102,32 @@ got_list lists xs ys k x is lt one =
 -- ---- item by item
 
 -- what is told of the items before one
-pub record HasTold {X : Type 0} (told : Item → X) (text : List ℕ) (n : ℕ) (found : List X) : Type 0 where
+pub record HasTold {X : Type 0} (told : Item → X) (known : KnownText) (text : List ℕ) (n : ℕ) (found : List X) : Type 0 where
   pub tokens : List (Kind × ℕ)
   pub items : List Item
-  pub compiles : IsCompilation text tokens items
+  pub compiles : IsCompilation known text tokens items
   pub found_is : found ++ map told (drop n items) ≡ map told items
 
-pub told_none : {X : Type 0} {P : List Item → Type 0} (told : Item → X) (text : List ℕ) → Compiles text P → HasTold told text 0 []
+pub told_none : {X : Type 0} {P : List Item → Type 0} {known : KnownText} (told : Item → X) (text : List ℕ) → Compiles known text P → HasTold told known text 0 []
 told_none told text c = record { tokens = c.0; items = c.1; compiles = c.2; found_is = refl }
 
-pub told_all : {X : Type 0} (told : Item → X) (text : List ℕ) (n count : ℕ) (found : List X) → count ≤ n → Compiles text (λ items. count ≡ length items) → HasTold told text n found
-    → Compiles text (λ items. found ≡ map told items)
+pub told_all : {X : Type 0} {known : KnownText} (told : Item → X) (text : List ℕ) (n count : ℕ) (found : List X) → count ≤ n → Compiles known text (λ items. count ≡ length items) → HasTold told known text n found
+    → Compiles known text (λ items. found ≡ map told items)
 told_all told text n count found le many had =
     let count_is = of_each text many had.tokens had.items had.compiles in
     let none = none_left had.items n (omega (arith, le, count_is)) in
     (had.tokens, had.items, had.compiles, sym (append-nil found) ∙ ap (λ is. found ++ map told is) (sym none) ∙ had.found_is)
 
 -- one more
-pub told_more : {X : Type 0} (told : Item → X) (text : List ℕ) (n m count : ℕ) (found : List X) (x : X) → m ≡ n + 1 → n < count → Compiles text (λ items. count ≡ length items) → HasTold told text n found
-    → ((tokens : List (Kind × ℕ)) (items : List Item) (i : Item) → IsCompilation text tokens items → drop n items ≡ i ∷ drop (suc n) items → definition_at items n ≡ parsed_definition i.parse → x ≡ told i)
-    → HasTold told text m (found ++ x ∷ [])
-told_more told text n m count found x step lt many had is =
+pub told_more : {X : Type 0} {known : KnownText} (told : Item → X) (text : List ℕ) (n m count : ℕ) (found : List X) (x : X) → m ≡ n + 1 → n < count → Compiles known text (λ items. count ≡ length items) → HasTold told known text n found
+    → ((tokens : List (Kind × ℕ)) (items : List Item) (i : Item) → IsCompilation known text tokens items → drop n items ≡ i ∷ drop (suc n) items → definition_at items n ≡ parsed_definition i.parse → x ≡ told i)
+    → HasTold told known text m (found ++ x ∷ [])
+told_more {known = known} told text n m count found x step lt many had is =
     let count_is = of_each text many had.tokens had.items had.compiles in
     let at = item_at had.items n (omega (arith, lt, count_is)) had.compiles.are_parses in
     let suc_is : suc n ≡ m = omega (arith, step) in
     let one = is had.tokens had.items at.item had.compiles at.here at.definition in
-    subst (λ k. HasTold told text k (found ++ x ∷ [])) suc_is record {
+    subst (λ k. HasTold told known text k (found ++ x ∷ [])) suc_is record {
       tokens = had.tokens;
       items = had.items;
       compiles = had.compiles;
@@ -139,19 +140,19 @@ told_more told text n m count found x step lt many had is =
 
 -- ---- words
 
-pub record HasWords (text : List ℕ) (n : ℕ) (walk : List Lexeme) (found : List (List Spot)) : Type 0 where
-  pub told : HasTold (word_spots text) text n found
+pub record HasWords (known : KnownText) (text : List ℕ) (n : ℕ) (walk : List Lexeme) (found : List (List Spot)) : Type 0 where
+  pub told : HasTold (word_spots text) known text n found
   pub left : AreLeft walk (map (λ i. i.tokens) (drop n told.items))
 
-pub words_none : (text : List ℕ) (walk : List Lexeme) → Compiles text (λ items. walk ≡ tokens_of items) → HasWords text 0 walk []
+pub words_none : {known : KnownText} (text : List ℕ) (walk : List Lexeme) → Compiles known text (λ items. walk ≡ tokens_of items) → HasWords known text 0 walk []
 words_none text walk c = record {
   told = record { tokens = c.0; items = c.1; compiles = c.2; found_is = refl };
   left = all_left (tokens_of c.1) walk (map (λ i. i.tokens) c.1) (subst (λ l. AreItems l (map (λ i. i.tokens) c.1)) (sym c.2.are_items.all) c.2.are_items) c.3;
 }
 
-pub words_more : (text : List ℕ) (n m count : ℕ) (whole : Bool) (walk walk' part : List Lexeme) (found : List (List Spot)) (x : List Spot) → m ≡ n + 1 → n < count → Compiles text (λ items. count ≡ length items)
-    → HasWords text n walk found → IsNext whole walk part walk' → x ≡ map (λ (t : Lexeme). spot_at text t.start) (words_in part) → HasWords text m walk' (found ++ x ∷ [])
-words_more text n m count whole walk walk' part found x step lt many had next is =
+pub words_more : {known : KnownText} (text : List ℕ) (n m count : ℕ) (whole : Bool) (walk walk' part : List Lexeme) (found : List (List Spot)) (x : List Spot) → m ≡ n + 1 → n < count → Compiles known text (λ items. count ≡ length items)
+    → HasWords known text n walk found → IsNext whole walk part walk' → x ≡ map (λ (t : Lexeme). spot_at text t.start) (words_in part) → HasWords known text m walk' (found ++ x ∷ [])
+words_more {known} text n m count whole walk walk' part found x step lt many had next is =
     let h = had.told in
     let count_is = of_each text many h.tokens h.items h.compiles in
     let at = item_at h.items n (omega (arith, lt, count_is)) h.compiles.are_parses in
@@ -160,7 +161,7 @@ words_more text n m count whole walk walk' part found x step lt many had next is
     let left = next_item_is whole walk part walk' at.item.tokens (map (λ i. i.tokens) rest) (subst (AreLeft walk) here had.left) next in
     let one : x ≡ word_spots text at.item = is ∙ ap (λ ts. map (λ (t : Lexeme). spot_at text t.start) (words_in ts)) left.0 in
     let suc_is : suc n ≡ m = omega (arith, step) in
-    subst (λ k. HasWords text k walk' (found ++ x ∷ [])) suc_is record {
+    subst (λ k. HasWords known text k walk' (found ++ x ∷ [])) suc_is record {
       told = record {
         tokens = h.tokens;
         items = h.items;
@@ -212,9 +213,9 @@ short_each (i ∷ items) (suc index) d n are le few is =
     short_each items index d n are.1 (omega (arith, l, le)) few is
 
 -- a table of names has the first declarers
-pub names_found : (text : List ℕ) (definitions : List (Option Definition)) (table : List (List ℕ × Declarer)) (count : ℕ) → count < 2 ^ 64 → Compiles text (λ items. count ≡ length (tokens_of items))
-    → Compiles text (λ items. definitions ≡ definitions_of items) → (AreShort definitions → (name : List ℕ) → FirstIs definitions name (first_in table name))
-    → Compiles text (λ items. (name : List ℕ) → first_in table name ≡ first_declarer (definitions_of items) name)
+pub names_found : {known : KnownText} (text : List ℕ) (definitions : List (Option Definition)) (table : List (List ℕ × Declarer)) (count : ℕ) → count < 2 ^ 64 → Compiles known text (λ items. count ≡ length (tokens_of items))
+    → Compiles known text (λ items. definitions ≡ definitions_of items) → (AreShort definitions → (name : List ℕ) → FirstIs definitions name (first_in table name))
+    → Compiles known text (λ items. (name : List ℕ) → first_in table name ≡ first_declarer (definitions_of items) name)
 names_found text definitions table count few tokens are first =
     let many = of_each text tokens are.0 are.1 are.2 in
     let le : length (tokens_of are.1) ≤ count = omega (arith, many) in
@@ -226,6 +227,6 @@ names_found text definitions table count few tokens are first =
     )
 
 -- both are of one compilation
-pub table_found : (text : List ℕ) (table : DeclaredNames) → Compiles text (λ items. map (λ v. v.items) table.words.items ≡ map (word_spots text) items)
-    → Compiles text (λ items. (name : List ℕ) → first_in table.names name ≡ first_declarer (definitions_of items) name) → Compiles text (λ items. IsTableOf text items table)
+pub table_found : {known : KnownText} (text : List ℕ) (table : DeclaredNames) → Compiles known text (λ items. map (λ v. v.items) table.words.items ≡ map (word_spots text) items)
+    → Compiles known text (λ items. (name : List ℕ) → first_in table.names name ≡ first_declarer (definitions_of items) name) → Compiles known text (λ items. IsTableOf text items table)
 table_found text table words names = (names.0, names.1, names.2, record { words = of_each text words names.0 names.1 names.2; names = names.3 })

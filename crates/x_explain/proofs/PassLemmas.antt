@@ -12,6 +12,7 @@ use Rattle.x_explain.specs.declared.explained.Pass.{Pass}
 use Rattle.x_explain.specs.declared.found.FoundFault.{FoundFault}
 use Rattle.x_lex.specs.declared.kind.Kind.{Kind}
 use Rattle.x_compile.specs.Compile.{IsCompilation, Item, places_of}
+use Rattle.x_compile.specs.Known.{KnownText}
 use Rattle.x_session.specs.Session.{Compiles}
 use Rattle.x_explain.specs.Explained.{IsPass, Telling, is_note, notes_at, said_by, said_in}
 use Rattle.x_explain.specs.Facts.{Known, known_of}
@@ -27,19 +28,19 @@ note_more p ps b is = sum_by-cons (λ (q : FaultPlace). cond (is_note q.code) 1 
 abbrev pub Near : Type 0
 Near = List (ℕ × Option (List ℕ))
 
-pub record HasPassed (pass : Pass) (t : Telling) (near : Near) (all left : List FaultPlace)
+pub record HasPassed (pass : Pass) (known : KnownText) (t : Telling) (near : Near) (all left : List FaultPlace)
     (p : Inked) (before : Stream) (q : Inked) (now : Stream) : Type 0 where
   pub tokens : List (Kind × ℕ)
   pub items : List Item
-  pub compiles : IsCompilation t.text tokens items
+  pub compiles : IsCompilation known t.text tokens items
   pub seen : List FaultPlace
   pub split : seen ++ left ≡ all
   pub found : List FoundFault
   pub are : AreFound t.text seen found
   pub added : Adds p before q now (flat_map (said_by pass t items near) found)
 
-pub passed_none : {P : List Item → Type 0} (pass : Pass) (t : Telling) (near : Near) (all : List FaultPlace)
-    (p : Inked) (now : Stream) → Compiles t.text P → HasPassed pass t near all all p now p now
+pub passed_none : {P : List Item → Type 0} {known : KnownText} (pass : Pass) (t : Telling) (near : Near) (all : List FaultPlace)
+    (p : Inked) (now : Stream) → Compiles known t.text P → HasPassed pass known t near all all p now p now
 passed_none pass t near all p now c = record {
   tokens = c.0;
   items = c.1;
@@ -51,12 +52,12 @@ passed_none pass t near all p now c = record {
   added = adds_none p now;
 }
 
-pub passed_more : (pass : Pass) (t : Telling) (near : Near) (all left : List FaultPlace) (f : FaultPlace)
+pub passed_more : {known : KnownText} (pass : Pass) (t : Telling) (near : Near) (all left : List FaultPlace) (f : FaultPlace)
     (d : FoundFault) (p q r : Inked) (a b c : Stream)
-    → HasPassed pass t near all (f ∷ left) p a q b → IsFound t.text f d
-    → ((tokens : List (Kind × ℕ)) (items : List Item) → IsCompilation t.text tokens items
+    → HasPassed pass known t near all (f ∷ left) p a q b → IsFound t.text f d
+    → ((tokens : List (Kind × ℕ)) (items : List Item) → IsCompilation known t.text tokens items
     → Adds q b r c (said_by pass t items near d))
-    → HasPassed pass t near all left p a r c
+    → HasPassed pass known t near all left p a r c
 passed_more pass t near all left f d p q r a b c so is adds =
     let say = said_by pass t so.items near in
     let more = adds so.tokens so.items so.compiles in
@@ -74,10 +75,10 @@ passed_more pass t near all left f d p q r a b c so is adds =
           (adds_trans p q r a b c (flat_map say so.found) (say d) so.added more);
     }
 
-pub passed_all : (pass : Pass) (t : Telling) (near : Near) (all left : List FaultPlace) (p q : Inked)
-    (a b : Stream) → left ≡ [] → Compiles t.text (λ items. all ≡ places_of items)
-    → HasPassed pass t near all left p a q b
-    → Compiles t.text (λ items. IsPass pass t items near (places_of items) p a q b)
+pub passed_all : {known : KnownText} (pass : Pass) (t : Telling) (near : Near) (all left : List FaultPlace) (p q : Inked)
+    (a b : Stream) → left ≡ [] → Compiles known t.text (λ items. all ≡ places_of items)
+    → HasPassed pass known t near all left p a q b
+    → Compiles known t.text (λ items. IsPass pass t items near (places_of items) p a q b)
 passed_all pass t near all left p q a b none places so =
     let whole = sym (append-nil so.seen) ∙ ap (λ l. so.seen ++ l) (sym none) ∙ so.split in
     let is = of_each t.text places so.tokens so.items so.compiles in (

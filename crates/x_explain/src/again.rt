@@ -42,8 +42,10 @@ impl<'s> AgainNames<'s> {
         session: &'s Session,
         declared: &DeclaredNames<'s>,
     ) -> Result<AgainNames<'s>, NoMemory>
-        requires { Compiles session.now.text (λ items. IsTableOf session.now.text items declared.now) }
-        ensures { IfOk result (λ names. Compiles session.now.text (λ items. AreAgain items names)) }
+        requires { Compiles session.now.known session.now.text
+            (λ items. IsTableOf session.now.text items declared.now) }
+        ensures { IfOk result (λ names. Compiles session.now.known session.now.text
+            (λ items. AreAgain items names)) }
     {
         // So many tokens fit, and no definition has more words.
         let _ = session.token_count();

@@ -53,7 +53,7 @@ impl<'s> DeclaredNames<'s> {
     ///
     /// [`NoMemory`] where a table could not grow.
     pub fn of(alloc: Global, session: &'s Session) -> Result<DeclaredNames<'s>, NoMemory>
-        ensures { IfOk result (λ table. Compiles session.now.text
+        ensures { IfOk result (λ table. Compiles session.now.known session.now.text
             (λ items. IsTableOf session.now.text items table)) }
     {
         let words = words(alloc, session)?;
@@ -125,7 +125,7 @@ fn is_of_declarer(code: FaultCode) -> bool
 ///
 /// [`NoMemory`] where the list could not grow.
 pub fn definitions(alloc: Global, session: &Session) -> Result<Vec<Option<&Definition>>, NoMemory>
-    ensures { IfOk result (λ list. Compiles session.now.text
+    ensures { IfOk result (λ list. Compiles session.now.known session.now.text
         (λ items. map tree_at list.items ≡ definitions_of items)) }
 {
     let mut list = Vec::new(alloc);
@@ -137,7 +137,7 @@ pub fn definitions(alloc: Global, session: &Session) -> Result<Vec<Option<&Defin
 
 /// The first declarers of a text's names.
 fn names(alloc: Global, session: &Session) -> Result<Names<'_>, NoMemory>
-    ensures { IfOk result (λ names. Compiles session.now.text (λ items.
+    ensures { IfOk result (λ names. Compiles session.now.known session.now.text (λ items.
         (name : List ℕ) → first_in names name ≡ first_declarer (definitions_of items) name)) }
 {
     // So many tokens fit, and no definition has more words.
@@ -148,7 +148,7 @@ fn names(alloc: Global, session: &Session) -> Result<Names<'_>, NoMemory>
 
 /// Where the words of each item of a text start.
 fn words(alloc: Global, session: &Session) -> Result<Vec<Vec<Spot>>, NoMemory>
-    ensures { IfOk result (λ list. Compiles session.now.text (λ items.
+    ensures { IfOk result (λ list. Compiles session.now.known session.now.text (λ items.
         map (λ v. v.items) list.items ≡ map (word_spots session.now.text) items)) }
 {
     let mut list = Vec::new(alloc);

@@ -174,13 +174,14 @@ struct Telling<'t, 's> {
 impl Telling<'_, '_> {
     /// Adds what a pass says of the faults.
     fn add_pass<S: Sink>(&self, pass: Pass, pen: &mut Pen, sink: &mut S)
-        requires { Compiles self.now.session.now.text
+        requires { Compiles self.now.session.now.known self.now.session.now.text
             (λ items. AreFactsOf self.now.session.now.text items self.now.facts.now) }
-        ensures { Compiles self.now.session.now.text (λ items. IsPass pass (record {
-          coloured = self.now.coloured;
-          file = self.now.file.now;
-          text = self.now.session.now.text;
-        }) items (near_in self.now.facts.now)
+        ensures { Compiles self.now.session.now.known self.now.session.now.text
+            (λ items. IsPass pass (record {
+              coloured = self.now.coloured;
+              file = self.now.file.now;
+              text = self.now.session.now.text;
+            }) items (near_in self.now.facts.now)
             (places_of items) pen.old (S.state sink.old) pen.new (S.state sink.new)) }
     {
         let text = self.session.bytes();
@@ -213,7 +214,7 @@ impl Telling<'_, '_> {
 
 /// How many faults of a text come of no others.
 fn error_count(session: &Session) -> usize
-    ensures { Compiles session.now.text
+    ensures { Compiles session.now.known session.now.text
         (λ items. result + notes_at (places_of items) ≡ length (places_of items)) }
 {
     let mut errors = session.fault_count();
@@ -269,8 +270,9 @@ pub fn add_explained_faults<S: Sink>(
     pen: &mut Pen,
     sink: &mut S,
 )
-    requires { Compiles session.now.text (λ items. AreFactsOf session.now.text items facts.now) }
-    ensures { Compiles session.now.text (λ items. (said : List ℕ)
+    requires { Compiles session.now.known session.now.text
+        (λ items. AreFactsOf session.now.text items facts.now) }
+    ensures { Compiles session.now.known session.now.text (λ items. (said : List ℕ)
         × AreExplained (record { coloured = coloured; file = file.now; text = session.now.text }) items said
         × Adds pen.old (S.state sink.old) pen.new (S.state sink.new) said) }
 {

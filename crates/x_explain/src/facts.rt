@@ -39,7 +39,7 @@ impl<'s> FaultNames<'s> {
     ///
     /// [`NoMemory`] where a table could not grow.
     pub fn of(alloc: Global, session: &'s Session) -> Result<FaultNames<'s>, NoMemory>
-        ensures { IfOk result (λ names. Compiles session.now.text
+        ensures { IfOk result (λ names. Compiles session.now.known session.now.text
             (λ items. AreNamesOf session.now.text items names)) }
     {
         let declared = DeclaredNames::of(alloc, session)?;
@@ -82,7 +82,7 @@ impl<'s> FaultFacts<'s> {
     ///
     /// [`NoMemory`] where a table could not grow.
     pub fn of(alloc: Global, session: &'s Session) -> Result<FaultFacts<'s>, NoMemory>
-        ensures { IfOk result (λ facts. Compiles session.now.text
+        ensures { IfOk result (λ facts. Compiles session.now.known session.now.text
             (λ items. AreFactsOf session.now.text items facts)) }
     {
         let names = FaultNames::of(alloc, session)?;

@@ -40,7 +40,7 @@ pub fn token_end(text: &[u8], start: usize) -> usize
 /// They are listed before their tokens are looked at, and these before anything is said of them: such short
 /// steps wait for memory at many places at once, and not for one after the other.
 pub fn found_faults(alloc: Global, session: &Session) -> Result<Vec<FoundFault>, NoMemory>
-    ensures { IfOk result (λ found. Compiles session.now.text (λ items.
+    ensures { IfOk result (λ found. Compiles session.now.known session.now.text (λ items.
         AreFound session.now.text (places_of items) found.items)) }
 {
     let places = listed(alloc, session)?;
@@ -77,7 +77,7 @@ pub(crate) fn word_at(text: &[u8], start: usize, end: usize) -> &[u8]
 /// The places of the faults.
 fn listed(alloc: Global, session: &Session) -> Result<Vec<FaultPlace>, NoMemory>
     ensures { IfOk result
-        (λ places. Compiles session.now.text (λ items. places.items ≡ places_of items)) }
+        (λ places. Compiles session.now.known session.now.text (λ items. places.items ≡ places_of items)) }
 {
     let mut places = Vec::with_capacity(alloc, session.fault_count())?;
     for place in session.fault_places() {

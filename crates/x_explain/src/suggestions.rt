@@ -56,7 +56,7 @@ impl Suggestions {
     ///
     /// [`NoMemory`] where a list could not grow.
     pub fn of(alloc: Global, session: &Session) -> Result<Suggestions, NoMemory>
-        ensures { IfOk result (λ suggestions. Compiles session.now.text
+        ensures { IfOk result (λ suggestions. Compiles session.now.known session.now.text
             (λ items. AreSuggested session.now.text items (map view_suggestion suggestions.list.items))) }
     {
         let found = unknown_words(alloc, session)?;
@@ -89,7 +89,7 @@ impl Suggestions {
 
 /// The undeclared words for which something is suggested.
 fn unknown_words(alloc: Global, session: &Session) -> Result<Vec<FoundFault>, NoMemory>
-    ensures { IfOk result (λ found. Compiles session.now.text
+    ensures { IfOk result (λ found. Compiles session.now.known session.now.text
         (λ items. AreFound session.now.text (sought (places_of items)) found.items)) }
 {
     let places = sought(alloc, session)?;
@@ -98,8 +98,8 @@ fn unknown_words(alloc: Global, session: &Session) -> Result<Vec<FoundFault>, No
 
 /// Their places.
 fn sought(alloc: Global, session: &Session) -> Result<Vec<FaultPlace>, NoMemory>
-    ensures { IfOk result
-        (λ places. Compiles session.now.text (λ items. places.items ≡ sought (places_of items))) }
+    ensures { IfOk result (λ places. Compiles session.now.known session.now.text
+        (λ items. places.items ≡ sought (places_of items))) }
 {
     let mut places = Vec::new(alloc);
     for place in session.fault_places() {
@@ -119,7 +119,7 @@ pub(crate) fn is_unknown(code: FaultCode) -> bool
 
 /// The names of a text that words are compared with.
 fn compared_names(alloc: Global, session: &Session) -> Result<Vec<CowSlice<'_, u8>>, NoMemory>
-    ensures { IfOk result (λ names. Compiles session.now.text
+    ensures { IfOk result (λ names. Compiles session.now.known session.now.text
         (λ items. map cow_slice_items names.items ≡ compared (definitions_of items))) }
 {
     // So many tokens fit, and no definition has more words.

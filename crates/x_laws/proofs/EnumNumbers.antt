@@ -16,7 +16,7 @@ use Rattle.x_numbers.specs.Numbers.{next_number}
 use Rattle.x_trees.proofs.AmongLemmas.{among_first, among_more, among_parted}
 use Rattle.x_outline.specs.Bodies.{BodyAt, EnumeratorAt, bodies, enumerators, enumerators_from, enumerators_in, enumerators_of}
 use Rattle.x_rules.specs.Constants.{Known, known_with, knowns, number_before, number_by, number_given, number_named, number_of, number_seen}
-use Rattle.x_rules.specs.Results.{Outcome, AreResults}
+use Rattle.x_rules.specs.Results.{Outcome, AreResults, no_names}
 use Rattle.x_rules.specs.Rules.{HasRole}
 use Rattle.x_rules.specs.Views.{View}
 use Rattle.x_schema.specs.SchemaOf.{Numbers, number_given as number_behind, numbers_of, signed_word, with_word, words_from}
@@ -70,7 +70,7 @@ before_front (k ∷ ks) rest limit n h = ap (λ r. cond (bytes_eq n k.enumerator
 
 -- what an item's enumerators are checked by
 record AtText (definitions : List (Option Definition)) (results : List (Option Outcome)) (item : ℕ) (d : Definition) : Type 0 where
-  are : AreResults definitions results
+  are : AreResults no_names definitions results
   fine : AreFaultless results
   there : slice_get definitions item ≡ Some (Some d)
   -- it is no `const`
@@ -159,7 +159,7 @@ along definitions results item d ks low before (e ∷ es) h same own told up =
     in_more [] k m x = ap (λ b. b || false) x
     in_more (y ∷ ys) k m x = ap (λ b. bytes_eq m y.enumerator.name || b) (in_more ys k m x) ∙ or_true (bytes_eq m y.enumerator.name)
 
-all_along : (definitions : List (Option Definition)) (results : List (Option Outcome)) (item : ℕ) (d : Definition) → AreResults definitions results → AreFaultless results
+all_along : (definitions : List (Option Definition)) (results : List (Option Outcome)) (item : ℕ) (d : Definition) → AreResults no_names definitions results → AreFaultless results
     → slice_get definitions item ≡ Some (Some d) → Along (numbers_of definitions) (number_meant definitions results) None (enumerators d)
 all_along definitions results item (tree.Const name value) are fine there = tt
 all_along definitions results item (tree.Typedef d) are fine there =
@@ -197,7 +197,7 @@ enum_words numbers meant before at (e ∷ es) ys h =
     ap (λ y. words_from numbers (next_number y) (with_word [] (option_and_then signed_word y) e.name) es) z
     ∙ others_words numbers meant (meant e.name) (at + length (spell_enumerator e) + 1) (with_word [] (option_and_then signed_word (meant e.name)) e.name) es ys h.1
 
-pub enum_numbers : (definitions : List (Option Definition)) (results : List (Option Outcome)) → AreResults definitions results → AreFaultless results → (item : ℕ) (d : Definition)
+pub enum_numbers : (definitions : List (Option Definition)) (results : List (Option Outcome)) → AreResults no_names definitions results → AreFaultless results → (item : ℕ) (d : Definition)
     → slice_get definitions item ≡ Some (Some d) → (b : BodyAt) (es : List tree.Enumerator) → IsAmong (bodies d) b → b.body ≡ tree.Enum es
     → words_from (numbers_of definitions) (Some (pos 0)) [] es ≡ words_meant (number_meant definitions results) [] es
 enum_numbers definitions results are fine item d there b es among is =

@@ -15,7 +15,7 @@ use Rattle.x_names.specs.Declarers.{is_beforehand, IsDeclarer, IsEarlier, IsFirs
 use Rattle.x_names.proofs.DeclarerLaws.{first_found, found_is_first}
 use Rattle.x_names.specs.declared.names.Declarer.{Declarer}
 use Rattle.x_rules.specs.Views.{View, Earlier, Own, Later, view_in, seen}
-use Rattle.x_rules.specs.Results.{Outcome, IsOutcome, IsResult, AreResultsFrom, AreResults, result_at, view_of, view_by, meaning_at, beforehand_meaning}
+use Rattle.x_rules.specs.Results.{Outcome, IsOutcome, IsResult, AreResultsFrom, AreResults, result_at, view_of, view_by, meaning_at, beforehand_meaning, no_names}
 use Rattle.x_rules.specs.Rules.{IsEarlierName, IsDuplicate, AreFaults}
 use Rattle.x_rules.specs.declared.fault.RuleCode.TheVariants as codes
 use Rattle.x_rules.specs.declared.fault.WordFault.{WordFault}
@@ -27,36 +27,36 @@ use Rattle.x_laws.specs.Meant.{AreFaultless}
 pub record HasOutcome (definitions : List (Option Definition)) (results : List (Option Outcome)) (item : ℕ) (d : Definition) : Type 0 where
   pub outcome : Outcome
   pub is : slice_get results item ≡ Some (Some outcome)
-  pub are_faults : AreFaults d (seen d (map (view_by definitions (result_at results) item) (names_of d))) outcome.faults
-  pub all : IsOutcome d (map (view_by definitions (result_at results) item) (names_of d)) outcome
+  pub are_faults : AreFaults d (seen d (map (view_by no_names definitions (result_at results) item) (names_of d))) outcome.faults
+  pub all : IsOutcome d (map (view_by no_names definitions (result_at results) item) (names_of d)) outcome
 
 outcome_from : (definitions : List (Option Definition)) (read : ℕ → Option Outcome) (n : ℕ) (ds : List (Option Definition)) (os : List (Option Outcome)) (index : ℕ) (d : Definition)
-    → AreResultsFrom definitions read n ds os → slice_get ds index ≡ Some (Some d)
-    → (o : Outcome) × (slice_get os index ≡ Some (Some o)) × IsOutcome d (map (view_by definitions read (n + index)) (names_of d)) o
+    → AreResultsFrom no_names definitions read n ds os → slice_get ds index ≡ Some (Some d)
+    → (o : Outcome) × (slice_get os index ≡ Some (Some o)) × IsOutcome d (map (view_by no_names definitions read (n + index)) (names_of d)) o
 outcome_from definitions read n [] os index d h there = absurd cc
 outcome_from definitions read n (x ∷ ds) [] index d h there = absurd h
 outcome_from definitions read n (x ∷ ds) (o ∷ os) zero d h there = by x o (same_Some x (Some d) there) h.0
   where
-    by : (x : Option Definition) (o : Option Outcome) → x ≡ Some d → IsResult definitions read n x o
-        → (o' : Outcome) × (slice_get (o ∷ os) 0 ≡ Some (Some o')) × IsOutcome d (map (view_by definitions read (n + 0)) (names_of d)) o'
+    by : (x : Option Definition) (o : Option Outcome) → x ≡ Some d → IsResult no_names definitions read n x o
+        → (o' : Outcome) × (slice_get (o ∷ os) 0 ≡ Some (Some o')) × IsOutcome d (map (view_by no_names definitions read (n + 0)) (names_of d)) o'
     by None o e r = absurd cc
     by (Some y) None e r = absurd r
     by (Some y) (Some o) e r =
         let same : y ≡ d = same_Some y d e in
         let at : n ≡ n + 0 = omega arith in
-        (o, refl, subst (λ k. IsOutcome d (map (view_by definitions read k) (names_of d)) o) at (subst (λ z. IsOutcome z (map (view_by definitions read n) (names_of z)) o) same r))
+        (o, refl, subst (λ k. IsOutcome d (map (view_by no_names definitions read k) (names_of d)) o) at (subst (λ z. IsOutcome z (map (view_by no_names definitions read n) (names_of z)) o) same r))
 outcome_from definitions read n (x ∷ ds) (o ∷ os) (suc index) d h there =
     let rest = outcome_from definitions read (suc n) ds os index d h.1 there in
     let at : suc n + index ≡ n + suc index = omega arith in
-    (rest.0, rest.1, subst (λ k. IsOutcome d (map (view_by definitions read k) (names_of d)) rest.0) at rest.2)
+    (rest.0, rest.1, subst (λ k. IsOutcome d (map (view_by no_names definitions read k) (names_of d)) rest.0) at rest.2)
 
-pub outcome_of : (definitions : List (Option Definition)) (results : List (Option Outcome)) (item : ℕ) (d : Definition) → AreResults definitions results
+pub outcome_of : (definitions : List (Option Definition)) (results : List (Option Outcome)) (item : ℕ) (d : Definition) → AreResults no_names definitions results
     → slice_get definitions item ≡ Some (Some d) → HasOutcome definitions results item d
 outcome_of definitions results item d h there =
     let found = outcome_from definitions (result_at results) 0 definitions results item d h there in
     let at : 0 + item ≡ item = omega arith in
-    let all : IsOutcome d (map (view_by definitions (result_at results) item) (names_of d)) found.0 =
-    subst (λ k. IsOutcome d (map (view_by definitions (result_at results) k) (names_of d)) found.0) at found.2 in
+    let all : IsOutcome d (map (view_by no_names definitions (result_at results) item) (names_of d)) found.0 =
+    subst (λ k. IsOutcome d (map (view_by no_names definitions (result_at results) k) (names_of d)) found.0) at found.2 in
     record { outcome = found.0; is = found.1; are_faults = all.are_faults; all = all }
 
 -- ---- views
@@ -126,7 +126,7 @@ parted (y ∷ ys) (suc k) x h =
 
 -- an item in which a name is declared that an earlier place declares has a fault
 no_duplicate : (definitions : List (Option Definition)) (results : List (Option Outcome)) (item : ℕ) (d : Definition) (x : Declared) → AreFaultless results
-    → (o : HasOutcome definitions results item d) → IsDuplicate (declared d) (seen d (map (view_by definitions (result_at results) item) (names_of d))) x.word → ⊥
+    → (o : HasOutcome definitions results item d) → IsDuplicate (declared d) (seen d (map (view_by no_names definitions (result_at results) item) (names_of d))) x.word → ⊥
 no_duplicate definitions results item d x fine o twice =
     let none = fine item o.outcome o.is in
     let fault : WordFault = record { word = x.word; code = codes.Duplicate } in
@@ -135,23 +135,23 @@ no_duplicate definitions results item d x fine o twice =
 own_listed : (d : Definition) (k : ℕ) (x : Declared) (name : List ℕ) → slice_get (declared d) k ≡ Some x → x.name ≡ name → is_listed name (names_of d) ≡ true
 own_listed d k x name h same = listed_front name (map (λ y. y.name) (declared d)) (map (λ m. m.name) (mentioned d)) (declared_listed (declared d) k x name h same)
 
-earlier_beforehand : (definitions : List (Option Definition)) (read : ℕ → Option Outcome) (item : ℕ) (name : List ℕ) → is_beforehand name ≡ true → IsEarlierName (view_by definitions read item name)
+earlier_beforehand : (definitions : List (Option Definition)) (read : ℕ → Option Outcome) (item : ℕ) (name : List ℕ) → is_beforehand name ≡ true → IsEarlierName (view_by no_names definitions read item name)
 earlier_beforehand definitions read item name e =
     subst IsEarlierName (sym (ap (λ b. cond b (Earlier kinds.Constant false (beforehand_meaning name)) (view_of read item (first_declarer definitions name))) e)) tt
 
 earlier_before : (definitions : List (Option Definition)) (read : ℕ → Option Outcome) (item : ℕ) (name : List ℕ) (at : Declarer) → is_beforehand name ≡ false
-    → first_from 0 definitions name ≡ Some at → at.item < item → IsEarlierName (view_by definitions read item name)
+    → first_from 0 definitions name ≡ Some at → at.item < item → IsEarlierName (view_by no_names definitions read item name)
 earlier_before definitions read item name at free found lt =
     let first : first_declarer definitions name ≡ Some at = ap (λ b. cond b None (first_from 0 definitions name)) free ∙ found in
     let before : nat_lt at.item item ≡ true = grind (arith, nat_tests) in
-    let view : view_by definitions read item name ≡ Earlier at.kind at.lifted (meaning_at read at) =
+    let view : view_by no_names definitions read item name ≡ Earlier at.kind at.lifted (meaning_at read at) =
     ap (λ b. cond b (Earlier kinds.Constant false (beforehand_meaning name)) (view_of read item (first_declarer definitions name))) free
     ∙ ap (view_of read item) first
     ∙ ap (λ b. cond b (Earlier at.kind at.lifted (meaning_at read at)) (cond (nat_lt item at.item) (Later at.kind at.lifted) (Own at.kind at.lifted))) before in
     subst IsEarlierName (sym view) tt
 
 -- every declarer is the first of its name
-pub only_declarer : (definitions : List (Option Definition)) (results : List (Option Outcome)) (name : List ℕ) (at : Declarer) → AreResults definitions results → AreFaultless results
+pub only_declarer : (definitions : List (Option Definition)) (results : List (Option Outcome)) (name : List ℕ) (at : Declarer) → AreResults no_names definitions results → AreFaultless results
     → IsDeclarer definitions name at → IsFirstDeclarer definitions name at
 only_declarer definitions results name at are fine declares = record {
   not_beforehand = by (is_beforehand name) refl;
@@ -159,10 +159,10 @@ only_declarer definitions results name at are fine declares = record {
   none_earlier = λ other k earlier. none_before other k earlier;
 }
   where
-    twice_seen : IsEarlierName (view_by definitions (result_at results) at.item name) → ⊥
+    twice_seen : IsEarlierName (view_by no_names definitions (result_at results) at.item name) → ⊥
     twice_seen h =
         let parts = parted (declared declares.definition) at.place (record { name = name; word = at.word; kind = at.kind; lifted = at.lifted }) declares.declares in
-        let see = sym (view_seen declares.definition (view_by definitions (result_at results) at.item) name (own_listed declares.definition at.place (record { name = name; word = at.word; kind = at.kind; lifted = at.lifted }) name declares.declares refl)) in
+        let see = sym (view_seen declares.definition (view_by no_names definitions (result_at results) at.item) name (own_listed declares.definition at.place (record { name = name; word = at.word; kind = at.kind; lifted = at.lifted }) name declares.declares refl)) in
         no_duplicate definitions results at.item declares.definition (record { name = name; word = at.word; kind = at.kind; lifted = at.lifted }) fine
         (outcome_of definitions results at.item declares.definition are declares.item_is)
         (record {

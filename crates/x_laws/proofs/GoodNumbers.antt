@@ -19,7 +19,7 @@ use Rattle.x_trees.proofs.AmongLemmas.{among_first, among_front, among_none, amo
 use Rattle.x_outline.specs.Bodies.{BodyAt, EnumeratorAt, enumerators, enumerators_in, enumerators_of, bodies}
 use Rattle.x_rules.specs.Constants.{Known, is_declared_before, known_with, knowns, limit_of, number_at, number_before, number_by, number_given, number_of, number_seen}
 use Rattle.x_rules.specs.Mentioned.{is_of_faulty, is_unknown}
-use Rattle.x_rules.specs.Results.{Outcome, AreResults, constant_number, constant_of, meaning_at, meaning_of, result_at, view_by, view_of, beforehand_meaning}
+use Rattle.x_rules.specs.Results.{Outcome, AreResults, constant_number, constant_of, meaning_at, meaning_of, result_at, view_by, view_of, beforehand_meaning, no_names}
 use Rattle.x_rules.specs.Rules.{HasRole, IsFault, IsNoConstant, IsNoEnumValue}
 use Rattle.x_rules.specs.Views.{Constant, Earlier, Own, Later, Undeclared}
 use Rattle.x_rules.specs.declared.fault.RuleCode.{RuleCode}
@@ -54,7 +54,7 @@ good_more (x ∷ xs) k h g = (h.0, good_more xs k h.1 g)
 
 -- a faultless item
 pub record IsFine (definitions : List (Option Definition)) (results : List (Option Outcome)) (item : ℕ) (d : Definition) : Type 0 where
-  pub are : AreResults definitions results
+  pub are : AreResults no_names definitions results
   pub fine : AreFaultless results
   pub there : slice_get definitions item ≡ Some (Some d)
 
@@ -75,7 +75,7 @@ earlier_number : (lifted : Bool) (q x : Option ℤ) → is_of_faulty (Earlier ki
 earlier_number lifted None x h = absurd cc
 earlier_number lifted (Some z) x h = (z, refl)
 
-by_first : (definitions : List (Option Definition)) (results : List (Option Outcome)) (item : ℕ) (n : List ℕ) (at : Declarer) (before : Bool) (x : Option ℤ) → AreResults definitions results → AreFaultless results
+by_first : (definitions : List (Option Definition)) (results : List (Option Outcome)) (item : ℕ) (n : List ℕ) (at : Declarer) (before : Bool) (x : Option ℤ) → AreResults no_names definitions results → AreFaultless results
     → IsFirstDeclarer definitions n at → (before ≡ true → IsNumber x) → (a b : Bool)
     → IsValue (cond a (Earlier at.kind at.lifted (meaning_at (result_at results) at)) (cond b (Later at.kind at.lifted) (Own at.kind at.lifted))) before
     → IsNumber (number_seen (cond a (Earlier at.kind at.lifted (meaning_at (result_at results) at)) (cond b (Later at.kind at.lifted) (Own at.kind at.lifted))) x)
@@ -95,17 +95,17 @@ by_first definitions results item n at before x are fine h own false false v =
     before_true true e = refl
     before_true false e = absurd cc
 
-value_known : (definitions : List (Option Definition)) (results : List (Option Outcome)) (item : ℕ) (n : List ℕ) (before : Bool) (x : Option ℤ) → AreResults definitions results → AreFaultless results
-    → IsValue (view_by definitions (result_at results) item n) before → (before ≡ true → IsNumber x) → IsNumber (number_seen (view_by definitions (result_at results) item n) x)
+value_known : (definitions : List (Option Definition)) (results : List (Option Outcome)) (item : ℕ) (n : List ℕ) (before : Bool) (x : Option ℤ) → AreResults no_names definitions results → AreFaultless results
+    → IsValue (view_by no_names definitions (result_at results) item n) before → (before ≡ true → IsNumber x) → IsNumber (number_seen (view_by no_names definitions (result_at results) item n) x)
 value_known definitions results item n before x are fine v own = by (is_beforehand n) refl (first_from 0 definitions n) refl
   where
-    by : (b : Bool) → is_beforehand n ≡ b → (o : Option Declarer) → first_from 0 definitions n ≡ o → IsNumber (number_seen (view_by definitions (result_at results) item n) x)
+    by : (b : Bool) → is_beforehand n ≡ b → (o : Option Declarer) → first_from 0 definitions n ≡ o → IsNumber (number_seen (view_by no_names definitions (result_at results) item n) x)
     by true e o f =
         subst (λ b. IsNumber (number_seen (cond b (Earlier kinds.Constant false (beforehand_meaning n)) (view_of (result_at results) item (first_declarer definitions n))) x)) (sym e)
         (told_beforehand (bytes_eq n (codes "TRUE")) x)
     by false e None f =
         let nobody : first_declarer definitions n ≡ None = ap (λ b. cond b None (first_from 0 definitions n)) e ∙ f in
-        let view : view_by definitions (result_at results) item n ≡ Undeclared =
+        let view : view_by no_names definitions (result_at results) item n ≡ Undeclared =
         ap (λ b. cond b (Earlier kinds.Constant false (beforehand_meaning n)) (view_of (result_at results) item (first_declarer definitions n))) e ∙ ap (view_of (result_at results) item) nobody in
         let known : is_unknown Undeclared ≡ false = sym (ap is_unknown view) ∙ v.known in
         absurd cc
@@ -161,8 +161,8 @@ named_number definitions results item d ks rest index word n r role =
     let m : Mention = record { name = n; word = index + 2; usage = uses.Value; tag = None } in
     let o = outcome_of definitions results item d r.fine.are r.fine.there in
     let no_mention = no_mention_fault d (sees definitions results item d) o.outcome.faults m o.are_faults (r.fine.fine item o.outcome o.is) among in
-    let view : sees definitions results item d n ≡ view_by definitions (result_at results) item n =
-    view_seen d (view_by definitions (result_at results) item) n (listed_rear n (map (λ x. x.name) (declared d)) (map (λ x. x.name) (mentioned d)) (mentioned_listed (mentioned d) m among)) in
+    let view : sees definitions results item d n ≡ view_by no_names definitions (result_at results) item n =
+    view_seen d (view_by no_names definitions (result_at results) item) n (listed_rear n (map (λ x. x.name) (declared d)) (map (λ x. x.name) (mentioned d)) (mentioned_listed (mentioned d) m among)) in
     let value = used_value (sees definitions results item d n) (is_declared_before (enumerators d) (limit_of (index + 2)) n) no_mention in
     let at = r.at in
     let limit : limit_of (index + 2) ≡ word = omega (arith, at) in

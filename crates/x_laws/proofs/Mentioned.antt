@@ -21,7 +21,7 @@ use Rattle.x_names.proofs.DeclarerLaws.{found_is_first}
 use Rattle.x_outline.specs.Bodies.{enumerators}
 use Rattle.x_rules.specs.Constants.{is_declared_before, limit_of}
 use Rattle.x_rules.specs.Mentioned.{is_constant, fault_of_use, is_declared_as, is_no_constant, is_no_type, is_of_faulty, is_too_late, is_unknown, mention_fault, suits}
-use Rattle.x_rules.specs.Results.{Outcome, AreResults, result_at, view_by, view_of, meaning_at, beforehand_meaning}
+use Rattle.x_rules.specs.Results.{Outcome, AreResults, result_at, view_by, view_of, meaning_at, beforehand_meaning, no_names}
 use Rattle.x_rules.specs.Rules.{AreFaults, HasMentionFault}
 use Rattle.x_rules.specs.Views.{View, Earlier, Own, Later, seen}
 use Rattle.x_rules.specs.declared.fault.RuleCode.{RuleCode}
@@ -155,7 +155,7 @@ same_kind read item at tag h = by (nat_lt at.item item) (nat_lt item at.item) h
     by false false k = k
 
 pub viewed : (definitions : List (Option Definition)) (read : ℕ → Option Outcome) (item : ℕ) (name : List ℕ) (tag : Option Tag)
-    → is_declared_as (suits tag) (view_by definitions read item name) ≡ true → IsViewed definitions name
+    → is_declared_as (suits tag) (view_by no_names definitions read item name) ≡ true → IsViewed definitions name
 viewed definitions read item name tag h = by (is_beforehand name) refl (first_from 0 definitions name) refl h
   where
     by : (b : Bool) → is_beforehand name ≡ b → (o : Option Declarer) → first_from 0 definitions name ≡ o
@@ -168,7 +168,7 @@ viewed definitions read item name tag h = by (is_beforehand name) refl (first_fr
         record { at = at; declarable = e; found = f; first = found_is_first definitions name at f e; is_type = suits_any tag at.kind (same_kind read item at tag found) }
 
 pub view_found : (definitions : List (Option Definition)) (read : ℕ → Option Outcome) (item : ℕ) (name : List ℕ) (h : IsViewed definitions name)
-    → view_by definitions read item name ≡ view_of read item (Some h.at)
+    → view_by no_names definitions read item name ≡ view_of read item (Some h.at)
 view_found definitions read item name h =
     ap (λ b. cond b (Earlier kinds.Constant false (beforehand_meaning name)) (view_of read item (cond b None (first_from 0 definitions name)))) h.declarable
     ∙ ap (view_of read item) h.found
@@ -201,22 +201,22 @@ pub record IsUse (definitions : List (Option Definition)) (item : ℕ) (m : Ment
   pub viewed : IsViewed definitions m.name
   pub held : m.usage ≡ uses.ByValue → viewed.at.item < item
 
-pub use_of : (definitions : List (Option Definition)) (results : List (Option Outcome)) (item : ℕ) (d : Definition) (m : Mention) → AreResults definitions results → AreFaultless results
+pub use_of : (definitions : List (Option Definition)) (results : List (Option Outcome)) (item : ℕ) (d : Definition) (m : Mention) → AreResults no_names definitions results → AreFaultless results
     → slice_get definitions item ≡ Some (Some d) → IsAmong (mentioned d) m → (m.usage ≡ uses.Value → ⊥) → IsUse definitions item m
 use_of definitions results item d m are fine there among type =
     let o = outcome_of definitions results item d are there in
-    let see = seen d (map (view_by definitions (result_at results) item) (names_of d)) in
+    let see = seen d (map (view_by no_names definitions (result_at results) item) (names_of d)) in
     let no_fault = no_mention_fault d see o.outcome.faults m o.are_faults (fine item o.outcome o.is) among in
-    let view : see m.name ≡ view_by definitions (result_at results) item m.name =
-    view_seen d (view_by definitions (result_at results) item) m.name
+    let view : see m.name ≡ view_by no_names definitions (result_at results) item m.name =
+    view_seen d (view_by no_names definitions (result_at results) item) m.name
     (listed_rear m.name (map (λ x. x.name) (declared d)) (map (λ x. x.name) (mentioned d)) (mentioned_listed (mentioned d) m among)) in
     let before = is_declared_before (enumerators d) (limit_of m.word) m.name in
-    let fault : fault_of_use (view_by definitions (result_at results) item m.name) before m.usage m.tag ≡ None = sym (ap (λ v. fault_of_use v before m.usage m.tag) view) ∙ no_fault in
-    let found = viewed definitions (result_at results) item m.name m.tag (used_type (view_by definitions (result_at results) item m.name) before m.usage m.tag type fault) in
+    let fault : fault_of_use (view_by no_names definitions (result_at results) item m.name) before m.usage m.tag ≡ None = sym (ap (λ v. fault_of_use v before m.usage m.tag) view) ∙ no_fault in
+    let found = viewed definitions (result_at results) item m.name m.tag (used_type (view_by no_names definitions (result_at results) item m.name) before m.usage m.tag type fault) in
     record {
       viewed = found;
       held = λ e.
           declared_before (result_at results) item found.at before
           (sym (ap (λ v. is_too_late v before uses.ByValue) (view_found definitions (result_at results) item m.name found))
-          ∙ held_in_time (view_by definitions (result_at results) item m.name) before m.tag (sym (ap (λ u. fault_of_use (view_by definitions (result_at results) item m.name) before u m.tag) e) ∙ fault));
+          ∙ held_in_time (view_by no_names definitions (result_at results) item m.name) before m.tag (sym (ap (λ u. fault_of_use (view_by no_names definitions (result_at results) item m.name) before u m.tag) e) ∙ fault));
     }

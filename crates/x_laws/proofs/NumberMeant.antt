@@ -19,7 +19,7 @@ use Rattle.x_names.specs.declared.names.Declarer.{Declarer}
 use Rattle.x_names.proofs.DeclarerLaws.{as_found, one_first}
 use Rattle.x_outline.specs.Bodies.{EnumeratorAt, enumerators}
 use Rattle.x_rules.specs.Constants.{Known, known_with, knowns, number_before, number_given, number_named, number_of, number_seen}
-use Rattle.x_rules.specs.Results.{Outcome, AreResults, result_at, view_by, view_of, meaning_at, beforehand_meaning}
+use Rattle.x_rules.specs.Results.{Outcome, AreResults, result_at, view_by, view_of, meaning_at, beforehand_meaning, no_names}
 use Rattle.x_rules.specs.Views.{View, Earlier, Own, Later, seen}
 use Rattle.x_schema.specs.SchemaOf.{Numbers, with_number}
 use Rattle.x_laws.specs.Meant.{AreFaultless, sees}
@@ -42,13 +42,13 @@ own_word definitions item name v w h k = sym h.word_is ∙ ap (λ a. a.word) (on
 
 -- what an item sees of a name, by the first declarer
 pub view_first : (definitions : List (Option Definition)) (read : ℕ → Option Outcome) (item : ℕ) (name : List ℕ) (at : Declarer) → IsFirstDeclarer definitions name at
-    → view_by definitions read item name ≡ view_of read item (Some at)
+    → view_by no_names definitions read item name ≡ view_of read item (Some at)
 view_first definitions read item name at h =
     ap (λ b. cond b (Earlier kinds.Constant false (beforehand_meaning name)) (view_of read item (first_declarer definitions name))) h.not_beforehand
     ∙ ap (view_of read item) (sym (as_found definitions name (Some at) h))
 
 own_view : (definitions : List (Option Definition)) (read : ℕ → Option Outcome) (item : ℕ) (name : List ℕ) (word : ℕ) → (h : IsOwn definitions item name word)
-    → view_by definitions read item name ≡ Own kinds.Constant h.at.lifted
+    → view_by no_names definitions read item name ≡ Own kinds.Constant h.at.lifted
 own_view definitions read item name word h =
     let item_is = h.item_is in
     let before : nat_lt h.at.item item ≡ false = grind (arith, nat_tests) in
@@ -203,11 +203,11 @@ one_more numbers now ks e (Some z) fresh free h m =
 
 -- what is known of the item
 pub record AtItem (definitions : List (Option Definition)) (results : List (Option Outcome)) (item : ℕ) (d : Definition) (numbers : Numbers) : Type 0 where
-  pub are : AreResults definitions results
+  pub are : AreResults no_names definitions results
   pub fine : AreFaultless results
   pub there : slice_get definitions item ≡ Some (Some d)
   -- the numbers are those that the item sees
-  pub seen_numbers : (m : List ℕ) → lookup (bytes_eq m) numbers ≡ number_seen (view_by definitions (result_at results) item m) None
+  pub seen_numbers : (m : List ℕ) → lookup (bytes_eq m) numbers ≡ number_seen (view_by no_names definitions (result_at results) item m) None
 
 pub own_at : (definitions : List (Option Definition)) (results : List (Option Outcome)) (item : ℕ) (d : Definition) (numbers : Numbers) (name : List ℕ) (word place : ℕ) → AtItem definitions results item d numbers
     → slice_get (declared d) place ≡ Some (record { name = name; word = word; kind = kinds.Constant; lifted = false }) → IsOwn definitions item name word
@@ -241,15 +241,15 @@ same_named_number definitions results item d numbers now ks low limit n h both o
     both n
     ∙ ap (λ o. option_or o (number_named ks n)) (h.seen_numbers n)
     ∙ by (name_in ks n) refl
-    ∙ ap (λ v. number_seen v (number_named ks n)) (sym (used_seen d (view_by definitions (result_at results) item) n used))
+    ∙ ap (λ v. number_seen v (number_named ks n)) (sym (used_seen d (view_by no_names definitions (result_at results) item) n used))
     ∙ ap (number_seen (sees definitions results item d n)) (sym (before_all ks low limit n le below))
   where
     by : (b : Bool) → name_in ks n ≡ b
-        → option_or (number_seen (view_by definitions (result_at results) item n) None) (number_named ks n) ≡ number_seen (view_by definitions (result_at results) item n) (number_named ks n)
+        → option_or (number_seen (view_by no_names definitions (result_at results) item n) None) (number_named ks n) ≡ number_seen (view_by no_names definitions (result_at results) item n) (number_named ks n)
     by true k =
         let one = own n k in
-        own_or_seen (view_by definitions (result_at results) item n) (number_named ks n) one.2.at.lifted true (λ e. own_view definitions (result_at results) item n one.0 one.2) (λ e. absurd cc)
-    by false k = own_or_seen (view_by definitions (result_at results) item n) (number_named ks n) false false (λ e. absurd cc) (λ e. none_named ks n k)
+        own_or_seen (view_by no_names definitions (result_at results) item n) (number_named ks n) one.2.at.lifted true (λ e. own_view definitions (result_at results) item n one.0 one.2) (λ e. absurd cc)
+    by false k = own_or_seen (view_by no_names definitions (result_at results) item n) (number_named ks n) false false (λ e. absurd cc) (λ e. none_named ks n k)
 
 same_given : (definitions : List (Option Definition)) (results : List (Option Outcome)) (item : ℕ) (d : Definition) (numbers now : Numbers) (ks : List Known) (low word : ℕ) (before : Option ℤ)
     (is_first : Bool) (v : Option tree.Value) → AtItem definitions results item d numbers → HasBoth numbers now ks → AreOwn definitions item ks low → AllBelow ks low → low ≤ word → GivenIn (gloss d) v

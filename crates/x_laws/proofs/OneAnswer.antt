@@ -11,7 +11,9 @@ use Rattle.x_value.proofs.OneReading as reading
 use Rattle.x_value.specs.FaultTexts.{fault_line}
 use Rattle.x_script.specs.Answers.{Answer, answered, refused}
 use Rattle.x_script.specs.Commands.{dump_asked, explain_asked}
-use Rattle.x_compile.specs.Compile.{Item, definitions_of, faults_of}
+use Rattle.x_compile.specs.Compile.{Item, faults_of}
+use Rattle.x_compile.specs.Known.{KnownText}
+use Rattle.x_session.specs.Typed.{all_definitions}
 use Rattle.x_script.specs.Explaining.{IsExplainAnswer, explained_answer, telling_of}
 use Rattle.x_script.specs.LineAnswers.{IsLineAnswer, within, shows, explains, too_long}
 use Rattle.x_script.specs.Script.{AreAnswered, then_answer}
@@ -59,11 +61,11 @@ none_left : {X : Type 0} (xs : List X) → 0 < length xs → xs ≡ [] → ⊥
 none_left [] lt e = omega (arith, lt)
 none_left (x ∷ xs) lt e = absurd cc
 
-one_dump : (text : List ℕ) (items : List Item) (name message : List ℕ) (a b : Answer) → IsDumpAnswer text items name message a → IsDumpAnswer text items name message b → a ≡ b
-one_dump text items name message a b (faulty x e) (faulty y f) = e ∙ sym f
-one_dump text items name message a b (faulty x e) (faultless t none k y) = absurd (none_left (faults_of text items) x none)
-one_dump text items name message a b (faultless s none h x) (faulty y f) = absurd (none_left (faults_of text items) y none)
-one_dump text items name message a b (faultless s none h x) (faultless t none' k y) = one_typed (definitions_of items) s t name message text a b h k x y
+one_dump : (known : KnownText) (text : List ℕ) (items : List Item) (name message : List ℕ) (a b : Answer) → IsDumpAnswer known text items name message a → IsDumpAnswer known text items name message b → a ≡ b
+one_dump known text items name message a b (faulty x e) (faulty y f) = e ∙ sym f
+one_dump known text items name message a b (faulty x e) (faultless t none k y) = absurd (none_left (faults_of text items) x none)
+one_dump known text items name message a b (faultless s none h x) (faulty y f) = absurd (none_left (faults_of text items) y none)
+one_dump known text items name message a b (faultless s none h x) (faultless t none' k y) = one_typed (all_definitions known items) s t name message text a b h k x y
 
 -- ---- a line that asks to explain the faults
 
@@ -90,32 +92,32 @@ explained_or_not b is not = absurd cc
 too_much : (n m : ℕ) → n ≤ m → m < n → ⊥
 too_much n m le lt = omega (arith, le, lt)
 
-pub one_line : (file base text line : List ℕ) (items : List Item) (a b : Answer) → IsLineAnswer file base text items line a → IsLineAnswer file base text items line b → a ≡ b
-one_line file base text line items a b (within x none unasked e) (within y none' unasked' f) = e ∙ sym f
-one_line file base text line items a b (within x none unasked e) (shows name message y asked f) = absurd (asked_none (dump_asked line) (name, message) none asked)
-one_line file base text line items a b (within x none unasked e) (explains y is f) = absurd (explained_or_not (explain_asked line) is unasked)
-one_line file base text line items a b (within x none unasked e) (too_long y f) = absurd (too_much (length line) _ x y)
-one_line file base text line items a b (shows name message x asked e) (within y none unasked f) = absurd (asked_none (dump_asked line) (name, message) none asked)
-one_line file base text line items a b (shows name message x asked e) (shows name' message' y asked' f) =
+pub one_line : (file base : List ℕ) (known : KnownText) (text line : List ℕ) (items : List Item) (a b : Answer) → IsLineAnswer file base known text items line a → IsLineAnswer file base known text items line b → a ≡ b
+one_line file base known text line items a b (within x none unasked e) (within y none' unasked' f) = e ∙ sym f
+one_line file base known text line items a b (within x none unasked e) (shows name message y asked f) = absurd (asked_none (dump_asked line) (name, message) none asked)
+one_line file base known text line items a b (within x none unasked e) (explains y is f) = absurd (explained_or_not (explain_asked line) is unasked)
+one_line file base known text line items a b (within x none unasked e) (too_long y f) = absurd (too_much (length line) _ x y)
+one_line file base known text line items a b (shows name message x asked e) (within y none unasked f) = absurd (asked_none (dump_asked line) (name, message) none asked)
+one_line file base known text line items a b (shows name message x asked e) (shows name' message' y asked' f) =
     let same = asked_both (dump_asked line) name name' message message' asked asked' in
-    one_dump text items name' message' a b (subst (λ n. IsDumpAnswer text items n message' a) same.0 (subst (λ m. IsDumpAnswer text items name m a) same.1 e)) f
-one_line file base text line items a b (shows name message x asked e) (explains y is f) = absurd (asked_none (dump_asked line) (name, message) (explains_no_value line is) asked)
-one_line file base text line items a b (shows name message x asked e) (too_long y f) = absurd (too_much (length line) _ x y)
-one_line file base text line items a b (explains x is e) (within y none unasked f) = absurd (explained_or_not (explain_asked line) is unasked)
-one_line file base text line items a b (explains x is e) (shows name message y asked f) = absurd (asked_none (dump_asked line) (name, message) (explains_no_value line is) asked)
-one_line file base text line items a b (explains x is e) (explains y is' f) = one_explained file text items a b e f
-one_line file base text line items a b (explains x is e) (too_long y f) = absurd (too_much (length line) _ x y)
-one_line file base text line items a b (too_long x e) (within y none unasked f) = absurd (too_much (length line) _ y x)
-one_line file base text line items a b (too_long x e) (shows name message y asked f) = absurd (too_much (length line) _ y x)
-one_line file base text line items a b (too_long x e) (explains y is f) = absurd (too_much (length line) _ y x)
-one_line file base text line items a b (too_long x e) (too_long y f) = e ∙ sym f
+    one_dump known text items name' message' a b (subst (λ n. IsDumpAnswer known text items n message' a) same.0 (subst (λ m. IsDumpAnswer known text items name m a) same.1 e)) f
+one_line file base known text line items a b (shows name message x asked e) (explains y is f) = absurd (asked_none (dump_asked line) (name, message) (explains_no_value line is) asked)
+one_line file base known text line items a b (shows name message x asked e) (too_long y f) = absurd (too_much (length line) _ x y)
+one_line file base known text line items a b (explains x is e) (within y none unasked f) = absurd (explained_or_not (explain_asked line) is unasked)
+one_line file base known text line items a b (explains x is e) (shows name message y asked f) = absurd (asked_none (dump_asked line) (name, message) (explains_no_value line is) asked)
+one_line file base known text line items a b (explains x is e) (explains y is' f) = one_explained file text items a b e f
+one_line file base known text line items a b (explains x is e) (too_long y f) = absurd (too_much (length line) _ x y)
+one_line file base known text line items a b (too_long x e) (within y none unasked f) = absurd (too_much (length line) _ y x)
+one_line file base known text line items a b (too_long x e) (shows name message y asked f) = absurd (too_much (length line) _ y x)
+one_line file base known text line items a b (too_long x e) (explains y is f) = absurd (too_much (length line) _ y x)
+one_line file base known text line items a b (too_long x e) (too_long y f) = e ∙ sym f
 
 -- ---- a script
 
-pub one_script : (file base text : List ℕ) (lines : List (List ℕ)) (a b : Answer) → AreAnswered file base text lines a → AreAnswered file base text lines b → a ≡ b
-one_script file base text [] a b h k = h ∙ sym k
-one_script file base text (line ∷ lines) a b h k =
-    let items = (one_compilation text h.0 k.0 h.1 k.1 h.2 k.2).1 in
-    let one : h.3.0 ≡ k.3.0 = one_line file base text line k.1 h.3.0 k.3.0 (subst (λ is. IsLineAnswer file base text is line h.3.0) items h.3.1) k.3.1 in
-    let rest : h.3.2.0 ≡ k.3.2.0 = one_script file base k.3.0.text lines h.3.2.0 k.3.2.0 (subst (λ t. AreAnswered file base t lines h.3.2.0) (ap (λ x. x.text) one) h.3.2.1) k.3.2.1 in
+pub one_script : (file base : List ℕ) (known : KnownText) (text : List ℕ) (lines : List (List ℕ)) (a b : Answer) → AreAnswered file base known text lines a → AreAnswered file base known text lines b → a ≡ b
+one_script file base known text [] a b h k = h ∙ sym k
+one_script file base known text (line ∷ lines) a b h k =
+    let items = (one_compilation known text h.0 k.0 h.1 k.1 h.2 k.2).1 in
+    let one : h.3.0 ≡ k.3.0 = one_line file base known text line k.1 h.3.0 k.3.0 (subst (λ is. IsLineAnswer file base known text is line h.3.0) items h.3.1) k.3.1 in
+    let rest : h.3.2.0 ≡ k.3.2.0 = one_script file base known k.3.0.text lines h.3.2.0 k.3.2.0 (subst (λ t. AreAnswered file base known t lines h.3.2.0) (ap (λ x. x.text) one) h.3.2.1) k.3.2.1 in
     h.3.2.2 ∙ ap (λ x. then_answer x h.3.2.0) one ∙ ap (then_answer k.3.0) rest ∙ sym k.3.2.2

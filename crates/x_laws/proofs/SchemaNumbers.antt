@@ -19,7 +19,7 @@ use Rattle.x_names.specs.declared.names.Declarer.{Declarer}
 use Rattle.x_names.proofs.DeclarerLaws.{as_found, found_is_first, one_first}
 use Rattle.x_outline.specs.Bodies.{enumerators}
 use Rattle.x_rules.specs.Constants.{knowns, number_named, number_seen, number_at}
-use Rattle.x_rules.specs.Results.{Outcome, AreResults, result_at, view_by, view_of, meaning_at, meaning_in, meaning_of, meanings_by, constant_number, constant_of, beforehand_meaning}
+use Rattle.x_rules.specs.Results.{Outcome, AreResults, result_at, view_by, view_of, meaning_at, meaning_in, meaning_of, meanings_by, constant_number, constant_of, beforehand_meaning, no_names}
 use Rattle.x_rules.specs.Views.{View, Meaning, Constant, Bad, Earlier, Own, Later}
 use Rattle.x_schema.specs.SchemaOf.{Numbers, beforehand, number_in, numbers_of, with_definition, with_definitions, with_number}
 use Rattle.x_laws.specs.Meant.{AreFaultless, number_meant, sees}
@@ -115,7 +115,7 @@ get_mapped f (y ∷ ys) zero x e = ap (λ z. Some (f z)) (same_Some y x e)
 get_mapped f (y ∷ ys) (suc i) x e = get_mapped f ys i x e
 
 -- what a name means that is declared in a faultless item
-pub own_meaning : (definitions : List (Option Definition)) (results : List (Option Outcome)) (item : ℕ) (d : Definition) (m : List ℕ) (at : Declarer) → AreResults definitions results → AreFaultless results
+pub own_meaning : (definitions : List (Option Definition)) (results : List (Option Outcome)) (item : ℕ) (d : Definition) (m : List ℕ) (at : Declarer) → AreResults no_names definitions results → AreFaultless results
     → slice_get definitions item ≡ Some (Some d) → at.item ≡ item
     → slice_get (declared d) at.place ≡ Some (record { name = m; word = at.word; kind = at.kind; lifted = at.lifted })
     → meaning_at (result_at results) at ≡ meaning_of d (sees definitions results item d) (record { name = m; word = at.word; kind = at.kind; lifted = at.lifted })
@@ -138,7 +138,7 @@ constant_seen lifted (Some z) = refl
 next_seen : (definitions : List (Option Definition)) (results : List (Option Outcome)) (item : ℕ) (m : List ℕ) (own : Option ℤ)
     → ((z : ℤ) → own ≡ Some z → (word : ℕ) × IsOwn definitions item m word)
     → ((at : Declarer) → IsFirstDeclarer definitions m at → at.item ≡ item → number_seen (Earlier at.kind at.lifted (meaning_at (result_at results) at)) None ≡ own)
-    → number_seen (view_by definitions (result_at results) (suc item) m) None ≡ option_or (number_seen (view_by definitions (result_at results) item m) None) own
+    → number_seen (view_by no_names definitions (result_at results) (suc item) m) None ≡ option_or (number_seen (view_by no_names definitions (result_at results) item m) None) own
 next_seen definitions results item m own declares means = by (is_beforehand m) refl (first_from 0 definitions m) refl
   where
     told : (b c : Bool) (x : Option ℤ) → number_seen (Earlier kinds.Constant false (cond b (Constant (pos 1)) (Constant (pos 0)))) None
@@ -196,7 +196,7 @@ next_seen definitions results item m own declares means = by (is_beforehand m) r
         unseen false = own_none at.kind at.lifted
 
     by : (b : Bool) → is_beforehand m ≡ b → (o : Option Declarer) → first_from 0 definitions m ≡ o
-        → number_seen (view_by definitions (result_at results) (suc item) m) None ≡ option_or (number_seen (view_by definitions (result_at results) item m) None) own
+        → number_seen (view_by no_names definitions (result_at results) (suc item) m) None ≡ option_or (number_seen (view_by no_names definitions (result_at results) item m) None) own
     by true e o f =
         ap (λ b. number_seen (cond b (Earlier kinds.Constant false (beforehand_meaning m)) (view_of (result_at results) (suc item) (first_declarer definitions m))) None) e
         ∙ told (bytes_eq m (codes "TRUE")) true own
@@ -218,7 +218,7 @@ next_seen definitions results item m own declares means = by (is_beforehand m) r
 -- ---- the items
 
 -- a name that the item declares first means its number
-own_seen : (definitions : List (Option Definition)) (results : List (Option Outcome)) (item : ℕ) (d : Definition) (m : List ℕ) (at : Declarer) → AreResults definitions results → AreFaultless results
+own_seen : (definitions : List (Option Definition)) (results : List (Option Outcome)) (item : ℕ) (d : Definition) (m : List ℕ) (at : Declarer) → AreResults no_names definitions results → AreFaultless results
     → slice_get definitions item ≡ Some (Some d) → IsFirstDeclarer definitions m at → at.item ≡ item
     → ((z : ℤ) → own_number d (sees definitions results item d) m ≡ Some z → (word : ℕ) × IsOwn definitions item m word)
     → number_seen (Earlier at.kind at.lifted (meaning_at (result_at results) at)) None ≡ own_number d (sees definitions results item d) m
@@ -255,12 +255,12 @@ own_seen definitions results item d m at are fine there h same own =
 
 -- the numbers are those that an item sees
 abbrev AreSeen : List (Option Definition) → List (Option Outcome) → ℕ → Numbers → Type 0
-AreSeen definitions results item numbers = (m : List ℕ) → lookup (bytes_eq m) numbers ≡ number_seen (view_by definitions (result_at results) item m) None
+AreSeen definitions results item numbers = (m : List ℕ) → lookup (bytes_eq m) numbers ≡ number_seen (view_by no_names definitions (result_at results) item m) None
 
-seen_next : (definitions : List (Option Definition)) (results : List (Option Outcome)) (item : ℕ) (d : Option Definition) (numbers : Numbers) → AreResults definitions results → AreFaultless results
+seen_next : (definitions : List (Option Definition)) (results : List (Option Outcome)) (item : ℕ) (d : Option Definition) (numbers : Numbers) → AreResults no_names definitions results → AreFaultless results
     → slice_get definitions item ≡ Some d → AreSeen definitions results item numbers → AreSeen definitions results (suc item) (with_definition numbers d)
 seen_next definitions results item None numbers are fine there h m =
-    h m ∙ or_none (number_seen (view_by definitions (result_at results) item m) None) ∙ sym (next_seen definitions results item m None (λ z e. absurd cc) (λ at k same. absurd (nobody at k same)))
+    h m ∙ or_none (number_seen (view_by no_names definitions (result_at results) item m) None) ∙ sym (next_seen definitions results item m None (λ z e. absurd cc) (λ at k same. absurd (nobody at k same)))
   where
     nobody : (at : Declarer) → IsFirstDeclarer definitions m at → at.item ≡ item → ⊥
     nobody at k same = let x : None ≡ Some k.declares.definition = same_Some None (Some k.declares.definition) (sym there ∙ ap (slice_get definitions) (sym same) ∙ k.declares.item_is) in absurd cc
@@ -273,7 +273,7 @@ seen_next definitions results item (Some d) numbers are fine there h m =
     ∙ sym (next_seen definitions results item m (own_number d (sees definitions results item d) m) (adds.declared m)
     (λ at k same. own_seen definitions results item d m at are fine there k same (adds.declared m)))
 
-seen_all : (definitions : List (Option Definition)) (results : List (Option Outcome)) (item : ℕ) (ds : List (Option Definition)) (numbers : Numbers) → AreResults definitions results → AreFaultless results
+seen_all : (definitions : List (Option Definition)) (results : List (Option Outcome)) (item : ℕ) (ds : List (Option Definition)) (numbers : Numbers) → AreResults no_names definitions results → AreFaultless results
     → ((k : ℕ) → slice_get definitions (item + k) ≡ slice_get ds k) → AreSeen definitions results item numbers → AreSeen definitions results (item + length ds) (with_definitions numbers ds)
 seen_all definitions results item [] numbers are fine rest h = let at : item ≡ item + 0 = omega arith in subst (λ k. AreSeen definitions results k numbers) at h
 seen_all definitions results item (d ∷ ds) numbers are fine rest h =
@@ -310,9 +310,9 @@ seen_first definitions results m = by (bytes_eq m (codes "TRUE")) (bytes_eq m (c
 
 -- ---- the law
 
-pub schema_numbers : (definitions : List (Option Definition)) (results : List (Option Outcome)) → AreResults definitions results → AreFaultless results
+pub schema_numbers : (definitions : List (Option Definition)) (results : List (Option Outcome)) → AreResults no_names definitions results → AreFaultless results
     → (name : List ℕ) → lookup (bytes_eq name) (numbers_of definitions) ≡ number_meant definitions results name
 schema_numbers definitions results are fine name =
     let all = seen_all definitions results 0 definitions beforehand are fine (λ k. let e : 0 + k ≡ k = omega arith in ap (slice_get definitions) e) (seen_first definitions results) name in
     let end : 0 + length definitions ≡ length definitions = omega arith in
-    all ∙ ap (λ k. number_seen (view_by definitions (result_at results) k name) None) end
+    all ∙ ap (λ k. number_seen (view_by no_names definitions (result_at results) k name) None) end

@@ -15,7 +15,7 @@ use Rattle.x_trees.specs.Mentions.{Mention, mentioned}
 use Rattle.x_trees.specs.declared.names.mention.Use.{Use}
 use Rattle.x_trees.specs.declared.names.mention.Use.TheVariants as uses
 use Rattle.x_trees.proofs.AmongLemmas.{among_cases, among_first, among_more, among_none}
-use Rattle.x_rules.specs.Results.{Outcome, AreResults}
+use Rattle.x_rules.specs.Results.{Outcome, AreResults, no_names}
 use Rattle.x_schema.specs.Schema.{Schema, id_named, name_at, named_type}
 use Rattle.x_schema.specs.SchemaOf.{Numbers, Types, AreNamed, AreTypesOf, IsDeclared, numbers_of, place_named, typedefs, with_first, with_types}
 use Rattle.x_schema.specs.Schemas.{IsSchemaOf}
@@ -135,7 +135,7 @@ has_next definitions s item d A found there named before n k x lt is defined = b
         ∙ or_right (is_there A n) _ (named_defined s (record { numbers = numbers_of definitions; types = A }) (typedefs d) found n named ∙ ap (λ y. is_defined n (typedefs y)) one ∙ defined)
 
 -- the typedefs of an item hold by value what leads to the same by all types of the text
-item_holds : (definitions : List (Option Definition)) (results : List (Option Outcome)) (s : Schema) (item : ℕ) (d : Definition) (A : Types) → AreResults definitions results → AreFaultless results
+item_holds : (definitions : List (Option Definition)) (results : List (Option Outcome)) (s : Schema) (item : ℕ) (d : Definition) (A : Types) → AreResults no_names definitions results → AreFaultless results
     → slice_get definitions item ≡ Some (Some d) → HasBefore definitions item A → Keeps A s.types → TypedefsHold (LeadsAlike A s.types) (typedefs (Some d))
 item_holds definitions results s item d A are fine there before keeps = typedefs_held (LeadsAlike A s.types) d (λ m among. by m among m.usage refl)
   where
@@ -155,7 +155,7 @@ item_holds definitions results s item d A are fine there before keeps = typedefs
     by m among uses.Value e = tt
 
 -- where these items are left, behind so many
-items_declared : (definitions : List (Option Definition)) (results : List (Option Outcome)) (s : Schema) (item : ℕ) (ds : List (Option Definition)) (A : Types) → AreResults definitions results
+items_declared : (definitions : List (Option Definition)) (results : List (Option Outcome)) (s : Schema) (item : ℕ) (ds : List (Option Definition)) (A : Types) → AreResults no_names definitions results
     → AreFaultless results → ((k : ℕ) → slice_get definitions (item + k) ≡ slice_get ds k) → AreTypesOf s (numbers_of definitions) A ds → HasBefore definitions item A
     → AreDeclaredIn definitions s A → AreDeclaredIn definitions s s.types
 items_declared definitions results s item [] A are fine rest types before all = λ n t h. all n t (sym (ap (lookup (bytes_eq n)) types) ∙ h)
@@ -185,13 +185,13 @@ is_among_defined name (x ∷ xs) d h e = by (among_cases x d xs h) (λ k. is_amo
     by (inl same) more = or_left (bytes_eq name (name_of x)) (is_defined name xs) ((bytes_eq-Decides name (name_of x)).1 (sym e ∙ ap name_of same))
     by (inr k) more = or_right (bytes_eq name (name_of x)) (is_defined name xs) (more k)
 
-all_declared : (definitions : List (Option Definition)) (results : List (Option Outcome)) (s : Schema) → AreResults definitions results → AreFaultless results → IsSchemaOf definitions s
+all_declared : (definitions : List (Option Definition)) (results : List (Option Outcome)) (s : Schema) → AreResults no_names definitions results → AreFaultless results → IsSchemaOf definitions s
     → AreDeclaredIn definitions s s.types
 all_declared definitions results s are fine h =
     items_declared definitions results s 0 definitions [] are fine (λ k. let e : 0 + k ≡ k = omega arith in ap (slice_get definitions) e) h.types
     (λ n k d lt. absurd (omega (arith, lt))) (λ n t e. absurd cc)
 
-pub as_declared : (definitions : List (Option Definition)) (results : List (Option Outcome)) (s : Schema) → AreResults definitions results → AreFaultless results → IsSchemaOf definitions s
+pub as_declared : (definitions : List (Option Definition)) (results : List (Option Outcome)) (s : Schema) → AreResults no_names definitions results → AreFaultless results → IsSchemaOf definitions s
     → (name : List ℕ) (t : NamedType) → named_type s name ≡ Some t → IsAsDeclared definitions s name t.form
 as_declared definitions results s are fine h name t e =
     let one = all_declared definitions results s are fine h name t e in
@@ -210,7 +210,7 @@ as_declared definitions results s are fine h name t e =
       declared = one.declared;
     }
 
-pub used_named : (definitions : List (Option Definition)) (results : List (Option Outcome)) (s : Schema) → AreResults definitions results → AreFaultless results → IsSchemaOf definitions s
+pub used_named : (definitions : List (Option Definition)) (results : List (Option Outcome)) (s : Schema) → AreResults no_names definitions results → AreFaultless results → IsSchemaOf definitions s
     → (name : List ℕ) → IsUsedAsType definitions name → IsSome (id_named s name)
 used_named definitions results s are fine h name u =
     let known = use_of definitions results u.item u.definition u.mention are fine u.item_is u.is_mentioned u.is_type in

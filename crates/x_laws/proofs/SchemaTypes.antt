@@ -11,7 +11,7 @@ use Rattle.x_trees.specs.Names.{Declared, declared, declared_at}
 use Rattle.x_names.specs.Declarers.{IsDeclarer, declarer_at}
 use Rattle.x_names.specs.declared.names.Declarer.{Declarer}
 use Rattle.x_rules.specs.Mentioned.{suits}
-use Rattle.x_rules.specs.Results.{Outcome, AreResults}
+use Rattle.x_rules.specs.Results.{Outcome, AreResults, no_names}
 use Rattle.x_schema.specs.Schema.{Schema, id_named, type_id}
 use Rattle.x_schema.specs.SchemaOf.{numbers_of, typedefs}
 use Rattle.x_schema.specs.Schemas.{IsSchemaOf}
@@ -148,7 +148,7 @@ declares_defined definitions name at h type =
     let x : Declared = record { name = name; word = at.word; kind = at.kind; lifted = at.lifted } in
     sym (words_declared name h.definition) ∙ place_type name (declared h.definition) at.place x h.declares refl type
 
-pub schema_types : (definitions : List (Option Definition)) (results : List (Option Outcome)) (s : Schema) → AreResults definitions results → AreFaultless results
+pub schema_types : (definitions : List (Option Definition)) (results : List (Option Outcome)) (s : Schema) → AreResults no_names definitions results → AreFaultless results
     → IsSchemaOf definitions s → (name : List ℕ) → IsSome (id_named s name) ↔ IsTypeName definitions name
 schema_types definitions results s are fine h name = (
   (λ some.

@@ -20,7 +20,7 @@ use Rattle.x_trees.proofs.AmongLemmas.{among_cases, among_first, among_front, am
 use Rattle.x_outline.specs.Bodies.{BodyAt, EnumeratorAt, bodies, bodies_inside, enumerators, enumerators_from, enumerators_in, enumerators_of, star}
 use Rattle.x_rules.specs.Constants.{Known, is_declared_before, knowns, limit_of, number_named}
 use Rattle.x_rules.specs.Mentioned.{fault_of_use, is_declared_as, is_of_faulty, is_too_late, suits}
-use Rattle.x_rules.specs.Results.{Outcome, AreResults, beforehand_meaning, constant_of, constant_number, meaning_as, meaning_at, result_at, type_defined, type_named, type_of, view_by, view_of}
+use Rattle.x_rules.specs.Results.{Outcome, AreResults, beforehand_meaning, constant_of, constant_number, meaning_as, meaning_at, result_at, type_defined, type_named, type_of, view_by, view_of, no_names}
 use Rattle.x_rules.specs.Types.{Sight, basic_class, body_class, body_height, declaration_class, enum_number, held_height, if_all, number_set, type_seen}
 use Rattle.x_rules.specs.Views.{View, Class, Other, Enumeration, Meaning, Constant, OfType, Program, Bad, Undeclared, Earlier, Own, Later}
 use Rattle.x_trees.specs.Spell.{spell_body, spell_enumerator}
@@ -175,22 +175,22 @@ held_known definitions results item d n word tag h among =
     let m : Mention = record { name = n; word = word; usage = uses.ByValue; tag = tag } in
     let o = outcome_of definitions results item d h.are h.there in
     let no_mention = no_mention_fault d (sees definitions results item d) o.outcome.faults m o.are_faults (h.fine item o.outcome o.is) among in
-    let view : sees definitions results item d n ≡ view_by definitions (result_at results) item n =
-    view_seen d (view_by definitions (result_at results) item) n (listed_rear n (map (λ x. x.name) (declared d)) (map (λ x. x.name) (mentioned d)) (mentioned_listed (mentioned d) m among)) in
+    let view : sees definitions results item d n ≡ view_by no_names definitions (result_at results) item n =
+    view_seen d (view_by no_names definitions (result_at results) item) n (listed_rear n (map (λ x. x.name) (declared d)) (map (λ x. x.name) (mentioned d)) (mentioned_listed (mentioned d) m among)) in
     let before = is_declared_before (enumerators d) (limit_of word) n in
-    let fault : fault_of_use (view_by definitions (result_at results) item n) (is_declared_before (enumerators d) (limit_of word) n) uses.ByValue tag ≡ None =
+    let fault : fault_of_use (view_by no_names definitions (result_at results) item n) (is_declared_before (enumerators d) (limit_of word) n) uses.ByValue tag ≡ None =
     sym (ap (λ v. fault_of_use v (is_declared_before (enumerators d) (limit_of word) n) uses.ByValue tag) view) ∙ no_mention in
-    let known = viewed definitions (result_at results) item n tag (used_type (view_by definitions (result_at results) item n) before uses.ByValue tag (λ e. absurd cc) fault) in
+    let known = viewed definitions (result_at results) item n tag (used_type (view_by no_names definitions (result_at results) item n) before uses.ByValue tag (λ e. absurd cc) fault) in
     let found = view_found definitions (result_at results) item n known in
     let lt = declared_before (result_at results) item known.at before
-    (ap (λ v. is_too_late v before uses.ByValue) (sym found) ∙ held_in_time (view_by definitions (result_at results) item n) before tag fault) in
+    (ap (λ v. is_too_late v before uses.ByValue) (sym found) ∙ held_in_time (view_by no_names definitions (result_at results) item n) before tag fault) in
     let test : nat_lt known.at.item item ≡ true = grind (arith, nat_tests) in
-    let seen : view_by definitions (result_at results) item n ≡ Earlier known.at.kind known.at.lifted (meaning_at (result_at results) known.at) =
+    let seen : view_by no_names definitions (result_at results) item n ≡ Earlier known.at.kind known.at.lifted (meaning_at (result_at results) known.at) =
     found ∙ ap (λ b. cond b (Earlier known.at.kind known.at.lifted (meaning_at (result_at results) known.at)) (cond (nat_lt item known.at.item) (Later known.at.kind known.at.lifted) (Own known.at.kind known.at.lifted))) test in
     let suit = same_kind (result_at results) item known.at tag
-    (ap (λ v. is_declared_as (suits tag) v) (sym found) ∙ used_type (view_by definitions (result_at results) item n) before uses.ByValue tag (λ e. absurd cc) fault) in
+    (ap (λ v. is_declared_as (suits tag) v) (sym found) ∙ used_type (view_by no_names definitions (result_at results) item n) before uses.ByValue tag (λ e. absurd cc) fault) in
     let good : is_of_faulty (Earlier known.at.kind known.at.lifted (meaning_at (result_at results) known.at)) uses.ByValue ≡ false =
-    ap (λ v. is_of_faulty v uses.ByValue) (sym seen) ∙ held_good (view_by definitions (result_at results) item n) before tag fault in
+    ap (λ v. is_of_faulty v uses.ByValue) (sym seen) ∙ held_good (view_by no_names definitions (result_at results) item n) before tag fault in
     let declares = known.first.declares in
     let meaning = own_meaning definitions results known.at.item declares.definition n known.at h.are h.fine declares.item_is refl declares.declares in
     let type = is_type known.at.kind known.at.lifted (meaning_at (result_at results) known.at) _ meaning
@@ -252,7 +252,7 @@ kind_means definitions results item d place x h there kinds.Union e suit =
 kind_means definitions results item d place x h there kinds.Constant e suit = absurd cc
 kind_means definitions results item d place x h there kinds.Program e suit = absurd cc
 
-first_means : (definitions : List (Option Definition)) (results : List (Option Outcome)) (name : List ℕ) (at : Declarer) → AreResults definitions results → AreFaultless results → IsFirstDeclarer definitions name at
+first_means : (definitions : List (Option Definition)) (results : List (Option Outcome)) (name : List ℕ) (at : Declarer) → AreResults no_names definitions results → AreFaultless results → IsFirstDeclarer definitions name at
     → suits None at.kind ≡ true → IsType (meaning_at (result_at results) at)
 first_means definitions results name at are fine h suit =
     let declares = h.declares in
@@ -274,7 +274,7 @@ means_kind d see kinds.Constant name word m e type = absurd (by (constant_number
     by (Some z) k = cc
 means_kind d see kinds.Program name word m e type = let no : Program ≡ OfType type.0 type.1 = e ∙ type.2 in absurd cc
 
-meant_type : (definitions : List (Option Definition)) (results : List (Option Outcome)) (name : List ℕ) → AreResults definitions results → AreFaultless results → MeansType definitions results name
+meant_type : (definitions : List (Option Definition)) (results : List (Option Outcome)) (name : List ℕ) → AreResults no_names definitions results → AreFaultless results → MeansType definitions results name
     → IsTypeName definitions name
 meant_type definitions results name are fine h = by (is_beforehand name) refl (first_from 0 definitions name) refl
   where
@@ -288,7 +288,7 @@ meant_type definitions results name are fine h = by (is_beforehand name) refl (f
         (sym (ap (λ b. cond b (Earlier kinds.Constant false (beforehand_meaning name)) (view_of (result_at results) (length definitions) (first_declarer definitions name))) e) ∙ h.seen))
     by false e None f =
         let nobody : first_declarer definitions name ≡ None = ap (λ b. cond b None (first_from 0 definitions name)) e ∙ f in
-        let view : view_by definitions (result_at results) (length definitions) name ≡ Undeclared =
+        let view : view_by no_names definitions (result_at results) (length definitions) name ≡ Undeclared =
         ap (λ b. cond b (Earlier kinds.Constant false (beforehand_meaning name)) (view_of (result_at results) (length definitions) (first_declarer definitions name))) e
         ∙ ap (view_of (result_at results) (length definitions)) nobody in
         let no : Undeclared ≡ Earlier h.kind h.lifted (OfType h.class h.height) = sym view ∙ h.seen in
@@ -305,7 +305,7 @@ meant_type definitions results name are fine h = by (is_beforehand name) refl (f
           is_type = means_kind declares.definition (sees definitions results at.item declares.definition) at.kind name at.word (meaning_at (result_at results) at) (sym own) (h.class, h.height, meaning);
         }
 
-pub schema_meant : (definitions : List (Option Definition)) (results : List (Option Outcome)) (s : Schema) → AreResults definitions results → AreFaultless results → IsSchemaOf definitions s
+pub schema_meant : (definitions : List (Option Definition)) (results : List (Option Outcome)) (s : Schema) → AreResults no_names definitions results → AreFaultless results → IsSchemaOf definitions s
     → (name : List ℕ) → IsSome (id_named s name) ↔ MeansType definitions results name
 schema_meant definitions results s are fine h name = (
   (λ some.

@@ -19,7 +19,7 @@ use Rattle.x_names.proofs.DeclarerLaws.{found_is_first}
 use Rattle.x_outline.specs.Bodies.{EnumeratorAt, enumerators}
 use Rattle.x_rules.specs.Constants.{Known, is_declared_before, known_with, knowns, limit_of, number_at, number_before, number_named, number_of, number_seen}
 use Rattle.x_rules.specs.Mentioned.{is_constant, is_unknown}
-use Rattle.x_rules.specs.Results.{Outcome, AreResults, result_at, view_by, view_of, meaning_at, meaning_of, beforehand_meaning, constant_number}
+use Rattle.x_rules.specs.Results.{Outcome, AreResults, result_at, view_by, view_of, meaning_at, meaning_of, beforehand_meaning, constant_number, no_names}
 use Rattle.x_rules.specs.Rules.{HasRole, value_role}
 use Rattle.x_rules.specs.Views.{View, Meaning, Constant, OfType, Program, Bad, Undeclared, Earlier, Own, Later}
 use Rattle.x_schema.specs.SchemaOf.{number_in, numbers_of}
@@ -89,7 +89,7 @@ constant_kind k e = absurd cc
 
 -- an item behind all others sees every first declarer before it
 pub seen_behind : (definitions : List (Option Definition)) (read : ℕ → Option Outcome) (n : List ℕ) (at : Declarer) → IsFirstDeclarer definitions n at
-    → view_by definitions read (length definitions) n ≡ Earlier at.kind at.lifted (meaning_at read at)
+    → view_by no_names definitions read (length definitions) n ≡ Earlier at.kind at.lifted (meaning_at read at)
 seen_behind definitions read n at h =
     let within = get_within definitions at.item (Some h.declares.definition) h.declares.item_is in
     let before : nat_lt at.item (length definitions) ≡ true = grind (arith, nat_tests) in
@@ -99,7 +99,7 @@ seen_behind definitions read n at h =
 -- ---- a value by a name
 
 -- an own constant means its own number
-pub own_meant : (definitions : List (Option Definition)) (results : List (Option Outcome)) (item : ℕ) (d : Definition) (n : List ℕ) (at : Declarer) → AreResults definitions results → AreFaultless results
+pub own_meant : (definitions : List (Option Definition)) (results : List (Option Outcome)) (item : ℕ) (d : Definition) (n : List ℕ) (at : Declarer) → AreResults no_names definitions results → AreFaultless results
     → slice_get definitions item ≡ Some (Some d) → IsFirstDeclarer definitions n at → at.item ≡ item → at.kind ≡ kinds.Constant
     → number_meant definitions results n ≡ own_number d (sees definitions results item d) n
 own_meant definitions results item d n at are fine there h same kind =
@@ -115,7 +115,7 @@ own_meant definitions results item d n at are fine there h same kind =
     declares : slice_get (declared d) at.place ≡ Some (record { name = n; word = at.word; kind = at.kind; lifted = at.lifted })
     declares = ap (λ x. slice_get (declared x) at.place) (sym is) ∙ h.declares.declares
 
-by_first : (definitions : List (Option Definition)) (results : List (Option Outcome)) (item : ℕ) (d : Definition) (limit : ℕ) (n : List ℕ) (at : Declarer) → AreResults definitions results → AreFaultless results
+by_first : (definitions : List (Option Definition)) (results : List (Option Outcome)) (item : ℕ) (d : Definition) (limit : ℕ) (n : List ℕ) (at : Declarer) → AreResults no_names definitions results → AreFaultless results
     → slice_get definitions item ≡ Some (Some d) → IsFirstDeclarer definitions n at
     → (a b : Bool) → nat_lt at.item item ≡ a → nat_lt item at.item ≡ b
     → IsValue (cond a (Earlier at.kind at.lifted (meaning_at (result_at results) at)) (cond b (Later at.kind at.lifted) (Own at.kind at.lifted))) (is_declared_before (enumerators d) limit n)
@@ -140,13 +140,13 @@ told_beforehand : (b : Bool) (x : Option ℤ)
 told_beforehand true x = refl
 told_beforehand false x = refl
 
-by_view : (definitions : List (Option Definition)) (results : List (Option Outcome)) (item : ℕ) (d : Definition) (limit : ℕ) (n : List ℕ) → AreResults definitions results → AreFaultless results
-    → slice_get definitions item ≡ Some (Some d) → IsValue (view_by definitions (result_at results) item n) (is_declared_before (enumerators d) limit n)
-    → number_meant definitions results n ≡ number_seen (view_by definitions (result_at results) item n) (number_before (knowns (sees definitions results item d) (enumerators d)) limit n)
+by_view : (definitions : List (Option Definition)) (results : List (Option Outcome)) (item : ℕ) (d : Definition) (limit : ℕ) (n : List ℕ) → AreResults no_names definitions results → AreFaultless results
+    → slice_get definitions item ≡ Some (Some d) → IsValue (view_by no_names definitions (result_at results) item n) (is_declared_before (enumerators d) limit n)
+    → number_meant definitions results n ≡ number_seen (view_by no_names definitions (result_at results) item n) (number_before (knowns (sees definitions results item d) (enumerators d)) limit n)
 by_view definitions results item d limit n are fine there v = by (is_beforehand n) refl (first_from 0 definitions n) refl
   where
     by : (b : Bool) → is_beforehand n ≡ b → (o : Option Declarer) → first_from 0 definitions n ≡ o
-        → number_meant definitions results n ≡ number_seen (view_by definitions (result_at results) item n) (number_before (knowns (sees definitions results item d) (enumerators d)) limit n)
+        → number_meant definitions results n ≡ number_seen (view_by no_names definitions (result_at results) item n) (number_before (knowns (sees definitions results item d) (enumerators d)) limit n)
     by true e o f =
         ap (λ b. number_seen (cond b (Earlier kinds.Constant false (beforehand_meaning n)) (view_of (result_at results) (length definitions) (first_declarer definitions n))) None) e
         ∙ told_beforehand (bytes_eq n (codes "TRUE")) (number_before (knowns (sees definitions results item d) (enumerators d)) limit n)
@@ -154,7 +154,7 @@ by_view definitions results item d limit n are fine there v = by (is_beforehand 
         (number_before (knowns (sees definitions results item d) (enumerators d)) limit n)) e)
     by false e None f =
         let nobody : first_declarer definitions n ≡ None = ap (λ b. cond b None (first_from 0 definitions n)) e ∙ f in
-        let view : view_by definitions (result_at results) item n ≡ Undeclared =
+        let view : view_by no_names definitions (result_at results) item n ≡ Undeclared =
         ap (λ b. cond b (Earlier kinds.Constant false (beforehand_meaning n)) (view_of (result_at results) item (first_declarer definitions n))) e ∙ ap (view_of (result_at results) item) nobody in
         let known : is_unknown Undeclared ≡ false = sym (ap is_unknown view) ∙ v.known in
         absurd cc
@@ -164,20 +164,20 @@ by_view definitions results item d limit n are fine there v = by (is_beforehand 
         by_first definitions results item d limit n at are fine there h (nat_lt at.item item) (nat_lt item at.item) refl refl (subst (λ w. IsValue w (is_declared_before (enumerators d) limit n)) view v)
         ∙ ap (λ w. number_seen w (number_before (knowns (sees definitions results item d) (enumerators d)) limit n)) (sym view)
 
-used_number : (definitions : List (Option Definition)) (results : List (Option Outcome)) (item : ℕ) (d : Definition) (word : ℕ) (n : List ℕ) → AreResults definitions results → AreFaultless results
+used_number : (definitions : List (Option Definition)) (results : List (Option Outcome)) (item : ℕ) (d : Definition) (word : ℕ) (n : List ℕ) → AreResults no_names definitions results → AreFaultless results
     → slice_get definitions item ≡ Some (Some d) → IsAmong (mentioned d) (record { name = n; word = word; usage = uses.Value; tag = None })
     → number_meant definitions results n ≡ number_seen (sees definitions results item d n) (number_before (knowns (sees definitions results item d) (enumerators d)) (limit_of word) n)
 used_number definitions results item d word n are fine there among =
     let m : Mention = record { name = n; word = word; usage = uses.Value; tag = None } in
     let o = outcome_of definitions results item d are there in
     let no_fault = no_mention_fault d (sees definitions results item d) o.outcome.faults m o.are_faults (fine item o.outcome o.is) among in
-    let view : sees definitions results item d n ≡ view_by definitions (result_at results) item n =
-    view_seen d (view_by definitions (result_at results) item) n (listed_rear n (map (λ x. x.name) (declared d)) (map (λ x. x.name) (mentioned d)) (mentioned_listed (mentioned d) m among)) in
+    let view : sees definitions results item d n ≡ view_by no_names definitions (result_at results) item n =
+    view_seen d (view_by no_names definitions (result_at results) item) n (listed_rear n (map (λ x. x.name) (declared d)) (map (λ x. x.name) (mentioned d)) (mentioned_listed (mentioned d) m among)) in
     let value = used_value (sees definitions results item d n) (is_declared_before (enumerators d) (limit_of word) n) no_fault in
     by_view definitions results item d (limit_of word) n are fine there (subst (λ w. IsValue w (is_declared_before (enumerators d) (limit_of word) n)) view value)
     ∙ ap (λ w. number_seen w (number_before (knowns (sees definitions results item d) (enumerators d)) (limit_of word) n)) (sym view)
 
-pub value_number : (definitions : List (Option Definition)) (results : List (Option Outcome)) → AreResults definitions results → AreFaultless results → (item : ℕ) (d : Definition)
+pub value_number : (definitions : List (Option Definition)) (results : List (Option Outcome)) → AreResults no_names definitions results → AreFaultless results → (item : ℕ) (d : Definition)
     → slice_get definitions item ≡ Some (Some d) → (word : ℕ) (role : Role) (v : tree.Value) → HasRole d word role → value_role role ≡ Some v
     → number_in (numbers_of definitions) v ≡ number_at (sees definitions results item d) (enumerators d) word v
 value_number definitions results are fine item d there word role (tree.Number text) h e = refl

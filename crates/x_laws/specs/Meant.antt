@@ -1,4 +1,5 @@
--- What names mean in a text without a fault, by who declares them first and what checking that item gives.
+-- What names mean in a text without a fault, before which nothing is known, by who declares them first and
+-- what checking that item gives.
 use Rattle.std.specs.Prelude.{◌≡◌, ℕ, ℤ, Bool, true, List, [], ◌∷◌, length, map, Option, Some, None}
 use Rattle.std.specs.Prelude.{slice_get, option_and_then}
 use Rattle.std.specs.List.{IsAmong}
@@ -10,7 +11,7 @@ use Rattle.x_names.specs.Declarers.{IsFirstDeclarer}
 use Rattle.x_names.specs.declared.names.Declarer.{Declarer}
 use Rattle.x_rules.specs.Mentioned.{suits}
 use Rattle.x_rules.specs.Constants.{number_seen}
-use Rattle.x_rules.specs.Results.{Outcome, result_at, view_by}
+use Rattle.x_rules.specs.Results.{Outcome, result_at, view_by, no_names}
 use Rattle.x_rules.specs.Views.{View, Class, Earlier, OfType, seen}
 use Rattle.x_trees.specs.declared.names.declared_name.NameKind.{NameKind}
 use Rattle.x_trees.specs.Seen.{names_of}
@@ -34,7 +35,7 @@ pub record MeansType (definitions : List (Option Definition)) (results : List (O
   pub lifted : Bool
   pub class : Class
   pub height : ℕ
-  pub seen : view_by definitions (result_at results) (length definitions) name
+  pub seen : view_by no_names definitions (result_at results) (length definitions) name
       ≡ Earlier kind lifted (OfType class height)
 
 -- what is known of the whole text: the numbers of its constants, and all types of the schema
@@ -66,13 +67,13 @@ pub record IsUsedAsType (definitions : List (Option Definition)) (name : List �
 -- what the item of a definition sees of each name
 abbrev pub sees : List (Option Definition) → List (Option Outcome) → ℕ → Definition → List ℕ → View
 sees definitions results item d =
-    seen d (map (view_by definitions (result_at results) item) (names_of d))
+    seen d (map (view_by no_names definitions (result_at results) item) (names_of d))
 
 -- The number that a name means in the whole text: the one by which an item behind all others would use it,
 -- if it is a constant that is declared in the text or beforehand.
 abbrev pub number_meant : List (Option Definition) → List (Option Outcome) → List ℕ → Option ℤ
 number_meant definitions results name =
-    number_seen (view_by definitions (result_at results) (length definitions) name) None
+    number_seen (view_by no_names definitions (result_at results) (length definitions) name) None
 
 -- the words of enumerators behind others, each that of the number which the enumerator's name means, with the
 -- first name of the number

@@ -9,7 +9,7 @@ ghost use Rattle.x_trees.specs.Gloss.{Role};
 ghost use Rattle.x_trees.specs.Tree.{Definition, Enum, Enumerator, Value};
 ghost use Rattle.x_outline.specs.Bodies.{BodyAt, bodies, enumerators};
 ghost use Rattle.x_rules.specs.Constants.{number_at};
-ghost use Rattle.x_rules.specs.Results.{Outcome, AreResults};
+ghost use Rattle.x_rules.specs.Results.{Outcome, AreResults, no_names};
 ghost use Rattle.x_rules.specs.Rules.{HasRole, value_role};
 ghost use Rattle.x_schema.specs.Schema.{Schema, IsProcedureAt, id_named, named_type};
 ghost use Rattle.x_schema.specs.SchemaOf.{number_in, numbers_of, words_from};
@@ -21,6 +21,7 @@ ghost use Rattle.x_value.specs.Dumps.{IsShown};
 ghost use Rattle.x_value.specs.Shown.{Node};
 ghost use Rattle.x_script.specs.Answers.{Answer};
 ghost use Rattle.x_compile.specs.Compile.{Item, faults_of};
+ghost use Rattle.x_compile.specs.Known.{KnownText, known_names, nothing_known};
 ghost use Rattle.x_script.specs.LineAnswers.{IsLineAnswer};
 ghost use Rattle.x_script.specs.Script.{AreAnswered};
 ghost use Rattle.x_wire.specs.MessageTexts.{Told};
@@ -51,13 +52,15 @@ pub fn bodies_in_place()
         → IsShownAt s id bytes a → IsShownAt s id bytes b → a ≡ b }
 {}
 
-/// A line of a script has one answer, over a file's text and its items, and the lines of a script have one
-/// list of answers, one behind another.
+/// A line of a script has one answer, over what is known before a file's text, the text and its items, and
+/// the lines of a script have one list of answers, one behind another.
 pub fn one_answer()
-    ensures line { (file base text line : List ℕ) (items : List Item) (a b : Answer)
-        → IsLineAnswer file base text items line a → IsLineAnswer file base text items line b → a ≡ b }
-    ensures script { (file base text : List ℕ) (lines : List (List ℕ)) (a b : Answer)
-        → AreAnswered file base text lines a → AreAnswered file base text lines b → a ≡ b }
+    ensures line { (file base : List ℕ) (known : KnownText) (text line : List ℕ) (items : List Item)
+        → (a b : Answer) → IsLineAnswer file base known text items line a
+        → IsLineAnswer file base known text items line b → a ≡ b }
+    ensures script { (file base : List ℕ) (known : KnownText) (text : List ℕ) (lines : List (List ℕ))
+        → (a b : Answer) → AreAnswered file base known text lines a
+        → AreAnswered file base known text lines b → a ≡ b }
 {}
 
 /// By two schemas of the same definitions messages one behind another have one text, and so has a stream.
@@ -76,47 +79,54 @@ pub fn faultless_results()
         → AreFaultless (map (λ i. i.result) items) }
 {}
 
-/// In a text without a fault a schema has a type of a name exactly where the name's first declarer declares
-/// it as a type, also as that of an inline type (`declared`); and that is where the name means a type by the
-/// rules (`meant`).
+/// In a text without a fault, before which nothing is known, a schema has a type of a name exactly where the
+/// name's first declarer declares it as a type, also as that of an inline type (`declared`); and that is
+/// where the name means a type by the rules (`meant`).
 pub fn schema_types()
     ensures declared { (definitions : List (Option Definition)) (results : List (Option Outcome)) (s : Schema)
-        → AreResults definitions results → AreFaultless results → IsSchemaOf definitions s
+        → AreResults no_names definitions results → AreFaultless results → IsSchemaOf definitions s
         → (name : List ℕ) → IsSome (id_named s name) ↔ IsTypeName definitions name }
     ensures meant { (definitions : List (Option Definition)) (results : List (Option Outcome)) (s : Schema)
-        → AreResults definitions results → AreFaultless results → IsSchemaOf definitions s
+        → AreResults no_names definitions results → AreFaultless results → IsSchemaOf definitions s
         → (name : List ℕ) → IsSome (id_named s name) ↔ MeansType definitions results name }
 {}
 
-/// In a text without a fault a schema is made by the numbers that names mean by the rules (`names`). The
-/// number of each value, size and case is the one by which the rules go at its word (`values`), and that of
-/// each enumerator the one that its name means, also without a value (`enumerators`).
+/// In a text without a fault, before which nothing is known, a schema is made by the numbers that names mean
+/// by the rules (`names`). The number of each value, size and case is the one by which the rules go at its
+/// word (`values`), and that of each enumerator the one that its name means, also without a value
+/// (`enumerators`).
 pub fn schema_numbers()
     ensures names { (definitions : List (Option Definition)) (results : List (Option Outcome))
-        → AreResults definitions results → AreFaultless results → (name : List ℕ)
+        → AreResults no_names definitions results → AreFaultless results → (name : List ℕ)
         → lookup (bytes_eq name) (numbers_of definitions) ≡ number_meant definitions results name }
     ensures values { (definitions : List (Option Definition)) (results : List (Option Outcome))
-        → AreResults definitions results → AreFaultless results → (item : ℕ) (d : Definition)
+        → AreResults no_names definitions results → AreFaultless results → (item : ℕ) (d : Definition)
         → slice_get definitions item ≡ Some (Some d) → (word : ℕ) (role : Role) (v : Value)
         → HasRole d word role → value_role role ≡ Some v
         → number_in (numbers_of definitions) v
         ≡ number_at (sees definitions results item d) (enumerators d) word v }
     ensures enumerators { (definitions : List (Option Definition)) (results : List (Option Outcome))
-        → AreResults definitions results → AreFaultless results → (item : ℕ) (d : Definition)
+        → AreResults no_names definitions results → AreFaultless results → (item : ℕ) (d : Definition)
         → slice_get definitions item ≡ Some (Some d) → (b : BodyAt) (es : List Enumerator)
         → IsAmong (bodies d) b → b.body ≡ Enum es
         → words_from (numbers_of definitions) (Some (pos 0)) [] es
         ≡ words_meant (number_meant definitions results) [] es }
 {}
 
-/// In a text without a fault the type of each name is as the name's first declarer declares it, and a name in
-/// it, by value or behind a link, leads to the type of that name; each name that is used as a type has one.
+/// In a text without a fault, before which nothing is known, the type of each name is as the name's first
+/// declarer declares it, and a name in it, by value or behind a link, leads to the type of that name; each
+/// name that is used as a type has one.
 pub fn schema_targets()
     ensures forms { (definitions : List (Option Definition)) (results : List (Option Outcome)) (s : Schema)
-        → AreResults definitions results → AreFaultless results → IsSchemaOf definitions s
+        → AreResults no_names definitions results → AreFaultless results → IsSchemaOf definitions s
         → (name : List ℕ) (t : NamedType) → named_type s name ≡ Some t
         → IsAsDeclared definitions s name t.form }
     ensures uses { (definitions : List (Option Definition)) (results : List (Option Outcome)) (s : Schema)
-        → AreResults definitions results → AreFaultless results → IsSchemaOf definitions s
+        → AreResults no_names definitions results → AreFaultless results → IsSchemaOf definitions s
         → (name : List ℕ) → IsUsedAsType definitions name → IsSome (id_named s name) }
+{}
+
+/// Where nothing is known before a text no name is, so the laws of such texts hold of it.
+pub fn no_name_is_known()
+    ensures { known_names nothing_known ≡ no_names }
 {}

@@ -1,7 +1,7 @@
 //! Each law called once.
 use x_laws::{
-    bodies_in_place, faultless_results, one_answer, one_dump, one_showing, schema_numbers,
-    schema_targets, schema_types,
+    bodies_in_place, faultless_results, no_name_is_known, one_answer, one_dump, one_showing,
+    schema_numbers, schema_targets, schema_types,
 };
 
 #[test]
@@ -14,4 +14,5 @@ fn laws_do_nothing(_rt: HostRuntime) {
     schema_types();
     schema_numbers();
     schema_targets();
+    no_name_is_known();
 }

@@ -16,6 +16,7 @@ use Rattle.x_trees.specs.Words.{is_significant, word_of}
 use Rattle.x_item.specs.Parse.{Parse, Nothing, Def, Fault, IsParse}
 use Rattle.x_compile.specs.Compile.{Item, IsCompilation, definition_at, parsed_definition, tokens_of}
 use Rattle.x_compile.proofs.Compiled.{one_compilation}
+use Rattle.x_compile.specs.Known.{KnownText}
 use Rattle.x_session.specs.Session.{Compiles}
 use Rattle.x_lsp.specs.declared.questions.name_places.Standing.{Standing}
 use Rattle.x_explain.specs.DeclaredNames.{words_in}
@@ -40,14 +41,14 @@ where_over test names x all rest is = ap (λ l. tokens_where test (flat_map name
 -- ---- the items of a text
 
 -- in the items before one what is sought is found, and the tokens of the others are left
-pub record HasFound (text : List ℕ) (test : NamePlace → Bool) (n : ℕ) (walk found : List Lexeme) : Type 0 where
+pub record HasFound (known : KnownText) (text : List ℕ) (test : NamePlace → Bool) (n : ℕ) (walk found : List Lexeme) : Type 0 where
   pub tokens : List (Kind × ℕ)
   pub items : List Item
-  pub compiles : IsCompilation text tokens items
+  pub compiles : IsCompilation known text tokens items
   pub left : AreLeft walk (map (λ i. i.tokens) (drop n items))
   pub found_is : found ++ tokens_where test (names_of (drop n items)) ≡ tokens_where test (names_of items)
 
-pub found_none : (text : List ℕ) (test : NamePlace → Bool) (walk : List Lexeme) → Compiles text (λ items. walk ≡ tokens_of items) → HasFound text test 0 walk []
+pub found_none : {known : KnownText} (text : List ℕ) (test : NamePlace → Bool) (walk : List Lexeme) → Compiles known text (λ items. walk ≡ tokens_of items) → HasFound known text test 0 walk []
 found_none text test walk c = record {
   tokens = c.0;
   items = c.1;
@@ -57,12 +58,12 @@ found_none text test walk c = record {
 }
 
 -- one item more
-pub found_item : (text : List ℕ) (test : NamePlace → Bool) (n m count : ℕ) (whole : Bool) (walk walk' part found found' : List Lexeme) (o : Option Definition) → m ≡ n + 1 → n < count → Compiles text (λ items. count ≡ length items)
-    → Compiles text (λ items. o ≡ definition_at items n) → HasFound text test n walk found → IsNext whole walk part walk'
-    → ((p : Parse) → IsParse part p → o ≡ parsed_definition p → found' ≡ found ++ tokens_where test (names_by part o)) → HasFound text test m walk' found'
-found_item text test n m count whole walk walk' part found found' o step lt many has had next names =
-    let same : had.items ≡ many.1 = (one_compilation text had.tokens many.0 had.items many.1 had.compiles many.2).1 in
-    let same' : has.1 ≡ had.items = (one_compilation text has.0 had.tokens has.1 had.items has.2 had.compiles).1 in
+pub found_item : {known : KnownText} (text : List ℕ) (test : NamePlace → Bool) (n m count : ℕ) (whole : Bool) (walk walk' part found found' : List Lexeme) (o : Option Definition) → m ≡ n + 1 → n < count → Compiles known text (λ items. count ≡ length items)
+    → Compiles known text (λ items. o ≡ definition_at items n) → HasFound known text test n walk found → IsNext whole walk part walk'
+    → ((p : Parse) → IsParse part p → o ≡ parsed_definition p → found' ≡ found ++ tokens_where test (names_by part o)) → HasFound known text test m walk' found'
+found_item {known} text test n m count whole walk walk' part found found' o step lt many has had next names =
+    let same : had.items ≡ many.1 = (one_compilation known text had.tokens many.0 had.items many.1 had.compiles many.2).1 in
+    let same' : has.1 ≡ had.items = (one_compilation known text has.0 had.tokens has.1 had.items has.2 had.compiles).1 in
     let count_is : count ≡ length had.items = many.3 ∙ ap length (sym same) in
     let at = item_at had.items n (omega (arith, lt, count_is)) had.compiles.are_parses in
     let rest = drop (suc n) had.items in
@@ -73,7 +74,7 @@ found_item text test n m count whole walk walk' part found found' o step lt many
     let more : found' ≡ found ++ these =
     names at.item.parse (subst (λ ts. IsParse ts at.item.parse) (sym left.0) at.parsed) o_is ∙ (λ k. found ++ tokens_where test (names_by (left.0 k) (o_is k))) in
     let suc_is : suc n ≡ m = omega (arith, step) in
-    subst (λ k. HasFound text test k walk' found') suc_is record {
+    subst (λ k. HasFound known text test k walk' found') suc_is record {
       tokens = had.tokens;
       items = had.items;
       compiles = had.compiles;
@@ -83,10 +84,10 @@ found_item text test n m count whole walk walk' part found found' o step lt many
     }
 
 -- all is found
-pub found_all : (text : List ℕ) (test : NamePlace → Bool) (n count : ℕ) (walk found : List Lexeme) → count ≤ n → Compiles text (λ items. count ≡ length items) → HasFound text test n walk found
-    → Compiles text (λ items. found ≡ tokens_where test (names_of items))
-found_all text test n count walk found le many had =
-    let same : had.items ≡ many.1 = (one_compilation text had.tokens many.0 had.items many.1 had.compiles many.2).1 in
+pub found_all : {known : KnownText} (text : List ℕ) (test : NamePlace → Bool) (n count : ℕ) (walk found : List Lexeme) → count ≤ n → Compiles known text (λ items. count ≡ length items) → HasFound known text test n walk found
+    → Compiles known text (λ items. found ≡ tokens_where test (names_of items))
+found_all {known} text test n count walk found le many had =
+    let same : had.items ≡ many.1 = (one_compilation known text had.tokens many.0 had.items many.1 had.compiles many.2).1 in
     let count_is : count ≡ length had.items = many.3 ∙ ap length (sym same) in
     let none = none_left had.items n (omega (arith, le, count_is)) in (
       had.tokens,

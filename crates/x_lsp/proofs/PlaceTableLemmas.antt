@@ -7,6 +7,7 @@ use Rattle.x_names.specs.Declarers.{first_declarer}
 use Rattle.x_names.specs.declared.names.Declarer.{Declarer}
 use Rattle.x_compile.specs.Compile.{IsCompilation, Item, definitions_of}
 use Rattle.x_compile.specs.declared.fault.FaultCode.{FaultCode}
+use Rattle.x_compile.specs.Known.{KnownText}
 use Rattle.x_session.specs.Session.{Compiles}
 use Rattle.x_explain.specs.declared.declared.FirstPlace.{FirstPlace}
 use Rattle.x_explain.specs.declared.facts.FaultNames.{FaultNames}
@@ -25,9 +26,9 @@ chosen true false o p q = absurd (cc)
 chosen false b o p q = absurd (cc)
 
 -- what is found of a text is told beside a fault
-pub is_beside : (e : Encoding) (text : List ℕ) (shown : Bool) (code : FaultCode) (word : List ℕ) (start : ℕ) (names : FaultNames) (found : Option Range) → shown ≡ true → is_of_declarer code ≡ true
-    → Compiles text (λ items. AreNamesOf text items names) → ((items : List Item) → AreNamesOf text items names → IsRangeAt e text (declared_elsewhere items (name_of items code start word) start) found)
-    → (tokens : List (Kind × ℕ)) (items : List Item) → IsCompilation text tokens items → IsRangeAt e text (other_place shown items code word start) found
+pub is_beside : {known : KnownText} (e : Encoding) (text : List ℕ) (shown : Bool) (code : FaultCode) (word : List ℕ) (start : ℕ) (names : FaultNames) (found : Option Range) → shown ≡ true → is_of_declarer code ≡ true
+    → Compiles known text (λ items. AreNamesOf text items names) → ((items : List Item) → AreNamesOf text items names → IsRangeAt e text (declared_elsewhere items (name_of items code start word) start) found)
+    → (tokens : List (Kind × ℕ)) (items : List Item) → IsCompilation known text tokens items → IsRangeAt e text (other_place shown items code word start) found
 is_beside e text shown code word start names found is_shown declares made range tokens items is =
     let there = range items (of_each text made tokens items is) in
     subst (λ o. IsRangeAt e text o found) (sym (chosen shown (is_of_declarer code) (declared_elsewhere items (name_of items code start word) start) is_shown declares)) there

@@ -15,6 +15,7 @@ use Rattle.x_rules.specs.declared.fault.RuleCode.TheVariants.{Duplicate, LateNam
 use Rattle.x_rules.specs.declared.fault.RuleCode.TheVariants.{UsesFaulty}
 use Rattle.x_compile.specs.Compile.{Item, places_of}
 use Rattle.x_compile.specs.Faults.{fault_text}
+use Rattle.x_compile.specs.Known.{KnownText}
 use Rattle.x_session.specs.Session.{Compiles}
 use Rattle.x_explain.specs.DeclaredNames.{definition_of}
 use Rattle.x_explain.specs.Facts.{name_of}
@@ -134,7 +135,8 @@ closing_data uri = note_data (codes "textDocument/publishDiagnostics")
     (object (member (codes "diagnostics") (array no_items) (member (codes "uri") (string uri) no_members)))
 
 -- the text publishes the faults of a document's text, all and in order
-abbrev pub IsPublished : Client → (uri : List ℕ) → (version : ℤ) → (text said : List ℕ) → Type 0
-IsPublished client uri version text said = Compiles text (λ items.
+abbrev pub IsPublished : Client → (uri : List ℕ) → (version : ℤ) → (known : KnownText)
+    → (text said : List ℕ) → Type 0
+IsPublished client uri version known text said = Compiles known text (λ items.
     (ds : List Data) × AreDiagnostics client uri text items (places_of items) ds
     × (said ≡ compact_text (published_data uri version ds)))

@@ -9,4 +9,5 @@ use Rattle.x_lsp.specs.Waymarks.{AreWaymarks}
 pub record AreOfText (others : OtherPlaces) : Type 0 where
   pub marked : AreWaymarks others.session.now.text others.marks.now
   pub of_text : IfSome others.names
-      (λ names. Compiles others.session.now.text (λ items. AreNamesOf others.session.now.text items names))
+      (λ names. Compiles others.session.now.known others.session.now.text
+      (λ items. AreNamesOf others.session.now.text items names))

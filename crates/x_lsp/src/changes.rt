@@ -43,6 +43,7 @@ pub fn apply_change(
         (session.new.text ≡ edited_by (change_by marks.old.encoding session.old.text change.now)) }
     ensures fault { Judges (change_by marks.old.encoding session.old.text change.now) result }
     ensures base { session.new.base ≡ session.old.base }
+    ensures known { session.new.known ≡ session.old.known }
     ensures same { OnErr result (session.new ≡ session.old) }
     ensures marks { AreWaymarks session.new.text marks.new }
     ensures encoding { marks.new.encoding ≡ marks.old.encoding }

@@ -43,7 +43,8 @@ pub fn publish(
 ) -> Result<Vec<u8>, NoMemory>
     requires marks { AreWaymarks session.now.text marks.old }
     requires encoding { marks.old.encoding ≡ client.encoding }
-    ensures said { IfOk result (λ said. IsPublished client uri.now version session.now.text said.items) }
+    ensures said { IfOk result (λ said.
+        IsPublished client uri.now version session.now.known session.now.text said.items) }
     ensures marks { AreWaymarks session.now.text marks.new }
     ensures encoding { marks.new.encoding ≡ marks.old.encoding }
 {
@@ -79,7 +80,7 @@ fn diagnostics<'d>(
     requires marker_encoding { marker.old.encoding ≡ client.encoding }
     ensures text { marker.new.text.now ≡ session.now.text }
     ensures counted { marker.new.encoding ≡ client.encoding }
-    ensures diagnostics { IfOk result (λ list. Compiles session.now.text (λ items.
+    ensures diagnostics { IfOk result (λ list. Compiles session.now.known session.now.text (λ items.
         AreDiagnostics client uri.now session.now.text items (places_of items)
         (map data_of list.items))) }
 {

@@ -1,6 +1,7 @@
 //! A document that a client has open.
 
 ghost use Rattle.std.specs.Prelude.{◌≡◌, IfOk, OnOk, string_bytes};
+ghost use Rattle.x_compile.specs.Known.{nothing_known};
 ghost use Rattle.x_lsp.specs.Changes.{changed_by_all};
 ghost use Rattle.x_lsp.specs.Positions.{offset_of};
 ghost use Rattle.x_lsp.specs.Publishing.{Publishes};
@@ -49,6 +50,7 @@ impl OpenDocument {
         ensures client { IfOk result (λ d. d.client ≡ client) }
         ensures uri { IfOk result (λ d. string_bytes d.uri ≡ uri.now) }
         ensures version { IfOk result (λ d. d.version ≡ version) }
+        ensures known { IfOk result (λ d. d.session.known ≡ nothing_known) }
         ensures text { IfOk result (λ d. d.session.text ≡ text.now) }
     {
         let Ok(name) = String::from_str(alloc, uri) else {
@@ -73,8 +75,8 @@ impl OpenDocument {
     /// then. At the first that is refused it stops: the changes before it are done, and the document is out
     /// of step.
     pub(crate) fn change(&mut self, alloc: Global, version: i64, changes: &[TextChange]) -> Reply
-        ensures { Publishes self.old.client (string_bytes self.old.uri) version (changed_by_all
-            self.old.client.encoding self.old.session.text changes.now) (said_of result) }
+        ensures { Publishes self.old.client (string_bytes self.old.uri) version self.old.session.known
+            (changed_by_all self.old.client.encoding self.old.session.text changes.now) (said_of result) }
     {
         let is_sent_whole = changes.first().is_some_and(|change| change.range.is_none());
         if !self.in_step && !is_sent_whole {
@@ -97,7 +99,7 @@ impl OpenDocument {
     /// What publishes what is wrong with the text.
     pub(crate) fn publish(&mut self, alloc: Global) -> Reply
         ensures { Publishes self.old.client (string_bytes self.old.uri) self.old.version
-            self.old.session.text (said_of result) }
+            self.old.session.known self.old.session.text (said_of result) }
     {
         match publish(
             alloc,
@@ -131,6 +133,7 @@ fn apply_changes(
     requires { AreWaymarks session.old.text marks.old }
     ensures text { OnOk result
         (session.new.text ≡ changed_by_all marks.old.encoding session.old.text changes.now) }
+    ensures known { session.new.known ≡ session.old.known }
     ensures marks { AreWaymarks session.new.text marks.new }
     ensures encoding { marks.new.encoding ≡ marks.old.encoding }
 {

@@ -58,7 +58,7 @@ impl<'s> OtherPlaces<'s> {
         requires { AreOfText self.old }
         ensures of_text { AreOfText self.new }
         ensures range { IfOk result (λ range. (tokens : List (Kind × ℕ)) (items : List Item)
-            → IsCompilation self.old.session.now.text tokens items
+            → IsCompilation self.old.session.now.known self.old.session.now.text tokens items
             → IsRangeAt self.old.marks.now.encoding self.old.session.now.text
             (other_place self.old.shown items code word.now start) range) }
         ensures shown { self.new.shown ≡ self.old.shown }

@@ -5,6 +5,7 @@ ghost use Rattle.std.specs.Prelude.{vec_len};
 ghost use Rattle.serde_json.specs.Data.{null};
 ghost use Rattle.serde_json.specs.View.{view};
 ghost use Rattle.serde_json.specs.Written.{has_float};
+ghost use Rattle.x_compile.specs.Known.{nothing_known};
 ghost use Rattle.x_lsp.specs.Answers.{IsRefused, IsSaid, IsSaidTo, IsToMethod, IsToNotification};
 ghost use Rattle.x_lsp.specs.Answers.{IsToRequest};
 ghost use Rattle.x_lsp.specs.Documents.{without};
@@ -238,7 +239,7 @@ impl Server {
 
     /// Opens a document, in place of one that is open by its name, and publishes its faults.
     fn open_document(&mut self, uri: &str, version: i64, text: &str) -> Reply
-        ensures says { Publishes self.old.client uri.now version text.now (said_of result) }
+        ensures says { Publishes self.old.client uri.now version nothing_known text.now (said_of result) }
         ensures life { self.new.life ≡ self.old.life }
     {
         let mut opened = match OpenDocument::open(

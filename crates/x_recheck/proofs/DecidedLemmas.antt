@@ -28,7 +28,7 @@ unchanged_fresh e after k h s = let kept = h.kept s.definition s.has in by kept.
     by was kept o = o.2 (h.same o.0 (record { definition = s.definition; was = was; has = s.has; kept = kept; sees = o.1 }))
 
 -- and the names that it declares first mean what they meant
-unchanged_means : (e : TextEdit) (after : List (Option Outcome)) (name : List ℕ) (o f : Declarer) → IsEdit e → AreResults (definitions_after e) after → IsUnchanged e after f.item
+unchanged_means : (e : TextEdit) (after : List (Option Outcome)) (name : List ℕ) (o f : Declarer) → IsEdit e → AreResults e.known (definitions_after e) after → IsUnchanged e after f.item
     → first_declarer e.old name ≡ Some o → first_declarer (definitions_after e) name ≡ Some f → HasAlike e name → meaning_at (result_at e.outcomes) o ≡ meaning_at (result_at after) f
 unchanged_means e after name o f is are h before now alike =
     let there = first_defined (definitions_after e) name f now in
@@ -69,7 +69,7 @@ none_at : (e : TextEdit) (after : List (Option Outcome)) (waits : ℕ → Bool) 
 none_at e after waits rs low d = new_none rs low (λ h. let lt = among_below e after waits rs low low d h in omega (arith, lt))
 
 -- nothing is to be done at an item that is unchanged
-pub decided_unchanged : (e : TextEdit) (after : List (Option Outcome)) (waits waits' : ℕ → Bool) (rs : List Rechecked) (low : ℕ) → IsEdit e → AreResults (definitions_after e) after
+pub decided_unchanged : (e : TextEdit) (after : List (Option Outcome)) (waits waits' : ℕ → Bool) (rs : List Rechecked) (low : ℕ) → IsEdit e → AreResults e.known (definitions_after e) after
     → IsDecided e after waits rs low → IsUnchanged e after low → ((k : ℕ) → low < k → waits' k ≡ false → waits k ≡ false) → IsDecided e after waits' rs (suc low)
 decided_unchanged e after waits waits' rs low is are d h stay = record {
   each = λ j lt. at_low (λ k. result_after e rs k ≡ result_at after k) low j lt (d.each j)
@@ -107,7 +107,7 @@ decided_stale e after waits waits' rs r low d here stale result stay spread = re
 }
 
 -- up to an item before which none waits
-pub decided_skip : (e : TextEdit) (after : List (Option Outcome)) (waits : ℕ → Bool) (rs : List Rechecked) (low n : ℕ) → IsEdit e → AreResults (definitions_after e) after
+pub decided_skip : (e : TextEdit) (after : List (Option Outcome)) (waits : ℕ → Bool) (rs : List Rechecked) (low n : ℕ) → IsEdit e → AreResults e.known (definitions_after e) after
     → IsDecided e after waits rs low → low + n ≤ length (definitions_after e) → ((k : ℕ) → low ≤ k → k < low + n → waits k ≡ false) → IsDecided e after waits rs (low + n)
 decided_skip e after waits rs low zero is are d fits none = let same : low ≡ low + zero = omega arith in subst (IsDecided e after waits rs) same d
 decided_skip e after waits rs low (suc n) is are d fits none =
@@ -117,7 +117,7 @@ decided_skip e after waits rs low (suc n) is are d fits none =
     subst (IsDecided e after waits rs) same
     (decided_skip e after waits rs (suc low) n is are next (omega (arith, fits)) (λ k le lt. none k (omega (arith, le)) (omega (arith, lt))))
 
-pub decided_to : (e : TextEdit) (after : List (Option Outcome)) (waits : ℕ → Bool) (rs : List Rechecked) (low k : ℕ) → IsEdit e → AreResults (definitions_after e) after
+pub decided_to : (e : TextEdit) (after : List (Option Outcome)) (waits : ℕ → Bool) (rs : List Rechecked) (low k : ℕ) → IsEdit e → AreResults e.known (definitions_after e) after
     → IsDecided e after waits rs low → low ≤ k → k ≤ length (definitions_after e) → ((j : ℕ) → j < k → waits j ≡ false) → IsDecided e after waits rs k
 decided_to e after waits rs low k is are d le fits none =
     let same : low + (k - low) ≡ k = omega (arith, le) in

@@ -43,7 +43,7 @@ spread_told e after waits k d names c has are result told name f first here j lt
 
 -- ---- an item is decided
 
-pub decided_same : (e : TextEdit) (after : List (Option Outcome)) (waits waits' : ℕ → Bool) (rs : List Rechecked) (k : ℕ) → IsEdit e → AreResults (definitions_after e) after → IsDecided e after waits rs k
+pub decided_same : (e : TextEdit) (after : List (Option Outcome)) (waits waits' : ℕ → Bool) (rs : List Rechecked) (k : ℕ) → IsEdit e → AreResults e.known (definitions_after e) after → IsDecided e after waits rs k
     → IsUnchanged e after k → ((j : ℕ) → k < j → waits' j ≡ false → waits j ≡ false) → IsDecided e after waits' rs (k + 1)
 decided_same e after waits waits' rs k is are d same stay = subst (IsDecided e after waits' rs) (sym (add-one k)) (decided_unchanged e after waits waits' rs k is are d same stay)
 
@@ -68,7 +68,7 @@ resting q k least j lt = by (is_waiting q j) refl
 
 -- all before the first item that waits are decided
 pub ready_to : (e : TextEdit) (q : Queue) (rs : List Rechecked) (low k : ℕ) → IsEdit e → IsReady e q rs low → is_waiting q k ≡ true → ((j : ℕ) → is_waiting q j ≡ true → j < k → ⊥)
-    → (after : List (Option Outcome)) → AreResults (definitions_after e) after → IsDecided e after (is_waiting q) rs k
+    → (after : List (Option Outcome)) → AreResults e.known (definitions_after e) after → IsDecided e after (is_waiting q) rs k
 ready_to e q rs low k is r waited least after are =
     let at = r.range k waited in
     let lt = at.1 in
@@ -76,7 +76,7 @@ ready_to e q rs low k is r waited least after are =
 
 -- where none waits, all are
 pub ready_end : (e : TextEdit) (q : Queue) (rs : List Rechecked) (low : ℕ) → IsEdit e → IsReady e q rs low → ((j : ℕ) → is_waiting q j ≡ false)
-    → (after : List (Option Outcome)) → AreResults (definitions_after e) after → IsDecided e after (λ k. true) rs (length (definitions_after e))
+    → (after : List (Option Outcome)) → AreResults e.known (definitions_after e) after → IsDecided e after (λ k. true) rs (length (definitions_after e))
 ready_end e q rs low is r none after are =
     let d = decided_to e after (is_waiting q) rs low (length (definitions_after e)) is are (r.decided after are) r.within (omega arith) (λ j lt. none j) in
     record { each = d.each; ascend = d.ascend; stale = d.stale; settled = λ k le lt. absurd (omega (arith, le, lt)) }
@@ -84,11 +84,11 @@ ready_end e q rs low is r none after are =
 -- what waits behind a decided item
 pub ready_after : (e : TextEdit) (q q1 q2 : Queue) (rs new : List Rechecked) (low k : ℕ) → IsEdit e → IsReady e q rs low → is_waiting q k ≡ true → ((j : ℕ) → is_waiting q j ≡ true → j < k → ⊥)
     → ((j : ℕ) → (j ≡ k → ⊥) → is_waiting q1 j ≡ is_waiting q j) → is_waiting q1 k ≡ false → AddsItems q1 q2 (k + 1) (length (definitions_after e))
-    → ((after : List (Option Outcome)) → AreResults (definitions_after e) after → IsDecided e after (is_waiting q2) new (k + 1)) → IsReady e q2 new (k + 1)
+    → ((after : List (Option Outcome)) → AreResults e.known (definitions_after e) after → IsDecided e after (is_waiting q2) new (k + 1)) → IsReady e q2 new (k + 1)
 ready_after e q q1 q2 rs new low k is r waited least kept out adds decided =
     let at = r.range k waited in
     let lt = at.1 in
-    let some = has_results (definitions_after e) in
+    let some = has_results e.known (definitions_after e) in
     record {
       within = omega (arith, lt);
       range = λ j w. by j w (is_waiting q1 j) refl;
@@ -108,9 +108,9 @@ ready_after e q q1 q2 rs new low k is r waited least kept out adds decided =
 
 -- ---- the end
 
-pub rechecked_all : (e : TextEdit) (rs : List Rechecked) → ((after : List (Option Outcome)) → AreResults (definitions_after e) after → IsDecided e after (λ k. true) rs (length (definitions_after e))) → IsRecheck e rs
+pub rechecked_all : (e : TextEdit) (rs : List Rechecked) → ((after : List (Option Outcome)) → AreResults e.known (definitions_after e) after → IsDecided e after (λ k. true) rs (length (definitions_after e))) → IsRecheck e rs
 rechecked_all e rs decided =
-    let some = has_results (definitions_after e) in
+    let some = has_results e.known (definitions_after e) in
     let d = decided some.0 some.1 in
     record {
       after = some.0;

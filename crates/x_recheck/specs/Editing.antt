@@ -4,7 +4,7 @@ use Rattle.std.specs.Prelude.{slice_get, option_and_then, if◌then◌else◌}
 use Rattle.std.specs.List.{splice}
 use Rattle.x_trees.specs.Tree.{Definition}
 use Rattle.x_names.specs.Declarers.{AreShort}
-use Rattle.x_rules.specs.Results.{Outcome, AreResults, result_at}
+use Rattle.x_rules.specs.Results.{KnownNames, Outcome, AreResults, result_at}
 use Rattle.x_uses.specs.declared.uses.ItemSplice.{ItemSplice}
 
 -- what a list of definitions has for an item
@@ -27,14 +27,16 @@ new_number place j =
 abbrev pub old_result : ItemSplice → List (Option Outcome) → ℕ → Option Outcome
 old_result place outcomes k = option_and_then (result_at outcomes) (old_number place k)
 
--- The definitions of the items of a text, and what checking them found.
+-- What is known of names before a text, the definitions of its items, and what checking them found.
 pub record CheckedText : Type 0 where
+  pub known : KnownNames
   pub definitions : List (Option Definition)
   pub outcomes : List (Option Outcome)
 
--- An edit of a text: the definitions of its items and what checking them found, the place, and the
--- definitions that are put there.
+-- An edit of a text: what is known of names before it, the definitions of its items and what checking them
+-- found, the place, and the definitions that are put there.
 pub record TextEdit : Type 0 where
+  pub known : KnownNames
   pub old : List (Option Definition)
   pub outcomes : List (Option Outcome)
   pub place : ItemSplice
@@ -42,7 +44,13 @@ pub record TextEdit : Type 0 where
 
 -- an edit of this text, which puts these definitions in at the place
 abbrev pub edit_at : CheckedText → ItemSplice → List (Option Definition) → TextEdit
-edit_at text place put = record { old = text.definitions; outcomes = text.outcomes; place = place; put = put }
+edit_at text place put = record {
+  known = text.known;
+  old = text.definitions;
+  outcomes = text.outcomes;
+  place = place;
+  put = put;
+}
 
 -- the definitions after the edit
 abbrev pub definitions_after : TextEdit → List (Option Definition)
@@ -58,6 +66,6 @@ pub record IsEdit (e : TextEdit) : Type 0 where
   pub within : e.place.at + e.place.removed ≤ length e.old
   pub added : e.place.added ≡ length e.put
   pub few : length e.old + length e.put < 2 ^ 32
-  pub results : AreResults e.old e.outcomes
+  pub results : AreResults e.known e.old e.outcomes
   pub short : AreShort e.old
   pub short_put : AreShort e.put

@@ -39,8 +39,8 @@ AreEditedItems text items = HasTables (edit_of text items) items.uses.now items.
 
 -- the item of this old number sees the name after the edit, by these results, as it did before
 abbrev pub SeesSame : TextEdit → (ℕ → Option Outcome) → ℕ → ℕ → List ℕ → Type 0
-SeesSame e results was k name = view_by e.old (result_at e.outcomes) was name
-    ≡ view_by (definitions_after e) results k name
+SeesSame e results was k name = view_by e.known e.old (result_at e.outcomes) was name
+    ≡ view_by e.known (definitions_after e) results k name
 
 -- it sees one of these names otherwise
 abbrev pub SeesOther : TextEdit → (ℕ → Option Outcome) → ℕ → ℕ → List (List ℕ) → Type 0
@@ -162,13 +162,13 @@ pub record IsReady (e : TextEdit) (queue : Queue) (rechecked : List Rechecked) (
   pub within : low ≤ count_after e
   pub range : (k : ℕ) → is_waiting queue k ≡ true → (low ≤ k) × (k < count_after e)
   pub ascend : Ascending 0 (items_of rechecked)
-  pub decided : (after : List (Option Outcome)) → AreResults (definitions_after e) after
+  pub decided : (after : List (Option Outcome)) → AreResults e.known (definitions_after e) after
       → IsDecided e after (is_waiting queue) rechecked low
 
 -- a turn decided the item of this number; or none waited, and all items are decided
 abbrev pub HasAdvanced : TextEdit → ℕ → Option ℕ → List Rechecked → Queue → Type 0
 HasAdvanced e low None rechecked queue =
-    (after : List (Option Outcome)) → AreResults (definitions_after e) after
+    (after : List (Option Outcome)) → AreResults e.known (definitions_after e) after
     → IsDecided e after (λ k. true) rechecked (count_after e)
 HasAdvanced e low (Some k) rechecked queue = (low ≤ k) × (k < count_after e)
     × IsReady e queue rechecked (k + 1)

@@ -15,7 +15,8 @@ use Rattle.x_recheck.specs.declared.rechecking.Rechecked.{Rechecked}
 -- item j before
 abbrev pub SeesOtherwise : TextEdit → List (Option Outcome) → ℕ → ℕ → List ℕ → Type 0
 SeesOtherwise e after j k name =
-    view_by e.old (result_at e.outcomes) j name ≡ view_by (definitions_after e) (result_at after) k name → ⊥
+    view_by e.known e.old (result_at e.outcomes) j name
+    ≡ view_by e.known (definitions_after e) (result_at after) k name → ⊥
 
 -- an item of this old number sees one of these names otherwise than before; a fresh one counts as outdated,
 -- whatever it sees
@@ -66,6 +67,6 @@ CountsChecks before now = (n : ℕ) × (now ≡ checked_more before n)
 -- result.
 pub record IsRecheck (e : TextEdit) (rechecked : List Rechecked) : Type 0 where
   pub after : List (Option Outcome)
-  pub results : AreResults (definitions_after e) after
+  pub results : AreResults e.known (definitions_after e) after
   pub stale : AreStale e after (items_of rechecked)
   pub each : (k : ℕ) → k < count_after e → result_after e rechecked k ≡ result_at after k

@@ -1,9 +1,10 @@
 //! The check of the items that an edit makes stale.
 
-ghost use Rattle.std.specs.Prelude.{◌≡◌, ◌+◌, length, map, IfOk};
+ghost use Rattle.std.specs.Prelude.{◌≡◌, ◌+◌, length, map, option_map, IfOk};
 ghost use Rattle.x_trees.specs.View.{tree_at};
 ghost use Rattle.x_rules.specs.KeptViews.{lent_outcome};
 ghost use Rattle.x_rules.specs.Results.{result_at};
+ghost use Rattle.x_rules.specs.RustViews.{view_view};
 ghost use Rattle.x_recheck.specs.Editing.{CheckedText, IsEdit, definition_at, edit_at};
 ghost use Rattle.x_uses.specs.Occurrences.{IsUsesOf};
 ghost use Rattle.x_recheck.specs.Staleness.{CountsChecks, IsRecheck, checked_more};
@@ -19,15 +20,20 @@ use candidates::first_candidates;
 use checking::check_next;
 use edited_items::EditedItems;
 use std::alloc::Global;
-use x_rules::Checked;
+use x_rules::{Checked, View};
 use x_text::{Meter, NoMemory};
 use x_trees::Definition;
 use x_uses::{ItemSplice, Uses};
 
-/// The items of a text, with what checking them found.
+/// The items of a text, with what checking them found, and what is known of names before it.
 pub trait CheckedItems {
-    /// The definition of each item, if it has one, and what checking it found.
+    /// What is known of names before the text, the definition of each item, if it has one, and what checking
+    /// it found.
     ghost text: { Self → CheckedText };
+
+    /// What each item sees of a name that is known before the text.
+    fn known(&self, name: &[u8]) -> Option<View<'_>>
+        ensures { option_map view_view result ≡ (text self.now).known name.now };
 
     /// The definition of the item of this number, if it has one.
     fn definition(&self, item: usize) -> Option<&Definition>

@@ -7,7 +7,7 @@ use Rattle.x_trees.specs.Tree.{Definition}
 use Rattle.x_outline.specs.Bodies.{bodies, enumerators}
 use Rattle.x_rules.specs.Constants.{knowns}
 use Rattle.x_rules.specs.Found.{found_faults}
-use Rattle.x_rules.specs.Results.{Outcome, IsOutcome, IsResult, AreResultsFrom, AreResults, result_at, view_by, meanings_by}
+use Rattle.x_rules.specs.Results.{KnownNames, Outcome, IsOutcome, IsResult, AreResultsFrom, AreResults, result_at, view_by, meanings_by}
 use Rattle.x_rules.specs.Rules.{AreFaults}
 use Rattle.x_rules.specs.Views.{View, seen}
 use Rattle.x_trees.specs.Seen.{names_of}
@@ -40,17 +40,17 @@ has_outcome d views =
 
 -- ---- of a text
 
-has_result : (definitions : List (Option Definition)) (results : ℕ → Option Outcome) (item : ℕ) (d : Option Definition) → (o : Option Outcome) × IsResult definitions results item d o
-has_result definitions results item None = (None, tt)
-has_result definitions results item (Some d) = let o = has_outcome d (map (view_by definitions results item) (names_of d)) in (Some o.0, o.1)
+has_result : (known : KnownNames) (definitions : List (Option Definition)) (results : ℕ → Option Outcome) (item : ℕ) (d : Option Definition) → (o : Option Outcome) × IsResult known definitions results item d o
+has_result known definitions results item None = (None, tt)
+has_result known definitions results item (Some d) = let o = has_outcome d (map (view_by known definitions results item) (names_of d)) in (Some o.0, o.1)
 
 -- a result stays one where the results of the items before it stay
-pub stays_result : (definitions : List (Option Definition)) (r s : ℕ → Option Outcome) (item : ℕ) (d : Option Definition) (o : Option Outcome) → AgreeBefore r s item
-    → IsResult definitions r item d o → IsResult definitions s item d o
-stays_result definitions r s item None None h a = tt
-stays_result definitions r s item None (Some o) h a = absurd a
-stays_result definitions r s item (Some d) None h a = absurd a
-stays_result definitions r s item (Some d) (Some o) h a = subst (λ views. IsOutcome d views o) (same_views definitions r s item h (names_of d)) a
+pub stays_result : (known : KnownNames) (definitions : List (Option Definition)) (r s : ℕ → Option Outcome) (item : ℕ) (d : Option Definition) (o : Option Outcome) → AgreeBefore r s item
+    → IsResult known definitions r item d o → IsResult known definitions s item d o
+stays_result known definitions r s item None None h a = tt
+stays_result known definitions r s item None (Some o) h a = absurd a
+stays_result known definitions r s item (Some d) None h a = absurd a
+stays_result known definitions r s item (Some d) (Some o) h a = subst (λ views. IsOutcome d views o) (same_views known definitions r s item h (names_of d)) a
 
 get_front : {X : Type 0} (xs ys : List X) (k : ℕ) → k < length xs → slice_get xs k ≡ slice_get (xs ++ ys) k
 get_front [] ys k lt = absurd (omega (arith, lt))
@@ -62,20 +62,20 @@ pub agree_front : (before more : List (Option Outcome)) (item : ℕ) → item �
 agree_front before more item is k lt = ap (option_and_then (λ o. o)) (get_front before more k (omega (arith, is, lt)))
 
 -- behind the results of the items before them, items have results
-results_behind : (definitions : List (Option Definition)) (before : List (Option Outcome)) (item : ℕ) (ds : List (Option Definition)) → item ≡ length before
-    → (more : List (Option Outcome)) × AreResultsFrom definitions (result_at (before ++ more)) item ds more
-results_behind definitions before item [] is = ([], tt)
-results_behind definitions before item (d ∷ ds) is =
-    let first = has_result definitions (result_at before) item d in
+results_behind : (known : KnownNames) (definitions : List (Option Definition)) (before : List (Option Outcome)) (item : ℕ) (ds : List (Option Definition)) → item ≡ length before
+    → (more : List (Option Outcome)) × AreResultsFrom known definitions (result_at (before ++ more)) item ds more
+results_behind known definitions before item [] is = ([], tt)
+results_behind known definitions before item (d ∷ ds) is =
+    let first = has_result known definitions (result_at before) item d in
     let o = first.0 in
-    let rest = results_behind definitions (before ++ o ∷ []) (suc item) ds (omega (arith, is, length-append before (o ∷ []))) in (
+    let rest = results_behind known definitions (before ++ o ∷ []) (suc item) ds (omega (arith, is, length-append before (o ∷ []))) in (
       o ∷ rest.0,
       (
-        stays_result definitions (result_at before) (result_at (before ++ o ∷ rest.0)) item d o (agree_front before (o ∷ rest.0) item is) first.1,
-        subst (λ l. AreResultsFrom definitions (result_at l) (suc item) ds rest.0) (append_assoc before (o ∷ []) rest.0) rest.1,
+        stays_result known definitions (result_at before) (result_at (before ++ o ∷ rest.0)) item d o (agree_front before (o ∷ rest.0) item is) first.1,
+        subst (λ l. AreResultsFrom known definitions (result_at l) (suc item) ds rest.0) (append_assoc before (o ∷ []) rest.0) rest.1,
       ),
     )
 
 -- a text has a list of results
-pub has_results : (definitions : List (Option Definition)) → (rs : List (Option Outcome)) × AreResults definitions rs
-has_results definitions = results_behind definitions [] 0 definitions refl
+pub has_results : (known : KnownNames) (definitions : List (Option Definition)) → (rs : List (Option Outcome)) × AreResults known definitions rs
+has_results known definitions = results_behind known definitions [] 0 definitions refl

@@ -96,42 +96,59 @@ view_of results item (Some at) =
     if nat_lt at.item item then Earlier at.kind at.lifted (meaning_at results at)
     else (if nat_lt item at.item then Later at.kind at.lifted else Own at.kind at.lifted)
 
--- what an item sees of a name, by the name's first declarer and what checking that item gives
-abbrev pub view_named : ℕ → List ℕ → Option Declarer → Option Outcome → View
-view_named item name first declaring =
+-- What is known of names before a text, by definitions that stand before it: what its items see of each name
+-- that these declare, whoever declares it in the text.
+abbrev pub KnownNames : Type 0
+KnownNames = List ℕ → Option View
+
+-- nothing is known before a text
+abbrev pub no_names : KnownNames
+no_names name = None
+
+-- what is known of a name, and else this
+abbrev pub known_or : Option View → View → View
+known_or None view = view
+known_or (Some known) view = known
+
+-- what an item sees of a name, by what is known of it before the text, the name's first declarer and what
+-- checking that item gives
+abbrev pub view_named : ℕ → List ℕ → Option View → Option Declarer → Option Outcome → View
+view_named item name known first declaring =
     if is_beforehand name then Earlier kinds.Constant false (beforehand_meaning name)
-    else view_of (λ k. declaring) item first
+    else known_or known (view_of (λ k. declaring) item first)
 
 -- what an item of a text with these definitions sees of a name; of the results only those of earlier items
 -- are read
-abbrev pub view_by : List (Option Definition) → (ℕ → Option Outcome) → ℕ → List ℕ → View
-view_by definitions results item name =
+abbrev pub view_by : KnownNames → List (Option Definition) → (ℕ → Option Outcome) → ℕ → List ℕ → View
+view_by known definitions results item name =
     if is_beforehand name then Earlier kinds.Constant false (beforehand_meaning name)
-    else view_of results item (first_declarer definitions name)
+    else known_or (known name) (view_of results item (first_declarer definitions name))
 
 -- what checking the definition of an item gives, by the results of the items before it; an item without one
 -- gives nothing
-abbrev pub IsResult : List (Option Definition) → (ℕ → Option Outcome) → ℕ → Option Definition
+abbrev pub IsResult : KnownNames → List (Option Definition) → (ℕ → Option Outcome) → ℕ → Option Definition
     → Option Outcome → Type 0
-IsResult definitions results item None None = Unit {0}
-IsResult definitions results item None (Some o) = ⊥
-IsResult definitions results item (Some d) None = ⊥
-IsResult definitions results item (Some d) (Some o) =
-    IsOutcome d (map (view_by definitions results item) (names_of d)) o
+IsResult known definitions results item None None = Unit {0}
+IsResult known definitions results item None (Some o) = ⊥
+IsResult known definitions results item (Some d) None = ⊥
+IsResult known definitions results item (Some d) (Some o) =
+    IsOutcome d (map (view_by known definitions results item) (names_of d)) o
 
 -- what a list of results has for an item
 abbrev pub result_at : List (Option Outcome) → ℕ → Option Outcome
 result_at results item = option_and_then (λ o. o) (slice_get results item)
 
 -- the results of these items, of which the first has the number `item`
-abbrev pub AreResultsFrom : List (Option Definition) → (ℕ → Option Outcome) → ℕ → List (Option Definition)
-    → List (Option Outcome) → Type 0
-AreResultsFrom definitions results item [] [] = Unit {0}
-AreResultsFrom definitions results item [] (o ∷ os) = ⊥
-AreResultsFrom definitions results item (d ∷ ds) [] = ⊥
-AreResultsFrom definitions results item (d ∷ ds) (o ∷ os) =
-    IsResult definitions results item d o × AreResultsFrom definitions results (suc item) ds os
+abbrev pub AreResultsFrom : KnownNames → List (Option Definition) → (ℕ → Option Outcome) → ℕ
+    → List (Option Definition) → List (Option Outcome) → Type 0
+AreResultsFrom known definitions results item [] [] = Unit {0}
+AreResultsFrom known definitions results item [] (o ∷ os) = ⊥
+AreResultsFrom known definitions results item (d ∷ ds) [] = ⊥
+AreResultsFrom known definitions results item (d ∷ ds) (o ∷ os) =
+    IsResult known definitions results item d o × AreResultsFrom known definitions results (suc item) ds os
 
--- the results of all items of a text: each is what checking the item gives
-abbrev pub AreResults : List (Option Definition) → List (Option Outcome) → Type 0
-AreResults definitions results = AreResultsFrom definitions (result_at results) 0 definitions results
+-- the results of all items of a text, before which these names are known: each is what checking the item
+-- gives
+abbrev pub AreResults : KnownNames → List (Option Definition) → List (Option Outcome) → Type 0
+AreResults known definitions results =
+    AreResultsFrom known definitions (result_at results) 0 definitions results

@@ -4,7 +4,7 @@ ghost use Rattle.std.specs.Prelude.{◌≡◌, ℕ, List, Option};
 ghost use Rattle.x_trees.specs.Tree.{Definition};
 ghost use Rattle.x_rules.specs.Views.{View};
 ghost use Rattle.x_rules.specs.Rules.{AreFaults};
-ghost use Rattle.x_rules.specs.Results.{Outcome, IsOutcome, AreResults};
+ghost use Rattle.x_rules.specs.Results.{KnownNames, Outcome, IsOutcome, AreResults};
 ghost use Rattle.x_rules.specs.declared.fault.WordFault.{WordFault};
 
 /// The rules and the views determine the faults of a definition.
@@ -19,14 +19,14 @@ pub fn one_outcome()
         → IsOutcome d views a → IsOutcome d views b → a ≡ b }
 {}
 
-/// The definitions of a text determine the results of all items.
+/// The definitions of a text, and what is known of names before it, determine the results of all items.
 pub fn one_list_of_results()
-    ensures { (definitions : List (Option Definition)) (rs ss : List (Option Outcome))
-        → AreResults definitions rs → AreResults definitions ss → rs ≡ ss }
+    ensures { (known : KnownNames) (definitions : List (Option Definition)) (rs ss : List (Option Outcome))
+        → AreResults known definitions rs → AreResults known definitions ss → rs ≡ ss }
 {}
 
 /// A text has results of all items.
 pub fn has_results()
-    ensures { (definitions : List (Option Definition))
-        → (rs : List (Option Outcome)) × AreResults definitions rs }
+    ensures { (known : KnownNames) (definitions : List (Option Definition))
+        → (rs : List (Option Outcome)) × AreResults known definitions rs }
 {}

@@ -1,6 +1,6 @@
 //! What an item sees of a name.
 
-ghost use Rattle.std.specs.Prelude.{◌≡◌};
+ghost use Rattle.std.specs.Prelude.{◌≡◌, option_map};
 ghost use Rattle.x_rules.specs.RustViews.{view_view, view_meaning};
 ghost use Rattle.x_rules.specs.KeptViews.{lent_outcome};
 ghost use Rattle.x_rules.specs.Results.{beforehand_meaning, view_named};
@@ -91,15 +91,19 @@ fn beforehand_meaning(name: &[u8]) -> Meaning<'static>
 }
 
 impl<'v> View<'v> {
-    /// What an item sees of a name. `first` is the name's first declarer, and `declaring` what checking that
-    /// item found, which is read where the item stands earlier; without it the name is bad.
+    /// What an item sees of a name. `known` is what is known of it before the text, which comes before all
+    /// that the text says. `first` is the name's first declarer, and `declaring` what checking that item
+    /// found, which is read where the item stands earlier; without it the name is bad.
     pub fn of(
         item: usize,
         name: &[u8],
+        known: Option<View<'v>>,
         first: Option<Declarer>,
         declaring: Option<&'v Checked>,
     ) -> View<'v>
-        ensures { view_view result ≡ view_named item name.now first (lent_outcome declaring.entry) }
+        ensures { view_view result
+            ≡ view_named item name.now (option_map view_view known.entry) first
+            (lent_outcome declaring.entry) }
     {
         if is_beforehand(name) {
             return View::Earlier {
@@ -107,6 +111,9 @@ impl<'v> View<'v> {
                 lifted: false,
                 meaning: beforehand_meaning(name),
             };
+        }
+        if let Some(view) = known {
+            return view;
         }
         let Some(
             Declarer {

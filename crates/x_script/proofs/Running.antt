@@ -19,7 +19,7 @@ pub record IsBetween (file script : List ℕ) (old : Document) (start : Stream) 
   pub given : List (List ℕ)
   pub all : Answer
   pub reads : HasGiven script reader left given
-  pub answered : AreAnswered file old.base old.text given all
+  pub answered : AreAnswered file old.base old.known old.text given all
   pub session_is : LeavesText old session all.text
   pub refused_is : refused ≡ all.refused
   pub writes : Writes start all.told pen now
@@ -43,7 +43,7 @@ at_start file script old start reader left pen left_is reader_is pen_is = record
     whole_are = λ goes next. refl;
   };
   answered = refl;
-  session_is = record { text_is = refl; base_is = refl };
+  session_is = record { text_is = refl; base_is = refl; known_is = refl };
   refused_is = refl;
   writes = subst (λ (p : Inked). Writes start [] p start) (sym pen_is) (writes_none start);
   goes = ap (λ (p : Inked). p.stopped) pen_is;
@@ -59,9 +59,9 @@ pub record IsBehind (file script : List ℕ) (old : Document) (start : Stream) (
   pub items : List Item
   pub answer : Answer
   pub reads : HasGiven script reader left (earlier ++ last ∷ [])
-  pub answered : AreAnswered file old.base old.text earlier all
-  pub compiled : IsCompilation all.text tokens items
-  pub is_answer : IsLineAnswer file old.base all.text items last answer
+  pub answered : AreAnswered file old.base old.known old.text earlier all
+  pub compiled : IsCompilation old.known all.text tokens items
+  pub is_answer : IsLineAnswer file old.base old.known all.text items last answer
   pub session_is : LeavesText old session answer.text
   pub refused_is : refused ≡ (all.refused || answer.refused)
   pub writes : Writes start (all.told ++ answer.told) pen now
@@ -72,7 +72,7 @@ no_fewer_then a b c d is first second = omega (arith, is, first, second)
 
 pub behind : (file script : List ℕ) (old : Document) (start : Stream) (session new : Document) (reader reader' : Reading) (left left' : Option (List ℕ)) (refused refuses : Bool)
     (p q r : Inked) (now now' now'' : Stream) → (h : IsBetween file script old start session reader left refused p now)
-    → ((line : List ℕ) × HasGiven script reader' left' (h.given ++ line ∷ []) × LineAnswers file session.base session.text line (λ a. IsGiven a session new refuses p now q now'))
+    → ((line : List ℕ) × HasGiven script reader' left' (h.given ++ line ∷ []) × LineAnswers file session.base session.known session.text line (λ a. IsGiven a session new refuses p now q now'))
     → Adds q now' r now'' []
     → IsBehind file script old start new reader' left' (refused || refuses) r now''
 behind file script old start session new reader reader' left left' refused refuses p q r now now' now'' h k flushed =
@@ -80,8 +80,10 @@ behind file script old start session new reader reader' left left' refused refus
     let items = k.2.1 in
     let text_is : session.text ≡ h.all.text = h.session_is.text_is in
     let base_is : session.base ≡ old.base = h.session_is.base_is in
+    let known_is : session.known ≡ old.known = h.session_is.known_is in
     let a = k.2.3.0 in
-    let is_answer : IsLineAnswer file old.base h.all.text items line a = subst (λ b. IsLineAnswer file b h.all.text items line a) base_is (subst (λ t. IsLineAnswer file session.base t items line a) text_is k.2.3.1) in
+    let is_answer : IsLineAnswer file old.base old.known h.all.text items line a = subst (λ b. IsLineAnswer file b old.known h.all.text items line a) base_is
+    (subst (λ n. IsLineAnswer file session.base n h.all.text items line a) known_is (subst (λ t. IsLineAnswer file session.base session.known t items line a) text_is k.2.3.1)) in
     let given : IsGiven a session new refuses p now q now' = k.2.3.2 in
     let told = flushed.goes_on start (h.all.told ++ a.told) (given.added.goes_on start h.all.told h.writes) in
     record {
@@ -94,8 +96,8 @@ behind file script old start session new reader reader' left left' refused refus
       is_answer = is_answer;
       reads = k.1;
       answered = h.answered;
-      compiled = subst (λ t. IsCompilation t k.2.0 items) text_is k.2.2;
-      session_is = record { text_is = given.session_is.text_is; base_is = given.session_is.base_is ∙ base_is };
+      compiled = subst (λ n. IsCompilation n h.all.text k.2.0 items) known_is (subst (λ t. IsCompilation session.known t k.2.0 items) text_is k.2.2);
+      session_is = record { text_is = given.session_is.text_is; base_is = given.session_is.base_is ∙ base_is; known_is = given.session_is.known_is ∙ known_is };
       refused_is = λ i. h.refused_is i || given.refused_is i;
       writes = subst (λ t. Writes start t r now'') (append-nil (h.all.told ++ a.told)) told;
       whole = no_fewer_then (counted (length h.all.told)) p.written q.written r.written (counted_all p start now h.all.told h.goes h.empty h.writes) given.added.no_fewer flushed.no_fewer;
@@ -107,7 +109,7 @@ between file script old start session reader left refused pen now h goes empty =
   given = h.earlier ++ h.last ∷ [];
   all = then_answer h.all h.answer;
   reads = h.reads;
-  answered = answered_more file old.base old.text h.earlier h.last h.all h.answered h.answer (λ P k. (h.tokens, h.items, h.compiled, (h.answer, h.is_answer, k)));
+  answered = answered_more file old.base old.known old.text h.earlier h.last h.all h.answered h.answer (λ P k. (h.tokens, h.items, h.compiled, (h.answer, h.is_answer, k)));
   session_is = h.session_is;
   refused_is = h.refused_is;
   writes = h.writes;

@@ -13,6 +13,7 @@ use Rattle.x_value.specs.declared.fault.ReadCode.{ReadCode}
 use Rattle.x_value.specs.declared.fault.ReadCode.TheVariants as codes_of
 use Rattle.x_script.specs.Answers.{Answer, answered, refused, refused_by}
 use Rattle.x_compile.specs.Compile.{Item}
+use Rattle.x_compile.specs.Known.{KnownText}
 use Rattle.x_script.specs.Refusals.{refusal_line}
 use Rattle.x_script.specs.Script.{AddsAnswer, TellsOver}
 use Rattle.x_script.specs.declared.script.refusal.LineRefusal.TheVariants as refusals
@@ -44,18 +45,18 @@ module _ (p q : Inked) (now now' : Stream) where
   tells_typed s id name message (Ok b) is h = λ text. (let told = h text in (told.0, typed id is told.1, told.2))
   tells_typed s id name message (Err e) is h = h
 
-  pub tells_faulty : (text : List ℕ) (items : List Item) (name message : List ℕ) (r : Result Schema SchemaFault) → r ≡ Err Faulty → GivesSchema text items r
+  pub tells_faulty : (known : KnownText) (text : List ℕ) (items : List Item) (name message : List ℕ) (r : Result Schema SchemaFault) → r ≡ Err Faulty → GivesSchema known text items r
       → Adds p now q now' (refusal_line refusals.Faulty)
-      → (a : Answer) × IsDumpAnswer text items name message a × AddsAnswer a text true p now q now'
-  tells_faulty text items name message r is gives added =
-      (refused_by text refusals.Faulty, faulty (subst (GivesSchema text items) is gives) refl, record { added = added; refused_is = refl; text_is = refl })
+      → (a : Answer) × IsDumpAnswer known text items name message a × AddsAnswer a text true p now q now'
+  tells_faulty known text items name message r is gives added =
+      (refused_by text refusals.Faulty, faulty (subst (GivesSchema known text items) is gives) refl, record { added = added; refused_is = refl; text_is = refl })
 
-  pub tells_faultless : (text name message : List ℕ) (s : Schema) (r : Result Schema SchemaFault) (t : Result Bool NoMemory) → r ≡ Ok s
-      → Compiles text (λ items. GivesSchema text items r)
+  pub tells_faultless : (known : KnownText) (text name message : List ℕ) (s : Schema) (r : Result Schema SchemaFault) (t : Result Bool NoMemory) → r ≡ Ok s
+      → Compiles known text (λ items. GivesSchema known text items r)
       → IfOk t (λ refused. TellsOver (IsTypedAnswer s name message) refused p now q now')
-      → IfOk t (λ refused. Compiles text (λ items. (a : Answer) × IsDumpAnswer text items name message a × AddsAnswer a text refused p now q now'))
-  tells_faultless text name message s r (Ok b) is gives h =
-      let given = subst (GivesSchema text gives.1) is gives.3 in
+      → IfOk t (λ refused. Compiles known text (λ items. (a : Answer) × IsDumpAnswer known text items name message a × AddsAnswer a text refused p now q now'))
+  tells_faultless known text name message s r (Ok b) is gives h =
+      let given = subst (GivesSchema known text gives.1) is gives.3 in
       let told = h text in
       (gives.0, gives.1, gives.2, (told.0, faultless s given.0 given.1 told.1, told.2))
-  tells_faultless text name message s r (Err e) is gives h = h
+  tells_faultless known text name message s r (Err e) is gives h = h

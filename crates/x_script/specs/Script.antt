@@ -4,6 +4,7 @@ use Rattle.std.specs.Prelude.{None, Result, Ok, Err}
 use Rattle.x_text.specs.Streams.{Stream}
 use Rattle.x_text.specs.Writing.{Inked, Adds, HasFront, counted}
 use Rattle.x_session.specs.Session.{Document, LeavesText, Compiles}
+use Rattle.x_compile.specs.Known.{KnownText}
 use Rattle.x_script.specs.Answers.{Answer}
 use Rattle.x_script.specs.LineAnswers.{IsLineAnswer}
 use Rattle.x_lines.specs.declared.lines.LineFault.{LineFault}
@@ -20,17 +21,19 @@ abbrev pub then_answer : Answer → Answer → Answer
 then_answer first rest =
     record { told = first.told ++ rest.told; refused = first.refused || rest.refused; text = rest.text }
 
--- this holds of what a line is answered, over what compiling the text of a file gives
-abbrev pub LineAnswers : (file base text line : List ℕ) → (Answer → Type 0) → Type 0
-LineAnswers file base text line P =
-    Compiles text (λ items. (a : Answer) × IsLineAnswer file base text items line a × P a)
+-- this holds of what a line is answered, over what compiling the text of a file gives, before which this is
+-- known
+abbrev pub LineAnswers : (file base : List ℕ) → KnownText → (text line : List ℕ) → (Answer → Type 0) → Type 0
+LineAnswers file base known text line P =
+    Compiles known text (λ items. (a : Answer) × IsLineAnswer file base known text items line a × P a)
 
 -- the lines, one after another, get these answers in all, and leave this text
-abbrev pub AreAnswered : (file base text : List ℕ) → List (List ℕ) → Answer → Type 0
-AreAnswered file base text [] all = all ≡ record { told = []; refused = false; text = text }
-AreAnswered file base text (line ∷ lines) all =
-    LineAnswers file base text line
-    (λ first. (rest : Answer) × AreAnswered file base first.text lines rest × (all ≡ then_answer first rest))
+abbrev pub AreAnswered : (file base : List ℕ) → KnownText → (text : List ℕ) → List (List ℕ) → Answer → Type 0
+AreAnswered file base known text [] all = all ≡ record { told = []; refused = false; text = text }
+AreAnswered file base known text (line ∷ lines) all =
+    LineAnswers file base known text line
+    (λ first. (rest : Answer) × AreAnswered file base known first.text lines rest
+    × (all ≡ then_answer first rest))
 
 -- an answer was added to what is written, and it leaves this text
 pub record AddsAnswer (a : Answer) (text : List ℕ) (refused : Bool) (p : Inked) (now : Stream) (q : Inked)
@@ -80,7 +83,7 @@ abbrev pub GoesOn : (file : List ℕ) (old new : Document) (script : List ℕ) (
     → (p : Inked) (now : Stream) (q : Inked) (now' : Stream) → Type 0
 GoesOn file old new script reader left given (Ok (Some refused)) p now q now' =
     (line : List ℕ) × HasGiven script reader left (given ++ line ∷ [])
-    × LineAnswers file old.base old.text line (λ a. IsGiven a old new refused p now q now')
+    × LineAnswers file old.base old.known old.text line (λ a. IsGiven a old new refused p now q now')
 GoesOn file old new script reader left given (Ok None) p now q now' =
     (script_lines script ≡ given) × IsAsBefore old new p now q now'
 GoesOn file old new script reader left given (Err fault) p now q now' =
@@ -96,7 +99,7 @@ IsFrontOf script P =
 pub record HasRun (file : List ℕ) (lines : List (List ℕ)) (old new : Document) (before after : Stream)
     (refused : Bool) : Type 0 where
   pub all : Answer
-  pub answered : AreAnswered file old.base old.text lines all
+  pub answered : AreAnswered file old.base old.known old.text lines all
   pub written : Appends before.bytes after.bytes all.told
   pub refused_is : refused ≡ all.refused
   pub session_is : LeavesText old new all.text
@@ -123,8 +126,9 @@ pub record HasFailed (file : List ℕ) (lines : List (List ℕ)) (old new : Docu
   pub last : List ℕ
   pub lines_are : lines ≡ earlier ++ last ∷ []
   pub all : Answer
-  pub answered : AreAnswered file old.base old.text earlier all
-  pub within : LineAnswers file old.base all.text last (λ a. FailsWithin all a old new before after written)
+  pub answered : AreAnswered file old.base old.known old.text earlier all
+  pub within : LineAnswers file old.base old.known all.text last
+      (λ a. FailsWithin all a old new before after written)
 
 -- What a run of a script does, of which the tap has `left` then. A fault of the reader comes behind the
 -- answers of all lines that a line feed ends in what was read, want of memory behind those of some lines,

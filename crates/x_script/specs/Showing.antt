@@ -1,4 +1,5 @@
--- What a line that asks to show a value is answered, over a text and its items.
+-- What a line that asks to show a value is answered, over what is known before a text, the text
+-- and its items.
 use Rattle.std.specs.Prelude.{◌≡◌, ◌<◌, ℕ, List, [], ◌++◌, Some, None, length, codes}
 use Rattle.x_schema.specs.Schema.{Schema, id_named}
 use Rattle.x_schema.specs.Schemas.{IsSchemaOf}
@@ -10,7 +11,9 @@ use Rattle.x_value.specs.Shown.{Node}
 use Rattle.x_value.specs.declared.fault.ReadCode.{ReadCode}
 use Rattle.x_value.specs.declared.fault.ReadCode.TheVariants.{NoMemory}
 use Rattle.x_script.specs.Answers.{Answer, answered, refused, refused_by, counted_line}
-use Rattle.x_compile.specs.Compile.{Item, definitions_of, faults_of}
+use Rattle.x_compile.specs.Compile.{Item, faults_of}
+use Rattle.x_compile.specs.Known.{KnownText}
+use Rattle.x_session.specs.Typed.{all_definitions}
 use Rattle.x_script.specs.declared.script.refusal.LineRefusal.TheVariants.{Faulty, NoType}
 
 -- the nodes of a value
@@ -34,9 +37,10 @@ pub data IsTypedAnswer (s : Schema) (name message text : List ℕ) (a : Answer) 
       → IsTypedAnswer s name message text a
 
 -- a text with a fault has no types
-pub data IsDumpAnswer (text : List ℕ) (items : List Item) (name message : List ℕ) (a : Answer) : Type 0 where
+pub data IsDumpAnswer (known : KnownText) (text : List ℕ) (items : List Item) (name message : List ℕ)
+    (a : Answer) : Type 0 where
   faulty : 0 < length (faults_of text items) → a ≡ refused_by text Faulty
-      → IsDumpAnswer text items name message a
-  faultless : (s : Schema) → faults_of text items ≡ [] → IsSchemaOf (definitions_of items) s
+      → IsDumpAnswer known text items name message a
+  faultless : (s : Schema) → faults_of text items ≡ [] → IsSchemaOf (all_definitions known items) s
       → IsTypedAnswer s name message text a
-      → IsDumpAnswer text items name message a
+      → IsDumpAnswer known text items name message a

@@ -121,7 +121,7 @@ fn carry_out<S: Sink>(
     sink: &mut S,
 ) -> Result<bool, NoMemory>
     ensures given { IfOk result
-        (λ refused. Compiles session.old.text
+        (λ refused. Compiles session.old.known session.old.text
         (λ items. IsGiven (answer session.old.base session.old.text items command.now)
         session.old session.new refused pen.old (S.state sink.old) pen.new (S.state sink.new))) }
     ensures same { OnErr result ((session.new ≡ session.old) × (pen.new ≡ pen.old) × (sink.new ≡ sink.old)) }
@@ -160,7 +160,7 @@ fn answer_line<S: Sink>(
 ) -> Result<bool, NoMemory>
     requires { length line.now ≤ LONGEST }
     ensures given { IfOk result
-        (λ refused. LineAnswers file.now session.old.base session.old.text line.now
+        (λ refused. LineAnswers file.now session.old.base session.old.known session.old.text line.now
         (λ a. IsGiven a session.old session.new refused pen.old (S.state sink.old) pen.new
         (S.state sink.new))) }
     ensures same { OnErr result ((session.new ≡ session.old) × (pen.new ≡ pen.old) × (sink.new ≡ sink.old)) }

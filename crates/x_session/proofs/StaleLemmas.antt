@@ -20,7 +20,7 @@ use Rattle.x_trees.specs.Tree.{Definition}
 use Rattle.x_cutting.specs.declared.cutting.item_entry.ItemEntry.{ItemEntry}
 use Rattle.x_text.proofs.ListLemmas.{get_drop}
 use Rattle.x_names.specs.Declarers.{AreShort}
-use Rattle.x_rules.specs.Results.{AreResults, AreResultsFrom, Outcome, result_at}
+use Rattle.x_rules.specs.Results.{AreResults, AreResultsFrom, KnownNames, Outcome, result_at}
 use Rattle.x_trees.specs.Seen.{names_of}
 use Rattle.x_trees.proofs.AmongLemmas.{among_first, among_more}
 use Rattle.x_recheck.specs.Editing.{IsEdit, definition_at, definitions_after, edit_at, old_number, old_result}
@@ -178,11 +178,11 @@ lists_same (x ∷ xs) (y ∷ ys) long each =
     let rest = lists_same xs ys (omega (arith, long)) (λ n lt. each (suc n) (omega (arith, lt))) in
     λ i. here i ∷ rest i
 
-results_long : (definitions : List (Option Definition)) (results : ℕ → Option Outcome) (n : ℕ) (ds : List (Option Definition)) (os : List (Option Outcome)) → AreResultsFrom definitions results n ds os → length ds ≡ length os
-results_long definitions results n [] [] are = refl
-results_long definitions results n [] (o ∷ os) are = absurd are
-results_long definitions results n (d ∷ ds) [] are = absurd are
-results_long definitions results n (d ∷ ds) (o ∷ os) are = ap suc (results_long definitions results (suc n) ds os are.1)
+results_long : (known : KnownNames) (definitions : List (Option Definition)) (results : ℕ → Option Outcome) (n : ℕ) (ds : List (Option Definition)) (os : List (Option Outcome)) → AreResultsFrom known definitions results n ds os → length ds ≡ length os
+results_long known definitions results n [] [] are = refl
+results_long known definitions results n [] (o ∷ os) are = absurd are
+results_long known definitions results n (d ∷ ds) [] are = absurd are
+results_long known definitions results n (d ∷ ds) (o ∷ os) are = ap suc (results_long known definitions results (suc n) ds os are.1)
 
 overlaid_long : (n : ℕ) (ks : List Content) (ps : List PlannedResult) → length (overlaid n ks ps) ≡ length ks
 overlaid_long n [] ps = refl
@@ -201,19 +201,19 @@ definition_here (x ∷ ks) zero k is = ap kept_definition (same_Some x k is)
 definition_here (x ∷ ks) (suc n) k is = definition_here ks n k is
 
 -- the definitions behind the edit
-pub edited_definitions : (es : List (ItemEntry Content)) (p : ItemChange Content) → definitions_after (edit_of es p) ≡ kept_definitions (items.kept (patched es p))
-edited_definitions es p = sym (definitions_splice es p) ∙ sym (definitions_kept (patched es p))
+pub edited_definitions : (known : KnownNames) (es : List (ItemEntry Content)) (p : ItemChange Content) → definitions_after (edit_of known es p) ≡ kept_definitions (items.kept (patched es p))
+edited_definitions known es p = sym (definitions_splice es p) ∙ sym (definitions_kept (patched es p))
 
 have_all : (ks : List Content) (rs : List Rechecked) → ((n : ℕ) → IsAmong (map (λ (r : Rechecked). r.item) rs) n → HasDefinitionAt ks n) → HaveDefinitions ks rs
 have_all ks [] each = tt
 have_all ks (r ∷ rs) each = (each r.item (among_first r.item (map (λ (x : Rechecked). x.item) rs)), have_all ks rs (λ n is. each n (among_more r.item n (map (λ (x : Rechecked). x.item) rs) is)))
 
-pub have_definitions : (es : List (ItemEntry Content)) (p : ItemChange Content) (rs : List Rechecked) → IsRecheck (edit_of es p) rs → HaveDefinitions (items.kept (patched es p)) rs
-have_definitions es p rs h =
+pub have_definitions : (known : KnownNames) (es : List (ItemEntry Content)) (p : ItemChange Content) (rs : List Rechecked) → IsRecheck (edit_of known es p) rs → HaveDefinitions (items.kept (patched es p)) rs
+have_definitions known es p rs h =
     let ks = items.kept (patched es p) in
     have_all ks rs (λ n is.
     let stale = (h.stale.each n).0 is in
-    defined_at ks n stale.definition (sym (ap (λ ds. definition_at ds n) (edited_definitions es p)) ∙ stale.has))
+    defined_at ks n stale.definition (sym (ap (λ ds. definition_at ds n) (edited_definitions known es p)) ∙ stale.has))
 
 -- ---- it is an edit
 
@@ -223,9 +223,9 @@ fresh_few xs ys i j = let a = length-append (take i xs) (ys ++ drop j xs) in let
 most_items : MAX_TEXT + 1 + (MAX_TEXT + 1) ≤ 2 ^ 32 - 1
 most_items = lit≤ tt
 
-pub is_edit : (es : List (ItemEntry Content)) (p : ItemChange Content) → LiesAmong es p → length es ≤ MAX_TEXT + 1 → AreOfText (counts (patched es p)) → AreResults (entry_definitions es) (entry_results es)
-    → AreShort (entry_definitions es) → AreShort (entry_definitions p.fresh) → IsEdit (edit_of es p)
-is_edit es p among few new results short fresh =
+pub is_edit : (known : KnownNames) (es : List (ItemEntry Content)) (p : ItemChange Content) → LiesAmong es p → length es ≤ MAX_TEXT + 1 → AreOfText (counts (patched es p)) → AreResults known (entry_definitions es) (entry_results es)
+    → AreShort (entry_definitions es) → AreShort (entry_definitions p.fresh) → IsEdit (edit_of known es p)
+is_edit known es p among few new results short fresh =
     let b = length-map (patched es p) (λ (e : ItemEntry Content). e.tokens) in
     let c = length-map es (λ (e : ItemEntry Content). kept_definition e.kept) in
     let d = length-map p.fresh (λ (e : ItemEntry Content). kept_definition e.kept) in
@@ -243,7 +243,7 @@ is_edit es p among few new results short fresh =
 
 -- ---- all of it
 
-module _ (es : List (ItemEntry Content)) (p : ItemChange Content) (rs : List Rechecked) (ps : List PlannedResult) (among : LiesAmong es p) (h : IsRecheck (edit_of es p) rs) (are : AreRenderings (items.kept (patched es p)) rs ps)
+module _ (known : KnownNames) (es : List (ItemEntry Content)) (p : ItemChange Content) (rs : List Rechecked) (ps : List PlannedResult) (among : LiesAmong es p) (h : IsRecheck (edit_of known es p) rs) (are : AreRenderings (items.kept (patched es p)) rs ps)
     (sound : All (λ (e : ItemEntry Content). IsSound e.kept) es) (unchecked : All (λ (e : ItemEntry Content). kept_found e.kept ≡ None) p.fresh) where
   ks : List Content
   ks = items.kept (patched es p)
@@ -251,8 +251,8 @@ module _ (es : List (ItemEntry Content)) (p : ItemChange Content) (rs : List Rec
   same_after : map found_result (behind es p ps) ≡ h.after
   unfolding ks place_of
   same_after =
-      let long = results_long (definitions_after (edit_of es p)) (result_at h.after) 0 (definitions_after (edit_of es p)) h.after h.results in
-      let defs = ap length (edited_definitions es p) in
+      let long = results_long known (definitions_after (edit_of known es p)) (result_at h.after) 0 (definitions_after (edit_of known es p)) h.after h.results in
+      let defs = ap length (edited_definitions known es p) in
       let a = length-map ks kept_definition in
       let b = length-map (behind es p ps) found_result in
       let c = overlaid_long 0 ks ps in
@@ -280,8 +280,8 @@ module _ (es : List (ItemEntry Content)) (p : ItemChange Content) (rs : List Rec
       bare (Some d) e number =
           absurd (numbers ((h.stale.each n).1 (record {
             definition = d;
-            has = ap (λ ds. definition_at ds n) (edited_definitions es p) ∙ definition_here ks n k is ∙ e;
-            outdated = subst (λ o. IsOutdated (edit_of es p) h.after o n (names_of d)) (sym number) tt;
+            has = ap (λ ds. definition_at ds n) (edited_definitions known es p) ∙ definition_here ks n k is ∙ e;
+            outdated = subst (λ o. IsOutdated (edit_of known es p) h.after o n (names_of d)) (sym number) tt;
           })))
 
       by : Origin es p (place_of p) n k → IsSound k
@@ -289,22 +289,23 @@ module _ (es : List (ItemEntry Content)) (p : ItemChange Content) (rs : List Rec
       by (Came j e number at same) =
           sound_bare k (ap kept_found (sym same) ∙ all_at (λ (e : ItemEntry Content). kept_found e.kept ≡ None) p.fresh j e unchecked at) (bare (kept_definition k) refl number)
 
-  pub stale_checked : AreStaleChecked es p ps
+  pub stale_checked : AreStaleChecked known es p ps
   unfolding ks
   stale_checked =
       let numbers = same_numbers ks rs ps are in
       let planned = planned_are 0 ks rs ps (subst (Ascending 0) (sym numbers) h.stale.ascend) are in
       record {
         planned = planned;
-        results = subst (λ os. AreResults (kept_definitions ks) os) (sym same_after) (subst (λ ds. AreResults ds h.after) (edited_definitions es p) h.results);
+        results = subst (λ os. AreResults known (kept_definitions ks) os) (sym same_after) (subst (λ ds. AreResults known ds h.after) (edited_definitions known es p) h.results);
         rendered = rendered_planned ks ps planned not_planned_sound;
-        stale = subst (λ l. AreStale (edit_of es p) (map found_result (behind es p ps)) l) (sym numbers) (subst (λ a. AreStale (edit_of es p) a (map (λ (r : Rechecked). r.item) rs)) (sym same_after) h.stale);
+        stale = subst (λ l. AreStale (edit_of known es p) (map found_result (behind es p ps)) l) (sym numbers) (subst (λ a. AreStale (edit_of known es p) a (map (λ (r : Rechecked). r.item) rs)) (sym same_after) h.stale);
       }
 
 -- the edit as the check sees it
-pub edit_is : (es : List (ItemEntry Content)) (p : ItemChange Content) (n : NameChange) (put : List (Option Definition)) → IsNameChange es p n → put ≡ entry_definitions p.fresh
-    → edit_at (record { definitions = entry_definitions es; outcomes = entry_results es }) n.place put ≡ edit_of es p
-edit_is es p n put h same = λ i. record {
+pub edit_is : (known : KnownNames) (es : List (ItemEntry Content)) (p : ItemChange Content) (n : NameChange) (put : List (Option Definition)) → IsNameChange es p n → put ≡ entry_definitions p.fresh
+    → edit_at (record { known = known; definitions = entry_definitions es; outcomes = entry_results es }) n.place put ≡ edit_of known es p
+edit_is known es p n put h same = λ i. record {
+  known = known;
   old = entry_definitions es;
   outcomes = entry_results es;
   place = record { at = h.at i; removed = h.removed i; added = h.added i };

@@ -22,6 +22,7 @@ use Rattle.x_cutting.proofs.RecutLaws.{same_item_patch}
 use Rattle.x_recheck.specs.Staleness.{AreStale}
 use Rattle.x_recheck.proofs.StaleLists.{one_stale_list}
 use Rattle.x_compile.specs.Compile.{definitions_of}
+use Rattle.x_compile.specs.Known.{KnownText, known_names}
 use Rattle.x_session.specs.Moves.{AreNear, Changed, changed_items, moves, place_of, seat_behind}
 use Rattle.x_session.specs.Session.{Document}
 use Rattle.x_session.specs.Work.{AreNearWorks, AreStaleItems, IsWork, definitions_edit}
@@ -44,10 +45,10 @@ between (f ∷ front) xs ys rear more long same =
     between front xs ys rear more long there
 
 -- the stale items, of one recut
-one_stale : (change : Change) (ts us : List (Kind × ℕ)) (r q : ItemChange (Unit {0})) (ks ls : List ℕ) → AreOne r q → AreStaleItems change ts us r ks → AreStaleItems change ts us q ls → ks ≡ ls
-one_stale change ts us r q ks ls one h k =
-    let old = (one_compilation change.old ts ts h.olds k.olds h.are_olds k.are_olds).1 in
-    let new = (one_compilation (edited_by change) us us h.news k.news h.are_news k.are_news).1 in
+one_stale : (known : KnownText) (change : Change) (ts us : List (Kind × ℕ)) (r q : ItemChange (Unit {0})) (ks ls : List ℕ) → AreOne r q → AreStaleItems known change ts us r ks → AreStaleItems known change ts us q ls → ks ≡ ls
+one_stale known change ts us r q ks ls one h k =
+    let old = (one_compilation known change.old ts ts h.olds k.olds h.are_olds k.are_olds).1 in
+    let new = (one_compilation known (edited_by change) us us h.news k.news h.are_news k.are_news).1 in
     let many : length r.fresh ≡ length q.fresh = sym (length-map r.fresh tokens_in) ∙ ap length one.fresh ∙ length-map q.fresh tokens_in in
     let at = one.at in
     let removed = one.removed in
@@ -55,11 +56,11 @@ one_stale change ts us r q ks ls one h k =
     sym (λ i. splice (definitions_of (old i)) (at i) (at i + removed i) h.put) ∙ h.edited_is ∙ ap definitions_of new ∙ sym k.edited_is in
     let long : length h.put ≡ length k.put = h.added ∙ many ∙ sym k.added in
     let put = between (take q.at (definitions_of k.olds)) h.put k.put (drop (q.at + q.removed) (definitions_of k.olds)) (drop (q.at + q.removed) (definitions_of k.olds)) long same in
-    let edit : definitions_edit h.olds r h.put ≡ definitions_edit k.olds q k.put =
-    λ i. record { old = definitions_of (old i); outcomes = map (λ x. x.result) (old i); place = record { at = at i; removed = removed i; added = many i }; put = put i } in
+    let edit : definitions_edit known h.olds r h.put ≡ definitions_edit known k.olds q k.put =
+    λ i. record { known = known_names known; old = definitions_of (old i); outcomes = map (λ x. x.result) (old i); place = record { at = at i; removed = removed i; added = many i }; put = put i } in
     let stale = subst (λ e. AreStale e (map (λ x. x.result) h.news) ks) edit h.are in
-    let there = subst (λ ns. AreStale (definitions_edit k.olds q k.put) (map (λ x. x.result) ns) ls) (sym new) k.are in
-    one_stale_list (definitions_edit k.olds q k.put) (map (λ x. x.result) h.news) ks ls stale there
+    let there = subst (λ ns. AreStale (definitions_edit known k.olds q k.put) (map (λ x. x.result) ns) ls) (sym new) k.are in
+    one_stale_list (definitions_edit known k.olds q k.put) (map (λ x. x.result) h.news) ks ls stale there
 
 pub one_work : (change : Change) (old d e : Document) (v w : Work) → LiesWithin change → IsWork change old d v → IsWork change old e w → (v ≡ w) × (d.token_seat ≡ e.token_seat) × (d.item_seat ≡ e.item_seat)
 one_work change old d e v w within h k =
@@ -79,10 +80,10 @@ one_work change old d e v w within h k =
       items = h.are_items;
       patch = h.is_patch;
     }) h.is_recut there in
-    let stale : AreStaleItems change ts (tokens.patched ts h.patch) k.recut k.stale =
-    subst (λ p. AreStaleItems change ts (tokens.patched ts p) k.recut k.stale) (sym patch) (subst (λ t. AreStaleItems change t (tokens.patched t k.patch) k.recut k.stale) back k.are_stale) in
+    let stale : AreStaleItems old.known change ts (tokens.patched ts h.patch) k.recut k.stale =
+    subst (λ p. AreStaleItems old.known change ts (tokens.patched ts p) k.recut k.stale) (sym patch) (subst (λ t. AreStaleItems old.known change t (tokens.patched t k.patch) k.recut k.stale) back k.are_stale) in
     let many : length h.recut.fresh ≡ length k.recut.fresh = sym (length-map h.recut.fresh tokens_in) ∙ ap length one.fresh ∙ length-map k.recut.fresh tokens_in in
-    let stales : h.stale ≡ k.stale = one_stale change ts (tokens.patched ts h.patch) h.recut k.recut h.stale k.stale one h.are_stale stale in
+    let stales : h.stale ≡ k.stale = one_stale old.known change ts (tokens.patched ts h.patch) h.recut k.recut h.stale k.stale one h.are_stale stale in
     let place : place_of h.recut ≡ place_of k.recut = λ i. record { at = one.at i; removed = one.removed i; added = many i } in
     let changed : changed_items (place_of h.recut) h.stale ≡ changed_items (place_of k.recut) k.stale = λ i. changed_items (place i) (stales i) in
     let lexed : v.lexed ≡ w.lexed = h.lexed ∙ ap (λ (p : TokenPatch). length p.fresh) patch ∙ sym k.lexed in

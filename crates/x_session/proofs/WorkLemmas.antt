@@ -34,6 +34,7 @@ use Rattle.x_session.specs.Moves.{changed_items, moves, place_of, seat_behind}
 use Rattle.x_session.specs.Planned.{numbers_of}
 use Rattle.x_session.specs.Session.{Document, LeavesText}
 use Rattle.x_compile.specs.KeptText.{IsKept, items_of}
+use Rattle.x_compile.specs.Known.{KnownText, known_names}
 use Rattle.x_session.specs.Work.{AreStaleItems, AreWorks, IsWork, IsWorkOfAll, definitions_edit}
 use Rattle.x_compile.specs.declared.content.CheckResult.{CheckResult}
 use Rattle.x_compile.specs.declared.content.Content.{Content}
@@ -75,10 +76,10 @@ stale_few e after ks h =
     omega (arith, few)
 
 -- the items that an edit makes stale, by what is kept of both texts
-pub stale_items : (change : Change) (ts us : List (Kind × ℕ)) (es fs : List (ItemEntry Content)) (p : ItemChange Content) (m n : ℕ) (v w : Option UseTable) (rs : List (Option (Box CheckResult))) (ks : List ℕ)
-    → IsKept change.old ts es m v → IsKept (edited_by change) us fs n w → AreWith (patched es p) rs fs → AreStale (edit_of es p) (map found_result rs) ks
-    → AreStaleItems change ts us (record { at = p.at; removed = p.removed; start = p.start; fresh = map bare p.fresh }) ks
-stale_items change ts us es fs p m n v w rs ks old new with are =
+pub stale_items : (known : KnownText) (change : Change) (ts us : List (Kind × ℕ)) (es fs : List (ItemEntry Content)) (p : ItemChange Content) (m n : ℕ) (v w : Option UseTable) (rs : List (Option (Box CheckResult))) (ks : List ℕ)
+    → IsKept known change.old ts es m v → IsKept known (edited_by change) us fs n w → AreWith (patched es p) rs fs → AreStale (edit_of (known_names known) es p) (map found_result rs) ks
+    → AreStaleItems known change ts us (record { at = p.at; removed = p.removed; start = p.start; fresh = map bare p.fresh }) ks
+stale_items known change ts us es fs p m n v w rs ks old new with are =
     let olds = items_of change.old ts es in
     let news = items_of (edited_by change) us fs in
     let recut : ItemChange (Unit {0}) = record { at = p.at; removed = p.removed; start = p.start; fresh = map bare p.fresh } in
@@ -86,7 +87,7 @@ stale_items change ts us es fs p m n v w rs ks old new with are =
     let long : length p.fresh ≡ length recut.fresh = sym (length-map p.fresh bare) in
     let ds = sym (definitions-items (lexemes change.old ts) es) in
     let os = sym (results-items (lexemes change.old ts) es) in
-    let edit_is : edit_of es p ≡ definitions_edit olds recut put = λ i. record { old = ds i; outcomes = os i; place = record { at = p.at; removed = p.removed; added = long i }; put = put } in
+    let edit_is : edit_of (known_names known) es p ≡ definitions_edit known olds recut put = λ i. record { known = known_names known; old = ds i; outcomes = os i; place = record { at = p.at; removed = p.removed; added = long i }; put = put } in
     let after : map found_result rs ≡ map (λ i. i.result) news = sym (results_with (patched es p) rs fs with) ∙ sym (results-items (lexemes (edited_by change) us) fs) in
     record {
       olds = olds;
@@ -96,12 +97,12 @@ stale_items change ts us es fs p m n v w rs ks old new with are =
       put = put;
       added = length-map p.fresh (λ e. kept_definition e.kept) ∙ long;
       edited_is = ap definitions_after (sym edit_is) ∙ sym (definitions_splice es p) ∙ sym (definitions_with (patched es p) rs fs with) ∙ sym (definitions-items (lexemes (edited_by change) us) fs);
-      are = subst (λ a. AreStale (definitions_edit olds recut put) a ks) after (subst (λ e. AreStale e (map found_result rs) ks) edit_is are);
+      are = subst (λ a. AreStale (definitions_edit known olds recut put) a ks) after (subst (λ e. AreStale e (map found_result rs) ks) edit_is are);
     }
 
 pub work_of : (change : Change) (before new : Document) (ts : List (Kind × ℕ)) (es : List (ItemEntry Content)) (p : TokenPatch) (ip : ItemChange Content) (w : Work) (ks : List ℕ) → AreTokens change.old ts → IsPatch change ts p
     → IsCut (lexemes change.old ts) (counts es) → IsItemPatch change ts (tokens.patched ts p) es ip → w.lexed ≡ length p.fresh → w.parsed ≡ length ip.fresh → w.checked ≡ length ks
-    → AreStaleItems change ts (tokens.patched ts p) (record { at = ip.at; removed = ip.removed; start = ip.start; fresh = map bare ip.fresh }) ks
+    → AreStaleItems before.known change ts (tokens.patched ts p) (record { at = ip.at; removed = ip.removed; start = ip.start; fresh = map bare ip.fresh }) ks
     → w.moved ≡ distance before.token_seat p.at (p.at + p.removed) + moves before.item_seat (changed_items (place_of ip) ks) → new.token_seat ≡ p.at + length p.fresh
     → new.item_seat ≡ seat_behind before.item_seat (changed_items (place_of ip) ks) → IsWork change before new w
 work_of change before new ts es p ip w ks are patch cut recut lexed parsed checked stale moved seat item_seat =
@@ -129,16 +130,16 @@ work_of change before new ts es p ip w ks are patch cut recut lexed parsed check
 -- ---- what an edit leaves that was planned
 
 -- all that is kept of the edited text
-pub kept_edited : (change : Change) (ts : List (Kind × ℕ)) (es : List (ItemEntry Content)) (p : Plan) (text : List ℕ) (us : List (Kind × ℕ)) (fs : List (ItemEntry Content)) (faults : ℕ) (uses : Option UseTable) → IsPlan change ts es p
+pub kept_edited : (known : KnownText) (change : Change) (ts : List (Kind × ℕ)) (es : List (ItemEntry Content)) (p : Plan) (text : List ℕ) (us : List (Kind × ℕ)) (fs : List (ItemEntry Content)) (faults : ℕ) (uses : Option UseTable) → IsPlan (known_names known) change ts es p
     → text ≡ edited_by change → us ≡ tokens.patched ts p.tokens → AreOfText (counts (patched es p.items)) → AreWith (patched es p.items) (behind es p.items p.found.items) fs → faults ≡ p.faults
-    → AreUsed (patched es p.items) uses → IsKept text us fs faults uses
-kept_edited change ts es p text us fs faults uses h edited same few with count used =
+    → AreUsed (patched es p.items) uses → IsKept known text us fs faults uses
+kept_edited known change ts es p text us fs faults uses h edited same few with count used =
     let rs = behind es p.items p.found.items in
-    let checked : AreChecked (items.kept (patched es p.items)) rs p.faults = record { results = h.checked.results; rendered = h.checked.rendered; count = h.count } in
-    subst (λ n. IsKept text us fs n uses) (sym count)
-    (subst (λ l. IsKept text l fs p.faults uses) (sym same)
-    (subst (λ t. IsKept t (tokens.patched ts p.tokens) fs p.faults uses) (sym edited)
-    (kept_is (edited_by change) (tokens.patched ts p.tokens) (patched es p.items) rs p.faults fs uses h.patch.tokens h.parsed h.short few checked with used)))
+    let checked : AreChecked (known_names known) (items.kept (patched es p.items)) rs p.faults = record { results = h.checked.results; rendered = h.checked.rendered; count = h.count } in
+    subst (λ n. IsKept known text us fs n uses) (sym count)
+    (subst (λ l. IsKept known text l fs p.faults uses) (sym same)
+    (subst (λ t. IsKept known t (tokens.patched ts p.tokens) fs p.faults uses) (sym edited)
+    (kept_is known (edited_by change) (tokens.patched ts p.tokens) (patched es p.items) rs p.faults fs uses h.patch.tokens h.parsed h.short few checked with used)))
 
 most_items : MAX_TEXT + 1 ≤ 2 ^ 64 - 1
 most_items = lit≤ tt
@@ -151,8 +152,8 @@ fresh_few : {T : Type 0} (xs ys : List T) (i j : ℕ) → length ys ≤ length (
 fresh_few xs ys i j = let a = length-append (take i xs) (ys ++ drop j xs) in let b = length-append ys (drop j xs) in omega (arith, a, b)
 
 -- the work that it took
-pub work_edited : (change : Change) (before new : Document) (ts us : List (Kind × ℕ)) (es fs : List (ItemEntry Content)) (m n : ℕ) (u v : Option UseTable) (p : Plan) (w : Work) → IsPlan change ts es p → IsKept change.old ts es m u
-    → IsKept (edited_by change) us fs n v → us ≡ tokens.patched ts p.tokens → AreWith (patched es p.items) (behind es p.items p.found.items) fs → IsOfText (tokens.patched ts p.tokens) → AreOfText (counts (patched es p.items))
+pub work_edited : (change : Change) (before new : Document) (ts us : List (Kind × ℕ)) (es fs : List (ItemEntry Content)) (m n : ℕ) (u v : Option UseTable) (p : Plan) (w : Work) → IsPlan (known_names before.known) change ts es p → IsKept before.known change.old ts es m u
+    → IsKept before.known (edited_by change) us fs n v → us ≡ tokens.patched ts p.tokens → AreWith (patched es p.items) (behind es p.items p.found.items) fs → IsOfText (tokens.patched ts p.tokens) → AreOfText (counts (patched es p.items))
     → w.lexed ≡ raised 0 (length p.tokens.fresh) → w.parsed ≡ raised 0 (length p.items.fresh) → w.checked ≡ raised 0 (length p.found.items)
     → w.moved ≡ distance before.token_seat p.tokens.at (p.tokens.at + p.tokens.removed) + moves before.item_seat (changed_items (place_of p.items) (numbers_of p.found.items))
     → new.token_seat ≡ p.tokens.at + length p.tokens.fresh → new.item_seat ≡ seat_behind before.item_seat (changed_items (place_of p.items) (numbers_of p.found.items)) → IsWork change before new w
@@ -165,15 +166,15 @@ work_edited change before new ts us es fs m n u v p w h old made same with few f
     let rs = behind es p.items p.found.items in
     let ks = map (λ (q : PlannedResult). q.item) p.found.items in
     let stale = h.checked.stale in
-    let many = stale_few (edit_of es p.items) (map found_result rs) ks stale in
+    let many = stale_few (edit_of (known_names before.known) es p.items) (map found_result rs) ks stale in
     let long = ap length (definitions_splice es p.items) in
     let all = length-map (patched es p.items) (λ e. kept_definition e.kept) in
     let some = length-map p.found.items (λ (q : PlannedResult). q.item) in
     let once : w.checked ≡ length p.found.items = counted_few w.checked (length p.found.items) checked (omega (arith, many, long, all, some, b, l)) in
     work_of change before new ts es p.tokens p.items w ks old.are_tokens h.patch (cut_of (lexemes change.old ts) es old.parsed) h.recut
     (counted_few w.lexed (length p.tokens.fresh) lexed (omega (arith, f, a))) (counted_few w.parsed (length p.items.fresh) counted (omega (arith, g, b, l))) (once ∙ sym some)
-    (subst (λ l. AreStaleItems change ts l (record { at = p.items.at; removed = p.items.removed; start = p.items.start; fresh = map bare p.items.fresh }) ks) same
-    (stale_items change ts us es fs p.items m n u v rs ks old made with stale)) moved seat item_seat
+    (subst (λ l. AreStaleItems before.known change ts l (record { at = p.items.at; removed = p.items.removed; start = p.items.start; fresh = map bare p.items.fresh }) ks) same
+    (stale_items before.known change ts us es fs p.items m n u v rs ks old made with stale)) moved seat item_seat
 
 -- ---- the work of one edit after another
 

@@ -15,7 +15,7 @@ use Rattle.x_cutting.specs.ItemList.{AreOfText, ItemChange, counts}
 use Rattle.x_cutting.specs.Recut.{IsRelexed, IsItemPatch}
 use Rattle.x_cutting.specs.declared.cutting.item_entry.ItemEntry.{ItemEntry}
 use Rattle.x_names.specs.Declarers.{AreShort}
-use Rattle.x_rules.specs.Results.{AreResults}
+use Rattle.x_rules.specs.Results.{AreResults, KnownNames}
 use Rattle.x_recheck.specs.Editing.{TextEdit}
 use Rattle.x_uses.specs.Occurrences.{HasRoomFor, IsUsesOf, UseTable}
 use Rattle.x_recheck.specs.Staleness.{AreStale, Ascending}
@@ -37,20 +37,21 @@ AreUsed es uses = IfSome uses (IsUsesOf (entry_definitions es))
 
 -- What checking each item gives is kept with it, what is generated of it, how many faults all have, and the
 -- table of names where there is one.
-pub record IsCheckedTable (t : ItemTable) : Type 0 where
+pub record IsCheckedTable (known : KnownNames) (t : ItemTable) : Type 0 where
   pub short : AreShort (entry_definitions t.entries.list)
-  pub results : AreResults (entry_definitions t.entries.list) (entry_results t.entries.list)
+  pub results : AreResults known (entry_definitions t.entries.list) (entry_results t.entries.list)
   pub sound : All (λ e. IsSound e.kept) t.entries.list
   pub count : t.faults ≡ own_faults (items.kept t.entries.list)
   pub uses : AreUsed t.entries.list t.uses
 
 -- the change makes `new` of a text that has these tokens and items, with all that is kept of them
-pub record IsToFollow (change : Change) (new : List ℕ) (ts : List (Kind × ℕ)) (t : ItemTable) : Type 0 where
+pub record IsToFollow (known : KnownNames) (change : Change) (new : List ℕ) (ts : List (Kind × ℕ))
+    (t : ItemTable) : Type 0 where
   pub within : LiesWithin change
   pub edited : new ≡ edited_by change
   pub are_tokens : AreTokens change.old ts
   pub parsed : AreParsed (lexemes change.old ts) t.entries.list
-  pub checked : IsCheckedTable t
+  pub checked : IsCheckedTable known t
 
 -- Some change makes `new` of a text that has these tokens and items, and does this to the tokens: those that
 -- stay behind the patch stand behind the bytes that the change takes out.
@@ -77,8 +78,9 @@ pub record HasRoomForNames (uses : Option UseTable) (n : NameChange) : Type 0 wh
   pub room : HasRoomFor table n.fresh
 
 -- the edit of the items, which the patch makes, as an edit of their definitions
-abbrev pub edit_of : List (ItemEntry Content) → ItemChange Content → TextEdit
-edit_of es p = record {
+abbrev pub edit_of : KnownNames → List (ItemEntry Content) → ItemChange Content → TextEdit
+edit_of known es p = record {
+  known = known;
   old = entry_definitions es;
   outcomes = entry_results es;
   place = place_of p;
@@ -95,22 +97,22 @@ abbrev pub behind : List (ItemEntry Content) → ItemChange Content → List Pla
 behind es p ps = overlaid 0 (kept_behind es p) ps
 
 -- Each stale item is planned, and no other; with what it has then, each item has what checking it gives.
-pub record AreStaleChecked (es : List (ItemEntry Content)) (p : ItemChange Content)
+pub record AreStaleChecked (known : KnownNames) (es : List (ItemEntry Content)) (p : ItemChange Content)
     (ps : List PlannedResult) : Type 0 where
   pub planned : ArePlanned (kept_behind es p) ps
-  pub results : AreResults (kept_definitions (kept_behind es p)) (map found_result (behind es p ps))
+  pub results : AreResults known (kept_definitions (kept_behind es p)) (map found_result (behind es p ps))
   pub rendered : AreRendered (kept_behind es p) (behind es p ps)
-  pub stale : AreStale (edit_of es p) (map found_result (behind es p ps)) (numbers_of ps)
+  pub stale : AreStale (edit_of known es p) (map found_result (behind es p ps)) (numbers_of ps)
 
 -- The plan has what the change does to the tokens and items, what the fresh items parse to, and what checking
 -- the stale items gives then.
-pub record IsPlan (change : Change) (ts : List (Kind × ℕ)) (es : List (ItemEntry Content))
-    (p : Plan) : Type 0 where
+pub record IsPlan (known : KnownNames) (change : Change) (ts : List (Kind × ℕ))
+    (es : List (ItemEntry Content)) (p : Plan) : Type 0 where
   pub patch : IsPatch change ts p.tokens
   pub recut : IsItemPatch change ts (tokens.patched ts p.tokens) es p.items
   pub parsed : AreParsed (lexemes (edited_by change) (tokens.patched ts p.tokens)) (items.patched es p.items)
   pub short : AreShort (entry_definitions (items.patched es p.items))
-  pub checked : AreStaleChecked es p.items p.found.items
+  pub checked : AreStaleChecked known es p.items p.found.items
   pub count : p.faults ≡ faults_found (kept_behind es p.items) (behind es p.items p.found.items)
 
 -- the patch can be carried out in room that is there

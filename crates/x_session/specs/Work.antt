@@ -17,14 +17,17 @@ use Rattle.x_cutting.specs.declared.cutting.item_entry.ItemEntry.{ItemEntry}
 use Rattle.x_recheck.specs.Editing.{TextEdit, definitions_after}
 use Rattle.x_recheck.specs.Staleness.{AreStale}
 use Rattle.x_compile.specs.Compile.{Item, IsCompilation, definitions_of}
+use Rattle.x_compile.specs.Known.{KnownText, known_names}
 use Rattle.x_session.specs.Moves.{AreNear, changed_items, moves, place_of, seat_behind}
 use Rattle.x_session.specs.Session.{Document, LeavesText}
 use Rattle.x_session.specs.declared.session.work.Work.{Work}
 
 -- An edit of a text's items as one of their definitions: `recut` says which items go and how many come, `put`
 -- what those that come define, if anything.
-abbrev pub definitions_edit : List Item → ItemChange (Unit {0}) → List (Option Definition) → TextEdit
-definitions_edit olds recut put = record {
+abbrev pub definitions_edit : KnownText → List Item → ItemChange (Unit {0}) → List (Option Definition)
+    → TextEdit
+definitions_edit known olds recut put = record {
+  known = known_names known;
   old = definitions_of olds;
   outcomes = map (λ i. i.result) olds;
   place = place_of recut;
@@ -35,16 +38,16 @@ definitions_edit olds recut put = record {
 -- and an item with a definition is stale if it is recut, or if it sees a name that it declares or mentions
 -- otherwise than before. `recut` is what the change does to the items (`IsItemPatch`); by it and both texts
 -- `put` is determined.
-pub record AreStaleItems (change : Change) (ts us : List (Kind × ℕ)) (recut : ItemChange (Unit {0}))
-    (stale : List ℕ) : Type 0 where
+pub record AreStaleItems (known : KnownText) (change : Change) (ts us : List (Kind × ℕ))
+    (recut : ItemChange (Unit {0})) (stale : List ℕ) : Type 0 where
   pub olds : List Item
-  pub are_olds : IsCompilation change.old ts olds
+  pub are_olds : IsCompilation known change.old ts olds
   pub news : List Item
-  pub are_news : IsCompilation (edited_by change) us news
+  pub are_news : IsCompilation known (edited_by change) us news
   pub put : List (Option Definition)
   pub added : length put ≡ length recut.fresh
-  pub edited_is : definitions_after (definitions_edit olds recut put) ≡ definitions_of news
-  pub are : AreStale (definitions_edit olds recut put) (map (λ i. i.result) news) stale
+  pub edited_is : definitions_after (definitions_edit known olds recut put) ≡ definitions_of news
+  pub are : AreStale (definitions_edit known olds recut put) (map (λ i. i.result) news) stale
 
 -- The change took this work: as many tokens were lexed as are fresh, as many items parsed as are recut, and
 -- as many checked as are stale. As many entries moved as lie between the tokens' seat and the tokens that go,
@@ -62,7 +65,7 @@ pub record IsWork (change : Change) (old new : Document) (w : Work) : Type 0 whe
   pub lexed : w.lexed ≡ length patch.fresh
   pub parsed : w.parsed ≡ length recut.fresh
   pub stale : List ℕ
-  pub are_stale : AreStaleItems change tokens (patched tokens patch) recut stale
+  pub are_stale : AreStaleItems old.known change tokens (patched tokens patch) recut stale
   pub checked : w.checked ≡ length stale
   pub moved : w.moved ≡ distance old.token_seat patch.at (patch.at + patch.removed)
       + moves old.item_seat (changed_items (place_of recut) stale)

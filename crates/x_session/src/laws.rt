@@ -6,14 +6,16 @@ ghost use Rattle.x_text.specs.Edits.{Change, LiesWithin};
 ghost use Rattle.x_text.specs.declared.text.edit.Edit as edit;
 ghost use Rattle.x_lex.specs.declared.kind.Kind.{Kind};
 ghost use Rattle.x_compile.specs.Compile.{Item, IsCompilation};
+ghost use Rattle.x_compile.specs.Known.{KnownText};
 ghost use Rattle.x_session.specs.Session.{Document};
 ghost use Rattle.x_session.specs.Work.{AreNearWorks, IsWork};
 ghost use Rattle.x_session.specs.declared.session.work.Work.{Work};
 
-/// A text has one compilation: all that a session answers is a function of its text.
+/// A text has one compilation, where the same is known before it: all that a session answers is a function of
+/// its text and of what is known.
 pub fn one_compilation()
-    ensures { (text : List ℕ) (tokens others : List (Kind × ℕ)) (items more : List Item)
-        → IsCompilation text tokens items → IsCompilation text others more
+    ensures { (known : KnownText) (text : List ℕ) (tokens others : List (Kind × ℕ)) (items more : List Item)
+        → IsCompilation known text tokens items → IsCompilation known text others more
         → (tokens ≡ others) × (items ≡ more) }
 {}
 

@@ -8,6 +8,8 @@ mod definitions;
 #[cfg(test)]
 mod edits;
 #[cfg(test)]
+mod known;
+#[cfg(test)]
 mod lines;
 #[cfg(test)]
 mod scripts;

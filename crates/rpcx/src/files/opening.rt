@@ -63,7 +63,7 @@ fn report_faults<E: Sink>(
     session: &Session,
     err: &mut E,
 ) -> Status
-    ensures faulty { result ≡ Status.Faulty → Compiles session.now.text (λ items.
+    ensures faulty { result ≡ Status.Faulty → Compiles session.now.known session.now.text (λ items.
         TellsFaults style file.now session.now.text items (E.state err.old) (E.state err.new)) }
     ensures failed { result ≡ Status.Failed
         → IsTold (E.state err.old) (E.state err.new) (told_of program.now (codes "out of memory")) }
@@ -86,7 +86,7 @@ fn tell_all_faults<E: Sink>(
     session: &Session,
     err: &mut E,
 ) -> Result<(), NoMemory>
-    ensures told { OnOk result (Compiles session.now.text (λ items.
+    ensures told { OnOk result (Compiles session.now.known session.now.text (λ items.
         TellsFaults style file.now session.now.text items (E.state err.old) (E.state err.new))) }
     ensures quiet { OnErr result (err.new ≡ err.old) }
 {
@@ -108,7 +108,7 @@ fn explain_faults<E: Sink>(
     session: &Session,
     err: &mut E,
 ) -> Result<(), NoMemory>
-    ensures told { OnOk result (Compiles session.now.text (λ items.
+    ensures told { OnOk result (Compiles session.now.known session.now.text (λ items.
         ExplainsFaults coloured file.now session.now.text items (E.state err.old) (E.state err.new))) }
     ensures quiet { OnErr result (err.new ≡ err.old) }
 {

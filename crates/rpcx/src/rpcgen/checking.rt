@@ -5,6 +5,7 @@ ghost use Rattle.rpcx.specs.Checking.{AreChecked, IsChecked};
 ghost use Rattle.rpcx.specs.Generate.{IsFaultless, NotOpened, TellsFaults};
 ghost use Rattle.x_session.specs.Session.{Compiles};
 ghost use Rattle.x_compile.specs.Compile.{faults_of};
+ghost use Rattle.x_compile.specs.Known.{nothing_known};
 ghost use Rattle.x_text.specs.Limits.{most_text};
 
 use crate::files::opening::FaultStyle;
@@ -33,7 +34,7 @@ fn check_text<E: Sink>(
     err: &mut E,
 ) -> Status
     ensures faulty { result ≡ Status.Faulty
-        → Compiles bytes.now
+        → Compiles nothing_known bytes.now
         (λ items. (0 < length (faults_of bytes.now items))
         × TellsFaults style file.now bytes.now items (E.state err.old) (E.state err.new)) }
     ensures too_large { most_text < length bytes.now → result ≡ Status.Failed }

@@ -29,7 +29,7 @@ pub(crate) fn text(
     wanted: Wanted,
 ) -> Result<Value, NoMemory>
     ensures plain { IfOk result (λ v. has_float (view v) ≡ false) }
-    ensures told { IfOk result (λ v. Compiles document.now.session.text
+    ensures told { IfOk result (λ v. Compiles document.now.session.known document.now.session.text
         (λ items. view v ≡ string (utf8_lossy (told_text wanted document.now.session items)))) }
 {
     let bytes = told_text(alloc, &document.session, wanted)?;
@@ -38,7 +38,7 @@ pub(crate) fn text(
 
 /// What is told of a text.
 fn told_text(alloc: Global, session: &Session, wanted: Wanted) -> Result<Vec<u8>, NoMemory>
-    ensures { IfOk result (λ told. Compiles session.now.text
+    ensures { IfOk result (λ told. Compiles session.now.known session.now.text
         (λ items. told.items ≡ told_text wanted session.now items)) }
 {
     match wanted {
@@ -49,7 +49,7 @@ fn told_text(alloc: Global, session: &Session, wanted: Wanted) -> Result<Vec<u8>
 
 /// A generated text.
 fn generated_text(alloc: Global, session: &Session, which: Which) -> Result<Vec<u8>, NoMemory>
-    ensures { IfOk result (λ told. Compiles session.now.text
+    ensures { IfOk result (λ told. Compiles session.now.known session.now.text
         (λ items. told.items ≡ text_of which session.now.base items)) }
 {
     let mut sink = TextSink::new(alloc);
@@ -61,7 +61,7 @@ fn generated_text(alloc: Global, session: &Session, which: Which) -> Result<Vec<
 
 /// The faults of a text, one a line.
 fn fault_lines(alloc: Global, session: &Session) -> Result<Vec<u8>, NoMemory>
-    ensures { IfOk result (λ told. Compiles session.now.text
+    ensures { IfOk result (λ told. Compiles session.now.known session.now.text
         (λ items. told.items ≡ flat_map fault_line (faults_of session.now.text items))) }
 {
     let mut pen = Pen::new();
@@ -75,7 +75,7 @@ fn fault_lines(alloc: Global, session: &Session) -> Result<Vec<u8>, NoMemory>
 
 /// Adds the lines of faults.
 fn add_faults<S: Sink>(session: &Session, pen: &mut Pen, sink: &mut S)
-    ensures { Compiles session.now.text
+    ensures { Compiles session.now.known session.now.text
         (λ items. Adds pen.old (S.state sink.old) pen.new (S.state sink.new)
         (flat_map fault_line (faults_of session.now.text items))) }
 {

@@ -24,7 +24,7 @@ pub fn definition_at(
     session: &Session,
     at: usize,
 ) -> Result<Option<Token<'_>>, NoMemory>
-    ensures { IfOk result (λ found. Compiles session.now.text
+    ensures { IfOk result (λ found. Compiles session.now.known session.now.text
         (λ items. option_map lexeme found ≡ option_and_then (definition_of items) (name_at items at))) }
 {
     match name_at(alloc, session, at)? {
@@ -45,7 +45,7 @@ pub fn references_at(
     at: usize,
     declared: bool,
 ) -> Result<Vec<Token<'_>>, NoMemory>
-    ensures { IfOk result (λ found. Compiles session.now.text
+    ensures { IfOk result (λ found. Compiles session.now.known session.now.text
         (λ items. map lexeme found.items ≡ references_of items declared (name_at items at))) }
 {
     match name_at(alloc, session, at)? {
@@ -56,7 +56,7 @@ pub fn references_at(
 
 /// The name at a place of the text.
 fn name_at(alloc: Global, session: &Session, at: usize) -> Result<Option<&[u8]>, NoMemory>
-    ensures { IfOk result (λ found. Compiles session.now.text
+    ensures { IfOk result (λ found. Compiles session.now.known session.now.text
         (λ items. option_map (λ name. name.now) found ≡ name_at items at)) }
 {
     let tokens = find_names(alloc, session, Sought::At(at))?;
@@ -72,7 +72,7 @@ fn definition_of<'s>(
     session: &'s Session,
     name: &[u8],
 ) -> Result<Option<Token<'s>>, NoMemory>
-    ensures { IfOk result (λ found. Compiles session.now.text
+    ensures { IfOk result (λ found. Compiles session.now.known session.now.text
         (λ items. option_map lexeme found ≡ definition_of items name.now)) }
 {
     let tokens = find_names(alloc, session, Sought::Declaring(name))?;

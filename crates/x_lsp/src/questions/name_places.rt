@@ -101,7 +101,7 @@ pub(crate) fn find_names<'s>(
     session: &'s Session,
     sought: Sought,
 ) -> Result<Vec<Token<'s>>, NoMemory>
-    ensures { IfOk result (λ found. Compiles session.now.text
+    ensures { IfOk result (λ found. Compiles session.now.known session.now.text
         (λ items. map lexeme found.items ≡ tokens_where (is_sought sought.entry) (names_of items))) }
 {
     let mut found = Vec::new(alloc);

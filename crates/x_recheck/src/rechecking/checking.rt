@@ -38,7 +38,7 @@ fn find_result<L: CheckedItems>(
     requires item { item < count_after (edit_of L.text items.now) }
     requires ascend { Ascending 0 (items_of rechecked.now) }
     ensures found { IfOk result (λ found. (after : List (Option Outcome))
-        → AreResults (definitions_after (edit_of L.text items.now)) after
+        → AreResults (edit_of L.text items.now).known (definitions_after (edit_of L.text items.now)) after
         → ((j : ℕ) → j < item → result_after (edit_of L.text items.now) rechecked.now j ≡ result_at after j)
         → IsOutline outline.now
         → definition_at (definitions_after (edit_of L.text items.now)) item ≡ Some (outlined outline.now)
@@ -152,7 +152,7 @@ fn decide<L: CheckedItems>(
     ensures adds { OnOk result (AddsItemsFrom (edit_of L.text items.now) queue.old queue.new
         (item + 1)) }
     ensures decided { OnOk result ((after : List (Option Outcome)) (waits : ℕ → Bool)
-        → AreResults (definitions_after (edit_of L.text items.now)) after
+        → AreResults (edit_of L.text items.now).known (definitions_after (edit_of L.text items.now)) after
         → IsDecided (edit_of L.text items.now) after waits rechecked.old.items item
         → ((k : ℕ) → item < k → is_waiting queue.old k ≡ false → waits k ≡ false)
         → IsDecided (edit_of L.text items.now) after (is_waiting queue.new) rechecked.new.items (item + 1)) }

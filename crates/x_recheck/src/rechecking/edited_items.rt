@@ -1,10 +1,11 @@
 //! The items of a text before an edit and after it.
 
-ghost use Rattle.std.specs.Prelude.{◌≡◌, ◌<◌, length, map, Option};
+ghost use Rattle.std.specs.Prelude.{◌≡◌, ◌<◌, length, map, option_map, Option};
 ghost use Rattle.x_trees.specs.View.{tree_at};
 ghost use Rattle.x_names.specs.Declarers.{first_declarer};
 ghost use Rattle.x_rules.specs.KeptViews.{lent_outcome};
 ghost use Rattle.x_rules.specs.Results.{result_at};
+ghost use Rattle.x_rules.specs.RustViews.{view_view};
 ghost use Rattle.x_recheck.specs.Editing.{definitions_after, definition_at, old_number, new_number};
 ghost use Rattle.x_recheck.specs.Editing.{count_after};
 ghost use Rattle.x_uses.specs.Occurrences.{users_of};
@@ -14,7 +15,7 @@ ghost use Rattle.x_recheck.specs.Staleness.{Ascending, new_result, result_after,
 use super::numbers::{new_number, old_number};
 use super::{CheckedItems, Rechecked};
 use x_names::Declarer;
-use x_rules::Checked;
+use x_rules::{Checked, View};
 use x_trees::Definition;
 use x_uses::{ItemSplice, Uses};
 
@@ -64,6 +65,13 @@ impl<'s, L: CheckedItems> EditedItems<'s, L> {
             Some(old) => self.old.definition(old),
             None => definition_in(self.put, item - self.place.at),
         }
+    }
+
+    /// What each item sees of a name that is known before the text.
+    pub fn known(&self, name: &[u8]) -> Option<View<'_>>
+        ensures { option_map view_view result ≡ (edit_of L.text self.now).known name.now }
+    {
+        self.old.known(name)
     }
 
     /// The first declarer of a name before the edit.

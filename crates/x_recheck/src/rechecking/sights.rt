@@ -20,7 +20,7 @@ use x_text::NoMemory;
 fn old_view<'v, L: CheckedItems>(items: &'v EditedItems<L>, item: usize, name: &[u8]) -> View<'v>
     requires { AreEditedItems L.text items.now }
     ensures { view_view result
-        ≡ view_by (edit_of L.text items.now).old (result_at
+        ≡ view_by (edit_of L.text items.now).known (edit_of L.text items.now).old (result_at
         (edit_of L.text items.now).outcomes) item name.now }
 {
     let first = items.first(name);
@@ -28,7 +28,7 @@ fn old_view<'v, L: CheckedItems>(items: &'v EditedItems<L>, item: usize, name: &
         Some(declarer) => items.old_checked(declarer.item),
         None => None,
     };
-    View::of(item, name, first, declaring)
+    View::of(item, name, items.known(name), first, declaring)
 }
 
 /// What an item sees of a name after the edit, by what was found so far.
@@ -41,15 +41,15 @@ fn new_view<'v, L: CheckedItems>(
     requires items { AreEditedItems L.text items.now }
     requires ascend { Ascending 0 (items_of rechecked.now) }
     ensures { view_view result
-        ≡ view_by (definitions_after (edit_of L.text items.now)) (result_after
-        (edit_of L.text items.now) rechecked.now) item name.now }
+        ≡ view_by (edit_of L.text items.now).known (definitions_after (edit_of L.text items.now))
+        (result_after (edit_of L.text items.now) rechecked.now) item name.now }
 {
     let first = items.first_after(name);
     let declaring = match first {
         Some(declarer) => items.checked(rechecked, declarer.item),
         None => None,
     };
-    View::of(item, name, first, declaring)
+    View::of(item, name, items.known(name), first, declaring)
 }
 
 /// Whether two views show the same.
@@ -122,8 +122,8 @@ pub fn views_of<'v, L: CheckedItems>(
     requires items { AreEditedItems L.text items.now }
     requires ascend { Ascending 0 (items_of rechecked.now) }
     ensures { IfOk result (λ views. IsOutline outline.now → map view_view views.items
-        ≡ map (view_by (definitions_after (edit_of L.text items.now)) (result_after
-        (edit_of L.text items.now) rechecked.now) item) (names_of (outlined outline.now))) }
+        ≡ map (view_by (edit_of L.text items.now).known (definitions_after (edit_of L.text items.now))
+        (result_after (edit_of L.text items.now) rechecked.now) item) (names_of (outlined outline.now))) }
 {
     let count = outline
         .declared()

@@ -127,7 +127,7 @@ fn add_fault<S: Sink>(fault: &Fault, pen: &mut Pen, sink: &mut S)
 
 /// Adds the tokens of a text.
 pub(crate) fn add_tokens<S: Sink>(session: &Session, pen: &mut Pen, sink: &mut S)
-    ensures { Compiles session.now.text
+    ensures { Compiles session.now.known session.now.text
         (λ items. Adds pen.old (S.state sink.old) pen.new (S.state sink.new)
         (tokens_answer (tokens_of items))) }
 {
@@ -139,7 +139,7 @@ pub(crate) fn add_tokens<S: Sink>(session: &Session, pen: &mut Pen, sink: &mut S
 
 /// Adds the definitions of a text.
 pub(crate) fn add_definitions<S: Sink>(session: &Session, pen: &mut Pen, sink: &mut S)
-    ensures { Compiles session.now.text
+    ensures { Compiles session.now.known session.now.text
         (λ items. Adds pen.old (S.state sink.old) pen.new (S.state sink.new)
         (definitions_answer (definitions_of items))) }
 {
@@ -153,7 +153,7 @@ pub(crate) fn add_definitions<S: Sink>(session: &Session, pen: &mut Pen, sink: &
 
 /// Adds the faults of a text.
 pub(crate) fn add_faults<S: Sink>(session: &Session, pen: &mut Pen, sink: &mut S)
-    ensures { Compiles session.now.text
+    ensures { Compiles session.now.known session.now.text
         (λ items. Adds pen.old (S.state sink.old) pen.new (S.state sink.new)
         (faults_answer (faults_of session.now.text items))) }
 {
@@ -165,7 +165,7 @@ pub(crate) fn add_faults<S: Sink>(session: &Session, pen: &mut Pen, sink: &mut S
 
 /// Adds a generated text.
 pub(crate) fn add_text<S: Sink>(which: Which, session: &Session, pen: &mut Pen, sink: &mut S)
-    ensures { Compiles session.now.text
+    ensures { Compiles session.now.known session.now.text
         (λ items. Adds pen.old (S.state sink.old) pen.new (S.state sink.new)
         (text_answer (text_of which session.now.base items))) }
 {

@@ -21,7 +21,7 @@ pub(crate) fn answer_explained<S: Sink>(
     pen: &mut Pen,
     sink: &mut S,
 ) -> Result<bool, NoMemory>
-    ensures told { IfOk result (λ refused. Compiles session.now.text (λ items. (a : Answer)
+    ensures told { IfOk result (λ refused. Compiles session.now.known session.now.text (λ items. (a : Answer)
         × IsExplainAnswer file.now session.now.text items a
         × AddsAnswer a session.now.text refused pen.old (S.state sink.old) pen.new (S.state sink.new))) }
     ensures same { OnErr result ((pen.new ≡ pen.old) × (sink.new ≡ sink.old)) }

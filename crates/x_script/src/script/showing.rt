@@ -89,8 +89,8 @@ pub(crate) fn answer_dump<S: Sink>(
     sink: &mut S,
 ) -> Result<bool, NoMemory>
     requires { 0 < length hex.now → is_hex hex.now ≡ true }
-    ensures told { IfOk result (λ refused. Compiles session.now.text (λ items. (a : Answer)
-        × IsDumpAnswer session.now.text items name.now (bytes_of hex.now) a
+    ensures told { IfOk result (λ refused. Compiles session.now.known session.now.text (λ items. (a : Answer)
+        × IsDumpAnswer session.now.known session.now.text items name.now (bytes_of hex.now) a
         × AddsAnswer a session.now.text refused pen.old (S.state sink.old) pen.new (S.state sink.new))) }
     ensures same { OnErr result ((pen.new ≡ pen.old) × (sink.new ≡ sink.old)) }
 {

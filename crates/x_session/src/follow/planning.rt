@@ -17,6 +17,7 @@ ghost use Rattle.x_session.specs.Following.{AreFollowed, AreStaleChecked, AreUse
 ghost use Rattle.x_session.specs.Following.{HasRoomForNames, IsCheckedTable, IsNameChange, IsPlan};
 ghost use Rattle.x_session.specs.Following.{IsToFollow};
 ghost use Rattle.x_session.specs.Following.{behind};
+ghost use Rattle.x_compile.specs.Known.{known_names};
 ghost use Rattle.x_compile.specs.KeptView.{AreParsed, AreWith, entry_definitions, kept_found};
 ghost use Rattle.x_session.specs.Moves.{changed_items, moves, place_of, seat_behind};
 ghost use Rattle.x_session.specs.Planned.{numbers_of};
@@ -28,7 +29,7 @@ use crate::follow::placing::put_changes;
 use crate::follow::planned::PlannedResult;
 use crate::follow::stale::check_stale_items;
 use std::alloc::Global;
-use x_compile::{Content, ItemTable};
+use x_compile::{Content, ItemTable, KnownDefinitions};
 use x_cutting::{ItemPatch, Items, recut};
 use x_lex::{Patch, Tokens, relex};
 use x_text::{Edit, Meter, NoMemory, Source};
@@ -50,8 +51,10 @@ pub struct Plan {
 
 /// Plans the edit that makes `new` of the text `old`, whose tokens and items these are: they stay, but for
 /// the room that there is for more of them, and the table of names, which is made where there was none.
+/// `known` is known before the text.
 pub fn plan_edit(
     alloc: Global,
+    known: &KnownDefinitions,
     old: &Source,
     edit: &Edit,
     new: &Source,
@@ -59,9 +62,11 @@ pub fn plan_edit(
     items: &mut ItemTable,
     meter: &mut Meter,
 ) -> Result<Plan, NoMemory>
-    requires { IsToFollow (change_of old.now edit.now) new.now tokens.old.list items.old }
+    requires { IsToFollow (known_names known.now) (change_of old.now edit.now) new.now tokens.old.list
+        items.old }
     ensures plan { IfOk result
-        (λ plan. IsPlan (change_of old.now edit.now) tokens.old.list items.old.entries.list plan) }
+        (λ plan. IsPlan (known_names known.now) (change_of old.now edit.now) tokens.old.list
+        items.old.entries.list plan) }
     ensures room { IfOk result (λ plan. CanCarryOut tokens.new items.new plan) }
     ensures tokens { tokens.new.list ≡ tokens.old.list }
     ensures token_seat { tokens.new.seat ≡ tokens.old.seat }
@@ -79,7 +84,7 @@ pub fn plan_edit(
 {
     let patch = next_tokens(alloc, old, edit, new, tokens, meter)?;
     let fresh = next_items(alloc, tokens, &patch, new, &mut items.entries, meter)?;
-    let checks = plan_checks(alloc, items, &fresh, meter)?;
+    let checks = plan_checks(alloc, known, items, &fresh, meter)?;
     let faults = faults_behind(items, &fresh, &checks.found)?;
     Ok(Plan {
         tokens: patch,
@@ -101,13 +106,14 @@ struct Checks {
 /// items. The table of names is made where there was none. Counts each stale item as checked.
 fn plan_checks(
     alloc: Global,
+    known: &KnownDefinitions,
     items: &mut ItemTable,
     fresh: &ItemPatch<Content>,
     meter: &mut Meter,
 ) -> Result<Checks, NoMemory>
     requires among { items_of.LiesAmong items.old.entries.list fresh.now }
     requires of_text { AreOfText (counts (items_of.patched items.old.entries.list fresh.now)) }
-    requires checked { IsCheckedTable items.old }
+    requires checked { IsCheckedTable (known_names known.now) items.old }
     requires short { AreShort (entry_definitions fresh.now.fresh) }
     requires unchecked { All (λ e. kept_found e.kept ≡ None) fresh.now.fresh }
     ensures entries { items.new.entries ≡ items.old.entries }
@@ -116,13 +122,14 @@ fn plan_checks(
     ensures change { IfOk result (λ checks. IsNameChange items.old.entries.list fresh.now checks.names) }
     ensures room { IfOk result (λ checks. HasRoomForNames items.new.uses checks.names) }
     ensures stale { IfOk result
-        (λ checks. AreStaleChecked items.new.entries.list fresh.now checks.found.items) }
+        (λ checks. AreStaleChecked (known_names known.now) items.new.entries.list fresh.now
+        checks.found.items) }
     ensures ticks { IfOk result (λ checks. meter.new
         ≡ record meter.old { checked = raised meter.old.checked (length checks.found.items) }) }
 {
     let put = fresh_definitions(alloc, fresh)?;
     let names = change_names(alloc, items, fresh, &put)?;
-    let found = check_stale_items(alloc, items, fresh, &put, &names, meter)?;
+    let found = check_stale_items(alloc, known, items, fresh, &put, &names, meter)?;
     Ok(Checks { names, found })
 }
 

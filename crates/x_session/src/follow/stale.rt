@@ -5,6 +5,7 @@ ghost use Rattle.x_text.specs.Counts.{raised};
 ghost use Rattle.x_cutting.specs.ItemList.{AreOfText, LiesAmong, counts, kept, patched};
 ghost use Rattle.x_trees.specs.View.{tree_at};
 ghost use Rattle.x_names.specs.Declarers.{AreShort};
+ghost use Rattle.x_compile.specs.Known.{known_names};
 ghost use Rattle.x_compile.specs.Checking.{IsMade};
 ghost use Rattle.x_session.specs.Following.{AreStaleChecked, HasRoomForNames, IsCheckedTable, IsNameChange};
 ghost use Rattle.x_compile.specs.KeptView.{entry_definitions, kept_found};
@@ -15,16 +16,18 @@ use crate::follow::counting::kept_behind;
 use crate::follow::naming::NameChange;
 use crate::follow::planned::PlannedResult;
 use std::alloc::Global;
-use x_compile::{CheckResult, Content, ItemTable, new_pieces};
+use x_compile::{CheckResult, Content, ItemTable, KnownDefinitions, new_pieces};
 use x_gen::Renderer;
 use x_item::{Definition, ItemPatch, Items};
 use x_recheck::{Rechecked, recheck};
 use x_text::{Meter, NoMemory};
 
 /// Checks the items that the patch makes stale, where `put` are the definitions of its fresh ones, and makes
-/// what is generated of those that have no fault and no pieces yet. Counts each of them as checked.
+/// what is generated of those that have no fault and no pieces yet. `known` is known before the text. Counts
+/// each of them as checked.
 pub fn check_stale_items(
     alloc: Global,
+    known: &KnownDefinitions,
     items: &ItemTable,
     patch: &ItemPatch<Content>,
     put: &[Option<&Definition>],
@@ -34,12 +37,13 @@ pub fn check_stale_items(
     requires put { map tree_at put.now ≡ entry_definitions patch.now.fresh }
     requires among { LiesAmong items.now.entries.list patch.now }
     requires of_text_behind { AreOfText (counts (patched items.now.entries.list patch.now)) }
-    requires checked { IsCheckedTable items.now }
+    requires checked { IsCheckedTable (known_names known.now) items.now }
     requires short { AreShort (entry_definitions patch.now.fresh) }
     requires unchecked { All (λ e. kept_found e.kept ≡ None) patch.now.fresh }
     requires names { IsNameChange items.now.entries.list patch.now names.now }
     requires room { HasRoomForNames items.now.uses names.now }
-    ensures stale { IfOk result (λ found. AreStaleChecked items.now.entries.list patch.now found.items) }
+    ensures stale { IfOk result
+        (λ found. AreStaleChecked (known_names known.now) items.now.entries.list patch.now found.items) }
     ensures counted { IfOk result (λ found. meter.new
         ≡ record meter.old { checked = raised meter.old.checked (length found.items) }) }
 {
@@ -48,7 +52,7 @@ pub fn check_stale_items(
     };
     // A read of the count shows that it fits its type.
     let _counted = items.entries.len();
-    let table = CheckedTable { items };
+    let table = CheckedTable { known, items };
     let stale = recheck(alloc, &table, put, names.place, uses, &names.fresh, meter)?;
     render_all(alloc, &items.entries, patch, stale)
 }

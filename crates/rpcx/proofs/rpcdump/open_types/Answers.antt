@@ -1,4 +1,5 @@
-use Rattle.std.proofs.Common.{Ok, inr, codes, subst}
+use Rattle.std.proofs.Common.{ℕ, List, Ok, inr, codes, subst}
+use Rattle.x_compile.specs.Known.{KnownText}
 use Rattle.x_session.specs.Session.{Compiles}
 use Rattle.x_session.specs.Typed.{GivesSchema}
 use Rattle.rpcx.specs.Dumping.{Opens}
@@ -17,7 +18,8 @@ returns-in_err-session-clause-opens g c =
 pub returns-in-Ok-clause-opens : goal.returns-in-Ok-clause-opens
 returns-in-Ok-clause-opens g c =
     has_types c.args.text.now c.in-Ok.schema (λ more. let off = c.in_ok-session.ensures.opened.too_large more in cc)
-    (subst (λ t. Compiles t (λ items. GivesSchema t items (Ok c.in-Ok.schema))) c.in_ok-session.ensures.opened.text c.in-Ok.ensures)
+    (subst (λ (p : KnownText × List ℕ). Compiles p.0 p.1 (λ items. GivesSchema p.0 p.1 items (Ok c.in-Ok.schema)))
+    (λ i. (c.in_ok-session.ensures.opened.known i, c.in_ok-session.ensures.opened.text i)) c.in-Ok.ensures)
 
 pub returns-in-Err-clause-opens : goal.returns-in-Err-clause-opens
 returns-in-Err-clause-opens g c =

@@ -1,5 +1,6 @@
 use Rattle.std.proofs.Common.{ℕ, List, refl, subst, ◌∙◌, codes}
 use Rattle.std.specs.Prelude.{MatchOption}
+use Rattle.x_compile.specs.Known.{KnownText}
 use Rattle.rpcx.specs.Course.{course}
 use Rattle.rpcx.specs.Editing.{Answers, IsStopped, stopped, unopened}
 use Rattle.rpcx.proofs.Editing.{opened_fits}
@@ -8,8 +9,8 @@ use Rattle.rpcx.proofs.rpcedit.edit_run_keyed.Goals as goal
 
 pub returns-clause-answers : goal.returns-clause-answers
 returns-clause-answers g c =
-    subst (λ (p : List ℕ × List ℕ). MatchOption (g.I.Tap.state c.args.input.now).bytes (Unit {0}) (λ script. Answers script c.args.args.now.file.now p.0 p.1 (g.O.Sink.state c.args.out.now) (g.O.Sink.state c.answer_input-status.new.out) c.answer_input-status.result))
-    (λ i. ((c.in-Ok.ensures.base ∙ c.base_of_file.ensures) i, c.in-Ok.ensures.text i)) c.answer_input-status.ensures.answers
+    subst (λ (p : List ℕ × KnownText × List ℕ). MatchOption (g.I.Tap.state c.args.input.now).bytes (Unit {0}) (λ script. Answers script c.args.args.now.file.now p.0 p.1 p.2 (g.O.Sink.state c.args.out.now) (g.O.Sink.state c.answer_input-status.new.out) c.answer_input-status.result))
+    (λ i. ((c.in-Ok.ensures.base ∙ c.base_of_file.ensures) i, c.in-Ok.ensures.known i, c.in-Ok.ensures.text i)) c.answer_input-status.ensures.answers
 
 pub returns-clause-failed : goal.returns-clause-failed
 returns-clause-failed g c e =
@@ -18,8 +19,8 @@ returns-clause-failed g c e =
     let before = g.E.Sink.state c.args.err.now in
     let after = g.E.Sink.state c.answer_input-status.new.err in
     stopped (opened_fits c.args.bytes.now c.in-Ok.session c.in-Ok.ensures.too_large)
-    (subst (λ (p : List ℕ × List ℕ). IsStopped c.args.args.now.file.now p.0 p.1 whole (g.O.Outlet.is_closed c.answer_input-status.new.out) before after)
-    (λ i. ((c.in-Ok.ensures.base ∙ c.base_of_file.ensures) i, c.in-Ok.ensures.text i))
+    (subst (λ (p : List ℕ × KnownText × List ℕ). IsStopped c.args.args.now.file.now p.0 p.1 p.2 whole (g.O.Outlet.is_closed c.answer_input-status.new.out) before after)
+    (λ i. ((c.in-Ok.ensures.base ∙ c.base_of_file.ensures) i, c.in-Ok.ensures.known i, c.in-Ok.ensures.text i))
     (c.answer_input-status.ensures.stopped e))
 
 pub returns-in-Err-clause-failed : goal.returns-in-Err-clause-failed

@@ -6,6 +6,7 @@ use Rattle.x_rules.proofs.OutlineLemmas.{map_map}
 use Rattle.x_names.specs.Declarers.{AreShort, FirstIs}
 use Rattle.x_names.specs.DeclarerTable.{first_in}
 use Rattle.x_rules.specs.Results.{IsResult, result_at}
+use Rattle.x_compile.specs.Known.{known_names}
 use Rattle.x_compile.specs.Checking.{counted}
 use Rattle.x_compile.specs.Compile.{faults_at}
 use Rattle.x_compile.specs.KeptView.{found_result, kept_definition, kept_parse}
@@ -23,6 +24,7 @@ pub loop-item-preserved : goal.loop-item-preserved
 loop-item-preserved c =
     let xs = c.args.items.now in
     let ds = map defined xs in
+    let known = (known_names c.args.known.now) in
     let same = sym (map_map kept_definition lent xs) in
     let index = c.loop-item.item-index in
     let x = c.item-item.result in
@@ -36,12 +38,12 @@ loop-item-preserved c =
     let more = ap (map found_result) c.in_ok-push.ensures.items ∙ map-append found_result rs (found ∷ []) in
     let many = sym (length-map rs found_result) in
     let is = c.in_ok-found.ensures.result ds short first in
-    let here : IsResult ds (result_at (map found_result rs)) (length (map found_result rs)) (defined x) (found_result found) =
-    subst (λ n. IsResult ds (result_at (map found_result rs)) n (defined x) (found_result found)) many
-    (subst (λ l. IsResult ds (result_at (map found_result l)) (length l) (defined x) (found_result found)) c.deref.ensures.value is) in
+    let here : IsResult known ds (result_at (map found_result rs)) (length (map found_result rs)) (defined x) (found_result found) =
+    subst (λ n. IsResult known ds (result_at (map found_result rs)) n (defined x) (found_result found)) many
+    (subst (λ l. IsResult known ds (result_at (map found_result l)) (length l) (defined x) (found_result found)) c.deref.ensures.value is) in
     record {
       many = many_more index rs new found c.in_ok-push.ensures.items c.loop-item.invariant.many;
-      are = results_next defined xs index x (map found_result rs) (map found_result new) (found_result found) lt at more (c.loop-item.invariant.many ∙ many) c.loop-item.invariant.are here;
+      are = results_next known defined xs index x (map found_result rs) (map found_result new) (found_result found) lt at more (c.loop-item.invariant.many ∙ many) c.loop-item.invariant.are here;
       rendered = rendered_next lent xs index x rs new found lt at c.in_ok-push.ensures.items c.loop-item.invariant.rendered c.in_ok-found.ensures.rendered;
       faults = c.in_ok-faults.ensures ∙ ap (λ n. c.loop-item.faults + n) (c.fault_count.ensures ∙ ap (λ fs. length (faults_at [] (kept_parse x.now) fs)) c.faults_of.ensures)
           ∙ faults_next lent xs index c.loop-item.faults x rs new found lt at c.in_ok-push.ensures.items c.loop-item.invariant.many c.loop-item.invariant.faults;
@@ -50,7 +52,7 @@ loop-item-preserved c =
 
 pub returns-clause-checked : goal.returns-clause-checked
 returns-clause-checked c =
-    checked_all lent c.args.items.now c.loop-item.item-index c.loop-item.results.items c.loop-item.faults c.loop-item-test.false
+    checked_all (known_names c.args.known.now) lent c.args.items.now c.loop-item.item-index c.loop-item.results.items c.loop-item.faults c.loop-item-test.false
     c.loop-item.invariant.are c.loop-item.invariant.rendered c.loop-item.invariant.faults
 
 pub returns-clause-counted : goal.returns-clause-counted

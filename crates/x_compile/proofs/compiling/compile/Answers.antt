@@ -3,6 +3,7 @@ use Rattle.std.specs.Borrow.{Bor}
 use Rattle.x_cutting.specs.ItemList.{AreOfText}
 use Rattle.x_cutting.specs.ItemList as items
 use Rattle.x_names.specs.Declarers.{AreShort}
+use Rattle.x_compile.specs.Known.{known_names}
 use Rattle.x_compile.specs.Checking.{AreChecked, kept_definitions}
 use Rattle.x_compile.specs.KeptView.{kept_found}
 use Rattle.x_compile.specs.KeptText.{IsKept}
@@ -25,7 +26,7 @@ keep_results-requires c =
     let ks = items.kept c.in_ok-entries.entries.items in
     let checks = c.in_ok-results.field-0 in
     let same = ap (map (λ (k : Bor Content). k.now)) c.deref-2.ensures.value ∙ c.in_ok-kept_of.ensures ∙ ap items.kept c.deref.ensures.value in
-    are_known ks checks.results.items checks.faults (subst (λ l. AreChecked l checks.results.items checks.faults) same c.in_ok-results.ensures.checked)
+    are_known (known_names c.args.known.now) ks checks.results.items checks.faults (subst (λ l. AreChecked (known_names c.args.known.now) l checks.results.items checks.faults) same c.in_ok-results.ensures.checked)
 
 pub of-requires : goal.of-requires
 of-requires c =
@@ -39,8 +40,8 @@ returns-clause-kept c =
     let checks = c.in_ok-results.field-0 in
     let made = c.in_ok-items.items in
     let same = ap (map (λ (k : Bor Content). k.now)) c.deref-2.ensures.value ∙ c.in_ok-kept_of.ensures ∙ ap items.kept c.deref.ensures.value in
-    let checked = subst (λ l. AreChecked l checks.results.items checks.faults) same c.in_ok-results.ensures.checked in
-    subst (λ u. IsKept text tokens made.entries.list made.faults u) (sym c.in_ok-items.ensures.uses)
-    (subst (λ n. IsKept text tokens made.entries.list n None) (sym c.in_ok-items.ensures.faults)
-    (subst (λ l. IsKept text tokens l checks.faults None) (sym c.in_ok-items.ensures.list)
-    (kept_is text tokens es checks.results.items checks.faults c.keep_results.new.entries.items None c.in_ok-tokens.ensures.tokens c.in_ok-entries.ensures.parsed c.in_ok-entries.ensures.short c.in_ok-entries.ensures.of_text checked c.keep_results.ensures tt)))
+    let checked = subst (λ l. AreChecked (known_names c.args.known.now) l checks.results.items checks.faults) same c.in_ok-results.ensures.checked in
+    subst (λ u. IsKept c.args.known.now text tokens made.entries.list made.faults u) (sym c.in_ok-items.ensures.uses)
+    (subst (λ n. IsKept c.args.known.now text tokens made.entries.list n None) (sym c.in_ok-items.ensures.faults)
+    (subst (λ l. IsKept c.args.known.now text tokens l checks.faults None) (sym c.in_ok-items.ensures.list)
+    (kept_is c.args.known.now text tokens es checks.results.items checks.faults c.keep_results.new.entries.items None c.in_ok-tokens.ensures.tokens c.in_ok-entries.ensures.parsed c.in_ok-entries.ensures.short c.in_ok-entries.ensures.of_text checked c.keep_results.ensures tt)))

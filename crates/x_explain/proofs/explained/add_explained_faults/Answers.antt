@@ -16,7 +16,7 @@ overflow_sub-notes g c =
     let errors = c.error_count-errors.ensures in
     let count = c.fault_count.ensures in
     let text = c.args.session.now.text in
-    let same = (one_compilation text count.0 errors.0 count.1 errors.1 count.2 errors.2).1 in
+    let same = (one_compilation c.args.session.now.known text count.0 errors.0 count.1 errors.1 count.2 errors.2).1 in
     let many : c.fault_count.result ≡ length (places_of errors.1) = count.3 ∙ places_many text 0 count.1 ∙ ap (λ items. length (places_of items)) same in
     let is = errors.3 in
     omega (arith, many, is)
@@ -37,9 +37,9 @@ returns g c =
     let near = near_in c.args.facts.now in
     let facts = of_each text c.requires errors.0 items errors.2 in
     let places = places_of items in
-    let of_count = (one_compilation text count.0 errors.0 count.1 items count.2 errors.2).1 in
-    let of_first = (one_compilation text first.0 errors.0 first.1 items first.2 errors.2).1 in
-    let of_second = (one_compilation text second.0 errors.0 second.1 items second.2 errors.2).1 in
+    let of_count = (one_compilation c.args.session.now.known text count.0 errors.0 count.1 items count.2 errors.2).1 in
+    let of_first = (one_compilation c.args.session.now.known text first.0 errors.0 first.1 items first.2 errors.2).1 in
+    let of_second = (one_compilation c.args.session.now.known text second.0 errors.0 second.1 items second.2 errors.2).1 in
     let one : IsPass Errors t items near places c.args.pen.now start c.add_pass.new.pen mid =
     subst (λ is. IsPass Errors t is near (places_of is) c.args.pen.now start c.add_pass.new.pen mid) of_first first.3 in
     let two : IsPass Notes t items near places c.add_pass.new.pen mid c.add_pass-2.new.pen more =

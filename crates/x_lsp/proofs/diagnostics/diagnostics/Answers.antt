@@ -57,7 +57,8 @@ loop-fault-preserved c =
     let word = c.word_at-word.result.now in
     let seen : text ≡ others.session.now.text = c.bytes-text.ensures ∙ sym (ap (λ (d : Document). d.text) inv.session) in
     let encoding : others.marks.now.encoding ≡ e = ap (λ (m : Waymarks). m.encoding) inv.marks ∙ c.requires.encoding in
-    let compiled = subst (λ t. IsCompilation t are.0 are.1) seen are.2 in
+    let known_seen : c.args.session.now.known ≡ others.session.now.known = sym (ap (λ (d : Document). d.known) inv.session) in
+    let compiled = subst (λ k. IsCompilation k others.session.now.text are.0 are.1) known_seen (subst (λ t. IsCompilation c.args.session.now.known t are.0 are.1) seen are.2) in
     let other = subst (λ t. IsRangeAt e t (other_place client.shows_related are.1 f.code word start) c.in_ok-other.other) (sym seen)
     (subst (λ b. IsRangeAt e others.session.now.text (other_place b are.1 f.code word start) c.in_ok-other.other) inv.shown
     (subst (λ v. IsRangeAt v others.session.now.text (other_place others.shown are.1 f.code word start) c.in_ok-other.other) encoding (c.in_ok-other.ensures.range are.0 are.1 compiled))) in
@@ -100,5 +101,5 @@ returns-clause-diagnostics c =
     let uri = c.args.uri.now in
     let ds = map data_of c.loop-fault.list.items in
     let all = found_to_the_last text (places_of told.1) c.deref-fault-items.result.now c.loop-fault.fault-index c.loop-fault-test.false told.3.0 in
-    subst (λ t. Compiles t (λ items. AreDiagnostics client uri t items (places_of items) ds)) c.bytes-text.ensures
+    subst (λ t. Compiles c.args.session.now.known t (λ items. AreDiagnostics client uri t items (places_of items) ds)) c.bytes-text.ensures
     (told.0, told.1, told.2, subst (λ l. AreDiagnostics client uri text told.1 l ds) all told.3.1)

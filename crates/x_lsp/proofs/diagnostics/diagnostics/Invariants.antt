@@ -15,6 +15,6 @@ invariant-loop-fault l = record {
   others : AreOfText l.others;
   marked : l.marker.text.now ≡ l.text;
   counted : l.marker.encoding ≡ l.fn.client.encoding;
-  told : Compiles l.text (λ items. AreFound l.text (places_of items) l.fault-items
+  told : Compiles l.fn.session.known l.text (λ items. AreFound l.text (places_of items) l.fault-items
       × AreDiagnostics l.fn.client l.fn.uri l.text items (take l.fault-index (places_of items)) (map data_of l.list.items));
 }

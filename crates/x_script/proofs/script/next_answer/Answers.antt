@@ -30,7 +30,7 @@ returns-in-TooLong-clause-given g c script given h =
         c.item_count-items.ensures.0,
         items,
         c.item_count-items.ensures.2,
-        (a, too_long told.1 refl, record { added = c.add_line.ensures; refused_is = refl; session_is = record { text_is = refl; base_is = refl } }),
+        (a, too_long told.1 refl, record { added = c.add_line.ensures; refused_is = refl; session_is = record { text_is = refl; base_is = refl; known_is = refl } }),
       ),
     )
 
@@ -39,7 +39,7 @@ returns-in-Ok-clause-given g c script given h =
     let left = (g.R.Tap.state c.next.new.tap).bytes in
     let read = has_read script given c.args.reader.now c.next.new.self (g.R.Tap.state c.args.tap.now).bytes left c.next.result h c.next.ensures.lines in
     let told = found_as script given c.args.reader.now c.next.new.self left c.next.result Line read (c.in_ok-next.was ∙ ap Ok c.in-Line.is) in
-    let is_given : List ℕ → Type 0 = λ line. LineAnswers c.args.file.now c.args.session.now.base c.args.session.now.text line (λ a. IsGiven a c.args.session.now c.answer_line.new.session c.in-Ok.refused
+    let is_given : List ℕ → Type 0 = λ line. LineAnswers c.args.file.now c.args.session.now.base c.args.session.now.known c.args.session.now.text line (λ a. IsGiven a c.args.session.now c.answer_line.new.session c.in-Ok.refused
     c.args.pen.now (g.S.Sink.state c.args.sink.now) c.answer_line.new.pen (g.S.Sink.state c.answer_line.new.sink)) in (
       c.next.new.self.line,
       line_given script given c.args.reader.now c.next.new.self left c.next.result c.next.new.self.line read (before_line c.args.reader.now.state c.next.result c.next.ensures.ended (c.in_ok-next.was ∙ ap Ok c.in-Line.is)) told.1,

@@ -2,7 +2,8 @@ use Rattle.std.proofs.Common.{◌≡◌, ◌∙◌, ◌<◌, ◌≤◌, ◌⊎�
 use Rattle.std.specs.Prelude.{IsErrOf, Ok, Err}
 use Rattle.x_text.specs.declared.text.fault.TextFault.TheVariants as fault
 use Rattle.x_session.specs.Session.{Compiles, Document}
-use Rattle.x_compile.specs.Compile.{faults_of}
+use Rattle.x_compile.specs.Compile.{IsCompilation, Item, faults_of}
+use Rattle.x_compile.specs.Known.{KnownText, nothing_known}
 use Rattle.x_compile.specs.declared.fault.Fault.{Fault}
 use Rattle.x_args.specs.declared.status.Status.TheVariants as status
 use Rattle.x_text.specs.Streams.{Stream}
@@ -24,10 +25,10 @@ no_error : {T E : Type 0} (v : T) (e : E) → IsErrOf (Ok v) e → ⊥
 no_error v e h = cc
 
 -- a text that has faults, all of which were told
-some_faults : (text : List ℕ) (style : FaultStyle) (file : List ℕ) (before after : Stream) (n : ℕ) → 0 < n → Compiles text (λ items. n ≡ length (faults_of text items))
-    → Compiles text (λ items. TellsFaults style file text items before after) → Compiles text (λ items. (0 < length (faults_of text items)) × TellsFaults style file text items before after)
-some_faults text style file before after n more count all =
-    let same : count.1 ≡ all.1 = (one_compilation text count.0 all.0 count.1 all.1 count.2 all.2).1 in
+some_faults : (known : KnownText) (text : List ℕ) (style : FaultStyle) (file : List ℕ) (before after : Stream) (n : ℕ) → 0 < n → Compiles known text (λ items. n ≡ length (faults_of text items))
+    → Compiles known text (λ items. TellsFaults style file text items before after) → Compiles known text (λ items. (0 < length (faults_of text items)) × TellsFaults style file text items before after)
+some_faults known text style file before after n more count all =
+    let same : count.1 ≡ all.1 = (one_compilation known text count.0 all.0 count.1 all.1 count.2 all.2).1 in
     let long : n ≡ length (faults_of text all.1) = count.3 ∙ ap (λ is. length (faults_of text is)) same in
     (all.0, all.1, all.2, (omega (arith, long, more), all.3))
 
@@ -38,8 +39,9 @@ returns-else-fault_count-gt0-clause-opened g c =
     let none = no_fault (faults_of c.in-Ok.session.text h.1) c.fault_count.result h.3 c.if-fault_count-gt0.false in
     record {
       base = c.in-Ok.ensures.base ∙ c.base_of_file.ensures;
+      known = c.in-Ok.ensures.known;
       text = text;
-      clean = subst (λ t. Compiles t (λ items. faults_of t items ≡ [])) text (h.0, h.1, h.2, none);
+      clean = subst (λ t. Compiles nothing_known t (λ items. faults_of t items ≡ [])) text (h.0, h.1, subst (λ k. IsCompilation k c.in-Ok.session.text h.0 h.1) c.in-Ok.ensures.known h.2, none);
       faulty = λ e. absurd (no_error c.in-Ok.session status.Faulty e);
       too_large = λ more. absurd (no_error c.in-Ok.session fault.TooLarge (c.in-Ok.ensures.too_large.1 more));
       failed = λ e. absurd (no_error c.in-Ok.session status.Failed e);
@@ -48,11 +50,12 @@ returns-else-fault_count-gt0-clause-opened g c =
 
 -- what a text with faults comes to, by the status of their report
 reported : (style : FaultStyle) (program file text : List ℕ) (before after : Stream) (status' : Status) → (most_text < length text → ⊥)
-    → (status' ≡ status.Faulty → Compiles text (λ items. (0 < length (faults_of text items)) × TellsFaults style file text items before after))
+    → (status' ≡ status.Faulty → Compiles nothing_known text (λ items. (0 < length (faults_of text items)) × TellsFaults style file text items before after))
     → (status' ≡ status.Failed → IsTold before after (told_of program (codes "out of memory"))) → (status' ≡ status.Faulty) ⊎ (status' ≡ status.Failed)
     → IsOpened style program file text before after (Err status')
 reported style program file text before after status' few faulty failed others = record {
   base = tt;
+  known = tt;
   text = tt;
   clean = tt;
   faulty = λ e. faulty (same_error e);
@@ -66,7 +69,8 @@ reported style program file text before after status' few faulty failed others =
 
 pub returns-then-fault_count-gt0-clause-opened : goal.returns-then-fault_count-gt0-clause-opened
 returns-then-fault_count-gt0-clause-opened g c =
-    let count = c.fault_count.ensures in
+    let at = λ (P : List Item → Type 0) (d : Compiles c.in-Ok.session.known c.in-Ok.session.text P). subst (λ k. Compiles k c.in-Ok.session.text P) c.in-Ok.ensures.known d in
+    let count = at _ c.fault_count.ensures in
     let here = c.in-Ok.session.text in
     let style = c.args.style in
     let file = c.args.file.now in
@@ -74,13 +78,14 @@ returns-then-fault_count-gt0-clause-opened g c =
     let after = g.E.Sink.state c.report_faults.new.err in
     let few : most_text < length c.args.bytes.now → ⊥ = λ more. no_error c.in-Ok.session fault.TooLarge (c.in-Ok.ensures.too_large.1 more) in
     reported style c.args.program.now file c.args.bytes.now before after c.report_faults.result few
-    (λ e. subst (λ t. Compiles t (λ items. (0 < length (faults_of t items)) × TellsFaults style file t items before after)) c.in-Ok.ensures.text
-    (some_faults here style file before after c.fault_count.result c.if-fault_count-gt0.true count (c.report_faults.ensures.faulty e)))
+    (λ e. subst (λ t. Compiles nothing_known t (λ items. (0 < length (faults_of t items)) × TellsFaults style file t items before after)) c.in-Ok.ensures.text
+    (some_faults nothing_known here style file before after c.fault_count.result c.if-fault_count-gt0.true count (at _ (c.report_faults.ensures.faulty e))))
     c.report_faults.ensures.failed c.report_faults.ensures.others
 
 pub returns-in-Err-clause-opened : goal.returns-in-Err-clause-opened
 returns-in-Err-clause-opened g c = record {
   base = tt;
+  known = tt;
   text = tt;
   clean = tt;
   faulty = λ e. absurd (cc);

@@ -26,7 +26,7 @@ loop-item-preserved-in-Continue-branch-2 c = λ tokens items is start.
     let next : later ≡ suc item = omega (arith, some) in
     let inside : item < count = omega (arith, some, last) in
     let few : all < 2 ^ 64 = omega arith in
-    let found : Compiles text (λ items. Some definition ≡ definition_at items item) = (c.definition.ensures.0, c.definition.ensures.1, c.definition.ensures.2, sym (ap tree_at c.in-Some.is) ∙ c.definition.ensures.3) in
+    let found : Compiles c.args.session.now.known text (λ items. Some definition ≡ definition_at items item) = (c.definition.ensures.0, c.definition.ensures.1, c.definition.ensures.2, sym (ap tree_at c.in-Some.is) ∙ c.definition.ensures.3) in
     let short = short_at text tokens items item count all definition inside few is c.item_count-item.ensures c.token_count.ensures found in
     let table = of_each text c.requires tokens items is in
     item_before text tokens items item later count (Some definition) (entry_at c.loop-item.table.entries start) (entry_at c.add.new.table.entries start) start

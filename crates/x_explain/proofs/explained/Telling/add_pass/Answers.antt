@@ -17,7 +17,7 @@ loop-place-init g c =
     let here = c.args.self.now.session.now.text in
     let text = c.bytes-text.result.now in
     let places = c.into_iter-place-iterator.result in
-    let same = (one_compilation here told.0 all.0 told.1 all.1 told.2 all.2).1 in
+    let same = (one_compilation c.args.self.now.session.now.known here told.0 all.0 told.1 all.1 told.2 all.2).1 in
     let faults : c.faults-faults.result ≡ map (in_lines text) places = told.3 ∙ sym (in_lines_from here 0 told.1)
     ∙ ap (λ t. map (in_lines t) (places_of told.1)) (sym c.bytes-text.ensures)
     ∙ ap (λ items. map (in_lines text) (places_of items)) same
@@ -45,7 +45,7 @@ loop-place-preserved g c =
     let two = sym c.in-Some-next.ensures.steps ∙ c.loop-place.invariant.0 ∙ ap (map (in_lines text)) c.in-Some.ensures.steps in (
       tail_is c.in-Some-next.fault (in_lines text place) c.next-in-loop-place.new.self (map (in_lines text) left) two,
       passed_more c.args.pass t near all left place found c.args.pen.now c.loop-place.pen c.add_in.new.pen start mid end
-          (subst (λ ps. HasPassed c.args.pass t near all ps c.args.pen.now start c.loop-place.pen mid) c.in-Some.ensures.steps c.loop-place.invariant.1)
+          (subst (λ ps. HasPassed c.args.pass self.session.now.known t near all ps c.args.pen.now start c.loop-place.pen mid) c.in-Some.ensures.steps c.loop-place.invariant.1)
           is
           (λ tokens items of_text. said_as c.args.pass self.coloured self.file.now text here items near found
           c.word_at.result.now (view_known c.known.result) c.loop-place.pen c.add_in.new.pen mid end

@@ -14,8 +14,8 @@ returns-in-Some-clause-range c =
     let start = c.args.start in
     let names = c.in-Some.names in
     let found = c.declared_range.result in
-    let made : Compiles text (λ items. AreNamesOf text items names) =
-    subst (λ o. IfSome o (λ names. Compiles text (λ items. AreNamesOf text items names))) c.in-Some.is c.requires.of_text in
+    let made : Compiles s.session.now.known text (λ items. AreNamesOf text items names) =
+    subst (λ o. IfSome o (λ names. Compiles s.session.now.known text (λ items. AreNamesOf text items names))) c.in-Some.is c.requires.of_text in
     is_beside e text s.shown c.args.code c.args.word.now start names found c.if-not-self.false (sym c.is_of_declarer.ensures ∙ c.if-not-is_of_declarer.false) made
     (λ items is.
     let named = c.name-name.ensures text items is in

@@ -10,7 +10,7 @@ use Rattle.x_lsp.proofs.questions.name_places.find_names.Goals.{in-Some+in_ok-ad
 
 pub loop-item-init : goal.loop-item-init
 loop-item-init c =
-    subst (HasFound c.args.session.now.text (is_sought c.args.sought) 0 c.tokens-walk.result) (sym (ap (map lexeme) c.new-found.ensures.items))
+    subst (HasFound c.args.session.now.known c.args.session.now.text (is_sought c.args.sought) 0 c.tokens-walk.result) (sym (ap (map lexeme) c.new-found.ensures.items))
     (found_none c.args.session.now.text (is_sought c.args.sought) c.tokens-walk.result c.tokens-walk.ensures)
 
 pub loop-item-preserved : goal.loop-item-preserved

@@ -5,4 +5,4 @@ use Rattle.x_lsp.proofs.NamePlaceLemmas.{HasFound}
 use Rattle.x_lsp.proofs.questions.name_places.find_names.Given as goal
 
 abbrev pub invariant-loop-item : goal.invariant-loop-item
-invariant-loop-item l = HasFound l.session.text (is_sought l.sought) l.item l.walk (map lexeme l.found.items)
+invariant-loop-item l = HasFound l.session.known l.session.text (is_sought l.sought) l.item l.walk (map lexeme l.found.items)

@@ -37,5 +37,5 @@ returns-clause-found g c after are so_far o has =
           | in_default w ↦ outdated_fresh e after c.args.item (names_of d) (sym c.old_number.ensures ∙ w.in_default.is)
         ];
       },
-      found_result (definitions_after e) results after c.args.item d views c.in_ok-checked.checked are so_far has (c.in_ok-views.ensures o) is,
+      found_result e.known (definitions_after e) results after c.args.item d views c.in_ok-checked.checked are so_far has (c.in_ok-views.ensures o) is,
     )

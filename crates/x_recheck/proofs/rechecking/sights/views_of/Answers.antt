@@ -13,13 +13,13 @@ use Rattle.x_recheck.proofs.rechecking.sights.views_of.Goals as goal
 pub loop-mention-init : goal.loop-mention-init
 loop-mention-init g c o =
     let e = edit_of g.L.CheckedItems.text c.args.items.now in
-    views_declared (view_by (definitions_after e) (result_after e c.args.rechecked.now) c.args.item) (map view_view c.loop-declared.views.items)
+    views_declared (view_by e.known (definitions_after e) (result_after e c.args.rechecked.now) c.args.item) (map view_view c.loop-declared.views.items)
     c.loop-declared.declared-index c.declared-declared-items.result.now c.args.outline.now.declared.items (declared (outlined c.args.outline.now))
     c.loop-declared.invariant c.loop-declared-test.false c.declared-declared-items.ensures o.names_are
 
 pub returns : goal.returns
 returns g c o =
     let e = edit_of g.L.CheckedItems.text c.args.items.now in
-    views_mentioned (view_by (definitions_after e) (result_after e c.args.rechecked.now) c.args.item) (map view_view c.loop-mention.views.items)
+    views_mentioned (view_by e.known (definitions_after e) (result_after e c.args.rechecked.now) c.args.item) (map view_view c.loop-mention.views.items)
     (map (λ x. x.name) (declared (outlined c.args.outline.now))) c.loop-mention.mention-index c.mentioned-mention-items.result.now c.args.outline.now.mentioned.items
     (mentioned (outlined c.args.outline.now)) (c.loop-mention.invariant o) c.loop-mention-test.false c.mentioned-mention-items.ensures o.uses_are

@@ -13,11 +13,11 @@ use Rattle.x_recheck.proofs.rechecking.sights.views_of.Given as goal
 abbrev pub invariant-loop-declared : goal.invariant-loop-declared
 invariant-loop-declared g l =
     let e = edit_of g.L.CheckedItems.text l.items in
-    map view_view l.views.items ≡ map (view_by (definitions_after e) (result_after e l.rechecked) l.item) (map (λ d. cow_slice_items d.name) (take l.declared-index l.declared-items))
+    map view_view l.views.items ≡ map (view_by e.known (definitions_after e) (result_after e l.rechecked) l.item) (map (λ d. cow_slice_items d.name) (take l.declared-index l.declared-items))
 
 abbrev pub invariant-loop-mention : goal.invariant-loop-mention
 invariant-loop-mention g l =
     let e = edit_of g.L.CheckedItems.text l.items in
     IsOutline l.outline → map view_view l.views.items
-    ≡ map (view_by (definitions_after e) (result_after e l.rechecked) l.item)
+    ≡ map (view_by e.known (definitions_after e) (result_after e l.rechecked) l.item)
     (map (λ x. x.name) (declared (outlined l.outline)) ++ map (λ m. m.name.now) (take l.mention-index l.mention-items))

@@ -23,7 +23,7 @@ pub returns : goal.returns
 returns g c =
     let one = c.fault_count.ensures in
     let two = c.faults-fault-items.ensures in
-    let same : one.1 ≡ two.1 = (one_compilation c.args.session.now.text one.0 two.0 one.1 two.1 one.2 two.2).1 in
+    let same : one.1 ≡ two.1 = (one_compilation c.args.session.now.known c.args.session.now.text one.0 two.0 one.1 two.1 one.2 two.2).1 in
     let items = two.1 in
     let text = c.args.session.now.text in
     let all = c.into_iter-fault-iterator.result in

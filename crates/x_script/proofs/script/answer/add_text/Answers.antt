@@ -10,7 +10,7 @@ pub returns : goal.returns
 returns g c =
     let one = c.text_length.ensures in
     let two = c.add_text.ensures in
-    let same : one.1 ≡ two.1 = (one_compilation c.args.session.now.text one.0 two.0 one.1 two.1 one.2 two.2).1 in
+    let same : one.1 ≡ two.1 = (one_compilation c.args.session.now.known c.args.session.now.text one.0 two.0 one.1 two.1 one.2 two.2).1 in
     let start = g.S.Sink.state c.args.sink.now in
     let mid = g.S.Sink.state c.add_counted.new.sink in
     let end = g.S.Sink.state c.add_text.new.sink in

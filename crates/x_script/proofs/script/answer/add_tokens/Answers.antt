@@ -22,7 +22,7 @@ pub returns : goal.returns
 returns g c =
     let one = c.token_count.ensures in
     let two = c.tokens-token-items.ensures in
-    let same : one.1 ≡ two.1 = (one_compilation c.args.session.now.text one.0 two.0 one.1 two.1 one.2 two.2).1 in
+    let same : one.1 ≡ two.1 = (one_compilation c.args.session.now.known c.args.session.now.text one.0 two.0 one.1 two.1 one.2 two.2).1 in
     let items = two.1 in
     let all = c.into_iter-token-iterator.result in
     let start = g.S.Sink.state c.args.sink.now in

@@ -7,6 +7,7 @@ use Rattle.x_cutting.specs.ItemList.{AreOfText, counts}
 use Rattle.x_cutting.specs.ItemList as items
 use Rattle.x_cutting.specs.Recut.{IsItemPatch, IsRelexed}
 use Rattle.x_cutting.specs.declared.cutting.item_entry.ItemEntry.{ItemEntry}
+use Rattle.x_compile.specs.Known.{known_names}
 use Rattle.x_compile.specs.Counting.{faults_found}
 use Rattle.x_session.specs.Following.{AreFollowed, AreStaleChecked, IsNameChange, behind}
 use Rattle.x_compile.specs.KeptView.{AreParsed}
@@ -46,7 +47,7 @@ plan_checks-requires-clause-short c =
 
 pub plan_checks-requires-clause-checked : goal.plan_checks-requires-clause-checked
 plan_checks-requires-clause-checked c =
-    table_same c.args.items.now (record c.args.items.now { entries = c.next_items.new.items }) c.requires.checked c.in_ok-fresh.ensures.list refl c.requires.checked.uses
+    table_same (known_names c.args.known.now) c.args.items.now (record c.args.items.now { entries = c.next_items.new.items }) c.requires.checked c.in_ok-fresh.ensures.list refl c.requires.checked.uses
 
 pub faults_behind-requires-clause-planned : goal.faults_behind-requires-clause-planned
 faults_behind-requires-clause-planned c =
@@ -74,7 +75,7 @@ returns-clause-plan c =
       parsed = subst (λ text. AreParsed (lexemes text (tokens.patched c.args.tokens.now.list patch)) (items.patched es fresh)) c.requires.edited
           (subst (λ l. AreParsed (lexemes c.args.new.now (tokens.patched l patch)) (items.patched es fresh)) list c.in_ok-fresh.ensures.parsed);
       short = short_behind c.args.new.now c.args.tokens.now.list ts patch (items.patched es fresh) list c.in_ok-patch.ensures.of_text c.in_ok-fresh.ensures.parsed;
-      checked = subst (λ l. AreStaleChecked l fresh c.in_ok-checks.checks.found.items) same c.in_ok-checks.ensures.stale;
+      checked = subst (λ l. AreStaleChecked (known_names c.args.known.now) l fresh c.in_ok-checks.checks.found.items) same c.in_ok-checks.ensures.stale;
       count = c.in_ok-faults.ensures ∙ (λ i. faults_found (items.kept (items.patched (same i) fresh)) (behind (same i) fresh (c.deref.ensures.value i)));
     }
 

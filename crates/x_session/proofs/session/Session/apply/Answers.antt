@@ -6,6 +6,7 @@ use Rattle.x_lex.specs.TokenList as tokens
 use Rattle.x_cutting.specs.ItemList as items
 use Rattle.x_cutting.specs.ItemList.{AreOfText, counts}
 use Rattle.x_session.specs.Following.{AreUsed, IsPlan, IsToFollow, behind}
+use Rattle.x_compile.specs.Known.{known_names}
 use Rattle.x_compile.specs.KeptView.{AreWith}
 use Rattle.x_session.specs.Moves.{changed_items, moves, place_of, seat_behind}
 use Rattle.x_session.specs.Planned.{numbers_of}
@@ -24,16 +25,16 @@ plan_edit-planned-requires c =
     let edit = c.args.edit.now in
     let text : c.text.result.now ≡ old = c.text.ensures ∙ c.in_ok-prepare.ensures.text in
     let ready : c.ready.result.now ≡ edited_by (change_of old edit) = c.ready.ensures ∙ c.in_ok-prepare.ensures.ready in
-    subst (λ t. IsToFollow (change_of t edit) c.ready.result.now c.self.inside.tokens.list c.self.inside.items) (sym text) (record {
+    subst (λ t. IsToFollow (known_names c.self.inside.known) (change_of t edit) c.ready.result.now c.self.inside.tokens.list c.self.inside.items) (sym text) (record {
       within = c.in_ok-prepare.ensures.fault.fits.lies_within;
       edited = ready;
       are_tokens = c.self.invariant.are_tokens;
       parsed = c.self.invariant.parsed;
-      checked = table_checked old c.self.inside.tokens.list c.self.inside.items c.self.invariant;
+      checked = table_checked c.self.inside.known old c.self.inside.tokens.list c.self.inside.items c.self.invariant;
     })
 
-planned : (c : After-of) → IsPlan (change_of c.self.inside.texts.text c.args.edit.now) c.self.inside.tokens.list c.self.inside.items.entries.list c.in-Ok.plan
-planned c = subst (λ t. IsPlan (change_of t c.args.edit.now) c.self.inside.tokens.list c.self.inside.items.entries.list c.in-Ok.plan) (c.text.ensures ∙ c.in_ok-prepare.ensures.text) c.in-Ok.ensures.plan
+planned : (c : After-of) → IsPlan (known_names c.self.inside.known) (change_of c.self.inside.texts.text c.args.edit.now) c.self.inside.tokens.list c.self.inside.items.entries.list c.in-Ok.plan
+planned c = subst (λ t. IsPlan (known_names c.self.inside.known) (change_of t c.args.edit.now) c.self.inside.tokens.list c.self.inside.items.entries.list c.in-Ok.plan) (c.text.ensures ∙ c.in_ok-prepare.ensures.text) c.in-Ok.ensures.plan
 
 with : (c : After-of) → AreWith (items.patched c.self.inside.items.entries.list c.in-Ok.plan.items) (behind c.self.inside.items.entries.list c.in-Ok.plan.items c.in-Ok.plan.found.items) c.carry_out.new.items.entries.list
 with c =
@@ -49,11 +50,11 @@ of_text c = subst (λ l. AreOfText (counts (items.patched l c.in-Ok.plan.items))
 turned : (c : After-of) → c.turn.new.self.text ≡ edited_by (change_of c.self.inside.texts.text c.args.edit.now)
 turned c = c.turn.ensures.text ∙ c.in_ok-prepare.ensures.ready
 
-kept : (c : After-of) → IsKept c.turn.new.self.text c.carry_out.new.tokens.list c.carry_out.new.items.entries.list c.carry_out.new.items.faults c.carry_out.new.items.uses
+kept : (c : After-of) → IsKept c.self.inside.known c.turn.new.self.text c.carry_out.new.tokens.list c.carry_out.new.items.entries.list c.carry_out.new.items.faults c.carry_out.new.items.uses
 kept c =
     let plan = c.in-Ok.plan in
     let new = c.carry_out.new.items in
-    kept_edited (change_of c.self.inside.texts.text c.args.edit.now) c.self.inside.tokens.list c.self.inside.items.entries.list plan c.turn.new.self.text c.carry_out.new.tokens.list new.entries.list new.faults new.uses (planned c)
+    kept_edited c.self.inside.known (change_of c.self.inside.texts.text c.args.edit.now) c.self.inside.tokens.list c.self.inside.items.entries.list plan c.turn.new.self.text c.carry_out.new.tokens.list new.entries.list new.faults new.uses (planned c)
     (turned c) (tokens_are c) (of_text c) (with c) c.carry_out.ensures.faults (subst (λ l. AreUsed (items.patched l plan.items) new.uses) c.in-Ok.ensures.items c.carry_out.ensures.uses)
 
 pub invariant_of-self-2 : goal.invariant_of-self-2
@@ -70,12 +71,14 @@ returns-clause-work c =
     let checked = ap (λ (w : Work). w.checked) c.of.ensures ∙ c.carry_out.ensures.checked ∙ c.in-Ok.ensures.checked ∙ ap (λ (n : Counts). raised n.checked (length plan.found.items)) c.new-meter.ensures in
     let before : Document = record {
       base = c.self.inside.base.items;
+      known = c.self.inside.known;
       text = old;
       token_seat = c.self.inside.tokens.seat;
       item_seat = c.self.inside.items.entries.seat;
     } in
     let new : Document = record {
       base = c.self.inside.base.items;
+      known = c.self.inside.known;
       text = c.turn.new.self.text;
       token_seat = made.tokens.seat;
       item_seat = made.items.entries.seat;
@@ -87,5 +90,5 @@ returns-clause-work c =
     let item_seat = c.carry_out.ensures.item_seat ∙ ap (λ s. seat_behind s (changed_items (place_of plan.items) (numbers_of plan.found.items))) c.in-Ok.ensures.item_seat in
     subst (λ (v : Document). IsWork (change_of v.text edit) v new c.of.result) c.self.view_is
     (work_edited (change_of old edit) before new c.self.inside.tokens.list made.tokens.list c.self.inside.items.entries.list made.items.entries.list c.self.inside.items.faults made.items.faults c.self.inside.items.uses made.items.uses plan c.of.result
-    (planned c) c.self.invariant (subst (λ t. IsKept t made.tokens.list made.items.entries.list made.items.faults made.items.uses) (turned c) (kept c)) (tokens_are c) (with c)
+    (planned c) c.self.invariant (subst (λ t. IsKept c.self.inside.known t made.tokens.list made.items.entries.list made.items.faults made.items.uses) (turned c) (kept c)) (tokens_are c) (with c)
     (subst (λ l. tokens.IsOfText (tokens.patched l plan.tokens)) c.in-Ok.ensures.tokens c.in-Ok.ensures.room.tokens_of_text) (of_text c) lexed parsed checked moved c.carry_out.ensures.token_seat item_seat)

@@ -10,7 +10,7 @@ use Rattle.x_compile.proofs.WalkedItems.{passed_parsed}
 use Rattle.x_session.proofs.session.Session.fault_places.Goals as goal
 
 pub of-requires-clause-ordered : goal.of-requires-clause-ordered
-of-requires-clause-ordered c = are_ordered c.self.inside.texts.text c.self.inside.tokens.list c.self.inside.items.entries.list (compilation c.self.invariant)
+of-requires-clause-ordered c = are_ordered c.self.inside.known c.self.inside.texts.text c.self.inside.tokens.list c.self.inside.items.entries.list (compilation c.self.invariant)
 
 pub of-requires-clause-passed : goal.of-requires-clause-passed
 of-requires-clause-passed c =
@@ -26,7 +26,7 @@ of-requires-clause-count c =
 pub returns : goal.returns
 returns c =
     let items = items_of c.self.inside.texts.text c.self.inside.tokens.list c.self.inside.items.entries.list in
-    subst (λ v. Compiles v.text (λ is. c.of.result ≡ places_of is)) c.self.view_is (
+    subst (λ v. Compiles v.known v.text (λ is. c.of.result ≡ places_of is)) c.self.view_is (
       c.self.inside.tokens.list,
       items,
       compilation c.self.invariant,

@@ -15,5 +15,5 @@ returns-clause-written g c =
     let items = items_of c.self.inside.texts.text c.self.inside.tokens.list c.self.inside.items.entries.list in
     let told = subst (λ t. IsWritten c.write_text.result start end t)
     (λ i. text c.args.which (c.deref.ensures.value i) (parts_kept c.self.invariant i)) c.write_text.ensures.written in
-    subst (λ v. Compiles v.text (λ is. IsWritten c.write_text.result start end (text_of c.args.which v.base is))) c.self.view_is
+    subst (λ v. Compiles v.known v.text (λ is. IsWritten c.write_text.result start end (text_of c.args.which v.base is))) c.self.view_is
     (c.self.inside.tokens.list, items, (compilation c.self.invariant), told)
