@@ -118,16 +118,27 @@ def name_of(compilation, fault):
                 if name.place == fault.token]
         if here[0].lifted:
             for name in here:
-                first = compilation.first[name.name]
+                first = compilation.own[name.name]
                 if (first.item, first.place) != (fault.item, fault.token):
                     return name.name
     return token_text(compilation, fault).text
 
 
-def first_place(compilation, fault):
-    """Where the name is declared first, if that matters to the fault and an item declares it."""
-    first = compilation.first.get(name_of(compilation, fault))
-    return first if fault.code in (20, 22, 23, 24) and first and first.item >= 0 else None
+def first_declaration(path, compilation, fault):
+    """As what the name is declared first, if that matters to the fault, and at which line and column of which
+    file, unless that is the word itself: in a known file that has a place for it, or else in the text."""
+    name = name_of(compilation, fault)
+    if fault.code not in (20, 22, 23, 24):
+        return None
+    if name in compilation.known.places:
+        return compilation.first[name].shape, compilation.known.places[name]
+    if name not in compilation.own or compilation.own[name].item < 0:
+        return None
+    first = compilation.own[name]
+    start = compilation.items[first.item][first.place].start
+    if start == token_text(compilation, fault).start:
+        return first.shape, None
+    return first.shape, (path, *rpclang.line_and_column(compilation.text, start))
 
 
 @functools.lru_cache(None)
@@ -161,8 +172,8 @@ def suggested(compilation, fault):
 
 
 def saying(compilation, fault):
-    first = first_place(compilation, fault)
-    kind = first.shape if first else None
+    first = first_declaration(None, compilation, fault)
+    kind = first and first[0]
     if fault.code == 23:
         return NO_TYPE[kind]
     if fault.code == 24:
@@ -199,12 +210,9 @@ def explained(path, compilation, fault):
     told += number + b" | " + before + escaped(front, plain) + escaped(rear, plain) + after + b"\n"
     told += gutter + b" | " + room(before + escaped(front, plain)) + b"^"
     told += b"~" * max(0, columns(escaped(word[:1], plain)) - 1) + b"~" * columns(escaped(word[1:], plain)) + b"\n"
-    first = first_place(compilation, fault)
-    if first:
-        place = compilation.items[first.item][first.place].start
-        if place != token.start:
-            line_column = b":%d:%d" % rpclang.line_and_column(compilation.text, place)
-            told += gutter + b" | note: declared at " + path + line_column + b"\n"
+    first = first_declaration(path, compilation, fault)
+    if first and first[1]:
+        told += gutter + b" | note: declared at %s:%d:%d\n" % first[1]
     help_text = saying(compilation, fault)[2]
     name = suggested(compilation, fault)
     if name is not None:

@@ -1,11 +1,13 @@
 #!/usr/bin/env python3
-"""rpcdump [-x SCHEMA] [-b | -t TYPE] FILE: shows the calls and replies of a recorded stream, one bare message (-b) or
-one bare value of a type (-t). Without SCHEMA the procedures are those of NFS version 2 (nfs2.x)."""
+"""rpcdump [-x SCHEMA] [--known FILE].. [--c-types] [-b | -t TYPE] FILE: shows the calls and replies of a
+recorded stream, one bare message (-b) or one bare value of a type (-t). Without SCHEMA the procedures are
+those of NFS version 2 (nfs2.x)."""
 import os
 import sys
 
 sys.dont_write_bytecode = True
 
+import before
 import records
 import rpcedit
 import rpclang
@@ -19,11 +21,13 @@ Prints the calls and replies of FILE, a recorded stream of Sun RPC (RFC 5531),
 by a .x file. Bytes that are not a valid encoding are refused, with the reason
 and the place.
 
-  -x SCHEMA  the .x file; the default is the schema of NFS version 2
-  -b         FILE is one message, without a record around it
-  -t TYPE    FILE is one value of TYPE
-  --help     show this text
-  --version  show the version
+  -x SCHEMA     the .x file; the default is the schema of NFS version 2
+  -b            FILE is one message, without a record around it
+  -t TYPE       FILE is one value of TYPE
+  --known FILE  take what this file defines as known
+  --c-types     accept u_int and other types of C that have an XDR routine
+  --help        show this text
+  --version     show the version
 
 Example: rpcdump -x add.x add.stream
 
@@ -31,7 +35,7 @@ Exit status: 0 done; 1 SCHEMA has faults, or a fault was printed; 2 the run
 failed.
 """
 ASKED = {"help": HELP, "version": "rpcdump 0.1.0\n"}
-VALUE_NAMES = {"b": None, "t": "TYPE", "x": "SCHEMA"}
+VALUE_NAMES = {"b": None, "t": "TYPE", "x": "SCHEMA", "known": "FILE", "c-types": None}
 BUILT_IN = os.path.join(os.path.dirname(os.path.realpath(__file__)), "nfs2.x")
 
 
@@ -138,15 +142,24 @@ def open_input(path):
         raise Stop(b"%s: cannot be read" % path) from None
 
 
-def compile_schema(path, text):
-    """The schema, or None where the text has faults, which are told."""
+def check_size(path, text):
     if len(text) > rpcedit.GREATEST_TEXT:
         raise Stop(b"%s: 2 TooLarge" % path)
-    compilation = rpclang.Compilation(text)
-    for found in compilation.faults:
-        place = b"%s:%d:%d: %d " % (path, found.line, found.column, found.code)
-        os.write(2, place + rpclang.CODE_NAMES[found.code].encode() + b"\n")
-    return None if compilation.faults else values.Schema(compilation)
+    return text
+
+
+def compile_schema(path, text, known_paths, takes_c_types):
+    """The schema, or None where a text has faults, which are told."""
+    try:
+        known = before.known_of((known, check_size(known, read_schema(known))) for known in known_paths)
+    except before.Faulty as faulty:
+        os.write(2, before.told_faults(*faulty.args))
+        return None
+    compilation = before.compiled(check_size(path, text), known, takes_c_types)
+    if compilation.faults:
+        os.write(2, before.told_faults(path or b"nfs2.x", compilation))
+        return None
+    return values.Schema(compilation)
 
 
 def read_input(descriptor, most=None):
@@ -175,11 +188,11 @@ def write_texts(texts):
         raise Stop(b"output cannot be written") from None
 
 
-def run(schema_path, bare, type_name, path):
+def run(schema_path, before_it, bare, type_name, path):
     """The status. What can go wrong is asked for in this order."""
     text = read_schema(schema_path or os.fsencode(BUILT_IN))
     descriptor = open_input(path)
-    schema = compile_schema(schema_path, text)
+    schema = compile_schema(schema_path, text, *before_it)
     if schema is None:
         return 1
     if type_name is not None and schema.type_named(type_name) is None:
@@ -216,6 +229,7 @@ class CommandLine:
 
     def __init__(self, words):
         self.given = {}
+        self.known = []
         self.files = []
         self.words = list(words)
         while self.words:
@@ -234,9 +248,11 @@ class CommandLine:
         if not self.files:
             raise Refused("FILE is missing")
 
-    @staticmethod
-    def read_long(word):
+    def read_long(self, word):
         name, equals, value = word[2:].partition("=")
+        if name in VALUE_NAMES and len(name) > 1:
+            self.take(name, "--" + name, equals + value)
+            return
         if name not in ASKED:
             raise Refused(f"unexpected argument '--{name}' found")
         if equals:
@@ -248,18 +264,28 @@ class CommandLine:
             letter, letters = letters[0], letters[1:]
             if letter not in VALUE_NAMES:
                 raise Refused(f"unexpected argument '-{letter}' found")
-            shown = f"-{letter}"
-            value = True
+            joined = letters if VALUE_NAMES[letter] else ""
+            self.take(letter, f"-{letter}", joined)
             if VALUE_NAMES[letter]:
-                shown += f" <{VALUE_NAMES[letter]}>"
-                value, letters = letters.removeprefix("="), ""
-                if not value:
-                    if not self.words or self.words[0].startswith("-") and self.words[0] != "-":
-                        raise Refused(f"a value is required for '{shown}' but none was supplied")
-                    value = self.words.pop(0)
-            if letter in self.given:
-                raise Refused(f"the argument '{shown}' cannot be used multiple times")
-            self.given[letter] = value
+                return
+
+    def take(self, name, shown, joined):
+        """An option, and its value if it has one, which may be joined to it."""
+        value = True
+        if VALUE_NAMES[name]:
+            shown += f" <{VALUE_NAMES[name]}>"
+            value = joined.removeprefix("=")
+            if not value:
+                if not self.words or self.words[0].startswith("-") and self.words[0] != "-":
+                    raise Refused(f"a value is required for '{shown}' but none was supplied")
+                value = self.words.pop(0)
+        elif joined:
+            raise Refused(f"unexpected value '{joined[1:]}' for '{shown}' found; no more were expected")
+        if name == "known":
+            self.known.append(os.fsencode(value))
+        elif name in self.given:
+            raise Refused(f"the argument '{shown}' cannot be used multiple times")
+        self.given[name] = value
 
 
 def main(words):
@@ -272,7 +298,8 @@ def main(words):
         if "b" in line.given and "t" in line.given:
             raise Stop(b"-b and -t exclude each other")
         names = [os.fsencode(line.given[letter]) if letter in line.given else None for letter in "xt"]
-        return run(names[0], "b" in line.given, names[1], os.fsencode(line.files[0]))
+        before_it = line.known, "c-types" in line.given
+        return run(names[0], before_it, "b" in line.given, names[1], os.fsencode(line.files[0]))
     except Asked as text:
         try:
             write_texts([text.args[0].encode()])

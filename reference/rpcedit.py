@@ -1,11 +1,14 @@
 #!/usr/bin/env python3
-"""rpcedit FILE: answers the lines of standard input about the text of FILE, and compiles it anew at each question."""
+"""rpcedit [--known FILE].. FILE: answers the lines of standard input about the text of FILE, and compiles it
+anew at each question."""
+import getopt
 import os
 import re
 import sys
 
 sys.dont_write_bytecode = True
 
+import before
 import explained
 import rpclang
 import texts
@@ -29,18 +32,21 @@ def standard_output():
 
 
 class Session:
-    """The text of one file. A line's answer depends on the text and the file's name alone."""
+    """The text of one file. A line's answer depends on the text, the file's name and what is known before the
+    text alone."""
 
-    def __init__(self, file, text):
+    def __init__(self, file, text, known=rpclang.NOTHING):
         self.file = file
         self.base = base_of(file)
         self.text = text
+        # Its answers have no places in known files.
+        self.known = known._replace(places={})
         self.refused = False
         self.last = None
 
     def compiled(self):
         if self.last is None or self.last.text != self.text:
-            self.last = rpclang.Compilation(self.text)
+            self.last = rpclang.Compilation(self.text, self.known)
         return self.last
 
     def refuse(self, answer):
@@ -91,20 +97,46 @@ def script_lines(script):
     return [line for line in script.split(b"\n") if line]
 
 
+class Stop(Exception):
+    """The run goes no further: its status, and why, if that is not told yet."""
+
+
+def read_whole(path):
+    try:
+        with open(path, "rb") as file:
+            text = file.read(GREATEST_TEXT + 1)
+    except OSError:
+        raise Stop(2, f"{path}: cannot be read") from None
+    if len(text) > GREATEST_TEXT:
+        raise Stop(2, f"{path}: 2 TooLarge")
+    return text
+
+
+def opened(words):
+    """The session that the words ask for."""
+    try:
+        options, files = getopt.gnu_getopt(words, "", ["known="])
+    except getopt.GetoptError as error:
+        raise Stop(2, error) from None
+    if len(files) != 1:
+        raise Stop(2, "one FILE is wanted")
+    try:
+        known = before.known_of((path, read_whole(path)) for option, path in options)
+    except before.Faulty as faulty:
+        os.write(2, before.told_faults(*faulty.args))
+        raise Stop(1, None) from None
+    return Session(os.fsencode(files[0]), read_whole(files[0]), known)
+
+
 def main(words):
     def stop(reason):
         sys.stderr.write(f"rpcedit: {reason}\n")
         return 2
-    if len(words) != 1:
-        return stop("one FILE is wanted")
     try:
-        with open(words[0], "rb") as file:
-            text = file.read(GREATEST_TEXT + 1)
-    except OSError:
-        return stop(f"{words[0]}: cannot be read")
-    if len(text) > GREATEST_TEXT:
-        return stop(f"{words[0]}: 2 TooLarge")
-    session = Session(os.fsencode(words[0]), text)
+        session = opened(words)
+    except Stop as reason:
+        status, said = reason.args
+        return status if said is None else stop(said)
     out = standard_output()
     try:
         for line in sys.stdin.buffer:

@@ -1,12 +1,15 @@
 #!/usr/bin/env python3
-"""rpcgen -c|-h|-l|-t [-o OUT] [--explain] FILE: writes the routines, header, stubs or table of FILE, or its faults.
-rpcgen --check [--explain] FILE..: writes the faults of each FILE."""
+"""rpcgen -c|-h|-l|-t [-o OUT] [OPTIONS] FILE: writes the routines, header, stubs or table of FILE, or its
+faults. rpcgen --check [OPTIONS] FILE..: writes the faults of each FILE.
+
+The OPTIONS are --explain, --plain, --known FILE, --c-types and --foreign."""
 import getopt
 import os
 import sys
 
 sys.dont_write_bytecode = True
 
+import before
 import explained
 import rpclang
 import rpcedit
@@ -19,8 +22,7 @@ def told_of(path, compilation, explains):
     """The faults of a text, explained or one a line."""
     if explains:
         return explained.explanation(os.fsencode(path), compilation)
-    return b"".join(b"%s:%d:%d: %d %s\n" % (os.fsencode(path), fault.line, fault.column, fault.code,
-                                            rpclang.CODE_NAMES[fault.code].encode()) for fault in compilation.faults)
+    return before.told_faults(path, compilation)
 
 
 def stop(reason):
@@ -28,44 +30,68 @@ def stop(reason):
     return 2
 
 
-def opened(path, explains):
-    """The compilation of a file without faults, or else the status, where what is wrong is told."""
-    try:
-        with open(path, "rb") as file:
-            text = file.read(rpcedit.GREATEST_TEXT + 1)
-    except OSError:
-        return None, stop(f"{path}: cannot be read")
-    if len(text) > rpcedit.GREATEST_TEXT:
-        return None, stop(f"{path}: 2 TooLarge")
-    compilation = rpclang.Compilation(text)
-    if compilation.faults:
+def stopped(reason):
+    status, said = reason.args
+    return status if said is None else stop(said)
+
+
+class Opening:
+    """How texts are opened, by the options."""
+
+    def __init__(self, options):
+        names = [name for name, value in options]
+        self.explains = "--explain" in names
+        self.from_c = "--c-types" in names, "--foreign" in names
+        try:
+            paths = [path for name, path in options if name == "--known"]
+            self.known = before.known_of((path, rpcedit.read_whole(path)) for path in paths)
+        except before.Faulty as faulty:
+            self.tell(*faulty.args)
+
+    def tell(self, path, compilation):
         sys.stderr.flush()
-        os.write(2, told_of(path, compilation, explains))
-        return None, 1
-    return compilation, 0
+        os.write(2, told_of(path, compilation, self.explains))
+        raise rpcedit.Stop(1, None)
+
+    def open(self, path):
+        """The compilation of a file without faults."""
+        compilation = before.compiled(rpcedit.read_whole(path), self.known, *self.from_c)
+        if compilation.faults:
+            self.tell(path, compilation)
+        return compilation
+
+    def status_of(self, path):
+        try:
+            self.open(path)
+        except rpcedit.Stop as reason:
+            return stopped(reason)
+        return 0
 
 
-def main(words):
+def check(options, files):
+    names = [name for name, value in options if name != "--known"]
+    if not files or len(set(names)) < len(names) or any(not name.startswith("--") for name in names):
+        return stop("one FILE or more are wanted, and no letter")
+    opening = Opening(options)
+    return max([opening.status_of(path) for path in files])
+
+
+def run(words):
     try:
-        letters, files = getopt.gnu_getopt(words, "chlto:", ["check", "explain", "plain"])
+        options, files = getopt.gnu_getopt(
+            words, "chlto:", ["check", "explain", "plain", "known=", "c-types", "foreign"])
     except getopt.GetoptError as error:
         return stop(error)
-    names = [letter for letter, out in letters]
-    explains = "--explain" in names
-    if "--check" in names:
-        if not files or len(set(names)) < len(names) or not set(names) <= {"--check", "--explain", "--plain"}:
-            return stop("one FILE or more are wanted, and no letter")
-        return max(opened(path, explains)[1] for path in files)
+    if "--check" in [name for name, value in options]:
+        return check(options, files)
     if len(files) != 1:
         return stop("one FILE is wanted")
-    modes = [LETTERS[letter] for letter in names if letter in LETTERS]
-    outs = [out for letter, out in letters if letter == "-o"]
+    modes = [LETTERS[name] for name, value in options if name in LETTERS]
+    outs = [value for name, value in options if name == "-o"]
     if len(modes) != 1:
         return stop("exactly one of -c, -h, -l, -t")
     path = files[0]
-    compilation, status = opened(path, explains)
-    if status:
-        return status
+    compilation = Opening(options).open(path)
     try:
         out = open(outs[-1], "wb") if outs else rpcedit.standard_output()
     except OSError:
@@ -78,6 +104,13 @@ def main(words):
     except OSError:
         return stop("output cannot be written")
     return 0
+
+
+def main(words):
+    try:
+        return run(words)
+    except rpcedit.Stop as reason:
+        return stopped(reason)
 
 
 if __name__ == "__main__":

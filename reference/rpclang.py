@@ -498,10 +498,16 @@ FIRST = namedtuple("FIRST", "item place shape lifted")
 
 BEFOREHAND = {b"TRUE": Constant(1), b"FALSE": Constant(0)}
 
+# What comes before a text and is no part of it: of each name its first declarer, as of an item before all,
+# and what the name means; where it stands, the file's name, line and column, if it stands in a file; and the
+# definitions.
+Known = namedtuple("Known", "first meanings places definitions")
+NOTHING = Known({name: FIRST(-1, 0, "constant", False) for name in BEFOREHAND}, BEFOREHAND, {}, [])
 
-def first_declarers(definitions):
-    """For each name the least pair of item and word that declares it. Those declared beforehand come before all."""
-    first = {name: FIRST(-1, 0, "constant", False) for name in BEFOREHAND}
+
+def first_declarers(definitions, known):
+    """For each name the least pair of item and word that declares it. What is known comes before all."""
+    first = dict(known.first)
     for item, definition in enumerate(definitions):
         if definition is not None:
             for name in declared(definition):
@@ -820,18 +826,21 @@ Fault = namedtuple("Fault", "item token line column code")
 
 
 class Compilation:
-    """All that is told of one text."""
+    """All that is told of one text, before which this is known."""
 
-    def __init__(self, text):
+    def __init__(self, text, known=NOTHING):
         self.text = text
+        self.known = known
         self.tokens = tokens_of(text)
         self.items = items_of(self.tokens)
         self.lines = [b"".join([token.text[1:] + b"\n" for token in item if token.kind == "Percent"])
                       for item in self.items]
         parses = [parse(item) for item in self.items]
         self.definitions = [found if kind == "definition" else None for kind, found in parses]
-        self.first = first_declarers(self.definitions)
-        self.meanings = dict(BEFOREHAND)
+        self.first = first_declarers(self.definitions, known)
+        # The same of the text alone.
+        self.own = self.first if known is NOTHING else first_declarers(self.definitions, NOTHING)
+        self.meanings = dict(known.meanings)
         self.faults = []
         self.faulty = set()
         self.schema = None          # that of values.py, once it is asked for
@@ -853,6 +862,17 @@ class Compilation:
         for name in declared(definition):
             if self.first[name.name].item == item and name.name not in self.meanings:
                 self.meanings[name.name] = BAD if item in self.faulty else check.meaning(name)
+
+    def known_behind(self, path):
+        """What is known before a text that comes after this one. This one is in a file, or in none (None)."""
+        first, places = dict(self.known.first), dict(self.known.places)
+        for name, at in self.first.items():
+            if name not in first:
+                first[name] = at._replace(item=-1)
+                if path is not None:
+                    start = self.items[at.item][at.place].start
+                    places[name] = (path, *line_and_column(self.text, start))
+        return Known(first, self.meanings, places, self.known.definitions + self.definitions)
 
 
 def definition_line(item, definition):

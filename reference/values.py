@@ -25,17 +25,19 @@ Procedure = namedtuple("Procedure", "name argument result")
 
 
 class Schema:
-    """The types that the names of a faultless text stand for, and the procedures of its programs."""
+    """The types that the names of a faultless text and those known before it stand for, and the procedures of
+    their programs."""
 
     def __init__(self, compilation):
         assert not compilation.faults
         self.bodies = {}
         self.constants = {name: meaning.number for name, meaning in compilation.meanings.items()
                           if isinstance(meaning, rpclang.Constant)}
-        for definition in compilation.definitions:
+        definitions = compilation.known.definitions + compilation.definitions
+        for definition in definitions:
             for part in rpclang.parts_of(definition) if definition is not None else []:
                 self.bodies[part.name] = part.body
-        self.programs = [item for item in compilation.definitions if isinstance(item, rpclang.Program)]
+        self.programs = [item for item in definitions if isinstance(item, rpclang.Program)]
         self.made = {}
 
     def number(self, word):

@@ -28,6 +28,9 @@ generated() {
 
 put() { printf %b "$1" >t.x; }
 
+# known TEXT: the same into k.x, a file of definitions that are known.
+known() { printf %b "$1" >k.x; }
+
 # short COMMAND..: where no file takes more than 1,024 bytes.
 short() (
     trap '' XFSZ

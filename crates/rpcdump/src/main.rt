@@ -2,8 +2,8 @@
 #![tactic(auto)]
 
 use rpcx::{
-    RPCDUMP, Status, answer_words, dump_args, dump_mode, dump_run, read_text, read_words,
-    tell_of_file, usual_style,
+    KnownSources, Opening, RPCDUMP, Status, answer_words, dump_args, dump_mode, dump_run,
+    read_text, read_words, tell_of_file, usual_style,
 };
 use std::fs;
 use std::process::ExitCode;
@@ -23,6 +23,9 @@ fn run(rt: &HostRuntime) -> Result<Status, Status> {
     let Some(mode) = dump_mode(&args, &mut err) else {
         return Err(Status::Failed);
     };
+    let style = usual_style(rt);
+    let known = KnownSources::read(rt, "rpcdump", &args.before.known, style, &mut err)?;
+    let how = Opening::of(style, &known, &args.before);
     let schema = match args.schema {
         Some(file) => Some(read_text(rt, "rpcdump", file, &mut err)?),
         None => None,
@@ -39,7 +42,7 @@ fn run(rt: &HostRuntime) -> Result<Status, Status> {
         &args,
         mode,
         text,
-        usual_style(rt),
+        &how,
         &mut input,
         &mut out,
         &mut err,

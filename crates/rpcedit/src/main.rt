@@ -2,7 +2,8 @@
 #![tactic(auto)]
 
 use rpcx::{
-    RPCEDIT, Status, answer_words, draw_key, edit_args, edit_run_keyed, read_text, read_words,
+    KnownSources, Opening, RPCEDIT, Status, answer_words, draw_key, edit_args, edit_run_keyed,
+    read_text, read_words, usual_style,
 };
 use std::process::ExitCode;
 use x_text::{In, Out};
@@ -18,6 +19,9 @@ fn run(rt: &HostRuntime) -> Result<Status, Status> {
             return Err(answer_words(rt.alloc(), &RPCEDIT, &error, &mut out, &mut err));
         }
     };
+    let style = usual_style(rt);
+    let known = KnownSources::read(rt, "rpcedit", &args.before.known, style, &mut err)?;
+    let how = Opening::of(style, &known, &args.before);
     let bytes = read_text(rt, "rpcedit", args.file, &mut err)?;
     let hash_key = draw_key(rt, "rpcedit", &mut err)?;
     let mut input = In::new(rt.stdin());
@@ -26,6 +30,7 @@ fn run(rt: &HostRuntime) -> Result<Status, Status> {
         rt.alloc(),
         hash_key,
         &args,
+        &how,
         &bytes,
         &mut input,
         &mut out,

@@ -9,8 +9,8 @@ mod standard;
 use named::{Named, lead_to_one_file};
 use progress::Progress;
 use rpcx::{
-    FaultStyle, RPCGEN, Status, answer_words, asks_check, check_args, check_run, explained_style,
-    gen_args, gen_mode, gen_run, read_text, read_words, usual_style,
+    FaultStyle, KnownSources, Opening, RPCGEN, Status, answer_words, asks_check, check_args,
+    check_run, explained_style, gen_args, gen_mode, gen_run, read_text, read_words, usual_style,
 };
 use standard::Standard;
 use std::io::Stderr;
@@ -56,8 +56,10 @@ fn check(rt: &HostRuntime, words: &[String], err: Out<Stderr>) -> Result<Status,
         }
     };
     let style = style(rt, args.explains, args.plain);
+    let known = KnownSources::read(rt, "rpcgen", &args.before.known, style, &mut err)?;
+    let how = Opening::of(style, &known, &args.before);
     let mut screen = Progress::new(rt, args.files.len(), err);
-    let status = check_run(rt, &args, style, &mut screen);
+    let status = check_run(rt, &args, &how, &mut screen);
     screen.erase();
     Ok(status)
 }
@@ -75,17 +77,19 @@ fn generate(rt: &HostRuntime, words: &[String], err: Out<Stderr>) -> Result<Stat
     let Some(which) = gen_mode(&args, &mut err) else {
         return Err(Status::Failed);
     };
+    let style = style(rt, args.explains, args.plain);
+    let known = KnownSources::read(rt, "rpcgen", &args.before.known, style, &mut err)?;
+    let how = Opening::of(style, &known, &args.before);
     let bytes = read_text(rt, "rpcgen", args.file, &mut err)?;
     let alloc = rt.alloc();
-    let style = style(rt, args.explains, args.plain);
     Ok(match args.output {
         Some(name) if is_named(rt, name, args.file) => {
             let mut output = Named::new(rt, name, args.file);
-            gen_run(alloc, which, &args, style, &bytes, &mut output, &mut err)
+            gen_run(alloc, which, &args, &how, &bytes, &mut output, &mut err)
         }
         _ => {
             let mut output = Standard { rt };
-            gen_run(alloc, which, &args, style, &bytes, &mut output, &mut err)
+            gen_run(alloc, which, &args, &how, &bytes, &mut output, &mut err)
         }
     })
 }

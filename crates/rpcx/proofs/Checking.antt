@@ -5,10 +5,9 @@ use Rattle.x_text.specs.Streams.{Stream}
 use Rattle.x_args.specs.Status.{worse}
 use Rattle.x_args.specs.declared.status.Status.{Status}
 use Rattle.x_args.specs.declared.status.Status.TheVariants.{Done, Faulty, Failed}
-use Rattle.x_session.specs.Session.{Compiles}
 use Rattle.x_compile.specs.Compile.{faults_of}
-use Rattle.x_compile.specs.Known.{nothing_known}
-use Rattle.rpcx.specs.declared.files.opening.FaultStyle.{FaultStyle}
+use Rattle.rpcx.specs.declared.files.opening.Opening.{Opening}
+use Rattle.rpcx.specs.Opening.{CompilesBy}
 use Rattle.rpcx.specs.Checking.{AreChecked, IsChecked}
 use Rattle.rpcx.specs.Generate.{IsFaultless, NotOpened, TellsFaults}
 
@@ -27,38 +26,38 @@ worse_of_three Faulty Failed c = refl
 worse_of_three Failed b c = refl
 
 -- what the check of a text that was read comes to, by its status
-pub checked : (style : FaultStyle) (file text : List ℕ) (before after : Stream) (status : Status)
-    → (status ≡ Faulty → Compiles nothing_known text (λ items. (0 < length (faults_of text items)) × TellsFaults style file text items before after))
-    → (status ≡ Done → IsFaultless text) → (status ≡ Failed → NotOpened (codes "rpcgen") file text before after) → (status ≡ Done → after ≡ before)
-    → IsChecked style file before after status
-checked style file text before after Done faulty clean failed quiet = (text, clean refl, quiet refl)
-checked style file text before after Faulty faulty clean failed quiet = (text, faulty refl)
-checked style file text before after Failed faulty clean failed quiet = inr (text, failed refl)
+pub checked : (how : Opening) (file text : List ℕ) (before after : Stream) (status : Status)
+    → (status ≡ Faulty → CompilesBy how text (λ items. (0 < length (faults_of text items)) × TellsFaults how file text items before after))
+    → (status ≡ Done → IsFaultless how text) → (status ≡ Failed → NotOpened how (codes "rpcgen") file text before after) → (status ≡ Done → after ≡ before)
+    → IsChecked how file before after status
+checked how file text before after Done faulty clean failed quiet = (text, clean refl, quiet refl)
+checked how file text before after Faulty faulty clean failed quiet = (text, faulty refl)
+checked how file text before after Failed faulty clean failed quiet = inr (text, failed refl)
 
 -- nothing is checked
-pub checks_none : (style : FaultStyle) (before : Stream) → AreChecked style [] before before Done
+pub checks_none : (how : Opening) (before : Stream) → AreChecked how [] before before Done
 unfolding AreChecked
-checks_none style before = (refl, refl)
+checks_none how before = (refl, refl)
 
 -- one file more is checked
-pub checks_more : (style : FaultStyle) (files : List (List ℕ)) (file : List ℕ) (before between after : Stream) (so_far last : Status)
-    → AreChecked style files before between so_far → IsChecked style file between after last
-    → AreChecked style (files ++ file ∷ []) before after (worse so_far last)
+pub checks_more : (how : Opening) (files : List (List ℕ)) (file : List ℕ) (before between after : Stream) (so_far last : Status)
+    → AreChecked how files before between so_far → IsChecked how file between after last
+    → AreChecked how (files ++ file ∷ []) before after (worse so_far last)
 unfolding AreChecked
-checks_more style [] file before between after so_far last h checked = (
+checks_more how [] file before between after so_far last h checked = (
   after,
   last,
   Done,
-  subst (λ s. IsChecked style file s after last) h.0 checked,
+  subst (λ s. IsChecked how file s after last) h.0 checked,
   (refl, refl),
   ap (λ s. worse s last) h.1 ∙ sym (worse_done last),
 )
-checks_more style (f ∷ files) file before between after so_far last h checked = (
+checks_more how (f ∷ files) file before between after so_far last h checked = (
   h.0,
   h.1,
   worse h.2 last,
   h.3,
-  checks_more style files file h.0 between after h.2 last h.4 checked,
+  checks_more how files file h.0 between after h.2 last h.4 checked,
   ap (λ s. worse s last) h.5 ∙ worse_of_three h.1 h.2 last,
 )
 
@@ -67,18 +66,18 @@ abbrev pub firsts : ℕ → List (Bor (List ℕ)) → List (List ℕ)
 firsts i files = map (λ f. f.now) (take i files)
 
 -- the next of the files is checked
-pub checks_next : (style : FaultStyle) (files : List (Bor (List ℕ))) (i : ℕ) (d : Bor (List ℕ)) (before between begun after : Stream) (so_far last both : Status)
-    → i < length files → AreChecked style (firsts i files) before between so_far → begun ≡ between
-    → IsChecked style (get_or files i d).now begun after last → both ≡ worse so_far last → AreChecked style (firsts (i + 1) files) before after both
-checks_next style files i d before between begun after so_far last both there h same checked is =
+pub checks_next : (how : Opening) (files : List (Bor (List ℕ))) (i : ℕ) (d : Bor (List ℕ)) (before between begun after : Stream) (so_far last both : Status)
+    → i < length files → AreChecked how (firsts i files) before between so_far → begun ≡ between
+    → IsChecked how (get_or files i d).now begun after last → both ≡ worse so_far last → AreChecked how (firsts (i + 1) files) before after both
+checks_next how files i d before between begun after so_far last both there h same checked is =
     let all : firsts (i + 1) files ≡ firsts i files ++ (get_or files i d).now ∷ [] =
     ap (map (λ f. f.now)) (take_more files i d there) ∙ map-append (λ f. f.now) (take i files) (get_or files i d ∷ []) in
-    let more = checks_more style (firsts i files) (get_or files i d).now before between after so_far last h
-    (subst (λ now. IsChecked style (get_or files i d).now now after last) same checked) in
-    subst (λ names. AreChecked style names before after both) (sym all) (subst (AreChecked style (firsts i files ++ (get_or files i d).now ∷ []) before after) (sym is) more)
+    let more = checks_more how (firsts i files) (get_or files i d).now before between after so_far last h
+    (subst (λ now. IsChecked how (get_or files i d).now now after last) same checked) in
+    subst (λ names. AreChecked how names before after both) (sym all) (subst (AreChecked how (firsts i files ++ (get_or files i d).now ∷ []) before after) (sym is) more)
 
 -- all of them are checked
-pub checks_all : (style : FaultStyle) (files : List (Bor (List ℕ))) (i : ℕ) (before after : Stream) (status : Status)
-    → length files ≤ i → AreChecked style (firsts i files) before after status → AreChecked style (map (λ f. f.now) files) before after status
-checks_all style files i before after status past h =
-    subst (λ fs. AreChecked style (map (λ f. f.now) fs) before after status) (take_all i files past) h
+pub checks_all : (how : Opening) (files : List (Bor (List ℕ))) (i : ℕ) (before after : Stream) (status : Status)
+    → length files ≤ i → AreChecked how (firsts i files) before after status → AreChecked how (map (λ f. f.now) files) before after status
+checks_all how files i before after status past h =
+    subst (λ fs. AreChecked how (map (λ f. f.now) fs) before after status) (take_all i files past) h

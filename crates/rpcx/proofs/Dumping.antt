@@ -7,16 +7,19 @@ use Rattle.x_text.specs.declared.text.source.TheConstants.{MAX_TEXT}
 use Rattle.x_schema.specs.Schema.{Schema}
 use Rattle.x_session.specs.Session.{Compiles}
 use Rattle.x_compile.specs.Compile.{faults_of}
-use Rattle.x_compile.specs.Known.{nothing_known}
+use Rattle.x_compile.specs.Known.{KnownText}
 use Rattle.x_session.specs.Typed.{GivesSchema}
 use Rattle.x_text.specs.declared.streams.outcome.Outcome.{Outcome}
 use Rattle.x_session.specs.declared.session.Session.{Session}
 use Rattle.x_args.proofs.Grown.{stays}
 use Rattle.rpcx.proofs.Unopened.{fits}
-use Rattle.rpcx.specs.Course.{course}
-use Rattle.rpcx.specs.Dumping.{HasTypes, IsWholeFile, Opens, ReadsAll, ReadsOn, Shows, ShowsFile}
+use Rattle.x_args.specs.declared.dumping_args.DumpArgs.{DumpArgs}
+use Rattle.rpcx.specs.Course.{Course, IsIdle, course}
+use Rattle.rpcx.specs.Dumping.{HasDumped, HasTypes, IsWholeFile, Opens, ReadsAll, ReadsOn, Shows, ShowsFile}
+use Rattle.rpcx.specs.Dumping.{schema_name, unopened, untyped}
 use Rattle.rpcx.specs.Dumping.{StopsAt}
-use Rattle.rpcx.specs.declared.files.opening.FaultStyle.{FaultStyle}
+use Rattle.rpcx.specs.declared.files.opening.Opening.{Opening}
+use Rattle.rpcx.specs.Opening.{CompilesBy, IsBefore}
 use Rattle.rpcx.specs.Generate.{IsFaultless, NotOpened, TellsFaults}
 use Rattle.rpcx.specs.declared.rpcdump.halt.Halt.{Halt}
 use Rattle.rpcx.specs.declared.rpcdump.halt.Halt.TheVariants.{NoType, Unread, TooLarge, NoRoom, Ended, Unwritten}
@@ -56,21 +59,32 @@ abbrev FailsWith : Status → Status → Type 0
 FailsWith status other = let r : Result Session Status = Err status in IsErrOf r other
 
 -- a text that is not opened, by its status
-pub not_opened : (style : FaultStyle) (file text : List ℕ) (before after : Stream) (status : Status)
-    → (FailsWith status Faulty → Compiles nothing_known text (λ items. (0 < length (faults_of text items)) × TellsFaults style file text items before after))
-    → (MAX_TEXT < length text → FailsWith status Failed) → (FailsWith status Failed → NotOpened (codes "rpcdump") file text before after)
-    → (status ≡ Faulty) ⊎ (status ≡ Failed) → Opens style file text before after (Err status)
-not_opened style file text before after Done faulty large failed others = elim others [ inl other ↦ absurd (cc) | inr other ↦ absurd (cc) ]
-not_opened style file text before after Faulty faulty large failed others = (fits (length text) (λ more. let off = large more in cc), faulty refl)
-not_opened style file text before after Failed faulty large failed others = inl (failed refl)
+pub not_opened : (how : Opening) (file text : List ℕ) (before after : Stream) (status : Status)
+    → (FailsWith status Faulty → CompilesBy how text (λ items. (0 < length (faults_of text items)) × TellsFaults how file text items before after))
+    → (MAX_TEXT < length text → FailsWith status Failed) → (FailsWith status Failed → NotOpened how (codes "rpcdump") file text before after)
+    → (status ≡ Faulty) ⊎ (status ≡ Failed) → Opens how file text before after (Err status)
+not_opened how file text before after Done faulty large failed others = elim others [ inl other ↦ absurd (cc) | inr other ↦ absurd (cc) ]
+not_opened how file text before after Faulty faulty large failed others = (fits (length text) (λ more. let off = large more in cc), faulty refl)
+not_opened how file text before after Failed faulty large failed others = inl (failed refl)
+
+-- and a run without types, by that
+pub not_dumped : (how : Opening) (args : DumpArgs) (mode : Mode) (text : List ℕ) (c : Course) (is_closed : Bool)
+    (before after : Stream) (status : Status) → Opens how (schema_name args) text before after (Err status) → IsIdle c
+    → HasDumped how args mode text c is_closed before after status
+not_dumped how args mode text c is_closed before after Done opens idle = absurd opens
+not_dumped how args mode text c is_closed before after Faulty opens idle = inl (opens, idle)
+not_dumped how args mode text c is_closed before after Failed opens idle =
+    elim opens [ inl h ↦ unopened h idle | inr h ↦ untyped h.0 h.1 idle ]
 
 -- the types of a text that was opened
-pub has_types : (text : List ℕ) (s : Schema) → (MAX_TEXT < length text → ⊥) → Compiles nothing_known text (λ items. GivesSchema nothing_known text items (Ok s)) → HasTypes text s
-has_types text s large gives = (fits (length text) large, gives)
+pub has_types : (how : Opening) (text : List ℕ) (s : Schema) (known : KnownText) → (MAX_TEXT < length text → ⊥)
+    → IsBefore how text known → Compiles known text (λ items. GivesSchema known text items (Ok s)) → HasTypes how text s
+has_types how text s known large before gives = (fits (length text) large, known, before, gives)
 
 -- a text without a fault whose types could not be made
-pub faultless : (text : List ℕ) → (MAX_TEXT < length text → ⊥) → Compiles nothing_known text (λ items. faults_of text items ≡ []) → IsFaultless text
-faultless text large clean = record { fits = fits (length text) large; clean = clean }
+pub faultless : (how : Opening) (text : List ℕ) → (MAX_TEXT < length text → ⊥)
+    → CompilesBy how text (λ items. faults_of text items ≡ []) → IsFaultless how text
+faultless how text large clean = record { fits = fits (length text) large; clean = clean }
 
 -- ---- reading
 

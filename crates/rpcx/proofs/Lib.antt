@@ -1,4 +1,5 @@
 pub mod Bases
+pub mod Before
 pub mod Checking
 pub mod Dumping
 pub mod Editing

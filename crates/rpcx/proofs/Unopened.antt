@@ -1,5 +1,5 @@
 -- Why a file's text is not opened.
-use Rattle.std.proofs.Common.{◌↔◌, ℕ, ◌+◌, ◌<◌, ◌≤◌, List, Result, Err, length, refl, arith}
+use Rattle.std.proofs.Common.{◌⊎◌, inl, inr, ℕ, ◌+◌, ◌<◌, ◌≤◌, List, Result, Err, length, refl, arith}
 use Rattle.std.specs.Prelude.{IsErrOf}
 use Rattle.std.proofs.Math.Nat.{lt_of_not-le}
 use Rattle.x_text.specs.Streams.{Stream}
@@ -8,7 +8,9 @@ use Rattle.x_text.specs.declared.text.fault.TextFault.TheVariants as faults
 use Rattle.x_text.specs.declared.text.source.TheConstants.{MAX_TEXT}
 use Rattle.x_session.specs.declared.session.Session.{Session}
 use Rattle.x_args.specs.Telling.{IsTold}
-use Rattle.rpcx.specs.Generate.{unopened_told, NotOpened, TooLarge, NoRoom}
+use Rattle.rpcx.specs.declared.files.opening.Opening.{Opening}
+use Rattle.rpcx.specs.Generate.{unopened_told, NotOpened, Crowded, TooLarge, NoRoom}
+use Rattle.rpcx.specs.Opening.{IsCrowded}
 
 pub fits : (n : ℕ) → (MAX_TEXT < n → ⊥) → n ≤ MAX_TEXT
 fits n none =
@@ -17,11 +19,14 @@ fits n none =
 abbrev Failed : TextFault → TextFault → Type 0
 Failed fault other = let r : Result Session TextFault = Err fault in IsErrOf r other
 
--- a text that is not opened is too large, or memory ran out
-pub not_opened : (program file text : List ℕ) (before after : Stream) (fault : TextFault)
-    → (Failed fault faults.TooLarge ↔ (MAX_TEXT < length text)) → (Failed fault faults.BadRange → ⊥)
-    → IsTold before after (unopened_told program file fault) → NotOpened program file text before after
-not_opened program file text before after faults.TooLarge large range told = TooLarge (large.0 refl) told
-not_opened program file text before after faults.BadRange large range told = absurd (range refl)
-not_opened program file text before after faults.NoMemory large range told =
-    NoRoom (fits (length text) (λ more. let no = large.1 more in cc)) told
+-- a text that is not opened is too large, or what stands before it is, or memory ran out
+pub not_opened : (how : Opening) (program file text : List ℕ) (before after : Stream) (fault : TextFault)
+    → (MAX_TEXT < length text → Failed fault faults.TooLarge)
+    → (Failed fault faults.TooLarge → (MAX_TEXT < length text) ⊎ IsCrowded how text)
+    → (Failed fault faults.BadRange → ⊥)
+    → IsTold before after (unopened_told program file fault) → NotOpened how program file text before after
+not_opened how program file text before after faults.TooLarge too_large large range told =
+    elim (large refl) [ inl more ↦ TooLarge more told | inr crowded ↦ Crowded crowded told ]
+not_opened how program file text before after faults.BadRange too_large large range told = absurd (range refl)
+not_opened how program file text before after faults.NoMemory too_large large range told =
+    NoRoom (fits (length text) (λ more. let no = too_large more in cc)) told

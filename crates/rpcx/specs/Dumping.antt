@@ -8,8 +8,9 @@ use Rattle.x_schema.specs.Schema.{Schema, id_named}
 use Rattle.x_schema.specs.Schemas.{IsSchemaOf}
 use Rattle.x_schema.specs.declared.schema.TypeId.{TypeId}
 use Rattle.x_session.specs.Session.{Compiles}
-use Rattle.x_compile.specs.Compile.{Item, definitions_of, faults_of}
-use Rattle.x_compile.specs.Known.{nothing_known}
+use Rattle.x_session.specs.Typed.{all_definitions}
+use Rattle.x_compile.specs.Compile.{Item, faults_of}
+use Rattle.x_compile.specs.Known.{KnownText}
 use Rattle.x_text.specs.Engines.{NamesCause}
 use Rattle.x_value.specs.ValueTexts.{WritesValue}
 use Rattle.x_text.specs.declared.streams.outcome.Outcome.{Outcome}
@@ -18,7 +19,8 @@ use Rattle.x_text.specs.declared.streams.outcome.EngineFault.{EngineFault}
 use Rattle.x_wire.specs.StreamTexts.{DumpsMessage, DumpsStream}
 use Rattle.x_wire.specs.declared.nfs2.TheConstants.{NFS2_X}
 use Rattle.rpcx.specs.Course.{Course, IsIdle}
-use Rattle.rpcx.specs.declared.files.opening.FaultStyle.{FaultStyle}
+use Rattle.rpcx.specs.declared.files.opening.Opening.{Opening}
+use Rattle.rpcx.specs.Opening.{CompilesBy, IsBefore}
 use Rattle.rpcx.specs.Generate.{IsFaultless, NotOpened, TellsFaults, TellsStop}
 use Rattle.x_args.specs.Telling.{Complains, IsTold}
 use Rattle.rpcx.specs.declared.rpcdump.halt.Halt.{Halt}
@@ -45,26 +47,26 @@ abbrev pub type_asked : DumpArgs → List ℕ
 type_asked args = unwrap_or (option_map (λ s. s.now) args.type_name) []
 
 -- the text is one that can be compiled, and has faults, of which this holds by its items
-abbrev pub HasFaults : List ℕ → (List Item → Type 0) → Type 0
-HasFaults text P =
-    (length text ≤ most_text)
-    × Compiles nothing_known text (λ items. (0 < length (faults_of text items)) × P items)
+abbrev pub HasFaults : Opening → List ℕ → (List Item → Type 0) → Type 0
+HasFaults how text P =
+    (length text ≤ most_text) × CompilesBy how text (λ items. (0 < length (faults_of text items)) × P items)
 
--- the text has no fault, and these are its types
-abbrev pub HasTypes : List ℕ → Schema → Type 0
-HasTypes text s =
+-- the text has no fault, and these are the types of what is known before it and its own
+abbrev pub HasTypes : Opening → List ℕ → Schema → Type 0
+HasTypes how text s =
     (length text ≤ most_text)
-    × Compiles nothing_known text (λ items. (faults_of text items ≡ []) × IsSchemaOf (definitions_of items) s)
+    × (known : KnownText) × IsBefore how text known × Compiles known text (λ items.
+    (faults_of text items ≡ []) × IsSchemaOf (all_definitions known items) s)
 
 -- What opening the types of a text comes to: there are such; or its faults were told, or why it is not
 -- opened.
-abbrev pub Opens : FaultStyle → (file text : List ℕ) → (before after : Stream) → Result Schema Status → Type 0
-Opens style file text before after (Ok s) = HasTypes text s
-Opens style file text before after (Err Faulty) =
-    HasFaults text (λ items. TellsFaults style file text items before after)
-Opens style file text before after (Err Failed) = NotOpened (codes "rpcdump") file text before after
-    ⊎ IsFaultless text × IsTold before after (codes "rpcdump: out of memory\n")
-Opens style file text before after (Err Done) = ⊥
+abbrev pub Opens : Opening → (file text : List ℕ) → (before after : Stream) → Result Schema Status → Type 0
+Opens how file text before after (Ok s) = HasTypes how text s
+Opens how file text before after (Err Faulty) =
+    HasFaults how text (λ items. TellsFaults how file text items before after)
+Opens how file text before after (Err Failed) = NotOpened how (codes "rpcdump") file text before after
+    ⊎ IsFaultless how text × IsTold before after (codes "rpcdump: out of memory\n")
+Opens how file text before after (Err Done) = ⊥
 
 -- ---- what is shown
 
@@ -168,30 +170,30 @@ Ends mode type s c (Err halt) = Halts mode type s c halt
 -- ---- a run
 
 -- by the types of this text the file was shown to its end, with this outcome
-abbrev pub HasShown : Mode → (type text : List ℕ) → Course → Outcome → Type 0
-HasShown mode type text c outcome = (s : Schema) × HasTypes text s × Ends mode type s c (Ok outcome)
+abbrev pub HasShown : Opening → Mode → (type text : List ℕ) → Course → Outcome → Type 0
+HasShown how mode type text c outcome = (s : Schema) × HasTypes how text s × Ends mode type s c (Ok outcome)
 
 -- Why a run is not carried out, as it is told: the schema's text is not opened, or memory ran out over its
 -- types; or the file is not shown to its end.
-pub data NotDumped (args : DumpArgs) (mode : Mode) (text : List ℕ) (c : Course) (is_closed : Bool)
-    (before after : Stream) : Type 0 where
-  unopened : NotOpened (codes "rpcdump") (schema_name args) text before after → IsIdle c
-      → NotDumped args mode text c is_closed before after
-  untyped : IsFaultless text → IsTold before after (codes "rpcdump: out of memory\n") → IsIdle c
-      → NotDumped args mode text c is_closed before after
-  halted : (s : Schema) → HasTypes text s → (halt : Halt) → Halts mode (type_asked args) s c halt
+pub data NotDumped (how : Opening) (args : DumpArgs) (mode : Mode) (text : List ℕ) (c : Course)
+    (is_closed : Bool) (before after : Stream) : Type 0 where
+  unopened : NotOpened how (codes "rpcdump") (schema_name args) text before after → IsIdle c
+      → NotDumped how args mode text c is_closed before after
+  untyped : IsFaultless how text → IsTold before after (codes "rpcdump: out of memory\n") → IsIdle c
+      → NotDumped how args mode text c is_closed before after
+  halted : (s : Schema) → HasTypes how text s → (halt : Halt) → Halts mode (type_asked args) s c halt
       → TellsHalt is_closed (type_asked args) args.file.now halt before after
-      → NotDumped args mode text c is_closed before after
+      → NotDumped how args mode text c is_closed before after
 
 -- A run that ends with this status: the file was shown to its end without a fault; or the schema's text has
 -- faults, which were told, or what was shown has one; or the run was not carried out. The output's reader may
 -- have enough at its end.
-abbrev pub HasDumped : FaultStyle → DumpArgs → Mode → (text : List ℕ) → Course → (is_closed : Bool)
+abbrev pub HasDumped : Opening → DumpArgs → Mode → (text : List ℕ) → Course → (is_closed : Bool)
     → (before after : Stream) → Status → Type 0
-HasDumped style args mode text c is_closed before after Done =
-    HasShown mode (type_asked args) text c Clean × (after ≡ before)
-HasDumped style args mode text c is_closed before after Faulty =
-    HasFaults text (λ items. TellsFaults style (schema_name args) text items before after) × IsIdle c
-    ⊎ HasShown mode (type_asked args) text c Refused × (after ≡ before)
-HasDumped style args mode text c is_closed before after Failed =
-    NotDumped args mode text c is_closed before after
+HasDumped how args mode text c is_closed before after Done =
+    HasShown how mode (type_asked args) text c Clean × (after ≡ before)
+HasDumped how args mode text c is_closed before after Faulty =
+    HasFaults how text (λ items. TellsFaults how (schema_name args) text items before after) × IsIdle c
+    ⊎ HasShown how mode (type_asked args) text c Refused × (after ≡ before)
+HasDumped how args mode text c is_closed before after Failed =
+    NotDumped how args mode text c is_closed before after

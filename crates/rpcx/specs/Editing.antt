@@ -5,12 +5,14 @@ use Rattle.x_text.specs.Engines.{NamesCause}
 use Rattle.x_text.specs.Limits.{most_text}
 use Rattle.x_text.specs.declared.streams.outcome.EngineFault.{EngineFault}
 use Rattle.x_session.specs.Session.{Document, IsOpenOf}
-use Rattle.x_compile.specs.Known.{KnownText, nothing_known}
+use Rattle.x_compile.specs.Known.{KnownText}
 use Rattle.x_lines.specs.Lines.{script_lines}
 use Rattle.x_script.specs.Script.{HasRun, Runs}
 use Rattle.x_args.specs.declared.status.Status.{Status}
 use Rattle.x_args.specs.declared.status.Status.TheVariants.{Done, Faulty}
 use Rattle.rpcx.specs.Course.{Course, IsIdle}
+use Rattle.rpcx.specs.declared.files.opening.Opening.{Opening}
+use Rattle.rpcx.specs.Opening.{IsBefore}
 use Rattle.rpcx.specs.Generate.{base_of, NotOpened, TellsStop}
 
 -- the status of a run that carried out each line, whether or not one was refused
@@ -23,6 +25,13 @@ abbrev pub Answers : (script file base : List ℕ) (known : KnownText) (text : L
     (status : Status) → Type 0
 Answers script file base known text before after status =
     (refused : Bool) → status ≡ status_of refused → (old new : Document) × IsOpenOf old base known text
+    × HasRun file (script_lines script) old new before after refused
+
+-- the same over what stands before the text
+abbrev pub AnswersBy : Opening → (script file base text : List ℕ) → (before after : Stream) → Status → Type 0
+AnswersBy how script file base text before after status =
+    (refused : Bool) → status ≡ status_of refused → (known : KnownText) × IsBefore how text known
+    × (old new : Document) × IsOpenOf old base known text
     × HasRun file (script_lines script) old new before after refused
 
 -- A run over the text of a file that this fault ends: the sink has what the run of the script says of it.
@@ -50,9 +59,10 @@ IsStopped file base known text c is_closed before after =
 
 -- Why `rpcedit` does not carry a script out to its end on a file's text that it can read, as it tells it: the
 -- text is not opened, and then nothing is read and nothing is written; or a fault ends the run.
-pub data NotRun (file text : List ℕ) (c : Course) (is_closed : Bool) (before after : Stream) : Type 0 where
-  unopened : NotOpened (codes "rpcedit") file text before after → IsIdle c
-      → NotRun file text c is_closed before after
-  stopped : length text ≤ most_text
-      → IsStopped file (base_of file) nothing_known text c is_closed before after
-      → NotRun file text c is_closed before after
+pub data NotRun (how : Opening) (file text : List ℕ) (c : Course) (is_closed : Bool)
+    (before after : Stream) : Type 0 where
+  unopened : NotOpened how (codes "rpcedit") file text before after → IsIdle c
+      → NotRun how file text c is_closed before after
+  stopped : length text ≤ most_text → (known : KnownText) → IsBefore how text known
+      → IsStopped file (base_of file) known text c is_closed before after
+      → NotRun how file text c is_closed before after

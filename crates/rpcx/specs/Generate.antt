@@ -9,7 +9,6 @@ use Rattle.x_compile.specs.declared.fault.Fault.{Fault}
 use Rattle.x_session.specs.Session.{Compiles, Document}
 use Rattle.x_compile.specs.Compile.{Item, faults_of}
 use Rattle.x_compile.specs.Faults.{fault_text}
-use Rattle.x_compile.specs.Known.{nothing_known}
 use Rattle.x_text.specs.declared.streams.outcome.EngineFault.{EngineFault}
 use Rattle.x_text.specs.declared.streams.outcome.EngineFault.TheVariants.{Read, Write, NoMemory}
 use Rattle.x_session.specs.FaultLines.{fault_place}
@@ -17,9 +16,13 @@ use Rattle.x_text.specs.declared.text.fault.TextFault.{TextFault}
 use Rattle.x_text.specs.declared.text.fault.TextFault.TheVariants as faults
 use Rattle.x_text.specs.Limits.{most_text}
 use Rattle.x_explain.specs.Explained.{AreExplained}
+use Rattle.x_explain.specs.KnownFiles.{KnownPlaces, no_places}
 use Rattle.x_args.specs.Telling.{Complains, IsTold, told_of}
 use Rattle.x_args.specs.declared.generating_args.GenArgs.{GenArgs}
 use Rattle.rpcx.specs.declared.files.opening.FaultStyle.{FaultStyle}
+use Rattle.rpcx.specs.declared.files.opening.Opening.{Opening}
+use Rattle.rpcx.specs.declared.files.known.KnownSources.{KnownSources}
+use Rattle.rpcx.specs.Opening.{CompilesBy, HavePlaces, IsAfter, IsBefore, IsCrowded}
 use Rattle.rpcx.specs.declared.files.opening.FaultStyle.TheVariants.{Plain, Explained, Coloured}
 use Rattle.rpcx.specs.declared.rpcgen.output.OutputFault.{OutputFault}
 use Rattle.rpcx.specs.declared.rpcgen.output.OutputFault.TheVariants as outputs
@@ -49,47 +52,61 @@ unopened_told program file faults.TooLarge = program ++ codes ": " ++ file ++ co
 unopened_told program file fault = told_of program (codes "out of memory")
 
 -- the text is one that can be compiled, and has no fault
-pub record IsFaultless (text : List ℕ) : Type 0 where
+pub record IsFaultless (how : Opening) (text : List ℕ) : Type 0 where
   pub fits : length text ≤ most_text
-  pub clean : Compiles nothing_known text (λ items. faults_of text items ≡ [])
+  pub clean : CompilesBy how text (λ items. faults_of text items ≡ [])
 
 -- Why a program opens no session of a file's text that it can read, as it tells it: the text is too large, or
--- memory ran out. A text with faults has them told.
-pub data NotOpened (program file text : List ℕ) (before after : Stream) : Type 0 where
+-- what stands before it is, or memory ran out. A text with faults has them told.
+pub data NotOpened (how : Opening) (program file text : List ℕ) (before after : Stream) : Type 0 where
   TooLarge : most_text < length text
       → IsTold before after (program ++ codes ": " ++ file ++ codes ": 2 TooLarge\n")
-      → NotOpened program file text before after
+      → NotOpened how program file text before after
+  Crowded : IsCrowded how text
+      → IsTold before after (program ++ codes ": " ++ file ++ codes ": 2 TooLarge\n")
+      → NotOpened how program file text before after
   NoRoom : length text ≤ most_text → IsTold before after (told_of program (codes "out of memory"))
-      → NotOpened program file text before after
+      → NotOpened how program file text before after
 
 -- The faults of a file's text are told with their lines.
-abbrev pub ExplainsFaults : (coloured : Bool) → (file text : List ℕ) → List Item → (before after : Stream)
-    → Type 0
-ExplainsFaults coloured file text items before after =
-    (said : List ℕ) × AreExplained (record { coloured = coloured; file = file; text = text }) items said
+abbrev pub ExplainsFaults : Opening → (coloured : Bool) → (file text : List ℕ) → List Item
+    → (before after : Stream) → Type 0
+ExplainsFaults how coloured file text items before after =
+    (places : KnownPlaces) × HavePlaces no_places how.known.now.files.items places × (said : List ℕ)
+    × AreExplained places (record { coloured = coloured; file = file; text = text }) items said
     × IsTold before after said
 
 -- How the faults of a file's text are told: one a line, or explained.
-abbrev pub TellsFaults : FaultStyle → (file text : List ℕ) → List Item → (before after : Stream) → Type 0
-TellsFaults Plain file text items before after =
+abbrev pub TellsBy : FaultStyle → Opening → (file text : List ℕ) → List Item → (before after : Stream)
+    → Type 0
+TellsBy Plain how file text items before after =
     IsTold before after (told_faults file (faults_of text items))
-TellsFaults Explained file text items before after = ExplainsFaults false file text items before after
-TellsFaults Coloured file text items before after = ExplainsFaults true file text items before after
+TellsBy Explained how file text items before after = ExplainsFaults how false file text items before after
+TellsBy Coloured how file text items before after = ExplainsFaults how true file text items before after
+
+abbrev pub TellsFaults : Opening → (file text : List ℕ) → List Item → (before after : Stream) → Type 0
+TellsFaults how file text items before after = TellsBy how.style how file text items before after
 
 -- What opening the text of a file for a run of a program comes to: a session of a text without faults, or the
 -- status of a run that does not go on, which was told why.
-pub record IsOpened (style : FaultStyle) (program file bytes : List ℕ) (before after : Stream)
+pub record IsOpened (how : Opening) (program file bytes : List ℕ) (before after : Stream)
     (result : Result Document Status) : Type 0 where
   pub base : IfOk result (λ s. s.base ≡ base_of file)
-  pub known : IfOk result (λ s. s.known ≡ nothing_known)
+  pub known : IfOk result (λ s. IsBefore how bytes s.known)
   pub text : IfOk result (λ s. s.text ≡ bytes)
-  pub clean : OnOk result (Compiles nothing_known bytes (λ items. faults_of bytes items ≡ []))
-  pub faulty : IsErrOf result Faulty
-      → Compiles nothing_known bytes (λ items. (0 < length (faults_of bytes items))
-      × TellsFaults style file bytes items before after)
+  pub clean : OnOk result (CompilesBy how bytes (λ items. faults_of bytes items ≡ []))
+  pub faultless : IfOk result (λ s. Compiles s.known s.text (λ items. faults_of s.text items ≡ []))
+  pub faulty : IsErrOf result Faulty → CompilesBy how bytes (λ items. (0 < length (faults_of bytes items))
+      × TellsFaults how file bytes items before after)
   pub too_large : most_text < length bytes → IsErrOf result Failed
-  pub failed : IsErrOf result Failed → NotOpened program file bytes before after
+  pub failed : IsErrOf result Failed → NotOpened how program file bytes before after
   pub others : IfErr result (λ status. (status ≡ Faulty) ⊎ (status ≡ Failed))
+
+-- the same where nothing stands before the text but these files
+abbrev pub IsOpenedAfter : FaultStyle → KnownSources → (program file bytes : List ℕ) → (before after : Stream)
+    → Result Document Status → Type 0
+IsOpenedAfter style known program file bytes before after result = (how : Opening) × IsAfter how style known
+    × IsOpened how program file bytes before after result
 
 -- what a program tells where a run over a file stops
 abbrev pub stop_told : List ℕ → List ℕ → EngineFault → List ℕ
@@ -128,9 +145,24 @@ pub data NotWritten (args : GenArgs) (HasFailed : (is_closed : Bool) → Type 0)
 
 -- Why a run of `rpcgen` fails on a file's text that it can read, as it tells it: the text is not opened; or
 -- it has no fault, and what is generated of it is not written.
-pub data NotGenerated (args : GenArgs) (text : List ℕ) (HasFailed : (is_closed : Bool) → Type 0)
-    (before after : Stream) : Type 0 where
-  unopened : NotOpened (codes "rpcgen") args.file.now text before after
-      → NotGenerated args text HasFailed before after
-  unwritten : IsFaultless text → NotWritten args HasFailed before after
-      → NotGenerated args text HasFailed before after
+pub data NotGenerated (how : Opening) (args : GenArgs) (text : List ℕ)
+    (HasFailed : (is_closed : Bool) → Type 0) (before after : Stream) : Type 0 where
+  unopened : NotOpened how (codes "rpcgen") args.file.now text before after
+      → NotGenerated how args text HasFailed before after
+  unwritten : IsFaultless how text → NotWritten args HasFailed before after
+      → NotGenerated how args text HasFailed before after
+
+-- Why the files that are to be known before a text are not, as it is told: one cannot be read; or it is not
+-- opened over those before it, or has faults; or memory ran out.
+pub data NotKnown (style : FaultStyle) (program : List ℕ) (before after : Stream) : Status → Type 0 where
+  no_room : IsTold before after (told_of program (codes "out of memory"))
+      → NotKnown style program before after Failed
+  unread : (file : List ℕ)
+      → IsTold before after (program ++ codes ": " ++ file ++ codes ": cannot be read\n")
+      → NotKnown style program before after Failed
+  unopened : (how : Opening) (file text : List ℕ) → NotOpened how program file text before after
+      → NotKnown style program before after Failed
+  faulty : (how : Opening) (file text : List ℕ) → how.style ≡ style
+      → CompilesBy how text (λ items. (0 < length (faults_of text items))
+      × TellsFaults how file text items before after)
+      → NotKnown style program before after Faulty

@@ -3,4 +3,5 @@ pub mod Course
 pub mod Dumping
 pub mod Editing
 pub mod Generate
+pub mod Opening
 pub mod Outputs

@@ -3,6 +3,7 @@
 
 pub mod base;
 pub mod complaint;
+pub mod known;
 pub mod opening;
 pub mod reading;
 pub mod terminal;

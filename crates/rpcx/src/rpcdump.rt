@@ -8,7 +8,7 @@ mod halt;
 mod input;
 mod showing;
 
-use crate::files::opening::{FaultStyle, open_text};
+use crate::files::opening::{Opening, open_text};
 use halt::tell_halt;
 use showing::show;
 use std::alloc::Global;
@@ -26,17 +26,17 @@ pub fn dump_run<I: Tap, O: Outlet, E: Sink>(
     args: &DumpArgs,
     mode: Mode,
     schema: Option<&[u8]>,
-    style: FaultStyle,
+    how: &Opening,
     input: &mut I,
     out: &mut O,
     err: &mut E,
 ) -> Status
-    ensures dumped { HasDumped style args.now mode (schema_text (option_map (λ t. t.now) schema.entry))
+    ensures dumped { HasDumped how.now args.now mode (schema_text (option_map (λ t. t.now) schema.entry))
         (course (I.state input.old) (I.state input.new) (O.state out.old) (O.state out.new))
         (O.is_closed out.new) (E.state err.old) (E.state err.new) result }
     ensures quiet { result ≡ Status.Done → err.new ≡ err.old }
 {
-    let schema = match open_schema(alloc, args, schema, style, err) {
+    let schema = match open_schema(alloc, args, schema, how, err) {
         Ok(schema) => schema,
         Err(status) => return status,
     };
@@ -58,15 +58,15 @@ fn open_schema<E: Sink>(
     alloc: Global,
     args: &DumpArgs,
     text: Option<&[u8]>,
-    style: FaultStyle,
+    how: &Opening,
     err: &mut E,
 ) -> Result<Schema, Status>
-    ensures opens { Opens style (schema_name args.now) (schema_text (option_map (λ t. t.now) text.entry))
+    ensures opens { Opens how.now (schema_name args.now) (schema_text (option_map (λ t. t.now) text.entry))
         (E.state err.old) (E.state err.new) result }
     ensures quiet { OnOk result (err.new ≡ err.old) }
 {
     let file = args.schema.unwrap_or("nfs2.x");
-    open_types(alloc, file, text.unwrap_or(NFS2_X), style, err)
+    open_types(alloc, file, text.unwrap_or(NFS2_X), how, err)
 }
 
 /// The types of the text of a file, or where it has none the status, as [`open_text`] tells why.
@@ -74,13 +74,13 @@ fn open_types<E: Sink>(
     alloc: Global,
     file: &str,
     text: &[u8],
-    style: FaultStyle,
+    how: &Opening,
     err: &mut E,
 ) -> Result<Schema, Status>
-    ensures opens { Opens style file.now text.now (E.state err.old) (E.state err.new) result }
+    ensures opens { Opens how.now file.now text.now (E.state err.old) (E.state err.new) result }
     ensures quiet { OnOk result (err.new ≡ err.old) }
 {
-    let session = open_text(alloc, "rpcdump", file, text, style, err)?;
+    let session = open_text(alloc, "rpcdump", file, text, how, err)?;
     let schema = session.schema();
     // The process ends soon, and gives all memory back at once.
     mem::forget(session);

@@ -3,13 +3,14 @@
 ghost use Rattle.std.specs.Prelude.{◌≡◌, ◌≢◌, ◌<◌, MatchOption, length};
 ghost use Rattle.x_text.specs.Engines.{WorksOn};
 ghost use Rattle.x_text.specs.Limits.{most_text};
-ghost use Rattle.x_compile.specs.Known.{nothing_known};
 ghost use Rattle.rpcx.specs.Course.{course};
-ghost use Rattle.rpcx.specs.Editing.{Answers, IsStopped, NotRun};
+ghost use Rattle.rpcx.specs.Editing.{Answers, AnswersBy, IsStopped, NotRun};
 ghost use Rattle.rpcx.specs.Generate.{base_of};
 
 use crate::files::base::base_of_file;
 use crate::files::complaint::{tell_stop, tell_unopened};
+use crate::files::known::open_by;
+use crate::files::opening::Opening;
 use std::alloc::Global;
 use std::mem;
 use x_args::{EditArgs, Status};
@@ -23,6 +24,7 @@ use x_text::{Outlet, Sink, Tap};
 pub fn edit_run<I: Tap, O: Outlet, E: Sink>(
     alloc: Global,
     args: &EditArgs,
+    how: &Opening,
     bytes: &[u8],
     input: &mut I,
     out: &mut O,
@@ -30,18 +32,18 @@ pub fn edit_run<I: Tap, O: Outlet, E: Sink>(
 ) -> Status
     ensures too_large { most_text < length bytes.now → result ≡ Status.Failed }
     ensures failed { result ≡ Status.Failed
-        → NotRun args.now.file.now bytes.now
+        → NotRun how.now args.now.file.now bytes.now
         (course (I.state input.old) (I.state input.new) (O.state out.old) (O.state out.new))
         (O.is_closed out.new) (E.state err.old) (E.state err.new) }
     ensures quiet { result ≢ Status.Failed → err.new ≡ err.old }
     ensures reading { result ≢ Status.Failed → (I.state input.new).failed ≡ (I.state input.old).failed }
     ensures working { result ≢ Status.Failed → WorksOn (O.state out.old).failed (O.state out.new).failed }
     ensures answers { MatchOption (I.state input.old).bytes (Unit {0})
-        (λ script. Answers script args.now.file.now (base_of args.now.file.now) nothing_known bytes.now
+        (λ script. AnswersBy how.now script args.now.file.now (base_of args.now.file.now) bytes.now
         (O.state out.old) (O.state out.new) result) }
 {
     let hash_key = HashKey::of_bytes(bytes);
-    edit_run_keyed(alloc, hash_key, args, bytes, input, out, err)
+    edit_run_keyed(alloc, hash_key, args, how, bytes, input, out, err)
 }
 
 /// Opens the text of a file, carries out the script of the input, and answers the status: `Done` where each
@@ -52,6 +54,7 @@ pub fn edit_run_keyed<I: Tap, O: Outlet, E: Sink>(
     alloc: Global,
     hash_key: HashKey,
     args: &EditArgs,
+    how: &Opening,
     bytes: &[u8],
     input: &mut I,
     out: &mut O,
@@ -59,17 +62,17 @@ pub fn edit_run_keyed<I: Tap, O: Outlet, E: Sink>(
 ) -> Status
     ensures too_large { most_text < length bytes.now → result ≡ Status.Failed }
     ensures failed { result ≡ Status.Failed
-        → NotRun args.now.file.now bytes.now
+        → NotRun how.now args.now.file.now bytes.now
         (course (I.state input.old) (I.state input.new) (O.state out.old) (O.state out.new))
         (O.is_closed out.new) (E.state err.old) (E.state err.new) }
     ensures quiet { result ≢ Status.Failed → err.new ≡ err.old }
     ensures reading { result ≢ Status.Failed → (I.state input.new).failed ≡ (I.state input.old).failed }
     ensures working { result ≢ Status.Failed → WorksOn (O.state out.old).failed (O.state out.new).failed }
     ensures answers { MatchOption (I.state input.old).bytes (Unit {0})
-        (λ script. Answers script args.now.file.now (base_of args.now.file.now) nothing_known bytes.now
+        (λ script. AnswersBy how.now script args.now.file.now (base_of args.now.file.now) bytes.now
         (O.state out.old) (O.state out.new) result) }
 {
-    let mut session = match Session::keyed(alloc, hash_key, base_of_file(args.file), bytes) {
+    let mut session = match open_by(alloc, how, hash_key, base_of_file(args.file), bytes) {
         Ok(session) => session,
         Err(fault) => {
             tell_unopened("rpcedit", args.file, fault, err);

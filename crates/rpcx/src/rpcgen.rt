@@ -5,18 +5,18 @@ ghost use Rattle.std.specs.Prelude.{if◌then◌else◌};
 ghost use Rattle.std.specs.Io.KnownBytes.{Appends};
 ghost use Rattle.rpcx.specs.Generate.{IsFaultless, IsOpened, NotGenerated, NotWritten, base_of};
 ghost use Rattle.rpcx.specs.Generate.{TellsFaults, no_output_told, output_told};
+ghost use Rattle.rpcx.specs.Opening.{CompilesBy};
 ghost use Rattle.rpcx.specs.Outputs.{Holds, IsNamed};
 ghost use Rattle.x_args.specs.Telling.{Complains, Grows, IsTold};
 ghost use Rattle.x_session.specs.Session.{Compiles};
 ghost use Rattle.x_compile.specs.Compile.{faults_of};
 ghost use Rattle.x_compile.specs.Generated.{text_of};
-ghost use Rattle.x_compile.specs.Known.{nothing_known};
 ghost use Rattle.x_text.specs.Limits.{most_text};
 
 mod checking;
 mod output;
 
-use crate::files::opening::{FaultStyle, open_text};
+use crate::files::opening::{Opening, open_text};
 pub use checking::{Screen, check_run};
 pub use output::{Output, OutputFault};
 use std::alloc::Global;
@@ -26,20 +26,20 @@ use x_session::{Session, Which};
 use x_text::{Outlet, Sink};
 
 /// Opens the text of a file for a run of `rpcgen`, or tells what is wrong with it and answers the status:
-/// `Faulty` where the text has faults, which are written one a line, or explained, and `Failed` where it is
-/// too large or memory runs out.
+/// `Faulty` where the text has faults, which are reported, and `Failed` where it, or what stands before it,
+/// is too large, or memory runs out.
 pub fn gen_open<E: Sink>(
     alloc: Global,
     file: &str,
     bytes: &[u8],
-    style: FaultStyle,
+    how: &Opening,
     err: &mut E,
 ) -> Result<Session, Status>
-    ensures opened { IsOpened style (codes "rpcgen") file.now bytes.now
+    ensures opened { IsOpened how.now (codes "rpcgen") file.now bytes.now
         (E.state err.old) (E.state err.new) result }
     ensures quiet { OnOk result (err.new ≡ err.old) }
 {
-    open_text(alloc, "rpcgen", file, bytes, style, err)
+    open_text(alloc, "rpcgen", file, bytes, how, err)
 }
 
 /// Writes a generated text and flushes the output, and answers whether it took all.
@@ -98,36 +98,36 @@ pub fn gen_run<O: Output, E: Sink>(
     alloc: Global,
     which: Which,
     args: &GenArgs,
-    style: FaultStyle,
+    how: &Opening,
     bytes: &[u8],
     output: &mut O,
     err: &mut E,
 ) -> Status
     ensures faulty { result ≡ Status.Faulty
-        → Compiles nothing_known bytes.now
+        → CompilesBy how.now bytes.now
         (λ items. (0 < length (faults_of bytes.now items))
-        × TellsFaults style args.now.file.now bytes.now items
+        × TellsFaults how.now args.now.file.now bytes.now items
         (E.state err.old) (E.state err.new)) }
     ensures too_large { most_text < length bytes.now → result ≡ Status.Failed }
-    ensures clean { result ≡ Status.Done → IsFaultless bytes.now }
+    ensures clean { result ≡ Status.Done → IsFaultless how.now bytes.now }
     ensures written { result ≡ Status.Done → (opened : O.Opened) × (left : O.Opened)
-        × Compiles nothing_known bytes.now
+        × CompilesBy how.now bytes.now
         (λ items. Appends (O.Opened.state opened).bytes (O.Opened.state left).bytes
         (text_of which (base_of args.now.file.now) items)) }
-    ensures failed { result ≡ Status.Failed → NotGenerated args.now bytes.now
+    ensures failed { result ≡ Status.Failed → NotGenerated how.now args.now bytes.now
         (λ is_closed. (left : O.Opened) × IsTrue (O.Opened.state left).failed
         × (O.Opened.is_closed left ≡ is_closed))
         (E.state err.old) (E.state err.new) }
     ensures quiet { result ≡ Status.Done → err.new ≡ err.old }
     ensures whole { result ≡ Status.Done
-        → Compiles nothing_known bytes.now (λ items. Holds (O.standing output.old) (O.standing output.new)
+        → CompilesBy how.now bytes.now (λ items. Holds (O.standing output.old) (O.standing output.new)
         (text_of which (base_of args.now.file.now) items)) }
     ensures as_it_was { result ≢ Status.Done → O.standing output.new ≡ O.standing output.old }
     ensures untouched { result ≡ Status.Faulty → output.new ≡ output.old }
-    ensures faultless { IsFaultless bytes.now ⊎ (output.new ≡ output.old) }
+    ensures faultless { IsFaultless how.now bytes.now ⊎ (output.new ≡ output.old) }
     ensures tidy { O.has_draft output.old ≡ false → O.has_draft output.new ≡ false }
 {
-    let session = match gen_open(alloc, args.file, bytes, style, err) {
+    let session = match gen_open(alloc, args.file, bytes, how, err) {
         Ok(session) => session,
         Err(status) => return status,
     };

@@ -1,4 +1,5 @@
 //! Command lines.
+use crate::before::nothing;
 use clap::error::ErrorKind;
 use rpcx::{GenArgs, RPCGEN, Status, answer_words, gen_args, mark_under_word, request_first};
 use std::test::Fail;
@@ -15,6 +16,7 @@ fn sweep_reading(rt: HostRuntime) -> Result<(), Fail> {
         output: None,
         explains: false,
         plain: false,
+        before: nothing(rt.alloc()),
         file: "t.x",
     };
     match gen_args(rt.alloc(), ["rpcgen", "-h", "t.x"].as_slice()) {

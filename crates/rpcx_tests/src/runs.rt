@@ -1,8 +1,10 @@
 //! Runs of the programs.
+use crate::before::nothing;
 use rpcx::{
-    DumpArgs, EditArgs, FaultStyle, GenArgs, Mode, Status, dump_run, edit_run, gen_mode, gen_open,
-    gen_write,
+    DumpArgs, EditArgs, FaultStyle, GenArgs, KnownSources, Mode, Opening, Status, dump_run,
+    edit_run, gen_mode, gen_open, gen_write,
 };
+use std::alloc::Global;
 use std::test::Fail;
 use x_session::{Session, Which};
 use x_text::{MemSink, MemTap};
@@ -22,16 +24,20 @@ fn a_generator_tells_of_a_full_sink(rt: HostRuntime) -> Result<(), Fail> {
     Ok(())
 }
 
-const TWO_LETTERS: GenArgs<'static> = GenArgs {
-    routines: true,
-    header: true,
-    stubs: false,
-    table: false,
-    output: None,
-    explains: false,
-    plain: false,
-    file: "t.x",
-};
+/// A command line with two letters.
+fn two_letters(alloc: Global) -> GenArgs<'static> {
+    GenArgs {
+        routines: true,
+        header: true,
+        stubs: false,
+        table: false,
+        output: None,
+        explains: false,
+        plain: false,
+        before: nothing(alloc),
+        file: "t.x",
+    }
+}
 
 /// A union whose case no enumerator has the name of.
 const FAULTY: &[u8] = b"enum e {A=0}; union u switch (e d) {case B: int x; default: void;};";
@@ -40,9 +46,12 @@ const FAULTY: &[u8] = b"enum e {A=0}; union u switch (e d) {case B: int x; defau
 fn a_generator_wants_one_letter_and_no_fault(rt: HostRuntime) {
     let mut told = [0u8; 128];
     let mut err = MemSink::new(&mut told, 128, 128);
-    let mode = gen_mode(&TWO_LETTERS, &mut err);
+    let args = two_letters(rt.alloc());
+    let mode = gen_mode(&args, &mut err);
     assert!(rt; mode.is_none());
-    let opened = gen_open(rt.alloc(), "t.x", FAULTY, FaultStyle::Plain, &mut err);
+    let known = KnownSources::none(rt.alloc());
+    let how = Opening::of(FaultStyle::Plain, &known, &args.before);
+    let opened = gen_open(rt.alloc(), "t.x", FAULTY, &how, &mut err);
     assert!(rt; matches!(opened, Err(Status::Faulty)));
     let wanted = "rpcgen: exactly one of -c, -h, -l, -t\nt.x:1:42: 21 Unknown\n";
     assert_eq!(rt; err.bytes(), wanted.as_bytes());
@@ -50,39 +59,67 @@ fn a_generator_wants_one_letter_and_no_fault(rt: HostRuntime) {
 
 #[test]
 fn an_editor_tells_of_a_failed_tap_and_a_full_sink(rt: HostRuntime) {
-    let args = EditArgs { file: "a/t.x" };
+    let args = EditArgs {
+        before: nothing(rt.alloc()),
+        file: "a/t.x",
+    };
+    let known = KnownSources::none(rt.alloc());
+    let how = Opening::of(FaultStyle::Plain, &known, &args.before);
     let mut told = [0u8; 64];
     let mut err = MemSink::new(&mut told, 64, 64);
     let mut full = MemSink::new(&mut [], 256, 256);
     let mut broken = MemTap::new(b"tokens\n", 64, 0);
-    let status = edit_run(rt.alloc(), &args, b"", &mut broken, &mut full, &mut err);
+    let status = edit_run(
+        rt.alloc(),
+        &args,
+        &how,
+        b"",
+        &mut broken,
+        &mut full,
+        &mut err,
+    );
     assert_eq!(rt; status, Status::Failed);
     let mut input = MemTap::new(b"tokens\n", 64, usize::MAX);
-    let status = edit_run(rt.alloc(), &args, b"", &mut input, &mut full, &mut err);
+    let status = edit_run(
+        rt.alloc(),
+        &args,
+        &how,
+        b"",
+        &mut input,
+        &mut full,
+        &mut err,
+    );
     assert_eq!(rt; status, Status::Failed);
     let wanted = "rpcedit: -: cannot be read\nrpcedit: output cannot be written\n";
     assert_eq!(rt; err.bytes(), wanted.as_bytes());
 }
 
-const STREAM: DumpArgs<'static> = DumpArgs {
-    schema: None,
-    bare: false,
-    type_name: None,
-    file: "s",
-};
+/// A command line without options.
+fn stream(alloc: Global) -> DumpArgs<'static> {
+    DumpArgs {
+        schema: None,
+        bare: false,
+        type_name: None,
+        before: nothing(alloc),
+        file: "s",
+    }
+}
 
 #[test]
 fn a_dumper_tells_of_a_failed_tap_and_a_full_sink(rt: HostRuntime) {
+    let args = stream(rt.alloc());
+    let known = KnownSources::none(rt.alloc());
+    let how = Opening::of(FaultStyle::Plain, &known, &args.before);
     let mut told = [0u8; 64];
     let mut err = MemSink::new(&mut told, 64, 64);
     let mut full = MemSink::new(&mut [], 256, 256);
     let mut broken = MemTap::new(b"", 64, 0);
     let status = dump_run(
         rt.alloc(),
-        &STREAM,
+        &args,
         Mode::Stream,
         None,
-        FaultStyle::Plain,
+        &how,
         &mut broken,
         &mut full,
         &mut err,
@@ -92,10 +129,10 @@ fn a_dumper_tells_of_a_failed_tap_and_a_full_sink(rt: HostRuntime) {
     let mut input = MemTap::new(b"\x80\0\0\0", 64, usize::MAX);
     let status = dump_run(
         rt.alloc(),
-        &STREAM,
+        &args,
         Mode::Stream,
         None,
-        FaultStyle::Plain,
+        &how,
         &mut input,
         &mut full,
         &mut err,
@@ -113,8 +150,10 @@ fn a_dumper_tells_of_a_failed_tap_before_a_value(rt: HostRuntime) {
     let mut out = MemSink::new(&mut written, 64, 64);
     let args = DumpArgs {
         type_name: Some("w"),
-        ..STREAM
+        ..stream(rt.alloc())
     };
+    let known = KnownSources::none(rt.alloc());
+    let how = Opening::of(FaultStyle::Plain, &known, &args.before);
     let schema = Some(b"typedef unsigned int w;".as_slice());
     let mut broken = MemTap::new(b"\xff\xff\xff\xff", 2, 2);
     let status = dump_run(
@@ -122,7 +161,7 @@ fn a_dumper_tells_of_a_failed_tap_before_a_value(rt: HostRuntime) {
         &args,
         Mode::Value,
         schema,
-        FaultStyle::Plain,
+        &how,
         &mut broken,
         &mut out,
         &mut err,
@@ -136,7 +175,7 @@ fn a_dumper_tells_of_a_failed_tap_before_a_value(rt: HostRuntime) {
         &args,
         Mode::Value,
         schema,
-        FaultStyle::Plain,
+        &how,
         &mut input,
         &mut out,
         &mut err,
@@ -147,6 +186,9 @@ fn a_dumper_tells_of_a_failed_tap_before_a_value(rt: HostRuntime) {
 
 #[test]
 fn a_dumper_tells_of_a_bad_stream_before_a_failed_tap(rt: HostRuntime) {
+    let args = stream(rt.alloc());
+    let known = KnownSources::none(rt.alloc());
+    let how = Opening::of(FaultStyle::Plain, &known, &args.before);
     let mut told = [0u8; 64];
     let mut err = MemSink::new(&mut told, 64, 64);
     let mut written = [0u8; 64];
@@ -154,10 +196,10 @@ fn a_dumper_tells_of_a_bad_stream_before_a_failed_tap(rt: HostRuntime) {
     let mut cut = MemTap::new(b"\x80\0", 2, usize::MAX);
     let status = dump_run(
         rt.alloc(),
-        &STREAM,
+        &args,
         Mode::Stream,
         None,
-        FaultStyle::Plain,
+        &how,
         &mut cut,
         &mut out,
         &mut err,
@@ -167,10 +209,10 @@ fn a_dumper_tells_of_a_bad_stream_before_a_failed_tap(rt: HostRuntime) {
     let mut broken = MemTap::new(b"\x80\x10\0\x01\0", 4, 4);
     let status = dump_run(
         rt.alloc(),
-        &STREAM,
+        &args,
         Mode::Stream,
         None,
-        FaultStyle::Plain,
+        &how,
         &mut broken,
         &mut out,
         &mut err,

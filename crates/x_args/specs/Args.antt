@@ -1,6 +1,6 @@
 -- The command lines of the programs, in clap's words: what a program knows, and what it reads.
 use Rattle.std.specs.Prelude.{◌≡◌, ◌<◌, ℕ, Bool, ◌&&◌, ◌||◌, not, List, [], ◌∷◌, ◌++◌, Option, None, Some}
-use Rattle.std.specs.Prelude.{true, false, codes, drop, find, is_some, length, map}
+use Rattle.std.specs.Prelude.{true, false, codes, drop, find, is_some, length, map, unwrap_or}
 use Rattle.std.specs.List.{All}
 use Rattle.std.specs.Prelude.{option_and_then, option_map, slice_get}
 use Rattle.std.specs.Str.{bytes_eq}
@@ -20,6 +20,7 @@ use Rattle.clap.specs.declared.parser.matches.ValueSource.{ValueSource}
 use Rattle.clap.specs.declared.parser.matches.ValueSource.TheVariants.{CommandLine}
 use Rattle.x_pieces.specs.declared.which.Which.{Which}
 use Rattle.x_pieces.specs.declared.which.Which.TheVariants.{Header, Routines, Stubs, Table}
+use Rattle.x_args.specs.declared.before_args.BeforeArgs.{BeforeArgs}
 use Rattle.x_args.specs.declared.checking_args.CheckArgs.{CheckArgs}
 use Rattle.x_args.specs.declared.dumping_args.DumpArgs.{DumpArgs}
 use Rattle.x_args.specs.declared.dumping_args.Mode.{Mode}
@@ -84,6 +85,19 @@ explain_rule = request_rule (codes "explain") (codes "explain") SetTrue
 abbrev pub plain_rule : Rule
 plain_rule = request_rule (codes "plain") (codes "plain") SetTrue
 
+-- `--known FILE`, as often as one likes
+abbrev pub known_rule : Rule
+known_rule =
+    record (new_rule (codes "known")) { long = Some (codes "known"); value_names = 1; action = Some Append }
+
+-- `--c-types`
+abbrev pub c_types_rule : Rule
+c_types_rule = request_rule (codes "c_types") (codes "c-types") SetTrue
+
+-- `--foreign`
+abbrev pub foreign_rule : Rule
+foreign_rule = request_rule (codes "foreign") (codes "foreign") SetTrue
+
 -- FILE, which has to be there
 abbrev pub file_rule : Rule
 file_rule = record (new_rule (codes "file")) { action = Some Set; required = true }
@@ -96,6 +110,10 @@ bare_app name = on_top (λ s. record s { disable_help_flag = true }) (new_app na
 abbrev pub plain_app : Text → App
 plain_app name = with_rule (with_rule (bare_app name) help_rule) version_rule
 
+-- the options for what stands before a text, behind what a command knows
+abbrev pub with_before : App → App
+with_before app = with_rule (with_rule (with_rule app known_rule) c_types_rule) foreign_rule
+
 -- the four letters of `rpcgen` behind what a command knows
 abbrev pub with_letters : App → App
 with_letters app =
@@ -105,9 +123,10 @@ with_letters app =
 abbrev pub lettered_app : App
 lettered_app = with_rule (with_letters (plain_app (codes "rpcgen"))) output_rule
 
--- `rpcgen [--help] [--version] [-c] [-h] [-l] [-t] [-o OUT] [--explain] [--plain] FILE`
+-- `rpcgen [--help] [--version] [-c] [-h] [-l] [-t] [-o OUT] [--explain] [--plain]
+-- [--known FILE].. [--c-types] [--foreign] FILE`
 unfoldable pub gen_app : App
-gen_app = with_rule (with_rule (with_rule lettered_app explain_rule) plain_rule) file_rule
+gen_app = with_rule (with_before (with_rule (with_rule lettered_app explain_rule) plain_rule)) file_rule
 
 -- `--check`
 abbrev pub check_rule : Rule
@@ -117,11 +136,12 @@ check_rule = request_rule (codes "check") (codes "check") SetTrue
 abbrev pub files_rule : Rule
 files_rule = record (new_rule (codes "file")) { action = Some Append; required = true }
 
--- `rpcgen [--help] [--version] --check [--explain] [--plain] FILE..`
+-- `rpcgen [--help] [--version] --check [--explain] [--plain]
+-- [--known FILE].. [--c-types] [--foreign] FILE..`
 unfoldable pub check_app : App
 check_app = with_rule
-    (with_rule (with_rule
-    (with_rule (plain_app (codes "rpcgen")) check_rule) explain_rule) plain_rule) files_rule
+    (with_before (with_rule (with_rule
+    (with_rule (plain_app (codes "rpcgen")) check_rule) explain_rule) plain_rule)) files_rule
 
 -- one of the words is `--check`, and stands before each `--`
 unfoldable pub has_check : List Text → Bool
@@ -145,15 +165,17 @@ bare_rule = flag_rule (codes "bare") (slice_get (codes "b") 0)
 abbrev pub type_rule : Rule
 type_rule = valued_rule (codes "type") (slice_get (codes "t") 0)
 
--- `rpcdump [--help] [--version] [-x SCHEMA] [-b] [-t TYPE] FILE`
+-- `rpcdump [--help] [--version] [-x SCHEMA] [-b] [-t TYPE] [--known FILE].. [--c-types] FILE`
 unfoldable pub dump_app : App
 dump_app = with_rule
     (with_rule (with_rule
-    (with_rule (plain_app (codes "rpcdump")) schema_rule) bare_rule) type_rule) file_rule
+    (with_rule (with_rule
+    (with_rule (plain_app (codes "rpcdump")) schema_rule) bare_rule) type_rule) known_rule) c_types_rule)
+    file_rule
 
--- `rpcedit [--help] [--version] FILE`
+-- `rpcedit [--help] [--version] [--known FILE].. FILE`
 unfoldable pub edit_app : App
-edit_app = with_rule (plain_app (codes "rpcedit")) file_rule
+edit_app = with_rule (with_rule (plain_app (codes "rpcedit")) known_rule) file_rule
 
 -- `--stdio`
 abbrev pub stdio_rule : Rule
@@ -199,6 +221,20 @@ is_command_line _ = false
 abbrev pub is_in_words : Text → List Row → Bool
 is_in_words id rows = is_command_line (source_of id rows)
 
+-- all values of an id, in their order: none where it has no entry
+abbrev pub every_of : Text → List Row → List Text
+every_of id rows = unwrap_or (all_of id rows) []
+
+-- the files of `--known`, as clap read them
+abbrev pub AreKnown : List Row → BeforeArgs → Type 0
+AreKnown rows args = map (λ s. s.now) args.known.items ≡ every_of (codes "known") rows
+
+-- the options for what stands before a text, as clap read them
+pub record IsBeforeArgs (rows : List Row) (args : BeforeArgs) : Type 0 where
+  pub known : AreKnown rows args
+  pub c_types : args.c_types ≡ is_in_words (codes "c_types") rows
+  pub foreign : args.foreign ≡ is_in_words (codes "foreign") rows
+
 -- the letters and values of `rpcgen`, as clap read them
 pub record IsGenArgs (rows : List Row) (args : GenArgs) : Type 0 where
   pub routines : args.routines ≡ is_in_words (codes "routines") rows
@@ -208,17 +244,21 @@ pub record IsGenArgs (rows : List Row) (args : GenArgs) : Type 0 where
   pub output : option_map (λ s. s.now) args.output ≡ first_of (codes "output") rows
   pub explains : args.explains ≡ is_in_words (codes "explain") rows
   pub plain : args.plain ≡ is_in_words (codes "plain") rows
+  pub before : IsBeforeArgs rows args.before
   pub file : Some args.file.now ≡ first_of (codes "file") rows
 
 -- the words and files of `rpcgen --check`, as clap read them
 pub record IsCheckArgs (rows : List Row) (args : CheckArgs) : Type 0 where
   pub explains : args.explains ≡ is_in_words (codes "explain") rows
   pub plain : args.plain ≡ is_in_words (codes "plain") rows
+  pub before : IsBeforeArgs rows args.before
   pub files : Some (map (λ s. s.now) args.files.items) ≡ all_of (codes "file") rows
   pub some : 0 < length args.files.items
 
--- the value of `rpcedit`, as clap read it
+-- the files and the value of `rpcedit`, as clap read them
 pub record IsEditArgs (rows : List Row) (args : EditArgs) : Type 0 where
+  pub known : AreKnown rows args.before
+  pub no_names : (args.before.c_types ≡ false) × (args.before.foreign ≡ false)
   pub file : Some args.file.now ≡ first_of (codes "file") rows
 
 -- the word of `rpcls`, as clap read it
@@ -230,6 +270,9 @@ pub record IsDumpArgs (rows : List Row) (args : DumpArgs) : Type 0 where
   pub schema : option_map (λ s. s.now) args.schema ≡ first_of (codes "schema") rows
   pub bare : args.bare ≡ is_in_words (codes "bare") rows
   pub type_name : option_map (λ s. s.now) args.type_name ≡ first_of (codes "type") rows
+  pub known : AreKnown rows args.before
+  pub c_types : args.before.c_types ≡ is_in_words (codes "c_types") rows
+  pub not_foreign : args.before.foreign ≡ false
   pub file : Some args.file.now ≡ first_of (codes "file") rows
 
 -- what the bytes are where there is `-b`, and where there is `-t TYPE`

@@ -1,10 +1,10 @@
 //! Arguments that stand on several command lines, or several times on one.
 
-ghost use Rattle.std.specs.Prelude.{◌≡◌, IfOk, Some, true};
+ghost use Rattle.std.specs.Prelude.{◌≡◌, IfOk, Some, map, true};
 ghost use Rattle.clap.specs.Built.{FitsChain, TakesValue};
 ghost use Rattle.clap.specs.Words.{app_of, found_of, rows_of, rule_of};
-ghost use Rattle.x_args.specs.Args.{file_rule, flag_rule, is_in_words, is_own, plain_app};
-ghost use Rattle.x_args.specs.Args.{request_ids, request_rule, valued_rule, IsChain};
+ghost use Rattle.x_args.specs.Args.{every_of, file_rule, flag_rule, is_in_words, is_own};
+ghost use Rattle.x_args.specs.Args.{known_rule, plain_app, request_ids, request_rule, valued_rule, IsChain};
 
 use clap::parser::ValueSource;
 use clap::{Arg, ArgAction, ArgMatches, Command};
@@ -61,6 +61,31 @@ pub fn file<'a>(alloc: Global) -> Arg<'a>
     Arg::new(alloc, "file")
         .required(true)
         .action(ArgAction::Set)
+}
+
+/// `--known FILE`, as often as one likes.
+pub fn known<'a>(alloc: Global) -> Arg<'a>
+    ensures rule { rule_of result ≡ known_rule }
+    ensures fits { FitsChain result }
+{
+    Arg::new(alloc, "known")
+        .long("known")
+        .value_name("FILE")
+        .action(ArgAction::Append)
+}
+
+/// All values of an argument, in their order: none where the words don't have it.
+pub fn values<'a>(
+    alloc: Global,
+    matches: &ArgMatches<'a>,
+    id: &str,
+) -> Result<Vec<&'a str>, AllocError>
+    ensures { IfOk result (λ v. map (λ s. s.now) v.items ≡ every_of id.now (rows_of (found_of matches.now))) }
+{
+    match matches.get_strs(id) {
+        Some(values) => values.to_vec(alloc),
+        None => Ok(Vec::new(alloc)),
+    }
 }
 
 /// Whether the words themselves have the argument.

@@ -5,7 +5,8 @@ ghost use Rattle.clap.specs.Built.{FitsChain};
 ghost use Rattle.clap.specs.Words.{FailsBy, app_of, fault_of, matches_of, rule_of};
 ghost use Rattle.x_args.specs.Args.{HasSome, IsCheckArgs, asks_check, check_app, files_rule};
 
-use crate::arguments::{is_given, plain_command, request};
+use crate::arguments::{is_given, known, plain_command, request};
+use crate::before_args::{BeforeArgs, before_args};
 use clap::{Arg, ArgAction, Command, Error};
 use std::alloc::{AllocError, Global};
 use std::convert::AsStr;
@@ -17,6 +18,8 @@ pub struct CheckArgs<'a> {
     pub explains: bool,
     /// `--plain`: they are not, also on a terminal.
     pub plain: bool,
+    /// `--known FILE`, `--c-types`, `--foreign`: what stands before each text.
+    pub before: BeforeArgs<'a>,
     /// The files whose texts are checked, in their order.
     pub files: Vec<&'a str>,
 }
@@ -55,6 +58,7 @@ pub fn check_args<'a, S: AsStr>(alloc: Global, words: &'a [S]) -> Result<CheckAr
     Ok(CheckArgs {
         explains: is_given(&matches, "explain"),
         plain: is_given(&matches, "plain"),
+        before: before_args(alloc, &matches)?,
         files: files.to_vec(alloc)?,
     })
 }
@@ -68,6 +72,9 @@ fn check_command<'a>(alloc: Global) -> Result<Command<'a>, AllocError>
         .arg(request(alloc, "check", "check", ArgAction::SetTrue))?
         .arg(request(alloc, "explain", "explain", ArgAction::SetTrue))?
         .arg(request(alloc, "plain", "plain", ArgAction::SetTrue))?
+        .arg(known(alloc))?
+        .arg(request(alloc, "c_types", "c-types", ArgAction::SetTrue))?
+        .arg(request(alloc, "foreign", "foreign", ArgAction::SetTrue))?
         .arg(files(alloc))
 }
 

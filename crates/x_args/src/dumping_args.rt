@@ -5,15 +5,16 @@ ghost use Rattle.clap.specs.Words.{FailsBy, app_of, fault_of, matches_of};
 ghost use Rattle.x_args.specs.Telling.{IsTold};
 ghost use Rattle.x_args.specs.Args.{AlwaysHas, IsDumpArgs, dump_app, mode_of};
 
-use crate::arguments::{file, flag, is_given, plain_command, valued};
+use crate::arguments::{file, flag, is_given, known, plain_command, request, valued, values};
+use crate::before_args::BeforeArgs;
 use crate::complaint::complain;
-use clap::{Command, Error};
+use clap::{ArgAction, Command, Error};
 use std::alloc::{AllocError, Global};
 use std::convert::AsStr;
 use x_text::Sink;
 
 /// What a command line of `rpcdump` asks for.
-#[derive(Clone, Copy, Debug, PartialEq, Eq)]
+#[derive(Debug, Drop, PartialEq, Eq)]
 pub struct DumpArgs<'a> {
     /// `-x SCHEMA`: the text by whose types values are read, in place of that of NFS version 2.
     pub schema: Option<&'a str>,
@@ -21,6 +22,9 @@ pub struct DumpArgs<'a> {
     pub bare: bool,
     /// `-t TYPE`: the file is one value of this type alone.
     pub type_name: Option<&'a str>,
+    /// `--known FILE`, `--c-types`: what stands before the text of the types. It is never `foreign`: a type
+    /// of unknown layout has no values.
+    pub before: BeforeArgs<'a>,
     /// FILE: the bytes that are shown.
     pub file: &'a str,
 }
@@ -38,6 +42,11 @@ pub fn dump_args<'a, S: AsStr>(alloc: Global, words: &'a [S]) -> Result<DumpArgs
         schema: matches.get_str("schema"),
         bare: is_given(&matches, "bare"),
         type_name: matches.get_str("type"),
+        before: BeforeArgs {
+            known: values(alloc, &matches, "known")?,
+            c_types: is_given(&matches, "c_types"),
+            foreign: false,
+        },
         file: matches.get_str("file").unwrap(),
     })
 }
@@ -51,6 +60,8 @@ fn dump_command<'a>(alloc: Global) -> Result<Command<'a>, AllocError>
         .arg(valued(alloc, "schema", 'x', "SCHEMA"))?
         .arg(flag(alloc, "bare", 'b'))?
         .arg(valued(alloc, "type", 't', "TYPE"))?
+        .arg(known(alloc))?
+        .arg(request(alloc, "c_types", "c-types", ArgAction::SetTrue))?
         .arg(file(alloc))
 }
 

@@ -4,14 +4,17 @@ ghost use Rattle.std.specs.Prelude.{◌≡◌, IfOk, codes, map};
 ghost use Rattle.clap.specs.Words.{FailsBy, app_of, fault_of, matches_of};
 ghost use Rattle.x_args.specs.Args.{AlwaysHas, IsEditArgs, edit_app};
 
-use crate::arguments::{file, plain_command};
+use crate::arguments::{file, known, plain_command, values};
+use crate::before_args::BeforeArgs;
 use clap::{Command, Error};
 use std::alloc::{AllocError, Global};
 use std::convert::AsStr;
 
 /// What a command line of `rpcedit` asks for.
-#[derive(Clone, Copy, Debug, PartialEq, Eq)]
+#[derive(Debug, Drop, PartialEq, Eq)]
 pub struct EditArgs<'a> {
+    /// `--known FILE`: what stands before the text.
+    pub before: BeforeArgs<'a>,
     /// FILE: the text that is edited.
     pub file: &'a str,
 }
@@ -26,14 +29,21 @@ pub fn edit_args<'a, S: AsStr>(alloc: Global, words: &'a [S]) -> Result<EditArgs
 {
     let matches = edit_command(alloc)?.try_get_matches_from(words)?;
     Ok(EditArgs {
+        before: BeforeArgs {
+            known: values(alloc, &matches, "known")?,
+            c_types: false,
+            foreign: false,
+        },
         file: matches.get_str("file").unwrap(),
     })
 }
 
-// The one value of `rpcedit`.
+// The option and the value of `rpcedit`.
 fn edit_command<'a>(alloc: Global) -> Result<Command<'a>, AllocError>
     ensures app { IfOk result (λ c. app_of c ≡ edit_app) }
     ensures file { IfOk result (AlwaysHas (codes "file")) }
 {
-    plain_command(alloc, "rpcedit")?.arg(file(alloc))
+    plain_command(alloc, "rpcedit")?
+        .arg(known(alloc))?
+        .arg(file(alloc))
 }

@@ -5,7 +5,8 @@ ghost use Rattle.clap.specs.Words.{FailsBy, app_of, fault_of, matches_of};
 ghost use Rattle.x_args.specs.Telling.{IsTold};
 ghost use Rattle.x_args.specs.Args.{AlwaysHas, IsGenArgs, asked_by, gen_app, only_of};
 
-use crate::arguments::{file, flag, is_given, plain_command, request, valued};
+use crate::arguments::{file, flag, is_given, known, plain_command, request, valued};
+use crate::before_args::{BeforeArgs, before_args};
 use crate::complaint::complain;
 use clap::{ArgAction, Command, Error};
 use std::alloc::{AllocError, Global};
@@ -14,7 +15,7 @@ use x_pieces::Which;
 use x_text::Sink;
 
 /// What a command line of `rpcgen` asks for.
-#[derive(Clone, Copy, Debug, PartialEq, Eq)]
+#[derive(Debug, Drop, PartialEq, Eq)]
 pub struct GenArgs<'a> {
     /// `-c`: the XDR routines are wanted.
     pub routines: bool,
@@ -30,6 +31,8 @@ pub struct GenArgs<'a> {
     pub explains: bool,
     /// `--plain`: they are not, also on a terminal.
     pub plain: bool,
+    /// `--known FILE`, `--c-types`, `--foreign`: what stands before the text.
+    pub before: BeforeArgs<'a>,
     /// FILE: the text that is read.
     pub file: &'a str,
 }
@@ -51,6 +54,7 @@ pub fn gen_args<'a, S: AsStr>(alloc: Global, words: &'a [S]) -> Result<GenArgs<'
         output: matches.get_str("output"),
         explains: is_given(&matches, "explain"),
         plain: is_given(&matches, "plain"),
+        before: before_args(alloc, &matches)?,
         file: matches.get_str("file").unwrap(),
     })
 }
@@ -68,6 +72,9 @@ fn gen_command<'a>(alloc: Global) -> Result<Command<'a>, AllocError>
         .arg(valued(alloc, "output", 'o', "OUT"))?
         .arg(request(alloc, "explain", "explain", ArgAction::SetTrue))?
         .arg(request(alloc, "plain", "plain", ArgAction::SetTrue))?
+        .arg(known(alloc))?
+        .arg(request(alloc, "c_types", "c-types", ArgAction::SetTrue))?
+        .arg(request(alloc, "foreign", "foreign", ArgAction::SetTrue))?
         .arg(file(alloc))
 }
 

@@ -3,6 +3,7 @@
 
 mod answering;
 mod arguments;
+mod before_args;
 mod checking_args;
 mod complaint;
 mod drawing;
@@ -16,6 +17,7 @@ mod status;
 mod words;
 
 pub use answering::answer_words;
+pub use before_args::BeforeArgs;
 pub use checking_args::{CheckArgs, asks_check, check_args};
 pub use complaint::{complain_of_output, tell_of_file};
 pub use drawing::draw_key;

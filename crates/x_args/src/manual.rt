@@ -22,24 +22,25 @@ pub const RPCGEN: Manual<'static> = Manual {
 Compiles FILE, a .x file of the Sun RPC language (RFC 4506, RFC 5531), to C, or
 reports what is wrong with it on standard error.
 
-  -c         write the XDR routines of the types
-  -h         write the header: types, constants and declarations
-  -l         write the client's stubs, a function for each procedure
-  -t         write the server's tables, a row for each procedure
-  -o OUT     write to the file OUT in place of standard output
-  --check    report the faults of one or more files: rpcgen --check FILE...
-  --explain  show each fault with its line and a hint, as on a terminal
-  --plain    report one fault a line, also on a terminal
-  --help     show this text
-  --version  show the version
+  -c            write the XDR routines of the types
+  -h            write the header: types, constants and declarations
+  -l            write the client's stubs, a function for each procedure
+  -t            write the server's tables, a row for each procedure
+  -o OUT        write to the file OUT in place of standard output
+  --check       report the faults of one or more files: rpcgen --check FILE...
+  --known FILE  take what this file defines as known, and write nothing of it
+  --c-types     accept u_int and other types of C that have an XDR routine
+  --foreign     take names that nobody declares as types or constants of C
+  --explain     show each fault with its line and a hint, as on a terminal
+  --plain       report one fault a line, also on a terminal
+  --help        show this text
+  --version     show the version
 
-Give exactly one of -c, -h, -l and -t, or --check alone. If FILE has #include,
-#define or the like, run cpp first.
+Give exactly one of -c, -h, -l, -t and --check. With #include, run cpp first.
 
 Example: rpcgen -h -o point.h point.x
 
-Exit status: 0 done; 1 FILE has faults, and nothing was written; 2 the run
-failed.
+Exit status: 0 done; 1 FILE has faults, nothing was written; 2 the run failed.
 ",
 };
 
@@ -60,6 +61,7 @@ standard input, one a line and in order. FILE itself is never changed.
                         print what rpcgen -h, -c, -l or -t writes
   dump TYPE [HEX]       print the value of TYPE that these bytes encode
 
+  --known FILE          take what this file defines as known
   --help                show this text
   --version             show the version
 
@@ -78,11 +80,13 @@ Prints the calls and replies of FILE, a recorded stream of Sun RPC (RFC 5531),
 by a .x file. Bytes that are not a valid encoding are refused, with the reason
 and the place.
 
-  -x SCHEMA  the .x file; the default is the schema of NFS version 2
-  -b         FILE is one message, without a record around it
-  -t TYPE    FILE is one value of TYPE
-  --help     show this text
-  --version  show the version
+  -x SCHEMA     the .x file; the default is the schema of NFS version 2
+  -b            FILE is one message, without a record around it
+  -t TYPE       FILE is one value of TYPE
+  --known FILE  take what this file defines as known
+  --c-types     accept u_int and other types of C that have an XDR routine
+  --help        show this text
+  --version     show the version
 
 Example: rpcdump -x add.x add.stream
 

@@ -24,6 +24,7 @@ use Rattle.x_explain.specs.declared.declared.DeclaredNames.{DeclaredNames}
 use Rattle.x_explain.specs.declared.declared.FirstPlace.{FirstPlace}
 use Rattle.x_explain.specs.declared.declared.Spot.{Spot}
 use Rattle.x_explain.specs.DeclaredNames.{IsTableOf, declared_at, first_place, first_place_by, spot_at, word_at, word_spots, words_in}
+use Rattle.x_explain.specs.KnownFiles.{place_by, place_in, spot_in}
 use Rattle.x_explain.proofs.ItemsLeft.{AreLeft, all_left, item_at, next_item_is, none_left, short_definition}
 
 -- what holds of one compilation holds of each
@@ -41,44 +42,31 @@ map-snoc f (y ∷ xs) x = ap (λ l. f y ∷ l) (map-snoc f xs x)
 
 -- ---- where a name is declared first
 
-word_found : (text : List ℕ) (o : Option Item) (word : ℕ) (words : List Spot) → option_map (word_spots text) o ≡ Some words
-    → slice_get words word ≡ option_map (λ (t : Lexeme). spot_at text t.start) (option_and_then (λ (i : Item). slice_get (words_in i.tokens) word) o)
-word_found text None word words is = absurd (cc)
-word_found text (Some i) word words is =
-    let same : word_spots text i ≡ words = cc in
-    ap (λ l. slice_get l word) (sym same) ∙ slice_get-map (λ (t : Lexeme). spot_at text t.start) (words_in i.tokens) word
-
-pub spot_found : (text : List ℕ) (items : List Item) (table : DeclaredNames) (d : Declarer) (words : List Spot) (r : Option Spot) → IsTableOf text items table
-    → Some words ≡ slice_get (map (λ v. v.items) table.words.items) d.item → r ≡ slice_get words d.word → r ≡ option_map (λ (t : Lexeme). spot_at text t.start) (word_at items d)
-spot_found text items table d words r h found is =
-    let there : option_map (word_spots text) (slice_get items d.item) ≡ Some words =
-    sym (slice_get-map (word_spots text) items d.item) ∙ ap (λ l. slice_get l d.item) (sym h.words) ∙ sym found in
-    is ∙ word_found text (slice_get items d.item) d.word words there
-
--- the words of an item that there is not
-pub no_words : (text : List ℕ) (items : List Item) (table : DeclaredNames) (d : Declarer) → IsTableOf text items table → None ≡ slice_get (map (λ v. v.items) table.words.items) d.item
-    → None ≡ first_place_by text items d
-no_words text items table d h none =
-    let there : option_map (word_spots text) (slice_get items d.item) ≡ None = sym (slice_get-map (word_spots text) items d.item) ∙ ap (λ l. slice_get l d.item) (sym h.words) ∙ sym none in
-    gone (slice_get items d.item) there
+pub spot_items : (text : List ℕ) (items : List Item) (table : DeclaredNames) (d : Declarer) → IsTableOf text items table
+    → spot_in table d ≡ option_map (λ (t : Lexeme). spot_at text t.start) (word_at items d)
+spot_items text items table d h =
+    ap (λ l. option_and_then (λ (words : List Spot). slice_get words d.word) (slice_get l d.item)) h.words
+    ∙ ap (option_and_then (λ words. slice_get words d.word)) (slice_get-map (word_spots text) items d.item)
+    ∙ there (slice_get items d.item)
   where
-    gone : (o : Option Item) → option_map (word_spots text) o ≡ None
-        → None ≡ option_map (λ (t : Lexeme). declared_at d (spot_at text t.start)) (option_and_then (λ (i : Item). slice_get (words_in i.tokens) d.word) o)
-    gone None is = refl
-    gone (Some i) is = absurd (cc)
+    there : (o : Option Item) → option_and_then (λ (words : List Spot). slice_get words d.word) (option_map (word_spots text) o)
+        ≡ option_map (λ (t : Lexeme). spot_at text t.start) (option_and_then (λ (i : Item). slice_get (words_in i.tokens) d.word) o)
+    there None = refl
+    there (Some i) = slice_get-map (λ (t : Lexeme). spot_at text t.start) (words_in i.tokens) d.word
 
-pub kind_added : (text : List ℕ) (items : List Item) (d : Declarer) (r : Option Spot) → r ≡ option_map (λ (t : Lexeme). spot_at text t.start) (word_at items d)
-    → option_map (λ s. declared_at d s) r ≡ first_place_by text items d
-kind_added text items d r is = ap (option_map (λ s. declared_at d s)) is ∙ twice (word_at items d)
+pub place_items : (text : List ℕ) (items : List Item) (table : DeclaredNames) (name : List ℕ) → IsTableOf text items table
+    → place_in table name ≡ first_place text items name
+place_items text items table name h =
+    ap (option_and_then (place_by table)) (h.names name) ∙ by (first_declarer (definitions_of items) name)
   where
-    twice : (o : Option Lexeme) → option_map (λ s. declared_at d s) (option_map (λ (t : Lexeme). spot_at text t.start) o)
+    twice : (d : Declarer) (o : Option Lexeme) → option_map (λ s. declared_at d s) (option_map (λ (t : Lexeme). spot_at text t.start) o)
         ≡ option_map (λ (t : Lexeme). declared_at d (spot_at text t.start)) o
-    twice None = refl
-    twice (Some t) = refl
+    twice d None = refl
+    twice d (Some t) = refl
 
-pub named_first : (text : List ℕ) (items : List Item) (table : DeclaredNames) (name : List ℕ) (o : Option Declarer) (r : Option FirstPlace) → IsTableOf text items table → o ≡ first_in table.names name
-    → r ≡ option_and_then (first_place_by text items) o → r ≡ first_place text items name
-named_first text items table name o r h first is = is ∙ ap (option_and_then (first_place_by text items)) (first ∙ h.names name)
+    by : (o : Option Declarer) → option_and_then (place_by table) o ≡ option_and_then (first_place_by text items) o
+    by None = refl
+    by (Some d) = ap (option_map (λ s. declared_at d s)) (spot_items text items table d h) ∙ twice d (word_at items d)
 
 none_at : {X : Type 0} (xs : List X) (k : ℕ) → length xs ≤ k → None ≡ slice_get xs k
 none_at [] zero le = refl

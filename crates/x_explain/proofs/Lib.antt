@@ -4,5 +4,6 @@ pub mod DeclaredLemmas
 pub mod ExcerptLemmas
 pub mod FoundLemmas
 pub mod ItemsLeft
+pub mod KnownFileLemmas
 pub mod PassLemmas
 pub mod SuggestionLemmas

@@ -21,6 +21,7 @@ use Rattle.x_explain.specs.declared.explained.Pass.TheVariants.{Errors, Notes}
 use Rattle.x_explain.specs.Excerpts.{Excerpt, excerpt}
 use Rattle.x_explain.specs.Facts.{Known, kind_of, known_of}
 use Rattle.x_explain.specs.Found.{AreFound}
+use Rattle.x_explain.specs.KnownFiles.{FirstDeclaration, KnownPlaces}
 use Rattle.x_explain.specs.Sentences.{saying, sentence}
 use Rattle.x_explain.specs.Shown.{blank, columns, shown_byte, tildes}
 use Rattle.x_explain.specs.Suggestions.{AreSuggested}
@@ -87,16 +88,23 @@ caret_line coloured line e width =
 abbrev pub place : (file : List ℕ) → (line column : ℕ) → List ℕ
 place file line column = file ++ codes ":" ++ decimal line ++ codes ":" ++ decimal column
 
--- where a name is declared first, if that is not here
+-- where a name is declared first, if that is not here:
 abbrev pub declared_line : (coloured : Bool) → (file : List ℕ) → ℕ → FirstPlace → List ℕ
 declared_line coloured file line f =
     gutter line ++ codes " | " ++ painted coloured cyan (codes "note:") ++ codes " declared at "
     ++ place file f.spot.line f.spot.column ++ codes "\n"
 
-abbrev pub note_line : (coloured : Bool) → (file : List ℕ) → (line start : ℕ) → Option FirstPlace → List ℕ
-note_line coloured file line start None = []
-note_line coloured file line start (Some f) =
+-- in a file that is known before the text, or in the text's own
+abbrev pub declared_elsewhere : (coloured : Bool) → (file : List ℕ) → (line start : ℕ)
+    → Option (List ℕ) → FirstPlace → List ℕ
+declared_elsewhere coloured file line start (Some other) f = declared_line coloured other line f
+declared_elsewhere coloured file line start None f =
     if f.spot.start == start then [] else declared_line coloured file line f
+
+abbrev pub note_line : (coloured : Bool) → (file : List ℕ) → (line start : ℕ) → Option FirstDeclaration
+    → List ℕ
+note_line coloured file line start None = []
+note_line coloured file line start (Some f) = declared_elsewhere coloured file line start f.file f.place
 
 -- what helps
 abbrev pub help_line : (coloured : Bool) → ℕ → Option (List ℕ) → List ℕ
@@ -159,10 +167,11 @@ abbrev pub said_in : Pass → Telling → FoundFault → Known → List ℕ
 said_in Errors t d k = error_said t d k
 said_in Notes t d k = note_said t d k
 
--- what it says of one, by the items of the text, and by what is suggested for its words
-abbrev pub said_by : Pass → Telling → List Item → List (ℕ × Option (List ℕ)) → FoundFault → List ℕ
-said_by pass t items near d =
-    said_in pass t d (known_of t.text items near d.code d.start (word_of t.text d))
+-- what it says of one, by what is known before the text, by its items, and by what is suggested for its words
+abbrev pub said_by : Pass → KnownPlaces → Telling → List Item → List (ℕ × Option (List ℕ)) → FoundFault
+    → List ℕ
+said_by pass before t items near d =
+    said_in pass t d (known_of before t.text items near d.code d.start (word_of t.text d))
 
 -- `3 errors, 1 note`
 abbrev pub counted : ℕ → List ℕ → List ℕ
@@ -178,24 +187,25 @@ abbrev pub notes_at : List FaultPlace → ℕ
 notes_at places = count_by (λ p. is_note p.code) places
 
 -- the errors of a text, then the notes, and how many there are
-abbrev pub explanation : Telling → List Item → List (ℕ × Option (List ℕ))
+abbrev pub explanation : KnownPlaces → Telling → List Item → List (ℕ × Option (List ℕ))
     → (errors notes : List FoundFault) → List ℕ
-explanation t items near errors notes =
-    flat_map (said_by Errors t items near) errors ++ flat_map (said_by Notes t items near) notes
+explanation before t items near errors notes =
+    flat_map (said_by Errors before t items near) errors ++ flat_map (said_by Notes before t items near) notes
     ++ summary (length (places_of items) - notes_at (places_of items)) (notes_at (places_of items))
 
--- the faults of a text, which has these items, are explained so
-pub record AreExplained (t : Telling) (items : List Item) (said : List ℕ) : Type 0 where
+-- the faults of a text, which has these items, are explained so, where these names are known before it
+pub record AreExplained (before : KnownPlaces) (t : Telling) (items : List Item) (said : List ℕ)
+    : Type 0 where
   pub near : List (ℕ × Option (List ℕ))
   pub errors : List FoundFault
   pub notes : List FoundFault
   pub are_near : AreSuggested t.text items near
   pub are_found : AreFound t.text (places_of items) errors
   pub are_found_too : AreFound t.text (places_of items) notes
-  pub said_is : said ≡ explanation t items near errors notes
+  pub said_is : said ≡ explanation before t items near errors notes
 
 -- a pass added what it says of the faults at these places
-abbrev pub IsPass : Pass → Telling → List Item → List (ℕ × Option (List ℕ)) → List FaultPlace
+abbrev pub IsPass : Pass → KnownPlaces → Telling → List Item → List (ℕ × Option (List ℕ)) → List FaultPlace
     → Inked → Stream → Inked → Stream → Type 0
-IsPass pass t items near places p before q after = (found : List FoundFault) × AreFound t.text places found
-    × Adds p before q after (flat_map (said_by pass t items near) found)
+IsPass pass before t items near places p old q new = (found : List FoundFault) × AreFound t.text places found
+    × Adds p old q new (flat_map (said_by pass before t items near) found)

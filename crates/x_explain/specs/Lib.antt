@@ -5,6 +5,7 @@ pub mod Excerpts
 pub mod Explained
 pub mod Facts
 pub mod Found
+pub mod KnownFiles
 pub mod Sentences
 pub mod Shown
 pub mod Suggestions

@@ -7,15 +7,15 @@ ghost use Rattle.x_names.specs.Declarers.{first_declarer};
 ghost use Rattle.x_names.specs.DeclarerTable.{first_in};
 ghost use Rattle.x_compile.specs.Compile.{Item, definitions_of};
 ghost use Rattle.x_session.specs.Session.{Compiles};
-ghost use Rattle.x_explain.specs.Facts.{first_of, is_of_declarer};
 ghost use Rattle.x_explain.specs.DeclaredNames.{IsTableOf, first_place, spot_at, word_at, word_spots};
 ghost use Rattle.x_explain.specs.DeclaredNames.{words_in};
+ghost use Rattle.x_explain.specs.KnownFiles.{place_in, spot_in};
 
 use std::alloc::Global;
 use x_item::{Definition, NameKind, is_significant, next_item};
 use x_lex::Token;
 use x_names::{Declarer, Names};
-use x_session::{FaultCode, RuleCode, Session};
+use x_session::Session;
 use x_text::{Lines, NoMemory};
 
 /// A place of a text, with its line and its column.
@@ -63,7 +63,8 @@ impl<'s> DeclaredNames<'s> {
 
     /// Where a name is declared first (RFC 4506, section 6.4).
     pub fn first(&self, name: &[u8]) -> Option<FirstPlace>
-        ensures { (text : List ℕ) (items : List Item) → IsTableOf text items self.now
+        ensures by_table { result ≡ place_in self.now name.now }
+        ensures by_items { (text : List ℕ) (items : List Item) → IsTableOf text items self.now
             → result ≡ first_place text items name.now }
     {
         let declarer = self.names.first(name)?;
@@ -86,36 +87,12 @@ impl<'s> DeclaredNames<'s> {
 
     /// Where the word starts that declares a name.
     pub(crate) fn spot(&self, declarer: &Declarer) -> Option<Spot>
-        ensures { (text : List ℕ) (items : List Item) → IsTableOf text items self.now
+        ensures by_table { result ≡ spot_in self.now declarer.now }
+        ensures by_items { (text : List ℕ) (items : List Item) → IsTableOf text items self.now
             → result ≡ option_map (λ t. spot_at text t.start) (word_at items declarer.now) }
     {
         let words = self.words.get(declarer.item)?;
         words.get(declarer.word).copied()
-    }
-
-    /// Where a word with a fault is declared first, if that matters to the fault.
-    pub fn first_of(&self, code: FaultCode, word: &[u8]) -> Option<FirstPlace>
-        ensures { (text : List ℕ) (items : List Item) → IsTableOf text items self.now
-            → result ≡ first_of text items code word.now }
-    {
-        if is_of_declarer(code) {
-            self.first(word)
-        } else {
-            None
-        }
-    }
-}
-
-/// Whether a fault says something of how its word is declared.
-fn is_of_declarer(code: FaultCode) -> bool
-    ensures { result ≡ is_of_declarer code }
-{
-    match code {
-        FaultCode::Syntax(_) => false,
-        FaultCode::Rule(rule) => matches!(
-            rule,
-            RuleCode::Duplicate | RuleCode::LateName | RuleCode::NotType | RuleCode::NotConst
-        ),
     }
 }
 
@@ -135,8 +112,12 @@ pub fn definitions(alloc: Global, session: &Session) -> Result<Vec<Option<&Defin
     Ok(list)
 }
 
-/// The first declarers of a text's names.
-fn names(alloc: Global, session: &Session) -> Result<Names<'_>, NoMemory>
+/// The first declarers of a text's names (RFC 4506, section 6.4).
+///
+/// # Errors
+///
+/// [`NoMemory`] where a table could not grow.
+pub fn names(alloc: Global, session: &Session) -> Result<Names<'_>, NoMemory>
     ensures { IfOk result (λ names. Compiles session.now.known session.now.text (λ items.
         (name : List ℕ) → first_in names name ≡ first_declarer (definitions_of items) name)) }
 {

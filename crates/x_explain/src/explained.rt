@@ -1,6 +1,6 @@
 //! The faults of a text, explained.
 
-ghost use Rattle.std.specs.Prelude.{◌≡◌, ◌+◌, ℕ, List, length};
+ghost use Rattle.std.specs.Prelude.{◌≡◌, ◌+◌, ℕ, List, length, option_map};
 ghost use Rattle.x_text.specs.Text.{line_of, column_of};
 ghost use Rattle.x_text.specs.Writing.{Adds};
 ghost use Rattle.x_compile.specs.Compile.{places_of};
@@ -8,13 +8,14 @@ ghost use Rattle.x_session.specs.Session.{Compiles};
 ghost use Rattle.x_explain.specs.Explained.{AreExplained, IsPass, counted, counted_notes, explained, heading};
 ghost use Rattle.x_explain.specs.Explained.{headline, help_line, help_of, is_note, notes_at, said_in};
 ghost use Rattle.x_explain.specs.Explained.{summary};
-ghost use Rattle.x_explain.specs.Facts.{AreFactsOf, kind_of, near_in, view_known};
+ghost use Rattle.x_explain.specs.Facts.{AreFactsOf, before_in, kind_of, near_in, view_known};
+ghost use Rattle.x_explain.specs.KnownFiles.{view_first};
 ghost use Rattle.x_explain.specs.Sentences.{saying, view_sentence};
 
-use crate::declared::FirstPlace;
 use crate::excerpt::excerpt_at;
 use crate::facts::{FaultFacts, Known};
 use crate::found::{FoundFault, token_end, word_at};
+use crate::known_files::FirstDeclaration;
 use crate::lines::{
     RED, add_caret_line, add_help_line, add_note_line, add_painted, add_place, add_source_line,
     add_suggestion_line,
@@ -42,7 +43,8 @@ struct Told<'t> {
 impl Told<'_> {
     /// What is said of its word.
     fn sentence(&self) -> Sentence
-        ensures { view_sentence result ≡ saying self.now.found.code (kind_of self.now.known.first) }
+        ensures { view_sentence result
+            ≡ saying self.now.found.code (kind_of (option_map view_first self.now.known.first)) }
     {
         sentence_of(self.found.code, kind_of(self.known.first))
     }
@@ -139,11 +141,11 @@ impl Told<'_> {
 }
 
 /// What a name is declared as.
-fn kind_of(first: Option<FirstPlace>) -> Option<NameKind>
-    ensures { result ≡ kind_of first }
+fn kind_of(first: Option<FirstDeclaration>) -> Option<NameKind>
+    ensures { result ≡ kind_of (option_map view_first first.entry) }
 {
     match first {
-        Some(first) => Some(first.kind),
+        Some(first) => Some(first.place.kind),
         None => None,
     }
 }
@@ -177,7 +179,7 @@ impl Telling<'_, '_> {
         requires { Compiles self.now.session.now.known self.now.session.now.text
             (λ items. AreFactsOf self.now.session.now.text items self.now.facts.now) }
         ensures { Compiles self.now.session.now.known self.now.session.now.text
-            (λ items. IsPass pass (record {
+            (λ items. IsPass pass (before_in self.now.facts.now) (record {
               coloured = self.now.coloured;
               file = self.now.file.now;
               text = self.now.session.now.text;
@@ -273,7 +275,8 @@ pub fn add_explained_faults<S: Sink>(
     requires { Compiles session.now.known session.now.text
         (λ items. AreFactsOf session.now.text items facts.now) }
     ensures { Compiles session.now.known session.now.text (λ items. (said : List ℕ)
-        × AreExplained (record { coloured = coloured; file = file.now; text = session.now.text }) items said
+        × AreExplained (before_in facts.now)
+        (record { coloured = coloured; file = file.now; text = session.now.text }) items said
         × Adds pen.old (S.state sink.old) pen.new (S.state sink.new) said) }
 {
     let errors = error_count(session);

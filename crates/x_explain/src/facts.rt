@@ -4,11 +4,13 @@ ghost use Rattle.std.specs.Prelude.{◌≡◌, IfOk, List, ℕ, option_map};
 ghost use Rattle.x_compile.specs.Compile.{Item};
 ghost use Rattle.x_session.specs.Session.{Compiles};
 ghost use Rattle.x_explain.specs.DeclaredNames.{first_place};
-ghost use Rattle.x_explain.specs.Facts.{AreFactsOf, AreNamesOf, known_of, name_of, near_in, suggested_for};
-ghost use Rattle.x_explain.specs.Facts.{view_known};
+ghost use Rattle.x_explain.specs.Facts.{AreFactsOf, AreNamesOf, before_in, first_of, is_of_declarer};
+ghost use Rattle.x_explain.specs.Facts.{known_of, name_of, near_in, suggested_for, view_known};
+ghost use Rattle.x_explain.specs.KnownFiles.{first_declaration, places_of_files, view_first};
 
 use crate::again::AgainNames;
 use crate::declared::{DeclaredNames, FirstPlace};
+use crate::known_files::{FirstDeclaration, KnownFiles};
 use crate::suggestions::{Suggestions, is_unknown};
 use std::alloc::Global;
 use x_session::{FaultCode, RuleCode, Session};
@@ -20,7 +22,7 @@ pub struct Known<'f> {
     /// The name that the fault is about: the word, or the whole name of an inline type.
     pub name: &'f [u8],
     /// Where that is declared first, and as what, if this matters to the fault.
-    pub first: Option<FirstPlace>,
+    pub first: Option<FirstDeclaration<'f>>,
     /// What it may have been meant as, if it is not declared.
     pub suggested: Option<&'f [u8]>,
 }
@@ -68,38 +70,74 @@ impl<'s> FaultNames<'s> {
     }
 }
 
-/// What a text says of its words with faults.
+/// What a text, and what is known before it, say of its words with faults.
 #[derive(Drop)]
 pub struct FaultFacts<'s> {
+    files: KnownFiles<'s>,
     names: FaultNames<'s>,
     suggestions: Suggestions,
 }
 
 impl<'s> FaultFacts<'s> {
-    /// What a text says, over which this goes several times.
+    /// What a text says, over which this goes several times, where these files are known before it.
     ///
     /// # Errors
     ///
     /// [`NoMemory`] where a table could not grow.
-    pub fn of(alloc: Global, session: &'s Session) -> Result<FaultFacts<'s>, NoMemory>
-        ensures { IfOk result (λ facts. Compiles session.now.known session.now.text
+    pub fn of(
+        alloc: Global,
+        session: &'s Session,
+        files: KnownFiles<'s>,
+    ) -> Result<FaultFacts<'s>, NoMemory>
+        ensures facts { IfOk result (λ facts. Compiles session.now.known session.now.text
             (λ items. AreFactsOf session.now.text items facts)) }
+        ensures files { IfOk result (λ facts. before_in facts ≡ places_of_files files.entry.list.items) }
     {
         let names = FaultNames::of(alloc, session)?;
         let suggestions = Suggestions::of(alloc, session)?;
-        Ok(FaultFacts { names, suggestions })
+        Ok(FaultFacts {
+            files,
+            names,
+            suggestions,
+        })
     }
 
     /// What is known of a word with a fault that starts at a place.
     pub fn known<'f>(&'f self, code: FaultCode, start: usize, word: &'f [u8]) -> Known<'f>
-        ensures { (text : List ℕ) (items : List Item) → AreFactsOf text items self.now
-            → view_known result ≡ known_of text items (near_in self.now) code start word.now }
+        ensures { (text : List ℕ) (items : List Item) → AreFactsOf text items self.now → view_known result
+            ≡ known_of (before_in self.now) text items (near_in self.now) code start word.now }
     {
         let name = self.names.name(code, start, word);
         Known {
             name,
-            first: self.names.declared.first_of(code, name),
+            first: self.first_of(code, name),
             suggested: self.suggested(code, start),
+        }
+    }
+
+    /// Where a name is declared first, if that matters to the fault.
+    fn first_of(&self, code: FaultCode, name: &[u8]) -> Option<FirstDeclaration<'_>>
+        ensures { (text : List ℕ) (items : List Item) → AreFactsOf text items self.now
+            → option_map view_first result ≡ first_of (before_in self.now) text items code name.now }
+    {
+        if is_of_declarer(code) {
+            self.first(name)
+        } else {
+            None
+        }
+    }
+
+    /// Where a name is declared first: before the text, or in it.
+    fn first(&self, name: &[u8]) -> Option<FirstDeclaration<'_>>
+        ensures { (text : List ℕ) (items : List Item) → AreFactsOf text items self.now
+            → option_map view_first result ≡ first_declaration (before_in self.now) text items name.now }
+    {
+        if let Some(first) = self.files.first(name) {
+            return Some(first);
+        }
+        match self.names.first(name) {
+            Some(place) => Some(FirstDeclaration { file: None, place }),
+            None => None,
         }
     }
 
@@ -112,5 +150,18 @@ impl<'s> FaultFacts<'s> {
         } else {
             None
         }
+    }
+}
+
+/// Whether a fault says something of how its word is declared.
+fn is_of_declarer(code: FaultCode) -> bool
+    ensures { result ≡ is_of_declarer code }
+{
+    match code {
+        FaultCode::Syntax(_) => false,
+        FaultCode::Rule(rule) => matches!(
+            rule,
+            RuleCode::Duplicate | RuleCode::LateName | RuleCode::NotType | RuleCode::NotConst
+        ),
     }
 }

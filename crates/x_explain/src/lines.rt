@@ -3,12 +3,14 @@
 ghost use Rattle.std.specs.Prelude.{◌≡◌, Some, option_map};
 ghost use Rattle.x_text.specs.Writing.{Adds};
 ghost use Rattle.x_explain.specs.Excerpts.{view_excerpt};
+ghost use Rattle.x_explain.specs.KnownFiles.{view_first};
 ghost use Rattle.x_explain.specs.Explained.{blank_front, caret_line, declared_line, green, gutter, help_line};
 ghost use Rattle.x_explain.specs.Explained.{mark, meant, note_line, number_field, painted, place};
 ghost use Rattle.x_explain.specs.Explained.{shown_front, shown_rear, source_line, word_tildes};
 
 use crate::declared::FirstPlace;
 use crate::excerpt::Excerpt;
+use crate::known_files::FirstDeclaration;
 use crate::shown::{add_blanks, add_other_tildes, add_shown, first_of};
 use itoa::Buffer;
 use x_text::{Pen, Sink};
@@ -204,17 +206,23 @@ pub(crate) fn add_note_line<S: Sink>(
     file: &str,
     line: u32,
     start: usize,
-    first: Option<FirstPlace>,
+    first: Option<FirstDeclaration>,
     pen: &mut Pen,
     sink: &mut S,
 )
     ensures { Adds pen.old (S.state sink.old) pen.new (S.state sink.new)
-        (note_line coloured file.now line start first) }
+        (note_line coloured file.now line start (option_map view_first first.entry)) }
 {
-    if let Some(first) = first
-        && first.spot.start != start
-    {
-        add_declared_line(coloured, file, line, &first, pen, sink);
+    let Some(FirstDeclaration { file: other, place }) = first else {
+        return;
+    };
+    match other {
+        Some(other) => add_declared_line(coloured, other, line, &place, pen, sink),
+        None => {
+            if place.spot.start != start {
+                add_declared_line(coloured, file, line, &place, pen, sink);
+            }
+        }
     }
 }
 

@@ -20,6 +20,7 @@ use Rattle.x_script.specs.Script.{AreAnswered, then_answer}
 use Rattle.x_script.specs.Showing.{IsDumpAnswer, IsMessageAnswer, IsTypedAnswer, shown, stuck, no_type, typed, faulty, faultless, value_answer}
 use Rattle.x_compile.proofs.Compiled.{one_compilation}
 use Rattle.x_laws.specs.Showing.{ShowsAlike}
+use Rattle.x_explain.specs.KnownFiles.{no_places}
 use Rattle.x_laws.proofs.OneExplanation.{one_explanation}
 use Rattle.x_laws.proofs.OneShowing.{types_show}
 
@@ -71,7 +72,7 @@ one_dump known text items name message a b (faultless s none h x) (faultless t n
 
 one_explained : (file text : List ℕ) (items : List Item) (a b : Answer) → IsExplainAnswer file text items a → IsExplainAnswer file text items b → a ≡ b
 one_explained file text items a b h k =
-    let same = one_explanation (telling_of file text) items h.said k.said h.are_explained k.are_explained in
+    let same = one_explanation no_places (telling_of file text) items h.said k.said h.are_explained k.are_explained in
     h.answer_is ∙ ap (λ s. answered text (explained_answer (length (faults_of text items)) s)) same ∙ sym k.answer_is
 
 -- it asks to show no value

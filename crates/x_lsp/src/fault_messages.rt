@@ -89,7 +89,7 @@ impl FaultMessage {
 
 /// What the name of a fault is declared as.
 fn kind_of(known: &Known) -> Option<NameKind> {
-    Some(known.first?.kind)
+    Some(known.first?.place.kind)
 }
 
 /// Adds what is wrong to a text, and tells where the word stands there, and how long it is.

@@ -12,7 +12,7 @@ ghost use Rattle.x_lsp.specs.Waymarks.{AreWaymarks};
 use crate::changes::Range;
 use crate::waymarks::Waymarks;
 use std::alloc::Global;
-use x_explain::{FaultNames, Known, Suggestions, token_end};
+use x_explain::{FaultNames, FirstDeclaration, Known, Suggestions, token_end};
 use x_session::{FaultCode, RuleCode, Session};
 use x_text::NoMemory;
 
@@ -132,7 +132,7 @@ impl<'s> OtherPlaces<'s> {
             Some(names) => names.name(code, start, word),
             None => word,
         };
-        let first = match &self.names {
+        let place = match &self.names {
             Some(names) if says_name(code) => names.first(name),
             _ => None,
         };
@@ -142,7 +142,7 @@ impl<'s> OtherPlaces<'s> {
         };
         Known {
             name,
-            first,
+            first: place.map(|place| FirstDeclaration { file: None, place }),
             suggested,
         }
     }

@@ -7,6 +7,7 @@ use Rattle.x_compile.specs.Compile.{faults_of}
 use Rattle.x_compile.specs.Known.{KnownText}
 use Rattle.x_compile.proofs.Compiled.{one_compilation}
 use Rattle.x_explain.specs.Explained.{AreExplained}
+use Rattle.x_explain.specs.KnownFiles.{no_places}
 use Rattle.x_session.specs.Session.{Compiles}
 use Rattle.x_script.specs.Answers.{Answer, answered, counted_line}
 use Rattle.x_script.specs.Explaining.{IsExplainAnswer, explained_answer, telling_of}
@@ -15,7 +16,7 @@ use Rattle.x_script.specs.Script.{AddsAnswer}
 -- how many faults there are, and what explains them
 pub tells_explained : (known : KnownText) (file text : List ℕ) (count : ℕ) (p q r : Inked) (a b c : Stream) → Compiles known text (λ items. count ≡ length (faults_of text items))
     → Adds p a q b (counted_line (codes "explained") count)
-    → Compiles known text (λ items. (said : List ℕ) × AreExplained (telling_of file text) items said × Adds q b r c said)
+    → Compiles known text (λ items. (said : List ℕ) × AreExplained no_places (telling_of file text) items said × Adds q b r c said)
     → Compiles known text (λ items. (a' : Answer) × IsExplainAnswer file text items a' × AddsAnswer a' text false p a r c)
 tells_explained known file text count p q r a b c many one all =
     let items = all.1 in

@@ -2,6 +2,7 @@
 use Rattle.std.specs.Prelude.{◌≡◌, ℕ, false, List, ◌++◌, length, codes}
 use Rattle.x_compile.specs.Compile.{Item, faults_of}
 use Rattle.x_explain.specs.Explained.{AreExplained, Telling}
+use Rattle.x_explain.specs.KnownFiles.{no_places}
 use Rattle.x_script.specs.Answers.{Answer, answered, counted_line}
 
 -- the faults are told as those of a file's text, without colours
@@ -15,5 +16,5 @@ explained_answer count said = counted_line (codes "explained") count ++ said
 -- The faults of the text are answered so. The command is not refused.
 pub record IsExplainAnswer (file text : List ℕ) (items : List Item) (a : Answer) : Type 0 where
   pub said : List ℕ
-  pub are_explained : AreExplained (telling_of file text) items said
+  pub are_explained : AreExplained no_places (telling_of file text) items said
   pub answer_is : a ≡ answered text (explained_answer (length (faults_of text items)) said)

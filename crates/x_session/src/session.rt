@@ -1,7 +1,7 @@
 //! A text that stays open, with all that compiling it gives.
 
 ghost use Rattle.std.specs.Prelude.{◌≡◌, ◌↔◌, ◌<◌, ◌++◌, length, option_map, slice_get, IfOk};
-ghost use Rattle.std.specs.Prelude.{OnOk, OnErr, IfErr, IsErrOf, map, take};
+ghost use Rattle.std.specs.Prelude.{OnOk, OnErr, IfErr, IsErrOf, is_some, map, take};
 ghost use Rattle.x_text.specs.Edits.{change_of, edited_by, Judges};
 ghost use Rattle.x_text.specs.Limits.{most_text};
 ghost use Rattle.x_lex.specs.Places.{lexeme};
@@ -9,7 +9,7 @@ ghost use Rattle.x_trees.specs.View.{tree_at};
 ghost use Rattle.x_session.specs.Session.{Document, Compiles, edited_by_all, TakesAll, StopsAt};
 ghost use Rattle.x_compile.specs.Compile.{tokens_of, definitions_of, definition_at, faults_of, places_of};
 ghost use Rattle.x_compile.specs.Definitions.{numbered};
-ghost use Rattle.x_compile.specs.Known.{known_definitions, nothing_known};
+ghost use Rattle.x_compile.specs.Known.{known_definitions, known_names, nothing_known};
 ghost use Rattle.x_rules.specs.Results.{meaning_at, result_at};
 ghost use Rattle.x_rules.specs.RustViews.{view_meaning};
 ghost use Rattle.x_session.specs.Typed.{GivesSchema, IsKnownBy};
@@ -256,6 +256,13 @@ impl Session {
     /// What tables of its names hash by.
     pub fn hash_key(&self) -> HashKey {
         self.items.hash_key
+    }
+
+    /// Whether a name is declared by what is known before the text.
+    pub fn is_known(&self, name: &[u8]) -> bool
+        ensures { result ≡ is_some (known_names self.now.known name.now) }
+    {
+        self.known.view(name).is_some()
     }
 
     /// The bytes of the text.

@@ -8,9 +8,12 @@ ghost use Rattle.x_session.specs.Session.{Compiles};
 
 use crate::files::base::base_of_file;
 use crate::files::complaint::tell_unopened;
+use crate::files::known::{KnownSources, open_by};
 use std::alloc::Global;
-use x_args::{Status, tell_of_file};
+use x_args::{BeforeArgs, Status, tell_of_file};
 use x_explain::{FaultFacts, add_explained_faults};
+use x_hash::HashKey;
+use x_prelude::FromC;
 use x_session::{Fault, Faults, Session, add_place};
 use x_text::{NoMemory, Pen, Sink};
 
@@ -25,25 +28,65 @@ pub enum FaultStyle {
     Coloured,
 }
 
+/// How the text of a file is opened: what stands before it, and how its faults are reported.
+#[derive(Clone, Copy)]
+pub struct Opening<'o, 'k> {
+    /// How its faults are reported.
+    pub style: FaultStyle,
+    /// The files whose definitions are known before it.
+    pub known: &'o KnownSources<'k>,
+    /// Which names of C it may use without declaring them.
+    pub from_c: FromC,
+}
+
+impl<'o, 'k> Opening<'o, 'k> {
+    /// How texts are opened by the options of a command line.
+    pub fn of(
+        style: FaultStyle,
+        known: &'o KnownSources<'k>,
+        options: &BeforeArgs,
+    ) -> Opening<'o, 'k>
+        ensures style { result.style ≡ style }
+        ensures known { result.known.now ≡ known.now }
+        ensures from_c { result.from_c
+            ≡ record { types = options.now.c_types; foreign = options.now.foreign } }
+    {
+        Opening {
+            style,
+            known,
+            from_c: FromC {
+                types: options.c_types,
+                foreign: options.foreign,
+            },
+        }
+    }
+}
+
 /// Opens the text of a file for a run of the program, or tells what is wrong with it and answers the status:
-/// `Faulty` where the text has faults, which are written one a line, or explained, and `Failed` where it is
-/// too large or memory runs out.
+/// `Faulty` where the text has faults, which are reported, and `Failed` where it, or what stands before it,
+/// is too large, or memory runs out.
 pub fn open_text<E: Sink>(
     alloc: Global,
     program: &str,
     file: &str,
     bytes: &[u8],
-    style: FaultStyle,
+    how: &Opening,
     err: &mut E,
 ) -> Result<Session, Status>
-    ensures opened { IsOpened style program.now file.now bytes.now
+    ensures opened { IsOpened how.now program.now file.now bytes.now
         (E.state err.old) (E.state err.new) result }
     ensures quiet { OnOk result (err.new ≡ err.old) }
 {
-    match Session::open(alloc, base_of_file(file), bytes) {
+    match open_by(
+        alloc,
+        how,
+        HashKey::of_bytes(bytes),
+        base_of_file(file),
+        bytes,
+    ) {
         Ok(session) => {
             if session.fault_count() > 0 {
-                return Err(report_faults(alloc, program, style, file, &session, err));
+                return Err(report_faults(alloc, program, how, file, &session, err));
             }
             Ok(session)
         }
@@ -58,18 +101,18 @@ pub fn open_text<E: Sink>(
 fn report_faults<E: Sink>(
     alloc: Global,
     program: &str,
-    style: FaultStyle,
+    how: &Opening,
     file: &str,
     session: &Session,
     err: &mut E,
 ) -> Status
     ensures faulty { result ≡ Status.Faulty → Compiles session.now.known session.now.text (λ items.
-        TellsFaults style file.now session.now.text items (E.state err.old) (E.state err.new)) }
+        TellsFaults how.now file.now session.now.text items (E.state err.old) (E.state err.new)) }
     ensures failed { result ≡ Status.Failed
         → IsTold (E.state err.old) (E.state err.new) (told_of program.now (codes "out of memory")) }
     ensures others { (result ≡ Status.Faulty) ⊎ (result ≡ Status.Failed) }
 {
-    match tell_all_faults(alloc, style, file, session, err) {
+    match tell_all_faults(alloc, how, file, session, err) {
         Ok(()) => Status::Faulty,
         Err(NoMemory) => {
             tell_of_file(program, "out of memory", "\n", err);
@@ -81,38 +124,41 @@ fn report_faults<E: Sink>(
 /// Writes the faults of a file's text, explained or one a line.
 fn tell_all_faults<E: Sink>(
     alloc: Global,
-    style: FaultStyle,
+    how: &Opening,
     file: &str,
     session: &Session,
     err: &mut E,
 ) -> Result<(), NoMemory>
     ensures told { OnOk result (Compiles session.now.known session.now.text (λ items.
-        TellsFaults style file.now session.now.text items (E.state err.old) (E.state err.new))) }
+        TellsFaults how.now file.now session.now.text items (E.state err.old) (E.state err.new))) }
     ensures quiet { OnErr result (err.new ≡ err.old) }
 {
-    match style {
+    match how.style {
         FaultStyle::Plain => {
             tell_faults(file, session.faults(), err);
             Ok(())
         }
-        FaultStyle::Explained => explain_faults(alloc, false, file, session, err),
-        FaultStyle::Coloured => explain_faults(alloc, true, file, session, err),
+        FaultStyle::Explained => explain_faults(alloc, how, false, file, session, err),
+        FaultStyle::Coloured => explain_faults(alloc, how, true, file, session, err),
     }
 }
 
 /// Writes the faults of a file's text, explained.
 fn explain_faults<E: Sink>(
     alloc: Global,
+    how: &Opening,
     coloured: bool,
     file: &str,
     session: &Session,
     err: &mut E,
 ) -> Result<(), NoMemory>
     ensures told { OnOk result (Compiles session.now.known session.now.text (λ items.
-        ExplainsFaults coloured file.now session.now.text items (E.state err.old) (E.state err.new))) }
+        ExplainsFaults how.now coloured file.now session.now.text items
+        (E.state err.old) (E.state err.new))) }
     ensures quiet { OnErr result (err.new ≡ err.old) }
 {
-    let facts = FaultFacts::of(alloc, session)?;
+    let places = how.known.places(alloc)?;
+    let facts = FaultFacts::of(alloc, session, places)?;
     let mut pen = Pen::new();
     add_explained_faults(coloured, file, session, &facts, &mut pen, err);
     let _ = pen.finish(err);

@@ -3,12 +3,11 @@
 ghost use Rattle.std.specs.Prelude.{◌≡◌, ◌<◌, codes, length, map};
 ghost use Rattle.rpcx.specs.Checking.{AreChecked, IsChecked};
 ghost use Rattle.rpcx.specs.Generate.{IsFaultless, NotOpened, TellsFaults};
-ghost use Rattle.x_session.specs.Session.{Compiles};
+ghost use Rattle.rpcx.specs.Opening.{CompilesBy};
 ghost use Rattle.x_compile.specs.Compile.{faults_of};
-ghost use Rattle.x_compile.specs.Known.{nothing_known};
 ghost use Rattle.x_text.specs.Limits.{most_text};
 
-use crate::files::opening::FaultStyle;
+use crate::files::opening::Opening;
 use crate::files::reading::read_text;
 use crate::rpcgen::gen_open;
 use std::alloc::Global;
@@ -30,31 +29,32 @@ fn check_text<E: Sink>(
     alloc: Global,
     file: &str,
     bytes: &[u8],
-    style: FaultStyle,
+    how: &Opening,
     err: &mut E,
 ) -> Status
     ensures faulty { result ≡ Status.Faulty
-        → Compiles nothing_known bytes.now
+        → CompilesBy how.now bytes.now
         (λ items. (0 < length (faults_of bytes.now items))
-        × TellsFaults style file.now bytes.now items (E.state err.old) (E.state err.new)) }
+        × TellsFaults how.now file.now bytes.now items (E.state err.old) (E.state err.new)) }
     ensures too_large { most_text < length bytes.now → result ≡ Status.Failed }
-    ensures clean { result ≡ Status.Done → IsFaultless bytes.now }
+    ensures clean { result ≡ Status.Done → IsFaultless how.now bytes.now }
     ensures failed { result ≡ Status.Failed
-        → NotOpened (codes "rpcgen") file.now bytes.now (E.state err.old) (E.state err.new) }
+        → NotOpened how.now (codes "rpcgen") file.now bytes.now (E.state err.old) (E.state err.new) }
     ensures quiet { result ≡ Status.Done → err.new ≡ err.old }
 {
-    match gen_open(alloc, file, bytes, style, err) {
-        Ok(_) => Status::Done,
-        Err(status) => status,
+    match gen_open(alloc, file, bytes, how, err) {
+        Ok(_) => {}
+        Err(status) => return status,
     }
+    Status::Done
 }
 
 /// Reads the text of a file and reports its faults. Where it cannot be read that is told.
-fn check_file<E: Sink>(rt: &HostRuntime, file: &str, style: FaultStyle, err: &mut E) -> Status
-    ensures { IsChecked style file.now (E.state err.old) (E.state err.new) result }
+fn check_file<E: Sink>(rt: &HostRuntime, file: &str, how: &Opening, err: &mut E) -> Status
+    ensures { IsChecked how.now file.now (E.state err.old) (E.state err.new) result }
 {
     match read_text(rt, "rpcgen", file, err) {
-        Ok(bytes) => check_text(rt.alloc(), file, &bytes, style, err),
+        Ok(bytes) => check_text(rt.alloc(), file, &bytes, how, err),
         Err(status) => status,
     }
 }
@@ -65,16 +65,16 @@ fn check_file<E: Sink>(rt: &HostRuntime, file: &str, style: FaultStyle, err: &mu
 pub fn check_run<E: Screen>(
     rt: &HostRuntime,
     args: &CheckArgs<'_>,
-    style: FaultStyle,
+    how: &Opening,
     err: &mut E,
 ) -> Status
-    ensures { AreChecked style (map (λ f. f.now) args.now.files.items)
+    ensures { AreChecked how.now (map (λ f. f.now) args.now.files.items)
         (E.state err.old) (E.state err.new) result }
 {
     let mut status = Status::Done;
     for file in &args.files {
         err.begin_file(file);
-        status = status.worse(check_file(rt, file, style, err));
+        status = status.worse(check_file(rt, file, how, err));
     }
     status
 }

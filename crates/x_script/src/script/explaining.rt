@@ -8,7 +8,7 @@ ghost use Rattle.x_script.specs.Script.{AddsAnswer};
 
 use super::answer::add_counted;
 use std::alloc::Global;
-use x_explain::{FaultFacts, add_explained_faults};
+use x_explain::{FaultFacts, KnownFiles, add_explained_faults};
 use x_session::Session;
 use x_text::{NoMemory, Pen, Sink};
 
@@ -26,7 +26,7 @@ pub(crate) fn answer_explained<S: Sink>(
         × AddsAnswer a session.now.text refused pen.old (S.state sink.old) pen.new (S.state sink.new))) }
     ensures same { OnErr result ((pen.new ≡ pen.old) × (sink.new ≡ sink.old)) }
 {
-    let facts = FaultFacts::of(alloc, session)?;
+    let facts = FaultFacts::of(alloc, session, KnownFiles::none(alloc))?;
     add_counted("explained", session.fault_count(), pen, sink);
     add_explained_faults(false, file, session, &facts, pen, sink);
     Ok(false)

@@ -8,7 +8,7 @@ use Rattle.clap.specs.Walk.{rule_of}
 use Rattle.clap.specs.Words.{App, app_of, built, found_of, has_subcommand, is_buildable, is_broken, is_simple_and_free}
 use Rattle.clap.specs.declared.builder.command.Command.{Command}
 use Rattle.clap.proofs.OnLiterals.{clap_on_literals}
-use Rattle.x_args.specs.Args.{check_app, is_in_words}
+use Rattle.x_args.specs.Args.{check_app, is_in_words, IsBeforeArgs}
 use Rattle.x_args.proofs.Commands.{fails_again, none_fails, rows_are, values_are}
 use Rattle.x_args.proofs.Filled.{has_values, may_lack}
 use Rattle.x_args.proofs.checking_args.check_args.Goals as goal
@@ -62,6 +62,7 @@ returns-clause-reads g c =
     record {
       explains = c.is_given.ensures ∙ ap (is_in_words (codes "explain")) rows;
       plain = c.is_given-2.ensures ∙ ap (is_in_words (codes "plain")) rows;
+      before = subst (λ rows. IsBeforeArgs rows c.in_ok-before_args.field-0) rows c.in_ok-before_args.ensures;
       files = read ∙ values_are found (codes "file") _ rows;
       some = subst (λ n. 0 < n) (length-map c.in_ok-to_vec.field-0.items (λ s. s.now)) some;
     }

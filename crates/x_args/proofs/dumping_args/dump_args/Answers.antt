@@ -2,7 +2,7 @@ use Rattle.std.proofs.Common.{◌≡◌, ◌∙◌, true, refl, ap, sym, map, co
 use Rattle.std.specs.Prelude.{option_map}
 use Rattle.clap.specs.Words.{found_of, is_simple_and_free}
 use Rattle.clap.proofs.OnLiterals.{clap_on_literals}
-use Rattle.x_args.specs.Args.{dump_app, is_in_words}
+use Rattle.x_args.specs.Args.{dump_app, every_of, is_in_words}
 use Rattle.x_args.proofs.Commands.{fails_again, none_fails, rows_are, value_is}
 use Rattle.x_args.proofs.dumping_args.dump_args.Goals as goal
 
@@ -23,6 +23,9 @@ returns-clause-reads g c =
       schema = c.get_str.ensures ∙ value_is found (codes "schema") _ rows;
       bare = c.is_given.ensures ∙ ap (is_in_words (codes "bare")) rows;
       type_name = c.get_str-2.ensures ∙ value_is found (codes "type") _ rows;
+      known = c.in_ok-values.ensures ∙ ap (every_of (codes "known")) rows;
+      c_types = c.is_given-2.ensures ∙ ap (is_in_words (codes "c_types")) rows;
+      not_foreign = refl;
       file = ap (option_map (λ s. s.now)) (sym c.unwrap.ensures) ∙ c.get_str-3.ensures ∙ value_is found (codes "file") _ rows;
     }
 

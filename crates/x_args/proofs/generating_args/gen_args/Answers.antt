@@ -1,8 +1,8 @@
-use Rattle.std.proofs.Common.{◌≡◌, ◌∙◌, true, refl, ap, sym, map, codes}
+use Rattle.std.proofs.Common.{◌≡◌, ◌∙◌, true, refl, ap, sym, subst, map, codes}
 use Rattle.std.specs.Prelude.{option_map}
 use Rattle.clap.specs.Words.{found_of, is_simple_and_free}
 use Rattle.clap.proofs.OnLiterals.{clap_on_literals}
-use Rattle.x_args.specs.Args.{gen_app, is_in_words}
+use Rattle.x_args.specs.Args.{gen_app, is_in_words, IsBeforeArgs}
 use Rattle.x_args.proofs.Commands.{fails_again, none_fails, rows_are, value_is}
 use Rattle.x_args.proofs.generating_args.gen_args.Goals as goal
 
@@ -27,6 +27,7 @@ returns-clause-reads g c =
       output = c.get_str.ensures ∙ value_is found (codes "output") _ rows;
       explains = c.is_given-5.ensures ∙ ap (is_in_words (codes "explain")) rows;
       plain = c.is_given-6.ensures ∙ ap (is_in_words (codes "plain")) rows;
+      before = subst (λ rows. IsBeforeArgs rows c.in_ok-before_args.field-0) rows c.in_ok-before_args.ensures;
       file = ap (option_map (λ s. s.now)) (sym c.unwrap.ensures) ∙ c.get_str-2.ensures ∙ value_is found (codes "file") _ rows;
     }
 

@@ -1,7 +1,10 @@
 use Rattle.std.proofs.Common.{[], sym, subst}
 use Rattle.x_text.specs.Writing.{Inked, Writes}
 use Rattle.x_text.proofs.Pens.{writes_none}
+use Rattle.x_explain.specs.Facts.{before_in}
+use Rattle.x_explain.specs.KnownFiles.{no_places}
 use Rattle.x_args.proofs.Grown.{told}
+use Rattle.rpcx.specs.Opening.{HavePlaces}
 use Rattle.rpcx.proofs.files.opening.explain_faults.Goals as goal
 
 pub returns-clause-told : goal.returns-clause-told
@@ -11,4 +14,8 @@ returns-clause-told g c =
     let all = c.add_explained_faults.ensures in
     let text = all.3.0 in
     let none : Writes start [] c.new-pen.result start = subst (λ (p : Inked). Writes start [] p start) (sym c.new-pen.ensures) (writes_none start) in
-    (all.0, all.1, all.2, (text, all.3.1, told c.finish.result start now text (c.finish.ensures.written start text (all.3.2.goes_on start [] none))))
+    let places = before_in c.in_ok-facts.facts in
+    let have = subst (HavePlaces no_places c.args.how.now.known.now.files.items)
+    (sym c.in_ok-facts.ensures.files) c.in_ok-places.ensures in
+    let told_is = told c.finish.result start now text (c.finish.ensures.written start text (all.3.2.goes_on start [] none)) in
+    (all.0, all.1, all.2, (places, have, text, all.3.1, told_is))

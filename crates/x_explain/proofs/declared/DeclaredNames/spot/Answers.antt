@@ -1,13 +1,22 @@
-use Rattle.std.proofs.Common.{◌∙◌, length}
-use Rattle.x_explain.proofs.DeclaredLemmas.{got, got_list, looked_up, spot_found}
+use Rattle.std.proofs.Common.{◌≡◌, ◌∙◌, ap, length}
+use Rattle.std.specs.Prelude.{option_and_then, slice_get}
+use Rattle.x_explain.specs.KnownFiles.{spot_in}
+use Rattle.x_explain.proofs.DeclaredLemmas.{got, got_list, looked_up, spot_items}
 use Rattle.x_explain.proofs.declared.DeclaredNames.spot.Goals as goal
 
-pub returns : goal.returns
-returns c = λ text items h.
+pub returns-clause-by_table : goal.returns-clause-by_table
+returns-clause-by_table c =
     let d = c.args.declarer.now in
     let words = c.in_ok-words.words.now in
     let at = c.in_ok-words.ensures.lookup in
     let word = c.get-2.ensures.lookup in
-    spot_found text items c.args.self.now d words.items c.copied.result h
-    (got_list (λ v. v.items) c.args.self.now.words.items c.deref.result.now d.item words c.deref.ensures.value at.3.0 at.1)
-    (c.copied.ensures ∙ got c.get-2.result words.items c.deref-2.result.now d.word c.deref-2.ensures.value word.1 (looked_up c.get-2.result (length c.deref-2.result.now) d.word _ word.3))
+    let one = got_list (λ v. v.items) c.args.self.now.words.items c.deref.result.now d.item words
+    c.deref.ensures.value at.3.0 at.1 in
+    let known = looked_up c.get-2.result (length c.deref-2.result.now) d.word _ word.3 in
+    c.copied.ensures
+    ∙ got c.get-2.result words.items c.deref-2.result.now d.word c.deref-2.ensures.value word.1 known
+    ∙ ap (option_and_then (λ w. slice_get w d.word)) one
+
+pub returns-clause-by_items : goal.returns-clause-by_items
+returns-clause-by_items c = λ text items h.
+    returns-clause-by_table c ∙ spot_items text items c.args.self.now c.args.declarer.now h

@@ -21,7 +21,7 @@ returns g c =
     let is_shown = c.excerpt_at-excerpt.ensures ∙ ap (excerpt text at) told.column_is in
     let telling : Telling = record { coloured = colours; file = told.file.now; text = text } in
     let front = headline telling told.found known in
-    let note = note_line colours told.file.now told.line at told.known.first in
+    let note = note_line colours told.file.now told.line at known.first in
     let added = five c.args.pen.now c.add_headline.new.pen c.add_source_line.new.pen c.add_caret_line.new.pen c.add_note_line.new.pen c.add_help.new.pen
     start (g.S.Sink.state c.add_headline.new.sink) (g.S.Sink.state c.add_source_line.new.sink) (g.S.Sink.state c.add_caret_line.new.sink) (g.S.Sink.state c.add_note_line.new.sink) end
     front (source_line told.line shown) (caret_line colours told.line shown width) note (help_line colours told.line help)
@@ -29,4 +29,4 @@ returns g c =
     subst (λ t. Adds c.args.pen.now start c.add_help.new.pen end t)
     (λ i. front ++ source_line (told.line_is i) (is_shown i)
     ++ caret_line colours (told.line_is i) (is_shown i) (c.saturating_sub-width.ensures i)
-    ++ note_line colours told.file.now (told.line_is i) at told.known.first ++ help_line colours (told.line_is i) help) added
+    ++ note_line colours told.file.now (told.line_is i) at known.first ++ help_line colours (told.line_is i) help) added

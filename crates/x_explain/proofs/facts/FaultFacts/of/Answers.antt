@@ -1,8 +1,8 @@
 use Rattle.x_explain.proofs.DeclaredLemmas.{of_each}
 use Rattle.x_explain.proofs.facts.FaultFacts.of.Goals as goal
 
-pub returns : goal.returns
-returns c =
+pub returns-clause-facts : goal.returns-clause-facts
+returns-clause-facts c =
     let names = c.in_ok-names.ensures in
     let near = c.in_ok-suggestions.ensures in (
       names.0,

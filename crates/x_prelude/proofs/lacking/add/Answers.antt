@@ -1,0 +1,33 @@
+use Rattle.std.proofs.Common.{◌+◌, ◌++◌, map, take, sym, subst, ◌∙◌}
+use Rattle.std.specs.List.{filter}
+use Rattle.x_trees.specs.Collected.{view_mention}
+use Rattle.x_trees.specs.Mentions.{Mention}
+use Rattle.x_names.specs.DeclarerTable.{first_in}
+use Rattle.x_compile.specs.Known.{known_names}
+use Rattle.x_prelude.specs.Lacking.{is_lacking}
+use Rattle.x_prelude.specs.LackingTable.{HasFirsts}
+use Rattle.x_prelude.proofs.FirstLemmas.{has_none_passed, has_passed}
+use Rattle.x_prelude.proofs.lacking.add.Goals as goal
+use Rattle.x_prelude.proofs.lacking.add.Goals.{then-is_lacking+in_ok-note, else-is_lacking}
+
+pub loop-mention-preserved : goal.loop-mention-preserved
+loop-mention-preserved c before h =
+    let known = known_names c.args.session.now.known in
+    let first = first_in c.args.names.now in
+    let ms = c.args.mentions.now in
+    let i = c.loop-mention.mention-index in
+    let lack = λ (m : Mention). is_lacking known first m.name in
+    let had = c.loop-mention.invariant before h in
+    elim c.if-is_lacking.branch [
+      | then-is_lacking+in_ok-note w ↦
+          subst (λ t. HasFirsts t.entries (filter lack (before ++ map view_mention (take (i + 1) ms))))
+          (sym w.table-is)
+          (has_passed lack before ms i _ w.note.new.table.entries c.loop-mention-test.true
+          (sym c.is_lacking.ensures ∙ w.if-is_lacking.true)
+          (w.in_ok-note.ensures (filter lack (before ++ map view_mention (take i ms))) had))
+      | else-is_lacking w ↦
+          subst (λ t. HasFirsts t.entries (filter lack (before ++ map view_mention (take (i + 1) ms))))
+          (sym w.table-is)
+          (has_none_passed lack before ms i _ c.loop-mention.table.entries c.loop-mention-test.true
+          (sym c.is_lacking.ensures ∙ w.if-is_lacking.false) had)
+    ]

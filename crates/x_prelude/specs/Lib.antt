@@ -1,0 +1,4 @@
+pub mod CTypes
+pub mod Lacking
+pub mod LackingTable
+pub mod Prelude
