@@ -27,13 +27,10 @@ def lacking(compilation):
     return uses
 
 
-def c_type(use):
-    """The definition of a name as C's type, or None: it is used as a type, without a keyword before it."""
-    if use.needs != "type":
-        return None
-    if use.name == NETOBJ[0]:
-        return NETOBJ[1]
-    return b"typedef %s %s;\n" % (C_TYPES[use.name].encode(), use.name) if use.name in C_TYPES else None
+def c_types(names):
+    """The definitions of the types of C among these names, in the order of the table."""
+    told = [b"typedef %s %s;\n" % (C_TYPES[name].encode(), name) for name in C_TYPES if name in names]
+    return told + [NETOBJ[1]] * (NETOBJ[0] in names)
 
 
 def foreign(use, number):
@@ -50,12 +47,11 @@ def foreign(use, number):
 
 def taken_from_c(compilation, types, foreigners):
     """The text of the definitions that a text lacks, as far as they are taken from C."""
-    told = []
-    for k, use in enumerate(lacking(compilation).values()):
-        line = c_type(use) if types else None
-        if line is None and foreigners:
-            line = foreign(use, FIRST_NUMBER + APART * k)
-        told.append(line or b"")
+    names = lacking(compilation)
+    told = c_types(names) if types else []
+    for k, use in enumerate(names.values()):
+        if foreigners and not (types and (use.name in C_TYPES or use.name == NETOBJ[0])):
+            told.append(foreign(use, FIRST_NUMBER + APART * k))
     return b"".join(told)
 
 
@@ -80,10 +76,14 @@ def told_faults(path, compilation):
         for at in compilation.faults)
 
 
-def known_of(files):
-    """What is known by files of definitions, pairs of name and text: each may use those before it."""
+def known_of(files, types=False, foreigners=False):
+    """What is known by files of definitions, pairs of name and text: each may use those before it, and names of
+    C as a text may."""
     known = rpclang.NOTHING
     for path, text in files:
+        added = taken_from_c(rpclang.Compilation(text, known), types, foreigners)
+        if added:
+            known = rpclang.Compilation(added, known).known_behind(None)
         compilation = rpclang.Compilation(text, known)
         if compilation.faults:
             raise Faulty(path, compilation)

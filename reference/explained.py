@@ -10,7 +10,7 @@ SAYINGS = {
          "words are made of ASCII letters, digits and '_'; comments are written /* .. */"),
     12: ("invalid number '", "'", "write decimal digits, or 0x and hexadecimal, or 0 and octal ones; only decimals can be negative"),
     13: ("unterminated comment", None, "end it with */"),
-    14: ("preprocessor directive", None, "run cpp on it first, and rpcgen on the result"),
+    14: ("preprocessor directive", None, "run cpp first: rpcgen-cpp"),
     15: ("unexpected end of text after '", "'", "close each '{' with '}', and end the definition with ';'"),
     20: ("'", "' is declared already",
          "constants, enumerators, types and programs need different names; so do inline types"),

@@ -8,6 +8,7 @@ import tempfile
 
 sys.dont_write_bytecode = True
 
+import directives
 import rpcedit
 import rpclang
 import work
@@ -394,6 +395,32 @@ def fresh_after_edits():
             same(tuple(counts[place] for counts in (work.counts(text, edit), work.counts(left, back))), wanted)
 
 
+def lines_of_cpp():
+    for text, blanked, conditionals in [
+            (b"", b"", []),
+            (b"a\n#b\nc", b"a\n  \nc", []),
+            (b" \t#b\tc\r\nd", b" \t  \t \r\nd", []),
+            # A marker has its # in front, and a digit behind it.
+            (b"# 12 \"x\"\n#\t1\n #1\n#x1\n", b"# 12 \"x\"\n#\t1\n   \n   \n", []),
+            (b"a #b\n", b"a #b\n", []),
+            # A line feed ends a line, and a carriage return alone does not.
+            (b"a\r#b\r\n#c\rd\n#e\r", b"a\r#b\r\n    \n   ", []),
+            # A backslash at the end goes on, in front of any line; that of a marker does not.
+            (b"#a \\\nb\\\r\n#if\\ \nd\n", b"    \n  \r\n     \nd\n", []),
+            (b"#if x\\\r\n#if\nc", b"      \r\n   \nc", [(0, 6)]),
+            (b"#a\\\r\r\nb\n#1\\\nc\n#d\\", b"    \r\nb\n#1\\\nc\n   ", []),
+            # What ends or begins a comment stays, where it is on one line.
+            (b"#a /* b\nc */ d\n#e */*/ / * ** // /\n", b"   /*  \nc */ d\n   */*/            \n", []),
+            (b"#a *\n/ b\n#*\\\n/\n", b"    \n/ b\n   \n \n", []),
+            # The word is a whole one.
+            (b"  #  ifdef X /* y\n#iffy\n", b"             /*  \n     \n", [(2, 17)]),
+            (b"#ifndef\n#if(1)\n# if\xc3\xa9\r\n#elif x\n#if0\n#if_\n#i\\\nf",
+             b"       \n      \n      \r\n       \n    \n    \n   \n ", [(0, 7), (8, 14), (15, 21)]),
+            (b"#if x\r", b"      ", [(0, 6)]),
+            ]:
+        same((directives.blanked(text), directives.conditionals(text)), (blanked, conditionals))
+
+
 def programs():
     def run(program, *words, lines=""):
         run = subprocess.run([sys.executable, os.path.join(HERE, program), *words], input=lines, capture_output=True,
@@ -425,5 +452,5 @@ def programs():
 
 if __name__ == "__main__":
     for part in (tokens_and_edits, grammar, rules, marked_texts, generated, values, network_file_system,
-                 fresh_after_edits, programs):
+                 fresh_after_edits, lines_of_cpp, programs):
         part()

@@ -151,7 +151,8 @@ def check_size(path, text):
 def compile_schema(path, text, known_paths, takes_c_types):
     """The schema, or None where a text has faults, which are told."""
     try:
-        known = before.known_of((known, check_size(known, read_schema(known))) for known in known_paths)
+        files = ((known, check_size(known, read_schema(known))) for known in known_paths)
+        known = before.known_of(files, takes_c_types)
     except before.Faulty as faulty:
         os.write(2, before.told_faults(*faulty.args))
         return None

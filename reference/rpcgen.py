@@ -44,7 +44,7 @@ class Opening:
         self.from_c = "--c-types" in names, "--foreign" in names
         try:
             paths = [path for name, path in options if name == "--known"]
-            self.known = before.known_of((path, rpcedit.read_whole(path)) for path in paths)
+            self.known = before.known_of(((path, rpcedit.read_whole(path)) for path in paths), *self.from_c)
         except before.Faulty as faulty:
             self.tell(*faulty.args)
 

@@ -1,14 +1,29 @@
+#!/usr/bin/env python3
 """What a language server of `.x` files says to a client's messages: LSP 3.17 read plainly. Each text is kept as
-characters, and is compiled anew by rpclang.py.
+characters, and is compiled anew by rpclang.py, with blanks in place of the lines of cpp and with what comes
+before it.
 
 Of what is told to the user, and of errors, the kind and the number stand alone here, without a sentence.
+
+As a program, `rpcls.py [--known FILE].. [--c-types] [--foreign] [--fault-directives]` serves a client that
+makes no mistakes and asks for nothing else.
 """
 import bisect
 import functools
+import getopt
+import json
+import os
 import re
+import sys
 
+sys.dont_write_bytecode = True
+
+import before
+import directives
 import explained
+import rpcedit
 import rpclang
+import texts
 
 LINE_END = re.compile("\r\n|\r|\n")
 INNER = bytes(range(0x80, 0xc0))
@@ -16,6 +31,8 @@ INNER = bytes(range(0x80, 0xc0))
 WIDTHS = {"utf-8": lambda character: len(character.encode()), "utf-16": lambda character: 1 + (character > "\uffff")}
 GREATEST_TEXT = 16_777_216
 INVALID_PARAMS = -32602
+CAPABILITIES = {"textDocumentSync": {"openClose": True, "change": 2}}
+UNREAD = "14 Directive: not read: both branches of #if are"
 
 
 class Text:
@@ -72,10 +89,43 @@ def changed(text, change, encoding):
     return text[:start] + change["text"] + text[end:]
 
 
+# ---------------------------------------------------------------- how a text is compiled
+
+class Setting:
+    """What is known before a text, whether C's types and other names are left to C, and whether lines of cpp
+    are blanked."""
+
+    def __init__(self, known=rpclang.NOTHING, types=False, foreigners=False, blanks=True):
+        # A server keeps no places of known files.
+        self.known = known._replace(places={})
+        self.types, self.foreigners, self.blanks = types, foreigners, blanks
+
+    def chosen(self, options):
+        """What a client's `initializationOptions` make of it."""
+        if not isinstance(options, dict):
+            return self
+        types, foreigners = options.get("cTypes"), options.get("foreign")
+        way = options.get("directives")
+        return Setting(
+            self.known,
+            types if isinstance(types, bool) else self.types,
+            foreigners if isinstance(foreigners, bool) else self.foreigners,
+            way == "blank" if way in ("blank", "fault") else self.blanks)
+
+    @functools.lru_cache(rpclang.KEPT_TEXTS)
+    def compiled(self, text):
+        """The compilation of a text: each place in it is one of the text. What `#define` gives as a number is a
+        constant that stands before it."""
+        known = self.known
+        if self.blanks:
+            constants = b"".join(b"const %s = %s;\n" % pair for pair in directives.defined(text))
+            if constants:
+                known = rpclang.Compilation(constants, known).known_behind(None)
+            text = directives.blanked(text)
+        return before.compiled(text, known, self.types, self.foreigners)
+
+
 # ---------------------------------------------------------------- faults and names
-
-compiled = functools.lru_cache(rpclang.KEPT_TEXTS)(rpclang.Compilation)
-
 
 def sentence(compilation, fault):
     """What is wrong at a token. One that is no UTF-8 is a byte that begins no word."""
@@ -98,9 +148,18 @@ def diagnostic(lines, compilation, fault):
     return {"code": fault.code, "message": said, "severity": 1, "source": "rpcgen", "range": lines.range(token)}
 
 
-def diagnostics(lines):
-    compilation = compiled(lines.bytes)
-    return [diagnostic(lines, compilation, fault) for fault in compilation.faults]
+def hint(lines, start, end):
+    """What is told of a condition of cpp whose line is blanked."""
+    return {"code": 14, "message": UNREAD, "severity": 4, "source": "rpcgen",
+            "range": {"start": lines.place(start), "end": lines.place(end)}}
+
+
+def diagnostics(lines, setting):
+    compilation = setting.compiled(lines.bytes)
+    told = [diagnostic(lines, compilation, fault) for fault in compilation.faults]
+    if setting.blanks:
+        told += [hint(lines, *places) for places in directives.conditionals(lines.bytes)]
+    return told
 
 
 def names_of(compilation):
@@ -128,8 +187,16 @@ def standing(compilation, name, declared):
 
 
 def definition(compilation, name):
-    first = compilation.first.get(name)
+    first = compilation.own.get(name)
     return None if first is None or first.item < 0 else compilation.items[first.item][first.place]
+
+
+def written(compilation, uri, which):
+    """A generated text, or the faults, one a line."""
+    if which == "faults":
+        return "".join(f"{fault.line}:{fault.column} {fault.code} {rpclang.CODE_NAMES[fault.code]}\n"
+                       for fault in compilation.faults)
+    return texts.text_of(which, rpcedit.base_of(uri.encode()), compilation).decode()
 
 
 # ---------------------------------------------------------------- the server
@@ -152,15 +219,15 @@ SHOWN = note("window/showMessage", {"type": 1, "message": ""})
 class Server:
     """Says what is said to one message after another."""
 
-    def __init__(self, encoding):
-        self.encoding = encoding
+    def __init__(self, encoding, setting=Setting()):
+        self.encoding, self.setting = encoding, setting
         self.documents = {}
 
     def reply(self, message):
         """What is said to a message behind `initialize`; None where nothing is."""
         method, params = message["method"], message.get("params")
         kind, _, name = method.partition("/")
-        if kind != "textDocument":
+        if kind not in ("textDocument", "rpcgen"):
             return None
         uri = params["textDocument"]["uri"]
         if "id" in message:
@@ -170,7 +237,7 @@ class Server:
     def published(self, document):
         return note("textDocument/publishDiagnostics", {
             "uri": document.uri, "version": document.version,
-            "diagnostics": diagnostics(Text(document.text, self.encoding))})
+            "diagnostics": diagnostics(Text(document.text, self.encoding), self.setting)})
 
     def open(self, uri, params):
         document = params["textDocument"]
@@ -205,13 +272,15 @@ class Server:
     def answer(self, number, name, uri, params):
         said = {"jsonrpc": "2.0", "id": number}
         document = self.documents.get(uri)
-        if document is None:
+        if document is None or name == "text" and params["which"] not in ["faults", *texts.KINDS]:
             return said | {"error": {"code": INVALID_PARAMS, "message": ""}}
         lines = Text(document.text, self.encoding)
         return said | {"result": self.found(lines, name, uri, params)}
 
     def found(self, lines, name, uri, params):
-        compilation = compiled(lines.bytes)
+        compilation = self.setting.compiled(lines.bytes)
+        if name == "text":
+            return written(compilation, uri, params["which"])
         sought = name_at(compilation, lines.byte(params["position"]))
         if name == "definition":
             token = definition(compilation, sought)
@@ -230,3 +299,65 @@ def without_sentences(said):
     if said.get("method") == "window/showMessage":
         params["message"] = ""
     return said
+
+
+# ---------------------------------------------------------------- the program
+
+def messages_from(file):
+    """The messages of a stream, each once it is there."""
+    while head := file.readline():
+        length = int(head.removeprefix(b"Content-Length: "))
+        file.readline()
+        yield json.loads(file.read(length))
+
+
+def begun(setting, params):
+    """The server that `initialize` with these parameters begins."""
+    offered = params["capabilities"].get("general", {}).get("positionEncodings", [])
+    encoding = "utf-8" if "utf-8" in offered else "utf-16"
+    return Server(encoding, setting.chosen(params.get("initializationOptions")))
+
+
+def answers(setting, messages):
+    """All that is said to a client that begins with `initialize` and ends with `exit`."""
+    server = None
+    for message in messages:
+        said = {"jsonrpc": "2.0", "id": message.get("id"), "result": None}
+        if message["method"] == "initialize":
+            server = begun(setting, message["params"])
+            yield said | {"result": {"capabilities": CAPABILITIES | {"positionEncoding": server.encoding}}}
+        elif message["method"] == "shutdown":
+            yield said
+        elif message["method"] == "exit":
+            return
+        elif reply := server.reply(message):
+            yield reply
+
+
+def setting_of(words):
+    """The setting that the words of a command line ask for."""
+    options, _ = getopt.getopt(words, "", ["known=", "c-types", "foreign", "fault-directives"])
+    names = [name for name, value in options]
+    from_c = "--c-types" in names, "--foreign" in names
+    files = ((path, rpcedit.read_whole(path)) for name, path in options if name == "--known")
+    return Setting(before.known_of(files, *from_c), *from_c, "--fault-directives" not in names)
+
+
+def main(words):
+    try:
+        setting = setting_of(words)
+    except before.Faulty as faulty:
+        os.write(2, before.told_faults(*faulty.args))
+        return 1
+    except rpcedit.Stop as reason:
+        sys.stderr.write(f"rpcls: {reason.args[1]}\n")
+        return 2
+    for said in answers(setting, messages_from(sys.stdin.buffer)):
+        body = json.dumps(said, ensure_ascii=False, sort_keys=True, separators=(",", ":")).encode()
+        sys.stdout.buffer.write(b"Content-Length: %d\r\n\r\n%s" % (len(body), body))
+        sys.stdout.buffer.flush()
+    return 0
+
+
+if __name__ == "__main__":
+    sys.exit(main(sys.argv[1:]))

@@ -213,8 +213,20 @@ bodies() { tr -d '\r' | sed -e 's/Content-Length: [0-9]*$//' -e '/^$/d' | sed '$
 
 # serve TEXT..: what rpcls says to these messages, one a line; with its status where that is not 0.
 serve() {
-    framed "$@" | rpcls | bodies
+    framed "$@" | rpcls ${server_options-} | bodies
     return "${PIPESTATUS[1]}"
+}
+
+# under OPTIONS COMMAND..: of an rpcls with these options.
+under() {
+    local server_options=$1
+    "${@:2}"
+}
+
+# wishing OPTIONS COMMAND..: of a client whose initializationOptions are these.
+wishing() {
+    local client_options=$1
+    "${@:2}"
 }
 
 # conversation TEXT..: the same, of a client that begins as the protocol wants it, with UTF-8, and ends so; without what is said to
@@ -225,7 +237,9 @@ conversation() { spoken '["utf-8"]' "$@"; }
 conversation16() { spoken '[]' "$@"; }
 
 spoken() {
-    serve '{"jsonrpc":"2.0","id":"first","method":"initialize","params":{"capabilities":{"general":{"positionEncodings":'"$1"'}}}}' \
+    local more=
+    if [ -n "${client_options-}" ]; then more=',"initializationOptions":'$client_options; fi
+    serve '{"jsonrpc":"2.0","id":"first","method":"initialize","params":{"capabilities":{"general":{"positionEncodings":'"$1"'}}'"$more"'}}' \
         '{"jsonrpc":"2.0","method":"initialized","params":{}}' "${@:2}" \
         '{"jsonrpc":"2.0","id":"last","method":"shutdown"}' '{"jsonrpc":"2.0","method":"exit"}' |
         grep -v '"id":"\(first\|last\)"'
@@ -255,6 +269,22 @@ closes() {
 # in_range LINE CHARACTER LINE CHARACTER TEXT: a change of a range.
 in_range() {
     printf '{"range":{"start":{"line":%s,"character":%s},"end":{"line":%s,"character":%s}},"text":"%s"}' "$@"
+}
+
+# diagnosed: what is published, as it comes: the version, and under it each fault or hint with its place.
+diagnosed() {
+    grep publishDiagnostics | python3 -c '
+import json, sys
+
+def place(position):
+    return "%d:%d" % (position["line"], position["character"])
+
+for line in sys.stdin:
+    params = json.loads(line)["params"]
+    print("version", params["version"])
+    for told in params["diagnostics"]:
+        kind = {1: "error", 4: "hint"}[told["severity"]]
+        print(" ", kind, place(told["range"]["start"]) + "-" + place(told["range"]["end"]), told["message"])'
 }
 
 # asks ID METHOD LINE CHARACTER [MORE]: a question about the document t.x; MORE stands behind its other parameters.

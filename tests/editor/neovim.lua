@@ -1,4 +1,4 @@
--- What Neovim has of rpcls: opens t.x, types, asks, and prints what it has then.
+-- What Neovim has of rpcls: opens t.x, types, asks, and prints what it has then; and what it has of cpp.x.
 
 -- Before version 0.8 it is two calls.
 vim.lsp.start = vim.lsp.start or function(config)
@@ -7,15 +7,20 @@ end
 
 local function say(...) io.stdout:write(string.format(...), '\n') end
 
--- What is wrong in the buffer, once so many faults are told. Lines and columns are counted from 1, columns in bytes.
-local function faults(wanted)
-  vim.wait(5000, function() return #vim.diagnostic.get(0) == wanted end, 10)
-  local told = vim.diagnostic.get(0)
-  say('%d faults', #told)
-  for _, it in ipairs(told) do
+-- What is told of the buffer, once it is so much of this severity. Lines and columns are counted from 1,
+-- columns in bytes.
+local function tells(what, severity, wanted)
+  local function told() return vim.diagnostic.get(0, { severity = severity }) end
+  vim.wait(5000, function() return #told() == wanted end, 10)
+  say('%d %s', #told(), what)
+  for _, it in ipairs(told()) do
     say('  %d:%d-%d:%d %s', it.lnum + 1, it.col + 1, it.end_lnum + 1, it.end_col + 1, it.message)
   end
 end
+
+local function faults(wanted) tells('faults', vim.diagnostic.severity.ERROR, wanted) end
+
+local function hints(wanted) tells('hints', vim.diagnostic.severity.HINT, wanted) end
 
 -- Carries keys out, and prints the line then.
 local function type_keys(keys)
@@ -75,6 +80,14 @@ leads(3, 18, 'definition', vim.lsp.buf.definition)
 leads(1, 21, 'references', vim.lsp.buf.references)
 lists('symbols', vim.lsp.buf.document_symbol)
 renames(3, 22, 'point')
+faults(0)
+vim.cmd('edit! cpp.x')
+hints(1)
+faults(0)
+type_keys('5GI#')
+faults(1)
+hints(1)
+type_keys('5G0x')
 faults(0)
 vim.lsp.stop_client(vim.lsp.get_active_clients())
 local ended = vim.wait(5000, function() return #vim.lsp.get_active_clients() == 0 end, 10)

@@ -24,7 +24,7 @@ fn run(rt: &HostRuntime) -> Result<Status, Status> {
         return Err(Status::Failed);
     };
     let style = usual_style(rt);
-    let known = KnownSources::read(rt, "rpcdump", &args.before.known, style, &mut err)?;
+    let known = KnownSources::read(rt, "rpcdump", &args.before, style, &mut err)?;
     let how = Opening::of(style, &known, &args.before);
     let schema = match args.schema {
         Some(file) => Some(read_text(rt, "rpcdump", file, &mut err)?),

@@ -20,7 +20,7 @@ fn run(rt: &HostRuntime) -> Result<Status, Status> {
         }
     };
     let style = usual_style(rt);
-    let known = KnownSources::read(rt, "rpcedit", &args.before.known, style, &mut err)?;
+    let known = KnownSources::read(rt, "rpcedit", &args.before, style, &mut err)?;
     let how = Opening::of(style, &known, &args.before);
     let bytes = read_text(rt, "rpcedit", args.file, &mut err)?;
     let hash_key = draw_key(rt, "rpcedit", &mut err)?;

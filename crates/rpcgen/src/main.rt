@@ -56,7 +56,7 @@ fn check(rt: &HostRuntime, words: &[String], err: Out<Stderr>) -> Result<Status,
         }
     };
     let style = style(rt, args.explains, args.plain);
-    let known = KnownSources::read(rt, "rpcgen", &args.before.known, style, &mut err)?;
+    let known = KnownSources::read(rt, "rpcgen", &args.before, style, &mut err)?;
     let how = Opening::of(style, &known, &args.before);
     let mut screen = Progress::new(rt, args.files.len(), err);
     let status = check_run(rt, &args, &how, &mut screen);
@@ -78,7 +78,7 @@ fn generate(rt: &HostRuntime, words: &[String], err: Out<Stderr>) -> Result<Stat
         return Err(Status::Failed);
     };
     let style = style(rt, args.explains, args.plain);
-    let known = KnownSources::read(rt, "rpcgen", &args.before.known, style, &mut err)?;
+    let known = KnownSources::read(rt, "rpcgen", &args.before, style, &mut err)?;
     let how = Opening::of(style, &known, &args.before);
     let bytes = read_text(rt, "rpcgen", args.file, &mut err)?;
     let alloc = rt.alloc();

@@ -1,23 +1,44 @@
 //! `rpcls`: serves an editor that has `.x` files open.
 #![tactic(auto)]
 
+use rpcx::{KnownSources, usual_style};
 use std::process::ExitCode;
 use x_args::{RPCLS, Status, answer_words, draw_key, read_words, serve_args};
-use x_lsp::serve_run;
+use x_lsp::{Setting, serve_run};
+use x_prelude::FromC;
 use x_text::{In, Out};
 
 /// Carries out the command line. Where that stops early, it answers the status as an error.
 fn run(rt: &HostRuntime) -> Result<Status, Status> {
     let mut err = Out::new(rt.stderr());
     let words = read_words(rt, "rpcls", &mut err)?;
-    if let Err(error) = serve_args(rt.alloc(), words.as_slice()) {
-        let mut out = Out::new(rt.stdout());
-        return Err(answer_words(rt.alloc(), &RPCLS, &error, &mut out, &mut err));
-    }
+    let args = match serve_args(rt.alloc(), words.as_slice()) {
+        Ok(args) => args,
+        Err(error) => {
+            let mut out = Out::new(rt.stdout());
+            return Err(answer_words(rt.alloc(), &RPCLS, &error, &mut out, &mut err));
+        }
+    };
+    let known = KnownSources::read(rt, "rpcls", &args.before, usual_style(rt), &mut err)?;
+    let setting = Setting {
+        files: known.text(),
+        from_c: FromC {
+            types: args.before.c_types,
+            foreign: args.before.foreign,
+        },
+        blanks: !args.faults_directives,
+    };
     let hash_key = draw_key(rt, "rpcls", &mut err)?;
     let mut input = In::new(rt.stdin());
     let mut out = Out::new(rt.stdout());
-    Ok(serve_run(rt.alloc(), hash_key, &mut input, &mut out, &mut err))
+    Ok(serve_run(
+        rt.alloc(),
+        hash_key,
+        setting,
+        &mut input,
+        &mut out,
+        &mut err,
+    ))
 }
 
 fn main(rt: HostRuntime) -> ExitCode {

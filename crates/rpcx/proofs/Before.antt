@@ -7,10 +7,10 @@ use Rattle.x_text.specs.Limits.{most_text}
 use Rattle.x_text.specs.declared.text.fault.TextFault.{TextFault}
 use Rattle.x_text.specs.declared.text.fault.TextFault.TheVariants as faults
 use Rattle.x_compile.specs.Compile.{faults_of}
-use Rattle.x_compile.specs.Known.{KnownText}
 use Rattle.x_session.specs.Session.{Compiles, Document}
 use Rattle.x_session.specs.declared.session.Session.{Session}
-use Rattle.x_prelude.specs.Prelude.{prelude}
+use Rattle.x_prelude.specs.Before.{IsBefore, IsPrelude}
+use Rattle.x_prelude.specs.declared.definition.FromC.{FromC}
 use Rattle.x_args.specs.Telling.{IsTold, told_of}
 use Rattle.x_args.specs.declared.status.Status.{Status}
 use Rattle.x_args.specs.declared.status.Status.TheVariants.{Done, Faulty, Failed}
@@ -20,8 +20,7 @@ use Rattle.rpcx.specs.declared.files.known.KnownSources.{KnownSources}
 use Rattle.rpcx.specs.declared.files.opening.FaultStyle.{FaultStyle}
 use Rattle.rpcx.specs.declared.files.opening.Opening.{Opening}
 use Rattle.rpcx.specs.Generate.{IsOpened, IsOpenedAfter, NotKnown, faulty, no_room, unopened, unread}
-use Rattle.rpcx.specs.Opening.{AreRead, HavePlaces, IsBefore, IsCrowded, IsKnownOf, IsOpenBy, IsOpenOver}
-use Rattle.rpcx.specs.Opening.{StandsBefore, StandsBeforeBy, by_files, by_names, takes_from_c}
+use Rattle.rpcx.specs.Opening.{AreRead, HavePlaces}
 
 -- the places of the files so far, and of one more
 pub places_more : (before new : KnownPlaces) (f : KnownSource) (fs : List KnownSource) (places : KnownPlaces)
@@ -35,90 +34,31 @@ places_more before new f fs places added rest = (
 )
 
 -- a file that was read, before others
-pub read_more : (front : List ℕ) (n : List ℕ) (ns : List (List ℕ)) (f : KnownSource) (fs : List KnownSource)
-    (bytes text new : List ℕ) → f.name.now ≡ n → IsKnownOf front f.session.known
+pub read_more : (from : FromC) (front : List ℕ) (n : List ℕ) (ns : List (List ℕ)) (f : KnownSource)
+    (fs : List KnownSource) (bytes text new lacking : List ℕ) → f.name.now ≡ n
+    → IsBefore front from f.session.text f.session.known
     → Compiles f.session.known f.session.text (λ items. faults_of f.session.text items ≡ [])
-    → f.session.text ≡ bytes → new ≡ front ++ bytes ++ codes "\n"
-    → AreRead new ns fs text → AreRead front (n ∷ ns) (f ∷ fs) text
-read_more front n ns f fs bytes text new name known clean is made rest = (
+    → f.session.text ≡ bytes → IsPrelude front from bytes lacking
+    → new ≡ front ++ lacking ++ bytes ++ codes "\n"
+    → AreRead from new ns fs text → AreRead from front (n ∷ ns) (f ∷ fs) text
+read_more from front n ns f fs bytes text new lacking name known clean is lacks made rest = (
   name,
   known,
   clean,
-  subst (λ at. AreRead at ns fs text) (made ∙ ap (λ t. front ++ t ++ codes "\n") (sym is)) rest,
+  lacking,
+  subst (λ t. IsPrelude front from t lacking) (sym is) lacks,
+  subst (λ at. AreRead from at ns fs text) (made ∙ ap (λ t. front ++ lacking ++ t ++ codes "\n") (sym is)) rest,
 )
 
--- what stands before a text that takes nothing from C
-pub known_alone : (how : Opening) (text : List ℕ) (known : KnownText) → takes_from_c how.from_c ≡ false
-    → IsBefore how text known → IsKnownOf how.known.now.text.items known
-known_alone how text known none h =
-    let stands = subst (λ b. StandsBeforeBy b how text h.0) none h.1 in
-    subst (λ t. IsKnownOf t known) stands h.2
-
--- with what a text takes from C
-pub stands_with : (how : Opening) (text more : List ℕ) (session : Session) → takes_from_c how.from_c ≡ true
-    → IsKnownOf how.known.now.text.items session.known → session.text ≡ text
-    → Compiles session.known session.text (λ items. more ≡ prelude how.from_c session.known items)
-    → StandsBefore how text (how.known.now.text.items ++ more)
-stands_with how text more session takes known is lacking =
-    let here = subst (λ t. Compiles session.known t (λ items. more ≡ prelude how.from_c session.known items)) is lacking in
-    let front = how.known.now.text.items in
-    subst (λ b. StandsBeforeBy b how text (front ++ more)) (sym takes)
-    (session.known, known, (here.0, here.1, here.2, ap (λ t. front ++ t) here.3))
-
--- a session over the known files alone, of a text that takes nothing more
-pub opened_so : (how : Opening) (base text more : List ℕ) (session : Session) → takes_from_c how.from_c ≡ true
-    → more ≡ [] → IsOpenOver how.known.now.text.items base text (Ok session) → (most_text < length text → ⊥)
-    → Compiles session.known session.text (λ items. more ≡ prelude how.from_c session.known items)
-    → IsOpenBy how base text (Ok session)
-opened_so how base text more session takes none over few lacking =
-    let front = how.known.now.text.items in
-    let stands = stands_with how text more session takes over.known_is over.text_is lacking in
-    let known = subst (λ t. IsKnownOf t session.known)
-    (sym (ap (λ t. front ++ t) none ∙ append-nil front)) over.known_is in
-    record {
-      base_is = over.base_is;
-      text_is = over.text_is;
-      known_is = (front ++ more, stands, known);
-      too_large = λ long. absurd (few long);
-      large = λ e. absurd (not_large e);
-      in_range = over.in_range;
-    }
-  where
-    not_large : IsErrOf {E = TextFault} (Ok session) faults.TooLarge → ⊥
-    not_large e = cc
-
--- a session over the known files and the names of C
-pub opened_over_both : (how : Opening) (base text more : List ℕ) (session : Session) (r : Result Session TextFault)
-    → takes_from_c how.from_c ≡ true → IsKnownOf how.known.now.text.items session.known → session.text ≡ text
-    → (most_text < length text → ⊥)
-    → Compiles session.known session.text (λ items. more ≡ prelude how.from_c session.known items)
-    → IsOpenOver (how.known.now.text.items ++ more) base text r → IsOpenBy how base text r
-opened_over_both how base text more session r takes known is few lacking over =
-    let before = how.known.now.text.items ++ more in
-    let stands = stands_with how text more session takes known is lacking in
-    record {
-      base_is = over.base_is;
-      text_is = over.text_is;
-      known_is = by r over.known_is stands;
-      too_large = λ long. absurd (few long);
-      large = λ e. elim (over.large e) [ inl long ↦ inl long | inr long ↦ inr (by_names before stands long) ];
-      in_range = over.in_range;
-    }
-  where
-    by : (r : Result Session TextFault) → IfOk r (λ s. IsKnownOf (how.known.now.text.items ++ more) s.known)
-        → StandsBefore how text (how.known.now.text.items ++ more) → IfOk r (λ s. IsBefore how text s.known)
-    by (Ok s) h stands = (how.known.now.text.items ++ more, stands, h)
-    by (Err e) h stands = tt
-
 -- a file that is not opened, by its status, where nothing was told before
-pub not_known : {E : Type 0} (style : FaultStyle) (known : KnownSources) (program file text : List ℕ)
-    (state : E → Stream) (old new : E) (after : Stream) (status : Status) → new ≡ old
-    → IsOpenedAfter style known program file text (state new) after (Err status)
+pub not_known : {E : Type 0} (style : FaultStyle) (known : KnownSources) (from : FromC)
+    (program file text : List ℕ) (state : E → Stream) (old new : E) (after : Stream) (status : Status)
+    → new ≡ old → IsOpenedAfter style known from program file text (state new) after (Err status)
     → NotKnown style program (state old) after status
-not_known {E} style known program file text state old new after status quiet h =
+not_known {E} style known from program file text state old new after status quiet h =
     subst (λ e. NotKnown style program (state e) after status) quiet (by status h)
   where
-    by : (s : Status) → IsOpenedAfter style known program file text (state new) after (Err s)
+    by : (s : Status) → IsOpenedAfter style known from program file text (state new) after (Err s)
         → NotKnown style program (state new) after s
     by Done h = absurd (elim h.2.others [ inl e ↦ absurd (cc) | inr e ↦ absurd (cc) ])
     by Faulty h = faulty h.0 file text h.1.style_is (h.2.faulty refl)
@@ -135,17 +75,20 @@ not_read {E} style program file state old new after status quiet failed told =
     subst (λ e. NotKnown style program (state e) after status) quiet
     (subst (NotKnown style program (state new) after) (sym failed) at_new)
 
--- what is known by a text that was opened over files alone, and that it has no fault
-pub opened_parts : (style : FaultStyle) (known : KnownSources) (program file text : List ℕ) (before after : Stream)
-    (session : Session) → IsOpenedAfter style known program file text before after (Ok session)
-    → IsKnownOf known.text.items session.known
+-- what is known by a text that was opened behind files, and that it has no fault
+pub opened_parts : (style : FaultStyle) (known : KnownSources) (from : FromC) (program file text : List ℕ)
+    (before after : Stream) (session : Session)
+    → IsOpenedAfter style known from program file text before after (Ok session)
+    → IsBefore known.text.items from session.text session.known
     × Compiles session.known session.text (λ items. faults_of session.text items ≡ []) × (session.text ≡ text)
-opened_parts style known program file text before after session h = (
-  subst (λ (k : KnownSources). IsKnownOf k.text.items session.known) h.1.known_is
-      (known_alone h.0 text session.known h.1.takes_none h.2.known),
-  h.2.faultless,
-  h.2.text,
-)
+opened_parts style known from program file text before after session h =
+    let opened = h.2 in (
+      subst (λ t. IsBefore known.text.items from t session.known) (sym opened.text)
+          (subst (λ (k : KnownSources). IsBefore k.text.items from text session.known) h.1.known_is
+          (subst (λ f. IsBefore h.0.known.now.text.items f text session.known) h.1.from_is opened.known)),
+      opened.faultless,
+      opened.text,
+    )
 
 -- the places of all files
 pub places_all : (places : KnownPlaces) (fs : List KnownSource) (i : ℕ) → length fs ≤ i
@@ -158,31 +101,38 @@ on_ok (Ok x) is h = h
 on_ok (Err e) is h = absurd (true≢false is)
 
 -- a file more was read
-pub reads_more : (names : List (Bor (List ℕ))) (i : ℕ) (d : Bor (List ℕ)) (old new : KnownSources)
+pub reads_more : (from : FromC) (names : List (Bor (List ℕ))) (i : ℕ) (d : Bor (List ℕ)) (old new : KnownSources)
     (f : KnownSource) (bytes : List ℕ) → i < length names
-    → ((files : List KnownSource) (text : List ℕ) → AreRead old.text.items (map (λ n. n.now) (drop i names)) files text
-    → AreRead [] (map (λ n. n.now) names) (old.files.items ++ files) text)
-    → f.name ≡ get_or names i d → IsKnownOf old.text.items f.session.known
+    → ((files : List KnownSource) (text : List ℕ)
+    → AreRead from old.text.items (map (λ n. n.now) (drop i names)) files text
+    → AreRead from [] (map (λ n. n.now) names) (old.files.items ++ files) text)
+    → f.name ≡ get_or names i d → IsBefore old.text.items from f.session.text f.session.known
     → Compiles f.session.known f.session.text (λ items. faults_of f.session.text items ≡ [])
     → f.session.text ≡ bytes → new.files.items ≡ old.files.items ++ f ∷ []
-    → new.text.items ≡ old.text.items ++ bytes ++ codes "\n"
-    → (files : List KnownSource) (text : List ℕ) → AreRead new.text.items (map (λ n. n.now) (drop (i + 1) names)) files text
-    → AreRead [] (map (λ n. n.now) names) (new.files.items ++ files) text
-reads_more names i d old new f bytes there so named known clean text_is files_are made files text h =
+    → ((lacking : List ℕ) × IsPrelude old.text.items from bytes lacking
+    × (new.text.items ≡ old.text.items ++ lacking ++ bytes ++ codes "\n"))
+    → (files : List KnownSource) (text : List ℕ)
+    → AreRead from new.text.items (map (λ n. n.now) (drop (i + 1) names)) files text
+    → AreRead from [] (map (λ n. n.now) names) (new.files.items ++ files) text
+reads_more from names i d old new f bytes there so named known clean text_is files_are made files text h =
     let name = get_or names i d in
     let rest = map (λ n. n.now) (drop (i + 1) names) in
-    let one = read_more old.text.items name.now rest f files bytes text new.text.items (ap (λ n. n.now) named) known clean text_is made h in
+    let one = read_more from old.text.items name.now rest f files bytes text new.text.items made.0
+    (ap (λ n. n.now) named) known clean text_is made.1 made.2 h in
     let left = drop_more names i d there in
-    let all = so (f ∷ files) text (subst (λ ns. AreRead old.text.items (map (λ n. n.now) ns) (f ∷ files) text) (sym left) one) in
-    subst (λ fs. AreRead [] (map (λ n. n.now) names) fs text)
+    let all = so (f ∷ files) text
+    (subst (λ ns. AreRead from old.text.items (map (λ n. n.now) ns) (f ∷ files) text) (sym left) one) in
+    subst (λ fs. AreRead from [] (map (λ n. n.now) names) fs text)
     (sym (append_assoc old.files.items (f ∷ []) files) ∙ ap (λ fs. fs ++ files) (sym files_are)) all
 
 -- all are read
-pub reads_all : (names : List (Bor (List ℕ))) (i : ℕ) (known : KnownSources) → length names ≤ i
-    → ((files : List KnownSource) (text : List ℕ) → AreRead known.text.items (map (λ n. n.now) (drop i names)) files text
-    → AreRead [] (map (λ n. n.now) names) (known.files.items ++ files) text)
-    → AreRead [] (map (λ n. n.now) names) known.files.items known.text.items
-reads_all names i known past so =
+pub reads_all : (from : FromC) (names : List (Bor (List ℕ))) (i : ℕ) (known : KnownSources) → length names ≤ i
+    → ((files : List KnownSource) (text : List ℕ)
+    → AreRead from known.text.items (map (λ n. n.now) (drop i names)) files text
+    → AreRead from [] (map (λ n. n.now) names) (known.files.items ++ files) text)
+    → AreRead from [] (map (λ n. n.now) names) known.files.items known.text.items
+reads_all from names i known past so =
     let text = known.text.items in
-    let none = subst (λ rest. AreRead text (map (λ n. n.now) rest) [] text) (sym (at_drop_all (λ rest. rest) names i past)) refl in
-    subst (λ fs. AreRead [] (map (λ n. n.now) names) fs text) (append-nil known.files.items) (so [] text none)
+    let none = subst (λ rest. AreRead from text (map (λ n. n.now) rest) [] text)
+    (sym (at_drop_all (λ rest. rest) names i past)) refl in
+    subst (λ fs. AreRead from [] (map (λ n. n.now) names) fs text) (append-nil known.files.items) (so [] text none)

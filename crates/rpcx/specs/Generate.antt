@@ -22,6 +22,7 @@ use Rattle.x_args.specs.declared.generating_args.GenArgs.{GenArgs}
 use Rattle.rpcx.specs.declared.files.opening.FaultStyle.{FaultStyle}
 use Rattle.rpcx.specs.declared.files.opening.Opening.{Opening}
 use Rattle.rpcx.specs.declared.files.known.KnownSources.{KnownSources}
+use Rattle.x_prelude.specs.declared.definition.FromC.{FromC}
 use Rattle.rpcx.specs.Opening.{CompilesBy, HavePlaces, IsAfter, IsBefore, IsCrowded}
 use Rattle.rpcx.specs.declared.files.opening.FaultStyle.TheVariants.{Plain, Explained, Coloured}
 use Rattle.rpcx.specs.declared.rpcgen.output.OutputFault.{OutputFault}
@@ -102,10 +103,11 @@ pub record IsOpened (how : Opening) (program file bytes : List ℕ) (before afte
   pub failed : IsErrOf result Failed → NotOpened how program file bytes before after
   pub others : IfErr result (λ status. (status ≡ Faulty) ⊎ (status ≡ Failed))
 
--- the same where nothing stands before the text but these files
-abbrev pub IsOpenedAfter : FaultStyle → KnownSources → (program file bytes : List ℕ) → (before after : Stream)
-    → Result Document Status → Type 0
-IsOpenedAfter style known program file bytes before after result = (how : Opening) × IsAfter how style known
+-- the same where the text stands behind these files
+abbrev pub IsOpenedAfter : FaultStyle → KnownSources → FromC → (program file bytes : List ℕ)
+    → (before after : Stream) → Result Document Status → Type 0
+IsOpenedAfter style known from program file bytes before after result = (how : Opening)
+    × IsAfter how style known from
     × IsOpened how program file bytes before after result
 
 -- what a program tells where a run over a file stops

@@ -181,9 +181,14 @@ edit_app = with_rule (with_rule (plain_app (codes "rpcedit")) known_rule) file_r
 abbrev pub stdio_rule : Rule
 stdio_rule = request_rule (codes "stdio") (codes "stdio") SetTrue
 
--- `rpcls [--help] [--version] [--stdio]`
+-- `--fault-directives`
+abbrev pub fault_directives_rule : Rule
+fault_directives_rule = request_rule (codes "fault_directives") (codes "fault-directives") SetTrue
+
+-- `rpcls [--help] [--version] [--stdio] [--known FILE].. [--c-types] [--foreign] [--fault-directives]`
 unfoldable pub serve_app : App
-serve_app = with_rule (plain_app (codes "rpcls")) stdio_rule
+serve_app = with_rule
+    (with_before (with_rule (plain_app (codes "rpcls")) stdio_rule)) fault_directives_rule
 
 -- The command was made by a chain of `.arg(..)` calls, which began with one that knows nothing, of arguments
 -- of these ids.
@@ -261,9 +266,11 @@ pub record IsEditArgs (rows : List Row) (args : EditArgs) : Type 0 where
   pub no_names : (args.before.c_types ≡ false) × (args.before.foreign ≡ false)
   pub file : Some args.file.now ≡ first_of (codes "file") rows
 
--- the word of `rpcls`, as clap read it
+-- the options of `rpcls`, as clap read them
 pub record IsServeArgs (rows : List Row) (args : ServeArgs) : Type 0 where
   pub stdio : args.stdio ≡ is_in_words (codes "stdio") rows
+  pub before : IsBeforeArgs rows args.before
+  pub faults_directives : args.faults_directives ≡ is_in_words (codes "fault_directives") rows
 
 -- the letters and values of `rpcdump`, as clap read them
 pub record IsDumpArgs (rows : List Row) (args : DumpArgs) : Type 0 where

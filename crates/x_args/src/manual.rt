@@ -103,14 +103,19 @@ pub const RPCLS: Manual<'static> = Manual {
 A language server for .x files of the Sun RPC language: it speaks LSP 3.17 on
 standard input and output, follows each change and publishes what is wrong.
 
-  --stdio    accepted for compatibility; has no effect
-  --help     show this text
-  --version  show the version
+  --known FILE  take what this file defines as known
+  --c-types     accept u_int and other types of C that have an XDR routine
+  --foreign     take names that nobody declares as types or constants of C
+  --fault-directives
+                report lines for cpp as faults, which are blank otherwise
+  --stdio       accepted for compatibility; has no effect
+  --help        show this text
+  --version     show the version
 
 Example, a line for Neovim:
   vim.lsp.start({ name = 'rpcls', cmd = { 'rpcls' } })
 
 Exit status: 0 the editor asked it to shut down and to exit; 1 it ended
-otherwise; 2 the run failed.
+otherwise, or a known file has faults; 2 the run failed.
 ",
 };

@@ -48,7 +48,7 @@ item_saying items.BadNumber = helped (codes "invalid number '") (codes "'")
     (codes "write decimal digits, or 0x and hexadecimal, or 0 and octal ones; only decimals can be negative")
 item_saying items.OpenComment = alone (codes "unterminated comment") (Some (codes "end it with */"))
 item_saying items.Directive =
-    alone (codes "preprocessor directive") (Some (codes "run cpp on it first, and rpcgen on the result"))
+    alone (codes "preprocessor directive") (Some (codes "run cpp first: rpcgen-cpp"))
 item_saying items.Unfinished =
     helped (codes "unexpected end of text after '") (codes "'")
     (codes "close each '{' with '}', and end the definition with ';'")

@@ -92,10 +92,7 @@ fn item_sentence(code: ItemCode) -> Sentence
             "write decimal digits, or 0x and hexadecimal, or 0 and octal ones; only decimals can be negative",
         ),
         ItemCode::OpenComment => alone("unterminated comment", Some("end it with */")),
-        ItemCode::Directive => alone(
-            "preprocessor directive",
-            Some("run cpp on it first, and rpcgen on the result"),
-        ),
+        ItemCode::Directive => alone("preprocessor directive", Some("run cpp first: rpcgen-cpp")),
         ItemCode::Unfinished => helped(
             "unexpected end of text after '",
             "'",

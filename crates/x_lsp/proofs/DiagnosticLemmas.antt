@@ -14,17 +14,17 @@ use Rattle.x_lsp.specs.declared.client.Client.{Client}
 use Rattle.x_lsp.specs.Diagnostics.{AreDiagnostics, IsDiagnostic}
 
 -- one fault more
-pub diagnostics_more : (c : Client) (uri text : List ℕ) (items : List Item) (faults : List FaultPlace) (ds : List Data) (f : FaultPlace) (d : Data) → AreDiagnostics c uri text items faults ds → IsDiagnostic c uri text items f d
-    → AreDiagnostics c uri text items (faults ++ f ∷ []) (ds ++ d ∷ [])
-diagnostics_more c uri text items [] [] f d are is = (is, tt)
-diagnostics_more c uri text items [] (x ∷ ds) f d are is = absurd are
-diagnostics_more c uri text items (g ∷ faults) [] f d are is = absurd are
-diagnostics_more c uri text items (g ∷ faults) (x ∷ ds) f d are is = (are.0, diagnostics_more c uri text items faults ds f d are.1 is)
+pub diagnostics_more : (c : Client) (uri shown text : List ℕ) (items : List Item) (faults : List FaultPlace) (ds : List Data) (f : FaultPlace) (d : Data) → AreDiagnostics c uri shown text items faults ds → IsDiagnostic c uri shown text items f d
+    → AreDiagnostics c uri shown text items (faults ++ f ∷ []) (ds ++ d ∷ [])
+diagnostics_more c uri shown text items [] [] f d are is = (is, tt)
+diagnostics_more c uri shown text items [] (x ∷ ds) f d are is = absurd are
+diagnostics_more c uri shown text items (g ∷ faults) [] f d are is = absurd are
+diagnostics_more c uri shown text items (g ∷ faults) (x ∷ ds) f d are is = (are.0, diagnostics_more c uri shown text items faults ds f d are.1 is)
 
 -- what is published of a fault is so of each with its code and its place
-pub same_diagnostic : (c : Client) (uri text : List ℕ) (items : List Item) (f g : FaultPlace) (d : Data) → f.code ≡ g.code → f.start ≡ g.start → IsDiagnostic c uri text items f d → IsDiagnostic c uri text items g d
-same_diagnostic c uri text items f g d code start is =
-    subst (λ (g : FaultPlace). IsDiagnostic c uri text items g d) (λ i. record { item = g.item; token = g.token; start = start i; code = code i })
+pub same_diagnostic : (c : Client) (uri shown text : List ℕ) (items : List Item) (f g : FaultPlace) (d : Data) → f.code ≡ g.code → f.start ≡ g.start → IsDiagnostic c uri shown text items f d → IsDiagnostic c uri shown text items g d
+same_diagnostic c uri shown text items f g d code start is =
+    subst (λ (g : FaultPlace). IsDiagnostic c uri shown text items g d) (λ i. record { item = g.item; token = g.token; start = start i; code = code i })
     (record { end = is.end; sentence = is.sentence; other = is.other; token = is.token; other_is = is.other_is; data_is = is.data_is })
 
 -- a text that begins so, and what stands behind that

@@ -1,7 +1,9 @@
 pub mod Choices
+pub mod CompiledLemmas
 pub mod DeclarerLemmas
 pub mod DiagnosticLemmas
 pub mod FrameLemmas
+pub mod HintLemmas
 pub mod JsonLemmas
 pub mod LineLemmas
 pub mod ListLemmas

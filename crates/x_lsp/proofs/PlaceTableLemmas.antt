@@ -26,12 +26,12 @@ chosen true false o p q = absurd (cc)
 chosen false b o p q = absurd (cc)
 
 -- what is found of a text is told beside a fault
-pub is_beside : {known : KnownText} (e : Encoding) (text : List ℕ) (shown : Bool) (code : FaultCode) (word : List ℕ) (start : ℕ) (names : FaultNames) (found : Option Range) → shown ≡ true → is_of_declarer code ≡ true
-    → Compiles known text (λ items. AreNamesOf text items names) → ((items : List Item) → AreNamesOf text items names → IsRangeAt e text (declared_elsewhere items (name_of items code start word) start) found)
-    → (tokens : List (Kind × ℕ)) (items : List Item) → IsCompilation known text tokens items → IsRangeAt e text (other_place shown items code word start) found
-is_beside e text shown code word start names found is_shown declares made range tokens items is =
+pub is_beside : {known : KnownText} (e : Encoding) (front text : List ℕ) (shown : Bool) (code : FaultCode) (word : List ℕ) (start : ℕ) (names : FaultNames) (found : Option Range) → shown ≡ true → is_of_declarer code ≡ true
+    → Compiles known text (λ items. AreNamesOf text items names) → ((items : List Item) → AreNamesOf text items names → IsRangeAt e front text (declared_elsewhere items (name_of items code start word) start) found)
+    → (tokens : List (Kind × ℕ)) (items : List Item) → IsCompilation known text tokens items → IsRangeAt e front text (other_place shown items code word start) found
+is_beside e front text shown code word start names found is_shown declares made range tokens items is =
     let there = range items (of_each text made tokens items is) in
-    subst (λ o. IsRangeAt e text o found) (sym (chosen shown (is_of_declarer code) (declared_elsewhere items (name_of items code start word) start) is_shown declares)) there
+    subst (λ o. IsRangeAt e front text o found) (sym (chosen shown (is_of_declarer code) (declared_elsewhere items (name_of items code start word) start) is_shown declares)) there
 
 -- where a name is declared first is where the token is that declares it
 start_by : (text : List ℕ) (d : Declarer) (o : Option Lexeme) → option_map (λ (f : FirstPlace). f.spot.start) (option_map (λ (t : Lexeme). declared_at d (spot_at text t.start)) o) ≡ option_map (λ (t : Lexeme). t.start) o

@@ -1,13 +1,11 @@
 -- What is said.
-use Rattle.std.proofs.Common.{ℕ, ℤ, List, Option, Some, codes, refl, subst, sym, ⊎_elim}
-use Rattle.serde_json.specs.Data.{object, string, number, unsigned, member, no_members}
-use Rattle.x_compile.specs.Known.{KnownText}
-use Rattle.x_lsp.specs.declared.client.Client.{Client}
+use Rattle.std.proofs.Common.{◌≡◌, ℕ, ℤ, List, Option, Some, codes, refl, subst, sym}
+use Rattle.serde_json.specs.Data.{Data, object, string, number, unsigned, member, no_members}
+use Rattle.serde_json.specs.Written.{compact_text}
 use Rattle.x_lsp.specs.Answers.{IsNote, IsShown, IsToNotification}
 use Rattle.serde_json.specs.Find.{of_integer}
-use Rattle.x_lsp.specs.Diagnostics.{params_with}
+use Rattle.x_lsp.specs.Diagnostics.{params_with, published_data}
 use Rattle.x_lsp.specs.KeptSaid.{no_memory_note}
-use Rattle.x_lsp.specs.Publishing.{Publishes}
 
 -- that memory ran out is shown
 pub no_memory_shown : IsShown (Some no_memory_note)
@@ -23,8 +21,7 @@ pub no_memory_is_note : IsNote no_memory_note
 no_memory_is_note = shown_note (Some no_memory_note) no_memory_shown
 
 -- what is published is a note
-pub published_note : {known : KnownText} (e : Client) (uri : List ℕ) (version : ℤ) (text : List ℕ) (said : Option (List ℕ)) → Publishes e uri version known text said → IsToNotification said
-published_note e uri version text said h = ⊎_elim
-    (λ p. subst IsToNotification (sym p.1)
-    (codes "textDocument/publishDiagnostics", params_with uri (number (of_integer version)) p.2.3.0, p.2.3.2))
-    (λ s. shown_note said s) h
+pub published_note : (uri : List ℕ) (version : ℤ) (list : List Data) (said : List ℕ)
+    → said ≡ compact_text (published_data uri version list) → IsToNotification (Some said)
+published_note uri version list said is =
+    (codes "textDocument/publishDiagnostics", params_with uri (number (of_integer version)) list, is)

@@ -12,6 +12,7 @@ use Rattle.serde_json.specs.Find.{is_float, of_integer}
 use Rattle.serde_json.specs.Written.{has_float, items_have_float, members_have_float}
 use Rattle.x_lsp.specs.declared.published.Diagnostic.{Diagnostic}
 use Rattle.x_lsp.specs.declared.published.Place.{Place}
+use Rattle.x_lsp.specs.declared.published.Severity.{Severity}
 use Rattle.x_lsp.specs.Diagnostics.{published_data, rest_members}
 use Rattle.x_lsp.specs.Published.{data_of, place_data}
 
@@ -36,13 +37,13 @@ list_sent told xs old new h = (
   each_sent told xs h.0 h.1 new h.3 h.4,
 )
 
-plain_rest : (o : Option Place) → members_have_float (rest_members (option_map place_data o)) ≡ false
-plain_rest None = refl
-plain_rest (Some p) = refl
+plain_rest : (s : Severity) (o : Option Place) → members_have_float (rest_members s (option_map place_data o)) ≡ false
+plain_rest s None = refl
+plain_rest s (Some p) = refl
 
 plain_list : (ds : List Diagnostic) → items_have_float (items_of (map data_of ds)) ≡ false
 plain_list [] = refl
-plain_list (d ∷ ds) = ap (λ t. t || items_have_float (items_of (map data_of ds))) (plain_rest d.related) ∙ plain_list ds
+plain_list (d ∷ ds) = ap (λ t. t || items_have_float (items_of (map data_of ds))) (plain_rest d.severity d.related) ∙ plain_list ds
 
 plain_version : (n : ℤ) → is_float (of_integer n) ≡ false
 plain_version (pos n) = refl

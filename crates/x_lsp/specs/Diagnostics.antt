@@ -1,7 +1,7 @@
 -- What is published of a text's faults (LSP 3.17, `textDocument/publishDiagnostics`).
 use Rattle.std.specs.Prelude.{◌≡◌, ℕ, ℤ, ◌==◌, List, []}
 use Rattle.std.specs.Prelude.{◌∷◌, ◌++◌, codes, Option, None, Some, option_and_then, option_map}
-use Rattle.std.specs.Prelude.{if◌then◌else◌, unwrap_or, Bool, true, false, ◌&&◌, slice_range}
+use Rattle.std.specs.Prelude.{if◌then◌else◌, map, unwrap_or, Bool, true, false, ◌&&◌, slice_range}
 use Rattle.std.specs.List.{before_first}
 use Rattle.serde_json.specs.Data.{Data, Members, array, number, string, object, member, item, no_items}
 use Rattle.serde_json.specs.Data.{no_members, unsigned}
@@ -15,8 +15,8 @@ use Rattle.x_rules.specs.declared.fault.RuleCode.TheVariants.{Duplicate, LateNam
 use Rattle.x_rules.specs.declared.fault.RuleCode.TheVariants.{UsesFaulty}
 use Rattle.x_compile.specs.Compile.{Item, places_of}
 use Rattle.x_compile.specs.Faults.{fault_text}
-use Rattle.x_compile.specs.Known.{KnownText}
-use Rattle.x_session.specs.Session.{Compiles}
+use Rattle.x_directives.specs.Conditionals.{conditionals}
+use Rattle.x_directives.specs.declared.conditions.Conditional.{Conditional}
 use Rattle.x_explain.specs.DeclaredNames.{definition_of}
 use Rattle.x_explain.specs.Facts.{name_of}
 use Rattle.x_explain.specs.Found.{IsEndOfToken}
@@ -24,8 +24,11 @@ use Rattle.x_lsp.specs.declared.changes.Range.{Range}
 use Rattle.x_lsp.specs.declared.client.Client.{Client}
 use Rattle.x_lsp.specs.declared.encoding.Encoding.{Encoding}
 use Rattle.x_lsp.specs.declared.positions.Position.{Position}
+use Rattle.x_lsp.specs.declared.published.Severity.{Severity}
+use Rattle.x_lsp.specs.declared.published.Severity.TheVariants.{Error, Hint}
 use Rattle.x_lsp.specs.Answers.{note_data}
 use Rattle.x_lsp.specs.Framing.{number_of}
+use Rattle.x_lsp.specs.Grounds.{CompilesOn, Ground, compiled_of}
 use Rattle.x_lsp.specs.Positions.{position_of}
 
 -- a position, and a range, as LSP writes them
@@ -48,21 +51,26 @@ related_data uri range = object
     (member (codes "uri") (string uri) no_members)))
     (member (codes "message") (string (codes "first declared here")) no_members))
 
+-- the number of a severity
+abbrev pub severity_number : Severity → ℕ
+severity_number Error = 1
+severity_number Hint = 4
+
 -- the members of a diagnostic behind its range; with the other place, if there is one
-abbrev pub last_members : Members
-last_members = member (codes "severity") (number (unsigned 1))
+abbrev pub last_members : Severity → Members
+last_members severity = member (codes "severity") (number (unsigned (severity_number severity)))
     (member (codes "source") (string (codes "rpcgen")) no_members)
 
-abbrev pub rest_members : Option Data → Members
-rest_members None = last_members
-rest_members (Some related) =
-    member (codes "relatedInformation") (array (item related no_items)) last_members
+abbrev pub rest_members : Severity → Option Data → Members
+rest_members severity None = last_members severity
+rest_members severity (Some related) =
+    member (codes "relatedInformation") (array (item related no_items)) (last_members severity)
 
-abbrev pub diagnostic_data : ℕ → Data → List ℕ → Option Data → Data
-diagnostic_data number' range message related = object
+abbrev pub diagnostic_data : Severity → ℕ → Data → List ℕ → Option Data → Data
+diagnostic_data severity number' range message related = object
     (member (codes "code") (number (unsigned number'))
     (member (codes "message") (string message)
-    (member (codes "range") range (rest_members related))))
+    (member (codes "range") range (rest_members severity related))))
 
 -- the code says something of how its word is declared
 abbrev pub is_of_declarer : FaultCode → Bool
@@ -87,34 +95,51 @@ other_place shown items code word start =
     if shown && is_of_declarer code then declared_elsewhere items (name_of items code start word) start
     else None
 
--- the range is that of the token at a place, where there is one
-abbrev pub IsRangeAt : Encoding → List ℕ → Option ℕ → Option Range → Type 0
-IsRangeAt encoding text None range = range ≡ None
-IsRangeAt encoding text (Some start) range = (end : ℕ) × IsEndOfToken text start end
-    × (range ≡ Some (record { start = position_of encoding text start; end = position_of encoding text end }))
+-- the range is that of the token at a place, where there is one, in the text that is shown
+abbrev pub IsRangeAt : Encoding → (shown text : List ℕ) → Option ℕ → Option Range → Type 0
+IsRangeAt encoding shown text None range = range ≡ None
+IsRangeAt encoding shown text (Some start) range = (end : ℕ) × IsEndOfToken text start end
+    × (range ≡ Some (record {
+      start = position_of encoding shown start;
+      end = position_of encoding shown end;
+    }))
 
--- What is published of a fault: its number, its name with a sentence, and the range of its token; and if the
--- client shows that, the range of the token that declares its word first.
-pub record IsDiagnostic (client : Client) (uri text : List ℕ) (items : List Item) (fault : FaultPlace)
+-- What is published of a fault: its number, its name with a sentence, and the range of its token in the text
+-- that is shown; and if the client shows that, the range of the token that declares its word first.
+pub record IsDiagnostic (client : Client) (uri shown text : List ℕ) (items : List Item) (fault : FaultPlace)
     (data' : Data) : Type 0 where
   pub end : ℕ
   pub sentence : List ℕ
   pub other : Option Range
   pub token : IsEndOfToken text fault.start end
-  pub other_is : IsRangeAt client.encoding text (other_place client.shows_related items fault.code
+  pub other_is : IsRangeAt client.encoding shown text (other_place client.shows_related items fault.code
       (slice_range text fault.start end) fault.start) other
-  pub data_is : data' ≡ diagnostic_data (fault_number fault.code)
-      (range_data (position_of client.encoding text fault.start)
-      (position_of client.encoding text end))
+  pub data_is : data' ≡ diagnostic_data Error (fault_number fault.code)
+      (range_data (position_of client.encoding shown fault.start)
+      (position_of client.encoding shown end))
       (fault_text fault.code ++ codes ": " ++ sentence) (option_map (related_data uri) other)
 
 -- what is published of faults, one after another
-abbrev pub AreDiagnostics : Client → (uri text : List ℕ) → List Item → List FaultPlace → List Data → Type 0
-AreDiagnostics client uri text items [] [] = Unit {0}
-AreDiagnostics client uri text items [] (d ∷ ds) = ⊥
-AreDiagnostics client uri text items (f ∷ fs) [] = ⊥
-AreDiagnostics client uri text items (f ∷ fs) (d ∷ ds) =
-    IsDiagnostic client uri text items f d × AreDiagnostics client uri text items fs ds
+abbrev pub AreDiagnostics : Client → (uri shown text : List ℕ) → List Item → List FaultPlace → List Data
+    → Type 0
+AreDiagnostics client uri shown text items [] [] = Unit {0}
+AreDiagnostics client uri shown text items [] (d ∷ ds) = ⊥
+AreDiagnostics client uri shown text items (f ∷ fs) [] = ⊥
+AreDiagnostics client uri shown text items (f ∷ fs) (d ∷ ds) =
+    IsDiagnostic client uri shown text items f d × AreDiagnostics client uri shown text items fs ds
+
+-- What is published of a directive that begins a branch, where directives are blanked: that the branches are
+-- all read, over its first line.
+abbrev pub branch_message : List ℕ
+branch_message = codes "14 Directive: not read: both branches of #if are"
+
+abbrev pub hint_data : Encoding → List ℕ → Conditional → Data
+hint_data encoding shown place = diagnostic_data Hint 14
+    (range_data (position_of encoding shown place.start) (position_of encoding shown place.end))
+    branch_message None
+
+abbrev pub hints_of : (blanks : Bool) → Encoding → List ℕ → List Data
+hints_of blanks encoding shown = if blanks then map (hint_data encoding shown) (conditionals shown) else []
 
 -- the parameters of the note that publishes diagnostics of a version of a document, and the note
 abbrev pub params_with : List ℕ → Data → List Data → Data
@@ -134,9 +159,14 @@ abbrev pub closing_data : List ℕ → Data
 closing_data uri = note_data (codes "textDocument/publishDiagnostics")
     (object (member (codes "diagnostics") (array no_items) (member (codes "uri") (string uri) no_members)))
 
--- the text publishes the faults of a document's text, all and in order
-abbrev pub IsPublished : Client → (uri : List ℕ) → (version : ℤ) → (known : KnownText)
-    → (text said : List ℕ) → Type 0
-IsPublished client uri version known text said = Compiles known text (λ items.
-    (ds : List Data) × AreDiagnostics client uri text items (places_of items) ds
-    × (said ≡ compact_text (published_data uri version ds)))
+-- The text publishes the faults of a document's text with these items, all and in order, and then the hints.
+abbrev pub IsPublishedOf : Client → (uri : List ℕ) → (version : ℤ) → (blanks : Bool) → (shown text : List ℕ)
+    → List Item → (said : List ℕ) → Type 0
+IsPublishedOf client uri version blanks shown text items said =
+    (ds : List Data) × AreDiagnostics client uri shown text items (places_of items) ds
+    × (said ≡ compact_text (published_data uri version (ds ++ hints_of blanks client.encoding shown)))
+
+-- the text publishes what is found in a document whose text is shown so
+abbrev pub IsPublished : Client → (uri : List ℕ) → (version : ℤ) → Ground → (shown said : List ℕ) → Type 0
+IsPublished client uri version on shown said = CompilesOn on shown
+    (λ items. IsPublishedOf client uri version on.blanks shown (compiled_of on.blanks shown) items said)

@@ -1,5 +1,6 @@
 pub mod Answers
 pub mod Changes
+pub mod Compiled
 pub mod Diagnostics
 pub mod DocumentTexts
 pub mod Documents
@@ -7,6 +8,7 @@ pub mod Encodings
 pub mod FaultMessages
 pub mod FrameSteps
 pub mod Framing
+pub mod Grounds
 pub mod KeptSaid
 pub mod LineStarts
 pub mod Lives

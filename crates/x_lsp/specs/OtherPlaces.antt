@@ -5,9 +5,9 @@ use Rattle.x_explain.specs.Facts.{AreNamesOf}
 use Rattle.x_lsp.specs.declared.other_places.OtherPlaces.{OtherPlaces}
 use Rattle.x_lsp.specs.Waymarks.{AreWaymarks}
 
--- the waymarks, and the names if they are looked up, are those of the session's text
+-- the waymarks are those of the text that is shown, and the names, if they are looked up, of the session's
 pub record AreOfText (others : OtherPlaces) : Type 0 where
-  pub marked : AreWaymarks others.session.now.text others.marks.now
+  pub marked : AreWaymarks others.text.now others.marks.now
   pub of_text : IfSome others.names
       (λ names. Compiles others.session.now.known others.session.now.text
       (λ items. AreNamesOf others.session.now.text items names))

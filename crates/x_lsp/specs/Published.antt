@@ -9,5 +9,5 @@ abbrev pub place_data : Place → Data
 place_data p = related_data p.uri.now p.range
 
 abbrev pub data_of : Diagnostic → Data
-data_of d = diagnostic_data d.message.number (range_data d.range.start d.range.end)
+data_of d = diagnostic_data d.severity d.message.number (range_data d.range.start d.range.end)
     (string_bytes d.message.text) (option_map place_data d.related)

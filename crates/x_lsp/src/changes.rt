@@ -9,8 +9,8 @@ use crate::positions::Position;
 use crate::waymarks::Waymarks;
 use serde_json::Value;
 use std::alloc::Global;
-use x_session::{EditFault, Session, Work};
-use x_text::Edit;
+use x_session::EditFault;
+use x_text::{Edit, Source};
 
 /// A part of a text.
 #[derive(Clone, Copy, Debug, PartialEq, Eq)]
@@ -30,33 +30,31 @@ pub struct TextChange<'m> {
     pub text: &'m str,
 }
 
-/// Carries a change out, by waymarks of the text, which follow it, and answers what work it took. After a
-/// fault the text is as before.
+/// Carries a change of a text out, by waymarks of it, which follow the change. After a fault the text is as
+/// before.
 pub fn apply_change(
     alloc: Global,
-    session: &mut Session,
+    text: &mut Source,
     marks: &mut Waymarks,
     change: &TextChange,
-) -> Result<Work, EditFault>
-    requires { AreWaymarks session.old.text marks.old }
+) -> Result<(), EditFault>
+    requires { AreWaymarks text.old marks.old }
     ensures text { OnOk result
-        (session.new.text ≡ edited_by (change_by marks.old.encoding session.old.text change.now)) }
-    ensures fault { Judges (change_by marks.old.encoding session.old.text change.now) result }
-    ensures base { session.new.base ≡ session.old.base }
-    ensures known { session.new.known ≡ session.old.known }
-    ensures same { OnErr result (session.new ≡ session.old) }
-    ensures marks { AreWaymarks session.new.text marks.new }
+        (text.new ≡ edited_by (change_by marks.old.encoding text.old change.now)) }
+    ensures fault { Judges (change_by marks.old.encoding text.old change.now) result }
+    ensures same { OnErr result (text.new ≡ text.old) }
+    ensures marks { AreWaymarks text.new marks.new }
     ensures encoding { marks.new.encoding ≡ marks.old.encoding }
 {
-    let (start, end) = places_of(marks, session.bytes(), &change.range);
+    let (start, end) = places_of(marks, text.bytes(), &change.range);
     let edit = Edit {
         start,
         end,
         insert: change.text.as_bytes(),
     };
-    let work = session.apply(&edit)?;
-    marks.follow(alloc, session.bytes(), &edit);
-    Ok(work)
+    text.replace(&edit)?;
+    marks.follow(alloc, text.bytes(), &edit);
+    Ok(())
 }
 
 /// The places of a range's start and end; those of the text's where there is none.

@@ -2,14 +2,15 @@
 
 ghost use Rattle.std.specs.List.{before_first};
 ghost use Rattle.std.specs.Prelude.{◌≡◌, ◌==◌, ◌≤◌, ◌++◌, ℕ, List, IfOk, codes, option_map, slice_range};
-ghost use Rattle.std.specs.Prelude.{length, string_bytes, map};
+ghost use Rattle.std.specs.Prelude.{length, string_bytes, map, OnOk};
 ghost use Rattle.serde_json.specs.View.{view};
 ghost use Rattle.serde_json.specs.Written.{compact_text};
 ghost use Rattle.x_compile.specs.Compile.{places_of};
 ghost use Rattle.x_compile.specs.Faults.{fault_text};
 ghost use Rattle.x_session.specs.Session.{Compiles};
 ghost use Rattle.x_explain.specs.Found.{IsEndOfToken};
-ghost use Rattle.x_lsp.specs.Diagnostics.{AreDiagnostics, IsPublished, closing_data};
+ghost use Rattle.x_directives.specs.Conditionals.{conditionals};
+ghost use Rattle.x_lsp.specs.Diagnostics.{AreDiagnostics, IsPublishedOf, closing_data, hint_data};
 ghost use Rattle.x_lsp.specs.Diagnostics.{diagnostic_data, fault_number, position_data, range_data};
 ghost use Rattle.x_lsp.specs.Diagnostics.{related_data};
 ghost use Rattle.x_lsp.specs.Published.{data_of, place_data};
@@ -18,42 +19,80 @@ ghost use Rattle.x_lsp.specs.Waymarks.{AreWaymarks};
 use crate::answers::note;
 use crate::changes::Range;
 use crate::client::Client;
-use crate::fault_messages::FaultMessages;
+use crate::fault_messages::{FaultMessages, branch_message};
 use crate::marking::Marker;
 use crate::other_places::OtherPlaces;
 use crate::positions::Position;
-use crate::published::{Diagnostic, Place, published_text};
+use crate::published::{Diagnostic, Place, Severity, published_text};
 use crate::waymarks::Waymarks;
 use serde_json::{Value, json};
 use std::alloc::{AllocError, Global};
+use x_directives::conditionals;
 use x_explain::found_faults;
 use x_session::Session;
 use x_text::NoMemory;
 
-/// The note that publishes the faults of a document's text, by waymarks of it and by the messages of those
-/// that were published before. Keeps these faults among the waymarks, and their messages.
+/// The note that publishes the faults of a document: of what is compiled of its text, which is shown, by
+/// waymarks of that and by the messages of those that were published before. Where the lines of cpp are
+/// blanked it tells of those that begin branches. Keeps these faults among the waymarks, and their messages.
 pub fn publish(
     alloc: Global,
     client: Client,
     uri: &str,
     version: i64,
+    blanks: bool,
+    shown: &[u8],
     session: &Session,
     marks: &mut Waymarks,
     messages: &mut FaultMessages,
 ) -> Result<Vec<u8>, NoMemory>
-    requires marks { AreWaymarks session.now.text marks.old }
+    requires marks { AreWaymarks shown.now marks.old }
     requires encoding { marks.old.encoding ≡ client.encoding }
-    ensures said { IfOk result (λ said.
-        IsPublished client uri.now version session.now.known session.now.text said.items) }
-    ensures marks { AreWaymarks session.now.text marks.new }
+    ensures said { IfOk result (λ said. Compiles session.now.known session.now.text (λ items.
+        IsPublishedOf client uri.now version blanks shown.now session.now.text items said.items)) }
+    ensures marks { AreWaymarks shown.now marks.new }
     ensures encoding { marks.new.encoding ≡ marks.old.encoding }
 {
-    let mut marker = Marker::at_start(alloc, marks.encoding, session.bytes());
-    let list = diagnostics(alloc, client, uri, session, marks, &mut marker, messages)?;
+    let mut marker = Marker::at_start(alloc, marks.encoding, shown);
+    let mut list = diagnostics(
+        alloc,
+        client,
+        uri,
+        shown,
+        session,
+        marks,
+        &mut marker,
+        messages,
+    )?;
+    if blanks {
+        add_hints(alloc, shown, marks, &mut list)?;
+    }
     let (said, list) = published_text(alloc, uri, version, list)?;
     messages.keep(list);
     marks.keep_faults(marker.list);
     Ok(said)
+}
+
+/// Adds a hint for each directive of cpp that begins a branch.
+fn add_hints(
+    alloc: Global,
+    shown: &[u8],
+    marks: &Waymarks,
+    list: &mut Vec<Diagnostic>,
+) -> Result<(), NoMemory>
+    requires { AreWaymarks shown.now marks.now }
+    ensures { OnOk result (map data_of list.new.items ≡ map data_of list.old.items
+        ++ map (hint_data marks.now.encoding shown.now) (conditionals shown.now)) }
+{
+    for place in &conditionals(alloc, shown)? {
+        list.push(Diagnostic {
+            severity: Severity::Hint,
+            message: branch_message(alloc)?,
+            range: marks.range(shown, place.start, place.end),
+            related: None,
+        })?;
+    }
+    Ok(())
 }
 
 /// The note that publishes that nothing is wrong with a document which was closed.
@@ -64,33 +103,34 @@ pub(crate) fn closing_note(alloc: Global, uri: &str) -> Result<Vec<u8>, AllocErr
     note(alloc, "textDocument/publishDiagnostics", params)
 }
 
-/// The diagnostics of a text. Marks where its faults stand.
+/// The diagnostics of what is compiled of a text. Marks where its faults stand.
 fn diagnostics<'d>(
     alloc: Global,
     client: Client,
     uri: &'d str,
+    shown: &[u8],
     session: &Session,
     marks: &Waymarks,
     marker: &mut Marker,
     messages: &mut FaultMessages,
 ) -> Result<Vec<Diagnostic<'d>>, NoMemory>
-    requires marks { AreWaymarks session.now.text marks.now }
+    requires marks { AreWaymarks shown.now marks.now }
     requires encoding { marks.now.encoding ≡ client.encoding }
-    requires marker_text { marker.old.text.now ≡ session.now.text }
+    requires marker_text { marker.old.text.now ≡ shown.now }
     requires marker_encoding { marker.old.encoding ≡ client.encoding }
-    ensures text { marker.new.text.now ≡ session.now.text }
+    ensures text { marker.new.text.now ≡ shown.now }
     ensures counted { marker.new.encoding ≡ client.encoding }
     ensures diagnostics { IfOk result (λ list. Compiles session.now.known session.now.text (λ items.
-        AreDiagnostics client uri.now session.now.text items (places_of items)
+        AreDiagnostics client uri.now shown.now session.now.text items (places_of items)
         (map data_of list.items))) }
 {
     let text = session.bytes();
     let found = found_faults(alloc, session)?;
     let mut list = Vec::with_capacity(alloc, found.len())?;
-    let mut others = OtherPlaces::of(client.shows_related, session, marks);
+    let mut others = OtherPlaces::of(client.shows_related, shown, marks, session);
     for fault in &found {
         let start = fault.start;
-        let range = marks.range(text, start, fault.end);
+        let range = marks.range(shown, start, fault.end);
         marker.mark_place(start, range.start)?;
         let word = word_at(text, start, fault.end);
         let other = others.range(alloc, fault.code, word, start)?;
@@ -99,6 +139,7 @@ fn diagnostics<'d>(
         let known = others.known(fault.code, start, word);
         let message = messages.next(alloc, fault.code, &known)?;
         list.push(Diagnostic {
+            severity: Severity::Error,
             message,
             range,
             related,

@@ -1,8 +1,10 @@
 //! A document that a client has open.
 
 ghost use Rattle.std.specs.Prelude.{◌≡◌, IfOk, OnOk, string_bytes};
-ghost use Rattle.x_compile.specs.Known.{nothing_known};
+ghost use Rattle.x_lsp.specs.Answers.{IsToNotification};
 ghost use Rattle.x_lsp.specs.Changes.{changed_by_all};
+ghost use Rattle.x_lsp.specs.Compiled.{IsCompiled};
+ghost use Rattle.x_lsp.specs.Grounds.{ground_of, ground_with};
 ghost use Rattle.x_lsp.specs.Positions.{offset_of};
 ghost use Rattle.x_lsp.specs.Publishing.{Publishes};
 ghost use Rattle.x_lsp.specs.Replies.{said_of};
@@ -11,14 +13,18 @@ ghost use Rattle.x_lsp.specs.Waymarks.{AreWaymarks};
 use crate::base::base_of;
 use crate::changes::{TextChange, apply_change};
 use crate::client::Client;
+use crate::compiled::{follow_text, open_text};
 use crate::diagnostics::publish;
 use crate::fault_messages::FaultMessages;
 use crate::kept::{ChangeFault, Reply, told};
 use crate::positions::Position;
+use crate::setting::Setting;
 use crate::waymarks::Waymarks;
 use std::alloc::Global;
 use x_hash::HashKey;
-use x_session::{EditFault, Session};
+use x_prelude::FollowedText;
+use x_session::EditFault;
+use x_text::Source;
 
 /// A document that a client has open: its text, and what is found in it.
 #[derive(Drop)]
@@ -26,14 +32,21 @@ pub(crate) struct OpenDocument {
     pub(crate) uri: String,
     version: i64,
     client: Client,
-    pub(crate) session: Session,
+    /// The text that the client has.
+    pub(crate) shown: Source,
+    /// The text of the known files.
+    files: Vec<u8>,
+    /// Whether the lines of cpp are blanked in what is compiled.
+    blanks: bool,
+    /// What is compiled of it.
+    pub(crate) compiled: FollowedText,
     /// Places of the text near which others are found.
     marks: Waymarks,
     /// What was said of its faults last.
     messages: FaultMessages,
-    /// Whether the text is the client's: no change was refused since it was sent whole.
+    /// Whether the text is the client's, and is compiled: no change was refused since it was sent whole.
     in_step: bool,
-    ghost marked: { AreWaymarks session.text marks },
+    ghost marked: { AreWaymarks shown marks },
     ghost counted: { marks.encoding ≡ client.encoding },
 }
 
@@ -43,6 +56,7 @@ impl OpenDocument {
         alloc: Global,
         hash_key: HashKey,
         client: Client,
+        setting: &Setting,
         uri: &str,
         version: i64,
         text: &str,
@@ -50,21 +64,30 @@ impl OpenDocument {
         ensures client { IfOk result (λ d. d.client ≡ client) }
         ensures uri { IfOk result (λ d. string_bytes d.uri ≡ uri.now) }
         ensures version { IfOk result (λ d. d.version ≡ version) }
-        ensures known { IfOk result (λ d. d.session.known ≡ nothing_known) }
-        ensures text { IfOk result (λ d. d.session.text ≡ text.now) }
+        ensures standing { IfOk result
+            (λ d. ground_with d.files.items d.compiled.from_c d.blanks ≡ ground_of setting.now) }
+        ensures text { IfOk result (λ d. d.shown ≡ text.now) }
+        ensures followed { IfOk result (λ d. IsCompiled d.files.items d.blanks d.shown d.compiled) }
     {
-        let Ok(name) = String::from_str(alloc, uri) else {
+        let (Ok(name), Ok(files)) = (
+            String::from_str(alloc, uri),
+            Vec::from_slice(alloc, setting.files),
+        ) else {
             return Err(EditFault::NoMemory);
         };
-        let session = Session::keyed(alloc, hash_key, base_of(uri), text.as_bytes())?;
-        let Ok(marks) = Waymarks::of(alloc, client.encoding, session.bytes()) else {
+        let shown = Source::from_bytes(alloc, text.as_bytes())?;
+        let compiled = open_text(alloc, hash_key, setting, base_of(uri), shown.bytes())?;
+        let Ok(marks) = Waymarks::of(alloc, client.encoding, shown.bytes()) else {
             return Err(EditFault::NoMemory);
         };
         Ok(OpenDocument {
             uri: name,
             version,
             client,
-            session,
+            shown,
+            files,
+            blanks: setting.blanks,
+            compiled,
             marks,
             messages: FaultMessages::new(alloc),
             in_step: true,
@@ -75,15 +98,17 @@ impl OpenDocument {
     /// then. At the first that is refused it stops: the changes before it are done, and the document is out
     /// of step.
     pub(crate) fn change(&mut self, alloc: Global, version: i64, changes: &[TextChange]) -> Reply
-        ensures { Publishes self.old.client (string_bytes self.old.uri) version self.old.session.known
-            (changed_by_all self.old.client.encoding self.old.session.text changes.now) (said_of result) }
+        ensures says { Publishes self.old.client (string_bytes self.old.uri) version
+            (ground_with self.old.files.items self.old.compiled.from_c self.old.blanks)
+            (changed_by_all self.old.client.encoding self.old.shown changes.now) (said_of result) }
+        ensures note { IsToNotification (said_of result) }
     {
         let is_sent_whole = changes.first().is_some_and(|change| change.range.is_none());
         if !self.in_step && !is_sent_whole {
             return told(alloc, ChangeFault::OutOfStep);
         }
         self.in_step = false;
-        if let Err(fault) = apply_changes(alloc, &mut self.session, &mut self.marks, changes) {
+        if let Err(fault) = self.carry_out(alloc, changes) {
             return told(alloc, ChangeFault::Edit(fault));
         }
         self.in_step = true;
@@ -91,22 +116,51 @@ impl OpenDocument {
         self.publish(alloc)
     }
 
+    /// Carries changes out, one after another, up to the first that is refused, and compiles what they leave,
+    /// also where one is refused.
+    fn carry_out(&mut self, alloc: Global, changes: &[TextChange]) -> Result<(), EditFault>
+        ensures text { OnOk result
+            (self.new.shown ≡ changed_by_all self.old.client.encoding self.old.shown changes.now) }
+        ensures followed { OnOk result
+            (IsCompiled self.new.files.items self.new.blanks self.new.shown self.new.compiled) }
+        ensures client { self.new.client ≡ self.old.client }
+        ensures uri { self.new.uri ≡ self.old.uri }
+        ensures standing { ground_with self.new.files.items self.new.compiled.from_c self.new.blanks
+            ≡ ground_with self.old.files.items self.old.compiled.from_c self.old.blanks }
+    {
+        let changed = apply_changes(alloc, &mut self.shown, &mut self.marks, changes);
+        let followed = follow_text(
+            alloc,
+            &mut self.compiled,
+            &self.files,
+            self.blanks,
+            self.shown.bytes(),
+        );
+        changed?;
+        followed
+    }
+
     /// A change was not understood.
     pub(crate) fn falls_out_of_step(&mut self) {
         self.in_step = false;
     }
 
-    /// What publishes what is wrong with the text.
+    /// What publishes what is wrong with the text, which is compiled.
     pub(crate) fn publish(&mut self, alloc: Global) -> Reply
-        ensures { Publishes self.old.client (string_bytes self.old.uri) self.old.version
-            self.old.session.known self.old.session.text (said_of result) }
+        requires { IsCompiled self.old.files.items self.old.blanks self.old.shown self.old.compiled }
+        ensures says { Publishes self.old.client (string_bytes self.old.uri) self.old.version
+            (ground_with self.old.files.items self.old.compiled.from_c self.old.blanks) self.old.shown
+            (said_of result) }
+        ensures note { IsToNotification (said_of result) }
     {
         match publish(
             alloc,
             self.client,
             self.uri.as_str(),
             self.version,
-            &self.session,
+            self.blanks,
+            self.shown.bytes(),
+            &self.compiled.session,
             &mut self.marks,
             &mut self.messages,
         ) {
@@ -117,28 +171,27 @@ impl OpenDocument {
 
     /// The place of a position in the text.
     pub(crate) fn place(&self, position: Position) -> usize
-        ensures { result ≡ offset_of self.now.client.encoding self.now.session.text position }
+        ensures { result ≡ offset_of self.now.client.encoding self.now.shown position }
     {
-        self.marks.offset(self.session.bytes(), position)
+        self.marks.offset(self.shown.bytes(), position)
     }
 }
 
-/// Carries changes out, one after another, up to the first that is refused.
+/// Carries changes of a text out, one after another, up to the first that is refused.
 fn apply_changes(
     alloc: Global,
-    session: &mut Session,
+    text: &mut Source,
     marks: &mut Waymarks,
     changes: &[TextChange],
 ) -> Result<(), EditFault>
-    requires { AreWaymarks session.old.text marks.old }
+    requires { AreWaymarks text.old marks.old }
     ensures text { OnOk result
-        (session.new.text ≡ changed_by_all marks.old.encoding session.old.text changes.now) }
-    ensures known { session.new.known ≡ session.old.known }
-    ensures marks { AreWaymarks session.new.text marks.new }
+        (text.new ≡ changed_by_all marks.old.encoding text.old changes.now) }
+    ensures marks { AreWaymarks text.new marks.new }
     ensures encoding { marks.new.encoding ≡ marks.old.encoding }
 {
     for change in changes {
-        apply_change(alloc, session, marks, change)?;
+        apply_change(alloc, text, marks, change)?;
     }
     Ok(())
 }

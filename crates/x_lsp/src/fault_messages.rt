@@ -4,20 +4,23 @@ ghost use Rattle.std.specs.List.{before_first};
 ghost use Rattle.std.specs.Prelude.{◌≡◌, ◌==◌, ◌++◌, IfOk, IfSome, IsTrue, codes, length, string_bytes};
 ghost use Rattle.std.specs.Prelude.{OnOk, take};
 ghost use Rattle.x_compile.specs.Faults.{fault_text};
-ghost use Rattle.x_lsp.specs.Diagnostics.{fault_number};
+ghost use Rattle.x_lsp.specs.Diagnostics.{branch_message, fault_number};
 ghost use Rattle.x_lsp.specs.FaultMessages.{GoesOn};
 
 use crate::head::number;
-use crate::published::Diagnostic;
+use crate::published::{Diagnostic, Severity};
 use memchr::memchr;
 use std::alloc::{AllocError, Global};
 use std::str;
 use x_explain::{Known, MEANT, MEANT_END, Sentence, escape_of, sentence_of};
-use x_item::NameKind;
+use x_item::{FaultCode as ItemCode, NameKind};
 use x_session::FaultCode;
 
 /// How much room is made at once for what stands around the word of a message.
 const FRAME: usize = 96;
+
+/// What is said of a directive that begins a branch.
+const BRANCH: &str = "14 Directive: not read: both branches of #if are";
 
 /// How many messages are kept at most, so that a text of faults alone takes no more memory for good.
 const MOST_KEPT: usize = 65_536;
@@ -85,6 +88,22 @@ impl FaultMessage {
             None => false,
         }
     }
+}
+
+/// The message of a directive that begins a branch, where directives are blanked.
+pub(crate) fn branch_message(alloc: Global) -> Result<FaultMessage, AllocError>
+    ensures text { IfOk result (λ message. string_bytes message.text ≡ branch_message) }
+    ensures number { IfOk result (λ message. message.number ≡ 14) }
+{
+    let code = FaultCode::Syntax(ItemCode::Directive);
+    Ok(FaultMessage {
+        code,
+        kind: None,
+        number: fault_number(code),
+        text: String::from_str(alloc, BRANCH)?,
+        word: None,
+        suggested: None,
+    })
 }
 
 /// What the name of a fault is declared as.
@@ -190,8 +209,8 @@ impl FaultMessages {
         None
     }
 
-    /// Keeps the messages of what was published, and no others; none where there are too many of them, or
-    /// memory runs out.
+    /// Keeps the messages of the faults that were published, and no others; none where there are too many of
+    /// them, or memory runs out.
     pub(crate) fn keep(&mut self, published: Vec<Diagnostic>) {
         let mut published = published;
         self.list.clear();
@@ -199,7 +218,9 @@ impl FaultMessages {
             return;
         }
         while let Some(diagnostic) = published.pop() {
-            if self.list.push(diagnostic.message).is_err() {
+            if diagnostic.severity == Severity::Error
+                && self.list.push(diagnostic.message).is_err()
+            {
                 return;
             }
         }

@@ -21,8 +21,11 @@ use x_text::NoMemory;
 #[derive(Drop)]
 pub(crate) struct OtherPlaces<'s> {
     shown: bool,
-    session: &'s Session,
+    /// The text that is shown, and its waymarks.
+    text: &'s [u8],
     marks: &'s Waymarks,
+    /// What is compiled of it.
+    session: &'s Session,
     /// Made where they are first needed, since this takes the time of going over the text.
     names: Option<FaultNames<'s>>,
     /// Made so, too.
@@ -30,18 +33,25 @@ pub(crate) struct OtherPlaces<'s> {
 }
 
 impl<'s> OtherPlaces<'s> {
-    /// The other places of a text, by its waymarks.
-    pub(crate) fn of(shown: bool, session: &'s Session, marks: &'s Waymarks) -> OtherPlaces<'s>
-        requires { AreWaymarks session.now.text marks.now }
+    /// The other places of a text that is shown, by its waymarks, and by what is compiled of it.
+    pub(crate) fn of(
+        shown: bool,
+        text: &'s [u8],
+        marks: &'s Waymarks,
+        session: &'s Session,
+    ) -> OtherPlaces<'s>
+        requires { AreWaymarks text.now marks.now }
         ensures of_text { AreOfText result }
         ensures shown { result.shown ≡ shown }
+        ensures text { result.text.now ≡ text.now }
         ensures session { result.session.now ≡ session.now }
         ensures marks { result.marks.now ≡ marks.now }
     {
         OtherPlaces {
             shown,
-            session,
+            text,
             marks,
+            session,
             names: None,
             suggestions: None,
         }
@@ -59,24 +69,26 @@ impl<'s> OtherPlaces<'s> {
         ensures of_text { AreOfText self.new }
         ensures range { IfOk result (λ range. (tokens : List (Kind × ℕ)) (items : List Item)
             → IsCompilation self.old.session.now.known self.old.session.now.text tokens items
-            → IsRangeAt self.old.marks.now.encoding self.old.session.now.text
+            → IsRangeAt self.old.marks.now.encoding self.old.text.now self.old.session.now.text
             (other_place self.old.shown items code word.now start) range) }
         ensures shown { self.new.shown ≡ self.old.shown }
+        ensures text { self.new.text.now ≡ self.old.text.now }
         ensures session { self.new.session.now ≡ self.old.session.now }
         ensures marks { self.new.marks.now ≡ self.old.marks.now }
     {
         if !self.shown || !is_of_declarer(code) {
             return Ok(None);
         }
+        let shown = self.text;
         let session = self.session;
         let marks = self.marks;
         if let Some(names) = &self.names {
             let name = names.name(code, start, word);
-            return Ok(declared_range(names, session.bytes(), marks, name, start));
+            return Ok(declared_range(names, shown, session.bytes(), marks, name, start));
         }
         let names = FaultNames::of(alloc, session)?;
         let name = names.name(code, start, word);
-        let range = declared_range(&names, session.bytes(), marks, name, start);
+        let range = declared_range(&names, shown, session.bytes(), marks, name, start);
         self.names = Some(names);
         Ok(range)
     }
@@ -86,6 +98,7 @@ impl<'s> OtherPlaces<'s> {
         requires { AreOfText self.old }
         ensures of_text { AreOfText self.new }
         ensures shown { self.new.shown ≡ self.old.shown }
+        ensures text { self.new.text.now ≡ self.old.text.now }
         ensures session { self.new.session.now ≡ self.old.session.now }
         ensures marks { self.new.marks.now ≡ self.old.marks.now }
     {
@@ -102,6 +115,7 @@ impl<'s> OtherPlaces<'s> {
         requires { AreOfText self.old }
         ensures of_text { AreOfText self.new }
         ensures shown { self.new.shown ≡ self.old.shown }
+        ensures text { self.new.text.now ≡ self.old.text.now }
         ensures session { self.new.session.now ≡ self.old.session.now }
         ensures marks { self.new.marks.now ≡ self.old.marks.now }
     {
@@ -116,6 +130,7 @@ impl<'s> OtherPlaces<'s> {
         requires { AreOfText self.old }
         ensures of_text { AreOfText self.new }
         ensures shown { self.new.shown ≡ self.old.shown }
+        ensures text { self.new.text.now ≡ self.old.text.now }
         ensures session { self.new.session.now ≡ self.old.session.now }
         ensures marks { self.new.marks.now ≡ self.old.marks.now }
     {
@@ -172,23 +187,25 @@ fn place_in(names: &FaultNames, word: &[u8]) -> Option<usize>
     }
 }
 
-/// The range of the token that declares a word first, if that is not the token at this place.
+/// The range of the token that declares a word first, in the text that is shown, if that is not the token at
+/// this place.
 fn declared_range(
     names: &FaultNames,
+    shown: &[u8],
     text: &[u8],
     marks: &Waymarks,
     word: &[u8],
     start: usize,
 ) -> Option<Range>
-    requires { AreWaymarks text.now marks.now }
+    requires { AreWaymarks shown.now marks.now }
     ensures { (items : List Item) → AreNamesOf text.now items names.now
-        → IsRangeAt marks.now.encoding text.now (declared_elsewhere items word.now start) result }
+        → IsRangeAt marks.now.encoding shown.now text.now (declared_elsewhere items word.now start) result }
 {
     let place = place_in(names, word)?;
     if place == start {
         return None;
     }
-    Some(marks.range(text, place, token_end(text, place)))
+    Some(marks.range(shown, place, token_end(text, place)))
 }
 
 /// Whether a fault says something of how its word is declared.

@@ -7,7 +7,7 @@ ghost use Rattle.serde_json.specs.Find.{of_integer};
 ghost use Rattle.serde_json.specs.View.{view};
 ghost use Rattle.serde_json.specs.Written.{compact_text};
 ghost use Rattle.x_lsp.specs.Diagnostics.{last_members, position_data, published_data, range_data};
-ghost use Rattle.x_lsp.specs.Diagnostics.{rest_members};
+ghost use Rattle.x_lsp.specs.Diagnostics.{rest_members, severity_number};
 ghost use Rattle.x_lsp.specs.Published.{data_of, place_data};
 
 use crate::changes::Range;
@@ -17,8 +17,26 @@ use serde::{Described, Serialize, Serializer};
 use serde_json::Value;
 use std::alloc::{AllocError, Global};
 
-/// The severity of a diagnostic that is an error.
-const ERROR: u64 = 1;
+/// How much a diagnostic matters.
+#[derive(Clone, Copy, Debug, PartialEq, Eq)]
+pub(crate) enum Severity {
+    /// It is a fault of the text.
+    Error,
+    /// It says how the text is read.
+    Hint,
+}
+
+impl Severity {
+    /// The number of a severity in the protocol.
+    fn number(self) -> u64
+        ensures { result ≡ severity_number self }
+    {
+        match self {
+            Severity::Error => 1,
+            Severity::Hint => 4,
+        }
+    }
+}
 
 /// A part of a document.
 #[derive(Clone, Copy, Debug)]
@@ -27,9 +45,10 @@ pub(crate) struct Place<'d> {
     pub(crate) range: Range,
 }
 
-/// What is published of a fault.
+/// What is published of a fault, or as a hint.
 #[derive(Drop)]
 pub(crate) struct Diagnostic<'d> {
+    pub(crate) severity: Severity,
     pub(crate) message: FaultMessage,
     pub(crate) range: Range,
     /// Another place that matters.
@@ -45,20 +64,21 @@ impl<'d> Described for Diagnostic<'d> {
 
 impl<'d> Serialize for Diagnostic<'d> {
     fn serialize<S: Serializer>(&self, out: &mut S) -> Result<(), S::Error> {
-        out.begin_map(Some(member_count(&self.related)))?;
+        out.begin_map(Some(member_count(self.severity, &self.related)))?;
         out.key("code")?;
         out.u64(self.message.number as u64)?;
         out.key("message")?;
         out.str(self.message.text.as_str())?;
         out.key("range")?;
         write_range(out, &self.range)?;
-        write_rest(out, &self.related)
+        write_rest(out, self.severity, &self.related)
     }
 }
 
 /// How many members a diagnostic has.
-fn member_count(related: &Option<Place>) -> usize
-    ensures { result ≡ suc (suc (suc (members_len (rest_members (option_map place_data related.now))))) }
+fn member_count(severity: Severity, related: &Option<Place>) -> usize
+    ensures { result
+        ≡ suc (suc (suc (members_len (rest_members severity (option_map place_data related.now))))) }
 {
     match related {
         Some(_) => 6,
@@ -67,8 +87,12 @@ fn member_count(related: &Option<Place>) -> usize
 }
 
 /// Writes the members of a diagnostic that stand behind its range.
-fn write_rest<S: Serializer>(out: &mut S, related: &Option<Place>) -> Result<(), S::Error>
-    ensures { OnOk result (SendsMembers (rest_members (option_map place_data related.now))
+fn write_rest<S: Serializer>(
+    out: &mut S,
+    severity: Severity,
+    related: &Option<Place>,
+) -> Result<(), S::Error>
+    ensures { OnOk result (SendsMembers (rest_members severity (option_map place_data related.now))
         (S.written out.old) (S.written out.new)) }
 {
     match related {
@@ -77,18 +101,18 @@ fn write_rest<S: Serializer>(out: &mut S, related: &Option<Place>) -> Result<(),
             out.begin_seq(Some(1))?;
             write_place(out, place)?;
             out.end_seq()?;
-            write_last(out)
+            write_last(out, severity)
         }
-        None => write_last(out),
+        None => write_last(out, severity),
     }
 }
 
 /// Writes the last members of a diagnostic.
-fn write_last<S: Serializer>(out: &mut S) -> Result<(), S::Error>
-    ensures { OnOk result (SendsMembers last_members (S.written out.old) (S.written out.new)) }
+fn write_last<S: Serializer>(out: &mut S, severity: Severity) -> Result<(), S::Error>
+    ensures { OnOk result (SendsMembers (last_members severity) (S.written out.old) (S.written out.new)) }
 {
     out.key("severity")?;
-    out.u64(ERROR)?;
+    out.u64(severity.number())?;
     out.key("source")?;
     out.str("rpcgen")?;
     out.end_map()

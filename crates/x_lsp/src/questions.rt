@@ -146,9 +146,9 @@ fn definition(
 ) -> Result<Value, NoMemory>
     ensures { IfOk result (λ v. has_float (view v) ≡ false) }
 {
-    match definition_at(alloc, &document.session, at)? {
+    match definition_at(alloc, &document.compiled.session, at)? {
         Some(token) => {
-            let mut places = Places::of(encoding, document.session.bytes());
+            let mut places = Places::of(encoding, document.shown.bytes());
             let range = range_of(&mut places, &token);
             place_value(alloc, document, &range, Told::Location)
         }
@@ -167,7 +167,7 @@ fn references(
 ) -> Result<Value, NoMemory>
     ensures { IfOk result (λ v. has_float (view v) ≡ false) }
 {
-    let mut tokens = references_at(alloc, &document.session, at, declared)?;
+    let mut tokens = references_at(alloc, &document.compiled.session, at, declared)?;
     put_in_order(&mut tokens);
     places_value(alloc, encoding, document, &tokens, told)
 }

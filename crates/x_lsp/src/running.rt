@@ -4,6 +4,7 @@ ghost use Rattle.std.specs.Prelude.{◌≡◌, ◌≢◌};
 ghost use Rattle.x_lsp.specs.Serving.{IsRun, TellsFault};
 
 use crate::serving::{ServeFault, serve};
+use crate::setting::Setting;
 use std::alloc::Global;
 use x_args::{Status, complain_of_output, tell_of_file};
 use x_hash::HashKey;
@@ -11,10 +12,12 @@ use x_text::{Outlet, Sink, Tap};
 
 /// Serves the client of the input, and answers the status: `Done` where it asked to shut down before it ended
 /// the run, `Faulty` where it did not, and `Failed` where the run could not be carried out, which it tells,
-/// unless the output's reader has enough. Tables of names hash by the key.
+/// unless the output's reader has enough. Documents are compiled by the setting; tables of names hash by the
+/// key.
 pub fn serve_run<I: Tap, O: Outlet, E: Sink>(
     alloc: Global,
     hash_key: HashKey,
+    setting: Setting,
     input: &mut I,
     out: &mut O,
     err: &mut E,
@@ -23,7 +26,7 @@ pub fn serve_run<I: Tap, O: Outlet, E: Sink>(
         (O.is_closed out.new) (E.state err.old) (E.state err.new) result }
     ensures quiet { result ≢ Status.Failed → err.new ≡ err.old }
 {
-    match serve(alloc, hash_key, input, out) {
+    match serve(alloc, hash_key, setting, input, out) {
         Ok(true) => Status::Done,
         Ok(false) => Status::Faulty,
         Err(fault) => {

@@ -5,10 +5,10 @@ ghost use Rattle.std.specs.Prelude.{vec_len};
 ghost use Rattle.serde_json.specs.Data.{null};
 ghost use Rattle.serde_json.specs.View.{view};
 ghost use Rattle.serde_json.specs.Written.{has_float};
-ghost use Rattle.x_compile.specs.Known.{nothing_known};
 ghost use Rattle.x_lsp.specs.Answers.{IsRefused, IsSaid, IsSaidTo, IsToMethod, IsToNotification};
 ghost use Rattle.x_lsp.specs.Answers.{IsToRequest};
 ghost use Rattle.x_lsp.specs.Documents.{without};
+ghost use Rattle.x_lsp.specs.Grounds.{ground_of};
 ghost use Rattle.x_lsp.specs.Lives.{end_of, is_of_request, life_behind, life_noted};
 ghost use Rattle.x_lsp.specs.Messages.{asked_by};
 ghost use Rattle.x_lsp.specs.declared.life.Life.TheVariants.{Fresh};
@@ -27,31 +27,39 @@ use crate::messages::{Incoming, classify};
 use crate::method::{Method, Question};
 use crate::params::{changed_in, opened_in, text_changes, uri_in};
 use crate::questions::result_of;
+use crate::setting::Setting;
 use serde_json::Value;
 use std::alloc::{AllocError, Global};
 use x_hash::HashKey;
 
 /// A server of a client.
 #[derive(Drop)]
-pub struct Server {
+pub struct Server<'k> {
     alloc: Global,
     /// What tables of the names of documents hash by.
     hash_key: HashKey,
+    setting: Setting<'k>,
     life: Life,
     client: Client,
     documents: Vec<OpenDocument>,
     kept: KeptTexts,
 }
 
-impl Server {
-    /// A server that no client has initialized. Whoever writes what the client opens and types must not know
-    /// the key, by which tables of the names in it hash.
-    pub fn new(alloc: Global, hash_key: HashKey) -> Result<Server, AllocError>
+impl<'k> Server<'k> {
+    /// A server that no client has initialized, which compiles documents by this setting unless the client
+    /// asks for another. Whoever writes what the client opens and types must not know the key, by which
+    /// tables of the names in it hash.
+    pub fn new(
+        alloc: Global,
+        hash_key: HashKey,
+        setting: Setting<'k>,
+    ) -> Result<Server<'k>, AllocError>
         ensures { IfOk result (λ server. server.life ≡ Fresh) }
     {
         Ok(Server {
             alloc,
             hash_key,
+            setting,
             life: Life::Fresh,
             client: Client {
                 encoding: Encoding::Utf16,
@@ -179,6 +187,7 @@ impl Server {
     {
         if method == Method::Initialize {
             self.client = client_in(params);
+            self.setting = self.setting.asked(params);
         }
         self.life = self.life.behind(method);
     }
@@ -239,13 +248,16 @@ impl Server {
 
     /// Opens a document, in place of one that is open by its name, and publishes its faults.
     fn open_document(&mut self, uri: &str, version: i64, text: &str) -> Reply
-        ensures says { Publishes self.old.client uri.now version nothing_known text.now (said_of result) }
+        ensures says { Publishes self.old.client uri.now version (ground_of self.old.setting) text.now
+            (said_of result) }
+        ensures note { IsToNotification (said_of result) }
         ensures life { self.new.life ≡ self.old.life }
     {
         let mut opened = match OpenDocument::open(
             self.alloc,
             self.hash_key,
             self.client,
+            &self.setting,
             uri,
             version,
             text,

@@ -11,6 +11,7 @@ ghost use Rattle.x_lsp.specs.declared.life.Life.TheVariants.{Fresh};
 use crate::framing::{FrameFault, FrameFound, MessageReader};
 use crate::kept::Reply;
 use crate::server::Server;
+use crate::setting::Setting;
 use std::alloc::Global;
 use thiserror::Error;
 use x_hash::HashKey;
@@ -35,8 +36,8 @@ pub enum ServeFault {
 }
 
 /// Answers the messages that a tap gives, one by one, until the client ends the server or there are no more.
-/// It tells whether the client had asked it to shut down. Tables of names hash by the key, as [`Server::new`]
-/// says.
+/// It tells whether the client had asked it to shut down. Documents are compiled by the setting, and tables
+/// of names hash by the key, as [`Server::new`] says.
 ///
 /// # Errors
 ///
@@ -45,6 +46,7 @@ pub enum ServeFault {
 pub fn serve<I: Tap, O: Sink>(
     alloc: Global,
     hash_key: HashKey,
+    setting: Setting,
     input: &mut I,
     out: &mut O,
 ) -> Result<bool, ServeFault>
@@ -53,7 +55,7 @@ pub fn serve<I: Tap, O: Sink>(
     ensures fault { NamesFault result (I.state input.old).failed (I.state input.new).failed
         (O.state out.old).failed (O.state out.new).failed }
 {
-    match Server::new(alloc, hash_key) {
+    match Server::new(alloc, hash_key, setting) {
         Ok(server) => {
             let mut server = server;
             converse(alloc, &mut server, input, out)

@@ -1,4 +1,5 @@
 //! Each public call of `x_lsp` once.
+use crate::setting::SETTING;
 use std::test::Fail;
 use x_hash::HashKey;
 use x_lsp::{
@@ -6,7 +7,7 @@ use x_lsp::{
     apply_change, definition_at, offset_of, positions_lead_back, publish, references_at, serve,
 };
 use x_session::Session;
-use x_text::{MemSink, MemTap};
+use x_text::{MemSink, MemTap, Source};
 
 /// A message that ends a server.
 const EXIT: &[u8] = b"Content-Length: 33\r\n\r\n{\"jsonrpc\":\"2.0\",\"method\":\"exit\"}";
@@ -30,20 +31,31 @@ fn positions_and_places(rt: HostRuntime) {
 #[test]
 fn a_change_is_published(rt: HostRuntime) -> Result<(), Fail> {
     let alloc = rt.alloc();
-    let mut session = Session::open(alloc, b"t", b"const A = 1;")?;
-    let mut marks = Waymarks::of(alloc, Encoding::Utf8, session.bytes())?;
+    let mut text = Source::from_bytes(alloc, b"const A = 1;")?;
+    let mut marks = Waymarks::of(alloc, Encoding::Utf8, text.bytes())?;
     let whole = TextChange {
         range: None,
         text: "x",
     };
-    apply_change(alloc, &mut session, &mut marks, &whole)?;
-    assert!(rt; session.bytes() == b"x".as_slice());
+    apply_change(alloc, &mut text, &mut marks, &whole)?;
+    assert!(rt; text.bytes() == b"x".as_slice());
+    let session = Session::open(alloc, b"t", text.bytes())?;
     let client = Client {
         encoding: Encoding::Utf8,
         shows_related: true,
     };
     let mut messages = FaultMessages::new(alloc);
-    let note = publish(alloc, client, "t.x", 1, &session, &mut marks, &mut messages)?;
+    let note = publish(
+        alloc,
+        client,
+        "t.x",
+        1,
+        true,
+        text.bytes(),
+        &session,
+        &mut marks,
+        &mut messages,
+    )?;
     assert!(rt; note.len() > 200);
     Ok(())
 }
@@ -70,7 +82,7 @@ fn names_are_found(rt: HostRuntime) -> Result<(), Fail> {
 
 #[test]
 fn a_server_ends(rt: HostRuntime) -> Result<(), Fail> {
-    let mut server = Server::new(rt.alloc(), HashKey::of_bytes(b""))?;
+    let mut server = Server::new(rt.alloc(), HashKey::of_bytes(b""), SETTING)?;
     let reply = server.reply(b"{\"id\":1,\"method\":\"shutdown\"}");
     assert!(rt; server.text_of(&reply).is_some());
     assert!(rt; server.end().is_none());
@@ -86,5 +98,13 @@ fn a_conversation_ends(rt: HostRuntime) {
     let mut bytes = [0u8; 16];
     let mut sink = MemSink::new(&mut bytes, 3, 16);
     let mut tap = MemTap::new(EXIT, 3, 1000);
-    assert!(rt; serve(rt.alloc(), HashKey::of_bytes(b""), &mut tap, &mut sink) == Ok(false));
+    assert!(rt;
+        serve(
+            rt.alloc(),
+            HashKey::of_bytes(b""),
+            SETTING,
+            &mut tap,
+            &mut sink
+        ) == Ok(false)
+    );
 }

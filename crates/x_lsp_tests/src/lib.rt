@@ -7,3 +7,5 @@ mod calls;
 mod memory;
 #[cfg(test)]
 mod requests;
+#[cfg(test)]
+mod setting;

@@ -1,6 +1,7 @@
 //! What a server says where memory runs out.
 ghost use Rattle.std.specs.Prelude.{◌≤◌};
 
+use crate::setting::SETTING;
 use refusals::{MOST_TURNS, begin, end};
 use std::alloc::Global;
 use std::process::Abort;
@@ -107,7 +108,7 @@ fn say_with_little_memory(
     exchange: Exchange,
 ) -> Result<usize, Fail> {
     for turn in 0..MOST_TURNS {
-        let mut server = Server::new(alloc, HashKey::of_bytes(b""))?;
+        let mut server = Server::new(alloc, HashKey::of_bytes(b""), SETTING)?;
         let _first = server.reply(INITIALIZE);
         let _opened = server.reply(OPEN);
         let refused = say(rt, alloc, &mut server, turn, exchange)?;

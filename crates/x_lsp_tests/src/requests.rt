@@ -3,6 +3,7 @@
 ghost use Rattle.std.specs.Prelude.{◌≤◌};
 
 use crate::memory::{ANSWER, ANSWER_TO_NONE};
+use crate::setting::SETTING;
 use refusals::{MOST_TURNS, begin, end};
 use std::alloc::Global;
 use std::process::Abort;
@@ -49,8 +50,8 @@ const REQUESTS: [(&str, &str); 12] = [
 ];
 
 /// A server that was told these messages.
-fn server_behind(alloc: Global, before: &[&[u8]]) -> Result<Server, Fail> {
-    let mut server = Server::new(alloc, HashKey::of_bytes(b""))?;
+fn server_behind(alloc: Global, before: &[&[u8]]) -> Result<Server<'static>, Fail> {
+    let mut server = Server::new(alloc, HashKey::of_bytes(b""), SETTING)?;
     for message in before {
         let _said = server.reply(message);
     }
@@ -165,7 +166,7 @@ fn serve_once(
     let mut sink = MemSink::new(&mut said, 4096, 4096);
     let mut tap = MemTap::new(stream, 64, usize::MAX);
     begin(alloc, turn)?;
-    let result = serve(alloc, HashKey::of_bytes(b""), &mut tap, &mut sink);
+    let result = serve(alloc, HashKey::of_bytes(b""), SETTING, &mut tap, &mut sink);
     let refused = end(alloc);
     if sink.bytes() == wanted {
         assert_eq!(rt; result, Ok(true));
@@ -199,7 +200,13 @@ fn refused_conversation(rt: HostRuntime) -> Result<(), Fail> {
     let mut sink = MemSink::new(&mut said, 4096, 4096);
     let mut tap = MemTap::new(&stream, 64, usize::MAX);
     assert_eq!(rt;
-        serve(rt.alloc(), HashKey::of_bytes(b""), &mut tap, &mut sink),
+        serve(
+            rt.alloc(),
+            HashKey::of_bytes(b""),
+            SETTING,
+            &mut tap,
+            &mut sink
+        ),
         Ok(true)
     );
     let turns = serve_in_turns(&rt, rt.alloc(), &stream, sink.bytes())?;

@@ -34,7 +34,7 @@ mentions_more items n i rest here =
     ∙ ap (λ l. mentions_of (definitions_of (take n items)) ++ l) (append-nil here_is)
 
 -- the table of one item more, which is that before with what is added for its mentions
-pub item_more : {known : KnownText} (text : List ℕ) (tokens : List (Kind × ℕ)) (items : List Item)
+pub item_more : {known : KnownText} (own : KnownNames) (text : List ℕ) (tokens : List (Kind × ℕ)) (items : List Item)
     (n m count : ℕ) (found : Option Definition) (first : List ℕ → Option Declarer) (old new : Entries)
     (ms : List Mention)
     → m ≡ suc n → n < count → IsCompilation known text tokens items
@@ -42,13 +42,13 @@ pub item_more : {known : KnownText} (text : List ℕ) (tokens : List (Kind × �
     → Compiles known text (λ items. found ≡ definition_at items n)
     → Compiles known text (λ items. (name : List ℕ) → first name ≡ first_declarer (definitions_of items) name)
     → ms ≡ mentions_in found
-    → ((before : List Mention) → HasFirsts old (are_lacking (known_names known) first before)
-    → HasFirsts new (are_lacking (known_names known) first (before ++ ms)))
-    → HasFirsts old (are_lacking (known_names known) (first_declarer (definitions_of items))
+    → ((before : List Mention) → HasFirsts old (are_lacking own first before)
+    → HasFirsts new (are_lacking own first (before ++ ms)))
+    → HasFirsts old (are_lacking own (first_declarer (definitions_of items))
     (mentions_of (definitions_of (take n items))))
-    → HasFirsts new (are_lacking (known_names known) (first_declarer (definitions_of items))
+    → HasFirsts new (are_lacking own (first_declarer (definitions_of items))
     (mentions_of (definitions_of (take m items))))
-item_more {known} text tokens items n m count found first old new ms next lt is many defined names mentions
+item_more {known} own text tokens items n m count found first old new ms next lt is many defined names mentions
     step had =
     let count_is = of_each text many tokens items is in
     let at = item_at items n (omega (arith, lt, count_is)) is.are_parses in
@@ -61,10 +61,10 @@ item_more {known} text tokens items n m count found first old new ms next lt is 
     ap (λ l. before ++ l) (mentions ∙ ap mentions_in here)
     ∙ sym (mentions_more items n at.item (drop (suc n) items) at.here)
     ∙ ap (λ k. mentions_of (definitions_of (take k items))) (sym next) in
-    subst (λ l. HasFirsts new (are_lacking (known_names known) (first_declarer (definitions_of items)) l))
+    subst (λ l. HasFirsts new (are_lacking own (first_declarer (definitions_of items)) l))
     after
-    (subst (λ f. HasFirsts new (are_lacking (known_names known) f (before ++ ms))) same
-    (step before (subst (λ f. HasFirsts old (are_lacking (known_names known) f before)) (sym same) had)))
+    (subst (λ f. HasFirsts new (are_lacking own f (before ++ ms))) same
+    (step before (subst (λ f. HasFirsts old (are_lacking own f before)) (sym same) had)))
 
 -- nothing is added for an item without a definition
 pub nothing_more : (known : KnownNames) (first : List ℕ → Option Declarer) (es : Entries)

@@ -1,2 +1,4 @@
+pub mod BeforeLemmas
 pub mod FirstLemmas
 pub mod LackingLemmas
+pub mod TypeLemmas

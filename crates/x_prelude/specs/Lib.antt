@@ -1,3 +1,4 @@
+pub mod Before
 pub mod CTypes
 pub mod Lacking
 pub mod LackingTable

@@ -1,25 +1,32 @@
 -- The definitions that a text lacks: each name that it uses and nobody declares is taken as one of C.
-use Rattle.std.specs.Prelude.{ℕ, ◌+◌, ◌*◌, List, [], ◌++◌, Option, Some, None, codes, decimal}
-use Rattle.std.specs.Prelude.{if◌then◌else◌}
+use Rattle.std.specs.Prelude.{ℕ, ◌+◌, ◌*◌, Bool, not, ◌&&◌, List, [], ◌++◌, Option, Some, None, is_some}
+use Rattle.std.specs.Prelude.{codes, decimal, if◌then◌else◌}
 use Rattle.std.specs.List.{enumerate_from, flat_map}
 use Rattle.x_trees.specs.Mentions.{Mention}
+use Rattle.x_trees.specs.Tree.{Definition}
 use Rattle.x_trees.specs.declared.names.mention.Use.{Use}
 use Rattle.x_trees.specs.declared.names.mention.Use.TheVariants as uses
 use Rattle.x_trees.specs.declared.trees.declaration.Tag.{Tag}
 use Rattle.x_trees.specs.declared.trees.declaration.Tag.TheVariants as tags
-use Rattle.x_compile.specs.Compile.{Item, definitions_of}
-use Rattle.x_compile.specs.Known.{KnownText, known_names}
-use Rattle.x_prelude.specs.CTypes.{c_type}
+use Rattle.x_rules.specs.Results.{KnownNames}
+use Rattle.x_session.specs.Lacking.{is_lacking_name}
+use Rattle.x_prelude.specs.CTypes.{c_type, c_types}
 use Rattle.x_prelude.specs.Lacking.{lacking}
 use Rattle.x_prelude.specs.declared.definition.FromC.{FromC}
 
--- ---- a type of C, known by what is on the wire
+-- ---- the types of C, known by what is on the wire
 
--- what C calls so, where a name is used as a type with no keyword in front of it
-abbrev pub c_type_of : List ℕ → Use → Option Tag → Option (List ℕ)
-c_type_of name uses.Value tag = None
-c_type_of name usage None = c_type name
-c_type_of name usage (Some tag) = None
+-- a text uses the name, and neither it nor what is known before it declares it
+abbrev pub lacks_name : KnownNames → List (Option Definition) → List ℕ → Bool
+lacks_name known definitions name = not (is_some (known name)) && is_lacking_name definitions name
+
+-- a type of C, as it is declared, where it is lacking
+abbrev pub type_text : Bool → List ℕ → List ℕ
+type_text lacks declaration = if lacks then codes "typedef " ++ declaration ++ codes ";\n" else []
+
+-- those of a table that a text lacks, in the order of the table
+abbrev pub types_in : List (List ℕ × List ℕ) → KnownNames → List (Option Definition) → List ℕ
+types_in table known definitions = flat_map (λ e. type_text (lacks_name known definitions e.0) e.1) table
 
 -- ---- any other name of C: a constant of unknown number, or a type of unknown layout
 
@@ -40,23 +47,19 @@ foreign_text number name usage (Some tags.Enum) =
     codes "enum " ++ name ++ codes " { " ++ name ++ codes "__ = " ++ decimal (constant_number number)
     ++ codes " };\n"
 
--- ---- what may be used of C
-
--- the definition of a name, where it has this declaration as a type of C, if any, or else this definition
-abbrev pub definition_by : Option (List ℕ) → List ℕ → List ℕ
-definition_by None foreign = foreign
-definition_by (Some declaration) foreign = codes "typedef " ++ declaration ++ codes ";\n"
-
--- the definition of the name with this number, by its first mention
+-- the definition of a name by its first mention, unless it is taken as a type of C
 abbrev pub definition_of : FromC → ℕ → Mention → List ℕ
 definition_of from number m =
-    definition_by (if from.types then c_type_of m.name m.usage m.tag else None)
-    (if from.foreign then foreign_text number m.name m.usage m.tag else [])
+    if from.types && is_some (c_type m.name) then [] else foreign_text number m.name m.usage m.tag
 
 -- the definitions of names, numbered from 0
 abbrev pub definitions_of_names : FromC → List Mention → List ℕ
 definitions_of_names from names = flat_map (λ e. definition_of from e.0 e.1) (enumerate_from 0 names)
 
--- the definitions that a text with these items lacks, in the order in which it uses their names first
-abbrev pub prelude : FromC → KnownText → List Item → List ℕ
-prelude from known items = definitions_of_names from (lacking (known_names known) (definitions_of items))
+-- ---- both
+
+-- What a text with these definitions lacks where this is known before it, as far as it may be taken from C:
+-- types, and then the other names in the order in which it uses them first.
+abbrev pub prelude : FromC → KnownNames → List (Option Definition) → List ℕ
+prelude from known definitions = (if from.types then types_in c_types known definitions else [])
+    ++ (if from.foreign then definitions_of_names from (lacking known definitions) else [])

@@ -1,11 +1,12 @@
 //! The definition that is made of a name.
 
-ghost use Rattle.std.specs.Prelude.{◌≡◌, ◌++◌, [], map, option_map, OnOk, if◌then◌else◌};
+ghost use Rattle.std.specs.Prelude.{◌≡◌, ◌++◌, ◌&&◌, is_some, map, OnOk};
 ghost use Rattle.std.specs.List.{concat};
 ghost use Rattle.x_trees.specs.Collected.{view_mention};
 ghost use Rattle.x_trees.specs.declared.names.mention.Use.TheVariants as uses;
 ghost use Rattle.x_trees.specs.declared.trees.declaration.Tag.TheVariants as tags;
-ghost use Rattle.x_prelude.specs.Prelude.{c_type_of, constant_number, definition_of, foreign_text};
+ghost use Rattle.x_prelude.specs.CTypes.{c_type};
+ghost use Rattle.x_prelude.specs.Prelude.{constant_number, definition_of, foreign_text};
 
 use crate::c_types::c_type;
 use itoa::Buffer;
@@ -21,7 +22,7 @@ pub struct FromC {
     pub foreign: bool,
 }
 
-/// Adds the definition of the name with this number, by its first mention, if it may be used.
+/// Adds the definition of the name with this number, by its first mention, unless it is taken as a type of C.
 pub(crate) fn add_definition(
     text: &mut Vec<u8>,
     from: FromC,
@@ -31,46 +32,18 @@ pub(crate) fn add_definition(
     ensures { OnOk result (text.new.items
         ≡ text.old.items ++ definition_of from number (view_mention mention.now)) }
 {
-    match known_type(from, mention) {
-        Some(declaration) => add(text, &[b"typedef ", declaration.as_bytes(), b";\n"]),
-        None => add_unknown(text, from, number, mention),
-    }
-}
-
-/// The declaration of a type of C, where these may be used.
-fn known_type(from: FromC, mention: &Mention) -> Option<&'static str>
-    ensures { option_map (λ d. d.now) result ≡ (if from.types
-        then c_type_of mention.now.name.now mention.now.usage mention.now.tag else None) }
-{
-    if from.types { type_of(mention) } else { None }
-}
-
-/// The declaration of a type of C, where a name is used as a type with no keyword in front of it.
-fn type_of(mention: &Mention) -> Option<&'static str>
-    ensures { option_map (λ d. d.now) result
-        ≡ c_type_of mention.now.name.now mention.now.usage mention.now.tag }
-{
-    match (mention.usage, mention.tag) {
-        (Use::ByValue | Use::Link, None) => c_type(mention.name),
-        _ => None,
-    }
-}
-
-/// Adds the definition of a name of which nothing is known, where such names may be used.
-fn add_unknown(
-    text: &mut Vec<u8>,
-    from: FromC,
-    number: usize,
-    mention: &Mention,
-) -> Result<(), NoMemory>
-    ensures { OnOk result (text.new.items ≡ text.old.items ++ (if from.foreign
-        then foreign_text number mention.now.name.now mention.now.usage mention.now.tag else [])) }
-{
-    if from.foreign {
-        add_foreign(text, number, mention)
-    } else {
+    if is_type(from, mention.name) {
         Ok(())
+    } else {
+        add_foreign(text, number, mention)
     }
+}
+
+/// Whether a name is taken as a type of C.
+fn is_type(from: FromC, name: &[u8]) -> bool
+    ensures { result ≡ (from.types && is_some (c_type name.now)) }
+{
+    from.types && c_type(name).is_some()
 }
 
 /// Adds the definition of a constant of unknown number, or of a type of unknown layout.
@@ -136,7 +109,7 @@ fn constant_number(number: usize) -> u128
 }
 
 /// Adds the parts, one behind another.
-fn add(text: &mut Vec<u8>, parts: &[&[u8]]) -> Result<(), NoMemory>
+pub(crate) fn add(text: &mut Vec<u8>, parts: &[&[u8]]) -> Result<(), NoMemory>
     ensures { OnOk result (text.new.items ≡ text.old.items ++ concat (map (λ p. p.now) parts.now)) }
 {
     for part in parts {

@@ -12,6 +12,7 @@ ghost use Rattle.x_prelude.specs.LackingTable.{HasFirsts, held};
 
 use indexmap::IndexMap;
 use std::alloc::Global;
+use x_compile::KnownDefinitions;
 use x_explain::names;
 use x_hash::KeyedTable;
 use x_names::{Names, is_beforehand};
@@ -22,15 +23,19 @@ use x_trees::{Glossary, Mention as Used};
 /// Names, each with its first mention, in the order of these.
 pub(crate) type FirstMentions<'s> = KeyedTable<&'s [u8], Used<'s>>;
 
-/// The names that a text lacks. It takes time in proportion to the text, and memory for these names, for
-/// those that it declares, and for what stands in one definition.
+/// The names that a text lacks, behind what is known. It takes time in proportion to the text, and memory for
+/// these names, for those that it declares, and for what stands in one definition.
 ///
 /// # Errors
 ///
 /// [`NoMemory`] where a table or a list could not grow.
-pub(crate) fn lacking(alloc: Global, session: &Session) -> Result<FirstMentions<'_>, NoMemory>
+pub(crate) fn lacking<'s>(
+    alloc: Global,
+    session: &'s Session,
+    known: &KnownDefinitions,
+) -> Result<FirstMentions<'s>, NoMemory>
     ensures { IfOk result (λ table. Compiles session.now.known session.now.text
-        (λ items. held table.entries ≡ lacking (known_names session.now.known) (definitions_of items))) }
+        (λ items. held table.entries ≡ lacking (known_names known.now) (definitions_of items))) }
 {
     // So many tokens fit, and no definition has more words.
     let _ = session.token_count();
@@ -40,7 +45,7 @@ pub(crate) fn lacking(alloc: Global, session: &Session) -> Result<FirstMentions<
     for item in 0..session.item_count() {
         if let Some(definition) = session.definition(item) {
             glossary.read(alloc, definition)?;
-            add(session, &names, &mut table, &glossary.mentioned)?;
+            add(known, &names, &mut table, &glossary.mentioned)?;
         }
     }
     Ok(table)
@@ -48,18 +53,18 @@ pub(crate) fn lacking(alloc: Global, session: &Session) -> Result<FirstMentions<
 
 /// Takes in the lacking names among mentions, behind those of the mentions before.
 fn add<'s>(
-    session: &Session,
+    known: &KnownDefinitions,
     names: &Names,
     table: &mut FirstMentions<'s>,
     mentions: &[Used<'s>],
 ) -> Result<(), NoMemory>
     ensures { OnOk result ((before : List Mention)
-        → let lack = are_lacking (known_names session.now.known) (first_in names.now) in
+        → let lack = are_lacking (known_names known.now) (first_in names.now) in
         HasFirsts table.old.entries (lack before)
         → HasFirsts table.new.entries (lack (before ++ map view_mention mentions.now))) }
 {
     for mention in mentions {
-        if is_lacking(session, names, mention.name) {
+        if is_lacking(known, names, mention.name) {
             note(table, mention)?;
         }
     }
@@ -67,10 +72,10 @@ fn add<'s>(
 }
 
 /// Whether a name is declared neither beforehand, nor before the text, nor by an item.
-fn is_lacking(session: &Session, names: &Names, name: &[u8]) -> bool
-    ensures { result ≡ is_lacking (known_names session.now.known) (first_in names.now) name.now }
+fn is_lacking(known: &KnownDefinitions, names: &Names, name: &[u8]) -> bool
+    ensures { result ≡ is_lacking (known_names known.now) (first_in names.now) name.now }
 {
-    !(is_beforehand(name) || session.is_known(name) || names.first(name).is_some())
+    !(is_beforehand(name) || known.view(name).is_some() || names.first(name).is_some())
 }
 
 /// Takes in a name behind those of these mentions, if none of these is one of it.

@@ -1,13 +1,16 @@
-//! The definitions that a text lacks, made of the names that it uses and nobody declares ([`prelude_of`]):
-//! such a name is taken as one of C. Their text, compiled, can be known before the text that lacks them.
+//! What stands before a text: the definitions of known files, and those that the text lacks, made of the
+//! names that it uses and nobody declares. Such a name is taken as one of C.
 #![tactic(auto)]
 
+mod before;
 mod c_types;
 mod definition;
+mod followed;
 mod lacking;
 mod laws;
 mod prelude;
 
+pub use before::{lacking_text, open_by};
 pub use definition::FromC;
+pub use followed::FollowedText;
 pub use laws::undeclared_law;
-pub use prelude::prelude_of;

@@ -2,6 +2,7 @@ pub mod CountingLemmas
 pub mod EditLists
 pub mod FollowLemmas
 pub mod FreshLemmas
+pub mod LackingLemmas
 pub mod MoveLemmas
 pub mod NumberLemmas
 pub mod PatchLemmas

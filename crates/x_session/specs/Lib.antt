@@ -1,5 +1,6 @@
 pub mod FaultLines
 pub mod Following
+pub mod Lacking
 pub mod Moves
 pub mod Numbers
 pub mod Planned

@@ -10,4 +10,5 @@ mod planned;
 mod planning;
 mod stale;
 
+pub(crate) use naming::lacks;
 pub(crate) use planning::{carry_out, plan_edit};

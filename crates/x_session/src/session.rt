@@ -1,7 +1,7 @@
 //! A text that stays open, with all that compiling it gives.
 
 ghost use Rattle.std.specs.Prelude.{◌≡◌, ◌↔◌, ◌<◌, ◌++◌, length, option_map, slice_get, IfOk};
-ghost use Rattle.std.specs.Prelude.{OnOk, OnErr, IfErr, IsErrOf, is_some, map, take};
+ghost use Rattle.std.specs.Prelude.{OnOk, OnErr, IfErr, IsErrOf, map, take};
 ghost use Rattle.x_text.specs.Edits.{change_of, edited_by, Judges};
 ghost use Rattle.x_text.specs.Limits.{most_text};
 ghost use Rattle.x_lex.specs.Places.{lexeme};
@@ -9,9 +9,10 @@ ghost use Rattle.x_trees.specs.View.{tree_at};
 ghost use Rattle.x_session.specs.Session.{Document, Compiles, edited_by_all, TakesAll, StopsAt};
 ghost use Rattle.x_compile.specs.Compile.{tokens_of, definitions_of, definition_at, faults_of, places_of};
 ghost use Rattle.x_compile.specs.Definitions.{numbered};
-ghost use Rattle.x_compile.specs.Known.{known_definitions, known_names, nothing_known};
+ghost use Rattle.x_compile.specs.Known.{known_definitions, nothing_known};
 ghost use Rattle.x_rules.specs.Results.{meaning_at, result_at};
 ghost use Rattle.x_rules.specs.RustViews.{view_meaning};
+ghost use Rattle.x_session.specs.Lacking.{is_lacking_name};
 ghost use Rattle.x_session.specs.Typed.{GivesSchema, IsKnownBy};
 ghost use Rattle.x_schema.specs.Schemas.{IsSchemaOf};
 ghost use Rattle.x_compile.specs.KeptView.{entry_definitions};
@@ -22,7 +23,7 @@ mod texts;
 mod work;
 
 use crate::EditFault;
-use crate::follow::{carry_out, plan_edit};
+use crate::follow::{carry_out, lacks, plan_edit};
 pub use schema_fault::SchemaFault;
 use std::alloc::Global;
 use std::marker::Model;
@@ -258,11 +259,18 @@ impl Session {
         self.items.hash_key
     }
 
-    /// Whether a name is declared by what is known before the text.
-    pub fn is_known(&self, name: &[u8]) -> bool
-        ensures { result ≡ is_some (known_names self.now.known name.now) }
+    /// Whether the text uses a name that it does not declare. The first call or edit makes the table of its
+    /// names, which takes time in proportion to the text.
+    ///
+    /// # Errors
+    ///
+    /// [`NoMemory`] where that table could not be made.
+    pub fn lacks(&mut self, name: &[u8]) -> Result<bool, NoMemory>
+        ensures same { self.new ≡ self.old }
+        ensures lacks { IfOk result (λ lacks. Compiles self.old.known self.old.text
+            (λ items. lacks ≡ is_lacking_name (definitions_of items) name.now)) }
     {
-        self.known.view(name).is_some()
+        lacks(self.alloc, &mut self.items, name)
     }
 
     /// The bytes of the text.

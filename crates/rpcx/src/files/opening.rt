@@ -3,6 +3,7 @@
 ghost use Rattle.std.specs.Prelude.{◌≡◌, ◌⊎◌, codes, OnErr, OnOk};
 ghost use Rattle.x_text.specs.Writing.{Adds};
 ghost use Rattle.rpcx.specs.Generate.{told_fault, told_faults, ExplainsFaults, IsOpened, TellsFaults};
+ghost use Rattle.rpcx.specs.Opening.{from_options};
 ghost use Rattle.x_args.specs.Telling.{IsTold, told_of};
 ghost use Rattle.x_session.specs.Session.{Compiles};
 
@@ -48,17 +49,23 @@ impl<'o, 'k> Opening<'o, 'k> {
     ) -> Opening<'o, 'k>
         ensures style { result.style ≡ style }
         ensures known { result.known.now ≡ known.now }
-        ensures from_c { result.from_c
-            ≡ record { types = options.now.c_types; foreign = options.now.foreign } }
+        ensures from_c { result.from_c ≡ from_options options.now }
     {
         Opening {
             style,
             known,
-            from_c: FromC {
-                types: options.c_types,
-                foreign: options.foreign,
-            },
+            from_c: from_options(options),
         }
+    }
+}
+
+/// What the options of a command line take from C.
+pub(crate) fn from_options(options: &BeforeArgs) -> FromC
+    ensures { result ≡ from_options options.now }
+{
+    FromC {
+        types: options.c_types,
+        foreign: options.foreign,
     }
 }
 

@@ -63,7 +63,7 @@ pub(crate) fn completion(
 ) -> Result<Value, NoMemory>
     ensures { IfOk result (λ v. has_float (view v) ≡ false) }
 {
-    let session = &document.session;
+    let session = &document.compiled.session;
     let expected = expected_at(alloc, session, at)?;
     let mut list = PlainList::new(alloc);
     for keyword in expected.keywords() {

@@ -21,11 +21,11 @@ pub(crate) fn folds(alloc: Global, document: &OpenDocument) -> Result<Value, NoM
     let mut reader = FoldReader {
         alloc,
         folds: PlainList::new(alloc),
-        places: Places::of(Encoding::Utf8, document.session.bytes()),
+        places: Places::of(Encoding::Utf8, document.shown.bytes()),
         braces: Vec::new(alloc),
         passed_on: None,
     };
-    for token in document.session.tokens() {
+    for token in document.compiled.session.tokens() {
         reader.read(&token)?;
     }
     reader.end_passed_on()?;

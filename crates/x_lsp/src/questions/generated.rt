@@ -29,10 +29,11 @@ pub(crate) fn text(
     wanted: Wanted,
 ) -> Result<Value, NoMemory>
     ensures plain { IfOk result (λ v. has_float (view v) ≡ false) }
-    ensures told { IfOk result (λ v. Compiles document.now.session.known document.now.session.text
-        (λ items. view v ≡ string (utf8_lossy (told_text wanted document.now.session items)))) }
+    ensures told { IfOk result (λ v. let session = document.now.compiled.session in
+        Compiles session.known session.text
+        (λ items. view v ≡ string (utf8_lossy (told_text wanted session items)))) }
 {
-    let bytes = told_text(alloc, &document.session, wanted)?;
+    let bytes = told_text(alloc, &document.compiled.session, wanted)?;
     Ok(Value::String(String::from_utf8_lossy(alloc, &bytes)?))
 }
 

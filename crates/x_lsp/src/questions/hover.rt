@@ -28,12 +28,12 @@ pub(crate) fn hover(
 ) -> Result<Value, NoMemory>
     ensures { IfOk result (λ v. has_float (view v) ≡ false) }
 {
-    let session = &document.session;
+    let session = &document.compiled.session;
     let names = names(alloc, session)?;
     match declared_name_at(alloc, session, &names, at)? {
         Some(found) => {
             let told = told_of(alloc, session, &found)?;
-            let mut places = Places::of(encoding, session.bytes());
+            let mut places = Places::of(encoding, document.shown.bytes());
             let range = range_value(alloc, &range_of(&mut places, &found.token))?;
             Ok(hover_value(alloc, told.as_str(), range)?)
         }

@@ -35,7 +35,7 @@ pub(crate) fn places_value(
     ensures { IfOk result (λ v. has_float (view v) ≡ false) }
 {
     let mut list = Vec::new(alloc);
-    let mut places = Places::of(encoding, document.session.bytes());
+    let mut places = Places::of(encoding, document.shown.bytes());
     for token in tokens {
         let range = range_of(&mut places, token);
         push(&mut list, place_value(alloc, document, &range, told)?)?;

@@ -32,11 +32,11 @@ pub(crate) fn renamed_range(
 ) -> Result<Value, NoMemory>
     ensures { IfOk result (λ v. has_float (view v) ≡ false) }
 {
-    let session = &document.session;
+    let session = &document.compiled.session;
     let names = names(alloc, session)?;
     match declared_name_at(alloc, session, &names, at)? {
         Some(found) if !found.declarer.lifted => {
-            let mut places = Places::of(encoding, session.bytes());
+            let mut places = Places::of(encoding, document.shown.bytes());
             Ok(range_value(alloc, &range_of(&mut places, &found.token))?)
         }
         _ => Ok(Value::Null),
@@ -72,7 +72,7 @@ fn renamed(
 ) -> Result<Option<Value>, NoMemory>
     ensures { IfOk result (λ o. IfSome o (λ v. has_float (view v) ≡ false)) }
 {
-    let session = &document.session;
+    let session = &document.compiled.session;
     let names = names(alloc, session)?;
     let Some(found) = declared_name_at(alloc, session, &names, at)? else {
         return Ok(None);
@@ -203,10 +203,10 @@ fn edits(
 ) -> Result<Value, NoMemory>
     ensures { IfOk result (λ v. has_float (view v) ≡ false) }
 {
-    let session = &document.session;
+    let session = &document.compiled.session;
     let mut tokens = find_names(alloc, session, Sought::Own)?;
     tokens.sort_unstable_by_key(|token| token.start);
-    let mut places = Places::of(encoding, session.bytes());
+    let mut places = Places::of(encoding, document.shown.bytes());
     let mut list = PlainList::new(alloc);
     for token in &tokens {
         if let Some(name) = new_names.get(token.text) {

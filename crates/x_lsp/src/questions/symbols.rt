@@ -29,12 +29,12 @@ pub(crate) fn symbols(
 ) -> Result<Value, NoMemory>
     ensures { IfOk result (λ v. has_float (view v) ≡ false) }
 {
-    let session = &document.session;
+    let session = &document.compiled.session;
     let mut symbols = PlainList::new(alloc);
     let mut walk = session.tokens();
     let mut tokens = Vec::new(alloc);
     let mut ranges = Vec::new(alloc);
-    let mut places = Places::of(encoding, session.bytes());
+    let mut places = Places::of(encoding, document.shown.bytes());
     for item in 0..session.item_count() {
         next_item(&mut tokens, &mut walk)?;
         put_ranges(&mut places, &tokens, &mut ranges)?;

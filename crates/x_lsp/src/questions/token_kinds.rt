@@ -88,7 +88,7 @@ pub(crate) fn token_kinds(
 ) -> Result<Value, NoMemory>
     ensures { IfOk result (λ v. has_float (view v) ≡ false) }
 {
-    let session = &document.session;
+    let session = &document.compiled.session;
     let definitions = definitions(alloc, session)?;
     let names = Names::keyed(alloc, session.hash_key(), &definitions)?;
     let mut told = ToldTokens::new(alloc, encoding);

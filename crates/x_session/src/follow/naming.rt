@@ -1,14 +1,16 @@
 //! What an edit does to the table of names.
 
-ghost use Rattle.std.specs.Prelude.{◌≡◌, ◌+◌, ◌≤◌, IfOk, List, None, drop, length, map, option_and_then};
-ghost use Rattle.std.specs.Prelude.{option_copied, take};
+ghost use Rattle.std.specs.Prelude.{◌≡◌, ◌+◌, ◌≤◌, IfOk, List, None, Option, drop, length, map};
+ghost use Rattle.std.specs.Prelude.{option_and_then, option_copied, take};
 ghost use Rattle.x_text.specs.declared.text.source.TheConstants.{MAX_TEXT};
 ghost use Rattle.x_cutting.specs.ItemList.{AreOfText, ItemChange, LiesAmong, counts, patched};
 ghost use Rattle.x_cutting.specs.declared.cutting.item_entry.ItemEntry as entries;
+ghost use Rattle.x_trees.specs.Tree as definition;
 ghost use Rattle.x_trees.specs.View.{tree_at};
 ghost use Rattle.x_names.specs.Declarers.{AreShort};
 ghost use Rattle.x_uses.specs.Occurrences.{IsUsesOf};
 ghost use Rattle.x_session.specs.Following.{AreUsed, HasRoomForNames, IsNameChange};
+ghost use Rattle.x_session.specs.Lacking.{is_lacking_name};
 ghost use Rattle.x_compile.specs.KeptView.{entry_definitions, kept_definition};
 ghost use Rattle.x_compile.specs.declared.content.Content as kept;
 
@@ -65,6 +67,30 @@ pub fn change_names(
         gone,
         fresh,
     })
+}
+
+/// Whether an item sees a name that none declares, by the table of names, which is made where there was none.
+pub fn lacks(alloc: Global, items: &mut ItemTable, name: &[u8]) -> Result<bool, NoMemory>
+    requires uses { AreUsed items.old.entries.list items.old.uses }
+    requires short { AreShort (entry_definitions items.old.entries.list) }
+    ensures entries { items.new.entries ≡ items.old.entries }
+    ensures faults { items.new.faults ≡ items.old.faults }
+    ensures uses { AreUsed items.old.entries.list items.new.uses }
+    ensures lacks { IfOk result
+        (λ lacks. lacks ≡ is_lacking_name (entry_definitions items.old.entries.list) name.now) }
+{
+    let uses = take_table(alloc, items)?;
+    let lacks = is_lacking(&uses, name);
+    items.uses = Some(uses);
+    Ok(lacks)
+}
+
+/// Whether an item sees a name that none declares.
+fn is_lacking(uses: &Uses, name: &[u8]) -> bool
+    ensures { (definitions : List (Option definition.Definition)) → IsUsesOf definitions uses.now
+        → result ≡ is_lacking_name definitions name.now }
+{
+    uses.first(name).is_none() && !uses.users(name).is_empty()
 }
 
 /// Takes the table of names out, or makes it where there was none.

@@ -13,8 +13,9 @@ invariant-loop-fault l = record {
   session : l.others.session.now ≡ l.fn.session;
   marks : l.others.marks.now ≡ l.fn.marks;
   others : AreOfText l.others;
-  marked : l.marker.text.now ≡ l.text;
+  text : l.others.text.now ≡ l.fn.shown;
+  marked : l.marker.text.now ≡ l.fn.shown;
   counted : l.marker.encoding ≡ l.fn.client.encoding;
   told : Compiles l.fn.session.known l.text (λ items. AreFound l.text (places_of items) l.fault-items
-      × AreDiagnostics l.fn.client l.fn.uri l.text items (take l.fault-index (places_of items)) (map data_of l.list.items));
+      × AreDiagnostics l.fn.client l.fn.uri l.fn.shown l.text items (take l.fault-index (places_of items)) (map data_of l.list.items));
 }

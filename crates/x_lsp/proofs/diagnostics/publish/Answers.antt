@@ -5,7 +5,7 @@ use Rattle.x_lsp.proofs.diagnostics.publish.Goals as goal
 
 pub returns-clause-marks : goal.returns-clause-marks
 returns-clause-marks c =
-    let text = c.args.session.now.text in
+    let text = c.args.shown.now in
     let marker = c.diagnostics.new.marker in
     let encoding : marker.encoding ≡ c.args.marks.now.encoding = c.in_ok-list.ensures.counted ∙ sym c.requires.encoding in
     c.keep_faults.ensures.marks text c.requires.marks

@@ -5,8 +5,7 @@ use Rattle.x_lsp.proofs.document.apply_changes.Given as goal
 
 abbrev pub invariant-loop-change : goal.invariant-loop-change
 invariant-loop-change l = record {
-  text : changed_by_all l.marks.encoding l.session.text (drop l.change-index l.changes) ≡ changed_by_all l.fn.marks.encoding l.fn.session.text l.changes;
-  known : l.session.known ≡ l.fn.session.known;
-  marks : AreWaymarks l.session.text l.marks;
+  text : changed_by_all l.marks.encoding l.text (drop l.change-index l.changes) ≡ changed_by_all l.fn.marks.encoding l.fn.text l.changes;
+  marks : AreWaymarks l.text l.marks;
   encoding : l.marks.encoding ≡ l.fn.marks.encoding;
 }

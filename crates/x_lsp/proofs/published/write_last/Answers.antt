@@ -1,3 +1,5 @@
+use Rattle.std.proofs.Common.{subst}
+use Rattle.serde.specs.Event.{Logs, unsigned}
 use Rattle.x_lsp.proofs.WritingLemmas.{on_ok}
 use Rattle.x_lsp.proofs.published.write_last.Goals as goal
 
@@ -8,7 +10,7 @@ returns g c =
       w c.key.new.self,
       w c.u64.new.self,
       c.in_ok-key.ensures,
-      c.in_ok-u64.ensures,
+      subst (λ n. Logs (w c.key.new.self) (w c.u64.new.self) (unsigned n)) c.number.ensures c.in_ok-u64.ensures,
       (
         w c.key-2.new.self,
         w c.str.new.self,

@@ -12,7 +12,7 @@ use Rattle.x_prelude.proofs.lacking.add.Goals.{then-is_lacking+in_ok-note, else-
 
 pub loop-mention-preserved : goal.loop-mention-preserved
 loop-mention-preserved c before h =
-    let known = known_names c.args.session.now.known in
+    let known = known_names c.args.known.now in
     let first = first_in c.args.names.now in
     let ms = c.args.mentions.now in
     let i = c.loop-mention.mention-index in

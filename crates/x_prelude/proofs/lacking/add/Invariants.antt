@@ -10,6 +10,6 @@ use Rattle.x_prelude.proofs.lacking.add.Given as goal
 -- the table has the lacking names of the mentions so far
 abbrev pub invariant-loop-mention : goal.invariant-loop-mention
 invariant-loop-mention l = (before : List Mention) → HasFirsts l.fn.table.entries
-    (are_lacking (known_names l.session.known) (first_in l.names) before)
-    → HasFirsts l.table.entries (are_lacking (known_names l.session.known) (first_in l.names)
+    (are_lacking (known_names l.known) (first_in l.names) before)
+    → HasFirsts l.table.entries (are_lacking (known_names l.known) (first_in l.names)
     (before ++ map view_mention (take l.mention-index l.mentions)))

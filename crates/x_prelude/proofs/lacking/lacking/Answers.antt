@@ -17,7 +17,7 @@ use Rattle.x_prelude.proofs.lacking.lacking.Goals.{in-Some+in_ok-read+in_ok-add,
 pub loop-item-preserved : goal.loop-item-preserved
 loop-item-preserved c = λ tokens items is.
     let text = c.args.session.now.text in
-    let known = known_names c.args.session.now.known in
+    let known = known_names c.args.known.now in
     let first = first_in c.in_ok-names.names in
     let item = c.loop-item.item in
     let count = c.item_count-item-end.result in
@@ -40,14 +40,14 @@ loop-item-preserved c = λ tokens items is.
           let short = short_at text tokens items item count c.token_count.result definition
           c.loop-item-test.true few is c.item_count-item-end.ensures c.token_count.ensures found in
           subst (λ t. HasFirsts t.entries after) (sym w.table-is)
-          (item_more text tokens items item (item + 1) count (Some definition) first entries
+          (item_more known text tokens items item (item + 1) count (Some definition) first entries
           w.add.new.table.entries (map view_mention w.deref.result.now)
           next c.loop-item-test.true is c.item_count-item-end.ensures found c.in_ok-names.ensures
           (ap (map view_mention) w.deref.ensures.value ∙ w.in_ok-read.ensures.mentioned short)
           w.in_ok-add.ensures had)
       | in_default w ↦
           subst (λ t. HasFirsts t.entries after) (sym w.table-is)
-          (item_more text tokens items item (item + 1) count (tree_at c.definition.result) first entries
+          (item_more known text tokens items item (item + 1) count (tree_at c.definition.result) first entries
           entries []
           next c.loop-item-test.true is c.item_count-item-end.ensures c.definition.ensures
           c.in_ok-names.ensures
@@ -69,5 +69,5 @@ returns c =
       items,
       k.2,
       has.held_are ∙ ap (λ is. first_of_each
-          (are_lacking (known_names c.args.session.now.known) first (mentions_of (definitions_of is)))) all,
+          (are_lacking (known_names c.args.known.now) first (mentions_of (definitions_of is)))) all,
     )

@@ -11,5 +11,5 @@ use Rattle.x_prelude.proofs.lacking.lacking.Given as goal
 abbrev pub invariant-loop-item : goal.invariant-loop-item
 invariant-loop-item l = (tokens : List (Kind × ℕ)) (items : List Item)
     → IsCompilation l.session.known l.session.text tokens items
-    → HasFirsts l.table.entries (are_lacking (known_names l.session.known)
+    → HasFirsts l.table.entries (are_lacking (known_names l.known)
     (first_declarer (definitions_of items)) (mentions_of (definitions_of (take l.item items))))

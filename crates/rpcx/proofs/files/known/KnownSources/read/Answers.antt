@@ -1,7 +1,8 @@
-use Rattle.std.proofs.Common.{◌∙◌, codes, refl, sym, subst}
+use Rattle.std.proofs.Common.{◌∙◌, [], codes, map, refl, sym, subst}
 use Rattle.std.specs.Prelude.{IfErr}
 use Rattle.x_args.specs.Telling.{IsTold, told_of}
 use Rattle.rpcx.specs.Generate.{NotKnown, no_room}
+use Rattle.rpcx.specs.Opening.{AreRead}
 use Rattle.rpcx.proofs.Before.{not_known, not_read, on_ok, opened_parts, reads_all, reads_more}
 use Rattle.rpcx.proofs.Dumping.{passed_on}
 use Rattle.rpcx.proofs.files.known.KnownSources.read.Goals as goal
@@ -26,7 +27,7 @@ returns-in_err-session-clause-told g c =
     let after = state c.open.new.err in
     passed_on (λ r. IfErr r (NotKnown style program (state c.args.err.now) after))
     c.from_residual-in_err-session.result c.in_err-session.field-0.0 c.from_residual-in_err-session.ensures.1
-    (not_known style c.loop-name.known program _ c.deref.result.now state c.args.err.now c.read_text.new.err after
+    (not_known style c.loop-name.known _ program _ c.deref.result.now state c.args.err.now c.read_text.new.err after
     c.in_err-session.field-0.0 (c.in_ok-bytes.ensures.quiet ∙ c.loop-name.invariant.0) c.in_err-session.ensures.opened)
 
 pub returns-then-is_err-clause-told : goal.returns-then-is_err-clause-told
@@ -38,15 +39,22 @@ returns-then-is_err-clause-told g c =
 
 pub loop-name-preserved : goal.loop-name-preserved
 loop-name-preserved g c =
-    let parts = opened_parts c.args.style c.loop-name.known c.args.program.now _ c.deref.result.now _ _
+    let parts = opened_parts c.args.style c.loop-name.known _ c.args.program.now _ c.deref.result.now _ _
     c.in_ok-session.session c.in_ok-session.ensures.opened in
     let added = sym c.is_err.ensures.value ∙ c.if-is_err.false in (
       c.in_ok-session.ensures.quiet ∙ c.in_ok-bytes.ensures.quiet ∙ c.loop-name.invariant.0,
-      reads_more c.args.names.now c.loop-name.name-index _ c.loop-name.known c.add.new.self _ _ c.loop-name-test.true
+      reads_more _ c.deref-name-items.result.now c.loop-name.name-index _ c.loop-name.known c.add.new.self _ _ c.loop-name-test.true
           c.loop-name.invariant.1 refl parts.0 parts.1 (parts.2 ∙ c.deref.ensures.value ∙ sym c.deref-in-loop-name.ensures.value) (on_ok c.add.result added c.add.ensures.files)
           (on_ok c.add.result added c.add.ensures.text),
     )
 
 pub returns-clause-read : goal.returns-clause-read
 returns-clause-read g c =
-    reads_all c.args.names.now c.loop-name.name-index c.loop-name.known c.loop-name-test.false c.loop-name.invariant.1
+    let options = c.args.options.now in
+    let known = c.loop-name.known in
+    subst (λ f. AreRead f [] (map (λ n. n.now) options.known.items) known.files.items known.text.items)
+    c.from_options-from_c.ensures
+    (subst (λ ns. AreRead c.from_options-from_c.result [] (map (λ n. n.now) ns) known.files.items known.text.items)
+    c.deref-name-items.ensures.value
+    (reads_all _ c.deref-name-items.result.now c.loop-name.name-index known c.loop-name-test.false
+    c.loop-name.invariant.1))

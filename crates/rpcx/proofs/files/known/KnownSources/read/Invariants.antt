@@ -7,5 +7,5 @@ use Rattle.rpcx.proofs.files.known.KnownSources.read.Given as goal
 abbrev pub invariant-loop-name : goal.invariant-loop-name
 invariant-loop-name g l = (l.err ≡ l.initial.err)
     × ((files : List KnownSource) (text : List ℕ)
-    → AreRead l.known.text.items (map (λ n. n.now) (drop l.name-index l.names)) files text
-    → AreRead [] (map (λ n. n.now) l.names) (l.known.files.items ++ files) text)
+    → AreRead l.from_c l.known.text.items (map (λ n. n.now) (drop l.name-index l.name-items)) files text
+    → AreRead l.from_c [] (map (λ n. n.now) l.name-items) (l.known.files.items ++ files) text)

@@ -1,0 +1,39 @@
+-- What is compiled of the text that a client has.
+use Rattle.std.proofs.Common.{◌≡◌, ℕ, Bool, List, ◌++◌, subst, sym, ◌∙◌}
+use Rattle.std.specs.Prelude.{Result, Ok, Err, IfOk, OnOk}
+use Rattle.std.proofs.lemmas.Grind.{merely}
+use Rattle.x_prelude.specs.Before.{IsBefore}
+use Rattle.x_prelude.specs.declared.definition.FromC.{FromC}
+use Rattle.x_prelude.specs.declared.followed.FollowedText.{FollowedText}
+use Rattle.x_lsp.specs.Compiled.{IsCompiled}
+use Rattle.x_lsp.specs.Grounds.{compiled_of, constants_of}
+
+-- what is opened behind these files, of this text
+is_compiled : (files : List ℕ) (blanks : Bool) (shown front bytes : List ℕ) (from : FromC) (text : FollowedText)
+    → front ≡ files ++ constants_of blanks shown → bytes ≡ compiled_of blanks shown
+    → text.files.items ≡ front → text.session.text ≡ bytes → text.from_c ≡ from
+    → IsBefore front from bytes text.session.known → IsCompiled files blanks shown text
+is_compiled files blanks shown front bytes from text front_is bytes_are own own_text own_from before = record {
+  files_are = own ∙ front_is;
+  text_is = own_text ∙ bytes_are;
+  before = merely (subst (λ f. IsBefore f text.from_c text.session.text text.session.known) (sym own)
+      (subst (λ c. IsBefore front c text.session.text text.session.known) (sym own_from)
+      (subst (λ t. IsBefore front from t text.session.known) (sym own_text) before)));
+}
+
+pub opened_so : {E : Type 0} (r : Result FollowedText E) (files : List ℕ) (blanks : Bool) (shown front bytes : List ℕ)
+    (from : FromC) → front ≡ files ++ constants_of blanks shown → bytes ≡ compiled_of blanks shown
+    → IfOk r (λ t. t.files.items ≡ front) → IfOk r (λ t. t.session.text ≡ bytes) → IfOk r (λ t. t.from_c ≡ from)
+    → IfOk r (λ t. IsBefore front from bytes t.session.known) → IfOk r (IsCompiled files blanks shown)
+opened_so (Ok t) files blanks shown front bytes from f b own text own_from before =
+    is_compiled files blanks shown front bytes from t f b own text own_from before
+opened_so (Err e) files blanks shown front bytes from f b own text own_from before = tt
+
+pub replaced_so : {T E : Type 0} (r : Result T E) (files : List ℕ) (blanks : Bool) (shown front bytes : List ℕ)
+    (from : FromC) (t : FollowedText) → front ≡ files ++ constants_of blanks shown
+    → bytes ≡ compiled_of blanks shown → OnOk r (t.files.items ≡ front) → OnOk r (t.session.text ≡ bytes)
+    → t.from_c ≡ from → OnOk r (IsBefore front from bytes t.session.known)
+    → OnOk r (IsCompiled files blanks shown t)
+replaced_so (Ok x) files blanks shown front bytes from t f b own text own_from before =
+    is_compiled files blanks shown front bytes from t f b own text own_from before
+replaced_so (Err e) files blanks shown front bytes from t f b own text own_from before = tt

@@ -1,0 +1,11 @@
+use Rattle.std.proofs.Common.{◌∙◌}
+use Rattle.x_lsp.proofs.CompiledLemmas.{replaced_so}
+use Rattle.x_lsp.proofs.compiled.follow_text.Goals as goal
+
+pub returns-clause-compiled : goal.returns-clause-compiled
+returns-clause-compiled c =
+    let done = c.replace.ensures in
+    replaced_so c.replace.result c.args.files.now c.args.blanks c.args.shown.now c.deref-else-eq.result.now
+    c.deref-else-eq-2.result.now c.args.text.now.from_c c.replace.new.self
+    (c.deref-else-eq.ensures.value ∙ c.in-Ok.ensures.files)
+    (c.deref-else-eq-2.ensures.value ∙ c.in-Ok.ensures.text) done.files done.text done.from_c done.before

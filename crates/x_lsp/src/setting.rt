@@ -1,0 +1,51 @@
+//! How the documents of a client are compiled.
+
+use serde_json::Value;
+use x_prelude::FromC;
+
+/// How documents are compiled.
+#[derive(Clone, Copy, Debug)]
+pub struct Setting<'k> {
+    /// The text of known files, which stands before each document. It has no fault.
+    pub files: &'k [u8],
+    /// Which names of C a document may use without declaring them.
+    pub from_c: FromC,
+    /// Whether the lines of cpp are blanked, and are not faults.
+    pub blanks: bool,
+}
+
+impl<'k> Setting<'k> {
+    /// The setting that a client asks for as it initializes the server: what it does not name stays.
+    pub(crate) fn asked(self, params: Option<&Value>) -> Setting<'k> {
+        let Some(options) = options_in(params) else {
+            return self;
+        };
+        Setting {
+            files: self.files,
+            from_c: FromC {
+                types: flag(options, "cTypes").unwrap_or(self.from_c.types),
+                foreign: flag(options, "foreign").unwrap_or(self.from_c.foreign),
+            },
+            blanks: blanks(options).unwrap_or(self.blanks),
+        }
+    }
+}
+
+/// The options of this server among what a client says of itself.
+fn options_in(params: Option<&Value>) -> Option<&Value> {
+    params?.get("initializationOptions")
+}
+
+/// What an option is set to.
+fn flag(options: &Value, name: &str) -> Option<bool> {
+    options.get(name)?.as_bool()
+}
+
+/// Whether the lines of cpp are to be blanked.
+fn blanks(options: &Value) -> Option<bool> {
+    match options.get("directives")?.as_str()? {
+        "blank" => Some(true),
+        "fault" => Some(false),
+        _ => None,
+    }
+}
