@@ -1,5 +1,5 @@
 -- Cutting as a function of a running depth, which the program computes. That it gives the items that the
--- definition speaks of is proved; nothing but private functions cites it.
+-- definition speaks of is a law (`cut_by_roles`); nothing else but private functions cites it.
 use Rattle.std.specs.Prelude.{ℕ, ◌+◌, ◌-◌, Bool, false, List, [], ◌∷◌, map, cond, ◌==◌}
 use Rattle.x_lex.specs.declared.kind.Kind.{Kind}
 use Rattle.x_lex.specs.Places.{Lexeme, lexemes}

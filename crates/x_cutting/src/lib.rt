@@ -9,4 +9,4 @@ pub use cutting::cut::cut;
 pub use cutting::next_item::next_item;
 pub use cutting::recut::recut;
 pub use cutting::{ItemEntry, ItemPatch, Items};
-pub use laws::{one_cut, one_recut};
+pub use laws::{cut_by_roles, one_cut, one_recut};

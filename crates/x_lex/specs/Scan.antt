@@ -1,6 +1,6 @@
 -- The token at a place as a function, which the lexer computes: its class from the first two bytes, and then
--- how far it goes. That it is the token which the words define is proved; nothing but private functions cites
--- it.
+-- how far it goes. That it is the token which the words define is a law (`token_by_scan`); nothing else but
+-- private functions cites it.
 use Rattle.std.specs.Prelude.{ℕ, suc, ◌+◌, ◌==◌, ◌&&◌, Bool, List, [], ◌∷◌, length, take, drop, slice_index}
 use Rattle.std.specs.Prelude.{Option, Some, None, if◌then◌else◌}
 use Rattle.std.specs.List.{prefix_len}

@@ -1,8 +1,10 @@
 //! Laws of the definitions that the contracts of this crate speak of, each a function that does nothing and
 //! ensures the law.
-ghost use Rattle.std.specs.Prelude.{◌≡◌, ℕ, List, ◌↔◌};
+ghost use Rattle.std.specs.Prelude.{◌≡◌, ◌↔◌, ◌<◌, ◌≤◌, ℕ, Bool, List, length, slice_index};
 ghost use Rattle.x_text.specs.Edits.{Change, edited_by};
 ghost use Rattle.x_lex.specs.declared.kind.Kind.{Kind};
+ghost use Rattle.x_lex.specs.Word.{IsToken};
+ghost use Rattle.x_lex.specs.Scan.{scan};
 ghost use Rattle.x_lex.specs.Tiling.{AreTokens};
 ghost use Rattle.x_lex.specs.TokenList.{TokenPatch};
 ghost use Rattle.x_lex.specs.Relex.{IsMeeting, IsPatch};
@@ -39,4 +41,17 @@ pub fn one_meeting()
 pub fn one_patch()
     ensures { (change : Change) (ts : List (Kind × ℕ)) (p q : TokenPatch)
         → IsPatch change ts p → IsPatch change ts q → p ≡ q }
+{}
+
+/// The token at a place is the one that the lexer works out there.
+pub fn token_by_scan()
+    ensures { (kind : Kind) (start : Bool) (rest : List ℕ) (n : ℕ) → 0 < length rest
+        → IsToken kind start rest n ↔ (scan start rest ≡ (kind, n)) }
+{}
+
+/// A token that does not end its text is decided by its bytes and the one behind it.
+pub fn token_by_bytes()
+    ensures { (kind : Kind) (start : Bool) (xs ys : List ℕ) (n : ℕ) → IsToken kind start xs n
+        → n < length xs → n < length ys
+        → ((i : ℕ) → i ≤ n → slice_index xs i ≡ slice_index ys i) → IsToken kind start ys n }
 {}

@@ -12,7 +12,8 @@ mod words;
 use crate::Kind;
 use classes::{is_digit, is_letter, is_punct, is_space, line_len, space_len, word_len};
 use memchr::memmem;
-use words::{is_keyword, is_marker, is_number};
+pub use words::is_number;
+use words::{is_keyword, is_marker};
 use x_text::Meter;
 
 /// The comment that opens at the front.

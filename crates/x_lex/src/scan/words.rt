@@ -67,9 +67,9 @@ fn is_hex(word: &[u8]) -> bool
     }
 }
 
-/// Whether a run that begins as a number does is one.
+/// Whether a word is a number in decimal, octal or hexadecimal form (RFC 4506, section 6.2).
 #[tactic(auto, unfolding(crate::specs::Bytes::is_number))]
-pub(crate) fn is_number(word: &[u8]) -> bool
+pub fn is_number(word: &[u8]) -> bool
     ensures { result ≡ is_number word.now }
 {
     is_decimal(word) || is_negative(word) || is_octal(word) || is_hex(word)
