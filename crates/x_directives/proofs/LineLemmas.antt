@@ -10,6 +10,7 @@ use Rattle.std.proofs.lemmas.List.Elements.{All-head, All-tail, All-from_get_or}
 use Rattle.memchr.specs.Find.{IsFirstByte, is_byte}
 use Rattle.x_directives.specs.declared.lines.Part.{Part}
 use Rattle.x_directives.specs.Directives.{lines, is_open, part_of, is_inside, marked}
+use Rattle.x_directives.specs.Directives.{remark_goes_on}
 
 -- none of the bytes is c
 abbrev pub HasNo : ℕ → List ℕ → Type 0
@@ -107,20 +108,23 @@ line_last (b ∷ rest) line later r some first none line_is later_is =
 
 -- ---- what lines are of directives
 
-pub marked_more : (within goes_on : Bool) (start : ℕ) (rest line later : List ℕ) (part : Part)
-    → lines rest ≡ line ∷ lines later → part ≡ part_of within line
-    → goes_on ≡ (is_inside part && is_open line)
-    → marked within start (lines rest)
-    ≡ record { start = start; bytes = line; part = part } ∷ marked goes_on (start + length line) (lines later)
+pub marked_more : (within commented goes_on remark : Bool) (start : ℕ) (rest line later : List ℕ)
+    (part : Part) → lines rest ≡ line ∷ lines later → part ≡ part_of within commented line
+    → goes_on ≡ (is_inside part && is_open line) → remark ≡ remark_goes_on commented part line
+    → marked within commented start (lines rest)
+    ≡ record { start = start; bytes = line; part = part; commented = commented }
+    ∷ marked goes_on remark (start + length line) (lines later)
 unfolding marked
-marked_more within goes_on start rest line later part cut part_is goes_on_is =
-    let next : (is_inside (part_of within line) && is_open line) ≡ goes_on =
+marked_more within commented goes_on remark start rest line later part cut part_is goes_on_is remark_is =
+    let next : (is_inside (part_of within commented line) && is_open line) ≡ goes_on =
     ap (λ p. is_inside p && is_open line) (sym part_is) ∙ sym goes_on_is in
-    ap (marked within start) cut
-    ∙ (λ i. record { start = start; bytes = line; part = sym part_is i }
-    ∷ marked (next i) (start + length line) (lines later))
+    let next_remark : remark_goes_on commented (part_of within commented line) line ≡ remark =
+    ap (λ p. remark_goes_on commented p line) (sym part_is) ∙ sym remark_is in
+    ap (marked within commented start) cut
+    ∙ (λ i. record { start = start; bytes = line; part = sym part_is i; commented = commented }
+    ∷ marked (next i) (next_remark i) (start + length line) (lines later))
 
-pub marked_none : (within : Bool) (start : ℕ) (rest : List ℕ) → rest ≡ []
-    → marked within start (lines rest) ≡ []
+pub marked_none : (within commented : Bool) (start : ℕ) (rest : List ℕ) → rest ≡ []
+    → marked within commented start (lines rest) ≡ []
 unfolding marked lines
-marked_none within start rest none = ap (λ l. marked within start (lines l)) none
+marked_none within commented start rest none = ap (λ l. marked within commented start (lines l)) none

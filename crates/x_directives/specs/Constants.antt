@@ -33,9 +33,10 @@ is_name word = is_between 65 90 (slice_index word 0) || is_between 97 122 (slice
 abbrev pub is_number_byte : ℕ → Bool
 is_number_byte b = is_word_byte b || b == 45
 
--- nothing, or a comment
+-- nothing, or a comment, of which C has two forms
 abbrev pub is_remark : List ℕ → Bool
-is_remark bytes = length bytes == 0 || bytes_eq (take 2 bytes) (codes "/*")
+is_remark bytes =
+    length bytes == 0 || bytes_eq (take 2 bytes) (codes "/*") || bytes_eq (take 2 bytes) (codes "//")
 
 -- a name, blanks and a number, with nothing behind them but blanks and a comment
 unfoldable pub constant_of : List ℕ → Option Spelled

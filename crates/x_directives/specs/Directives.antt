@@ -1,10 +1,11 @@
 -- The lines of a text, and what they are of the directives of the C preprocessor.
-use Rattle.std.specs.Prelude.{ℕ, ◌+◌, ◌-◌, Bool, true, false, ◌&&◌, ◌==◌, nat_lt, not, cond, if◌then◌else◌}
-use Rattle.std.specs.Prelude.{List, [], ◌∷◌, length, drop, slice_index}
-use Rattle.std.specs.List.{prefix_len, onto_first}
-use Rattle.x_lex.specs.Bytes.{is_blank, is_marker}
+use Rattle.std.specs.Prelude.{ℕ, ◌+◌, ◌-◌, Bool, true, false, ◌||◌, ◌&&◌, ◌==◌, nat_lt, not, cond}
+use Rattle.std.specs.Prelude.{if◌then◌else◌, List, [], ◌∷◌, length, drop, slice_index}
+use Rattle.std.specs.List.{prefix_len, onto_first, take_while}
+use Rattle.x_lex.specs.Bytes.{is_blank, is_marker, is_word_byte}
 use Rattle.x_directives.specs.declared.lines.Part.{Part}
 use Rattle.x_directives.specs.declared.lines.Part.TheVariants.{Outside, First, Later}
+use Rattle.x_directives.specs.Comments.{commented_behind}
 
 -- the lines of a text, each with the line feed that ends it, which the last may lack
 unfoldable pub lines : List ℕ → List (List ℕ)
@@ -31,9 +32,11 @@ is_open line =
     let end = length line - end_length line in
     nat_lt 0 end && slice_index line (end - 1) == 92
 
--- what a line is of a directive; `within` says that one of the line before goes on in it
-unfoldable pub part_of : Bool → List ℕ → Part
-part_of within line = if within then Later else if is_directive line then First else Outside
+-- what a line is of a directive; `within` says that one of the line before goes on in it, and `commented`
+-- that a comment does
+unfoldable pub part_of : (within commented : Bool) → List ℕ → Part
+part_of within commented line =
+    if within then Later else if is_directive line && not commented then First else Outside
 
 -- the line is of a directive
 abbrev pub is_inside : Part → Bool
@@ -51,20 +54,36 @@ is_first Later = false
 unfoldable pub behind_hash : List ℕ → List ℕ
 behind_hash line = unblanked (drop 1 (unblanked line))
 
--- a line: where it starts, its bytes, and what it is of a directive
+-- the language passes over the line as a whole, which begins with `%` or is a marker
+unfoldable pub is_passed : (commented : Bool) → Part → List ℕ → Bool
+is_passed commented part line =
+    not commented && not (is_inside part) && (slice_index line 0 == 37 || slice_index line 0 == 35)
+
+-- whether a comment goes on behind the line
+unfoldable pub remark_goes_on : (commented : Bool) → Part → List ℕ → Bool
+remark_goes_on commented part line =
+    if is_passed commented part line then false else commented_behind commented line
+
+-- a line: where it starts, its bytes, what it is of a directive, and whether a comment goes on at its start
 pub record Marked : Type 0 where
   pub start : ℕ
   pub bytes : List ℕ
   pub part : Part
+  pub commented : Bool
 
 -- these lines from the place `start` on; a directive goes on behind each of its lines that is open
-unfoldable pub marked : Bool → ℕ → List (List ℕ) → List Marked
-marked within start [] = []
-marked within start (line ∷ later) =
-    let part = part_of within line in
-    record { start = start; bytes = line; part = part }
-    ∷ marked (is_inside part && is_open line) (start + length line) later
+unfoldable pub marked : (within commented : Bool) → ℕ → List (List ℕ) → List Marked
+marked within commented start [] = []
+marked within commented start (line ∷ later) =
+    let part = part_of within commented line in
+    record { start = start; bytes = line; part = part; commented = commented }
+    ∷ marked (is_inside part && is_open line) (remark_goes_on commented part line) (start + length line) later
 
 -- the lines of a text, with what they are of directives
 abbrev pub marked_lines : List ℕ → List Marked
-marked_lines text = marked false 0 (lines text)
+marked_lines text = marked false false 0 (lines text)
+
+-- the word behind the `#` of the directive that begins with the line
+unfoldable pub directive_word : Marked → List ℕ
+directive_word line =
+    if is_first line.part then take_while is_word_byte (behind_hash line.bytes) else []

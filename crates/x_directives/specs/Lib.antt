@@ -1,6 +1,9 @@
 pub mod Blanked
+pub mod Branches
+pub mod Comments
 pub mod Conditionals
 pub mod Constants
 pub mod Directives
 pub mod Seen
 pub mod Spelling
+pub mod Turns

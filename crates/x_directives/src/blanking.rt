@@ -1,11 +1,9 @@
 //! A text without its directives.
-ghost use Rattle.std.specs.Prelude.{◌≡◌, ◌==◌, ◌++◌, true, false, if◌then◌else◌, slice_index, IfOk, OnOk};
-ghost use Rattle.std.specs.List.{All};
+ghost use Rattle.std.specs.Prelude.{◌≡◌, ◌++◌, if◌then◌else◌, slice_index, IfOk, OnOk};
 ghost use Rattle.x_directives.specs.Blanked.{stays, blanked, blanked_bytes, blanked_line};
 ghost use Rattle.x_directives.specs.Seen.{seen};
 
-use crate::lines::{Line, Lines};
-use memchr::memchr;
+use crate::lines::{Line, Lines, has_no_hash};
 use std::alloc::Global;
 use x_text::NoMemory;
 
@@ -24,13 +22,6 @@ pub fn blanked(alloc: Global, text: &[u8]) -> Result<Vec<u8>, NoMemory>
     }
     add_lines(&mut bytes, text)?;
     Ok(bytes)
-}
-
-/// Whether no directive can be in the text.
-fn has_no_hash(text: &[u8]) -> bool
-    ensures { result ≡ true → All (λ byte. (byte == 35) ≡ false) text.now }
-{
-    memchr(b'#', text).is_none()
 }
 
 /// Adds the text with each line of a directive blanked.

@@ -7,9 +7,11 @@ ghost use Rattle.x_directives.specs.Constants.{definition_of, without_end, defin
 ghost use Rattle.x_directives.specs.Spelling.{spelled};
 ghost use Rattle.x_directives.specs.Seen.{seen};
 
-use crate::lines::{Line, Lines, behind_hash, end_length, is_open, unblanked, word_length};
-use crate::numbers::is_number;
+use crate::lines::{
+    Line, Lines, behind_hash, end_length, has_no_hash, is_open, unblanked, word_length,
+};
 use std::alloc::Global;
+use x_lex::is_number;
 use x_text::NoMemory;
 
 /// A constant that a directive `#define NAME NUMBER` of one line gives.
@@ -28,6 +30,9 @@ pub fn defined<'t>(alloc: Global, text: &'t [u8]) -> Result<Vec<Constant<'t>>, N
     ensures { IfOk result (λ all. map spelled all.items ≡ defined text.now) }
 {
     let mut all = Vec::new(alloc);
+    if has_no_hash(text) {
+        return Ok(all);
+    }
     let mut lines = Lines::of(text);
     'lines: while let Some(line) = lines.next_line() {
         if let Some(constant) = defined_in(&line) {
@@ -112,9 +117,9 @@ fn number_length(bytes: &[u8]) -> usize
         .count()
 }
 
-/// Whether nothing is there, or a comment.
+/// Whether nothing is there, or a comment, of which C has two forms.
 fn is_remark(bytes: &[u8]) -> bool
     ensures { result ≡ is_remark bytes.now }
 {
-    bytes.is_empty() || bytes.starts_with(b"/*")
+    bytes.is_empty() || bytes.starts_with(b"/*") || bytes.starts_with(b"//")
 }

@@ -2,7 +2,8 @@
 ghost use Rattle.std.specs.Prelude.{◌≡◌, ◌+◌, ◌==◌, ℕ, false, List, length, slice_index, slice_range};
 ghost use Rattle.std.specs.List.{All, list_any};
 ghost use Rattle.x_directives.specs.Directives.{lines, is_directive, is_inside, marked_lines};
-ghost use Rattle.x_directives.specs.Blanked.{blanked};
+ghost use Rattle.x_directives.specs.Blanked.{blanked, blanked_line};
+ghost use Rattle.x_directives.specs.Comments.{commented_behind};
 
 /// A blanked text is as long as the text.
 pub fn blanked_length()
@@ -18,6 +19,12 @@ pub fn blanked_line_feeds()
 /// A text stays as it is where none of its lines is a directive.
 pub fn plain_text_stays()
     ensures { (text : List ℕ) → list_any is_directive (lines text) ≡ false → blanked text ≡ text }
+{}
+
+/// Comments begin and end in a blanked line where they do in the line.
+pub fn comments_stay()
+    ensures { (text : List ℕ) → All (λ line. commented_behind line.commented (blanked_line line)
+        ≡ commented_behind line.commented line.bytes) (marked_lines text) }
 {}
 
 /// A line that is of no directive stays, in its place.

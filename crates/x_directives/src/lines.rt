@@ -1,11 +1,13 @@
 //! Lines, and what they are of directives.
 ghost use Rattle.std.specs.Prelude.{◌≡◌, ◌<◌, ◌≤◌, ◌+◌, ◌^◌, ◌==◌, ◌&&◌, [], ◌∷◌, ◌++◌, length};
-ghost use Rattle.std.specs.Prelude.{slice_index, MatchOption};
-ghost use Rattle.std.specs.List.{prefix_len, take_while};
+ghost use Rattle.std.specs.Prelude.{true, false, slice_index, option_map, MatchOption};
+ghost use Rattle.std.specs.List.{All, prefix_len, take_while, find};
 ghost use Rattle.x_lex.specs.Bytes.{is_blank, is_marker, is_word_byte};
 ghost use Rattle.x_directives.specs.Directives.{lines, unblanked, is_directive, end_length, is_open, part_of};
-ghost use Rattle.x_directives.specs.Directives.{behind_hash, is_inside, is_first, marked_lines};
+ghost use Rattle.x_directives.specs.Directives.{behind_hash, is_inside, is_first, is_passed, remark_goes_on};
+ghost use Rattle.x_directives.specs.Directives.{marked_lines};
 
+use crate::comments::{commented_behind, is_bare};
 use memchr::memchr;
 use std::marker::Model;
 
@@ -50,6 +52,8 @@ pub(crate) struct Line<'t> {
     /// Its bytes, with those that end it.
     pub(crate) bytes: &'t [u8],
     pub(crate) part: Part,
+    /// Whether a comment goes on at its start.
+    pub(crate) commented: bool,
     ghost fits: { start + length bytes.now < 2 ^ 64 },
 }
 
@@ -61,6 +65,8 @@ pub(crate) struct Lines<'t> {
     start: usize,
     /// Whether a directive goes on in its first line.
     within: bool,
+    /// Whether a comment goes on in its first line.
+    commented: bool,
 }
 
 impl<'t> Model for Lines<'t> {
@@ -69,12 +75,13 @@ impl<'t> Model for Lines<'t> {
 
     ghost Value = { List Marked };
 
-    ghost view = { λ l. marked l.within l.start (lines l.rest.now) };
+    ghost view = { λ l. marked l.within l.commented l.start (lines l.rest.now) };
 
     ghost invariant = { λ l. l.start + length l.rest.now < 2 ^ 64 };
 }
 
 impl<'t> Lines<'t> {
+    ghost use Rattle.x_directives.specs.Conditionals.{says_more};
     ghost use Rattle.x_directives.specs.Seen.{seen};
 
     /// All lines of a text.
@@ -85,6 +92,32 @@ impl<'t> Lines<'t> {
             rest: text,
             start: 0,
             within: false,
+            commented: false,
+        }
+    }
+
+    /// The first of these lines that is more than white space and comments.
+    pub(crate) fn first_more(&self) -> Option<Line<'t>>
+        ensures { option_map seen result ≡ find says_more self.now }
+    {
+        let mut lines = self.again();
+        'lines: while let Some(line) = lines.next_line() {
+            if !is_bare(line.commented, line.bytes) {
+                return Some(line);
+            }
+        }
+        None
+    }
+
+    /// The same lines.
+    fn again(&self) -> Lines<'t>
+        ensures { result ≡ self.now }
+    {
+        Lines {
+            rest: self.rest,
+            start: self.start,
+            within: self.within,
+            commented: self.commented,
         }
     }
 
@@ -96,23 +129,37 @@ impl<'t> Lines<'t> {
             return None;
         }
         let (bytes, later) = split_line(self.rest);
-        let part = part_of(self.within, bytes);
-        let start = self.start;
+        let (start, commented) = (self.start, self.commented);
+        let part = part_of(self.within, commented, bytes);
         self.within = goes_on(part, bytes);
+        self.commented = remark_goes_on(commented, part, bytes);
         self.start = start + bytes.len();
         self.rest = later;
-        Some(Line { start, bytes, part })
+        Some(Line {
+            start,
+            bytes,
+            part,
+            commented,
+        })
     }
 }
 
-/// What a line is of a directive, where `within` says that one of the line before goes on in it.
+/// Whether no directive can be in the text.
+pub(crate) fn has_no_hash(text: &[u8]) -> bool
+    ensures { result ≡ true → All (λ byte. (byte == 35) ≡ false) text.now }
+{
+    memchr(b'#', text).is_none()
+}
+
+/// What a line is of a directive, where `within` says that one of the line before goes on in it, and
+/// `commented` that a comment does.
 #[tactic(auto, unfolding(crate::specs::Directives::part_of))]
-fn part_of(within: bool, line: &[u8]) -> Part
-    ensures { result ≡ part_of within line.now }
+fn part_of(within: bool, commented: bool, line: &[u8]) -> Part
+    ensures { result ≡ part_of within commented line.now }
 {
     if within {
         Part::Later
-    } else if is_directive(line) {
+    } else if is_directive(line) && !commented {
         Part::First
     } else {
         Part::Outside
@@ -221,6 +268,26 @@ fn goes_on(part: Part, line: &[u8]) -> bool
     ensures { result ≡ (is_inside part && is_open line.now) }
 {
     part.is_inside() && is_open(line)
+}
+
+/// Whether a comment goes on behind the line.
+#[tactic(auto, unfolding(crate::specs::Directives::remark_goes_on))]
+fn remark_goes_on(commented: bool, part: Part, line: &[u8]) -> bool
+    ensures { result ≡ remark_goes_on commented part line.now }
+{
+    if is_passed(commented, part, line) {
+        false
+    } else {
+        commented_behind(commented, line)
+    }
+}
+
+/// Whether the language passes over the line as a whole.
+#[tactic(auto, unfolding(crate::specs::Directives::is_passed))]
+fn is_passed(commented: bool, part: Part, line: &[u8]) -> bool
+    ensures { result ≡ is_passed commented part line.now }
+{
+    !commented && !part.is_inside() && matches!(line, [b'%' | b'#', ..])
 }
 
 /// Whether the last byte before the line's end is a backslash.

@@ -8,14 +8,16 @@ returns-then-is_empty c =
     let rest = c.self.inside.rest.now in
     let size = eqb-true (length rest) 0 (sym c.is_empty.ensures ∙ c.if-is_empty.true) in
     let none = nil_from_length rest size in
-    sym c.self.view_is ∙ marked_none c.self.inside.within c.self.inside.start rest none
+    let was = c.self.inside in
+    sym c.self.view_is ∙ marked_none was.within was.commented was.start rest none
 
 pub returns : goal.returns
 returns c =
     let line = c.split_line.result.0.now in
     let later = c.split_line.result.1.now in
     let goes_on = c.goes_on-self-inside in
+    let remark = c.remark_goes_on-self-inside in
     let was = c.self.inside in
     sym c.self.view_is
-    ∙ marked_more was.within goes_on.result was.start was.rest.now line later
-    c.part_of-part.result c.split_line.ensures.lines c.part_of-part.ensures goes_on.ensures
+    ∙ marked_more was.within was.commented goes_on.result remark.result was.start was.rest.now line later
+    c.part_of-part.result c.split_line.ensures.lines c.part_of-part.ensures goes_on.ensures remark.ensures
