@@ -1,13 +1,11 @@
 -- What stands before a text.
-use Rattle.std.proofs.Common.{◌≡◌, ◌⊎◌, ◌<◌, ℕ, ◌==◌, Bool, true, false, Bor, Result, Ok, Err, List, [], ◌∷◌, ◌++◌, append-nil, append_assoc, length, codes, true≢false, ◌+◌, ◌≤◌, get_or, drop, map, inl, inr, refl, sym, ap, subst, ◌∙◌}
-use Rattle.std.specs.Prelude.{IfOk, IsErrOf, OnOk, is_err}
+use Rattle.std.proofs.Common.{◌≡◌, ◌⊎◌, ◌<◌, ℕ, Bool, true, false, Bor, Result, Ok, Err, List, [], ◌∷◌, ◌++◌, append-nil, append_assoc, length, codes, true≢false, ◌+◌, ◌≤◌, get_or, drop, map, inl, inr, refl, sym, ap, subst, ◌∙◌}
+use Rattle.std.specs.Prelude.{◌&&◌, OnOk, is_err}
+use Rattle.std.specs.Str.{bytes_eq}
 use Rattle.std.proofs.lemmas.List.{at_drop_all, drop_more}
 use Rattle.x_text.specs.Streams.{Stream}
-use Rattle.x_text.specs.Limits.{most_text}
-use Rattle.x_text.specs.declared.text.fault.TextFault.{TextFault}
-use Rattle.x_text.specs.declared.text.fault.TextFault.TheVariants as faults
 use Rattle.x_compile.specs.Compile.{faults_of}
-use Rattle.x_session.specs.Session.{Compiles, Document}
+use Rattle.x_session.specs.Session.{Compiles}
 use Rattle.x_session.specs.declared.session.Session.{Session}
 use Rattle.x_prelude.specs.Before.{IsBefore, IsPrelude}
 use Rattle.x_prelude.specs.declared.definition.FromC.{FromC}
@@ -18,9 +16,8 @@ use Rattle.x_explain.specs.KnownFiles.{KnownPlaces, with_file}
 use Rattle.rpcx.specs.declared.files.known.KnownSource.{KnownSource}
 use Rattle.rpcx.specs.declared.files.known.KnownSources.{KnownSources}
 use Rattle.rpcx.specs.declared.files.opening.FaultStyle.{FaultStyle}
-use Rattle.rpcx.specs.declared.files.opening.Opening.{Opening}
-use Rattle.rpcx.specs.Generate.{IsOpened, IsOpenedAfter, NotKnown, faulty, no_room, unopened, unread}
-use Rattle.rpcx.specs.Opening.{AreRead, HavePlaces}
+use Rattle.rpcx.specs.Generate.{IsOpenedAfter, NotKnown, faulty, no_room, unopened, unread}
+use Rattle.rpcx.specs.Opening.{AreRead, HavePlaces, types_only}
 
 -- the places of the files so far, and of one more
 pub places_more : (before new : KnownPlaces) (f : KnownSource) (fs : List KnownSource) (places : KnownPlaces)
@@ -34,21 +31,26 @@ places_more before new f fs places added rest = (
 )
 
 -- a file that was read, before others
-pub read_more : (from : FromC) (front : List ℕ) (n : List ℕ) (ns : List (List ℕ)) (f : KnownSource)
-    (fs : List KnownSource) (bytes text new lacking : List ℕ) → f.name.now ≡ n
+pub read_more : (from : FromC) (front : List ℕ) (plain : Bool) (n : List ℕ) (ns : List (List ℕ)) (f : KnownSource)
+    (fs : List KnownSource) (bytes text new lacking of_types : List ℕ) (stays all : Bool) → f.name.now ≡ n
     → IsBefore front from f.session.text f.session.known
     → Compiles f.session.known f.session.text (λ items. faults_of f.session.text items ≡ [])
-    → f.session.text ≡ bytes → IsPrelude front from bytes lacking
-    → new ≡ front ++ lacking ++ bytes ++ codes "\n"
-    → AreRead from new ns fs text → AreRead from front (n ∷ ns) (f ∷ fs) text
-read_more from front n ns f fs bytes text new lacking name known clean is lacks made rest = (
-  name,
-  known,
-  clean,
-  lacking,
-  subst (λ t. IsPrelude front from t lacking) (sym is) lacks,
-  subst (λ at. AreRead from at ns fs text) (made ∙ ap (λ t. front ++ lacking ++ t ++ codes "\n") (sym is)) rest,
-)
+    → f.session.text ≡ bytes → IsPrelude front from bytes lacking → IsPrelude front (types_only from) bytes of_types
+    → new ≡ front ++ lacking ++ bytes ++ codes "\n" → stays ≡ (plain && bytes_eq lacking of_types)
+    → AreRead from new stays ns fs text all → AreRead from front plain (n ∷ ns) (f ∷ fs) text all
+read_more from front plain n ns f fs bytes text new lacking of_types stays all name known clean is lacks types made
+    plain_is rest = (
+      name,
+      known,
+      clean,
+      lacking,
+      of_types,
+      subst (λ t. IsPrelude front from t lacking) (sym is) lacks,
+      subst (λ t. IsPrelude front (types_only from) t of_types) (sym is) types,
+      subst (λ p. AreRead from (front ++ lacking ++ f.session.text ++ codes "\n") p ns fs text all) plain_is
+          (subst (λ at. AreRead from at stays ns fs text all)
+          (made ∙ ap (λ t. front ++ lacking ++ t ++ codes "\n") (sym is)) rest),
+    )
 
 -- a file that is not opened, by its status, where nothing was told before
 pub not_known : {E : Type 0} (style : FaultStyle) (known : KnownSources) (from : FromC)
@@ -100,39 +102,45 @@ pub on_ok : {T E : Type 0} {P : Type 0} (r : Result T E) → is_err r ≡ false 
 on_ok (Ok x) is h = h
 on_ok (Err e) is h = absurd (true≢false is)
 
+-- what is added of a file that was read
+abbrev pub Added : FromC → (bytes : List ℕ) → (old new : KnownSources) → Type 0
+Added from bytes old new = (lacking of_types : List ℕ) × IsPrelude old.text.items from bytes lacking
+    × IsPrelude old.text.items (types_only from) bytes of_types
+    × (new.text.items ≡ old.text.items ++ lacking ++ bytes ++ codes "\n")
+    × (new.is_plain ≡ (old.is_plain && bytes_eq lacking of_types))
+
+-- with the files of these names behind those that are known, all are read
+abbrev pub ReadsWith : FromC → (names left : List (List ℕ)) → KnownSources → Type 0
+ReadsWith from names left known = (files : List KnownSource) (text : List ℕ) (all : Bool)
+    → AreRead from known.text.items known.is_plain left files text all
+    → AreRead from [] true names (known.files.items ++ files) text all
+
 -- a file more was read
 pub reads_more : (from : FromC) (names : List (Bor (List ℕ))) (i : ℕ) (d : Bor (List ℕ)) (old new : KnownSources)
     (f : KnownSource) (bytes : List ℕ) → i < length names
-    → ((files : List KnownSource) (text : List ℕ)
-    → AreRead from old.text.items (map (λ n. n.now) (drop i names)) files text
-    → AreRead from [] (map (λ n. n.now) names) (old.files.items ++ files) text)
+    → ReadsWith from (map (λ n. n.now) names) (map (λ n. n.now) (drop i names)) old
     → f.name ≡ get_or names i d → IsBefore old.text.items from f.session.text f.session.known
     → Compiles f.session.known f.session.text (λ items. faults_of f.session.text items ≡ [])
-    → f.session.text ≡ bytes → new.files.items ≡ old.files.items ++ f ∷ []
-    → ((lacking : List ℕ) × IsPrelude old.text.items from bytes lacking
-    × (new.text.items ≡ old.text.items ++ lacking ++ bytes ++ codes "\n"))
-    → (files : List KnownSource) (text : List ℕ)
-    → AreRead from new.text.items (map (λ n. n.now) (drop (i + 1) names)) files text
-    → AreRead from [] (map (λ n. n.now) names) (new.files.items ++ files) text
-reads_more from names i d old new f bytes there so named known clean text_is files_are made files text h =
+    → f.session.text ≡ bytes → new.files.items ≡ old.files.items ++ f ∷ [] → Added from bytes old new
+    → ReadsWith from (map (λ n. n.now) names) (map (λ n. n.now) (drop (i + 1) names)) new
+reads_more from names i d old new f bytes there so named known clean text_is files_are made files text is_plain h =
     let name = get_or names i d in
     let rest = map (λ n. n.now) (drop (i + 1) names) in
-    let one = read_more from old.text.items name.now rest f files bytes text new.text.items made.0
-    (ap (λ n. n.now) named) known clean text_is made.1 made.2 h in
+    let one = read_more from old.text.items old.is_plain name.now rest f files bytes text new.text.items made.0 made.1
+    new.is_plain is_plain (ap (λ n. n.now) named) known clean text_is made.2 made.3 made.4 made.5 h in
     let left = drop_more names i d there in
-    let all = so (f ∷ files) text
-    (subst (λ ns. AreRead from old.text.items (map (λ n. n.now) ns) (f ∷ files) text) (sym left) one) in
-    subst (λ fs. AreRead from [] (map (λ n. n.now) names) fs text)
+    let all = so (f ∷ files) text is_plain (subst (λ ns. AreRead from old.text.items old.is_plain
+    (map (λ n. n.now) ns) (f ∷ files) text is_plain) (sym left) one) in
+    subst (λ fs. AreRead from [] true (map (λ n. n.now) names) fs text is_plain)
     (sym (append_assoc old.files.items (f ∷ []) files) ∙ ap (λ fs. fs ++ files) (sym files_are)) all
 
 -- all are read
 pub reads_all : (from : FromC) (names : List (Bor (List ℕ))) (i : ℕ) (known : KnownSources) → length names ≤ i
-    → ((files : List KnownSource) (text : List ℕ)
-    → AreRead from known.text.items (map (λ n. n.now) (drop i names)) files text
-    → AreRead from [] (map (λ n. n.now) names) (known.files.items ++ files) text)
-    → AreRead from [] (map (λ n. n.now) names) known.files.items known.text.items
+    → ReadsWith from (map (λ n. n.now) names) (map (λ n. n.now) (drop i names)) known
+    → AreRead from [] true (map (λ n. n.now) names) known.files.items known.text.items known.is_plain
 reads_all from names i known past so =
     let text = known.text.items in
-    let none = subst (λ rest. AreRead from text (map (λ n. n.now) rest) [] text)
-    (sym (at_drop_all (λ rest. rest) names i past)) refl in
-    subst (λ fs. AreRead from [] (map (λ n. n.now) names) fs text) (append-nil known.files.items) (so [] text none)
+    let none = subst (λ rest. AreRead from text known.is_plain (map (λ n. n.now) rest) [] text known.is_plain)
+    (sym (at_drop_all (λ rest. rest) names i past)) (refl, refl) in
+    subst (λ fs. AreRead from [] true (map (λ n. n.now) names) fs text known.is_plain)
+    (append-nil known.files.items) (so [] text known.is_plain none)

@@ -16,7 +16,9 @@ use Rattle.x_text.specs.declared.text.fault.TextFault.{TextFault}
 use Rattle.x_text.specs.declared.text.fault.TextFault.TheVariants as faults
 use Rattle.x_text.specs.Limits.{most_text}
 use Rattle.x_explain.specs.Explained.{AreExplained}
+use Rattle.x_explain.specs.Foreign.{ForeignName}
 use Rattle.x_explain.specs.KnownFiles.{KnownPlaces, no_places}
+use Rattle.x_prelude.specs.Foreign.{AreForeign}
 use Rattle.x_args.specs.Telling.{Complains, IsTold, told_of}
 use Rattle.x_args.specs.declared.generating_args.GenArgs.{GenArgs}
 use Rattle.rpcx.specs.declared.files.opening.FaultStyle.{FaultStyle}
@@ -69,12 +71,14 @@ pub data NotOpened (how : Opening) (program file text : List ℕ) (before after 
   NoRoom : length text ≤ most_text → IsTold before after (told_of program (codes "out of memory"))
       → NotOpened how program file text before after
 
--- The faults of a file's text are told with their lines.
+-- The faults of a file's text are told with their lines, and with the names that it takes from C.
 abbrev pub ExplainsFaults : Opening → (coloured : Bool) → (file text : List ℕ) → List Item
     → (before after : Stream) → Type 0
 ExplainsFaults how coloured file text items before after =
-    (places : KnownPlaces) × HavePlaces no_places how.known.now.files.items places × (said : List ℕ)
-    × AreExplained places (record { coloured = coloured; file = file; text = text }) items said
+    (places : KnownPlaces) × HavePlaces no_places how.known.now.files.items places
+    × (foreign : List ForeignName) × AreForeign how.known.now.text.items how.from_c text items foreign
+    × (said : List ℕ)
+    × AreExplained places foreign (record { coloured = coloured; file = file; text = text }) items said
     × IsTold before after said
 
 -- How the faults of a file's text are told: one a line, or explained.

@@ -1,5 +1,6 @@
 -- What stands before the text of a file that is opened, and what compiling the text says then.
-use Rattle.std.specs.Prelude.{◌≡◌, ℕ, List, [], ◌∷◌, ◌++◌, codes}
+use Rattle.std.specs.Prelude.{◌≡◌, ℕ, Bool, false, ◌&&◌, List, [], ◌∷◌, ◌++◌, codes}
+use Rattle.std.specs.Str.{bytes_eq}
 use Rattle.x_compile.specs.Compile.{Item, faults_of}
 use Rattle.x_compile.specs.Known.{KnownText}
 use Rattle.x_session.specs.Session.{Compiles}
@@ -41,15 +42,22 @@ HavePlaces before [] places = places ≡ before
 HavePlaces before (f ∷ fs) places = Compiles f.session.known f.session.text
     (λ items. HavePlaces (with_file before f.name.now f.session.text items) fs places)
 
+-- only names of C's table may be taken
+abbrev pub types_only : FromC → FromC
+types_only from = record { types = from.types; foreign = false }
+
 -- The files of these names were read, one after another, each over the text of those before it, which is
 -- `front` at first, and over what it lacks itself. Each has no fault so. What it lacks and its own text, with
--- a line end, go behind that text, which is this at the end.
-abbrev pub AreRead : FromC → (front : List ℕ) → (names : List (List ℕ)) → List KnownSource → (text : List ℕ)
-    → Type 0
-AreRead from front [] [] text = text ≡ front
-AreRead from front (n ∷ ns) (f ∷ fs) text = (f.name.now ≡ n)
+-- a line end, go behind that text, which is this at the end. It is plain if what stands there is (`plain`),
+-- and none of the files takes a name from C but those of its table.
+abbrev pub AreRead : FromC → (front : List ℕ) → (plain : Bool) → (names : List (List ℕ)) → List KnownSource
+    → (text : List ℕ) → (is_plain : Bool) → Type 0
+AreRead from front plain [] [] text is_plain = (text ≡ front) × (is_plain ≡ plain)
+AreRead from front plain (n ∷ ns) (f ∷ fs) text is_plain = (f.name.now ≡ n)
     × before.IsBefore front from f.session.text f.session.known
     × Compiles f.session.known f.session.text (λ items. faults_of f.session.text items ≡ [])
-    × (lacking : List ℕ) × IsPrelude front from f.session.text lacking
-    × AreRead from (front ++ lacking ++ f.session.text ++ codes "\n") ns fs text
-AreRead from front names files text = ⊥
+    × (lacking of_types : List ℕ) × IsPrelude front from f.session.text lacking
+    × IsPrelude front (types_only from) f.session.text of_types
+    × AreRead from (front ++ lacking ++ f.session.text ++ codes "\n") (plain && bytes_eq lacking of_types)
+    ns fs text is_plain
+AreRead from front plain names files text is_plain = ⊥

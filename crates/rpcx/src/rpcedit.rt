@@ -4,20 +4,23 @@ ghost use Rattle.std.specs.Prelude.{◌≡◌, ◌≢◌, ◌<◌, MatchOption, 
 ghost use Rattle.x_text.specs.Engines.{WorksOn};
 ghost use Rattle.x_text.specs.Limits.{most_text};
 ghost use Rattle.rpcx.specs.Course.{course};
-ghost use Rattle.rpcx.specs.Editing.{Answers, AnswersBy, IsStopped, NotRun};
-ghost use Rattle.rpcx.specs.Generate.{base_of};
+ghost use Rattle.x_explain.specs.KnownFiles.{places_of_files};
+ghost use Rattle.rpcx.specs.Editing.{Answers, AnswersBy, IsStopped, NotRun, found_over};
+ghost use Rattle.x_prelude.specs.Followed.{IsOver};
+ghost use Rattle.x_script.specs.Situations.{situation};
 
 use crate::files::base::base_of_file;
 use crate::files::complaint::{tell_stop, tell_unopened};
-use crate::files::known::open_by;
+use crate::files::known::open_followed;
 use crate::files::opening::Opening;
 use std::alloc::Global;
 use std::mem;
 use x_args::{EditArgs, Status};
+use x_explain::KnownFiles;
 use x_hash::HashKey;
-use x_script::{Outcome, run_script};
-use x_session::Session;
-use x_text::{Outlet, Sink, Tap};
+use x_prelude::FollowedText;
+use x_script::{Outcome, ScriptFile, run_script};
+use x_text::{Outlet, Sink, Tap, TextFault};
 
 /// As [`edit_run_keyed`], over tables that hash by a key which is made of the text. Who writes a script may
 /// know it.
@@ -39,7 +42,7 @@ pub fn edit_run<I: Tap, O: Outlet, E: Sink>(
     ensures reading { result ≢ Status.Failed → (I.state input.new).failed ≡ (I.state input.old).failed }
     ensures working { result ≢ Status.Failed → WorksOn (O.state out.old).failed (O.state out.new).failed }
     ensures answers { MatchOption (I.state input.old).bytes (Unit {0})
-        (λ script. AnswersBy how.now script args.now.file.now (base_of args.now.file.now) bytes.now
+        (λ script. AnswersBy how.now script args.now.file.now bytes.now
         (O.state out.old) (O.state out.new) result) }
 {
     let hash_key = HashKey::of_bytes(bytes);
@@ -69,43 +72,79 @@ pub fn edit_run_keyed<I: Tap, O: Outlet, E: Sink>(
     ensures reading { result ≢ Status.Failed → (I.state input.new).failed ≡ (I.state input.old).failed }
     ensures working { result ≢ Status.Failed → WorksOn (O.state out.old).failed (O.state out.new).failed }
     ensures answers { MatchOption (I.state input.old).bytes (Unit {0})
-        (λ script. AnswersBy how.now script args.now.file.now (base_of args.now.file.now) bytes.now
+        (λ script. AnswersBy how.now script args.now.file.now bytes.now
         (O.state out.old) (O.state out.new) result) }
 {
-    let mut session = match open_by(alloc, how, hash_key, base_of_file(args.file), bytes) {
-        Ok(session) => session,
+    let mut text = match open_followed(alloc, how, hash_key, base_of_file(args.file), bytes) {
+        Ok(text) => text,
         Err(fault) => {
             tell_unopened("rpcedit", args.file, fault, err);
             return Status::Failed;
         }
     };
-    let status = answer_input(alloc, &mut session, args.file, input, out, err);
+    let Ok(places) = how.known.places(alloc) else {
+        tell_unopened("rpcedit", args.file, TextFault::NoMemory, err);
+        return Status::Failed;
+    };
+    let status = answer_over(alloc, how, &places, &mut text, args.file, input, out, err);
     // The process ends next, and gives all memory back at once.
-    mem::forget(session);
+    mem::forget(text);
     status
 }
 
-/// Carries out the script of the input over the text of `file`, and answers the status.
-fn answer_input<I: Tap, O: Outlet, E: Sink>(
+/// Carries out the script of the input over the text of `file`, where the known files declare names at these
+/// places, and answers the status.
+fn answer_over<I: Tap, O: Outlet, E: Sink>(
     alloc: Global,
-    session: &mut Session,
+    how: &Opening,
+    places: &KnownFiles,
+    text: &mut FollowedText,
     file: &str,
     input: &mut I,
     out: &mut O,
     err: &mut E,
 ) -> Status
+    requires { IsOver text.now }
     ensures stopped { result ≡ Status.Failed
-        → IsStopped file.now session.old.base session.old.known session.old.text
+        → IsStopped (found_over how.now file.now (places_of_files places.now.list.items) text.old)
         (course (I.state input.old) (I.state input.new) (O.state out.old) (O.state out.new))
         (O.is_closed out.new) (E.state err.old) (E.state err.new) }
     ensures quiet { result ≢ Status.Failed → err.new ≡ err.old }
     ensures reading { result ≢ Status.Failed → (I.state input.new).failed ≡ (I.state input.old).failed }
     ensures working { result ≢ Status.Failed → WorksOn (O.state out.old).failed (O.state out.new).failed }
     ensures answers { MatchOption (I.state input.old).bytes (Unit {0})
-        (λ script. Answers script file.now session.old.base session.old.known session.old.text
+        (λ script. Answers script
+        (found_over how.now file.now (places_of_files places.now.list.items) text.old)
         (O.state out.old) (O.state out.new) result) }
 {
-    match run_script(alloc, session, file, input, out) {
+    let about = ScriptFile {
+        name: file,
+        known: places,
+        is_plain: how.known.is_plain,
+    };
+    answer_input(alloc, text, &about, input, out, err)
+}
+
+/// Carries out the script of the input over the text of a file, and answers the status.
+fn answer_input<I: Tap, O: Outlet, E: Sink>(
+    alloc: Global,
+    text: &mut FollowedText,
+    file: &ScriptFile,
+    input: &mut I,
+    out: &mut O,
+    err: &mut E,
+) -> Status
+    requires { IsOver text.now }
+    ensures stopped { result ≡ Status.Failed → IsStopped (situation file.now text.old)
+        (course (I.state input.old) (I.state input.new) (O.state out.old) (O.state out.new))
+        (O.is_closed out.new) (E.state err.old) (E.state err.new) }
+    ensures quiet { result ≢ Status.Failed → err.new ≡ err.old }
+    ensures reading { result ≢ Status.Failed → (I.state input.new).failed ≡ (I.state input.old).failed }
+    ensures working { result ≢ Status.Failed → WorksOn (O.state out.old).failed (O.state out.new).failed }
+    ensures answers { MatchOption (I.state input.old).bytes (Unit {0})
+        (λ script. Answers script (situation file.now text.old) (O.state out.old) (O.state out.new) result) }
+{
+    match run_script(alloc, text, file, input, out) {
         Ok(Outcome::Clean) => Status::Done,
         Ok(Outcome::Refused) => Status::Faulty,
         Err(fault) => {

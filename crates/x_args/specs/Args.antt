@@ -173,9 +173,9 @@ dump_app = with_rule
     (with_rule (plain_app (codes "rpcdump")) schema_rule) bare_rule) type_rule) known_rule) c_types_rule)
     file_rule
 
--- `rpcedit [--help] [--version] [--known FILE].. FILE`
+-- `rpcedit [--help] [--version] [--known FILE].. [--c-types] [--foreign] FILE`
 unfoldable pub edit_app : App
-edit_app = with_rule (with_rule (plain_app (codes "rpcedit")) known_rule) file_rule
+edit_app = with_rule (with_before (plain_app (codes "rpcedit"))) file_rule
 
 -- `--stdio`
 abbrev pub stdio_rule : Rule
@@ -260,10 +260,9 @@ pub record IsCheckArgs (rows : List Row) (args : CheckArgs) : Type 0 where
   pub files : Some (map (λ s. s.now) args.files.items) ≡ all_of (codes "file") rows
   pub some : 0 < length args.files.items
 
--- the files and the value of `rpcedit`, as clap read them
+-- the options and the value of `rpcedit`, as clap read them
 pub record IsEditArgs (rows : List Row) (args : EditArgs) : Type 0 where
-  pub known : AreKnown rows args.before
-  pub no_names : (args.before.c_types ≡ false) × (args.before.foreign ≡ false)
+  pub before : IsBeforeArgs rows args.before
   pub file : Some args.file.now ≡ first_of (codes "file") rows
 
 -- the options of `rpcls`, as clap read them

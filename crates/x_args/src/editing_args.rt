@@ -4,16 +4,16 @@ ghost use Rattle.std.specs.Prelude.{◌≡◌, IfOk, codes, map};
 ghost use Rattle.clap.specs.Words.{FailsBy, app_of, fault_of, matches_of};
 ghost use Rattle.x_args.specs.Args.{AlwaysHas, IsEditArgs, edit_app};
 
-use crate::arguments::{file, known, plain_command, values};
-use crate::before_args::BeforeArgs;
-use clap::{Command, Error};
+use crate::arguments::{file, known, plain_command, request};
+use crate::before_args::{BeforeArgs, before_args};
+use clap::{ArgAction, Command, Error};
 use std::alloc::{AllocError, Global};
 use std::convert::AsStr;
 
 /// What a command line of `rpcedit` asks for.
 #[derive(Debug, Drop, PartialEq, Eq)]
 pub struct EditArgs<'a> {
-    /// `--known FILE`: what stands before the text.
+    /// `--known FILE`, `--c-types`, `--foreign`: what stands before the text.
     pub before: BeforeArgs<'a>,
     /// FILE: the text that is edited.
     pub file: &'a str,
@@ -29,21 +29,19 @@ pub fn edit_args<'a, S: AsStr>(alloc: Global, words: &'a [S]) -> Result<EditArgs
 {
     let matches = edit_command(alloc)?.try_get_matches_from(words)?;
     Ok(EditArgs {
-        before: BeforeArgs {
-            known: values(alloc, &matches, "known")?,
-            c_types: false,
-            foreign: false,
-        },
+        before: before_args(alloc, &matches)?,
         file: matches.get_str("file").unwrap(),
     })
 }
 
-// The option and the value of `rpcedit`.
+// The options and the value of `rpcedit`.
 fn edit_command<'a>(alloc: Global) -> Result<Command<'a>, AllocError>
     ensures app { IfOk result (λ c. app_of c ≡ edit_app) }
     ensures file { IfOk result (AlwaysHas (codes "file")) }
 {
     plain_command(alloc, "rpcedit")?
         .arg(known(alloc))?
+        .arg(request(alloc, "c_types", "c-types", ArgAction::SetTrue))?
+        .arg(request(alloc, "foreign", "foreign", ArgAction::SetTrue))?
         .arg(file(alloc))
 }

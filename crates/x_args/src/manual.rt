@@ -61,9 +61,11 @@ standard input, one a line and in order. FILE itself is never changed.
                         print what rpcgen -h, -c, -l or -t writes
   dump TYPE [HEX]       print the value of TYPE that these bytes encode
 
-  --known FILE          take what this file defines as known
-  --help                show this text
-  --version             show the version
+  --known FILE  take what this file defines as known
+  --c-types     accept u_int and other types of C that have an XDR routine
+  --foreign     take names that nobody declares as types or constants of C
+  --help        show this text
+  --version     show the version
 
 Example: echo faults | rpcedit point.x
 

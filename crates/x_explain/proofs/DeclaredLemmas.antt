@@ -23,8 +23,8 @@ use Rattle.x_session.specs.Session.{Compiles}
 use Rattle.x_explain.specs.declared.declared.DeclaredNames.{DeclaredNames}
 use Rattle.x_explain.specs.declared.declared.FirstPlace.{FirstPlace}
 use Rattle.x_explain.specs.declared.declared.Spot.{Spot}
-use Rattle.x_explain.specs.DeclaredNames.{IsTableOf, declared_at, first_place, first_place_by, spot_at, word_at, word_spots, words_in}
-use Rattle.x_explain.specs.KnownFiles.{place_by, place_in, spot_in}
+use Rattle.x_explain.specs.DeclaredNames.{IsTableOf, declared_at, first_place, first_place_by, spot_at, word_at, word_of_item, word_spots, words_in}
+use Rattle.x_explain.specs.KnownFiles.{place_by, place_in, word_spot}
 use Rattle.x_explain.proofs.ItemsLeft.{AreLeft, all_left, item_at, next_item_is, none_left, short_definition}
 
 -- what holds of one compilation holds of each
@@ -42,17 +42,20 @@ map-snoc f (y ∷ xs) x = ap (λ l. f y ∷ l) (map-snoc f xs x)
 
 -- ---- where a name is declared first
 
-pub spot_items : (text : List ℕ) (items : List Item) (table : DeclaredNames) (d : Declarer) → IsTableOf text items table
-    → spot_in table d ≡ option_map (λ (t : Lexeme). spot_at text t.start) (word_at items d)
-spot_items text items table d h =
-    ap (λ l. option_and_then (λ (words : List Spot). slice_get words d.word) (slice_get l d.item)) h.words
-    ∙ ap (option_and_then (λ words. slice_get words d.word)) (slice_get-map (word_spots text) items d.item)
-    ∙ there (slice_get items d.item)
+pub word_items : (text : List ℕ) (items : List Item) (table : DeclaredNames) (item word : ℕ)
+    → IsTableOf text items table → word_spot table item word
+    ≡ option_map (λ (t : Lexeme). spot_at text t.start) (word_of_item items item word)
+word_items text items table item word h =
+    ap (λ l. option_and_then (λ (words : List Spot). slice_get words word) (slice_get l item)) h.words
+    ∙ ap (option_and_then (λ words. slice_get words word)) (slice_get-map (word_spots text) items item)
+    ∙ there (slice_get items item)
   where
-    there : (o : Option Item) → option_and_then (λ (words : List Spot). slice_get words d.word) (option_map (word_spots text) o)
-        ≡ option_map (λ (t : Lexeme). spot_at text t.start) (option_and_then (λ (i : Item). slice_get (words_in i.tokens) d.word) o)
+    there : (o : Option Item)
+        → option_and_then (λ (words : List Spot). slice_get words word) (option_map (word_spots text) o)
+        ≡ option_map (λ (t : Lexeme). spot_at text t.start)
+        (option_and_then (λ (i : Item). slice_get (words_in i.tokens) word) o)
     there None = refl
-    there (Some i) = slice_get-map (λ (t : Lexeme). spot_at text t.start) (words_in i.tokens) d.word
+    there (Some i) = slice_get-map (λ (t : Lexeme). spot_at text t.start) (words_in i.tokens) word
 
 pub place_items : (text : List ℕ) (items : List Item) (table : DeclaredNames) (name : List ℕ) → IsTableOf text items table
     → place_in table name ≡ first_place text items name
@@ -66,7 +69,7 @@ place_items text items table name h =
 
     by : (o : Option Declarer) → option_and_then (place_by table) o ≡ option_and_then (first_place_by text items) o
     by None = refl
-    by (Some d) = ap (option_map (λ s. declared_at d s)) (spot_items text items table d h) ∙ twice d (word_at items d)
+    by (Some d) = ap (option_map (λ s. declared_at d s)) (word_items text items table d.item d.word h) ∙ twice d (word_at items d)
 
 none_at : {X : Type 0} (xs : List X) (k : ℕ) → length xs ≤ k → None ≡ slice_get xs k
 none_at [] zero le = refl

@@ -17,8 +17,12 @@ abbrev pub words_in : List Lexeme → List Lexeme
 words_in tokens = filter (λ t. is_significant t.kind) tokens
 
 -- the token of a word of the item at an index
+abbrev pub word_of_item : List Item → (item word : ℕ) → Option Lexeme
+word_of_item items item word =
+    option_and_then (λ i. slice_get (words_in i.tokens) word) (slice_get items item)
+
 abbrev pub word_at : List Item → Declarer → Option Lexeme
-word_at items d = option_and_then (λ i. slice_get (words_in i.tokens) d.word) (slice_get items d.item)
+word_at items d = word_of_item items d.item d.word
 
 -- the token that declares a name first
 abbrev pub definition_of : List Item → List ℕ → Option Lexeme

@@ -1,5 +1,5 @@
 -- The faults of a text, explained.
-use Rattle.std.specs.Prelude.{◌≡◌, ℕ, ◌-◌, max, Bool, true, false, ◌==◌, List, [], ◌∷◌, ◌++◌, codes}
+use Rattle.std.specs.Prelude.{◌≡◌, ℕ, ◌+◌, ◌-◌, max, Bool, true, false, ◌==◌, List, [], ◌∷◌, ◌++◌, codes}
 use Rattle.std.specs.Prelude.{length, take, count_by, Option, None, Some, if◌then◌else◌, slice_range}
 use Rattle.std.specs.Prelude.{option_map}
 use Rattle.std.specs.List.{flat_map}
@@ -20,6 +20,7 @@ use Rattle.x_explain.specs.declared.explained.Pass.{Pass}
 use Rattle.x_explain.specs.declared.explained.Pass.TheVariants.{Errors, Notes}
 use Rattle.x_explain.specs.Excerpts.{Excerpt, excerpt}
 use Rattle.x_explain.specs.Facts.{Known, kind_of, known_of}
+use Rattle.x_explain.specs.Foreign.{ForeignName}
 use Rattle.x_explain.specs.Found.{AreFound}
 use Rattle.x_explain.specs.KnownFiles.{FirstDeclaration, KnownPlaces}
 use Rattle.x_explain.specs.Sentences.{saying, sentence}
@@ -116,6 +117,12 @@ help_line coloured line (Some help) =
 abbrev pub heading : (file text : List ℕ) → FoundFault → List ℕ
 heading file text d = place file (line_of text d.start) (column_of text d.start) ++ codes ": "
 
+-- a name is taken from C
+abbrev pub foreign_line : (coloured : Bool) → (file : List ℕ) → ForeignName → List ℕ
+foreign_line coloured file f =
+    place file f.spot.line f.spot.column ++ codes ": " ++ painted coloured cyan (codes "note:") ++ codes " '"
+    ++ f.name ++ codes "' is taken from C\n"
+
 -- how a file's text is told: with or without colours
 pub record Telling : Type 0 where
   pub coloured : Bool
@@ -186,23 +193,26 @@ summary errors notes = counted errors (codes "error") ++ counted_notes notes ++ 
 abbrev pub notes_at : List FaultPlace → ℕ
 notes_at places = count_by (λ p. is_note p.code) places
 
--- the errors of a text, then the notes, and how many there are
-abbrev pub explanation : KnownPlaces → Telling → List Item → List (ℕ × Option (List ℕ))
+-- the errors of a text, then the notes, the names that it takes from C among them, and how many there are
+abbrev pub explanation : KnownPlaces → List ForeignName → Telling → List Item → List (ℕ × Option (List ℕ))
     → (errors notes : List FoundFault) → List ℕ
-explanation before t items near errors notes =
+explanation before foreign t items near errors notes =
     flat_map (said_by Errors before t items near) errors ++ flat_map (said_by Notes before t items near) notes
-    ++ summary (length (places_of items) - notes_at (places_of items)) (notes_at (places_of items))
+    ++ flat_map (foreign_line t.coloured t.file) foreign
+    ++ summary (length (places_of items) - notes_at (places_of items))
+    (notes_at (places_of items) + length foreign)
 
--- the faults of a text, which has these items, are explained so, where these names are known before it
-pub record AreExplained (before : KnownPlaces) (t : Telling) (items : List Item) (said : List ℕ)
-    : Type 0 where
+-- the faults of a text, which has these items, are explained so, where these names are known before it, and
+-- it takes these from C
+pub record AreExplained (before : KnownPlaces) (foreign : List ForeignName) (t : Telling) (items : List Item)
+    (said : List ℕ) : Type 0 where
   pub near : List (ℕ × Option (List ℕ))
   pub errors : List FoundFault
   pub notes : List FoundFault
   pub are_near : AreSuggested t.text items near
   pub are_found : AreFound t.text (places_of items) errors
   pub are_found_too : AreFound t.text (places_of items) notes
-  pub said_is : said ≡ explanation before t items near errors notes
+  pub said_is : said ≡ explanation before foreign t items near errors notes
 
 -- a pass added what it says of the faults at these places
 abbrev pub IsPass : Pass → KnownPlaces → Telling → List Item → List (ℕ × Option (List ℕ)) → List FaultPlace

@@ -11,6 +11,7 @@ use Rattle.x_explain.specs.declared.facts.FaultNames.{FaultNames}
 use Rattle.x_explain.specs.declared.facts.Known as rust
 use Rattle.x_explain.specs.AgainNames.{AreAgain, again_at}
 use Rattle.x_explain.specs.DeclaredNames.{IsTableOf}
+use Rattle.x_explain.specs.Foreign.{ForeignName, view_all}
 use Rattle.x_explain.specs.KnownFiles.{FirstDeclaration, KnownPlaces, first_declaration, places_of_files}
 use Rattle.x_explain.specs.KnownFiles.{view_first}
 use Rattle.x_explain.specs.Suggestions.{AreSuggested, is_unknown, suggested_at, view_suggestion}
@@ -74,7 +75,10 @@ abbrev pub near_in : FaultFacts → List (ℕ × Option (List ℕ))
 near_in facts = map view_suggestion facts.suggestions.list.items
 
 abbrev pub before_in : FaultFacts → KnownPlaces
-before_in facts = places_of_files facts.files.list.items
+before_in facts = places_of_files facts.files.now.list.items
+
+abbrev pub foreign_in : FaultFacts → List ForeignName
+foreign_in facts = view_all facts.foreign.items
 
 pub record AreFactsOf (text : List ℕ) (items : List Item) (facts : FaultFacts) : Type 0 where
   pub names : AreNamesOf text items facts.names

@@ -41,9 +41,12 @@ first_declaration before text items name =
 -- ---- what the program has of that
 
 -- where a word starts, and a name is declared first, by the table of a text
+abbrev pub word_spot : DeclaredNames → (item word : ℕ) → Option Spot
+word_spot table item word = option_and_then (λ words. slice_get words word)
+    (slice_get (map (λ v. v.items) table.words.items) item)
+
 abbrev pub spot_in : DeclaredNames → Declarer → Option Spot
-spot_in table d = option_and_then (λ words. slice_get words d.word)
-    (slice_get (map (λ v. v.items) table.words.items) d.item)
+spot_in table d = word_spot table d.item d.word
 
 abbrev pub place_by : DeclaredNames → Declarer → Option FirstPlace
 place_by table d = option_map (declared_at d) (spot_in table d)

@@ -4,6 +4,7 @@ pub mod DeclaredNames
 pub mod Excerpts
 pub mod Explained
 pub mod Facts
+pub mod Foreign
 pub mod Found
 pub mod KnownFiles
 pub mod Sentences

@@ -7,9 +7,9 @@ ghost use Rattle.x_names.specs.Declarers.{first_declarer};
 ghost use Rattle.x_names.specs.DeclarerTable.{first_in};
 ghost use Rattle.x_compile.specs.Compile.{Item, definitions_of};
 ghost use Rattle.x_session.specs.Session.{Compiles};
-ghost use Rattle.x_explain.specs.DeclaredNames.{IsTableOf, first_place, spot_at, word_at, word_spots};
-ghost use Rattle.x_explain.specs.DeclaredNames.{words_in};
-ghost use Rattle.x_explain.specs.KnownFiles.{place_in, spot_in};
+ghost use Rattle.x_explain.specs.DeclaredNames.{IsTableOf, first_place, spot_at, word_at, word_of_item};
+ghost use Rattle.x_explain.specs.DeclaredNames.{word_spots, words_in};
+ghost use Rattle.x_explain.specs.KnownFiles.{place_in, spot_in, word_spot};
 
 use std::alloc::Global;
 use x_item::{Definition, NameKind, is_significant, next_item};
@@ -91,8 +91,17 @@ impl<'s> DeclaredNames<'s> {
         ensures by_items { (text : List ℕ) (items : List Item) → IsTableOf text items self.now
             → result ≡ option_map (λ t. spot_at text t.start) (word_at items declarer.now) }
     {
-        let words = self.words.get(declarer.item)?;
-        words.get(declarer.word).copied()
+        self.word(declarer.item, declarer.word)
+    }
+
+    /// Where a word of an item starts; both are counted from 0.
+    pub fn word(&self, item: usize, word: usize) -> Option<Spot>
+        ensures by_table { result ≡ word_spot self.now item word }
+        ensures by_items { (text : List ℕ) (items : List Item) → IsTableOf text items self.now
+            → result ≡ option_map (λ t. spot_at text t.start) (word_of_item items item word) }
+    {
+        let words = self.words.get(item)?;
+        words.get(word).copied()
     }
 }
 

@@ -8,12 +8,14 @@ ghost use Rattle.x_session.specs.Session.{Compiles};
 ghost use Rattle.x_explain.specs.Explained.{AreExplained, IsPass, counted, counted_notes, explained, heading};
 ghost use Rattle.x_explain.specs.Explained.{headline, help_line, help_of, is_note, notes_at, said_in};
 ghost use Rattle.x_explain.specs.Explained.{summary};
-ghost use Rattle.x_explain.specs.Facts.{AreFactsOf, before_in, kind_of, near_in, view_known};
+ghost use Rattle.x_explain.specs.Facts.{AreFactsOf, before_in, foreign_in, kind_of, near_in};
+ghost use Rattle.x_explain.specs.Facts.{view_known};
 ghost use Rattle.x_explain.specs.KnownFiles.{view_first};
 ghost use Rattle.x_explain.specs.Sentences.{saying, view_sentence};
 
 use crate::excerpt::excerpt_at;
 use crate::facts::{FaultFacts, Known};
+use crate::foreign::add_foreign_lines;
 use crate::found::{FoundFault, token_end, word_at};
 use crate::known_files::FirstDeclaration;
 use crate::lines::{
@@ -230,7 +232,7 @@ fn error_count(session: &Session) -> usize
 
 /// Adds a number with its noun.
 #[tactic(auto, using(x_text::proofs::Adding::four))]
-fn add_counted<S: Sink>(count: usize, noun: &str, pen: &mut Pen, sink: &mut S)
+fn add_counted<S: Sink>(count: u128, noun: &str, pen: &mut Pen, sink: &mut S)
     ensures { Adds pen.old (S.state sink.old) pen.new (S.state sink.new) (counted count noun.now) }
 {
     add_number(count, pen, sink);
@@ -241,7 +243,7 @@ fn add_counted<S: Sink>(count: usize, noun: &str, pen: &mut Pen, sink: &mut S)
 
 /// Adds the number of notes, where there are some.
 #[tactic(auto, using(x_text::proofs::Adding::two))]
-fn add_counted_notes<S: Sink>(notes: usize, pen: &mut Pen, sink: &mut S)
+fn add_counted_notes<S: Sink>(notes: u128, pen: &mut Pen, sink: &mut S)
     ensures { Adds pen.old (S.state sink.old) pen.new (S.state sink.new) (counted_notes notes) }
 {
     if notes > 0 {
@@ -252,7 +254,7 @@ fn add_counted_notes<S: Sink>(notes: usize, pen: &mut Pen, sink: &mut S)
 
 /// Adds how many errors and notes there are.
 #[tactic(auto, using(x_text::proofs::Adding::three))]
-fn add_summary<S: Sink>(errors: usize, notes: usize, pen: &mut Pen, sink: &mut S)
+fn add_summary<S: Sink>(errors: u128, notes: u128, pen: &mut Pen, sink: &mut S)
     ensures { Adds pen.old (S.state sink.old) pen.new (S.state sink.new) (summary errors notes) }
 {
     add_counted(errors, "error", pen, sink);
@@ -261,7 +263,8 @@ fn add_summary<S: Sink>(errors: usize, notes: usize, pen: &mut Pen, sink: &mut S
 }
 
 /// Adds the faults of a file's text, explained: each error with its line and what helps, then each fault that
-/// comes of others in a line, and then how many there are. `facts` are those of the text.
+/// comes of others and each name that is taken from C in a line, and then how many there are. `facts` are
+/// those of the text.
 ///
 /// Goes over the faults three times, and takes no memory.
 pub fn add_explained_faults<S: Sink>(
@@ -275,12 +278,12 @@ pub fn add_explained_faults<S: Sink>(
     requires { Compiles session.now.known session.now.text
         (λ items. AreFactsOf session.now.text items facts.now) }
     ensures { Compiles session.now.known session.now.text (λ items. (said : List ℕ)
-        × AreExplained (before_in facts.now)
+        × AreExplained (before_in facts.now) (foreign_in facts.now)
         (record { coloured = coloured; file = file.now; text = session.now.text }) items said
         × Adds pen.old (S.state sink.old) pen.new (S.state sink.new) said) }
 {
     let errors = error_count(session);
-    let notes = session.fault_count() - errors;
+    let caused = session.fault_count() - errors;
     let telling = Telling {
         coloured,
         file,
@@ -289,5 +292,8 @@ pub fn add_explained_faults<S: Sink>(
     };
     telling.add_pass(Pass::Errors, pen, sink);
     telling.add_pass(Pass::Notes, pen, sink);
-    add_summary(errors, notes, pen, sink);
+    let foreign = facts.foreign.as_slice();
+    add_foreign_lines(coloured, file, foreign, pen, sink);
+    let notes = caused as u128 + foreign.len() as u128;
+    add_summary(errors as u128, notes, pen, sink);
 }

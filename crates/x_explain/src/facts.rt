@@ -4,12 +4,15 @@ ghost use Rattle.std.specs.Prelude.{◌≡◌, IfOk, List, ℕ, option_map};
 ghost use Rattle.x_compile.specs.Compile.{Item};
 ghost use Rattle.x_session.specs.Session.{Compiles};
 ghost use Rattle.x_explain.specs.DeclaredNames.{first_place};
-ghost use Rattle.x_explain.specs.Facts.{AreFactsOf, AreNamesOf, before_in, first_of, is_of_declarer};
-ghost use Rattle.x_explain.specs.Facts.{known_of, name_of, near_in, suggested_for, view_known};
+ghost use Rattle.x_explain.specs.Facts.{AreFactsOf, AreNamesOf, before_in, first_of, foreign_in};
+ghost use Rattle.x_explain.specs.Facts.{is_of_declarer, known_of, name_of, near_in, suggested_for};
+ghost use Rattle.x_explain.specs.Facts.{view_known};
+ghost use Rattle.x_explain.specs.Foreign.{view_all};
 ghost use Rattle.x_explain.specs.KnownFiles.{first_declaration, places_of_files, view_first};
 
 use crate::again::AgainNames;
 use crate::declared::{DeclaredNames, FirstPlace};
+use crate::foreign::ForeignName;
 use crate::known_files::{FirstDeclaration, KnownFiles};
 use crate::suggestions::{Suggestions, is_unknown};
 use std::alloc::Global;
@@ -73,13 +76,15 @@ impl<'s> FaultNames<'s> {
 /// What a text, and what is known before it, say of its words with faults.
 #[derive(Drop)]
 pub struct FaultFacts<'s> {
-    files: KnownFiles<'s>,
+    files: &'s KnownFiles<'s>,
+    pub(crate) foreign: Vec<ForeignName<'s>>,
     names: FaultNames<'s>,
     suggestions: Suggestions,
 }
 
 impl<'s> FaultFacts<'s> {
-    /// What a text says, over which this goes several times, where these files are known before it.
+    /// What a text says, over which this goes several times, where these files are known before it, and it
+    /// takes these names from C.
     ///
     /// # Errors
     ///
@@ -87,16 +92,19 @@ impl<'s> FaultFacts<'s> {
     pub fn of(
         alloc: Global,
         session: &'s Session,
-        files: KnownFiles<'s>,
+        files: &'s KnownFiles<'s>,
+        foreign: Vec<ForeignName<'s>>,
     ) -> Result<FaultFacts<'s>, NoMemory>
         ensures facts { IfOk result (λ facts. Compiles session.now.known session.now.text
             (λ items. AreFactsOf session.now.text items facts)) }
-        ensures files { IfOk result (λ facts. before_in facts ≡ places_of_files files.entry.list.items) }
+        ensures files { IfOk result (λ facts. before_in facts ≡ places_of_files files.now.list.items) }
+        ensures foreign { IfOk result (λ facts. foreign_in facts ≡ view_all foreign.entry.items) }
     {
         let names = FaultNames::of(alloc, session)?;
         let suggestions = Suggestions::of(alloc, session)?;
         Ok(FaultFacts {
             files,
+            foreign,
             names,
             suggestions,
         })

@@ -23,7 +23,7 @@ pub(crate) const RED: &[u8] = b"\x1b[1;31m";
 const GREEN: &[u8] = b"\x1b[1;32m";
 
 /// and of what is said beside.
-const CYAN: &[u8] = b"\x1b[1;36m";
+pub(crate) const CYAN: &[u8] = b"\x1b[1;36m";
 
 /// The order by which it ends a colour.
 const PLAIN: &[u8] = b"\x1b[0m";

@@ -1,9 +1,9 @@
 -- What stands before a text.
 use Rattle.std.proofs.Common.{◌≡◌, ◌⊎◌, ◌<◌, ℕ, Bool, true, false, List, [], ◌++◌, append-nil, length, inl, inr}
-use Rattle.std.proofs.Common.{refl, sym, ap, subst, ◌∙◌}
-use Rattle.std.specs.Prelude.{Result, Ok, Err, IfOk, IsErrOf, IsErrAnd, if◌then◌else◌, ◌||◌}
-use Rattle.std.proofs.lemmas.Grind.{merely}
-use Rattle.std.proofs.Math.Logic.{∥∥₁_map, ∥∥₁_map₂}
+use Rattle.std.proofs.Common.{Vec, vec_len, arith, refl, sym, ap, subst, ◌∙◌}
+use Rattle.std.specs.Global.{Global}
+use Rattle.std.proofs.lemmas.Grind.{common_steps}
+use Rattle.std.specs.Prelude.{◌==◌, Result, Ok, Err, IfOk, IsErrOf, IsErrAnd, if◌then◌else◌, ◌||◌}
 use Rattle.x_text.specs.Limits.{most_text}
 use Rattle.x_text.specs.declared.text.fault.TextFault.{TextFault}
 use Rattle.x_text.specs.declared.text.fault.TextFault.TheVariants as faults
@@ -32,6 +32,10 @@ err_or d (Err e) = e
 
 pub same_error : {T U E : Type 0} (x y : E) → IsErrOf {T = T} (Err x) y → IsErrOf {T = U} (Err x) y
 same_error x y e = ap Err (ap (err_or x) e)
+
+-- a list that is tested for being empty, and is
+pub no_items : (v : Vec ℕ Global) (b : Bool) → b ≡ (vec_len v == 0) → b ≡ true → v.items ≡ []
+no_items v b is empty = grind (arith, common_steps)
 
 -- types, and then the other names
 pub both_parts : {known : KnownText} (text : List ℕ) (own : KnownNames) (from : FromC) (old mid new : List ℕ)
@@ -63,13 +67,6 @@ pub is_before : (files : List ℕ) (from : FromC) (text lacking : List ℕ) (all
     → IsPrelude files from text lacking → IsKnownOf (files ++ lacking) all → IsBefore files from text all
 is_before files from text lacking all is known = (files ++ lacking, stands files from text lacking is, known)
 
-pub merely_before : {known : KnownText} (files : List ℕ) (from : FromC) (text lacking : List ℕ) (own all : KnownText)
-    → ∥ IsKnownOf files own ∥₁ → ∥ IsKnownOf (files ++ lacking) all ∥₁
-    → Compiles known text (λ items. lacking ≡ prelude from (known_names own) (definitions_of items))
-    → ∥ IsBefore files from text all ∥₁
-merely_before files from text lacking own all files_are all_are compiled = ∥∥₁_map₂ files_are all_are
-    (λ f a. is_before files from text lacking all (is_prelude files from text lacking own f compiled) a)
-
 pub crowds : (files : List ℕ) (from : FromC) (text lacking bytes before : List ℕ)
     → IsPrelude files from text lacking → bytes ≡ text → before ≡ files ++ lacking
     → (most_text < length bytes) ⊎ (most_text < length before)
@@ -78,19 +75,6 @@ crowds files from text lacking bytes before is same front large = elim large [
   | inl long ↦ inl (subst (λ t. most_text < length t) same long)
   | inr long ↦ inr (by_names (files ++ lacking) (stands files from text lacking is)
       (subst (λ t. most_text < length t) front long))
-]
-
-pub merely_crowds : {known : KnownText} (files : List ℕ) (from : FromC) (text lacking bytes before : List ℕ)
-    (own : KnownText) → ∥ IsKnownOf files own ∥₁
-    → Compiles known text (λ items. lacking ≡ prelude from (known_names own) (definitions_of items))
-    → bytes ≡ text → before ≡ files ++ lacking
-    → (most_text < length bytes) ⊎ (most_text < length before)
-    → (most_text < length text) ⊎ ∥ IsCrowded files from text ∥₁
-merely_crowds files from text lacking bytes before own files_are compiled same front large = elim large [
-  | inl long ↦ inl (subst (λ t. most_text < length t) same long)
-  | inr long ↦ inr (∥∥₁_map files_are (λ f. by_names (files ++ lacking)
-      (stands files from text lacking (is_prelude files from text lacking own f compiled))
-      (subst (λ t. most_text < length t) front long)))
 ]
 
 -- ---- where nothing is taken from C

@@ -1,4 +1,6 @@
 pub mod BeforeLemmas
+pub mod DefinitionLemmas
 pub mod FirstLemmas
+pub mod ForeignLemmas
 pub mod LackingLemmas
 pub mod TypeLemmas

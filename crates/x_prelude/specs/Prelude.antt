@@ -2,7 +2,6 @@
 use Rattle.std.specs.Prelude.{ℕ, ◌+◌, ◌*◌, Bool, not, ◌&&◌, List, [], ◌++◌, Option, Some, None, is_some}
 use Rattle.std.specs.Prelude.{codes, decimal, if◌then◌else◌}
 use Rattle.std.specs.List.{enumerate_from, flat_map}
-use Rattle.x_trees.specs.Mentions.{Mention}
 use Rattle.x_trees.specs.Tree.{Definition}
 use Rattle.x_trees.specs.declared.names.mention.Use.{Use}
 use Rattle.x_trees.specs.declared.names.mention.Use.TheVariants as uses
@@ -11,7 +10,7 @@ use Rattle.x_trees.specs.declared.trees.declaration.Tag.TheVariants as tags
 use Rattle.x_rules.specs.Results.{KnownNames}
 use Rattle.x_session.specs.Lacking.{is_lacking_name}
 use Rattle.x_prelude.specs.CTypes.{c_type, c_types}
-use Rattle.x_prelude.specs.Lacking.{lacking}
+use Rattle.x_prelude.specs.Lacking.{Occurrence, first_of_each, first_tag, lacking, name_of}
 use Rattle.x_prelude.specs.declared.definition.FromC.{FromC}
 
 -- ---- the types of C, known by what is on the wire
@@ -34,11 +33,10 @@ types_in table known definitions = flat_map (λ e. type_text (lacks_name known d
 abbrev pub constant_number : ℕ → ℕ
 constant_number number = 1073741824 + 256 * number
 
--- the definition of the name that has this number
+-- The definition of the name that has this number: by its keyword, if there is one; else it is a constant if
+-- it is one where it is used first. A type without a keyword is taken for an int, so that it may also be that
+-- of a discriminant.
 abbrev pub foreign_text : ℕ → List ℕ → Use → Option Tag → List ℕ
-foreign_text number name uses.Value tag =
-    codes "const " ++ name ++ codes " = " ++ decimal (constant_number number) ++ codes ";\n"
-foreign_text number name usage None = codes "typedef opaque " ++ name ++ codes "<>;\n"
 foreign_text number name usage (Some tags.Struct) =
     codes "struct " ++ name ++ codes " { opaque unknown<>; };\n"
 foreign_text number name usage (Some tags.Union) =
@@ -46,15 +44,24 @@ foreign_text number name usage (Some tags.Union) =
 foreign_text number name usage (Some tags.Enum) =
     codes "enum " ++ name ++ codes " { " ++ name ++ codes "__ = " ++ decimal (constant_number number)
     ++ codes " };\n"
+foreign_text number name uses.Value None =
+    codes "const " ++ name ++ codes " = " ++ decimal (constant_number number) ++ codes ";\n"
+foreign_text number name usage None = codes "typedef int " ++ name ++ codes ";\n"
 
--- the definition of a name by its first mention, unless it is taken as a type of C
-abbrev pub definition_of : FromC → ℕ → Mention → List ℕ
-definition_of from number m =
-    if from.types && is_some (c_type m.name) then [] else foreign_text number m.name m.usage m.tag
+-- the name is taken as a type of C
+abbrev pub is_type : FromC → List ℕ → Bool
+is_type from name = from.types && is_some (c_type name)
 
--- the definitions of names, numbered from 0
-abbrev pub definitions_of_names : FromC → List Mention → List ℕ
-definitions_of_names from names = flat_map (λ e. definition_of from e.0 e.1) (enumerate_from 0 names)
+-- the definition of a name by its uses, the first of which is this one, unless it is taken as a type of C
+abbrev pub definition_of : FromC → (lacking : List Occurrence) → ℕ → Occurrence → List ℕ
+definition_of from all number o =
+    if is_type from (name_of o) then []
+    else foreign_text number (name_of o) o.mention.usage (first_tag (name_of o) all)
+
+-- the definitions of the names that are lacking, numbered from 0 in the order of their first uses
+abbrev pub definitions_of_names : FromC → (lacking : List Occurrence) → List ℕ
+definitions_of_names from all =
+    flat_map (λ e. definition_of from all e.0 e.1) (enumerate_from 0 (first_of_each all))
 
 -- ---- both
 

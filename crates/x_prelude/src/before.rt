@@ -1,11 +1,11 @@
 //! What stands before a text that is opened.
 
-ghost use Rattle.std.specs.Prelude.{◌≡◌, ◌⊎◌, ◌<◌, ◌++◌, length, IfOk, IsErrOf};
+ghost use Rattle.std.specs.Prelude.{◌≡◌, ◌<◌, ◌++◌, length, IfOk, IsErrOf};
 ghost use Rattle.x_text.specs.Limits.{most_text};
-ghost use Rattle.x_prelude.specs.Before.{IsCrowded, IsKnownOf, IsOpenBy, IsOpenOver, IsPrelude};
+ghost use Rattle.x_prelude.specs.Before.{IsKnownOf, IsOpenBy, IsOpenOver, IsPrelude};
 
 use crate::definition::FromC;
-use crate::prelude::prelude_of;
+use crate::followed::FollowedText;
 use std::alloc::Global;
 use x_compile::KnownDefinitions;
 use x_hash::HashKey;
@@ -69,54 +69,6 @@ fn joined(alloc: Global, first: &[u8], second: &[u8]) -> Result<Vec<u8>, NoMemor
     Ok(both)
 }
 
-/// A text over what stands before it.
-#[derive(Drop)]
-pub(crate) struct OverBefore {
-    /// What the known files define.
-    pub known: KnownDefinitions,
-    /// The definitions that the text lacks behind them.
-    pub lacking: Vec<u8>,
-    pub session: Session,
-}
-
-/// Opens a text over what stands before it.
-///
-/// # Errors
-///
-/// As [`open_by`].
-pub(crate) fn open_over_lacking(
-    alloc: Global,
-    files: &[u8],
-    from_c: FromC,
-    hash_key: HashKey,
-    base: &[u8],
-    bytes: &[u8],
-) -> Result<OverBefore, TextFault>
-    ensures base { IfOk result (λ opened. opened.session.base ≡ base.now) }
-    ensures text { IfOk result (λ opened. opened.session.text ≡ bytes.now) }
-    ensures known { IfOk result (λ opened. IsKnownOf files.now opened.known) }
-    ensures lacking { IfOk result (λ opened. IsPrelude files.now from_c bytes.now opened.lacking.items) }
-    ensures all { IfOk result
-        (λ opened. IsKnownOf (files.now ++ opened.lacking.items) opened.session.known) }
-    ensures large { IsErrOf result TextFault.TooLarge
-        → (most_text < length bytes.now) ⊎ IsCrowded files.now from_c bytes.now }
-    ensures in_range { IsErrOf result TextFault.BadRange → ⊥ }
-{
-    let known = known_of(alloc, files)?;
-    let mut session = open_over(alloc, files, hash_key, base, bytes)?;
-    let Ok(lacking) = prelude_of(alloc, &mut session, &known, from_c) else {
-        return Err(TextFault::NoMemory);
-    };
-    if !lacking.is_empty() {
-        session = open_over_both(alloc, files, &lacking, hash_key, base, bytes)?;
-    }
-    Ok(OverBefore {
-        known,
-        lacking,
-        session,
-    })
-}
-
 /// The definitions that a text lacks behind the text of known files, as far as they may be taken from C.
 ///
 /// # Errors
@@ -131,7 +83,7 @@ pub fn lacking_text(
     ensures lacking { IfOk result (λ lacking. IsPrelude files.now from_c bytes.now lacking.items) }
 {
     let hash_key = HashKey::of_bytes(bytes);
-    match open_over_lacking(alloc, files, from_c, hash_key, b"", bytes) {
+    match FollowedText::open(alloc, files, from_c, hash_key, b"", bytes) {
         Ok(opened) => Ok(opened.lacking),
         Err(fault) => Err(fault),
     }
@@ -160,7 +112,7 @@ pub fn open_by(
     if !(from_c.types || from_c.foreign) {
         return open_over(alloc, files, hash_key, base, bytes);
     }
-    match open_over_lacking(alloc, files, from_c, hash_key, base, bytes) {
+    match FollowedText::open(alloc, files, from_c, hash_key, base, bytes) {
         Ok(opened) => Ok(opened.session),
         Err(fault) => Err(fault),
     }

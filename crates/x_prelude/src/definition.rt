@@ -1,12 +1,11 @@
 //! The definition that is made of a name.
 
-ghost use Rattle.std.specs.Prelude.{◌≡◌, ◌++◌, ◌&&◌, is_some, map, OnOk};
+ghost use Rattle.std.specs.Prelude.{◌≡◌, ◌++◌, [], if◌then◌else◌, map, None, Some, OnOk};
 ghost use Rattle.std.specs.List.{concat};
-ghost use Rattle.x_trees.specs.Collected.{view_mention};
+ghost use Rattle.x_trees.specs.declared.names.mention.Use.{Use};
 ghost use Rattle.x_trees.specs.declared.names.mention.Use.TheVariants as uses;
 ghost use Rattle.x_trees.specs.declared.trees.declaration.Tag.TheVariants as tags;
-ghost use Rattle.x_prelude.specs.CTypes.{c_type};
-ghost use Rattle.x_prelude.specs.Prelude.{constant_number, definition_of, foreign_text};
+ghost use Rattle.x_prelude.specs.Prelude.{constant_number, foreign_text, is_type};
 
 use crate::c_types::c_type;
 use itoa::Buffer;
@@ -22,45 +21,49 @@ pub struct FromC {
     pub foreign: bool,
 }
 
-/// Adds the definition of the name with this number, by its first mention, unless it is taken as a type of C.
+/// Adds the definition of the name with this number, by its first mention and the first keyword in front of
+/// it, unless it is taken as a type of C.
 pub(crate) fn add_definition(
     text: &mut Vec<u8>,
     from: FromC,
     number: usize,
     mention: &Mention,
+    tag: Option<Tag>,
 ) -> Result<(), NoMemory>
-    ensures { OnOk result (text.new.items
-        ≡ text.old.items ++ definition_of from number (view_mention mention.now)) }
+    ensures { OnOk result (text.new.items ≡ text.old.items
+        ++ (if is_type from mention.now.name.now then []
+        else foreign_text number mention.now.name.now mention.now.usage tag)) }
 {
     if is_type(from, mention.name) {
-        Ok(())
-    } else {
-        add_foreign(text, number, mention)
+        return Ok(());
+    }
+    match tag {
+        Some(tag) => add_keyed(text, number, mention.name, tag),
+        None => add_plain(text, number, mention),
     }
 }
 
 /// Whether a name is taken as a type of C.
-fn is_type(from: FromC, name: &[u8]) -> bool
-    ensures { result ≡ (from.types && is_some (c_type name.now)) }
+pub(crate) fn is_type(from: FromC, name: &[u8]) -> bool
+    ensures { result ≡ is_type from name.now }
 {
     from.types && c_type(name).is_some()
 }
 
-/// Adds the definition of a constant of unknown number, or of a type of unknown layout.
-fn add_foreign(text: &mut Vec<u8>, number: usize, mention: &Mention) -> Result<(), NoMemory>
+/// Adds the definition of a name without a keyword: of a constant, or of a type.
+fn add_plain(text: &mut Vec<u8>, number: usize, mention: &Mention) -> Result<(), NoMemory>
     ensures { OnOk result (text.new.items
-        ≡ text.old.items ++ foreign_text number mention.now.name.now mention.now.usage mention.now.tag) }
+        ≡ text.old.items ++ foreign_text number mention.now.name.now mention.now.usage None) }
 {
     match mention.usage {
         Use::Value => add_constant(text, number, mention.name),
-        Use::ByValue | Use::Link => add_type(text, number, mention),
+        Use::ByValue | Use::Link => add(text, &[b"typedef int ", mention.name, b";\n"]),
     }
 }
 
 /// Adds the definition of a constant.
 fn add_constant(text: &mut Vec<u8>, number: usize, name: &[u8]) -> Result<(), NoMemory>
-    ensures { OnOk result (text.new.items ≡ text.old.items
-        ++ foreign_text number name.now uses.Value None) }
+    ensures { OnOk result (text.new.items ≡ text.old.items ++ foreign_text number name.now uses.Value None) }
 {
     let mut buffer = Buffer::new();
     let digits = buffer.format(constant_number(number)).as_bytes();
@@ -68,15 +71,13 @@ fn add_constant(text: &mut Vec<u8>, number: usize, name: &[u8]) -> Result<(), No
 }
 
 /// Adds the definition of a type, by the keyword in front of its name.
-fn add_type(text: &mut Vec<u8>, number: usize, mention: &Mention) -> Result<(), NoMemory>
-    ensures { OnOk result (text.new.items ≡ text.old.items
-        ++ foreign_text number mention.now.name.now uses.Link mention.now.tag) }
+fn add_keyed(text: &mut Vec<u8>, number: usize, name: &[u8], tag: Tag) -> Result<(), NoMemory>
+    ensures { OnOk result ((usage : Use)
+        → text.new.items ≡ text.old.items ++ foreign_text number name.now usage (Some tag)) }
 {
-    let name = mention.name;
-    match mention.tag {
-        None => add(text, &[b"typedef opaque ", name, b"<>;\n"]),
-        Some(Tag::Struct) => add(text, &[b"struct ", name, b" { opaque unknown<>; };\n"]),
-        Some(Tag::Union) => add(
+    match tag {
+        Tag::Struct => add(text, &[b"struct ", name, b" { opaque unknown<>; };\n"]),
+        Tag::Union => add(
             text,
             &[
                 b"union ",
@@ -84,14 +85,14 @@ fn add_type(text: &mut Vec<u8>, number: usize, mention: &Mention) -> Result<(), 
                 b" switch (int known) { case 0: void; default: void; };\n",
             ],
         ),
-        Some(Tag::Enum) => add_enum(text, number, name),
+        Tag::Enum => add_enum(text, number, name),
     }
 }
 
 /// Adds the definition of an enum, whose one name has a number of its own.
 fn add_enum(text: &mut Vec<u8>, number: usize, name: &[u8]) -> Result<(), NoMemory>
-    ensures { OnOk result (text.new.items ≡ text.old.items
-        ++ foreign_text number name.now uses.Link (Some tags.Enum)) }
+    ensures { OnOk result ((usage : Use)
+        → text.new.items ≡ text.old.items ++ foreign_text number name.now usage (Some tags.Enum)) }
 {
     let mut buffer = Buffer::new();
     let digits = buffer.format(constant_number(number)).as_bytes();

@@ -1,17 +1,17 @@
 //! The text of the definitions that a text lacks.
 
-ghost use Rattle.std.specs.Prelude.{◌≡◌, ◌++◌, [], IfOk, OnOk, if◌then◌else◌};
+ghost use Rattle.std.specs.Prelude.{◌≡◌, ◌++◌, [], List, IfOk, OnOk, if◌then◌else◌};
 ghost use Rattle.x_compile.specs.Compile.{definitions_of};
 ghost use Rattle.x_compile.specs.Known.{known_names};
 ghost use Rattle.x_session.specs.Session.{Compiles};
 ghost use Rattle.x_prelude.specs.CTypes.{c_types};
-ghost use Rattle.x_prelude.specs.Lacking.{lacking};
-ghost use Rattle.x_prelude.specs.LackingTable.{held};
+ghost use Rattle.x_prelude.specs.Lacking.{Occurrence, lacking};
+ghost use Rattle.x_prelude.specs.LackingTable.{HasNames};
 ghost use Rattle.x_prelude.specs.Prelude.{definitions_of_names, prelude, types_in};
 
 use crate::c_types::add_types;
 use crate::definition::{FromC, add_definition};
-use crate::lacking::{FirstMentions, lacking};
+use crate::lacking::{LackingNames, lacking};
 use std::alloc::Global;
 use x_compile::KnownDefinitions;
 use x_session::Session;
@@ -74,20 +74,21 @@ fn add_lacking_names(
         then definitions_of_names from (lacking (known_names known.now) (definitions_of items)) else []))) }
 {
     if from.foreign {
-        let names = lacking(alloc, session, known)?;
-        return add_definitions(text, from, &names);
+        let lacks = lacking(alloc, session, known)?;
+        return add_definitions(text, from, &lacks);
     }
     let _ = session.item_count();
     Ok(())
 }
 
 /// Adds the definitions of these names.
-fn add_definitions(text: &mut Vec<u8>, from: FromC, names: &FirstMentions) -> Result<(), NoMemory>
-    ensures { OnOk result (text.new.items
-        ≡ text.old.items ++ definitions_of_names from (held names.now.entries)) }
+fn add_definitions(text: &mut Vec<u8>, from: FromC, lacks: &LackingNames) -> Result<(), NoMemory>
+    ensures { OnOk result ((all : List Occurrence) → HasNames lacks.now all
+        → text.new.items ≡ text.old.items ++ definitions_of_names from all) }
 {
-    for (number, mention) in names.values().enumerate() {
-        add_definition(text, from, number, mention)?;
+    for (number, first) in lacks.firsts.values().enumerate() {
+        let tag = lacks.tag(first.mention.name);
+        add_definition(text, from, number, &first.mention, tag)?;
     }
     Ok(())
 }

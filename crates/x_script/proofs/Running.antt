@@ -4,32 +4,30 @@ use Rattle.std.specs.Io.KnownBytes.{Appends}
 use Rattle.x_text.specs.Streams.{Stream}
 use Rattle.x_text.specs.Writing.{Inked, Writes, Adds, counted}
 use Rattle.x_text.proofs.Pens.{writes_none, all_written, counted_all, front_written}
-use Rattle.x_session.specs.Session.{Document, LeavesText}
 use Rattle.x_script.specs.Answers.{Answer}
 use Rattle.x_script.specs.LineAnswers.{IsLineAnswer}
 use Rattle.x_lines.specs.Lines.{Reading, IsUnread, script_lines}
-use Rattle.x_lex.specs.declared.kind.Kind.{Kind}
-use Rattle.x_compile.specs.Compile.{Item, IsCompilation}
 use Rattle.x_lines.specs.declared.lines.State.TheVariants.{Between}
+use Rattle.x_script.specs.Situations.{Situation, Leaves}
 use Rattle.x_script.specs.Script.{then_answer, LineAnswers, AreAnswered, IsGiven, HasGiven, IsAsBefore, HasRun, HasStopped, HasFailed, IsFrontOf, AddsIfFound}
 use Rattle.x_script.proofs.Scripts.{answered_more}
 
 -- between two lines: the lines that were given are answered, and their answers are written
-pub record IsBetween (file script : List ℕ) (old : Document) (start : Stream) (session : Document) (reader : Reading) (left : Option (List ℕ)) (refused : Bool) (pen : Inked) (now : Stream) : Type 0 where
+pub record IsBetween (script : List ℕ) (old : Situation) (start : Stream) (session : Situation) (reader : Reading) (left : Option (List ℕ)) (refused : Bool) (pen : Inked) (now : Stream) : Type 0 where
   pub given : List (List ℕ)
   pub all : Answer
   pub reads : HasGiven script reader left given
-  pub answered : AreAnswered file old.base old.known old.text given all
-  pub session_is : LeavesText old session all.text
+  pub answered : AreAnswered old.how old.text given all
+  pub session_is : Leaves old session all.text
   pub refused_is : refused ≡ all.refused
   pub writes : Writes start all.told pen now
   pub goes : pen.stopped ≡ false
   pub empty : pen.pending ≡ []
 
-pub at_start : (file script : List ℕ) (old : Document) (start : Stream) (reader : Reading) (left : Option (List ℕ)) (pen : Inked)
+pub at_start : (script : List ℕ) (old : Situation) (start : Stream) (reader : Reading) (left : Option (List ℕ)) (pen : Inked)
     → left ≡ Some script → reader ≡ record { line = []; bytes = []; state = Between } → pen ≡ record { pending = []; written = 0; stopped = false }
-    → IsBetween file script old start old reader left false pen start
-at_start file script old start reader left pen left_is reader_is pen_is = record {
+    → IsBetween script old start old reader left false pen start
+at_start script old start reader left pen left_is reader_is pen_is = record {
   given = [];
   all = record { told = []; refused = false; text = old.text };
   reads = record {
@@ -43,7 +41,7 @@ at_start file script old start reader left pen left_is reader_is pen_is = record
     whole_are = λ goes next. refl;
   };
   answered = refl;
-  session_is = record { text_is = refl; base_is = refl; known_is = refl };
+  session_is = record { text_is = refl; how_is = refl };
   refused_is = refl;
   writes = subst (λ (p : Inked). Writes start [] p start) (sym pen_is) (writes_none start);
   goes = ap (λ (p : Inked). p.stopped) pen_is;
@@ -51,18 +49,15 @@ at_start file script old start reader left pen left_is reader_is pen_is = record
 }
 
 -- a line is answered behind the others, and its answer is passed on, or the sink has failed
-pub record IsBehind (file script : List ℕ) (old : Document) (start : Stream) (session : Document) (reader : Reading) (left : Option (List ℕ)) (refused : Bool) (pen : Inked) (now : Stream) : Type 0 where
+pub record IsBehind (script : List ℕ) (old : Situation) (start : Stream) (session : Situation) (reader : Reading) (left : Option (List ℕ)) (refused : Bool) (pen : Inked) (now : Stream) : Type 0 where
   pub earlier : List (List ℕ)
   pub last : List ℕ
   pub all : Answer
-  pub tokens : List (Kind × ℕ)
-  pub items : List Item
   pub answer : Answer
   pub reads : HasGiven script reader left (earlier ++ last ∷ [])
-  pub answered : AreAnswered file old.base old.known old.text earlier all
-  pub compiled : IsCompilation old.known all.text tokens items
-  pub is_answer : IsLineAnswer file old.base old.known all.text items last answer
-  pub session_is : LeavesText old session answer.text
+  pub answered : AreAnswered old.how old.text earlier all
+  pub is_answer : IsLineAnswer old.how all.text last answer
+  pub session_is : Leaves old session answer.text
   pub refused_is : refused ≡ (all.refused || answer.refused)
   pub writes : Writes start (all.told ++ answer.told) pen now
   pub whole : counted (length all.told) ≤ pen.written
@@ -70,46 +65,41 @@ pub record IsBehind (file script : List ℕ) (old : Document) (start : Stream) (
 no_fewer_then : (a b c d : ℕ) → b ≡ a → b ≤ c → c ≤ d → a ≤ d
 no_fewer_then a b c d is first second = omega (arith, is, first, second)
 
-pub behind : (file script : List ℕ) (old : Document) (start : Stream) (session new : Document) (reader reader' : Reading) (left left' : Option (List ℕ)) (refused refuses : Bool)
-    (p q r : Inked) (now now' now'' : Stream) → (h : IsBetween file script old start session reader left refused p now)
-    → ((line : List ℕ) × HasGiven script reader' left' (h.given ++ line ∷ []) × LineAnswers file session.base session.known session.text line (λ a. IsGiven a session new refuses p now q now'))
+pub behind : (script : List ℕ) (old : Situation) (start : Stream) (session new : Situation) (reader reader' : Reading) (left left' : Option (List ℕ)) (refused refuses : Bool)
+    (p q r : Inked) (now now' now'' : Stream) → (h : IsBetween script old start session reader left refused p now)
+    → ((line : List ℕ) × HasGiven script reader' left' (h.given ++ line ∷ []) × LineAnswers session.how session.text line (λ a. IsGiven a session new refuses p now q now'))
     → Adds q now' r now'' []
-    → IsBehind file script old start new reader' left' (refused || refuses) r now''
-behind file script old start session new reader reader' left left' refused refuses p q r now now' now'' h k flushed =
+    → IsBehind script old start new reader' left' (refused || refuses) r now''
+behind script old start session new reader reader' left left' refused refuses p q r now now' now'' h k flushed =
     let line = k.0 in
-    let items = k.2.1 in
     let text_is : session.text ≡ h.all.text = h.session_is.text_is in
-    let base_is : session.base ≡ old.base = h.session_is.base_is in
-    let known_is : session.known ≡ old.known = h.session_is.known_is in
-    let a = k.2.3.0 in
-    let is_answer : IsLineAnswer file old.base old.known h.all.text items line a = subst (λ b. IsLineAnswer file b old.known h.all.text items line a) base_is
-    (subst (λ n. IsLineAnswer file session.base n h.all.text items line a) known_is (subst (λ t. IsLineAnswer file session.base session.known t items line a) text_is k.2.3.1)) in
-    let given : IsGiven a session new refuses p now q now' = k.2.3.2 in
+    let how_is : session.how ≡ old.how = h.session_is.how_is in
+    let a = k.2.0 in
+    let is_answer : IsLineAnswer old.how h.all.text line a = subst (λ w. IsLineAnswer w h.all.text line a) how_is
+    (subst (λ t. IsLineAnswer session.how t line a) text_is k.2.1) in
+    let given : IsGiven a session new refuses p now q now' = k.2.2 in
     let told = flushed.goes_on start (h.all.told ++ a.told) (given.added.goes_on start h.all.told h.writes) in
     record {
       earlier = h.given;
       last = line;
       all = h.all;
-      tokens = k.2.0;
-      items = items;
       answer = a;
       is_answer = is_answer;
       reads = k.1;
       answered = h.answered;
-      compiled = subst (λ n. IsCompilation n h.all.text k.2.0 items) known_is (subst (λ t. IsCompilation session.known t k.2.0 items) text_is k.2.2);
-      session_is = record { text_is = given.session_is.text_is; base_is = given.session_is.base_is ∙ base_is; known_is = given.session_is.known_is ∙ known_is };
+      session_is = record { text_is = given.session_is.text_is; how_is = given.session_is.how_is ∙ how_is };
       refused_is = λ i. h.refused_is i || given.refused_is i;
       writes = subst (λ t. Writes start t r now'') (append-nil (h.all.told ++ a.told)) told;
       whole = no_fewer_then (counted (length h.all.told)) p.written q.written r.written (counted_all p start now h.all.told h.goes h.empty h.writes) given.added.no_fewer flushed.no_fewer;
     }
 
-pub between : (file script : List ℕ) (old : Document) (start : Stream) (session : Document) (reader : Reading) (left : Option (List ℕ)) (refused : Bool) (pen : Inked) (now : Stream)
-    → IsBehind file script old start session reader left refused pen now → pen.stopped ≡ false → pen.pending ≡ [] → IsBetween file script old start session reader left refused pen now
-between file script old start session reader left refused pen now h goes empty = record {
+pub between : (script : List ℕ) (old : Situation) (start : Stream) (session : Situation) (reader : Reading) (left : Option (List ℕ)) (refused : Bool) (pen : Inked) (now : Stream)
+    → IsBehind script old start session reader left refused pen now → pen.stopped ≡ false → pen.pending ≡ [] → IsBetween script old start session reader left refused pen now
+between script old start session reader left refused pen now h goes empty = record {
   given = h.earlier ++ h.last ∷ [];
   all = then_answer h.all h.answer;
   reads = h.reads;
-  answered = answered_more file old.base old.known old.text h.earlier h.last h.all h.answered h.answer (λ P k. (h.tokens, h.items, h.compiled, (h.answer, h.is_answer, k)));
+  answered = answered_more old.how old.text h.earlier h.last h.all h.answered h.answer h.is_answer;
   session_is = h.session_is;
   refused_is = h.refused_is;
   writes = h.writes;
@@ -118,25 +108,25 @@ between file script old start session reader left refused pen now h goes empty =
 }
 
 -- the sink failed
-pub at_stop : (file script : List ℕ) (old : Document) (start : Stream) (session : Document) (reader : Reading) (left : Option (List ℕ)) (refused : Bool) (pen : Inked) (now : Stream)
-    → IsBehind file script old start session reader left refused pen now → pen.stopped ≡ true → IsFrontOf script (λ lines. HasFailed file lines old session start now pen.written) × (now.failed ≡ true)
-at_stop file script old start session reader left refused pen now h stops =
+pub at_stop : (script : List ℕ) (old : Situation) (start : Stream) (session : Situation) (reader : Reading) (left : Option (List ℕ)) (refused : Bool) (pen : Inked) (now : Stream)
+    → IsBehind script old start session reader left refused pen now → pen.stopped ≡ true → IsFrontOf script (λ lines. HasFailed lines old session start now pen.written) × (now.failed ≡ true)
+at_stop script old start session reader left refused pen now h stops =
     let last = h.answer in
     let front = front_written pen start now (h.all.told ++ last.told) stops h.writes in
-    let fails : HasFailed file (h.earlier ++ h.last ∷ []) old session start now pen.written = record {
+    let fails : HasFailed (h.earlier ++ h.last ∷ []) old session start now pen.written = record {
       earlier = h.earlier;
       last = h.last;
       lines_are = refl;
       all = h.all;
       answered = h.answered;
-      within = (h.tokens, h.items, h.compiled, (last, h.is_answer, record { front = front.front; whole = h.whole; session_is = h.session_is }));
+      within = (last, h.is_answer, record { front = front.front; whole = h.whole; session_is = h.session_is });
     } in
     ((h.earlier ++ h.last ∷ [], script_lines (h.reads.unread ++ h.reads.later), h.reads.lines_are, fails), front.failed)
 
 -- all lines that were given are answered
-pub so_far : (file script : List ℕ) (old : Document) (start : Stream) (session : Document) (reader : Reading) (left : Option (List ℕ)) (refused : Bool) (pen : Inked) (now : Stream)
-    → (h : IsBetween file script old start session reader left refused pen now) → HasRun file h.given old session start now refused
-so_far file script old start session reader left refused pen now h = record {
+pub so_far : (script : List ℕ) (old : Situation) (start : Stream) (session : Situation) (reader : Reading) (left : Option (List ℕ)) (refused : Bool) (pen : Inked) (now : Stream)
+    → (h : IsBetween script old start session reader left refused pen now) → HasRun h.given old session start now refused
+so_far script old start session reader left refused pen now h = record {
   all = h.all;
   answered = h.answered;
   written = all_written pen start now h.all.told h.goes h.empty h.writes;
@@ -145,23 +135,23 @@ so_far file script old start session reader left refused pen now h = record {
 }
 
 -- nothing more was done, so all lines that were given are still answered
-pub so_still : (file script : List ℕ) (old : Document) (start : Stream) (session new : Document) (reader : Reading) (left : Option (List ℕ)) (refused : Bool) (p q : Inked) (now now' : Stream)
-    → (h : IsBetween file script old start session reader left refused p now) → IsAsBefore session new p now q now' → HasRun file h.given old new start now' refused
-so_still file script old start session new reader left refused p q now now' h same =
-    subst (λ s. HasRun file h.given old s start now' refused) (sym same.session_same)
-    (subst (λ (n : Stream). HasRun file h.given old session start n refused) (sym same.sink_same) (so_far file script old start session reader left refused p now h))
+pub so_still : (script : List ℕ) (old : Situation) (start : Stream) (session new : Situation) (reader : Reading) (left : Option (List ℕ)) (refused : Bool) (p q : Inked) (now now' : Stream)
+    → (h : IsBetween script old start session reader left refused p now) → IsAsBefore session new p now q now' → HasRun h.given old new start now' refused
+so_still script old start session new reader left refused p q now now' h same =
+    subst (λ s. HasRun h.given old s start now' refused) (sym same.session_same)
+    (subst (λ (n : Stream). HasRun h.given old session start n refused) (sym same.sink_same) (so_far script old start session reader left refused p now h))
 
 -- a fault that is not the sink's
-pub at_fault : (file script : List ℕ) (old : Document) (start : Stream) (session new : Document) (reader : Reading) (left : Option (List ℕ)) (refused : Bool) (p q : Inked) (now now' : Stream)
-    (written : ℕ) → (h : IsBetween file script old start session reader left refused p now) → IsAsBefore session new p now q now' → written ≡ q.written → HasStopped file h.given old new start now' written
-at_fault file script old start session new reader left refused p q now now' written h same is = record {
+pub at_fault : (script : List ℕ) (old : Situation) (start : Stream) (session new : Situation) (reader : Reading) (left : Option (List ℕ)) (refused : Bool) (p q : Inked) (now now' : Stream)
+    (written : ℕ) → (h : IsBetween script old start session reader left refused p now) → IsAsBefore session new p now q now' → written ≡ q.written → HasStopped h.given old new start now' written
+at_fault script old start session new reader left refused p q now now' written h same is = record {
   refused = refused;
   run = record {
     all = h.all;
     answered = h.answered;
     refused_is = h.refused_is;
     written = subst (λ (n : Stream). Appends start.bytes n.bytes h.all.told) (sym same.sink_same) (all_written p start now h.all.told h.goes h.empty h.writes);
-    session_is = subst (λ s. LeavesText old s h.all.text) (sym same.session_same) h.session_is;
+    session_is = subst (λ s. Leaves old s h.all.text) (sym same.session_same) h.session_is;
   };
   written_is = is ∙ ap (λ (p : Inked). p.written) same.pen_same ∙ counted_all p start now h.all.told h.goes h.empty h.writes;
 }

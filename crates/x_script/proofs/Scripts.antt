@@ -2,9 +2,10 @@
 use Rattle.std.proofs.Common.{◌≡◌, ℕ, Bool, true, false, ◌||◌, List, [], ◌∷◌, ◌++◌, Option, Some, None, Result, Ok, Err, refl, sym, ap, subst, ◌∙◌, append_assoc, append-nil}
 use Rattle.std.specs.Prelude.{MatchResult}
 use Rattle.std.specs.Io.KnownBytes.{Consumes, IsAtEnd}
-use Rattle.x_compile.specs.Known.{KnownText}
 use Rattle.x_script.specs.Answers.{Answer}
-use Rattle.x_script.specs.Script.{then_answer, LineAnswers, AreAnswered, HasGiven}
+use Rattle.x_script.specs.LineAnswers.{IsLineAnswer}
+use Rattle.x_script.specs.Script.{then_answer, AreAnswered, HasGiven}
+use Rattle.x_script.specs.Situations.{How}
 use Rattle.x_lines.specs.declared.lines.LineEvent.{LineEvent}
 use Rattle.x_lines.specs.declared.lines.LineEvent.TheVariants.{Line, TooLong, End}
 use Rattle.x_lines.specs.declared.lines.State.{State}
@@ -33,17 +34,18 @@ then_nothing : (a : Answer) → a ≡ then_answer a (nothing a.text)
 then_nothing a = λ i. record { told = sym (append-nil a.told) i; refused = sym (or_false a.refused) i; text = a.text }
 
 -- one line more
-pub answered_more : (file base : List ℕ) (known : KnownText) (text : List ℕ) (lines : List (List ℕ)) (line : List ℕ) (all : Answer) → AreAnswered file base known text lines all
-    → (last : Answer) → ((P : Answer → Type 0) → P last → LineAnswers file base known all.text line P) → AreAnswered file base known text (lines ++ line ∷ []) (then_answer all last)
-answered_more file base known text [] line all k last h =
-    subst (λ a. ((P : Answer → Type 0) → P last → LineAnswers file base known a.text line P) → AreAnswered file base known text (line ∷ []) (then_answer a last)) (sym k)
-    (λ h. h (λ first. (rest : Answer) × (rest ≡ nothing first.text) × (then_answer (nothing text) last ≡ then_answer first rest)) (nothing last.text, refl, then_nothing last)) h
-answered_more file base known text (l ∷ ls) line all k last h =
-    let first = k.3.0 in
-    let rest = k.3.2.0 in
-    let left : (P : Answer → Type 0) → P last → LineAnswers file base known rest.text line P = subst (λ a. (P : Answer → Type 0) → P last → LineAnswers file base known a.text line P) k.3.2.2 h in
-    let more = answered_more file base known first.text ls line rest k.3.2.1 last left in
-    (k.0, k.1, k.2, (first, k.3.1, (then_answer rest last, more, ap (λ a. then_answer a last) k.3.2.2 ∙ then_assoc first rest last)))
+pub answered_more : (how : How) (text : List ℕ) (lines : List (List ℕ)) (line : List ℕ) (all : Answer)
+    → AreAnswered how text lines all → (last : Answer) → IsLineAnswer how all.text line last
+    → AreAnswered how text (lines ++ line ∷ []) (then_answer all last)
+answered_more how text [] line all k last h =
+    subst (λ a. IsLineAnswer how a.text line last → AreAnswered how text (line ∷ []) (then_answer a last)) (sym k)
+    (λ is. (last, is, (nothing last.text, refl, then_nothing last))) h
+answered_more how text (l ∷ ls) line all k last h =
+    let first = k.0 in
+    let rest = k.2.0 in
+    let left : IsLineAnswer how rest.text line last = subst (λ a. IsLineAnswer how a.text line last) k.2.2 h in
+    let more = answered_more how first.text ls line rest k.2.1 last left in
+    (first, k.1, (then_answer rest last, more, ap (λ a. then_answer a last) k.2.2 ∙ then_assoc first rest last))
 
 -- what is left of what the tap told
 come_split : (left : Option (List ℕ)) (later come : List ℕ) → Consumes (Some later) left come → (rest : List ℕ) × (left ≡ Some rest) × (later ≡ come ++ rest)

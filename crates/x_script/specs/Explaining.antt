@@ -2,8 +2,10 @@
 use Rattle.std.specs.Prelude.{◌≡◌, ℕ, false, List, ◌++◌, length, codes}
 use Rattle.x_compile.specs.Compile.{Item, faults_of}
 use Rattle.x_explain.specs.Explained.{AreExplained, Telling}
-use Rattle.x_explain.specs.KnownFiles.{no_places}
+use Rattle.x_explain.specs.Foreign.{ForeignName}
+use Rattle.x_prelude.specs.Foreign.{AreForeign}
 use Rattle.x_script.specs.Answers.{Answer, answered, counted_line}
+use Rattle.x_script.specs.Situations.{How}
 
 -- the faults are told as those of a file's text, without colours
 abbrev pub telling_of : (file text : List ℕ) → Telling
@@ -13,8 +15,10 @@ telling_of file text = record { coloured = false; file = file; text = text }
 abbrev pub explained_answer : ℕ → List ℕ → List ℕ
 explained_answer count said = counted_line (codes "explained") count ++ said
 
--- The faults of the text are answered so. The command is not refused.
-pub record IsExplainAnswer (file text : List ℕ) (items : List Item) (a : Answer) : Type 0 where
+-- The faults of the text are answered so, with the names that it takes from C. The command is not refused.
+pub record IsExplainAnswer (how : How) (text : List ℕ) (items : List Item) (a : Answer) : Type 0 where
   pub said : List ℕ
-  pub are_explained : AreExplained no_places (telling_of file text) items said
+  pub foreign : List ForeignName
+  pub are_foreign : AreForeign how.files how.from text items foreign
+  pub are_explained : AreExplained how.places foreign (telling_of how.file text) items said
   pub answer_is : a ≡ answered text (explained_answer (length (faults_of text items)) said)

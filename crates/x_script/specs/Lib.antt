@@ -1,7 +1,9 @@
 pub mod Answers
 pub mod Commands
 pub mod Explaining
+pub mod Giving
 pub mod LineAnswers
 pub mod Refusals
 pub mod Script
 pub mod Showing
+pub mod Situations

@@ -1,26 +1,43 @@
--- What a line of a script is answered, over what is known before a text, the text and its items, in one way
--- (`one_answer` of `x_laws`).
+-- What a line of a script is answered over a text, in one way (`one_answer` of `x_laws`).
 use Rattle.std.specs.Prelude.{◌≡◌, ◌<◌, ◌≤◌, ℕ, true, false, List, length, Some, None}
 use Rattle.x_script.specs.Answers.{Answer, answer, refused_by}
 use Rattle.x_script.specs.Commands.{command_of, dump_asked, explain_asked}
 use Rattle.x_compile.specs.Compile.{Item}
-use Rattle.x_compile.specs.Known.{KnownText}
 use Rattle.x_script.specs.Explaining.{IsExplainAnswer}
 use Rattle.x_script.specs.Showing.{IsDumpAnswer}
-use Rattle.x_script.specs.declared.script.refusal.LineRefusal.TheVariants.{LongLine}
+use Rattle.x_script.specs.Situations.{How, Over, without_foreign}
+use Rattle.x_script.specs.declared.script.command.Command.{Command}
+use Rattle.x_script.specs.declared.script.refusal.LineRefusal.TheVariants.{Faulty, LongLine}
 use Rattle.x_lines.specs.Limits.{most_line}
 
--- A line is answered so, over the text of a file, before which this is known and which has these items: it
--- may ask to show a value or to explain the faults, or be any other command; or it is too long.
-pub data IsLineAnswer (file base : List ℕ) (known : KnownText) (text : List ℕ) (items : List Item)
-    (line : List ℕ) (a : Answer) : Type 0 where
+-- A command is answered so over a text: by its items, over what stands before it; or, as an edit, whatever
+-- its items are.
+pub data IsCommandAnswer (how : How) (text : List ℕ) (command : Command) (a : Answer) : Type 0 where
+  alone : ((items : List Item) → a ≡ answer how.base text items command)
+      → IsCommandAnswer how text command a
+  asks : Over how text (λ known items. a ≡ answer how.base text items command)
+      → IsCommandAnswer how text command a
+
+-- A line that asks to show a value is answered so: names of C that are in no table do not help to read it, so
+-- they are not known, and it is refused where known files use such names.
+pub data IsDumped (how : How) (text name message : List ℕ) (a : Answer) : Type 0 where
+  hidden : how.is_plain ≡ false → a ≡ refused_by text Faulty
+      → IsDumped how text name message a
+  read : how.is_plain ≡ true
+      → Over (without_foreign how) text (λ known items. IsDumpAnswer known text items name message a)
+      → IsDumped how text name message a
+
+-- A line is answered so: it may ask to show a value or to explain the faults, or be any other command; or it
+-- is too long.
+pub data IsLineAnswer (how : How) (text line : List ℕ) (a : Answer) : Type 0 where
   within : length line ≤ most_line → dump_asked line ≡ None → explain_asked line ≡ false
-      → a ≡ answer base text items (command_of line)
-      → IsLineAnswer file base known text items line a
+      → IsCommandAnswer how text (command_of line) a
+      → IsLineAnswer how text line a
   shows : (name message : List ℕ) → length line ≤ most_line → dump_asked line ≡ Some (name, message)
-      → IsDumpAnswer known text items name message a
-      → IsLineAnswer file base known text items line a
-  explains : length line ≤ most_line → explain_asked line ≡ true → IsExplainAnswer file text items a
-      → IsLineAnswer file base known text items line a
+      → IsDumped how text name message a
+      → IsLineAnswer how text line a
+  explains : length line ≤ most_line → explain_asked line ≡ true
+      → Over how text (λ known items. IsExplainAnswer how text items a)
+      → IsLineAnswer how text line a
   too_long : most_line < length line → a ≡ refused_by text LongLine
-      → IsLineAnswer file base known text items line a
+      → IsLineAnswer how text line a

@@ -3,10 +3,9 @@ use Rattle.std.specs.Prelude.{◌≡◌, ◌≤◌, ℕ, Bool, true, false, ◌|
 use Rattle.std.specs.Prelude.{None, Result, Ok, Err}
 use Rattle.x_text.specs.Streams.{Stream}
 use Rattle.x_text.specs.Writing.{Inked, Adds, HasFront, counted}
-use Rattle.x_session.specs.Session.{Document, LeavesText, Compiles}
-use Rattle.x_compile.specs.Known.{KnownText}
 use Rattle.x_script.specs.Answers.{Answer}
 use Rattle.x_script.specs.LineAnswers.{IsLineAnswer}
+use Rattle.x_script.specs.Situations.{How, Situation, Leaves}
 use Rattle.x_lines.specs.declared.lines.LineFault.{LineFault}
 use Rattle.x_lines.specs.declared.lines.State.TheVariants.{Ended}
 use Rattle.x_text.specs.declared.streams.outcome.Outcome.{Outcome}
@@ -21,19 +20,16 @@ abbrev pub then_answer : Answer → Answer → Answer
 then_answer first rest =
     record { told = first.told ++ rest.told; refused = first.refused || rest.refused; text = rest.text }
 
--- this holds of what a line is answered, over what compiling the text of a file gives, before which this is
--- known
-abbrev pub LineAnswers : (file base : List ℕ) → KnownText → (text line : List ℕ) → (Answer → Type 0) → Type 0
-LineAnswers file base known text line P =
-    Compiles known text (λ items. (a : Answer) × IsLineAnswer file base known text items line a × P a)
+-- this holds of what a line is answered
+abbrev pub LineAnswers : How → (text line : List ℕ) → (Answer → Type 0) → Type 0
+LineAnswers how text line P = (a : Answer) × IsLineAnswer how text line a × P a
 
 -- the lines, one after another, get these answers in all, and leave this text
-abbrev pub AreAnswered : (file base : List ℕ) → KnownText → (text : List ℕ) → List (List ℕ) → Answer → Type 0
-AreAnswered file base known text [] all = all ≡ record { told = []; refused = false; text = text }
-AreAnswered file base known text (line ∷ lines) all =
-    LineAnswers file base known text line
-    (λ first. (rest : Answer) × AreAnswered file base known first.text lines rest
-    × (all ≡ then_answer first rest))
+abbrev pub AreAnswered : How → (text : List ℕ) → List (List ℕ) → Answer → Type 0
+AreAnswered how text [] all = all ≡ record { told = []; refused = false; text = text }
+AreAnswered how text (line ∷ lines) all =
+    LineAnswers how text line
+    (λ first. (rest : Answer) × AreAnswered how first.text lines rest × (all ≡ then_answer first rest))
 
 -- an answer was added to what is written, and it leaves this text
 pub record AddsAnswer (a : Answer) (text : List ℕ) (refused : Bool) (p : Inked) (now : Stream) (q : Inked)
@@ -47,12 +43,12 @@ abbrev pub TellsOver : (List ℕ → Answer → Type 0) → Bool → Inked → S
 TellsOver P refused p now q now' =
     (text : List ℕ) → (a : Answer) × P text a × AddsAnswer a text refused p now q now'
 
--- an answer was given: it was added to what is written, and the session has the text that it leaves
-pub record IsGiven (a : Answer) (old new : Document) (refused : Bool) (p : Inked) (now : Stream) (q : Inked)
+-- an answer was given: it was added to what is written, and leaves its text
+pub record IsGiven (a : Answer) (old new : Situation) (refused : Bool) (p : Inked) (now : Stream) (q : Inked)
     (now' : Stream) : Type 0 where
   pub added : Adds p now q now' a.told
   pub refused_is : refused ≡ a.refused
-  pub session_is : LeavesText old new a.text
+  pub session_is : Leaves old new a.text
 
 -- Of the script, which the tap told at first, the reader has given these lines; what is left stands unread in
 -- the reader and in the tap. Except at the end, they and those of what is unread are also the lines that line
@@ -70,7 +66,7 @@ pub record HasGiven (script : List ℕ) (reader : Reading) (left : Option (List 
       → whole_lines (read ++ next) ≡ given ++ whole_lines (unread ++ next)
 
 -- nothing was done
-pub record IsAsBefore (old new : Document) (p : Inked) (now : Stream) (q : Inked)
+pub record IsAsBefore (old new : Situation) (p : Inked) (now : Stream) (q : Inked)
     (now' : Stream) : Type 0 where
   pub session_same : new ≡ old
   pub pen_same : q ≡ p
@@ -78,15 +74,15 @@ pub record IsAsBefore (old new : Document) (p : Inked) (now : Stream) (q : Inked
 
 -- A script goes on behind the lines that were given: the next one is answered, or there is none, or nothing
 -- is done.
-abbrev pub GoesOn : (file : List ℕ) (old new : Document) (script : List ℕ) (reader : Reading)
+abbrev pub GoesOn : (old new : Situation) (script : List ℕ) (reader : Reading)
     (left : Option (List ℕ)) (given : List (List ℕ)) → Result (Option Bool) LineFault
     → (p : Inked) (now : Stream) (q : Inked) (now' : Stream) → Type 0
-GoesOn file old new script reader left given (Ok (Some refused)) p now q now' =
+GoesOn old new script reader left given (Ok (Some refused)) p now q now' =
     (line : List ℕ) × HasGiven script reader left (given ++ line ∷ [])
-    × LineAnswers file old.base old.known old.text line (λ a. IsGiven a old new refused p now q now')
-GoesOn file old new script reader left given (Ok None) p now q now' =
+    × LineAnswers old.how old.text line (λ a. IsGiven a old new refused p now q now')
+GoesOn old new script reader left given (Ok None) p now q now' =
     (script_lines script ≡ given) × IsAsBefore old new p now q now'
-GoesOn file old new script reader left given (Err fault) p now q now' =
+GoesOn old new script reader left given (Err fault) p now q now' =
     StopsBehind fault script left given × IsAsBefore old new p now q now'
 
 -- this holds of some of the script's lines, from the first on
@@ -96,54 +92,54 @@ IsFrontOf script P =
 
 -- These lines are answered: the sink, which held `before`, has their answers, and the session has the text
 -- that they leave.
-pub record HasRun (file : List ℕ) (lines : List (List ℕ)) (old new : Document) (before after : Stream)
+pub record HasRun (lines : List (List ℕ)) (old new : Situation) (before after : Stream)
     (refused : Bool) : Type 0 where
   pub all : Answer
-  pub answered : AreAnswered file old.base old.known old.text lines all
+  pub answered : AreAnswered old.how old.text lines all
   pub written : Appends before.bytes after.bytes all.told
   pub refused_is : refused ≡ all.refused
-  pub session_is : LeavesText old new all.text
+  pub session_is : Leaves old new all.text
 
 -- These lines are answered, and so many bytes were written.
-pub record HasStopped (file : List ℕ) (lines : List (List ℕ)) (old new : Document) (before after : Stream)
+pub record HasStopped (lines : List (List ℕ)) (old new : Situation) (before after : Stream)
     (written : ℕ) : Type 0 where
   pub refused : Bool
-  pub run : HasRun file lines old new before after refused
+  pub run : HasRun lines old new before after refused
   pub written_is : written ≡ counted (length run.all.told)
 
 -- The earlier lines have these answers in all, and the sink has them whole; it failed within the last line's
 -- answer, and the session has the text that this leaves.
-pub record FailsWithin (all last : Answer) (old new : Document) (before after : Stream)
+pub record FailsWithin (all last : Answer) (old new : Situation) (before after : Stream)
     (written : ℕ) : Type 0 where
   pub front : HasFront before after (all.told ++ last.told) written
   pub whole : counted (length all.told) ≤ written
-  pub session_is : LeavesText old new last.text
+  pub session_is : Leaves old new last.text
 
 -- These lines are carried out, and the sink failed within the answer of the last of them.
-pub record HasFailed (file : List ℕ) (lines : List (List ℕ)) (old new : Document) (before after : Stream)
+pub record HasFailed (lines : List (List ℕ)) (old new : Situation) (before after : Stream)
     (written : ℕ) : Type 0 where
   pub earlier : List (List ℕ)
   pub last : List ℕ
   pub lines_are : lines ≡ earlier ++ last ∷ []
   pub all : Answer
-  pub answered : AreAnswered file old.base old.known old.text earlier all
-  pub within : LineAnswers file old.base old.known all.text last
+  pub answered : AreAnswered old.how old.text earlier all
+  pub within : LineAnswers old.how all.text last
       (λ a. FailsWithin all a old new before after written)
 
 -- What a run of a script does, of which the tap has `left` then. A fault of the reader comes behind the
 -- answers of all lines that a line feed ends in what was read, want of memory behind those of some lines,
 -- from the first on, and a fault of the sink within an answer.
-abbrev pub Runs : (file script : List ℕ) (left : Option (List ℕ)) (old new : Document)
+abbrev pub Runs : (script : List ℕ) (left : Option (List ℕ)) (old new : Situation)
     (before after : Stream) → Result Outcome EngineFault → Type 0
-Runs file script left old new before after (Ok outcome) =
-    HasRun file (script_lines script) old new before after (is_refused outcome)
-Runs file script left old new before after (Err (Read written)) =
+Runs script left old new before after (Ok outcome) =
+    HasRun (script_lines script) old new before after (is_refused outcome)
+Runs script left old new before after (Err (Read written)) =
     (read : List ℕ) × Consumes (Some script) left read
-    × HasStopped file (whole_lines read) old new before after written
-Runs file script left old new before after (Err (NoMemory written)) =
-    IsFrontOf script (λ lines. HasStopped file lines old new before after written)
-Runs file script left old new before after (Err (Write written)) =
-    IsFrontOf script (λ lines. HasFailed file lines old new before after written) × (after.failed ≡ true)
+    × HasStopped (whole_lines read) old new before after written
+Runs script left old new before after (Err (NoMemory written)) =
+    IsFrontOf script (λ lines. HasStopped lines old new before after written)
+Runs script left old new before after (Err (Write written)) =
+    IsFrontOf script (λ lines. HasFailed lines old new before after written) × (after.failed ≡ true)
 
 -- a step that finds no line leaves the sink alone, and one that finds a line adds to it
 abbrev pub AddsIfFound : {S : Type 0} → Result (Option Bool) LineFault → (sink sink' : S) → Type 0 → Type 0

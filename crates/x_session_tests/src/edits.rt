@@ -2,17 +2,19 @@
 //! turn: of opening a text, of an edit, of the types of a text and of a script.
 
 ghost use Rattle.std.specs.Prelude.{◌≤◌};
+ghost use Rattle.x_prelude.specs.Followed.{IsOver};
 
-use crate::answers::{expect_answers, write_answers};
+use crate::answers::{expect_answers, opened, run, write_answers};
 use refusals::{MOST_TURNS, begin, end};
 use std::alloc::Global;
 use std::process::Abort;
 use std::test::Fail;
-use x_script::{EngineFault, run_script};
+use x_prelude::FollowedText;
+use x_script::EngineFault;
 use x_session::{SchemaFault, Session, Work};
 use x_text::{Edit, MemSink, MemTap, Source, TextFault};
 
-/// What is asked of a session before and after a refusal.
+/// What is asked of a text before and after a refusal.
 const ASKED: &[u8] = b"tokens\ndefinitions\nfaults\nheader\nroutines\nstubs\ntable\n";
 
 /// A line of a script, and its answer.
@@ -335,17 +337,19 @@ fn open_with_little_memory(rt: &impl Abort, alloc: Global, text: &[u8]) -> Resul
 fn apply_once(
     rt: &impl Abort,
     alloc: Global,
-    session: &mut Session,
+    text: &mut FollowedText,
     row: &Row,
     turn: usize,
 ) -> Result<bool, Fail>
-    requires { turn ≤ 20000 }
+    requires turn { turn ≤ 20000 }
+    requires over { IsOver text.now }
+    ensures { IsOver text.new }
 {
     let mut buffer = [0u8; 32768];
-    let asked = write_answers(alloc, session, ASKED, &mut buffer)?;
+    let asked = write_answers(alloc, text, ASKED, &mut buffer)?;
     let before = buffer.get(..asked).unwrap_or_default();
     begin(alloc, turn)?;
-    let answer = session.apply(&row.edit);
+    let answer = text.apply(&row.edit);
     let refused = end(alloc);
     match answer {
         Ok(work) => {
@@ -354,9 +358,9 @@ fn apply_once(
         }
         Err(fault) => assert!(rt; refused && fault == TextFault::NoMemory),
     }
-    expect_text(rt, session, row.text);
-    expect_answers(rt, alloc, session, ASKED, before)?;
-    let work = session.apply(&row.edit)?;
+    expect_text(rt, &text.session, row.text);
+    expect_answers(rt, alloc, text, ASKED, before)?;
+    let work = text.apply(&row.edit)?;
     assert_eq!(rt; work, row.work);
     Ok(refused)
 }
@@ -370,17 +374,18 @@ pub fn expect_text(rt: &impl Abort, session: &Session, text: &[u8]) {
 fn apply_and_ask(
     rt: &impl Abort,
     alloc: Global,
-    session: &mut Session,
+    text: &mut FollowedText,
     row: &Row,
     script: &[u8],
     answers: &[u8],
     turn: usize,
 ) -> Result<bool, Fail>
-    requires { turn ≤ 20000 }
+    requires turn { turn ≤ 20000 }
+    requires over { IsOver text.now }
 {
-    let refused = apply_once(rt, alloc, session, row, turn)?;
-    expect_text(rt, session, row.edited);
-    expect_answers(rt, alloc, session, script, answers)?;
+    let refused = apply_once(rt, alloc, text, row, turn)?;
+    expect_text(rt, &text.session, row.edited);
+    expect_answers(rt, alloc, text, script, answers)?;
     Ok(refused)
 }
 
@@ -394,8 +399,8 @@ fn open_and_apply(
 ) -> Result<bool, Fail>
     requires { turn ≤ 20000 }
 {
-    let mut session = Session::open(alloc, b"t", row.text)?;
-    apply_and_ask(rt, alloc, &mut session, row, script, answers, turn)
+    let mut text = opened(alloc, row.text)?;
+    apply_and_ask(rt, alloc, &mut text, row, script, answers, turn)
 }
 
 fn apply_in_turns(
@@ -450,25 +455,27 @@ fn make_in_turns(rt: &impl Abort, alloc: Global, session: &Session) -> Result<us
 fn go_on(
     rt: &impl Abort,
     alloc: Global,
-    session: &mut Session,
+    text: &mut FollowedText,
     sink: &mut MemSink,
     row: &Row,
-) -> Result<usize, Fail> {
+) -> Result<usize, Fail>
+    requires { IsOver text.now }
+{
     let written = sink.bytes().len();
     let (lines, bytes) = row.whole_answers(written);
     let answers = row.answers(alloc, 0)?;
     assert_eq!(rt; bytes, written);
     assert!(rt; answers.starts_with(sink.bytes()));
-    expect_text(rt, session, row.text_behind(lines));
+    expect_text(rt, &text.session, row.text_behind(lines));
     let rest = row.script(alloc, lines)?;
     let mut tap = MemTap::new(&rest, 64, usize::MAX);
-    run_script(alloc, session, "t.x", &mut tap, sink)?;
+    run(alloc, text, &mut tap, sink)?;
     assert_eq!(rt; sink.bytes(), answers.as_slice());
-    expect_text(rt, session, row.edited);
+    expect_text(rt, &text.session, row.edited);
     Ok(written)
 }
 
-/// The script with one allocation refused after another: what is written is whole answers, the session is as
+/// The script with one allocation refused after another: what is written is whole answers, the text is as
 /// their lines left it, and the lines that are left are answered with memory.
 fn run_with_little_memory(rt: &impl Abort, alloc: Global, row: &Row) -> Result<usize, Fail> {
     let script = row.script(alloc, 0)?;
@@ -493,27 +500,28 @@ fn open_and_run(
 ) -> Result<bool, Fail>
     requires { turn ≤ 20000 }
 {
-    let mut session = Session::open(alloc, b"t", row.text)?;
-    run_once(rt, alloc, &mut session, row, script, turn)
+    let mut text = opened(alloc, row.text)?;
+    run_once(rt, alloc, &mut text, row, script, turn)
 }
 
 fn run_once(
     rt: &impl Abort,
     alloc: Global,
-    session: &mut Session,
+    text: &mut FollowedText,
     row: &Row,
     script: &[u8],
     turn: usize,
 ) -> Result<bool, Fail>
-    requires { turn ≤ 20000 }
+    requires turn { turn ≤ 20000 }
+    requires over { IsOver text.now }
 {
     let mut buffer = [0u8; 2048];
     let mut sink = MemSink::new(&mut buffer, 64, 2048);
     let mut tap = MemTap::new(script, 64, usize::MAX);
     begin(alloc, turn)?;
-    let outcome = run_script(alloc, session, "t.x", &mut tap, &mut sink);
+    let outcome = run(alloc, text, &mut tap, &mut sink);
     let refused = end(alloc);
-    let written = go_on(rt, alloc, session, &mut sink, row)? as u64;
+    let written = go_on(rt, alloc, text, &mut sink, row)? as u64;
     match outcome {
         Ok(_) => assert_eq!(rt; written, sink.bytes().len() as u64),
         Err(fault) => assert!(rt; refused && fault == EngineFault::NoMemory { written }),
@@ -558,23 +566,24 @@ fn links_script(alloc: Global, count: u32) -> Result<Vec<u8>, Fail> {
 fn show_once(
     rt: &impl Abort,
     alloc: Global,
-    session: &mut Session,
+    text: &mut FollowedText,
     script: &[u8],
     sink: &mut MemSink,
     turn: usize,
 ) -> Result<bool, Fail>
-    requires { turn ≤ 20000 }
+    requires turn { turn ≤ 20000 }
+    requires over { IsOver text.now }
 {
     let mut tap = MemTap::new(script, 65_536, usize::MAX);
     begin(alloc, turn)?;
-    let outcome = run_script(alloc, session, "t.x", &mut tap, sink);
+    let outcome = run(alloc, text, &mut tap, sink);
     let refused = end(alloc);
     if let Err(fault) = outcome {
         let written = 0;
         assert!(rt; refused && fault == EngineFault::NoMemory { written });
         assert!(rt; sink.bytes().is_empty());
         let mut again = MemTap::new(script, 65_536, usize::MAX);
-        run_script(alloc, session, "t.x", &mut again, sink)?;
+        run(alloc, text, &mut again, sink)?;
     }
     Ok(refused)
 }
@@ -588,8 +597,8 @@ fn open_and_show(
 ) -> Result<bool, Fail>
     requires { turn ≤ 20000 }
 {
-    let mut session = Session::open(alloc, b"t", b"struct l { l *n; };")?;
-    show_once(rt, alloc, &mut session, script, sink, turn)
+    let mut text = opened(alloc, b"struct l { l *n; };")?;
+    show_once(rt, alloc, &mut text, script, sink, turn)
 }
 
 fn show_in_turns(

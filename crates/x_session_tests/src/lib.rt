@@ -1,4 +1,4 @@
-//! Tests of `x_session` by its public calls: what no contract says and no program shows.
+//! Tests of `x_session` and `x_script` by their public calls: what no contract says and no program shows.
 #![tactic(auto)]
 
 #[cfg(test)]

@@ -1,27 +1,24 @@
 //! Scripts.
+use crate::answers::{opened, run};
+use crate::edits::expect_text;
 use std::alloc::Global;
 use std::io::{self, Write};
 use std::process::Abort;
 use std::test::Fail;
-use x_script::{EngineFault, run_script};
-use x_session::Session;
+use x_script::EngineFault;
 use x_text::{MemSink, MemTap, Out, Sink, Tap};
 
-/// Runs a script on a session of the text `int s`, which an edit makes `ints`.
+/// Runs a script on the text `int s`, which an edit makes `ints`.
 fn run_on_ints(
     rt: &impl Abort,
     alloc: Global,
     tap: &mut impl Tap,
     sink: &mut impl Sink,
 ) -> Result<Option<EngineFault>, Fail> {
-    let mut session = Session::open(alloc, b"t", b"int s")?;
-    let fault = run_script(alloc, &mut session, "t.x", tap, sink).err();
-    expect_text(rt, &session, b"ints");
+    let mut text = opened(alloc, b"int s")?;
+    let fault = run(alloc, &mut text, tap, sink).err();
+    expect_text(rt, &text.session, b"ints");
     Ok(fault)
-}
-
-fn expect_text(rt: &impl Abort, session: &Session, text: &[u8]) {
-    assert_eq!(rt; session.bytes(), text);
 }
 
 #[test]

@@ -1,12 +1,16 @@
 //! Writers that fail: what they took is the first bytes of what was to be written, and so many are told.
 
+ghost use Rattle.x_prelude.specs.Followed.{IsOver};
+
+use crate::answers::{opened, run};
 use crate::edits::{ROWS, Row, expect_text};
 use refusals::{ALL, begin, end};
 use std::alloc::Global;
 use std::io::{self, Write};
 use std::process::Abort;
 use std::test::Fail;
-use x_script::{EngineFault, run_script};
+use x_prelude::FollowedText;
+use x_script::EngineFault;
 use x_session::{Session, Which};
 use x_text::{MemSink, MemTap, Out, WriteFault};
 
@@ -24,7 +28,7 @@ impl Write for Stuck {
     }
 }
 
-/// Runs the script into a sink that takes a byte a call and fails behind so many. The session is as the line
+/// Runs the script into a sink that takes a byte a call and fails behind so many. The text is as the line
 /// left it whose answer is not whole.
 fn stop_behind(
     rt: &impl Abort,
@@ -34,30 +38,32 @@ fn stop_behind(
     answers: &[u8],
     count: usize,
 ) -> Result<(), Fail> {
-    let mut session = Session::open(alloc, b"t", row.text)?;
-    stop_at(rt, alloc, &mut session, row, script, answers, count);
+    let mut text = opened(alloc, row.text)?;
+    stop_at(rt, alloc, &mut text, row, script, answers, count);
     Ok(())
 }
 
 fn stop_at(
     rt: &impl Abort,
     alloc: Global,
-    session: &mut Session,
+    text: &mut FollowedText,
     row: &Row,
     script: &[u8],
     answers: &[u8],
     count: usize,
-) {
+)
+    requires { IsOver text.now }
+{
     let mut buffer = [0u8; 2048];
     let mut sink = MemSink::new(&mut buffer, 1, count);
     let mut tap = MemTap::new(script, 64, usize::MAX);
-    let outcome = run_script(alloc, session, "t.x", &mut tap, &mut sink);
+    let outcome = run(alloc, text, &mut tap, &mut sink);
     let written = count as u64;
     assert_eq!(rt; outcome, Err(EngineFault::Write { written }));
     assert_eq!(rt; sink.bytes().len(), count);
     assert!(rt; answers.starts_with(sink.bytes()));
     let (lines, _) = row.whole_answers(count);
-    expect_text(rt, session, row.text_behind(lines.saturating_add(1)));
+    expect_text(rt, &text.session, row.text_behind(lines.saturating_add(1)));
 }
 
 #[test]
@@ -78,16 +84,18 @@ fn stop_everywhere(rt: &impl Abort, alloc: Global, row: &Row) -> Result<(), Fail
 }
 
 fn open_and_stick(rt: &impl Abort, alloc: Global, row: &Row, script: &[u8]) -> Result<(), Fail> {
-    let mut session = Session::open(alloc, b"t", row.text)?;
-    stick(rt, alloc, &mut session, script);
-    expect_text(rt, &session, row.text);
+    let mut text = opened(alloc, row.text)?;
+    stick(rt, alloc, &mut text, script);
+    expect_text(rt, &text.session, row.text);
     Ok(())
 }
 
 /// Nothing of the first answer is taken.
-fn stick(rt: &impl Abort, alloc: Global, session: &mut Session, script: &[u8]) {
+fn stick(rt: &impl Abort, alloc: Global, text: &mut FollowedText, script: &[u8])
+    requires { IsOver text.now }
+{
     let mut tap = MemTap::new(script, 64, usize::MAX);
-    let outcome = run_script(alloc, session, "t.x", &mut tap, &mut Out::new(Stuck));
+    let outcome = run(alloc, text, &mut tap, &mut Out::new(Stuck));
     assert_eq!(rt; outcome, Err(EngineFault::Write { written: 0 }));
 }
 
@@ -148,7 +156,7 @@ const TEXT_OF_ALL: &[u8] =
     b"struct s { int a; }; program P { version V { s F(s) = 1; } = 1; } = 3;";
 
 /// Runs the script from a tap that gives a byte a call and fails behind so many. What is written is the
-/// answers of the lines that are whole in them, and the session is as these left it.
+/// answers of the lines that are whole in them, and the text is as these left it.
 fn read_behind(
     rt: &impl Abort,
     alloc: Global,
@@ -157,29 +165,31 @@ fn read_behind(
     answers: &[u8],
     count: usize,
 ) -> Result<(), Fail> {
-    let mut session = Session::open(alloc, b"t", row.text)?;
-    read_to(rt, alloc, &mut session, row, script, answers, count);
+    let mut text = opened(alloc, row.text)?;
+    read_to(rt, alloc, &mut text, row, script, answers, count);
     Ok(())
 }
 
 fn read_to(
     rt: &impl Abort,
     alloc: Global,
-    session: &mut Session,
+    text: &mut FollowedText,
     row: &Row,
     script: &[u8],
     answers: &[u8],
     count: usize,
-) {
+)
+    requires { IsOver text.now }
+{
     let mut buffer = [0u8; 2048];
     let mut sink = MemSink::new(&mut buffer, 2048, 2048);
     let mut tap = MemTap::new(script, 1, count);
-    let outcome = run_script(alloc, session, "t.x", &mut tap, &mut sink);
+    let outcome = run(alloc, text, &mut tap, &mut sink);
     let (lines, length) = row.answered(count);
     let written = length as u64;
     assert_eq!(rt; outcome, Err(EngineFault::Read { written }));
     assert!(rt; answers.get(..length) == Some(sink.bytes()));
-    expect_text(rt, session, row.text_behind(lines));
+    expect_text(rt, &text.session, row.text_behind(lines));
 }
 
 fn read_everywhere(rt: &impl Abort, alloc: Global, row: &Row) -> Result<(), Fail> {

@@ -1,10 +1,14 @@
 //! What stands before the text of a file.
 
-ghost use Rattle.std.specs.Prelude.{◌≡◌, ℕ, List, [], ◌∷◌, ◌++◌, codes, map, IfErr, IfOk, OnOk};
+ghost use Rattle.std.specs.Prelude.{◌≡◌, ◌⊎◌, ◌<◌, ℕ, List, [], ◌∷◌, ◌++◌, codes, length, map, IfErr, IfOk};
+ghost use Rattle.std.specs.Prelude.{◌&&◌, true, IsErrOf, OnOk};
+ghost use Rattle.std.specs.Str.{bytes_eq};
 ghost use Rattle.x_explain.specs.KnownFiles.{no_places, places_of_files};
-ghost use Rattle.x_prelude.specs.Before.{IsOpenBy, IsPrelude};
+ghost use Rattle.x_text.specs.Limits.{most_text};
+ghost use Rattle.x_prelude.specs.Before.{IsCrowded, IsOpenBy, IsPrelude};
+ghost use Rattle.x_prelude.specs.Followed.{IsOver};
 ghost use Rattle.rpcx.specs.Generate.{IsOpenedAfter, NotKnown};
-ghost use Rattle.rpcx.specs.Opening.{AreRead, HavePlaces, from_options};
+ghost use Rattle.rpcx.specs.Opening.{AreRead, HavePlaces, from_options, types_only};
 
 use crate::files::opening::{FaultStyle, Opening, from_options, open_text};
 use crate::files::reading::read_text;
@@ -12,7 +16,7 @@ use std::alloc::Global;
 use x_args::{BeforeArgs, Status, tell_of_file};
 use x_explain::KnownFiles;
 use x_hash::HashKey;
-use x_prelude::{FromC, lacking_text};
+use x_prelude::{FollowedText, FromC, lacking_text};
 use x_session::Session;
 use x_text::{NoMemory, Sink, TextFault};
 
@@ -28,6 +32,8 @@ struct KnownSource<'a> {
 pub struct KnownSources<'a> {
     files: Vec<KnownSource<'a>>,
     text: Vec<u8>,
+    /// Whether none of them takes a name from C but those of its table.
+    pub(crate) is_plain: bool,
 }
 
 impl<'a> KnownSources<'a> {
@@ -35,10 +41,12 @@ impl<'a> KnownSources<'a> {
     pub fn none(alloc: Global) -> KnownSources<'a>
         ensures files { result.files.items ≡ [] }
         ensures text { result.text.items ≡ [] }
+        ensures plain { result.is_plain ≡ true }
     {
         KnownSources {
             files: Vec::new(alloc),
             text: Vec::new(alloc),
+            is_plain: true,
         }
     }
 
@@ -53,8 +61,8 @@ impl<'a> KnownSources<'a> {
         style: FaultStyle,
         err: &mut E,
     ) -> Result<KnownSources<'a>, Status>
-        ensures read { IfOk result (λ known. AreRead (from_options options.now) []
-            (map (λ n. n.now) options.now.known.items) known.files.items known.text.items) }
+        ensures read { IfOk result (λ known. AreRead (from_options options.now) [] true
+            (map (λ n. n.now) options.now.known.items) known.files.items known.text.items known.is_plain) }
         ensures told { IfErr result
             (λ status. NotKnown style program.now (E.state err.old) (E.state err.new) status) }
         ensures quiet { OnOk result (err.new ≡ err.old) }
@@ -116,14 +124,24 @@ impl<'a> KnownSources<'a> {
     ) -> Result<(), NoMemory>
         ensures files { OnOk result (self.new.files.items
             ≡ self.old.files.items ++ (record { name = name.entry; session = session }) ∷ []) }
-        ensures text { OnOk result ((lacking : List ℕ)
+        ensures text { OnOk result ((lacking of_types : List ℕ)
             × IsPrelude self.old.text.items from_c bytes.now lacking
-            × (self.new.text.items ≡ self.old.text.items ++ lacking ++ bytes.now ++ codes "\n")) }
+            × IsPrelude self.old.text.items (types_only from_c) bytes.now of_types
+            × (self.new.text.items ≡ self.old.text.items ++ lacking ++ bytes.now ++ codes "\n")
+            × (self.new.is_plain ≡ (self.old.is_plain && bytes_eq lacking of_types))) }
     {
+        let types_only = FromC {
+            types: from_c.types,
+            foreign: false,
+        };
         // It was opened over these, so it is not too large.
-        let Ok(lacking) = lacking_text(alloc, &self.text, from_c, bytes) else {
+        let (Ok(lacking), Ok(of_types)) = (
+            lacking_text(alloc, &self.text, from_c, bytes),
+            lacking_text(alloc, &self.text, types_only, bytes),
+        ) else {
             return Err(NoMemory);
         };
+        self.is_plain = self.is_plain & is_same(&lacking, &of_types);
         self.text.extend_from_slice(&lacking)?;
         self.text.extend_from_slice(bytes)?;
         self.text.push(b'\n')?;
@@ -144,6 +162,13 @@ impl<'a> KnownSources<'a> {
     }
 }
 
+/// Whether two texts are the same.
+fn is_same(text: &[u8], other: &[u8]) -> bool
+    ensures { result ≡ bytes_eq text.now other.now }
+{
+    text == other
+}
+
 /// Opens a text over what stands before it: the known files, and then the names of C that it uses, if it may.
 ///
 /// # Errors
@@ -159,4 +184,25 @@ pub(crate) fn open_by(
     ensures { IsOpenBy how.now.known.now.text.items how.now.from_c base.now bytes.now result }
 {
     x_prelude::open_by(alloc, &how.known.text, how.from_c, hash_key, base, bytes)
+}
+
+/// As [`open_by`], of a text that stays open.
+pub(crate) fn open_followed(
+    alloc: Global,
+    how: &Opening,
+    hash_key: HashKey,
+    base: &[u8],
+    bytes: &[u8],
+) -> Result<FollowedText, TextFault>
+    ensures over { IfOk result IsOver }
+    ensures files { IfOk result (λ text. text.files.items ≡ how.now.known.now.text.items) }
+    ensures from_c { IfOk result (λ text. text.from_c ≡ how.now.from_c) }
+    ensures base { IfOk result (λ text. text.session.base ≡ base.now) }
+    ensures text { IfOk result (λ text. text.session.text ≡ bytes.now) }
+    ensures too_large { most_text < length bytes.now → IsErrOf result TextFault.TooLarge }
+    ensures large { IsErrOf result TextFault.TooLarge → (most_text < length bytes.now)
+        ⊎ IsCrowded how.now.known.now.text.items how.now.from_c bytes.now }
+    ensures in_range { IsErrOf result TextFault.BadRange → ⊥ }
+{
+    FollowedText::open(alloc, &how.known.text, how.from_c, hash_key, base, bytes)
 }

@@ -3,7 +3,8 @@
 ghost use Rattle.std.specs.Prelude.{◌≡◌, ◌⊎◌, codes, OnErr, OnOk};
 ghost use Rattle.x_text.specs.Writing.{Adds};
 ghost use Rattle.rpcx.specs.Generate.{told_fault, told_faults, ExplainsFaults, IsOpened, TellsFaults};
-ghost use Rattle.rpcx.specs.Opening.{from_options};
+ghost use Rattle.x_explain.specs.KnownFiles.{no_places, places_of_files};
+ghost use Rattle.rpcx.specs.Opening.{HavePlaces, from_options};
 ghost use Rattle.x_args.specs.Telling.{IsTold, told_of};
 ghost use Rattle.x_session.specs.Session.{Compiles};
 
@@ -12,9 +13,9 @@ use crate::files::complaint::tell_unopened;
 use crate::files::known::{KnownSources, open_by};
 use std::alloc::Global;
 use x_args::{BeforeArgs, Status, tell_of_file};
-use x_explain::{FaultFacts, add_explained_faults};
+use x_explain::{FaultFacts, KnownFiles, add_explained_faults};
 use x_hash::HashKey;
-use x_prelude::FromC;
+use x_prelude::{FromC, foreign_names};
 use x_session::{Fault, Faults, Session, add_place};
 use x_text::{NoMemory, Pen, Sink};
 
@@ -165,7 +166,27 @@ fn explain_faults<E: Sink>(
     ensures quiet { OnErr result (err.new ≡ err.old) }
 {
     let places = how.known.places(alloc)?;
-    let facts = FaultFacts::of(alloc, session, places)?;
+    explain_over(alloc, how, &places, coloured, file, session, err)
+}
+
+/// The same, where the known files declare names at these places.
+fn explain_over<E: Sink>(
+    alloc: Global,
+    how: &Opening,
+    places: &KnownFiles,
+    coloured: bool,
+    file: &str,
+    session: &Session,
+    err: &mut E,
+) -> Result<(), NoMemory>
+    requires { HavePlaces no_places how.now.known.now.files.items (places_of_files places.now.list.items) }
+    ensures told { OnOk result (Compiles session.now.known session.now.text (λ items.
+        ExplainsFaults how.now coloured file.now session.now.text items
+        (E.state err.old) (E.state err.new))) }
+    ensures quiet { OnErr result (err.new ≡ err.old) }
+{
+    let foreign = foreign_names(alloc, how.known.text(), how.from_c, session)?;
+    let facts = FaultFacts::of(alloc, session, places, foreign)?;
     let mut pen = Pen::new();
     add_explained_faults(coloured, file, session, &facts, &mut pen, err);
     let _ = pen.finish(err);

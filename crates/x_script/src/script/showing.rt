@@ -1,18 +1,25 @@
 //! What a script is answered that asks to show a value.
 
-ghost use Rattle.std.specs.Prelude.{◌≡◌, ◌<◌, true, length, IfOk, OnErr};
+ghost use Rattle.std.specs.Prelude.{◌≡◌, ◌<◌, true, false, length, IfOk, OnErr};
 ghost use Rattle.x_text.specs.Writing.{Adds};
 ghost use Rattle.x_schema.specs.Schema.{IsTypeId};
+ghost use Rattle.x_prelude.specs.Before.{IsBefore};
+ghost use Rattle.x_prelude.specs.Followed.{IsOver};
 ghost use Rattle.x_script.specs.Answers.{Answer};
 ghost use Rattle.x_script.specs.Commands.{bytes_of, is_hex};
+ghost use Rattle.x_script.specs.Giving.{GivesBy};
 ghost use Rattle.x_script.specs.Script.{AddsAnswer, TellsOver};
 ghost use Rattle.x_session.specs.Session.{Compiles};
+ghost use Rattle.x_script.specs.LineAnswers.{IsDumped};
 ghost use Rattle.x_script.specs.Showing.{IsDumpAnswer, IsMessageAnswer, IsTypedAnswer, value_answer};
+ghost use Rattle.x_script.specs.Situations.{situation};
 
 use super::answer::add_counted;
 use super::command::message_bytes;
 use super::refusal::LineRefusal;
+use super::{ScriptFile, renew};
 use std::alloc::Global;
+use x_prelude::{FollowedText, FromC, open_by};
 use x_session::{Schema, SchemaFault, Session, TypeId};
 use x_text::{NoMemory, Pen, Sink};
 use x_value::{Dump, ReadCode, dump};
@@ -80,7 +87,7 @@ fn answer_typed<S: Sink>(
 }
 
 /// As [`answer_typed`], by the types of the session's text, which has some where it has no fault.
-pub(crate) fn answer_dump<S: Sink>(
+fn answer_by<S: Sink>(
     alloc: Global,
     session: &Session,
     name: &[u8],
@@ -102,4 +109,60 @@ pub(crate) fn answer_dump<S: Sink>(
         }
         Err(SchemaFault::NoMemory) => Err(NoMemory),
     }
+}
+
+/// The session of the text without the names that it takes from C and that are in no table.
+fn without_foreign(alloc: Global, text: &FollowedText) -> Result<Session, NoMemory>
+    ensures text { IfOk result (λ s. s.text ≡ text.now.session.text) }
+    ensures before { IfOk result (λ s. IsBefore text.now.files.items
+        (record { types = text.now.from_c.types; foreign = false }) text.now.session.text s.known) }
+{
+    let from_c = FromC {
+        types: text.from_c.types,
+        foreign: false,
+    };
+    let session = &text.session;
+    match open_by(
+        alloc,
+        &text.files,
+        from_c,
+        session.hash_key(),
+        b"",
+        session.bytes(),
+    ) {
+        Ok(session) => Ok(session),
+        Err(_) => Err(NoMemory),
+    }
+}
+
+/// Answers what value of the type of this name the message is, whose bytes these digits write, and answers
+/// whether that refuses it: of names that are taken from C and in no table nothing can be read, so a text
+/// that uses one has no types. Without memory nothing is done.
+pub(crate) fn answer_dump<S: Sink>(
+    alloc: Global,
+    text: &mut FollowedText,
+    file: &ScriptFile,
+    name: &[u8],
+    hex: &[u8],
+    pen: &mut Pen,
+    sink: &mut S,
+) -> Result<bool, NoMemory>
+    requires hex { 0 < length hex.now → is_hex hex.now ≡ true }
+    requires over { IsOver text.now }
+    ensures over { IsOver text.new }
+    ensures given { GivesBy (λ how here a. IsDumped how here name.now (bytes_of hex.now) a)
+        (situation file.now text.old) (situation file.now text.new) result
+        pen.old (S.state sink.old) pen.new (S.state sink.new) }
+    ensures same { OnErr result ((pen.new ≡ pen.old) × (sink.new ≡ sink.old)) }
+{
+    if !file.is_plain {
+        LineRefusal::Faulty.add_line(pen, sink);
+        return Ok(true);
+    }
+    if text.from_c.foreign {
+        let session = without_foreign(alloc, text)?;
+        return answer_by(alloc, &session, name, hex, pen, sink);
+    }
+    renew(text)?;
+    answer_by(alloc, &text.session, name, hex, pen, sink)
 }

@@ -2,7 +2,7 @@ use Rattle.std.proofs.Common.{◌≡◌, ℕ, List, Err, IsTrue, ap, subst}
 use Rattle.std.specs.Io.KnownBytes.{Appends}
 use Rattle.x_compile.specs.Generated.{text_of}
 use Rattle.x_session.specs.Session.{Compiles}
-use Rattle.rpcx.specs.Generate.{base_of, unopened, unwritten, NotWritten}
+use Rattle.rpcx.specs.Generate.{unopened, unwritten, NotWritten}
 use Rattle.rpcx.specs.Outputs.{Holds}
 use Rattle.rpcx.proofs.Dumping.{faultless}
 use Rattle.rpcx.proofs.rpcgen.gen_run.Goals as goal

@@ -1,7 +1,8 @@
-use Rattle.std.proofs.Common.{◌≡◌, ◌∙◌, ◌<◌, ◌≤◌, ◌⊎◌, ℕ, List, [], ◌∷◌, length, codes, ap, subst, refl, arith, inl, inr}
+use Rattle.std.proofs.Common.{◌≡◌, ◌∙◌, ◌<◌, ◌≤◌, ◌⊎◌, ℕ, List, [], ◌∷◌, length, codes, ap, subst, refl, arith, inr}
 use Rattle.std.specs.Prelude.{IsErrOf, Ok, Err}
 use Rattle.x_text.specs.declared.text.fault.TextFault.TheVariants as fault
 use Rattle.x_session.specs.Session.{Compiles, Document}
+use Rattle.x_session.specs.declared.session.Session.{Session}
 use Rattle.x_compile.specs.Compile.{faults_of}
 use Rattle.x_compile.specs.Known.{KnownText}
 use Rattle.x_compile.specs.declared.fault.Fault.{Fault}
@@ -105,7 +106,7 @@ returns-in-Err-clause-opened g c = record {
   faultless = tt;
   faulty = λ e. absurd (cc);
   too_large = λ more. refl;
-  failed = λ e. not_opened c.args.how.now c.args.program.now c.args.file.now c.args.bytes.now (g.E.Sink.state c.args.err.now) (g.E.Sink.state c.tell_unopened.new.err)
+  failed = λ e. not_opened Session c.args.how.now c.args.program.now c.args.file.now c.args.bytes.now (g.E.Sink.state c.args.err.now) (g.E.Sink.state c.tell_unopened.new.err)
       c.in-Err.fault c.in-Err.ensures.too_large c.in-Err.ensures.large c.in-Err.ensures.in_range c.tell_unopened.ensures;
   others = inr refl;
 }

@@ -1,4 +1,4 @@
-use Rattle.std.proofs.Common.{◌∙◌, [], codes, map, refl, sym, subst}
+use Rattle.std.proofs.Common.{◌∙◌, [], codes, map, refl, sym, subst, true}
 use Rattle.std.specs.Prelude.{IfErr}
 use Rattle.x_args.specs.Telling.{IsTold, told_of}
 use Rattle.rpcx.specs.Generate.{NotKnown, no_room}
@@ -52,9 +52,11 @@ pub returns-clause-read : goal.returns-clause-read
 returns-clause-read g c =
     let options = c.args.options.now in
     let known = c.loop-name.known in
-    subst (λ f. AreRead f [] (map (λ n. n.now) options.known.items) known.files.items known.text.items)
+    subst (λ f. AreRead f [] true (map (λ n. n.now) options.known.items) known.files.items known.text.items
+    known.is_plain)
     c.from_options-from_c.ensures
-    (subst (λ ns. AreRead c.from_options-from_c.result [] (map (λ n. n.now) ns) known.files.items known.text.items)
+    (subst (λ ns. AreRead c.from_options-from_c.result [] true (map (λ n. n.now) ns) known.files.items
+    known.text.items known.is_plain)
     c.deref-name-items.ensures.value
     (reads_all _ c.deref-name-items.result.now c.loop-name.name-index known c.loop-name-test.false
     c.loop-name.invariant.1))
