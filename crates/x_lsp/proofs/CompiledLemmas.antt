@@ -1,8 +1,10 @@
 -- What is compiled of the text that a client has.
 use Rattle.std.proofs.Common.{◌≡◌, ℕ, Bool, List, ◌++◌, subst, sym, ◌∙◌}
-use Rattle.std.specs.Prelude.{Result, Ok, Err, IfOk, OnOk}
+use Rattle.std.specs.Prelude.{Result, Ok, Err, IfOk, OnErr, OnOk}
+use Rattle.std.proofs.Math.Logic.{∥∥₁_map}
 use Rattle.std.proofs.lemmas.Grind.{merely}
 use Rattle.x_prelude.specs.Before.{IsBefore}
+use Rattle.x_prelude.specs.Followed.{IsOver}
 use Rattle.x_prelude.specs.declared.definition.FromC.{FromC}
 use Rattle.x_prelude.specs.declared.followed.FollowedText.{FollowedText}
 use Rattle.x_lsp.specs.Compiled.{IsCompiled}
@@ -37,3 +39,18 @@ pub replaced_so : {T E : Type 0} (r : Result T E) (files : List ℕ) (blanks : B
 replaced_so (Ok x) files blanks shown front bytes from t f b own text own_from before =
     is_compiled files blanks shown front bytes from t f b own text own_from before
 replaced_so (Err e) files blanks shown front bytes from t f b own text own_from before = tt
+
+-- what follows where there is no error, of what is merely there
+pub merely_on : {T E A : Type 0} (B : Type 0) (r : Result T E) → ∥ A ∥₁ → (A → OnOk r B) → OnOk r ∥ B ∥₁
+merely_on B (Ok x) a f = ∥∥₁_map a f
+merely_on B (Err e) a f = tt
+
+pub opened_over : {E : Type 0} (r : Result FollowedText E) → IfOk r IsOver → IfOk r (λ t. ∥ IsOver t ∥₁)
+opened_over (Ok t) over = merely over
+opened_over (Err e) over = tt
+
+-- it stands over what stands before it, also where it could not be replaced
+pub over_replaced : {T E : Type 0} (r : Result T E) (old new : FollowedText) → OnOk r (IsOver new)
+    → OnErr r (new ≡ old) → ∥ IsOver old ∥₁ → ∥ IsOver new ∥₁
+over_replaced (Ok x) old new over same had = merely over
+over_replaced (Err e) old new over same had = subst (λ t. ∥ IsOver t ∥₁) (sym same) had

@@ -16,5 +16,6 @@ pub mod PositionLemmas
 pub mod SaidLemmas
 pub mod ServingLemmas
 pub mod SpotLemmas
+pub mod ToldLemmas
 pub mod WalkLemmas
 pub mod WritingLemmas

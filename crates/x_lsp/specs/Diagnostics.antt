@@ -1,8 +1,8 @@
 -- What is published of a text's faults (LSP 3.17, `textDocument/publishDiagnostics`).
 use Rattle.std.specs.Prelude.{◌≡◌, ℕ, ℤ, ◌==◌, List, []}
 use Rattle.std.specs.Prelude.{◌∷◌, ◌++◌, codes, Option, None, Some, option_and_then, option_map}
-use Rattle.std.specs.Prelude.{if◌then◌else◌, map, unwrap_or, Bool, true, false, ◌&&◌, slice_range}
-use Rattle.std.specs.List.{before_first}
+use Rattle.std.specs.Prelude.{if◌then◌else◌, map, unwrap_or, Bool, true, false, not, ◌&&◌, slice_range}
+use Rattle.std.specs.List.{before_first, filter}
 use Rattle.serde_json.specs.Data.{Data, Members, array, number, string, object, member, item, no_items}
 use Rattle.serde_json.specs.Data.{no_members, unsigned}
 use Rattle.serde_json.specs.Find.{of_integer}
@@ -12,14 +12,17 @@ use Rattle.x_compile.specs.declared.fault.FaultPlace.{FaultPlace}
 use Rattle.x_compile.specs.declared.fault.FaultCode.{FaultCode}
 use Rattle.x_compile.specs.declared.fault.FaultCode.TheVariants.{Rule}
 use Rattle.x_rules.specs.declared.fault.RuleCode.TheVariants.{Duplicate, LateName, NotType, NotConst}
-use Rattle.x_rules.specs.declared.fault.RuleCode.TheVariants.{UsesFaulty}
+use Rattle.x_rules.specs.declared.fault.RuleCode.TheVariants.{RepeatedField, Unknown, UsesFaulty}
 use Rattle.x_compile.specs.Compile.{Item, places_of}
 use Rattle.x_compile.specs.Faults.{fault_text}
+use Rattle.x_directives.specs.Branches.{in_later_branch}
 use Rattle.x_directives.specs.Conditionals.{conditionals}
 use Rattle.x_directives.specs.declared.conditions.Conditional.{Conditional}
 use Rattle.x_explain.specs.DeclaredNames.{definition_of}
 use Rattle.x_explain.specs.Facts.{name_of}
+use Rattle.x_explain.specs.Foreign.{ForeignName}
 use Rattle.x_explain.specs.Found.{IsEndOfToken}
+use Rattle.x_prelude.specs.Foreign.{AreForeign}
 use Rattle.x_lsp.specs.declared.changes.Range.{Range}
 use Rattle.x_lsp.specs.declared.client.Client.{Client}
 use Rattle.x_lsp.specs.declared.encoding.Encoding.{Encoding}
@@ -28,7 +31,7 @@ use Rattle.x_lsp.specs.declared.published.Severity.{Severity}
 use Rattle.x_lsp.specs.declared.published.Severity.TheVariants.{Error, Hint}
 use Rattle.x_lsp.specs.Answers.{note_data}
 use Rattle.x_lsp.specs.Framing.{number_of}
-use Rattle.x_lsp.specs.Grounds.{CompilesOn, Ground, compiled_of}
+use Rattle.x_lsp.specs.Grounds.{CompilesOn, Ground, compiled_of, constants_of}
 use Rattle.x_lsp.specs.Positions.{position_of}
 
 -- a position, and a range, as LSP writes them
@@ -128,6 +131,20 @@ AreDiagnostics client uri shown text items (f ∷ fs) [] = ⊥
 AreDiagnostics client uri shown text items (f ∷ fs) (d ∷ ds) =
     IsDiagnostic client uri shown text items f d × AreDiagnostics client uri shown text items fs ds
 
+-- the fault says that a name is declared twice, or a field
+abbrev pub is_repeat : FaultCode → Bool
+is_repeat (Rule Duplicate) = true
+is_repeat (Rule RepeatedField) = true
+is_repeat code = false
+
+-- The faults that are told: where the lines of cpp are blanked, no name that is declared twice in a branch
+-- behind the first one of a conditional, since another branch may declare it.
+abbrev pub is_told : List ℕ → FaultPlace → Bool
+is_told shown p = not (is_repeat p.code && in_later_branch shown p.start)
+
+abbrev pub told_of : (blanks : Bool) → (shown : List ℕ) → List FaultPlace → List FaultPlace
+told_of blanks shown places = if blanks then filter (is_told shown) places else places
+
 -- What is published of a directive that begins a branch, where directives are blanked: that the branches are
 -- all read, over its first line.
 abbrev pub branch_message : List ℕ
@@ -140,6 +157,24 @@ hint_data encoding shown place = diagnostic_data Hint 14
 
 abbrev pub hints_of : (blanks : Bool) → Encoding → List ℕ → List Data
 hints_of blanks encoding shown = if blanks then map (hint_data encoding shown) (conditionals shown) else []
+
+-- What is published of a name that a text takes from C: as a hint at its token, with a sentence.
+pub record IsForeignHint (encoding : Encoding) (shown text : List ℕ) (f : ForeignName) (data' : Data)
+    : Type 0 where
+  pub end : ℕ
+  pub sentence : List ℕ
+  pub token : IsEndOfToken text f.spot.start end
+  pub data_is : data' ≡ diagnostic_data Hint (fault_number (Rule Unknown))
+      (range_data (position_of encoding shown f.spot.start) (position_of encoding shown end))
+      (fault_text (Rule Unknown) ++ codes ": " ++ sentence) None
+
+-- of such names, one after another
+abbrev pub AreForeignHints : Encoding → (shown text : List ℕ) → List ForeignName → List Data → Type 0
+AreForeignHints encoding shown text [] [] = Unit {0}
+AreForeignHints encoding shown text [] (d ∷ ds) = ⊥
+AreForeignHints encoding shown text (f ∷ fs) [] = ⊥
+AreForeignHints encoding shown text (f ∷ fs) (d ∷ ds) =
+    IsForeignHint encoding shown text f d × AreForeignHints encoding shown text fs ds
 
 -- the parameters of the note that publishes diagnostics of a version of a document, and the note
 abbrev pub params_with : List ℕ → Data → List Data → Data
@@ -159,14 +194,20 @@ abbrev pub closing_data : List ℕ → Data
 closing_data uri = note_data (codes "textDocument/publishDiagnostics")
     (object (member (codes "diagnostics") (array no_items) (member (codes "uri") (string uri) no_members)))
 
--- The text publishes the faults of a document's text with these items, all and in order, and then the hints.
-abbrev pub IsPublishedOf : Client → (uri : List ℕ) → (version : ℤ) → (blanks : Bool) → (shown text : List ℕ)
-    → List Item → (said : List ℕ) → Type 0
-IsPublishedOf client uri version blanks shown text items said =
-    (ds : List Data) × AreDiagnostics client uri shown text items (places_of items) ds
-    × (said ≡ compact_text (published_data uri version (ds ++ hints_of blanks client.encoding shown)))
+-- The text publishes the faults of a document's text with these items that are told, in their order, and
+-- then the hints of directives, and of these names that are taken from C.
+abbrev pub IsPublishedOf : Client → (uri : List ℕ) → (version : ℤ) → (blanks : Bool) → List ForeignName
+    → (shown text : List ℕ) → List Item → (said : List ℕ) → Type 0
+IsPublishedOf client uri version blanks foreign shown text items said = (ds hints : List Data)
+    × AreDiagnostics client uri shown text items (told_of blanks shown (places_of items)) ds
+    × AreForeignHints client.encoding shown text foreign hints
+    × (said ≡ compact_text (published_data uri version
+    (ds ++ hints_of blanks client.encoding shown ++ hints)))
 
 -- the text publishes what is found in a document whose text is shown so
 abbrev pub IsPublished : Client → (uri : List ℕ) → (version : ℤ) → Ground → (shown said : List ℕ) → Type 0
-IsPublished client uri version on shown said = CompilesOn on shown
-    (λ items. IsPublishedOf client uri version on.blanks shown (compiled_of on.blanks shown) items said)
+IsPublished client uri version on shown said = CompilesOn on shown (λ items. (foreign : List ForeignName)
+    × AreForeign (on.files ++ constants_of on.blanks shown) on.from (compiled_of on.blanks shown) items
+    foreign
+    × IsPublishedOf client uri version on.blanks foreign shown
+    (compiled_of on.blanks shown) items said)

@@ -2,6 +2,7 @@
 
 ghost use Rattle.std.specs.Prelude.{◌≡◌, ◌++◌, true, IfOk, OnOk};
 ghost use Rattle.x_prelude.specs.Before.{IsBefore};
+ghost use Rattle.x_prelude.specs.Followed.{IsOver};
 ghost use Rattle.x_lsp.specs.Compiled.{IsCompiled};
 ghost use Rattle.x_lsp.specs.Grounds.{compiled_of, constants_of};
 
@@ -21,6 +22,7 @@ pub(crate) fn open_text(
     base: &[u8],
     shown: &[u8],
 ) -> Result<FollowedText, EditFault>
+    ensures over { IfOk result (λ text. ∥ IsOver text ∥₁) }
     ensures from_c { IfOk result (λ text. text.from_c ≡ setting.now.from_c) }
     ensures compiled { IfOk result (IsCompiled setting.now.files.now setting.now.blanks shown.now) }
 {
@@ -45,6 +47,8 @@ pub(crate) fn follow_text(
     blanks: bool,
     shown: &[u8],
 ) -> Result<(), EditFault>
+    requires { ∥ IsOver text.now ∥₁ }
+    ensures over { ∥ IsOver text.new ∥₁ }
     ensures from_c { text.new.from_c ≡ text.old.from_c }
     ensures compiled { OnOk result (IsCompiled files.now blanks shown.now text.new) }
 {
@@ -104,6 +108,8 @@ fn add_constants(alloc: Global, text: &mut Vec<u8>, shown: &[u8]) -> Result<(), 
 
 /// Makes these bytes the text that is compiled, by one edit, and puts before it what stands before it then.
 fn follow(text: &mut FollowedText, bytes: &[u8]) -> Result<(), EditFault>
+    requires { ∥ IsOver text.now ∥₁ }
+    ensures over { ∥ IsOver text.new ∥₁ }
     ensures files { text.new.files ≡ text.old.files }
     ensures from_c { text.new.from_c ≡ text.old.from_c }
     ensures text { OnOk result (text.new.session.text ≡ bytes.now) }

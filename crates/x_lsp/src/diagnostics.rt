@@ -1,25 +1,28 @@
 //! What is published of a text's faults.
 
-ghost use Rattle.std.specs.List.{before_first};
-ghost use Rattle.std.specs.Prelude.{◌≡◌, ◌==◌, ◌≤◌, ◌++◌, ℕ, List, IfOk, codes, option_map, slice_range};
-ghost use Rattle.std.specs.Prelude.{length, string_bytes, map, OnOk};
+ghost use Rattle.std.specs.List.{before_first, filter};
+ghost use Rattle.std.specs.Prelude.{◌≡◌, ◌==◌, ◌≤◌, ◌++◌, ℕ, List, IfOk, codes, option_map};
+ghost use Rattle.std.specs.Prelude.{slice_range, length, string_bytes, map, OnOk};
+ghost use Rattle.serde_json.specs.Data.{Data};
 ghost use Rattle.serde_json.specs.View.{view};
 ghost use Rattle.serde_json.specs.Written.{compact_text};
 ghost use Rattle.x_compile.specs.Compile.{places_of};
 ghost use Rattle.x_compile.specs.Faults.{fault_text};
 ghost use Rattle.x_session.specs.Session.{Compiles};
-ghost use Rattle.x_explain.specs.Found.{IsEndOfToken};
+ghost use Rattle.x_explain.specs.Foreign.{view_all};
+ghost use Rattle.x_explain.specs.Found.{AreFound, IsEndOfToken};
 ghost use Rattle.x_directives.specs.Conditionals.{conditionals};
-ghost use Rattle.x_lsp.specs.Diagnostics.{AreDiagnostics, IsPublishedOf, closing_data, hint_data};
-ghost use Rattle.x_lsp.specs.Diagnostics.{diagnostic_data, fault_number, position_data, range_data};
-ghost use Rattle.x_lsp.specs.Diagnostics.{related_data};
+ghost use Rattle.x_lsp.specs.Diagnostics.{AreDiagnostics, AreForeignHints, IsPublishedOf, closing_data};
+ghost use Rattle.x_lsp.specs.Diagnostics.{diagnostic_data, fault_number, hint_data, is_repeat, position_data};
+ghost use Rattle.x_lsp.specs.Diagnostics.{range_data, related_data, told_of};
+ghost use Rattle.x_lsp.specs.Published.{is_told_by};
 ghost use Rattle.x_lsp.specs.Published.{data_of, place_data};
 ghost use Rattle.x_lsp.specs.Waymarks.{AreWaymarks};
 
 use crate::answers::note;
 use crate::changes::Range;
 use crate::client::Client;
-use crate::fault_messages::{FaultMessages, branch_message};
+use crate::fault_messages::{FaultMessages, branch_message, foreign_message};
 use crate::marking::Marker;
 use crate::other_places::OtherPlaces;
 use crate::positions::Position;
@@ -27,20 +30,30 @@ use crate::published::{Diagnostic, Place, Severity, published_text};
 use crate::waymarks::Waymarks;
 use serde_json::{Value, json};
 use std::alloc::{AllocError, Global};
-use x_directives::conditionals;
-use x_explain::found_faults;
-use x_session::Session;
+use x_directives::{LaterBranches, conditionals};
+use x_explain::{ForeignName, FoundFault, found_faults, token_end};
+use x_session::{FaultCode, RuleCode, Session};
 use x_text::NoMemory;
 
+/// What is told of a document beside its faults.
+#[derive(Clone, Copy, Debug)]
+pub struct Hints<'n> {
+    /// Whether the lines of cpp are blanked: then those are told that begin branches, and in later branches
+    /// no fault that a name is declared twice.
+    pub blanks: bool,
+    /// The names that the text takes from C.
+    pub foreign: &'n [ForeignName<'n>],
+}
+
 /// The note that publishes the faults of a document: of what is compiled of its text, which is shown, by
-/// waymarks of that and by the messages of those that were published before. Where the lines of cpp are
-/// blanked it tells of those that begin branches. Keeps these faults among the waymarks, and their messages.
+/// waymarks of that and by the messages of those that were published before; and hints. Keeps these faults
+/// among the waymarks, and their messages.
 pub fn publish(
     alloc: Global,
     client: Client,
     uri: &str,
     version: i64,
-    blanks: bool,
+    hints: &Hints,
     shown: &[u8],
     session: &Session,
     marks: &mut Waymarks,
@@ -49,7 +62,8 @@ pub fn publish(
     requires marks { AreWaymarks shown.now marks.old }
     requires encoding { marks.old.encoding ≡ client.encoding }
     ensures said { IfOk result (λ said. Compiles session.now.known session.now.text (λ items.
-        IsPublishedOf client uri.now version blanks shown.now session.now.text items said.items)) }
+        IsPublishedOf client uri.now version hints.now.blanks (view_all hints.now.foreign.now) shown.now
+        session.now.text items said.items)) }
     ensures marks { AreWaymarks shown.now marks.new }
     ensures encoding { marks.new.encoding ≡ marks.old.encoding }
 {
@@ -58,15 +72,24 @@ pub fn publish(
         alloc,
         client,
         uri,
+        hints.blanks,
         shown,
         session,
         marks,
         &mut marker,
         messages,
     )?;
-    if blanks {
+    if hints.blanks {
         add_hints(alloc, shown, marks, &mut list)?;
     }
+    add_foreign_hints(
+        alloc,
+        shown,
+        session.bytes(),
+        marks,
+        hints.foreign,
+        &mut list,
+    )?;
     let (said, list) = published_text(alloc, uri, version, list)?;
     messages.keep(list);
     marks.keep_faults(marker.list);
@@ -95,6 +118,32 @@ fn add_hints(
     Ok(())
 }
 
+/// Adds a hint for each name that the text takes from C, at its first use.
+fn add_foreign_hints(
+    alloc: Global,
+    shown: &[u8],
+    text: &[u8],
+    marks: &Waymarks,
+    names: &[ForeignName],
+    list: &mut Vec<Diagnostic>,
+) -> Result<(), NoMemory>
+    requires { AreWaymarks shown.now marks.now }
+    ensures { OnOk result ((hints : List Data)
+        × AreForeignHints marks.now.encoding shown.now text.now (view_all names.now) hints
+        × (map data_of list.new.items ≡ map data_of list.old.items ++ hints)) }
+{
+    for name in names {
+        let start = name.spot.start;
+        list.push(Diagnostic {
+            severity: Severity::Hint,
+            message: foreign_message(alloc, name.name)?,
+            range: marks.range(shown, start, token_end(text, start)),
+            related: None,
+        })?;
+    }
+    Ok(())
+}
+
 /// The note that publishes that nothing is wrong with a document which was closed.
 pub(crate) fn closing_note(alloc: Global, uri: &str) -> Result<Vec<u8>, AllocError>
     ensures { IfOk result (λ said. said.items ≡ compact_text (closing_data uri.now)) }
@@ -103,11 +152,64 @@ pub(crate) fn closing_note(alloc: Global, uri: &str) -> Result<Vec<u8>, AllocErr
     note(alloc, "textDocument/publishDiagnostics", params)
 }
 
+/// Whether a fault says that a name is declared twice.
+fn is_repeat(code: FaultCode) -> bool
+    ensures { result ≡ is_repeat code }
+{
+    match code {
+        FaultCode::Syntax(_) => false,
+        FaultCode::Rule(rule) => matches!(rule, RuleCode::Duplicate | RuleCode::RepeatedField),
+    }
+}
+
+/// Whether a fault is told: not if it stands in a later branch of cpp, of which another may declare its name.
+fn is_told(branches: &LaterBranches, fault: &FoundFault) -> bool
+    ensures { result ≡ is_told_by branches.now fault.now }
+{
+    !(is_repeat(fault.code) && branches.has(fault.start))
+}
+
+/// Those of the faults that are told.
+fn told_among(
+    alloc: Global,
+    found: &[FoundFault],
+    branches: &LaterBranches,
+) -> Result<Vec<FoundFault>, NoMemory>
+    ensures { IfOk result (λ told. told.items ≡ filter (is_told_by branches.now) found.now) }
+{
+    let mut told = Vec::with_capacity(alloc, found.len())?;
+    for fault in found {
+        if is_told(branches, fault) {
+            told.push(*fault)?;
+        }
+    }
+    Ok(told)
+}
+
+/// The faults that are told.
+fn told_faults(
+    alloc: Global,
+    blanks: bool,
+    shown: &[u8],
+    session: &Session,
+) -> Result<Vec<FoundFault>, NoMemory>
+    ensures { IfOk result (λ found. Compiles session.now.known session.now.text (λ items.
+        AreFound session.now.text (told_of blanks shown.now (places_of items)) found.items)) }
+{
+    let found = found_faults(alloc, session)?;
+    if !blanks {
+        return Ok(found);
+    }
+    let branches = LaterBranches::of(alloc, shown)?;
+    told_among(alloc, &found, &branches)
+}
+
 /// The diagnostics of what is compiled of a text. Marks where its faults stand.
 fn diagnostics<'d>(
     alloc: Global,
     client: Client,
     uri: &'d str,
+    blanks: bool,
     shown: &[u8],
     session: &Session,
     marks: &Waymarks,
@@ -121,11 +223,11 @@ fn diagnostics<'d>(
     ensures text { marker.new.text.now ≡ shown.now }
     ensures counted { marker.new.encoding ≡ client.encoding }
     ensures diagnostics { IfOk result (λ list. Compiles session.now.known session.now.text (λ items.
-        AreDiagnostics client uri.now shown.now session.now.text items (places_of items)
-        (map data_of list.items))) }
+        AreDiagnostics client uri.now shown.now session.now.text items
+        (told_of blanks shown.now (places_of items)) (map data_of list.items))) }
 {
     let text = session.bytes();
-    let found = found_faults(alloc, session)?;
+    let found = told_faults(alloc, blanks, shown, session)?;
     let mut list = Vec::with_capacity(alloc, found.len())?;
     let mut others = OtherPlaces::of(client.shows_related, shown, marks, session);
     for fault in &found {

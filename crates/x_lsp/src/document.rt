@@ -1,6 +1,7 @@
 //! A document that a client has open.
 
 ghost use Rattle.std.specs.Prelude.{◌≡◌, IfOk, OnOk, string_bytes};
+ghost use Rattle.x_prelude.specs.Followed.{IsOver};
 ghost use Rattle.x_lsp.specs.Answers.{IsToNotification};
 ghost use Rattle.x_lsp.specs.Changes.{changed_by_all};
 ghost use Rattle.x_lsp.specs.Compiled.{IsCompiled};
@@ -14,7 +15,7 @@ use crate::base::base_of;
 use crate::changes::{TextChange, apply_change};
 use crate::client::Client;
 use crate::compiled::{follow_text, open_text};
-use crate::diagnostics::publish;
+use crate::diagnostics::{Hints, publish};
 use crate::fault_messages::FaultMessages;
 use crate::kept::{ChangeFault, Reply, told};
 use crate::positions::Position;
@@ -46,6 +47,7 @@ pub(crate) struct OpenDocument {
     messages: FaultMessages,
     /// Whether the text is the client's, and is compiled: no change was refused since it was sent whole.
     in_step: bool,
+    ghost over: { ∥ IsOver compiled ∥₁ },
     ghost marked: { AreWaymarks shown marks },
     ghost counted: { marks.encoding ≡ client.encoding },
 }
@@ -153,14 +155,22 @@ impl OpenDocument {
             (said_of result) }
         ensures note { IsToNotification (said_of result) }
     {
+        let compiled = &self.compiled;
+        let Ok(foreign) = compiled.foreign_names() else {
+            return Reply::NoMemoryNote;
+        };
+        let hints = Hints {
+            blanks: self.blanks,
+            foreign: &foreign,
+        };
         match publish(
             alloc,
             self.client,
             self.uri.as_str(),
             self.version,
-            self.blanks,
+            &hints,
             self.shown.bytes(),
-            &self.compiled.session,
+            &compiled.session,
             &mut self.marks,
             &mut self.messages,
         ) {

@@ -3,7 +3,9 @@
 ghost use Rattle.std.specs.List.{before_first};
 ghost use Rattle.std.specs.Prelude.{◌≡◌, ◌==◌, ◌++◌, IfOk, IfSome, IsTrue, codes, length, string_bytes};
 ghost use Rattle.std.specs.Prelude.{OnOk, take};
+ghost use Rattle.x_rules.specs.declared.fault.RuleCode.TheVariants.{Unknown};
 ghost use Rattle.x_compile.specs.Faults.{fault_text};
+ghost use Rattle.x_compile.specs.declared.fault.FaultCode.TheVariants.{Rule};
 ghost use Rattle.x_lsp.specs.Diagnostics.{branch_message, fault_number};
 ghost use Rattle.x_lsp.specs.FaultMessages.{GoesOn};
 
@@ -14,7 +16,7 @@ use std::alloc::{AllocError, Global};
 use std::str;
 use x_explain::{Known, MEANT, MEANT_END, Sentence, escape_of, sentence_of};
 use x_item::{FaultCode as ItemCode, NameKind};
-use x_session::FaultCode;
+use x_session::{FaultCode, RuleCode};
 
 /// How much room is made at once for what stands around the word of a message.
 const FRAME: usize = 96;
@@ -101,6 +103,25 @@ pub(crate) fn branch_message(alloc: Global) -> Result<FaultMessage, AllocError>
         kind: None,
         number: fault_number(code),
         text: String::from_str(alloc, BRANCH)?,
+        word: None,
+        suggested: None,
+    })
+}
+
+/// The message of a name that is taken from C.
+pub(crate) fn foreign_message(alloc: Global, name: &[u8]) -> Result<FaultMessage, AllocError>
+    ensures { IfOk result (λ message. message.code ≡ Rule Unknown) }
+{
+    let code = FaultCode::Rule(RuleCode::Unknown);
+    let mut text = String::with_capacity(alloc, FRAME.saturating_add(name.len()))?;
+    text.push_str(code.text())?;
+    text.push_str(": ")?;
+    add_quoted(&mut text, "'", name, "' is taken from C")?;
+    Ok(FaultMessage {
+        code,
+        kind: None,
+        number: fault_number(code),
+        text,
         word: None,
         suggested: None,
     })

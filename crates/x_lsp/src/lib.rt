@@ -37,7 +37,7 @@ mod waymarks;
 
 pub use changes::{Range, TextChange, apply_change};
 pub use client::Client;
-pub use diagnostics::publish;
+pub use diagnostics::{Hints, publish};
 pub use encoding::Encoding;
 pub use fault_messages::FaultMessages;
 pub use framing::{FrameFault, FrameFound, MOST_BODY, MOST_HEAD, MessageReader};

@@ -3,8 +3,9 @@ use crate::setting::SETTING;
 use std::test::Fail;
 use x_hash::HashKey;
 use x_lsp::{
-    Client, Encoding, FaultMessages, MessageReader, Places, Position, Server, TextChange, Waymarks,
-    apply_change, definition_at, offset_of, positions_lead_back, publish, references_at, serve,
+    Client, Encoding, FaultMessages, Hints, MessageReader, Places, Position, Server, TextChange,
+    Waymarks, apply_change, definition_at, offset_of, positions_lead_back, publish, references_at,
+    serve,
 };
 use x_session::Session;
 use x_text::{MemSink, MemTap, Source};
@@ -45,12 +46,16 @@ fn a_change_is_published(rt: HostRuntime) -> Result<(), Fail> {
         shows_related: true,
     };
     let mut messages = FaultMessages::new(alloc);
+    let hints = Hints {
+        blanks: true,
+        foreign: &[],
+    };
     let note = publish(
         alloc,
         client,
         "t.x",
         1,
-        true,
+        &hints,
         text.bytes(),
         &session,
         &mut marks,

@@ -32,7 +32,9 @@ pub(crate) fn hover(
     let names = names(alloc, session)?;
     match declared_name_at(alloc, session, &names, at)? {
         Some(found) => {
-            let told = told_of(alloc, session, &found)?;
+            // Of names of C nobody knows the numbers and sizes, nor of what stands on them.
+            let tells_meaning = document.compiled.foreign_names()?.is_empty();
+            let told = told_of(alloc, session, &found, tells_meaning)?;
             let mut places = Places::of(encoding, document.shown.bytes());
             let range = range_value(alloc, &range_of(&mut places, &found.token))?;
             Ok(hover_value(alloc, told.as_str(), range)?)
@@ -50,10 +52,18 @@ fn hover_value(alloc: Global, told: &str, range: Value) -> Result<Value, AllocEr
     json!(in alloc; {"contents": contents, "range": range})
 }
 
-/// The definition of a name as it is written, and what the name means behind an empty line.
-fn told_of(alloc: Global, session: &Session, found: &FoundName) -> Result<String, NoMemory> {
+/// The definition of a name as it is written, and what the name means behind an empty line, if that is told.
+fn told_of(
+    alloc: Global,
+    session: &Session,
+    found: &FoundName,
+    tells_meaning: bool,
+) -> Result<String, NoMemory> {
     let span = item_span(alloc, session, found.declarer.item)?;
     let mut told = String::from_utf8_lossy(alloc, written(session.bytes(), span))?;
+    if !tells_meaning {
+        return Ok(told);
+    }
     if let Some(meaning) = meaning_of(alloc, session, found)? {
         told.push_str("\n\n")?;
         told.push_str(meaning.as_str())?;

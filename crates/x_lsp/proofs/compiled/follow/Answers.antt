@@ -1,7 +1,15 @@
 use Rattle.std.proofs.Common.{subst, sym}
 use Rattle.std.specs.Prelude.{OnOk}
+use Rattle.std.proofs.Math.Logic.{∥∥₁_map}
 use Rattle.x_prelude.specs.Before.{IsBefore}
+use Rattle.x_lsp.proofs.CompiledLemmas.{merely_on}
 use Rattle.x_lsp.proofs.compiled.follow.Goals as goal
+
+pub returns-in_err-apply-clause-over : goal.returns-in_err-apply-clause-over
+returns-in_err-apply-clause-over c = ∥∥₁_map c.requires c.apply.ensures.over
+
+pub returns-clause-over : goal.returns-clause-over
+returns-clause-over c = ∥∥₁_map c.requires (λ over. c.renew.ensures.over (c.apply.ensures.over over))
 
 pub returns-clause-before : goal.returns-clause-before
 returns-clause-before c =
@@ -12,4 +20,4 @@ returns-clause-before c =
     subst (λ f. OnOk r ∥ IsBefore f.items new.from_c new.session.text known ∥₁) (sym c.renew.ensures.files)
     (subst (λ f. OnOk r ∥ IsBefore old.files.items f new.session.text known ∥₁) (sym c.renew.ensures.from_c)
     (subst (λ t. OnOk r ∥ IsBefore old.files.items old.from_c t known ∥₁) (sym c.renew.ensures.text)
-    c.renew.ensures.before))
+    (merely_on (IsBefore old.files.items old.from_c old.session.text known) r c.requires (λ over. c.renew.ensures.before (c.apply.ensures.over over)))))

@@ -1,5 +1,5 @@
 use Rattle.std.proofs.Common.{◌∙◌}
-use Rattle.x_lsp.proofs.CompiledLemmas.{replaced_so}
+use Rattle.x_lsp.proofs.CompiledLemmas.{over_replaced, replaced_so}
 use Rattle.x_lsp.proofs.compiled.follow_text.Goals as goal
 
 pub returns-clause-compiled : goal.returns-clause-compiled
@@ -9,3 +9,8 @@ returns-clause-compiled c =
     c.deref-else-eq-2.result.now c.args.text.now.from_c c.replace.new.self
     (c.deref-else-eq.ensures.value ∙ c.in-Ok.ensures.files)
     (c.deref-else-eq-2.ensures.value ∙ c.in-Ok.ensures.text) done.files done.text done.from_c done.before
+
+pub returns-clause-over : goal.returns-clause-over
+returns-clause-over c =
+    over_replaced c.replace.result c.args.text.now c.replace.new.self c.replace.ensures.over c.replace.ensures.same
+    c.requires

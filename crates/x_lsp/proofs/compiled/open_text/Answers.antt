@@ -1,5 +1,5 @@
 use Rattle.std.proofs.Common.{◌∙◌}
-use Rattle.x_lsp.proofs.CompiledLemmas.{opened_so}
+use Rattle.x_lsp.proofs.CompiledLemmas.{opened_over, opened_so}
 use Rattle.x_lsp.proofs.compiled.open_text.Goals as goal
 
 pub returns-clause-compiled : goal.returns-clause-compiled
@@ -9,3 +9,6 @@ returns-clause-compiled c =
     opened_so c.open.result setting.files.now setting.blanks c.args.shown.now c.deref.result.now
     c.deref-2.result.now setting.from_c (c.deref.ensures.value ∙ c.in-Ok.ensures.files)
     (c.deref-2.ensures.value ∙ c.in-Ok.ensures.text) opened.files opened.text opened.from_c opened.before
+
+pub returns-clause-over : goal.returns-clause-over
+returns-clause-over c = opened_over c.open.result c.open.ensures.over

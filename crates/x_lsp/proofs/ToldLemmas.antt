@@ -1,0 +1,100 @@
+-- The faults that are told, and hints of names that are taken from C.
+use Rattle.std.proofs.Common.{◌≡◌, ℕ, suc, ◌+◌, ◌<◌, Bool, true, false, cond, List, [], ◌∷◌, ◌++◌, map, take, drop}
+use Rattle.std.proofs.Common.{get_or, length, append_assoc, refl, sym, ap, subst, ◌∙◌}
+use Rattle.std.proofs.Common.{drop-cons}
+use Rattle.std.proofs.lemmas.List.{drop_more, map-append}
+use Rattle.std.specs.Prelude.{ℤ, not, ◌&&◌}
+use Rattle.std.specs.List.{filter}
+use Rattle.serde_json.specs.Data.{Data}
+use Rattle.serde_json.specs.Written.{compact_text}
+use Rattle.x_compile.specs.declared.fault.FaultPlace.{FaultPlace}
+use Rattle.x_directives.specs.Branches.{SayBranchesOf, said_of}
+use Rattle.x_directives.specs.declared.branches.Turn.{Turn}
+use Rattle.x_explain.specs.Foreign.{ForeignName, view_all, view_foreign}
+use Rattle.x_explain.specs.Found.{AreFound, IsFound}
+use Rattle.x_explain.specs.declared.foreign.ForeignName as rust
+use Rattle.x_explain.specs.declared.found.FoundFault.{FoundFault}
+use Rattle.x_explain.proofs.FoundLemmas.{take_more}
+use Rattle.x_lsp.specs.Diagnostics.{AreForeignHints, IsForeignHint, is_repeat, is_told, published_data}
+use Rattle.x_lsp.specs.Published.{is_told_by}
+use Rattle.x_lsp.specs.declared.encoding.Encoding.{Encoding}
+
+-- a fault more, told or not
+kept_next : (text : List ℕ) (f : FaultPlace) (fs : List FaultPlace) (d : FoundFault) (ds : List FoundFault)
+    (a b : Bool) → a ≡ b → IsFound text f d → AreFound text fs ds
+    → AreFound text (cond a (f ∷ fs) fs) (cond b (d ∷ ds) ds)
+kept_next text f fs d ds true true e is are = (is, are)
+kept_next text f fs d ds true false e is are = absurd (cc)
+kept_next text f fs d ds false true e is are = absurd (cc)
+kept_next text f fs d ds false false e is are = are
+
+pub found_kept : (text shown : List ℕ) (turns : List Turn) → SayBranchesOf turns shown → (fs : List FaultPlace)
+    (ds : List FoundFault) → AreFound text fs ds
+    → AreFound text (filter (is_told shown) fs) (filter (is_told_by turns) ds)
+found_kept text shown turns say [] [] are = tt
+found_kept text shown turns say [] (d ∷ ds) are = absurd are
+found_kept text shown turns say (f ∷ fs) [] are = absurd are
+found_kept text shown turns say (f ∷ fs) (d ∷ ds) are =
+    let same : is_told shown f ≡ is_told_by turns d =
+    (λ i. not (is_repeat (sym are.0.code i) && sym (say f.start) i))
+    ∙ ap (λ s. not (is_repeat d.code && said_of turns s)) (sym are.0.start) in
+    kept_next text f (filter (is_told shown) fs) d (filter (is_told_by turns) ds) (is_told shown f)
+    (is_told_by turns d) same are.0 (found_kept text shown turns say fs ds are.1)
+
+-- one fault more of which it is asked whether it is told
+kept_more : (turns : List Turn) (told new : List FoundFault) (found : List FoundFault) (i : ℕ)
+    (none : FoundFault) (b : Bool) → i < length found → is_told_by turns (get_or found i none) ≡ b
+    → new ≡ cond b (told ++ get_or found i none ∷ []) told
+    → told ++ filter (is_told_by turns) (drop i found) ≡ filter (is_told_by turns) found
+    → new ++ filter (is_told_by turns) (drop (i + 1) found) ≡ filter (is_told_by turns) found
+kept_more turns told new found i none b lt is new_is had =
+    let rest = filter (is_told_by turns) (drop (i + 1) found) in
+    let f = get_or found i none in
+    ap (λ l. l ++ rest) new_is ∙ both b f rest
+    ∙ sym (ap (λ l. told ++ filter (is_told_by turns) l) (drop_more found i none lt)
+    ∙ ap (λ q. told ++ cond q (f ∷ rest) rest) is) ∙ had
+  where
+    both : (b : Bool) (f : FoundFault) (rest : List FoundFault)
+        → cond b (told ++ f ∷ []) told ++ rest ≡ told ++ cond b (f ∷ rest) rest
+    both true f rest = append_assoc told (f ∷ []) rest
+    both false f rest = refl
+
+pub is_kept : (turns : List Turn) (told new : List FoundFault) (found : List FoundFault) (i : ℕ)
+    (none : FoundFault) → i < length found → is_told_by turns (get_or found i none) ≡ true
+    → new ≡ told ++ get_or found i none ∷ []
+    → told ++ filter (is_told_by turns) (drop i found) ≡ filter (is_told_by turns) found
+    → new ++ filter (is_told_by turns) (drop (i + 1) found) ≡ filter (is_told_by turns) found
+is_kept turns told new found i none lt is new_is had =
+    kept_more turns told new found i none true lt is new_is had
+
+pub is_left_out : (turns : List Turn) (told : List FoundFault) (found : List FoundFault) (i : ℕ)
+    (none : FoundFault) → i < length found → is_told_by turns (get_or found i none) ≡ false
+    → told ++ filter (is_told_by turns) (drop i found) ≡ filter (is_told_by turns) found
+    → told ++ filter (is_told_by turns) (drop (i + 1) found) ≡ filter (is_told_by turns) found
+is_left_out turns told found i none lt is had = kept_more turns told told found i none false lt is refl had
+
+-- a hint more
+hint_behind : (e : Encoding) (shown text : List ℕ) (fs : List ForeignName) (ds : List Data) (f : ForeignName)
+    (d : Data) → AreForeignHints e shown text fs ds → IsForeignHint e shown text f d
+    → AreForeignHints e shown text (fs ++ f ∷ []) (ds ++ d ∷ [])
+hint_behind e shown text [] [] f d are is = (is, tt)
+hint_behind e shown text [] (x ∷ ds) f d are is = absurd are
+hint_behind e shown text (x ∷ fs) [] f d are is = absurd are
+hint_behind e shown text (x ∷ fs) (y ∷ ds) f d are is = (are.0, hint_behind e shown text fs ds f d are.1 is)
+
+pub hint_more : (e : Encoding) (shown text : List ℕ) (names : List rust.ForeignName) (i : ℕ)
+    (none : rust.ForeignName) (ds : List Data) (d : Data) → i < length names
+    → AreForeignHints e shown text (view_all (take i names)) ds
+    → IsForeignHint e shown text (view_foreign (get_or names i none)) d
+    → AreForeignHints e shown text (view_all (take (i + 1) names)) (ds ++ d ∷ [])
+hint_more e shown text names i none ds d lt are is =
+    let name = get_or names i none in
+    subst (λ fs. AreForeignHints e shown text fs (ds ++ d ∷ []))
+    (sym (ap view_all (take_more names i name (drop (suc i) names) (drop-cons names i none lt))
+    ∙ map-append view_foreign (take i names) (name ∷ [])))
+    (hint_behind e shown text (view_all (take i names)) ds (view_foreign name) d are is)
+
+-- the text that publishes a list publishes what the list is
+pub said_so : (said uri : List ℕ) (version : ℤ) (l m : List Data) → l ≡ m
+    → said ≡ compact_text (published_data uri version l) → said ≡ compact_text (published_data uri version m)
+said_so said uri version l m same is = is ∙ ap (λ x. compact_text (published_data uri version x)) same
