@@ -14,9 +14,11 @@ pub mod NoTypedefs
 pub mod NumberFold
 pub mod NumberMeant
 pub mod OneAnswer
+pub mod OneBefore
 pub mod OneDump
 pub mod OneExplanation
 pub mod OneShowing
+pub mod ReadFiles
 pub mod Paired
 pub mod Placing
 pub mod SchemaNumbers

@@ -1,5 +1,5 @@
 -- A line of a script has one answer.
-use Rattle.std.proofs.Common.{◌≡◌, ℕ, ◌<◌, ◌≤◌, Bool, true, false, List, [], ◌∷◌, length, Option, None, Some, sym, ap, subst, ◌∙◌, arith}
+use Rattle.std.proofs.Common.{◌≡◌, ℕ, ◌<◌, ◌≤◌, Bool, true, false, List, [], ◌∷◌, ◌++◌, length, Option, None, Some, sym, ap, subst, ◌∙◌, arith}
 use Rattle.std.specs.Prelude.{codes}
 use Rattle.std.proofs.lemmas.Slice.Eq.{bytes_eq-Decides}
 use Rattle.x_trees.specs.Tree.{Definition}
@@ -9,18 +9,23 @@ use Rattle.x_schema.specs.declared.schema.TypeId.{TypeId}
 use Rattle.x_value.proofs.OneReading.{not_both, one_refusal}
 use Rattle.x_value.proofs.OneReading as reading
 use Rattle.x_value.specs.FaultTexts.{fault_line}
-use Rattle.x_script.specs.Answers.{Answer, answered, refused}
-use Rattle.x_script.specs.Commands.{dump_asked, explain_asked}
-use Rattle.x_compile.specs.Compile.{Item, faults_of}
+use Rattle.x_prelude.specs.Foreign.{foreign_names}
+use Rattle.x_script.specs.Answers.{Answer, answer, answered, refused}
+use Rattle.x_script.specs.Commands.{command_of, dump_asked, explain_asked}
+use Rattle.x_script.specs.declared.script.command.Command.{Command}
+use Rattle.x_compile.specs.Compile.{Item, definitions_of, faults_of}
 use Rattle.x_compile.specs.Known.{KnownText}
 use Rattle.x_session.specs.Typed.{all_definitions}
 use Rattle.x_script.specs.Explaining.{IsExplainAnswer, explained_answer, telling_of}
-use Rattle.x_script.specs.LineAnswers.{IsLineAnswer, within, shows, explains, too_long}
+use Rattle.x_script.specs.LineAnswers.{IsCommandAnswer, IsDumped, IsLineAnswer, alone, asks, hidden, read}
+use Rattle.x_script.specs.LineAnswers.{within, shows, explains, too_long}
+use Rattle.x_script.specs.Situations.{How, Over, without_foreign}
 use Rattle.x_script.specs.Script.{AreAnswered, then_answer}
 use Rattle.x_script.specs.Showing.{IsDumpAnswer, IsMessageAnswer, IsTypedAnswer, shown, stuck, no_type, typed, faulty, faultless, value_answer}
 use Rattle.x_compile.proofs.Compiled.{one_compilation}
 use Rattle.x_laws.specs.Showing.{ShowsAlike}
-use Rattle.x_explain.specs.KnownFiles.{no_places}
+use Rattle.x_explain.specs.Explained.{AreExplained}
+use Rattle.x_laws.proofs.OneBefore.{AreSame, one_before, one_known, over_other, same_names}
 use Rattle.x_laws.proofs.OneExplanation.{one_explanation}
 use Rattle.x_laws.proofs.OneShowing.{types_show}
 
@@ -62,18 +67,32 @@ none_left : {X : Type 0} (xs : List X) → 0 < length xs → xs ≡ [] → ⊥
 none_left [] lt e = omega (arith, lt)
 none_left (x ∷ xs) lt e = absurd cc
 
-one_dump : (known : KnownText) (text : List ℕ) (items : List Item) (name message : List ℕ) (a b : Answer) → IsDumpAnswer known text items name message a → IsDumpAnswer known text items name message b → a ≡ b
-one_dump known text items name message a b (faulty x e) (faulty y f) = e ∙ sym f
-one_dump known text items name message a b (faulty x e) (faultless t none k y) = absurd (none_left (faults_of text items) x none)
-one_dump known text items name message a b (faultless s none h x) (faulty y f) = absurd (none_left (faults_of text items) y none)
-one_dump known text items name message a b (faultless s none h x) (faultless t none' k y) = one_typed (all_definitions known items) s t name message text a b h k x y
+one_dump : (a b : KnownText) (text : List ℕ) (items : List Item) (name message : List ℕ) (x y : Answer)
+    → AreSame a b → IsDumpAnswer a text items name message x → IsDumpAnswer b text items name message y → x ≡ y
+one_dump a b text items name message x y s (faulty p e) (faulty q f) = e ∙ sym f
+one_dump a b text items name message x y s (faulty p e) (faultless t none k q) =
+    absurd (none_left (faults_of text items) p none)
+one_dump a b text items name message x y s (faultless t none h p) (faulty q f) =
+    absurd (none_left (faults_of text items) q none)
+one_dump a b text items name message x y s (faultless t none h p) (faultless u none' k q) =
+    let same : all_definitions a items ≡ all_definitions b items =
+    ap (λ ds. ds ++ definitions_of items) s.definitions in
+    one_typed (all_definitions b items) t u name message text x y (subst (λ ds. IsSchemaOf ds t) same h) k p q
 
 -- ---- a line that asks to explain the faults
 
-one_explained : (file text : List ℕ) (items : List Item) (a b : Answer) → IsExplainAnswer file text items a → IsExplainAnswer file text items b → a ≡ b
-one_explained file text items a b h k =
-    let same = one_explanation no_places (telling_of file text) items h.said k.said h.are_explained k.are_explained in
-    h.answer_is ∙ ap (λ s. answered text (explained_answer (length (faults_of text items)) s)) same ∙ sym k.answer_is
+one_explained : (how : How) (text : List ℕ) (items : List Item) (a b : Answer) → IsExplainAnswer how text items a
+    → IsExplainAnswer how text items b → a ≡ b
+one_explained how text items a b h k =
+    let names = same_names h.are_foreign.0 k.are_foreign.0
+    (one_known how.files h.are_foreign.0 k.are_foreign.0 h.are_foreign.1 k.are_foreign.1) in
+    let foreign : h.foreign ≡ k.foreign =
+    h.are_foreign.2 ∙ ap (λ n. foreign_names how.from n text items) names ∙ sym k.are_foreign.2 in
+    let t = telling_of how.file text in
+    let same = one_explanation how.places k.foreign t items h.said k.said
+    (subst (λ f. AreExplained how.places f t items h.said) foreign h.are_explained) k.are_explained in
+    h.answer_is ∙ ap (λ s. answered text (explained_answer (length (faults_of text items)) s)) same
+    ∙ sym k.answer_is
 
 -- it asks to show no value
 explains_no_value : (line : List ℕ) → explain_asked line ≡ true → dump_asked line ≡ None
@@ -87,38 +106,82 @@ asked_both o a c b d e f = let same = same_some o (a, b) (c, d) e f in (ap (λ p
 asked_none : {X : Type 0} (o : Option X) (a : X) → o ≡ None → o ≡ Some a → ⊥
 asked_none o a e f = absurd cc
 
-explained_or_not : (b : Bool) → b ≡ true → b ≡ false → ⊥
-explained_or_not b is not = absurd cc
+both_ways : (b : Bool) → b ≡ true → b ≡ false → ⊥
+both_ways b is not = absurd cc
 
 too_much : (n m : ℕ) → n ≤ m → m < n → ⊥
 too_much n m le lt = omega (arith, le, lt)
 
-pub one_line : (file base : List ℕ) (known : KnownText) (text line : List ℕ) (items : List Item) (a b : Answer) → IsLineAnswer file base known text items line a → IsLineAnswer file base known text items line b → a ≡ b
-one_line file base known text line items a b (within x none unasked e) (within y none' unasked' f) = e ∙ sym f
-one_line file base known text line items a b (within x none unasked e) (shows name message y asked f) = absurd (asked_none (dump_asked line) (name, message) none asked)
-one_line file base known text line items a b (within x none unasked e) (explains y is f) = absurd (explained_or_not (explain_asked line) is unasked)
-one_line file base known text line items a b (within x none unasked e) (too_long y f) = absurd (too_much (length line) _ x y)
-one_line file base known text line items a b (shows name message x asked e) (within y none unasked f) = absurd (asked_none (dump_asked line) (name, message) none asked)
-one_line file base known text line items a b (shows name message x asked e) (shows name' message' y asked' f) =
+-- what holds over what stands before a text has one answer, if it has one over each known text
+one_over : (how : How) (text : List ℕ) (P Q : KnownText → List Item → Type 0) (a b : Answer)
+    → ((k l : KnownText) (items : List Item) → AreSame k l → P k items → Q l items → a ≡ b)
+    → Over how text P → Over how text Q → a ≡ b
+one_over how text P Q a b each h k =
+    let same = one_before how.files how.from text h.0 k.0 h.1 k.1 in
+    let c = h.2 in
+    let d = k.2 in
+    let items = (one_compilation k.0 text c.0 d.0 c.1 d.1 (over_other h.0 k.0 text c.0 c.1 same c.2) d.2).1 in
+    each h.0 k.0 d.1 same (subst (P h.0) items c.3) d.3
+
+one_command : (how : How) (text : List ℕ) (command : Command) (a b : Answer) → IsCommandAnswer how text command a
+    → IsCommandAnswer how text command b → a ≡ b
+one_command how text command a b (alone p) (alone q) = p [] ∙ sym (q [])
+one_command how text command a b (alone p) (asks q) = p q.2.1 ∙ sym q.2.3
+one_command how text command a b (asks p) (alone q) = p.2.3 ∙ sym (q p.2.1)
+one_command how text command a b (asks p) (asks q) = one_over how text
+    (λ known items. a ≡ answer how.base text items command) (λ known items. b ≡ answer how.base text items command)
+    a b (λ k l items same e f. e ∙ sym f) p q
+
+one_dumped : (how : How) (text name message : List ℕ) (a b : Answer) → IsDumped how text name message a
+    → IsDumped how text name message b → a ≡ b
+one_dumped how text name message a b (hidden is e) (hidden is' f) = e ∙ sym f
+one_dumped how text name message a b (hidden is e) (read is' f) = absurd (both_ways how.is_plain is' is)
+one_dumped how text name message a b (read is e) (hidden is' f) = absurd (both_ways how.is_plain is is')
+one_dumped how text name message a b (read is e) (read is' f) = one_over (without_foreign how) text
+    (λ known items. IsDumpAnswer known text items name message a)
+    (λ known items. IsDumpAnswer known text items name message b) a b
+    (λ k l items alike p q. one_dump k l text items name message a b alike p q) e f
+
+pub one_line : (how : How) (text line : List ℕ) (a b : Answer) → IsLineAnswer how text line a
+    → IsLineAnswer how text line b → a ≡ b
+one_line how text line a b (within x none unasked e) (within y none' unasked' f) =
+    one_command how text (command_of line) a b e f
+one_line how text line a b (within x none unasked e) (shows name message y asked f) =
+    absurd (asked_none (dump_asked line) (name, message) none asked)
+one_line how text line a b (within x none unasked e) (explains y is f) =
+    absurd (both_ways (explain_asked line) is unasked)
+one_line how text line a b (within x none unasked e) (too_long y f) = absurd (too_much (length line) _ x y)
+one_line how text line a b (shows name message x asked e) (within y none unasked f) =
+    absurd (asked_none (dump_asked line) (name, message) none asked)
+one_line how text line a b (shows name message x asked e) (shows name' message' y asked' f) =
     let same = asked_both (dump_asked line) name name' message message' asked asked' in
-    one_dump known text items name' message' a b (subst (λ n. IsDumpAnswer known text items n message' a) same.0 (subst (λ m. IsDumpAnswer known text items name m a) same.1 e)) f
-one_line file base known text line items a b (shows name message x asked e) (explains y is f) = absurd (asked_none (dump_asked line) (name, message) (explains_no_value line is) asked)
-one_line file base known text line items a b (shows name message x asked e) (too_long y f) = absurd (too_much (length line) _ x y)
-one_line file base known text line items a b (explains x is e) (within y none unasked f) = absurd (explained_or_not (explain_asked line) is unasked)
-one_line file base known text line items a b (explains x is e) (shows name message y asked f) = absurd (asked_none (dump_asked line) (name, message) (explains_no_value line is) asked)
-one_line file base known text line items a b (explains x is e) (explains y is' f) = one_explained file text items a b e f
-one_line file base known text line items a b (explains x is e) (too_long y f) = absurd (too_much (length line) _ x y)
-one_line file base known text line items a b (too_long x e) (within y none unasked f) = absurd (too_much (length line) _ y x)
-one_line file base known text line items a b (too_long x e) (shows name message y asked f) = absurd (too_much (length line) _ y x)
-one_line file base known text line items a b (too_long x e) (explains y is f) = absurd (too_much (length line) _ y x)
-one_line file base known text line items a b (too_long x e) (too_long y f) = e ∙ sym f
+    one_dumped how text name' message' a b
+    (subst (λ n. IsDumped how text n message' a) same.0 (subst (λ m. IsDumped how text name m a) same.1 e)) f
+one_line how text line a b (shows name message x asked e) (explains y is f) =
+    absurd (asked_none (dump_asked line) (name, message) (explains_no_value line is) asked)
+one_line how text line a b (shows name message x asked e) (too_long y f) =
+    absurd (too_much (length line) _ x y)
+one_line how text line a b (explains x is e) (within y none unasked f) =
+    absurd (both_ways (explain_asked line) is unasked)
+one_line how text line a b (explains x is e) (shows name message y asked f) =
+    absurd (asked_none (dump_asked line) (name, message) (explains_no_value line is) asked)
+one_line how text line a b (explains x is e) (explains y is' f) = one_over how text
+    (λ known items. IsExplainAnswer how text items a) (λ known items. IsExplainAnswer how text items b) a b
+    (λ k l items same p q. one_explained how text items a b p q) e f
+one_line how text line a b (explains x is e) (too_long y f) = absurd (too_much (length line) _ x y)
+one_line how text line a b (too_long x e) (within y none unasked f) = absurd (too_much (length line) _ y x)
+one_line how text line a b (too_long x e) (shows name message y asked f) =
+    absurd (too_much (length line) _ y x)
+one_line how text line a b (too_long x e) (explains y is f) = absurd (too_much (length line) _ y x)
+one_line how text line a b (too_long x e) (too_long y f) = e ∙ sym f
 
 -- ---- a script
 
-pub one_script : (file base : List ℕ) (known : KnownText) (text : List ℕ) (lines : List (List ℕ)) (a b : Answer) → AreAnswered file base known text lines a → AreAnswered file base known text lines b → a ≡ b
-one_script file base known text [] a b h k = h ∙ sym k
-one_script file base known text (line ∷ lines) a b h k =
-    let items = (one_compilation known text h.0 k.0 h.1 k.1 h.2 k.2).1 in
-    let one : h.3.0 ≡ k.3.0 = one_line file base known text line k.1 h.3.0 k.3.0 (subst (λ is. IsLineAnswer file base known text is line h.3.0) items h.3.1) k.3.1 in
-    let rest : h.3.2.0 ≡ k.3.2.0 = one_script file base known k.3.0.text lines h.3.2.0 k.3.2.0 (subst (λ t. AreAnswered file base known t lines h.3.2.0) (ap (λ x. x.text) one) h.3.2.1) k.3.2.1 in
-    h.3.2.2 ∙ ap (λ x. then_answer x h.3.2.0) one ∙ ap (then_answer k.3.0) rest ∙ sym k.3.2.2
+pub one_script : (how : How) (text : List ℕ) (lines : List (List ℕ)) (a b : Answer)
+    → AreAnswered how text lines a → AreAnswered how text lines b → a ≡ b
+one_script how text [] a b h k = h ∙ sym k
+one_script how text (line ∷ lines) a b h k =
+    let one : h.0 ≡ k.0 = one_line how text line h.0 k.0 h.1 k.1 in
+    let rest : h.2.0 ≡ k.2.0 = one_script how k.0.text lines h.2.0 k.2.0
+    (subst (λ t. AreAnswered how t lines h.2.0) (ap (λ x. x.text) one) h.2.1) k.2.1 in
+    h.2.2 ∙ ap (λ x. then_answer x h.2.0) one ∙ ap (then_answer k.0) rest ∙ sym k.2.2

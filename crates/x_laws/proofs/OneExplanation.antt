@@ -7,6 +7,7 @@ use Rattle.x_compile.specs.Compile.{Item, definitions_of, places_of}
 use Rattle.x_compile.specs.declared.fault.FaultPlace.{FaultPlace}
 use Rattle.x_explain.specs.declared.found.FoundFault.{FoundFault}
 use Rattle.x_explain.specs.Explained.{AreExplained, Telling, explanation}
+use Rattle.x_explain.specs.Foreign.{ForeignName}
 use Rattle.x_explain.specs.Found.{AreFound, IsEndOfToken, IsFound}
 use Rattle.x_explain.specs.KnownFiles.{KnownPlaces}
 use Rattle.x_explain.specs.Suggestions.{AreSuggested, compared, sought, suggested}
@@ -54,10 +55,10 @@ one_near text items a b h k =
     let found = all_found text (sought (places_of items)) h.found k.found h.are_found k.are_found in
     h.list_is ∙ ap (map (suggested text (compared (definitions_of items)))) found ∙ sym k.list_is
 
-pub one_explanation : (places : KnownPlaces) (t : Telling) (items : List Item) (a b : List ℕ)
-    → AreExplained places t items a → AreExplained places t items b → a ≡ b
-one_explanation places t items a b h k =
+pub one_explanation : (places : KnownPlaces) (foreign : List ForeignName) (t : Telling) (items : List Item)
+    (a b : List ℕ) → AreExplained places foreign t items a → AreExplained places foreign t items b → a ≡ b
+one_explanation places foreign t items a b h k =
     let near = one_near t.text items h.near k.near h.are_near k.are_near in
     let errors = all_found t.text (places_of items) h.errors k.errors h.are_found k.are_found in
     let notes = all_found t.text (places_of items) h.notes k.notes h.are_found_too k.are_found_too in
-    h.said_is ∙ (λ i. explanation places t items (near i) (errors i) (notes i)) ∙ sym k.said_is
+    h.said_is ∙ (λ i. explanation places foreign t items (near i) (errors i) (notes i)) ∙ sym k.said_is

@@ -1,16 +1,20 @@
 //! Laws of what a text's types show and of what they are, each a function that does nothing and ensures the
 //! law.
 
-ghost use Rattle.std.specs.Prelude.{◌≡◌, ◌↔◌, ℕ, pos, List, [], Option, Some, IsSome, map, slice_get};
+ghost use Rattle.std.specs.Prelude.{◌≡◌, ◌≢◌, ◌↔◌, ◌≤◌, ℕ, pos, Bool, true, List, [], length, map, slice_get};
+ghost use Rattle.std.specs.Prelude.{Option, Some, IsSome};
 ghost use Rattle.std.specs.List.{All, IsAmong};
 ghost use Rattle.std.specs.Map.{lookup};
 ghost use Rattle.std.specs.Str.{bytes_eq};
+ghost use Rattle.x_text.specs.Limits.{most_text};
+ghost use Rattle.x_lex.specs.declared.kind.Kind.{Kind};
 ghost use Rattle.x_trees.specs.Gloss.{Role};
 ghost use Rattle.x_trees.specs.Tree.{Definition, Enum, Enumerator, Value};
 ghost use Rattle.x_outline.specs.Bodies.{BodyAt, bodies, enumerators};
 ghost use Rattle.x_rules.specs.Constants.{number_at};
 ghost use Rattle.x_rules.specs.Results.{Outcome, AreResults, no_names};
 ghost use Rattle.x_rules.specs.Rules.{HasRole, value_role};
+ghost use Rattle.x_rules.specs.declared.fault.RuleCode.TheVariants.{Unknown};
 ghost use Rattle.x_schema.specs.Schema.{Schema, IsProcedureAt, id_named, named_type};
 ghost use Rattle.x_schema.specs.SchemaOf.{number_in, numbers_of, words_from};
 ghost use Rattle.x_schema.specs.Schemas.{IsSchemaOf};
@@ -20,12 +24,19 @@ ghost use Rattle.x_schema.specs.declared.procedure.ProcedureNumbers.{ProcedureNu
 ghost use Rattle.x_value.specs.Dumps.{IsShown};
 ghost use Rattle.x_value.specs.Shown.{Node};
 ghost use Rattle.x_script.specs.Answers.{Answer};
-ghost use Rattle.x_compile.specs.Compile.{Item, faults_of};
+ghost use Rattle.x_compile.specs.Compile.{Item, IsCompilation, faults_of};
 ghost use Rattle.x_compile.specs.Known.{KnownText, known_names, nothing_known};
+ghost use Rattle.x_compile.specs.declared.fault.FaultCode.TheVariants.{Rule};
+ghost use Rattle.x_prelude.specs.Before.{IsBefore};
+ghost use Rattle.x_prelude.specs.declared.definition.FromC.{FromC};
+ghost use Rattle.x_prelude_laws.specs.Wholes.{EndsWhole};
 ghost use Rattle.x_script.specs.LineAnswers.{IsLineAnswer};
 ghost use Rattle.x_script.specs.Script.{AreAnswered};
+ghost use Rattle.x_script.specs.Situations.{How};
 ghost use Rattle.x_wire.specs.MessageTexts.{Told};
 ghost use Rattle.x_wire.specs.StreamTexts.{IsStreamText, IsTextOf};
+ghost use Rattle.rpcx.specs.Opening.{AreRead};
+ghost use Rattle.rpcx.specs.declared.files.known.KnownSource.{KnownSource};
 ghost use Rattle.x_laws.specs.Meant.{AreFaultless, IsAsDeclared, IsTypeName, IsUsedAsType, MeansType};
 ghost use Rattle.x_laws.specs.Meant.{number_meant, sees, words_meant};
 ghost use Rattle.x_laws.specs.Places.{IsShownAt, PlacedNode, ShowsSlice};
@@ -52,15 +63,13 @@ pub fn bodies_in_place()
         → IsShownAt s id bytes a → IsShownAt s id bytes b → a ≡ b }
 {}
 
-/// A line of a script has one answer, over what is known before a file's text, the text and its items, and
-/// the lines of a script have one list of answers, one behind another.
+/// A line of a script has one answer over a text, and the lines of a script have one list of answers, one
+/// behind another.
 pub fn one_answer()
-    ensures line { (file base : List ℕ) (known : KnownText) (text line : List ℕ) (items : List Item)
-        → (a b : Answer) → IsLineAnswer file base known text items line a
-        → IsLineAnswer file base known text items line b → a ≡ b }
-    ensures script { (file base : List ℕ) (known : KnownText) (text : List ℕ) (lines : List (List ℕ))
-        → (a b : Answer) → AreAnswered file base known text lines a
-        → AreAnswered file base known text lines b → a ≡ b }
+    ensures line { (how : How) (text line : List ℕ) (a b : Answer) → IsLineAnswer how text line a
+        → IsLineAnswer how text line b → a ≡ b }
+    ensures script { (how : How) (text : List ℕ) (lines : List (List ℕ)) (a b : Answer)
+        → AreAnswered how text lines a → AreAnswered how text lines b → a ≡ b }
 {}
 
 /// By two schemas of the same definitions messages one behind another have one text, and so has a stream.
@@ -129,4 +138,19 @@ pub fn schema_targets()
 /// Where nothing is known before a text no name is, so the laws of such texts hold of it.
 pub fn no_name_is_known()
     ensures { known_names nothing_known ≡ no_names }
+{}
+
+/// Known files that were read end whole (`whole`), where none is longer than a text may be, which no
+/// session's text is. So the laws of what stands before a text hold behind them: where any name may be taken
+/// from C, no name of the text is undeclared (`names`).
+pub fn read_files_end_whole()
+    ensures whole { (from : FromC) (names : List (List ℕ)) (files : List KnownSource) (text : List ℕ)
+        (is_plain : Bool) → All (λ f. length f.session.text ≤ most_text) files
+        → AreRead from [] true names files text is_plain → EndsWhole text }
+    ensures names { (from : FromC) (names : List (List ℕ)) (files : List KnownSource) (before : List ℕ)
+        (is_plain : Bool) (text : List ℕ) (known : KnownText) (tokens : List (Kind × ℕ)) (items : List Item)
+        → All (λ f. length f.session.text ≤ most_text) files
+        → AreRead from [] true names files before is_plain → from.foreign ≡ true
+        → length text ≤ most_text → IsBefore before from text known → IsCompilation known text tokens items
+        → All (λ f. f.code ≢ Rule Unknown) (faults_of text items) }
 {}

@@ -6,5 +6,5 @@ mod laws;
 
 pub use laws::{
     bodies_in_place, faultless_results, no_name_is_known, one_answer, one_dump, one_showing,
-    schema_numbers, schema_targets, schema_types,
+    read_files_end_whole, schema_numbers, schema_targets, schema_types,
 };

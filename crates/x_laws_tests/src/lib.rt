@@ -1,4 +1,4 @@
-//! Tests of `x_laws`: that its laws can be called.
+//! Tests of `x_laws` and `x_prelude_laws`: that their laws can be called.
 #![tactic(auto)]
 
 #[cfg(test)]

@@ -1,0 +1,4 @@
+pub mod AsOne
+pub mod Over
+pub mod Plain
+pub mod Wholes
