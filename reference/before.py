@@ -1,4 +1,5 @@
 """What comes before a text: files of known definitions, and the names that the text leaves to C."""
+import collections
 import os
 
 import rpclang
@@ -17,14 +18,32 @@ NETOBJ = b"netobj", b"typedef opaque netobj<1024>;\n"
 FIRST_NUMBER, APART = 2 ** 30, 256
 
 
+# What stands for a foreign name, which is one that the text leaves to C and that is no type of the table.
+FORMS = {
+    "constant": "const {name} = {number};\n",
+    "type": "typedef int {name};\n",
+    "struct": "struct {name} {{ opaque unknown<>; }};\n",
+    "union": "union {name} switch (int known) {{ case 0: void; default: void; }};\n",
+    "enum": "enum {name} {{ {name}__ = {number} }};\n",
+}
+KEYWORDS = "struct", "union", "enum"
+# A foreign name: its number, and each mention of it with the item where it stands.
+Foreign = collections.namedtuple("Foreign", "name number mentions")
+
+
 def lacking(compilation):
-    """The names that a text uses and nobody declares, in the order of their first uses, each with that."""
+    """The names that a text uses and nobody declares, in the order of their first mentions, each with all of
+    them."""
     uses = {}
-    for definition in compilation.definitions:
+    for item, definition in enumerate(compilation.definitions):
         for mention in rpclang.mentioned(definition) if definition is not None else []:
             if mention.name not in compilation.first:
-                uses.setdefault(mention.name, mention)
+                uses.setdefault(mention.name, []).append((item, mention))
     return uses
+
+
+def is_type_of_c(name):
+    return name in C_TYPES or name == NETOBJ[0]
 
 
 def c_types(names):
@@ -33,35 +52,30 @@ def c_types(names):
     return told + [NETOBJ[1]] * (NETOBJ[0] in names)
 
 
-def foreign(use, number):
-    """The definition of a name that is C's own, by how it is used."""
-    form = {
-        "constant": "const {name} = {number};\n",
-        "type": "typedef opaque {name}<>;\n",
-        "struct": "struct {name} {{ opaque unknown<>; }};\n",
-        "union": "union {name} switch (int known) {{ case 0: void; default: void; }};\n",
-        "enum": "enum {name} {{ {name}__ = {number} }};\n",
-    }[use.needs]
-    return form.format(name=use.name.decode(), number=number).encode()
+def foreign_names(names, types):
+    """Those of the names that are no types of the table, if that is asked; all names count for the numbers."""
+    return [Foreign(name, FIRST_NUMBER + APART * k, mentions) for k, (name, mentions) in enumerate(names.items())
+            if not (types and is_type_of_c(name))]
 
 
-def taken_from_c(compilation, types, foreigners):
-    """The text of the definitions that a text lacks, as far as they are taken from C."""
-    names = lacking(compilation)
-    told = c_types(names) if types else []
-    for k, use in enumerate(names.values()):
-        if foreigners and not (types and (use.name in C_TYPES or use.name == NETOBJ[0])):
-            told.append(foreign(use, FIRST_NUMBER + APART * k))
-    return b"".join(told)
+def foreign_definition(name, number, mentions):
+    """What stands for a foreign name: by the first keyword before a mention of it, or else by the first mention."""
+    needs = [mention.needs for _, mention in mentions]
+    form = FORMS[next((need for need in needs if need in KEYWORDS), needs[0])]
+    return form.format(name=name.decode(), number=number).encode()
 
 
 def compiled(text, known, types=False, foreigners=False):
     """A text, before which definitions are known, and those that it lacks as far as they are taken from C."""
     compilation = rpclang.Compilation(text, known)
-    added = taken_from_c(compilation, types, foreigners)
-    if not added:
-        return compilation
-    return rpclang.Compilation(text, rpclang.Compilation(added, known).known_behind(None))
+    names = lacking(compilation)
+    foreign = foreign_names(names, types) if foreigners else []
+    added = c_types(names) if types else []
+    added += [foreign_definition(*name) for name in foreign]
+    if added:
+        compilation = rpclang.Compilation(text, rpclang.Compilation(b"".join(added), known).known_behind(None))
+    compilation.foreign = [(item, mention.place) for item, mention in (name.mentions[0] for name in foreign)]
+    return compilation
 
 
 class Faulty(Exception):
@@ -81,11 +95,16 @@ def known_of(files, types=False, foreigners=False):
     C as a text may."""
     known = rpclang.NOTHING
     for path, text in files:
-        added = taken_from_c(rpclang.Compilation(text, known), types, foreigners)
-        if added:
-            known = rpclang.Compilation(added, known).known_behind(None)
-        compilation = rpclang.Compilation(text, known)
+        compilation = compiled(text, known, types, foreigners)
         if compilation.faults:
             raise Faulty(path, compilation)
         known = compilation.known_behind(os.fsencode(path))
     return known
+
+
+def known_to_values(files, types=False):
+    """What is known where no name is foreign; None where a file has a fault then."""
+    try:
+        return known_of(files, types)
+    except Faulty:
+        return None

@@ -1,7 +1,9 @@
 """Lines of cpp put into random texts, and edits that put some there, change them and take them away."""
 import re
 
-WORDS = b"if if if if( ifdef ifdef ifndef else elif endif include define iffy if0 ifdef_ 12".split() + [b""]
+WORDS = b"if if if if( ifdef ifdef ifndef else else elif endif endif include define iffy if0 ifdef_ 12".split() + [b""]
+WORDS += [b"elifdef", b"elifndef", b"elsewhere"]
+BETWEEN = [b"", b"", b"", b"\n", b" \t\r\n", b"/* c */\n", b"/*\n#if\n*/ /**/\n", b"%\n", b";\n", b"#\n"]
 BLANKS = [b"", b"", b"", b"", b" ", b"\t", b"  \t"]
 PLAIN = [b" A", b" B", b" 12", b" <x.h>", b' "x.h"', b" (", b")", b" {", b" }", b";", b" #", b"\t", b" const"]
 ODD = [b"/*", b"*/", b"/*/", b"*", b"/", b" /* c */", b"\\", b"\r", b"\f", b"%", b"'"]
@@ -17,8 +19,17 @@ def piece(chance):
     return chance.choice(PLAIN if chance.random() < 0.8 else ODD)
 
 
+def guard(chance):
+    """An include guard, or much like one."""
+    begins = chance.choice([b"#ifndef", b"#ifndef", b" # ifndef", b"#ifdef", b"#if"])
+    names = chance.choice([(b" A", b" A"), (b" A", b"\tA"), (b" A_X", b" A_X 1"), (b" A", b" AA"), (b"", b"")])
+    return begins + names[0] + b"\n" + chance.choice(BETWEEN) + b"#define" + names[1]
+
+
 def line(chance):
-    """A line of cpp or much like one, without its end."""
+    """A line of cpp or much like one, without its end; or two that are a guard."""
+    if chance.random() < 0.06:
+        return guard(chance)
     front = chance.choice(BLANKS) + b"#" + chance.choice(BLANKS) + chance.choice(WORDS)
     rest = b"".join(piece(chance) for _ in range(chance.choice([0, 1, 1, 2, 4])))
     return front + rest + b"\\" * (chance.random() < 0.1)

@@ -1,4 +1,5 @@
-"""Faults as `rpcgen --explain` shows them: each with its sentence, its line of the text, a mark and what helps."""
+"""Faults as `rpcgen --explain` shows them: each with its sentence, its line of the text, a mark and what helps.
+Names that the text leaves to C are told behind them."""
 import functools
 
 import rpclang
@@ -222,16 +223,23 @@ def explained(path, compilation, fault):
     return told
 
 
+def taken_from_c(path, compilation, item, place):
+    """That a name is C's, at its first mention."""
+    token = compilation.items[item][place]
+    at = rpclang.line_and_column(compilation.text, token.start)
+    return b"%s:%d:%d: note: '%s' is taken from C\n" % (path, *at, token.text)
+
+
 def counted(number, noun):
     return f"{number} {noun}" + ("" if number == 1 else "s")
 
 
 def explanation(path, compilation):
-    """The errors, then the faults that come of others, and how many there are."""
+    """The errors, then the faults that come of others and the foreign names, and how many there are."""
     errors = [fault for fault in compilation.faults if fault.code != NOTE]
-    notes = [fault for fault in compilation.faults if fault.code == NOTE]
-    told = [explained(path, compilation, fault) for fault in errors]
-    told += [headline(path, compilation, fault) for fault in notes]
+    notes = [headline(path, compilation, fault) for fault in compilation.faults if fault.code == NOTE]
+    notes += [taken_from_c(path, compilation, *at) for at in compilation.foreign]
+    told = [explained(path, compilation, fault) for fault in errors] + notes
     summary = counted(len(errors), "error")
     if notes:
         summary += ", " + counted(len(notes), "note")

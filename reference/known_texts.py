@@ -1,4 +1,5 @@
-"""Random texts that are cut into known files and a text over them, and names of C in their definitions."""
+"""Random texts that are cut into known files and a text over them, and names of C in their definitions; and
+edits that bring such names, change how they are used, declare them and take them away."""
 import before
 import random_texts
 import rpclang
@@ -27,6 +28,61 @@ def with_names(chance, text, share):
             last = token.text if word == token.text else last
         told.append(word)
     return b"".join(told)
+
+
+# Uses of one name: as a type, also after a keyword, and as a constant.
+USES = [b"%s a%d;", b"%s *a%d;", b"%s a%d<>;", b"%s a%d[2];", b"struct %s a%d;", b"struct %s *a%d;",
+        b"union %s a%d;", b"union %s *a%d;", b"enum %s a%d;", b"enum %s a%d<>;"]
+CONSTANT_USES = [b"int a%d[%s];", b"opaque a%d<%s>;", b"string a%d<%s>;"]
+SWITCHES = [b"%s d", b"%s d", b"%s d", b"enum %s d", b"struct %s d", b"%s *d", b"%s d<>"]
+
+
+def use(chance, name, k):
+    """A field that uses the name."""
+    if chance.random() < 0.2:
+        return chance.choice(CONSTANT_USES) % (k, name)
+    return chance.choice(USES) % (name, k)
+
+
+def uses(chance):
+    """A definition that uses one name or a few of them several times, or one by which a union is switched."""
+    names = chance.sample(NAMES + [b"u_int", b"char", b"quad_t"], chance.choice([1, 1, 2, 3]))
+    fields = [use(chance, chance.choice(names), k) for k in range(chance.choice([1, 2, 3, 4]))]
+    own = chance.randrange(100)
+    if chance.random() < 0.4:
+        return b"struct s9_%d { %s };\n" % (own, b" ".join(fields))
+    cases = [b"case %s: %s" % (chance.choice(NAMES + [b"1", b"-1", b"4294967295", b"1073741824"]), field)
+             for field in fields]
+    switch = chance.choice(SWITCHES) % chance.choice(names)
+    return b"union u8_%d switch (%s) { %s default: void; };\n" % (own, switch, b" ".join(cases))
+
+
+def declaring(chance):
+    """A definition of a name that may be C's."""
+    name = chance.choice(NAMES + [b"u_int", b"char", b"netobj"])
+    return chance.choice([b"typedef int %s;\n", b"typedef hyper %s;\n", b"const %s = 3;\n", b"struct %s { int a; };\n",
+                          b"enum %s { E9 };\n", b"typedef bool %s;\n"]) % name
+
+
+def edit_of_names(chance, text):
+    """An edit that brings a name or a keyword before one, changes a name, declares one or takes a part away."""
+    tokens = [token for token in rpclang.tokens_of(text) if token.kind != "Space"]
+    names = [token for token in tokens if token.kind == "Name"]
+    basic = [token for token in tokens if token.text in random_texts.BASIC or token.kind == "Number"]
+    way = chance.random()
+    if way < 0.35 or not names:
+        at = chance.choice([0, 0, len(text), chance.choice(tokens).end if tokens else 0])
+        return at, at, chance.choice([uses, uses, declaring])(chance)
+    if way < 0.6 and basic:
+        token = chance.choice(basic)
+        return token.start, token.end, chance.choice(NAMES + NAMES_OF_C)
+    token = chance.choice(names)
+    if way < 0.7:
+        return token.start, token.start, chance.choice([b"struct ", b"union ", b"enum "])
+    if way < 0.85:
+        return token.start, token.end, chance.choice(NAMES + [b"int", b"u_int", b"5"])
+    end = text.find(b";", token.start) + 1
+    return token.start, end or token.end, b""
 
 
 def items_of(text):

@@ -413,12 +413,26 @@ def lines_of_cpp():
             (b"#a /* b\nc */ d\n#e */*/ / * ** // /\n", b"   /*  \nc */ d\n   */*/            \n", []),
             (b"#a *\n/ b\n#*\\\n/\n", b"    \n/ b\n   \n \n", []),
             # The word is a whole one.
-            (b"  #  ifdef X /* y\n#iffy\n", b"             /*  \n     \n", [(2, 17)]),
+            (b"  #  ifdef X /* y */\n#iffy\n", b"             /*   */\n     \n", [(2, 20)]),
             (b"#ifndef\n#if(1)\n# if\xc3\xa9\r\n#elif x\n#if0\n#if_\n#i\\\nf",
              b"       \n      \n      \r\n       \n    \n    \n   \n ", [(0, 7), (8, 14), (15, 21)]),
             (b"#if x\r", b"      ", [(0, 6)]),
+            # A line that begins within a comment is none of cpp; a line with % in front begins no comment.
+            (b"/*\n#if x\n*/#if\n#if /*/ y\n#b\n*/\n", b"/*\n#if x\n*/#if\n    /*/  \n#b\n*/\n", [(15, 24)]),
+            (b"%/*\n#if\n# 1 /*\n#if\n", b"%/*\n   \n# 1 /*\n   \n", [(4, 7), (15, 18)]),
+            # Guards have no hint.
+            (b"#ifndef A\n\n/*\n*/ /**/\n#define A\n", b"         \n\n/*\n*/ /**/\n         \n", []),
+            (b"#ifndef A\n#define AB", b"         \n          ", [(0, 9)]),
+            (b"#ifndef A\nb\n#define A", b"         \nb\n         ", [(0, 9)]),
+            (b"#ifdef A\n#define A", b"        \n         ", [(0, 8)]),
             ]:
         same((directives.blanked(text), directives.conditionals(text)), (blanked, conditionals))
+    text = b"a\n#if\nb\n#else\nc\n#if\nd\n#endif\ne\n#elif\nf\n#endif\ng\n#endif\nh\n#elifdef\ni\n#endif\nj"
+    later = [chr(text[at]) for at in range(len(text)) if text[at - 1:at] in (b"", b"\n")
+             and directives.in_later_branch(text, at)]
+    same("".join(later), "#c#d#e#f#i")
+    same(directives.defined(b"#define A 1 // b\n#define C 2 /* d\n#define E 3\n*/\n#define F 4 //\\\n#define G 5"),
+         [(b"A", b"1"), (b"C", b"2")])
 
 
 def programs():

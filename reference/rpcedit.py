@@ -1,6 +1,6 @@
 #!/usr/bin/env python3
-"""rpcedit [--known FILE].. FILE: answers the lines of standard input about the text of FILE, and compiles it
-anew at each question."""
+"""rpcedit [--known FILE].. [--c-types] [--foreign] FILE: answers the lines of standard input about the text of
+FILE, and compiles it anew at each question."""
 import getopt
 import os
 import re
@@ -32,22 +32,34 @@ def standard_output():
 
 
 class Session:
-    """The text of one file. A line's answer depends on the text, the file's name and what is known before the
-    text alone."""
+    """The text of one file. A line's answer depends on the text, the file's name, what is known before the text
+    and what is taken from C alone."""
 
-    def __init__(self, file, text, known=rpclang.NOTHING):
+    def __init__(self, file, text, known=rpclang.NOTHING, types=False, foreigners=False, known_to_values=None):
+        """`known_to_values` is what is known where no name is foreign, if names may be; None where that has a
+        fault."""
         self.file = file
         self.base = base_of(file)
         self.text = text
-        # Its answers have no places in known files.
-        self.known = known._replace(places={})
+        self.known, self.types, self.foreigners = known, types, foreigners
+        self.known_to_values = known_to_values
         self.refused = False
-        self.last = None
+        self.last = self.last_to_values = None
 
     def compiled(self):
         if self.last is None or self.last.text != self.text:
-            self.last = rpclang.Compilation(self.text, self.known)
+            self.last = before.compiled(self.text, self.known, self.types, self.foreigners)
         return self.last
+
+    def compiled_to_values(self):
+        """What values are read by: no name is foreign. None where what is known has a fault then."""
+        if not self.foreigners:
+            return self.compiled()
+        if self.known_to_values is None:
+            return None
+        if self.last_to_values is None or self.last_to_values.text != self.text:
+            self.last_to_values = before.compiled(self.text, self.known_to_values, self.types)
+        return self.last_to_values
 
     def refuse(self, answer):
         self.refused = True
@@ -79,9 +91,13 @@ class Session:
             text = texts.text_of(line.decode(), self.base, self.compiled())
             return b"text %d\n" % len(text) + text
         if match := DUMP.fullmatch(line):
-            answer = values.dump_answer(self.compiled(), match[1], bytes.fromhex((match[2] or b"").decode()))
+            answer = self.dump(match[1], bytes.fromhex((match[2] or b"").decode()))
             return answer if answer.startswith(b"value") else self.refuse(answer)
         return self.refuse(b"refused 43 BadLine\n")
+
+    def dump(self, name, data):
+        compilation = self.compiled_to_values()
+        return b"refused 40 Faulty\n" if compilation is None else values.dump_answer(compilation, name, data)
 
     def edit(self, start, end, insert):
         if start > end or end > len(self.text):
@@ -115,17 +131,28 @@ def read_whole(path):
 def opened(words):
     """The session that the words ask for."""
     try:
-        options, files = getopt.gnu_getopt(words, "", ["known="])
+        options, files = getopt.gnu_getopt(words, "", ["known=", "c-types", "foreign"])
     except getopt.GetoptError as error:
         raise Stop(2, error) from None
     if len(files) != 1:
         raise Stop(2, "one FILE is wanted")
+    names = [name for name, value in options]
+    from_c = "--c-types" in names, "--foreign" in names
+    paths = [path for name, path in options if name == "--known"]
+    read = []
+
+    def reading():
+        """Each file is read once those before it are known."""
+        for path in paths:
+            read.append((path, read_whole(path)))
+            yield read[-1]
     try:
-        known = before.known_of((path, read_whole(path)) for option, path in options)
+        known = before.known_of(reading(), *from_c)
     except before.Faulty as faulty:
         os.write(2, before.told_faults(*faulty.args))
         raise Stop(1, None) from None
-    return Session(os.fsencode(files[0]), read_whole(files[0]), known)
+    text = read_whole(files[0])
+    return Session(os.fsencode(files[0]), text, known, *from_c, before.known_to_values(read, from_c[0]))
 
 
 def main(words):

@@ -844,6 +844,7 @@ class Compilation:
         self.faults = []
         self.faulty = set()
         self.schema = None          # that of values.py, once it is asked for
+        self.foreign = []           # by before.py: item and place of the first mention of each foreign name
         for item, (kind, found) in enumerate(parses):
             if kind == "fault":
                 self.tell(item, [found])

@@ -32,6 +32,8 @@ WIDTHS = {"utf-8": lambda character: len(character.encode()), "utf-16": lambda c
 GREATEST_TEXT = 16_777_216
 INVALID_PARAMS = -32602
 CAPABILITIES = {"textDocumentSync": {"openClose": True, "change": 2}}
+# Duplicate and RepeatedField.
+TWICE = (20, 32)
 UNREAD = "14 Directive: not read: both branches of #if are"
 
 
@@ -154,11 +156,25 @@ def hint(lines, start, end):
             "range": {"start": lines.place(start), "end": lines.place(end)}}
 
 
+def is_told(lines, setting, compilation, fault):
+    """Whether a fault is told: not what is declared again in another branch of cpp."""
+    token = compilation.items[fault.item][fault.token]
+    return not (setting.blanks and fault.code in TWICE and directives.in_later_branch(lines.bytes, token.start))
+
+
+def foreign_hint(lines, token):
+    """What is told of a foreign name at its first mention."""
+    return {"code": 21, "message": f"21 Unknown: '{token.text.decode()}' is taken from C", "severity": 4, "source": "rpcgen",
+            "range": lines.range(token)}
+
+
 def diagnostics(lines, setting):
     compilation = setting.compiled(lines.bytes)
-    told = [diagnostic(lines, compilation, fault) for fault in compilation.faults]
+    told = [diagnostic(lines, compilation, fault) for fault in compilation.faults
+            if is_told(lines, setting, compilation, fault)]
     if setting.blanks:
         told += [hint(lines, *places) for places in directives.conditionals(lines.bytes)]
+    told += [foreign_hint(lines, compilation.items[item][place]) for item, place in compilation.foreign]
     return told
 
 

@@ -28,6 +28,9 @@ generated() {
 
 put() { printf %b "$1" >t.x; }
 
+# hex TEXT: its bytes as digits, for a line that edits.
+hex() { printf %b "$1" | od -An -v -tx1 | tr -d ' \n'; }
+
 # known TEXT: the same into k.x, a file of definitions that are known.
 known() { printf %b "$1" >k.x; }
 
