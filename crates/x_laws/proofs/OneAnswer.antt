@@ -1,5 +1,6 @@
 -- A line of a script has one answer.
-use Rattle.std.proofs.Common.{◌≡◌, ℕ, ◌<◌, ◌≤◌, Bool, true, false, List, [], ◌∷◌, ◌++◌, length, Option, None, Some, sym, ap, subst, ◌∙◌, arith}
+use Rattle.std.proofs.Common.{◌≡◌, ℕ, ◌<◌, ◌≤◌, Bool, true, false, List, [], ◌∷◌, ◌++◌, length, Option, None}
+use Rattle.std.proofs.Common.{Some, sym, ap, subst, ◌∙◌, arith}
 use Rattle.std.specs.Prelude.{codes}
 use Rattle.std.proofs.lemmas.Slice.Eq.{bytes_eq-Decides}
 use Rattle.x_trees.specs.Tree.{Definition}
@@ -21,7 +22,8 @@ use Rattle.x_script.specs.LineAnswers.{IsCommandAnswer, IsDumped, IsLineAnswer, 
 use Rattle.x_script.specs.LineAnswers.{within, shows, explains, too_long}
 use Rattle.x_script.specs.Situations.{How, Over, without_foreign}
 use Rattle.x_script.specs.Script.{AreAnswered, then_answer}
-use Rattle.x_script.specs.Showing.{IsDumpAnswer, IsMessageAnswer, IsTypedAnswer, shown, stuck, no_type, typed, faulty, faultless, value_answer}
+use Rattle.x_script.specs.Showing.{IsDumpAnswer, IsMessageAnswer, IsTypedAnswer, shown, stuck, no_type, typed}
+use Rattle.x_script.specs.Showing.{faulty, faultless, value_answer}
 use Rattle.x_compile.proofs.Compiled.{one_compilation}
 use Rattle.x_laws.specs.Showing.{ShowsAlike}
 use Rattle.x_explain.specs.Explained.{AreExplained}
@@ -31,19 +33,25 @@ use Rattle.x_laws.proofs.OneShowing.{types_show}
 
 -- ---- a line that asks to show a value
 
-one_message : (s : Schema) (id : TypeId) (message text : List ℕ) (a b : Answer) → IsMessageAnswer s id message text a → IsMessageAnswer s id message text b → a ≡ b
+one_message : (s : Schema) (id : TypeId) (message text : List ℕ) (a b : Answer)
+    → IsMessageAnswer s id message text a → IsMessageAnswer s id message text b → a ≡ b
 one_message s id message text a b (shown ns x e) (shown ms y k) =
     let same = reading.one_showing s id message ns ms x y in
     e ∙ ap (λ n. answered text (value_answer n)) same ∙ sym k
-one_message s id message text a b (shown ns x e) (stuck at code y m k) = absurd (not_both s id message at code m (x.0, x.1, x.2) y)
-one_message s id message text a b (stuck at code x m e) (shown ns y k) = absurd (not_both s id message at code m (y.0, y.1, y.2) x)
+one_message s id message text a b (shown ns x e) (stuck at code y m k) = absurd
+    (not_both s id message at code m (x.0, x.1, x.2) y)
+one_message s id message text a b (stuck at code x m e) (shown ns y k) = absurd
+    (not_both s id message at code m (y.0, y.1, y.2) x)
 one_message s id message text a b (stuck at code x m e) (stuck at' code' y m' k) =
     let same = one_refusal s id message at at' code code' m m' x y in
-    e ∙ ap (λ n. refused text (fault_line n code)) same.0 ∙ ap (λ c. refused text (fault_line at' c)) same.1 ∙ sym k
+    e ∙ ap (λ n. refused text (fault_line n code)) same.0 ∙ ap (λ c. refused text (fault_line at' c))
+    same.1 ∙ sym k
 
-message_other : (s t : Schema) (id other : TypeId) (message text : List ℕ) (a : Answer) → ShowsAlike s t id other → IsMessageAnswer s id message text a → IsMessageAnswer t other message text a
+message_other : (s t : Schema) (id other : TypeId) (message text : List ℕ) (a : Answer)
+    → ShowsAlike s t id other → IsMessageAnswer s id message text a → IsMessageAnswer t other message text a
 message_other s t id other message text a h (shown ns x e) = shown ns (h.nodes message ns x) e
-message_other s t id other message text a h (stuck at code x m e) = stuck at code (h.refusals message at code x) m e
+message_other s t id other message text a h (stuck at code x m e) = stuck at code
+    (h.refusals message at code x) m e
 
 same_some : {X : Type 0} (o : Option X) (a b : X) → o ≡ Some a → o ≡ Some b → a ≡ b
 same_some o a b e f = cc
@@ -51,7 +59,8 @@ same_some o a b e f = cc
 none_some : (o : Option TypeId) (a : TypeId) → o ≡ None → o ≡ Some a → ⊥
 none_some o a e f = absurd cc
 
-one_typed : (ds : List (Option Definition)) (s t : Schema) (name message text : List ℕ) (a b : Answer) → IsSchemaOf ds s → IsSchemaOf ds t
+one_typed : (ds : List (Option Definition)) (s t : Schema) (name message text : List ℕ) (a b : Answer)
+    → IsSchemaOf ds s → IsSchemaOf ds t
     → IsTypedAnswer s name message text a → IsTypedAnswer t name message text b → a ≡ b
 one_typed ds s t name message text a b h k (no_type x e) (no_type y f) = e ∙ sym f
 one_typed ds s t name message text a b h k (no_type x e) (typed id y f) =
@@ -61,14 +70,16 @@ one_typed ds s t name message text a b h k (typed id x e) (no_type y f) =
 one_typed ds s t name message text a b h k (typed id x e) (typed id' y f) =
     let other = types_show ds s t h k name id x in
     let same : other.0 ≡ id' = same_some (id_named t name) other.0 id' other.1 y in
-    one_message t id' message text a b (subst (λ i. IsMessageAnswer t i message text a) same (message_other s t id other.0 message text a other.2 e)) f
+    one_message t id' message text a b (subst (λ i. IsMessageAnswer t i message text a) same
+    (message_other s t id other.0 message text a other.2 e)) f
 
 none_left : {X : Type 0} (xs : List X) → 0 < length xs → xs ≡ [] → ⊥
 none_left [] lt e = omega (arith, lt)
 none_left (x ∷ xs) lt e = absurd cc
 
 one_dump : (a b : KnownText) (text : List ℕ) (items : List Item) (name message : List ℕ) (x y : Answer)
-    → AreSame a b → IsDumpAnswer a text items name message x → IsDumpAnswer b text items name message y → x ≡ y
+    → AreSame a b → IsDumpAnswer a text items name message x → IsDumpAnswer b text items name message y
+    → x ≡ y
 one_dump a b text items name message x y s (faulty p e) (faulty q f) = e ∙ sym f
 one_dump a b text items name message x y s (faulty p e) (faultless t none k q) =
     absurd (none_left (faults_of text items) p none)
@@ -81,7 +92,8 @@ one_dump a b text items name message x y s (faultless t none h p) (faultless u n
 
 -- ---- a line that asks to explain the faults
 
-one_explained : (how : How) (text : List ℕ) (items : List Item) (a b : Answer) → IsExplainAnswer how text items a
+one_explained : (how : How) (text : List ℕ) (items : List Item) (a b : Answer)
+    → IsExplainAnswer how text items a
     → IsExplainAnswer how text items b → a ≡ b
 one_explained how text items a b h k =
     let names = same_names h.are_foreign.0 k.are_foreign.0
@@ -100,8 +112,13 @@ explains_no_value line is = ap dump_asked ((bytes_eq-Decides line (codes "explai
 
 -- ---- a line
 
-asked_both : {X Y : Type 0} (o : Option (X × Y)) (a c : X) (b d : Y) → o ≡ Some (a, b) → o ≡ Some (c, d) → (a ≡ c) × (b ≡ d)
-asked_both o a c b d e f = let same = same_some o (a, b) (c, d) e f in (ap (λ p. p.0) same, ap (λ p. p.1) same)
+asked_both : {X Y : Type 0} (o : Option (X × Y)) (a c : X) (b d : Y) → o ≡ Some (a, b) → o ≡ Some (c, d)
+    → (a ≡ c) × (b ≡ d)
+asked_both o a c b d e f = let same = same_some o (a, b) (c, d) e f in (
+  ap (λ p. p.0) same,
+  ap (λ p. p.1)
+      same,
+)
 
 asked_none : {X : Type 0} (o : Option X) (a : X) → o ≡ None → o ≡ Some a → ⊥
 asked_none o a e f = absurd cc
@@ -123,13 +140,15 @@ one_over how text P Q a b each h k =
     let items = (one_compilation k.0 text c.0 d.0 c.1 d.1 (over_other h.0 k.0 text c.0 c.1 same c.2) d.2).1 in
     each h.0 k.0 d.1 same (subst (P h.0) items c.3) d.3
 
-one_command : (how : How) (text : List ℕ) (command : Command) (a b : Answer) → IsCommandAnswer how text command a
+one_command : (how : How) (text : List ℕ) (command : Command) (a b : Answer)
+    → IsCommandAnswer how text command a
     → IsCommandAnswer how text command b → a ≡ b
 one_command how text command a b (alone p) (alone q) = p [] ∙ sym (q [])
 one_command how text command a b (alone p) (asks q) = p q.2.1 ∙ sym q.2.3
 one_command how text command a b (asks p) (alone q) = p.2.3 ∙ sym (q p.2.1)
 one_command how text command a b (asks p) (asks q) = one_over how text
-    (λ known items. a ≡ answer how.base text items command) (λ known items. b ≡ answer how.base text items command)
+    (λ known items. a ≡ answer how.base text items command)
+    (λ known items. b ≡ answer how.base text items command)
     a b (λ k l items same e f. e ∙ sym f) p q
 
 one_dumped : (how : How) (text name message : List ℕ) (a b : Answer) → IsDumped how text name message a

@@ -51,7 +51,8 @@ one_prelude files from text a b h k =
     let definitions = same_definitions h.2.0 k.2.0 text mine.0 other.0 mine.1 other.1 mine.2 other.2 in
     mine.3 ∙ (λ i. prelude from (names i) (definitions i)) ∙ sym other.3
 
-pub one_before : (files : List ℕ) (from : FromC) (text : List ℕ) (a b : KnownText) → IsBefore files from text a
+pub one_before : (files : List ℕ) (from : FromC) (text : List ℕ) (a b : KnownText)
+    → IsBefore files from text a
     → IsBefore files from text b → AreSame a b
 one_before files from text a b h k =
     let lacking = one_prelude files from text h.1.0 k.1.0 h.1.1 k.1.1 in

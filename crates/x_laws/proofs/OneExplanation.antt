@@ -1,5 +1,6 @@
 -- The faults of a text are explained in one way.
-use Rattle.std.proofs.Common.{◌≡◌, ℕ, ◌-◌, ◌≤◌, inl, inr, Option, List, [], ◌∷◌, length, map, drop, length-drop, arith, refl, sym, ap, ◌∙◌}
+use Rattle.std.proofs.Common.{◌≡◌, ℕ, ◌-◌, ◌≤◌, inl, inr, Option, List, [], ◌∷◌, length, map, drop}
+use Rattle.std.proofs.Common.{length-drop, arith, refl, sym, ap, ◌∙◌}
 use Rattle.x_lex.specs.declared.kind.Kind.{Kind}
 use Rattle.x_lex.specs.Places.{IsTokenAt, is_line_start}
 use Rattle.x_lex.proofs.TilingLemmas.{word_spans}
@@ -13,7 +14,8 @@ use Rattle.x_explain.specs.KnownFiles.{KnownPlaces}
 use Rattle.x_explain.specs.Suggestions.{AreSuggested, compared, sought, suggested}
 
 -- a token has bytes, all of them of the text
-starts_within : (text : List ℕ) (kind : Kind) (start end : ℕ) → IsTokenAt text kind start end → length text ≤ start → ⊥
+starts_within : (text : List ℕ) (kind : Kind) (start end : ℕ) → IsTokenAt text kind start end
+    → length text ≤ start → ⊥
 starts_within text kind start end t far =
     let spans = word_spans kind (is_line_start text start) (drop start text) (end - start) t.word in
     let some = spans.some in
@@ -26,7 +28,8 @@ neither_longer n m le ge = omega (arith, le, ge)
 
 -- the token that starts at a place ends at one
 one_end : (text : List ℕ) (start a b : ℕ) → IsEndOfToken text start a → IsEndOfToken text start b → a ≡ b
-one_end text start a b (inl (kind, t)) (inl (kind', u)) = neither_longer a b (u.longest kind a t.word) (t.longest kind' b u.word)
+one_end text start a b (inl (kind, t)) (inl (kind', u)) = neither_longer a b (u.longest kind a t.word)
+    (t.longest kind' b u.word)
 one_end text start a b (inl (kind, t)) (inr (far, k)) = absurd (starts_within text kind start a t far)
 one_end text start a b (inr (far, e)) (inl (kind, u)) = absurd (starts_within text kind start b u far)
 one_end text start a b (inr (far, e)) (inr (far', k)) = e ∙ sym k
@@ -38,7 +41,8 @@ one_found text f d e h k =
     let end = one_end text f.start d.end e.end h.end k.end in
     λ i. record { code = code i; start = start i; end = end i }
 
-all_found : (text : List ℕ) (fs : List FaultPlace) (ds es : List FoundFault) → AreFound text fs ds → AreFound text fs es → ds ≡ es
+all_found : (text : List ℕ) (fs : List FaultPlace) (ds es : List FoundFault) → AreFound text fs ds
+    → AreFound text fs es → ds ≡ es
 all_found text [] [] [] h k = refl
 all_found text [] [] (e ∷ es) h k = absurd k
 all_found text [] (d ∷ ds) es h k = absurd h
@@ -50,7 +54,8 @@ all_found text (f ∷ fs) (d ∷ ds) (e ∷ es) h k =
     λ i. one i ∷ rest i
 
 -- for its undeclared words the same is suggested
-one_near : (text : List ℕ) (items : List Item) (a b : List (ℕ × Option (List ℕ))) → AreSuggested text items a → AreSuggested text items b → a ≡ b
+one_near : (text : List ℕ) (items : List Item) (a b : List (ℕ × Option (List ℕ))) → AreSuggested text items a
+    → AreSuggested text items b → a ≡ b
 one_near text items a b h k =
     let found = all_found text (sought (places_of items)) h.found k.found h.are_found k.are_found in
     h.list_is ∙ ap (map (suggested text (compared (definitions_of items)))) found ∙ sym k.list_is

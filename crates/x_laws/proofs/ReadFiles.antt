@@ -31,7 +31,8 @@ behind from front plain [] (f ∷ fs) text is_plain short ends read = absurd rea
 behind from front plain (n ∷ ns) [] text is_plain short ends read = absurd read
 behind from front plain (n ∷ ns) (f ∷ fs) text is_plain short ends read =
     let own = f.session.text in
-    let whole = next_whole front from f.session.known own read.3 ends (All-head IsShort f fs short) read.5 read.2 in
+    let whole = next_whole front from f.session.known own read.3 ends (All-head IsShort f fs short)
+    read.5 read.2 in
     behind from (front ++ read.3 ++ own ++ codes "\n") (plain && bytes_eq read.3 read.4) ns fs text is_plain
     (All-tail IsShort f fs short) whole read.7
 
