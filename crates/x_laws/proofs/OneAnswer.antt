@@ -1,7 +1,7 @@
 -- A line of a script has one answer.
 use Rattle.std.proofs.Common.{◌≡◌, ℕ, ◌<◌, ◌≤◌, Bool, true, false, List, [], ◌∷◌, ◌++◌, length, Option, None}
-use Rattle.std.proofs.Common.{Some, sym, ap, subst, ◌∙◌, arith}
-use Rattle.std.specs.Prelude.{codes}
+use Rattle.std.proofs.Common.{Some, refl, sym, ap, subst, ◌∙◌, arith}
+use Rattle.std.specs.Prelude.{codes, option_and_then}
 use Rattle.std.proofs.lemmas.Slice.Eq.{bytes_eq-Decides}
 use Rattle.x_trees.specs.Tree.{Definition}
 use Rattle.x_schema.specs.Schema.{Schema, id_named}
@@ -10,17 +10,26 @@ use Rattle.x_schema.specs.declared.schema.TypeId.{TypeId}
 use Rattle.x_value.proofs.OneReading.{not_both, one_refusal}
 use Rattle.x_value.proofs.OneReading as reading
 use Rattle.x_value.specs.FaultTexts.{fault_line}
-use Rattle.x_prelude.specs.Foreign.{foreign_names}
+use Rattle.x_names.specs.Declarers.{first_declarer}
+use Rattle.x_names.specs.declared.names.Declarer.{Declarer}
+use Rattle.x_rules.specs.Results.{KnownNames}
+use Rattle.x_explain.specs.declared.declared.Spot.{Spot}
+use Rattle.x_prelude.specs.Foreign.{foreign_names, spot_of}
+use Rattle.x_prelude.specs.Leading.{AreLed, IsForeignUse, IsForeignUseBy, declared, first_led, foreign_uses}
+use Rattle.x_prelude.specs.Leading.{not_taken, undeclared}
+use Rattle.x_prelude.specs.declared.definition.FromC.{FromC}
 use Rattle.x_script.specs.Answers.{Answer, answer, answered, refused}
 use Rattle.x_script.specs.Commands.{command_of, dump_asked, explain_asked}
 use Rattle.x_script.specs.declared.script.command.Command.{Command}
 use Rattle.x_compile.specs.Compile.{Item, definitions_of, faults_of}
-use Rattle.x_compile.specs.Known.{KnownText}
+use Rattle.x_compile.specs.Known.{KnownText, known_names}
 use Rattle.x_session.specs.Typed.{all_definitions}
 use Rattle.x_script.specs.Explaining.{IsExplainAnswer, explained_answer, telling_of}
-use Rattle.x_script.specs.LineAnswers.{IsCommandAnswer, IsDumped, IsLineAnswer, alone, asks, hidden, read}
-use Rattle.x_script.specs.LineAnswers.{within, shows, explains, too_long}
-use Rattle.x_script.specs.Situations.{How, Over, without_foreign}
+use Rattle.x_script.specs.LineAnswers as answers
+use Rattle.x_script.specs.LineAnswers.{IsCommandAnswer, IsDumped, IsLineAnswer, IsShownBy, alone, asks, explains}
+use Rattle.x_script.specs.LineAnswers.{hidden, leads, read, shows, stands, too_long, within}
+use Rattle.x_script.specs.Refusals.{unknown_line}
+use Rattle.x_script.specs.Situations.{How, Over}
 use Rattle.x_script.specs.Script.{AreAnswered, then_answer}
 use Rattle.x_script.specs.Showing.{IsDumpAnswer, IsMessageAnswer, IsTypedAnswer, shown, stuck, no_type, typed}
 use Rattle.x_script.specs.Showing.{faulty, faultless, value_answer}
@@ -151,15 +160,85 @@ one_command how text command a b (asks p) (asks q) = one_over how text
     (λ known items. b ≡ answer how.base text items command)
     a b (λ k l items same e f. e ∙ sym f) p q
 
+-- the definition of a name leads to one name of C first
+one_led : (ds : List (Option Definition)) (from : ℕ) (p q : ℕ → Bool) → AreLed ds from p → AreLed ds from q
+    → p ≡ q
+one_led ds from p q h k = λ i n. same n i
+  where
+    either : (n : ℕ) (a b : Bool) → p n ≡ a → q n ≡ b → p n ≡ q n
+    either n true b e f = e ∙ sym (k.all n (h.leads n e))
+    either n false true e f = absurd (both_ways (p n) (h.all n (k.leads n f)) e)
+    either n false false e f = e ∙ sym f
+
+    same : (n : ℕ) → p n ≡ q n
+    same n = either n (p n) (q n) refl refl
+
+one_use_by : (known : KnownNames) (from : FromC) (text : List ℕ) (items : List Item) (name : List ℕ)
+    (x y : Option Spot) → IsForeignUseBy known from text items name x
+    → IsForeignUseBy known from text items name y → x ≡ y
+one_use_by known from text items name x y (not_taken a e) (not_taken b f) = e ∙ sym f
+one_use_by known from text items name x y (not_taken a e) (undeclared b f) = e ∙ sym f
+one_use_by known from text items name x y (not_taken a e) (declared b at is led are f) =
+    absurd (both_ways from.foreign b a)
+one_use_by known from text items name x y (undeclared a e) (not_taken b f) = e ∙ sym f
+one_use_by known from text items name x y (undeclared a e) (undeclared b f) = e ∙ sym f
+one_use_by known from text items name x y (undeclared a e) (declared b at is led are f) =
+    absurd (asked_none (first_declarer (definitions_of items) name) at a is)
+one_use_by known from text items name x y (declared a at is led are e) (not_taken b f) =
+    absurd (both_ways from.foreign a b)
+one_use_by known from text items name x y (declared a at is led are e) (undeclared b f) =
+    absurd (asked_none (first_declarer (definitions_of items) name) at b is)
+one_use_by known from text items name x y (declared a at is led are e) (declared b at' is' led' are' f) =
+    let ds = definitions_of items in
+    let one : at ≡ at' = same_some (first_declarer ds name) at at' is is' in
+    let tests : led ≡ led' = one_led ds at'.item led led'
+    (subst (λ (d : Declarer). AreLed ds d.item led) one are) are' in
+    e ∙ ap (λ t. option_and_then (spot_of text items) (first_led t (foreign_uses from known ds))) tests
+    ∙ sym f
+
+one_use : (files : List ℕ) (from : FromC) (text : List ℕ) (items : List Item) (name : List ℕ)
+    (x y : Option Spot) → IsForeignUse files from text items name x → IsForeignUse files from text items name y
+    → x ≡ y
+one_use files from text items name x y h k =
+    let same = same_names h.0 k.0 (one_known files h.0 k.0 h.1 k.1) in
+    one_use_by (known_names k.0) from text items name x y
+    (subst (λ n. IsForeignUseBy n from text items name x) same h.2) k.2
+
+no_spot : (o : Option Spot) (spot : Spot) → o ≡ None → o ≡ Some spot → ⊥
+no_spot o spot e f = absurd cc
+
+-- by the items of one text a value is shown in one way
+one_shown : (how : How) (a b : KnownText) (text : List ℕ) (items : List Item) (name message : List ℕ)
+    (x y : Answer) → AreSame a b → IsShownBy how a text items name message x
+    → IsShownBy how b text items name message y → x ≡ y
+one_shown how a b text items name message x y s (answers.faulty p e) (answers.faulty q f) = e ∙ sym f
+one_shown how a b text items name message x y s (answers.faulty p e) (leads spot none u f) =
+    absurd (none_left (faults_of text items) p none)
+one_shown how a b text items name message x y s (answers.faulty p e) (stands none u f) =
+    absurd (none_left (faults_of text items) p none)
+one_shown how a b text items name message x y s (leads spot none t e) (answers.faulty q f) =
+    absurd (none_left (faults_of text items) q none)
+one_shown how a b text items name message x y s (leads spot none t e) (leads spot' none' u f) =
+    let same : Some spot ≡ Some spot' = one_use how.files how.from text items name (Some spot) (Some spot') t u in
+    e ∙ ap (λ (at : Spot). refused text (unknown_line at)) (same_some (Some spot) spot spot' refl same) ∙ sym f
+one_shown how a b text items name message x y s (leads spot none t e) (stands none' u f) =
+    absurd (no_spot (Some spot) spot (one_use how.files how.from text items name (Some spot) None t u) refl)
+one_shown how a b text items name message x y s (stands none t e) (answers.faulty q f) =
+    absurd (none_left (faults_of text items) q none)
+one_shown how a b text items name message x y s (stands none t e) (leads spot none' u f) =
+    absurd (no_spot (Some spot) spot (one_use how.files how.from text items name (Some spot) None u t) refl)
+one_shown how a b text items name message x y s (stands none t e) (stands none' u f) =
+    one_dump a b text items name message x y s e f
+
 one_dumped : (how : How) (text name message : List ℕ) (a b : Answer) → IsDumped how text name message a
     → IsDumped how text name message b → a ≡ b
 one_dumped how text name message a b (hidden is e) (hidden is' f) = e ∙ sym f
 one_dumped how text name message a b (hidden is e) (read is' f) = absurd (both_ways how.is_plain is' is)
 one_dumped how text name message a b (read is e) (hidden is' f) = absurd (both_ways how.is_plain is is')
-one_dumped how text name message a b (read is e) (read is' f) = one_over (without_foreign how) text
-    (λ known items. IsDumpAnswer known text items name message a)
-    (λ known items. IsDumpAnswer known text items name message b) a b
-    (λ k l items alike p q. one_dump k l text items name message a b alike p q) e f
+one_dumped how text name message a b (read is e) (read is' f) = one_over how text
+    (λ known items. IsShownBy how known text items name message a)
+    (λ known items. IsShownBy how known text items name message b) a b
+    (λ k l items alike p q. one_shown how k l text items name message a b alike p q) e f
 
 pub one_line : (how : How) (text line : List ℕ) (a b : Answer) → IsLineAnswer how text line a
     → IsLineAnswer how text line b → a ≡ b

@@ -6,7 +6,6 @@ use Rattle.std.proofs.lemmas.Grind.{common_steps}
 use Rattle.std.specs.Prelude.{◌==◌, Result, Ok, Err, IfOk, IsErrOf, IsErrAnd, if◌then◌else◌, ◌||◌}
 use Rattle.x_text.specs.Limits.{most_text}
 use Rattle.x_text.specs.declared.text.fault.TextFault.{TextFault}
-use Rattle.x_text.specs.declared.text.fault.TextFault.TheVariants as faults
 use Rattle.x_compile.specs.Compile.{Item, definitions_of}
 use Rattle.x_compile.specs.Known.{KnownText, known_names}
 use Rattle.x_rules.specs.Results.{KnownNames}

@@ -14,7 +14,7 @@ use Rattle.x_text.proofs.ListLemmas.{drop_one, map_append, take_next}
 use Rattle.x_trees.specs.declared.names.mention.Mention as mention
 use Rattle.x_trees.specs.declared.trees.declaration.Tag.{Tag}
 use Rattle.x_prelude.specs.Lacking.{Occurrence, first_of_each, first_tag, name_of}
-use Rattle.x_prelude.specs.LackingTable.{Entries, HasFirsts, HasNames, HasTags, held, occurrence, view_use}
+use Rattle.x_prelude.specs.LackingTable.{Entries, HasFirsts, HasNames, HasTags, occurrence, view_use}
 use Rattle.x_prelude.specs.declared.lacking.FirstUse as rust
 use Rattle.x_prelude.specs.declared.lacking.LackingNames.{LackingNames}
 

@@ -28,7 +28,7 @@ use Rattle.x_prelude.specs.LackingTable.{HasNames, occurrence}
 use Rattle.x_prelude.specs.declared.lacking.LackingNames.{LackingNames}
 
 -- the mentions of one definition more
-occurrences_more : (at : ℕ) (ds : List (Option Definition)) (d : Option Definition)
+pub occurrences_more : (at : ℕ) (ds : List (Option Definition)) (d : Option Definition)
     → occurrences_from at (ds ++ d ∷ []) ≡ occurrences_from at ds ++ occurrences_in (at + length ds) d
 occurrences_more at [] d = append-nil (occurrences_in at d)
     ∙ ap (λ n. occurrences_in n d) (let e : at ≡ at + 0 = omega arith in e)

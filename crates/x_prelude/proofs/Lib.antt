@@ -3,4 +3,6 @@ pub mod DefinitionLemmas
 pub mod FirstLemmas
 pub mod ForeignLemmas
 pub mod LackingLemmas
+pub mod LeadingLemmas
+pub mod ReachingLemmas
 pub mod TypeLemmas

@@ -1,5 +1,5 @@
 -- The types of C that a text lacks, one entry of a table after another.
-use Rattle.std.proofs.Common.{◌≡◌, ℕ, suc, zero, ◌+◌, ◌<◌, ◌≤◌, ◌++◌, Bor, List, [], ◌∷◌, Option, length, take}
+use Rattle.std.proofs.Common.{◌≡◌, ℕ, suc, zero, ◌<◌, ◌≤◌, ◌++◌, Bor, List, [], ◌∷◌, Option, length, take}
 use Rattle.std.proofs.Common.{get_or, append-nil, append_assoc, arith, sym, ap, ◌∙◌}
 use Rattle.std.proofs.lemmas.List.{take_all}
 use Rattle.x_trees.specs.Tree.{Definition}

@@ -1,5 +1,5 @@
 -- What stands before a text that is opened: the text of known files, and then the definitions that it lacks.
-use Rattle.std.specs.Prelude.{◌≡◌, ◌⊎◌, ℕ, Bool, ◌||◌, ◌<◌, List, [], ◌∷◌, ◌++◌, length, Option, Result, IfOk}
+use Rattle.std.specs.Prelude.{◌≡◌, ◌⊎◌, ℕ, ◌<◌, List, [], ◌∷◌, ◌++◌, length, Option, Result, IfOk}
 use Rattle.std.specs.Prelude.{IsErrOf}
 use Rattle.x_text.specs.Limits.{most_text}
 use Rattle.x_text.specs.declared.text.fault.TextFault.{TextFault}

@@ -4,4 +4,6 @@ pub mod Followed
 pub mod Foreign
 pub mod Lacking
 pub mod LackingTable
+pub mod Leading
 pub mod Prelude
+pub mod Reaching

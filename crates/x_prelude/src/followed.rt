@@ -8,14 +8,16 @@ ghost use Rattle.x_explain.specs.Foreign.{view_all};
 ghost use Rattle.x_prelude.specs.Before.{IsBefore, IsCrowded, IsPrelude};
 ghost use Rattle.x_prelude.specs.Followed.{IsOver};
 ghost use Rattle.x_prelude.specs.Foreign.{AreForeign};
+ghost use Rattle.x_prelude.specs.Leading.{IsForeignUse};
 
 use crate::before::{known_of, open_over, open_over_both};
 use crate::definition::FromC;
 use crate::foreign::foreign_in;
+use crate::leading::foreign_use;
 use crate::prelude::prelude_of;
 use std::alloc::Global;
 use x_compile::KnownDefinitions;
-use x_explain::ForeignName;
+use x_explain::{ForeignName, Spot};
 use x_hash::HashKey;
 use x_session::{EditFault, Session, Work};
 use x_text::{Edit, MAX_TEXT, NoMemory, TextFault};
@@ -186,5 +188,21 @@ impl FollowedText {
             (view_all names.items))) }
     {
         foreign_in(self.alloc, &self.session, &self.known, self.from_c)
+    }
+
+    /// The place where the definition of a name leads to a name of C first, in the order of the text: the
+    /// definition uses it, or uses a name whose definition leads to it. Types of the table are left out. It
+    /// takes time in proportion to the text.
+    ///
+    /// # Errors
+    ///
+    /// [`NoMemory`] where a table or a list could not grow.
+    pub fn foreign_use(&self, name: &[u8]) -> Result<Option<Spot>, NoMemory>
+        ensures { IsOver self.now → IfOk result
+            (λ spot. Compiles self.now.session.known self.now.session.text
+            (λ items. IsForeignUse self.now.files.items self.now.from_c self.now.session.text items
+            name.now spot)) }
+    {
+        foreign_use(self.alloc, &self.session, &self.known, self.from_c, name)
     }
 }

@@ -150,7 +150,7 @@ fn note_tag<'s>(
 }
 
 /// Whether a name is declared neither beforehand, nor before the text, nor by an item.
-fn is_lacking(known: &KnownDefinitions, names: &Names, name: &[u8]) -> bool
+pub(crate) fn is_lacking(known: &KnownDefinitions, names: &Names, name: &[u8]) -> bool
     ensures { result ≡ is_lacking (known_names known.now) (first_in names.now) name.now }
 {
     !(is_beforehand(name) || known.view(name).is_some() || names.first(name).is_some())

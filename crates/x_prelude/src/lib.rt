@@ -9,6 +9,7 @@ mod followed;
 mod foreign;
 mod lacking;
 mod laws;
+mod leading;
 mod prelude;
 
 pub use before::{lacking_text, open_by};

@@ -1,5 +1,5 @@
 -- Lines that ask to show a value or to explain the faults, and others.
-use Rattle.std.proofs.Common.{◌≡◌, ◌≤◌, ℕ, List, Bool, true, false, length, Some, None, Result, Ok, Err, refl}
+use Rattle.std.proofs.Common.{◌≡◌, ◌≤◌, ℕ, List, Bool, true, false, length, Some, None, Result, Ok, Err}
 use Rattle.x_text.specs.declared.no_memory.NoMemory.{NoMemory}
 use Rattle.x_text.specs.Streams.{Stream}
 use Rattle.x_text.specs.Writing.{Inked}

@@ -1,5 +1,5 @@
 -- Words and pairs of hexadecimal digits.
-use Rattle.std.proofs.Common.{◌≡◌, ℕ, suc, ◌+◌, ◌-◌, ◌*◌, ◌<◌, true, false, Bool, ◌&&◌, List, [], ◌∷◌, ◌++◌, length, take, drop, get_or, eqb, Option, None, Some, arith, refl, sym, ap, ◌∙◌, drop-cons, append_assoc, add-one}
+use Rattle.std.proofs.Common.{◌≡◌, ℕ, suc, ◌+◌, ◌*◌, ◌<◌, true, false, Bool, ◌&&◌, List, [], ◌∷◌, ◌++◌, length, take, drop, get_or, eqb, Option, None, Some, arith, refl, sym, ap, ◌∙◌, drop-cons, append_assoc, add-one}
 use Rattle.std.specs.Prelude.{codes, bytes_eq, nat_lt, if◌then◌else◌}
 use Rattle.std.specs.List.{list_all, join_with_byte}
 use Rattle.std.specs.Char.{is_ascii_hexdigit, digit_value}

@@ -2,21 +2,18 @@
 use Rattle.std.specs.Prelude.{IfOk}
 use Rattle.std.proofs.Common.{◌≡◌, ℕ, List, Bool, true, false, Result, Ok, Err, refl, sym, ap, subst, ◌∙◌}
 use Rattle.x_text.specs.declared.no_memory.NoMemory.{NoMemory}
-use Rattle.x_text.specs.Edits.{Change}
 use Rattle.x_text.specs.Streams.{Stream}
 use Rattle.x_text.specs.Writing.{Inked, Adds}
-use Rattle.x_compile.specs.Compile.{Item}
 use Rattle.x_compile.specs.Known.{KnownText}
-use Rattle.x_session.specs.Session.{Compiles, Document}
+use Rattle.x_session.specs.Session.{Compiles}
 use Rattle.x_prelude.specs.Before.{IsBefore}
 use Rattle.x_prelude.specs.declared.definition.FromC.{FromC}
 use Rattle.x_script.specs.Answers.{Answer, answer, edit_answer, refused_by}
 use Rattle.x_script.specs.Giving.{GivesBy}
-use Rattle.x_script.specs.LineAnswers.{IsCommandAnswer, IsDumped, alone, asks, hidden, read}
+use Rattle.x_script.specs.LineAnswers.{IsCommandAnswer, IsDumped, IsShownBy, alone, asks, hidden, read}
 use Rattle.x_script.specs.Refusals.{refusal_line}
 use Rattle.x_script.specs.Script.{AddsAnswer}
-use Rattle.x_script.specs.Showing.{IsDumpAnswer}
-use Rattle.x_script.specs.Situations.{How, Situation, Over, without_foreign}
+use Rattle.x_script.specs.Situations.{Situation}
 use Rattle.x_script.specs.declared.script.command.Command.{Command}
 use Rattle.x_script.specs.declared.script.command.Command.TheVariants as commands
 use Rattle.x_script.specs.declared.script.refusal.LineRefusal.TheVariants as refusals
@@ -73,12 +70,11 @@ module _ (p q : Inked) (now now' : Stream) where
     record { added = added; refused_is = refl; session_is = record { text_is = refl; how_is = refl } },
   )
 
-  -- a value is shown over what is known without such names
+  -- a value is shown over what stands before the text
   pub read_given : (s : Situation) (known : KnownText) (r : Result Bool NoMemory) (name message : List ℕ)
-      → s.how.is_plain ≡ true
-      → IsBefore s.how.files (record { types = s.how.from.types; foreign = false }) s.text known
+      → s.how.is_plain ≡ true → IsBefore s.how.files s.how.from s.text known
       → IfOk r (λ refused. Compiles known s.text (λ items. (a : Answer)
-      × IsDumpAnswer known s.text items name message a × AddsAnswer a s.text refused p now q now'))
+      × IsShownBy s.how known s.text items name message a × AddsAnswer a s.text refused p now q now'))
       → GivesBy (λ how here a. IsDumped how here name message a) s s r p now q now'
   read_given s known (Ok refused) name message is before h = (
     h.3.0,
@@ -90,10 +86,6 @@ module _ (p q : Inked) (now now' : Stream) where
     },
   )
   read_given s known (Err e) name message is before h = refl
-
--- nothing more is taken from C than its table has
-pub plain_from : (from : FromC) → from.foreign ≡ false → from ≡ record { types = from.types; foreign = false }
-plain_from from e = λ i. record { types = from.types; foreign = e i }
 
 -- what stands before a text stands before it where it is found again
 pub moved_before : (files others : List ℕ) (from other : FromC) (text here : List ℕ) (known : KnownText)

@@ -1,6 +1,8 @@
 -- What is told of a message.
-use Rattle.std.proofs.Common.{◌≡◌, ℕ, List, Bool, true, false, Some, None, Result, Ok, Err, refl, subst}
+use Rattle.std.proofs.Common.{◌≡◌, ◌<◌, ◌≤◌, ℕ, List, Bool, true, false, Some, None, Result, Ok, Err, length}
+use Rattle.std.proofs.Common.{arith, refl, subst}
 use Rattle.std.specs.Prelude.{IfOk}
+use Rattle.std.proofs.lemmas.List.{nil_from_length}
 use Rattle.x_text.specs.declared.no_memory.NoMemory.{NoMemory}
 use Rattle.x_text.specs.Streams.{Stream}
 use Rattle.x_text.specs.Writing.{Inked, Adds}
@@ -12,11 +14,17 @@ use Rattle.x_value.specs.Shown.{Node}
 use Rattle.x_value.specs.declared.fault.ReadCode.{ReadCode}
 use Rattle.x_value.specs.declared.fault.ReadCode.TheVariants as codes_of
 use Rattle.x_script.specs.Answers.{Answer, answered, refused, refused_by}
-use Rattle.x_compile.specs.Compile.{Item}
+use Rattle.x_compile.specs.Compile.{Item, faults_of}
 use Rattle.x_compile.specs.Known.{KnownText}
-use Rattle.x_script.specs.Refusals.{refusal_line}
+use Rattle.x_explain.specs.declared.declared.Spot.{Spot}
+use Rattle.x_explain.proofs.DeclaredLemmas.{of_each}
+use Rattle.x_prelude.specs.Leading.{IsForeignUse}
+use Rattle.x_script.specs.LineAnswers.{IsShownBy}
+use Rattle.x_script.specs.LineAnswers as answers
+use Rattle.x_script.specs.Refusals.{refusal_line, unknown_line}
 use Rattle.x_script.specs.Script.{AddsAnswer, TellsOver}
 use Rattle.x_script.specs.declared.script.refusal.LineRefusal.TheVariants as refusals
+use Rattle.x_script.specs.Situations.{How}
 use Rattle.x_session.specs.Session.{Compiles}
 use Rattle.x_script.specs.Showing.{IsMessageAnswer, IsTypedAnswer, IsDumpAnswer, shown, stuck, no_type, typed, faulty, faultless, value_answer}
 use Rattle.x_session.specs.Typed.{GivesSchema}
@@ -60,3 +68,60 @@ module _ (p q : Inked) (now now' : Stream) where
       let told = h text in
       (gives.0, gives.1, gives.2, (told.0, faultless s given.0 given.1 told.1, told.2))
   tells_faultless known text name message s r (Err e) is gives h = h
+
+-- what is told of a value by the items of a text
+module _ (p q : Inked) (now now' : Stream) (how : How) {known : KnownText} (text name message : List ℕ) where
+  pub shown_faulty : (count : ℕ) → 0 < count → Compiles known text (λ items. count ≡ length (faults_of text items))
+      → Adds p now q now' (refusal_line refusals.Faulty)
+      → Compiles known text (λ items. (a : Answer) × IsShownBy how known text items name message a
+      × AddsAnswer a text true p now q now')
+  shown_faulty count some counted added =
+      let many = counted.3 in (
+        counted.0,
+        counted.1,
+        counted.2,
+        (
+          refused_by text refusals.Faulty,
+          answers.faulty (omega (arith, some, many)) refl,
+          record { added = added; refused_is = refl; text_is = refl },
+        ),
+      )
+
+  pub shown_unknown : (count : ℕ) (spot : Spot) → count ≤ 0
+      → Compiles known text (λ items. count ≡ length (faults_of text items))
+      → Compiles known text (λ items. IsForeignUse how.files how.from text items name (Some spot))
+      → Adds p now q now' (unknown_line spot)
+      → Compiles known text (λ items. (a : Answer) × IsShownBy how known text items name message a
+      × AddsAnswer a text true p now q now')
+  shown_unknown count spot none counted leads added =
+      let many = of_each text counted leads.0 leads.1 leads.2 in (
+        leads.0,
+        leads.1,
+        leads.2,
+        (
+          refused text (unknown_line spot),
+          answers.leads spot (nil_from_length (faults_of text leads.1) (omega (arith, none, many))) leads.3 refl,
+          record { added = added; refused_is = refl; text_is = refl },
+        ),
+      )
+
+  pub shown_known : (count : ℕ) (r : Result Bool NoMemory) → count ≤ 0
+      → Compiles known text (λ items. count ≡ length (faults_of text items))
+      → Compiles known text (λ items. IsForeignUse how.files how.from text items name None)
+      → IfOk r (λ refused. Compiles known text (λ items. (a : Answer)
+      × IsDumpAnswer known text items name message a × AddsAnswer a text refused p now q now'))
+      → IfOk r (λ refused. Compiles known text (λ items. (a : Answer)
+      × IsShownBy how known text items name message a × AddsAnswer a text refused p now q now'))
+  shown_known count (Ok b) none counted leads h =
+      let many = of_each text counted h.0 h.1 h.2 in
+      let stands = of_each text leads h.0 h.1 h.2 in (
+        h.0,
+        h.1,
+        h.2,
+        (
+          h.3.0,
+          answers.stands (nil_from_length (faults_of text h.1) (omega (arith, none, many))) stands h.3.1,
+          h.3.2,
+        ),
+      )
+  shown_known count (Err e) none counted leads h = tt

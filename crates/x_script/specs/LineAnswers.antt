@@ -1,11 +1,15 @@
 -- What a line of a script is answered over a text, in one way (`one_answer` of `x_laws`).
-use Rattle.std.specs.Prelude.{◌≡◌, ◌<◌, ◌≤◌, ℕ, true, false, List, length, Some, None}
-use Rattle.x_script.specs.Answers.{Answer, answer, refused_by}
+use Rattle.std.specs.Prelude.{◌≡◌, ◌<◌, ◌≤◌, ℕ, true, false, List, [], length, Some, None}
+use Rattle.x_explain.specs.declared.declared.Spot.{Spot}
+use Rattle.x_prelude.specs.Leading.{IsForeignUse}
+use Rattle.x_script.specs.Answers.{Answer, answer, refused, refused_by}
 use Rattle.x_script.specs.Commands.{command_of, dump_asked, explain_asked}
-use Rattle.x_compile.specs.Compile.{Item}
+use Rattle.x_compile.specs.Compile.{Item, faults_of}
+use Rattle.x_compile.specs.Known.{KnownText}
 use Rattle.x_script.specs.Explaining.{IsExplainAnswer}
+use Rattle.x_script.specs.Refusals.{unknown_line}
 use Rattle.x_script.specs.Showing.{IsDumpAnswer}
-use Rattle.x_script.specs.Situations.{How, Over, without_foreign}
+use Rattle.x_script.specs.Situations.{How, Over}
 use Rattle.x_script.specs.declared.script.command.Command.{Command}
 use Rattle.x_script.specs.declared.script.refusal.LineRefusal.TheVariants.{Faulty, LongLine}
 use Rattle.x_lines.specs.Limits.{most_line}
@@ -18,13 +22,24 @@ pub data IsCommandAnswer (how : How) (text : List ℕ) (command : Command) (a : 
   asks : Over how text (λ known items. a ≡ answer how.base text items command)
       → IsCommandAnswer how text command a
 
--- A line that asks to show a value is answered so: names of C that are in no table do not help to read it, so
--- they are not known, and it is refused where known files use such names.
+-- A line that asks to show a value is answered so by the items of a text that this is known before: nothing
+-- is read by a definition that leads to a name of C which is in no table.
+pub data IsShownBy (how : How) (known : KnownText) (text : List ℕ) (items : List Item)
+    (name message : List ℕ) (a : Answer) : Type 0 where
+  faulty : 0 < length (faults_of text items) → a ≡ refused_by text Faulty
+      → IsShownBy how known text items name message a
+  leads : (spot : Spot) → faults_of text items ≡ []
+      → IsForeignUse how.files how.from text items name (Some spot) → a ≡ refused text (unknown_line spot)
+      → IsShownBy how known text items name message a
+  stands : faults_of text items ≡ [] → IsForeignUse how.files how.from text items name None
+      → IsDumpAnswer known text items name message a
+      → IsShownBy how known text items name message a
+
+-- It is refused where known files use such names.
 pub data IsDumped (how : How) (text name message : List ℕ) (a : Answer) : Type 0 where
   hidden : how.is_plain ≡ false → a ≡ refused_by text Faulty
       → IsDumped how text name message a
-  read : how.is_plain ≡ true
-      → Over (without_foreign how) text (λ known items. IsDumpAnswer known text items name message a)
+  read : how.is_plain ≡ true → Over how text (λ known items. IsShownBy how known text items name message a)
       → IsDumped how text name message a
 
 -- A line is answered so: it may ask to show a value or to explain the faults, or be any other command; or it

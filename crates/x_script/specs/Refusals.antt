@@ -1,5 +1,7 @@
 -- Why a line of a script is refused, and what is answered then.
 use Rattle.std.specs.Prelude.{ℕ, List, ◌++◌, codes}
+use Rattle.std.specs.Fmt.{decimal}
+use Rattle.x_explain.specs.declared.declared.Spot.{Spot}
 use Rattle.x_script.specs.declared.script.refusal.LineRefusal.{LineRefusal}
 use Rattle.x_script.specs.declared.script.refusal.LineRefusal.TheVariants as refusals
 
@@ -15,3 +17,8 @@ refusal_text refusals.LongLine = codes "44 LongLine"
 -- `refused CODE NAME`
 abbrev pub refusal_line : LineRefusal → List ℕ
 refusal_line refusal = codes "refused " ++ refusal_text refusal ++ codes "\n"
+
+-- `refused 21 Unknown at LINE:COLUMN`, which names the place of a name of C
+abbrev pub unknown_line : Spot → List ℕ
+unknown_line spot = codes "refused 21 Unknown at "
+    ++ (decimal spot.line ++ (codes ":" ++ (decimal spot.column ++ codes "\n")))

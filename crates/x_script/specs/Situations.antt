@@ -1,5 +1,5 @@
 -- What the answers of a script depend on, beside its lines.
-use Rattle.std.specs.Prelude.{◌≡◌, ℕ, Bool, false, List}
+use Rattle.std.specs.Prelude.{◌≡◌, ℕ, Bool, List}
 use Rattle.x_compile.specs.Compile.{Item}
 use Rattle.x_compile.specs.Known.{KnownText}
 use Rattle.x_session.specs.Session.{Compiles}
@@ -48,7 +48,3 @@ pub record Leaves (old new : Situation) (text : List ℕ) : Type 0 where
 abbrev pub Over : How → (text : List ℕ) → (KnownText → List Item → Type 0) → Type 0
 Over how text P =
     (known : KnownText) × IsBefore how.files how.from text known × Compiles known text (P known)
-
--- the same where no name is taken from C but those of its table
-abbrev pub without_foreign : How → How
-without_foreign how = record how { from = record { types = how.from.types; foreign = false } }

@@ -33,7 +33,7 @@ pub(crate) fn hover(
     match declared_name_at(alloc, session, &names, at)? {
         Some(found) => {
             // Of names of C nobody knows the numbers and sizes, nor of what stands on them.
-            let tells_meaning = document.compiled.foreign_names()?.is_empty();
+            let tells_meaning = document.compiled.foreign_use(found.token.text)?.is_none();
             let told = told_of(alloc, session, &found, tells_meaning)?;
             let mut places = Places::of(encoding, document.shown.bytes());
             let range = range_value(alloc, &range_of(&mut places, &found.token))?;

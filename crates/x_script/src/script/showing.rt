@@ -1,28 +1,30 @@
 //! What a script is answered that asks to show a value.
 
-ghost use Rattle.std.specs.Prelude.{◌≡◌, ◌<◌, true, false, length, IfOk, OnErr};
+ghost use Rattle.std.specs.Prelude.{◌≡◌, ◌<◌, true, length, IfOk, OnErr};
 ghost use Rattle.x_text.specs.Writing.{Adds};
 ghost use Rattle.x_schema.specs.Schema.{IsTypeId};
-ghost use Rattle.x_prelude.specs.Before.{IsBefore};
 ghost use Rattle.x_prelude.specs.Followed.{IsOver};
 ghost use Rattle.x_script.specs.Answers.{Answer};
 ghost use Rattle.x_script.specs.Commands.{bytes_of, is_hex};
 ghost use Rattle.x_script.specs.Giving.{GivesBy};
 ghost use Rattle.x_script.specs.Script.{AddsAnswer, TellsOver};
 ghost use Rattle.x_session.specs.Session.{Compiles};
-ghost use Rattle.x_script.specs.LineAnswers.{IsDumped};
+ghost use Rattle.x_script.specs.LineAnswers.{IsDumped, IsShownBy};
+ghost use Rattle.x_script.specs.Refusals.{unknown_line};
 ghost use Rattle.x_script.specs.Showing.{IsDumpAnswer, IsMessageAnswer, IsTypedAnswer, value_answer};
 ghost use Rattle.x_script.specs.Situations.{situation};
+ghost use Rattle.x_script.specs.declared.script.ScriptFile.{ScriptFile};
 
 use super::answer::add_counted;
 use super::command::message_bytes;
 use super::refusal::LineRefusal;
 use super::{ScriptFile, renew};
 use std::alloc::Global;
-use x_prelude::{FollowedText, FromC, open_by};
+use x_explain::Spot;
+use x_prelude::FollowedText;
 use x_session::{Schema, SchemaFault, Session, TypeId};
 use x_text::{NoMemory, Pen, Sink};
-use x_value::{Dump, ReadCode, dump};
+use x_value::{Dump, ReadCode, add_number, dump};
 
 /// Adds the nodes of a value.
 fn add_value<S: Sink>(dump: &Dump, pen: &mut Pen, sink: &mut S)
@@ -111,33 +113,53 @@ fn answer_by<S: Sink>(
     }
 }
 
-/// The session of the text without the names that it takes from C and that are in no table.
-fn without_foreign(alloc: Global, text: &FollowedText) -> Result<Session, NoMemory>
-    ensures text { IfOk result (λ s. s.text ≡ text.now.session.text) }
-    ensures before { IfOk result (λ s. IsBefore text.now.files.items
-        (record { types = text.now.from_c.types; foreign = false }) text.now.session.text s.known) }
+/// Adds the answer that nothing is known of the name at a place.
+#[tactic(auto, using(x_text::proofs::Adding::five))]
+fn add_unknown<S: Sink>(spot: &Spot, pen: &mut Pen, sink: &mut S)
+    ensures { Adds pen.old (S.state sink.old) pen.new (S.state sink.new) (unknown_line spot.now) }
 {
-    let from_c = FromC {
-        types: text.from_c.types,
-        foreign: false,
-    };
-    let session = &text.session;
-    match open_by(
-        alloc,
-        &text.files,
-        from_c,
-        session.hash_key(),
-        b"",
-        session.bytes(),
-    ) {
-        Ok(session) => Ok(session),
-        Err(_) => Err(NoMemory),
+    pen.add(b"refused 21 Unknown at ", sink);
+    add_number(spot.line, pen, sink);
+    pen.add(b":", sink);
+    add_number(spot.column, pen, sink);
+    pen.add(b"\n", sink);
+}
+
+/// As [`answer_by`], where the text is over what stands before it: of names that are taken from C and in no
+/// table nothing can be read, so a type that leads to one is refused.
+fn answer_over<S: Sink>(
+    alloc: Global,
+    text: &FollowedText,
+    name: &[u8],
+    hex: &[u8],
+    pen: &mut Pen,
+    sink: &mut S,
+) -> Result<bool, NoMemory>
+    requires hex { 0 < length hex.now → is_hex hex.now ≡ true }
+    requires over { IsOver text.now }
+    ensures told { (file : ScriptFile) → IfOk result
+        (λ refused. Compiles text.now.session.known text.now.session.text (λ items. (a : Answer)
+        × IsShownBy (situation file text.now).how text.now.session.known text.now.session.text items
+        name.now (bytes_of hex.now) a
+        × AddsAnswer a text.now.session.text refused pen.old (S.state sink.old) pen.new (S.state sink.new))) }
+    ensures same { OnErr result ((pen.new ≡ pen.old) × (sink.new ≡ sink.old)) }
+{
+    if text.session.fault_count() > 0 {
+        LineRefusal::Faulty.add_line(pen, sink);
+        return Ok(true);
+    }
+    match text.foreign_use(name)? {
+        Some(spot) => {
+            add_unknown(&spot, pen, sink);
+            Ok(true)
+        }
+        None => answer_by(alloc, &text.session, name, hex, pen, sink),
     }
 }
 
 /// Answers what value of the type of this name the message is, whose bytes these digits write, and answers
-/// whether that refuses it: of names that are taken from C and in no table nothing can be read, so a text
-/// that uses one has no types. Without memory nothing is done.
+/// whether that refuses it: where known files use names of C that are in no table, it always does. Without
+/// memory nothing is done.
 pub(crate) fn answer_dump<S: Sink>(
     alloc: Global,
     text: &mut FollowedText,
@@ -159,10 +181,6 @@ pub(crate) fn answer_dump<S: Sink>(
         LineRefusal::Faulty.add_line(pen, sink);
         return Ok(true);
     }
-    if text.from_c.foreign {
-        let session = without_foreign(alloc, text)?;
-        return answer_by(alloc, &session, name, hex, pen, sink);
-    }
     renew(text)?;
-    answer_by(alloc, &text.session, name, hex, pen, sink)
+    answer_over(alloc, text, name, hex, pen, sink)
 }

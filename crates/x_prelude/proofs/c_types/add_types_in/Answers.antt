@@ -1,4 +1,4 @@
-use Rattle.std.proofs.Common.{◌≡◌, suc, ◌+◌, ◌++◌, arith, subst, sym, ◌∙◌}
+use Rattle.std.proofs.Common.{◌≡◌, suc, ◌+◌, ◌++◌, arith, subst, ◌∙◌}
 use Rattle.x_compile.specs.Compile.{definitions_of}
 use Rattle.x_compile.specs.Known.{known_names}
 use Rattle.x_session.specs.Session.{Compiles}

@@ -1,4 +1,4 @@
-use Rattle.std.proofs.Common.{◌≡◌, ◌++◌, Some, ap, sym, ◌∙◌}
+use Rattle.std.proofs.Common.{◌++◌, ap, sym, ◌∙◌}
 use Rattle.x_prelude.specs.Prelude.{foreign_text}
 use Rattle.x_prelude.proofs.DefinitionLemmas.{added_whole, on_ok}
 use Rattle.x_prelude.proofs.definition.add_definition.Goals as goal

@@ -2,7 +2,7 @@ use Rattle.std.proofs.Common.{◌≡◌, ℕ, List, ◌++◌, map, ap, ◌∙◌
 use Rattle.std.specs.List.{enumerate_from, flat_map}
 use Rattle.std.proofs.lemmas.Simd.{map-map}
 use Rattle.x_prelude.specs.Lacking.{Occurrence, first_of_each}
-use Rattle.x_prelude.specs.LackingTable.{HasNames, held, view_use}
+use Rattle.x_prelude.specs.LackingTable.{view_use}
 use Rattle.x_prelude.specs.Prelude.{definition_of}
 use Rattle.x_prelude.proofs.prelude.add_definitions.Goals as goal
 

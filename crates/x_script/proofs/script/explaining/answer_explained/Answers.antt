@@ -1,4 +1,4 @@
-use Rattle.std.proofs.Common.{ℕ, List, Ok, false, subst, ◌∙◌}
+use Rattle.std.proofs.Common.{ℕ, List, Ok, false, subst}
 use Rattle.x_text.specs.Writing.{Adds}
 use Rattle.x_explain.specs.Explained.{AreExplained}
 use Rattle.x_explain.specs.Facts.{before_in}
