@@ -51,6 +51,19 @@ def with_lines(chance, text):
     return b"".join(told)
 
 
+OTHERS = [b"int a;", b"int a;", b"int a;", b"int a;", b"int b;", b"int a; int c[N];", b"int a; int c; int c;"]
+
+
+def branched(chance):
+    """Structs that may use those before them, most of them with a field that is there again in another branch."""
+    told = []
+    for k in range(chance.randint(2, 6)):
+        used = b"br%d b;" % chance.randrange(k) if k and chance.random() < 0.8 else b""
+        lines = [b"struct br%d { %s" % (k, used), b"#if A", b"int a;", b"#else", chance.choice(OTHERS), b"#endif", b"};"]
+        told += [chance.choice(line.split()) if chance.random() < 0.02 else line for line in lines]
+    return b"\n".join(told) + b"\n"
+
+
 # ---------------------------------------------------------------- edits of a line, by where it is
 
 def put_line(chance, text, start, stop, end):

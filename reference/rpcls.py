@@ -156,10 +156,32 @@ def hint(lines, start, end):
             "range": {"start": lines.place(start), "end": lines.place(end)}}
 
 
-def is_told(lines, setting, compilation, fault):
-    """Whether a fault is told: not what is declared again in another branch of cpp."""
+def is_of_branch(lines, compilation, fault):
+    """Whether a fault tells what is declared again in another branch of cpp."""
     token = compilation.items[fault.item][fault.token]
-    return not (setting.blanks and fault.code in TWICE and directives.in_later_branch(lines.bytes, token.start))
+    return fault.code in TWICE and directives.in_later_branch(lines.bytes, token.start)
+
+
+def declaring(compilation, fault):
+    """The item before that of a use of a faulty name which declares the name first; None where there is none."""
+    if fault.code != explained.NOTE:
+        return None
+    first = compilation.own.get(compilation.items[fault.item][fault.token].text)
+    return first.item if first is not None and 0 <= first.item < fault.item else None
+
+
+def told_faults(lines, setting, compilation):
+    """The faults that are told: where lines of cpp are blanked, not what is declared again in another branch, and
+    no use of a name whose declarer has faults, but none that is told."""
+    if not setting.blanks:
+        return compilation.faults
+    told, heard = [], {}
+    for fault in compilation.faults:
+        is_heard = heard.get(declaring(compilation, fault), True)
+        is_told = is_heard and not is_of_branch(lines, compilation, fault)
+        heard[fault.item] = heard.get(fault.item, False) or is_told
+        told += [fault] if is_told else []
+    return told
 
 
 def foreign_hint(lines, token):
@@ -170,8 +192,7 @@ def foreign_hint(lines, token):
 
 def diagnostics(lines, setting):
     compilation = setting.compiled(lines.bytes)
-    told = [diagnostic(lines, compilation, fault) for fault in compilation.faults
-            if is_told(lines, setting, compilation, fault)]
+    told = [diagnostic(lines, compilation, fault) for fault in told_faults(lines, setting, compilation)]
     if setting.blanks:
         told += [hint(lines, *places) for places in directives.conditionals(lines.bytes)]
     told += [foreign_hint(lines, compilation.items[item][place]) for item, place in compilation.foreign]

@@ -3,6 +3,7 @@ pub mod CompiledLemmas
 pub mod DeclarerLemmas
 pub mod DiagnosticLemmas
 pub mod FrameLemmas
+pub mod HeardLemmas
 pub mod HintLemmas
 pub mod JsonLemmas
 pub mod LineLemmas
@@ -12,9 +13,11 @@ pub mod MarkLemmas
 pub mod NamePlaceLemmas
 pub mod PassedLineLemmas
 pub mod PlaceTableLemmas
+pub mod PlacedLemmas
 pub mod PositionLemmas
 pub mod SaidLemmas
 pub mod ServingLemmas
+pub mod SilentLemmas
 pub mod SpotLemmas
 pub mod ToldLemmas
 pub mod WalkLemmas

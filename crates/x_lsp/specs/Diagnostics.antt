@@ -1,8 +1,8 @@
 -- What is published of a text's faults (LSP 3.17, `textDocument/publishDiagnostics`).
 use Rattle.std.specs.Prelude.{◌≡◌, ℕ, ℤ, ◌==◌, List, []}
 use Rattle.std.specs.Prelude.{◌∷◌, ◌++◌, codes, Option, None, Some, option_and_then, option_map}
-use Rattle.std.specs.Prelude.{if◌then◌else◌, map, unwrap_or, Bool, true, false, not, ◌&&◌, slice_range}
-use Rattle.std.specs.List.{before_first, filter}
+use Rattle.std.specs.Prelude.{if◌then◌else◌, map, unwrap_or, Bool, true, false, ◌&&◌, slice_range}
+use Rattle.std.specs.List.{before_first}
 use Rattle.serde_json.specs.Data.{Data, Members, array, number, string, object, member, item, no_items}
 use Rattle.serde_json.specs.Data.{no_members, unsigned}
 use Rattle.serde_json.specs.Find.{of_integer}
@@ -12,10 +12,9 @@ use Rattle.x_compile.specs.declared.fault.FaultPlace.{FaultPlace}
 use Rattle.x_compile.specs.declared.fault.FaultCode.{FaultCode}
 use Rattle.x_compile.specs.declared.fault.FaultCode.TheVariants.{Rule}
 use Rattle.x_rules.specs.declared.fault.RuleCode.TheVariants.{Duplicate, LateName, NotType, NotConst}
-use Rattle.x_rules.specs.declared.fault.RuleCode.TheVariants.{RepeatedField, Unknown, UsesFaulty}
-use Rattle.x_compile.specs.Compile.{Item, places_of}
+use Rattle.x_rules.specs.declared.fault.RuleCode.TheVariants.{Unknown, UsesFaulty}
+use Rattle.x_compile.specs.Compile.{Item}
 use Rattle.x_compile.specs.Faults.{fault_text}
-use Rattle.x_directives.specs.Branches.{in_later_branch}
 use Rattle.x_directives.specs.Conditionals.{conditionals}
 use Rattle.x_directives.specs.declared.conditions.Conditional.{Conditional}
 use Rattle.x_explain.specs.DeclaredNames.{definition_of}
@@ -33,6 +32,7 @@ use Rattle.x_lsp.specs.Answers.{note_data}
 use Rattle.x_lsp.specs.Framing.{number_of}
 use Rattle.x_lsp.specs.Grounds.{CompilesOn, Ground, compiled_of, constants_of}
 use Rattle.x_lsp.specs.Positions.{position_of}
+use Rattle.x_lsp.specs.Telling.{told_of}
 
 -- a position, and a range, as LSP writes them
 abbrev pub position_data : Position → Data
@@ -131,20 +131,6 @@ AreDiagnostics client uri shown text items (f ∷ fs) [] = ⊥
 AreDiagnostics client uri shown text items (f ∷ fs) (d ∷ ds) =
     IsDiagnostic client uri shown text items f d × AreDiagnostics client uri shown text items fs ds
 
--- the fault says that a name is declared twice, or a field
-abbrev pub is_repeat : FaultCode → Bool
-is_repeat (Rule Duplicate) = true
-is_repeat (Rule RepeatedField) = true
-is_repeat code = false
-
--- The faults that are told: where the lines of cpp are blanked, no name that is declared twice in a branch
--- behind the first one of a conditional, since another branch may declare it.
-abbrev pub is_told : List ℕ → FaultPlace → Bool
-is_told shown p = not (is_repeat p.code && in_later_branch shown p.start)
-
-abbrev pub told_of : (blanks : Bool) → (shown : List ℕ) → List FaultPlace → List FaultPlace
-told_of blanks shown places = if blanks then filter (is_told shown) places else places
-
 -- What is published of a directive that begins a branch, where directives are blanked: that the branches are
 -- all read, over its first line.
 abbrev pub branch_message : List ℕ
@@ -199,7 +185,7 @@ closing_data uri = note_data (codes "textDocument/publishDiagnostics")
 abbrev pub IsPublishedOf : Client → (uri : List ℕ) → (version : ℤ) → (blanks : Bool) → List ForeignName
     → (shown text : List ℕ) → List Item → (said : List ℕ) → Type 0
 IsPublishedOf client uri version blanks foreign shown text items said = (ds hints : List Data)
-    × AreDiagnostics client uri shown text items (told_of blanks shown (places_of items)) ds
+    × AreDiagnostics client uri shown text items (told_of blanks shown items) ds
     × AreForeignHints client.encoding shown text foreign hints
     × (said ≡ compact_text (published_data uri version
     (ds ++ hints_of blanks client.encoding shown ++ hints)))

@@ -23,4 +23,6 @@ pub mod Replies
 pub mod Serving
 pub mod Sought
 pub mod Symbols
+pub mod Telling
+pub mod Voices
 pub mod Waymarks

@@ -1,19 +1,12 @@
 -- The data of what is published, by how it is kept until it is written.
-use Rattle.std.specs.Prelude.{Bool, not, ◌&&◌, List, option_map, string_bytes}
+use Rattle.std.specs.Prelude.{option_map, string_bytes}
 use Rattle.serde_json.specs.Data.{Data}
 use Rattle.x_lsp.specs.declared.published.Diagnostic.{Diagnostic}
 use Rattle.x_lsp.specs.declared.published.Place.{Place}
-use Rattle.x_directives.specs.Branches.{said_of}
-use Rattle.x_directives.specs.declared.branches.Turn.{Turn}
-use Rattle.x_explain.specs.declared.found.FoundFault.{FoundFault}
-use Rattle.x_lsp.specs.Diagnostics.{diagnostic_data, is_repeat, range_data, related_data}
+use Rattle.x_lsp.specs.Diagnostics.{diagnostic_data, range_data, related_data}
 
 abbrev pub place_data : Place → Data
 place_data p = related_data p.uri.now p.range
-
--- whether a fault is told, by what is kept of the branches of cpp
-abbrev pub is_told_by : List Turn → FoundFault → Bool
-is_told_by turns f = not (is_repeat f.code && said_of turns f.start)
 
 abbrev pub data_of : Diagnostic → Data
 data_of d = diagnostic_data d.severity d.message.number (range_data d.range.start d.range.end)

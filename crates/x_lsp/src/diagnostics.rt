@@ -1,22 +1,20 @@
 //! What is published of a text's faults.
 
-ghost use Rattle.std.specs.List.{before_first, filter};
+ghost use Rattle.std.specs.List.{before_first};
 ghost use Rattle.std.specs.Prelude.{◌≡◌, ◌==◌, ◌≤◌, ◌++◌, ℕ, List, IfOk, codes, option_map};
-ghost use Rattle.std.specs.Prelude.{slice_range, length, string_bytes, map, OnOk};
+ghost use Rattle.std.specs.Prelude.{length, string_bytes, map, OnOk};
 ghost use Rattle.serde_json.specs.Data.{Data};
 ghost use Rattle.serde_json.specs.View.{view};
 ghost use Rattle.serde_json.specs.Written.{compact_text};
-ghost use Rattle.x_compile.specs.Compile.{places_of};
 ghost use Rattle.x_compile.specs.Faults.{fault_text};
 ghost use Rattle.x_session.specs.Session.{Compiles};
 ghost use Rattle.x_explain.specs.Foreign.{view_all};
-ghost use Rattle.x_explain.specs.Found.{AreFound, IsEndOfToken};
 ghost use Rattle.x_directives.specs.Conditionals.{conditionals};
 ghost use Rattle.x_lsp.specs.Diagnostics.{AreDiagnostics, AreForeignHints, IsPublishedOf, closing_data};
-ghost use Rattle.x_lsp.specs.Diagnostics.{diagnostic_data, fault_number, hint_data, is_repeat, position_data};
-ghost use Rattle.x_lsp.specs.Diagnostics.{range_data, related_data, told_of};
-ghost use Rattle.x_lsp.specs.Published.{is_told_by};
+ghost use Rattle.x_lsp.specs.Diagnostics.{diagnostic_data, fault_number, hint_data, position_data};
+ghost use Rattle.x_lsp.specs.Diagnostics.{range_data, related_data};
 ghost use Rattle.x_lsp.specs.Published.{data_of, place_data};
+ghost use Rattle.x_lsp.specs.Telling.{told_of};
 ghost use Rattle.x_lsp.specs.Waymarks.{AreWaymarks};
 
 use crate::answers::note;
@@ -27,19 +25,20 @@ use crate::marking::Marker;
 use crate::other_places::OtherPlaces;
 use crate::positions::Position;
 use crate::published::{Diagnostic, Place, Severity, published_text};
+use crate::telling::{told_faults, word_at};
 use crate::waymarks::Waymarks;
 use serde_json::{Value, json};
 use std::alloc::{AllocError, Global};
-use x_directives::{LaterBranches, conditionals};
-use x_explain::{ForeignName, FoundFault, found_faults, token_end};
-use x_session::{FaultCode, RuleCode, Session};
+use x_directives::conditionals;
+use x_explain::{ForeignName, token_end};
+use x_session::Session;
 use x_text::NoMemory;
 
 /// What is told of a document beside its faults.
 #[derive(Clone, Copy, Debug)]
 pub struct Hints<'n> {
     /// Whether the lines of cpp are blanked: then those are told that begin branches, and in later branches
-    /// no fault that a name is declared twice.
+    /// no fault that a name is declared twice, nor what follows from such faults alone.
     pub blanks: bool,
     /// The names that the text takes from C.
     pub foreign: &'n [ForeignName<'n>],
@@ -152,58 +151,6 @@ pub(crate) fn closing_note(alloc: Global, uri: &str) -> Result<Vec<u8>, AllocErr
     note(alloc, "textDocument/publishDiagnostics", params)
 }
 
-/// Whether a fault says that a name is declared twice.
-fn is_repeat(code: FaultCode) -> bool
-    ensures { result ≡ is_repeat code }
-{
-    match code {
-        FaultCode::Syntax(_) => false,
-        FaultCode::Rule(rule) => matches!(rule, RuleCode::Duplicate | RuleCode::RepeatedField),
-    }
-}
-
-/// Whether a fault is told: not if it stands in a later branch of cpp, of which another may declare its name.
-fn is_told(branches: &LaterBranches, fault: &FoundFault) -> bool
-    ensures { result ≡ is_told_by branches.now fault.now }
-{
-    !(is_repeat(fault.code) && branches.has(fault.start))
-}
-
-/// Those of the faults that are told.
-fn told_among(
-    alloc: Global,
-    found: &[FoundFault],
-    branches: &LaterBranches,
-) -> Result<Vec<FoundFault>, NoMemory>
-    ensures { IfOk result (λ told. told.items ≡ filter (is_told_by branches.now) found.now) }
-{
-    let mut told = Vec::with_capacity(alloc, found.len())?;
-    for fault in found {
-        if is_told(branches, fault) {
-            told.push(*fault)?;
-        }
-    }
-    Ok(told)
-}
-
-/// The faults that are told.
-fn told_faults(
-    alloc: Global,
-    blanks: bool,
-    shown: &[u8],
-    session: &Session,
-) -> Result<Vec<FoundFault>, NoMemory>
-    ensures { IfOk result (λ found. Compiles session.now.known session.now.text (λ items.
-        AreFound session.now.text (told_of blanks shown.now (places_of items)) found.items)) }
-{
-    let found = found_faults(alloc, session)?;
-    if !blanks {
-        return Ok(found);
-    }
-    let branches = LaterBranches::of(alloc, shown)?;
-    told_among(alloc, &found, &branches)
-}
-
 /// The diagnostics of what is compiled of a text. Marks where its faults stand.
 fn diagnostics<'d>(
     alloc: Global,
@@ -224,7 +171,7 @@ fn diagnostics<'d>(
     ensures counted { marker.new.encoding ≡ client.encoding }
     ensures diagnostics { IfOk result (λ list. Compiles session.now.known session.now.text (λ items.
         AreDiagnostics client uri.now shown.now session.now.text items
-        (told_of blanks shown.now (places_of items)) (map data_of list.items))) }
+        (told_of blanks shown.now items) (map data_of list.items))) }
 {
     let text = session.bytes();
     let found = told_faults(alloc, blanks, shown, session)?;
@@ -248,18 +195,6 @@ fn diagnostics<'d>(
         })?;
     }
     Ok(list)
-}
-
-/// The bytes of the token between two places.
-fn word_at(text: &[u8], start: usize, end: usize) -> &[u8]
-    requires { IsEndOfToken text.now start end }
-    ensures { result.now ≡ slice_range text.now start end }
-{
-    if start <= end && end <= text.len() {
-        &text[start..end]
-    } else {
-        &[]
-    }
 }
 
 /// A range of a document.

@@ -33,6 +33,7 @@ mod server;
 mod serving;
 mod setting;
 mod spots;
+mod telling;
 mod waymarks;
 
 pub use changes::{Range, TextChange, apply_change};

@@ -1,6 +1,6 @@
 use Rattle.std.proofs.Common.{◌≡◌, ◌++◌, ◌∙◌, [], ◌∷◌, get_or, map, codes, ap, sym, subst, length, take, drop}
 use Rattle.std.specs.Prelude.{string_bytes}
-use Rattle.x_compile.specs.Compile.{IsCompilation, places_of}
+use Rattle.x_compile.specs.Compile.{IsCompilation}
 use Rattle.x_compile.specs.Faults.{fault_text}
 use Rattle.x_compile.specs.declared.fault.FaultPlace.{FaultPlace}
 use Rattle.x_compile.specs.declared.fault.FaultCode.TheVariants as fault_codes
@@ -10,9 +10,10 @@ use Rattle.x_explain.specs.declared.found.FoundFault.{FoundFault}
 use Rattle.x_lsp.specs.declared.published.Diagnostic.{Diagnostic}
 use Rattle.x_lsp.specs.declared.published.Severity.TheVariants.{Error}
 use Rattle.x_lsp.specs.declared.waymarks.Waymarks.{Waymarks}
-use Rattle.x_lsp.specs.Diagnostics.{AreDiagnostics, IsDiagnostic, IsRangeAt, diagnostic_data, fault_number, other_place, range_data, told_of}
+use Rattle.x_lsp.specs.Diagnostics.{AreDiagnostics, IsDiagnostic, IsRangeAt, diagnostic_data, fault_number, other_place, range_data}
 use Rattle.x_lsp.specs.Positions.{position_of}
 use Rattle.x_lsp.specs.Published.{data_of}
+use Rattle.x_lsp.specs.Telling.{told_of}
 use Rattle.x_lsp.proofs.DiagnosticLemmas.{begun_so, diagnostics_more, map-snoc, same_diagnostic}
 use Rattle.x_explain.proofs.FoundLemmas.{ends_there, found_to_the_last, next_at}
 use Rattle.x_lsp.proofs.diagnostics.diagnostics.Goals as goal
@@ -20,7 +21,7 @@ use Rattle.x_lsp.proofs.diagnostics.diagnostics.Goals as goal
 pub word_at-word-requires : goal.word_at-word-requires
 word_at-word-requires c =
     let told = c.loop-fault.invariant.told in
-    ends_there c.bytes-text.result.now (told_of c.args.blanks c.args.shown.now (places_of told.1)) c.deref-fault-items.result.now c.loop-fault.fault-index _ c.loop-fault-test.true told.3.0
+    ends_there c.bytes-text.result.now (told_of c.args.blanks c.args.shown.now told.1) c.deref-fault-items.result.now c.loop-fault.fault-index _ c.loop-fault-test.true told.3.0
 
 -- what stands where there is no fault
 abbrev no_fault : FoundFault
@@ -35,7 +36,7 @@ loop-fault-preserved c =
     let uri = c.args.uri.now in
     let inv = c.loop-fault.invariant in
     let are = inv.told in
-    let all = told_of c.args.blanks shown (places_of are.1) in
+    let all = told_of c.args.blanks shown are.1 in
     let i = c.loop-fault.fault-index in
     let ds = c.deref-fault-items.result.now in
     let fault = get_or ds i no_fault in
@@ -105,6 +106,6 @@ returns-clause-diagnostics c =
     let client = c.args.client in
     let uri = c.args.uri.now in
     let ds = map data_of c.loop-fault.list.items in
-    let all = found_to_the_last text (told_of c.args.blanks shown (places_of told.1)) c.deref-fault-items.result.now c.loop-fault.fault-index c.loop-fault-test.false told.3.0 in
-    subst (λ t. Compiles c.args.session.now.known t (λ items. AreDiagnostics client uri shown t items (told_of c.args.blanks shown (places_of items)) ds)) c.bytes-text.ensures
+    let all = found_to_the_last text (told_of c.args.blanks shown told.1) c.deref-fault-items.result.now c.loop-fault.fault-index c.loop-fault-test.false told.3.0 in
+    subst (λ t. Compiles c.args.session.now.known t (λ items. AreDiagnostics client uri shown t items (told_of c.args.blanks shown items) ds)) c.bytes-text.ensures
     (told.0, told.1, told.2, subst (λ l. AreDiagnostics client uri shown text told.1 l ds) all told.3.1)

@@ -1,10 +1,10 @@
 use Rattle.std.proofs.Common.{◌≡◌, map, take}
-use Rattle.x_compile.specs.Compile.{places_of}
 use Rattle.x_session.specs.Session.{Compiles}
 use Rattle.x_lsp.specs.OtherPlaces.{AreOfText}
-use Rattle.x_lsp.specs.Diagnostics.{AreDiagnostics, told_of}
+use Rattle.x_lsp.specs.Diagnostics.{AreDiagnostics}
 use Rattle.x_explain.specs.Found.{AreFound}
 use Rattle.x_lsp.specs.Published.{data_of}
+use Rattle.x_lsp.specs.Telling.{told_of}
 use Rattle.x_lsp.proofs.diagnostics.diagnostics.Given as goal
 
 abbrev pub invariant-loop-fault : goal.invariant-loop-fault
@@ -16,6 +16,6 @@ invariant-loop-fault l = record {
   text : l.others.text.now ≡ l.fn.shown;
   marked : l.marker.text.now ≡ l.fn.shown;
   counted : l.marker.encoding ≡ l.fn.client.encoding;
-  told : Compiles l.fn.session.known l.text (λ items. AreFound l.text (told_of l.blanks l.fn.shown (places_of items)) l.fault-items
-      × AreDiagnostics l.fn.client l.fn.uri l.fn.shown l.text items (take l.fault-index (told_of l.blanks l.fn.shown (places_of items))) (map data_of l.list.items));
+  told : Compiles l.fn.session.known l.text (λ items. AreFound l.text (told_of l.blanks l.fn.shown items) l.fault-items
+      × AreDiagnostics l.fn.client l.fn.uri l.fn.shown l.text items (take l.fault-index (told_of l.blanks l.fn.shown items)) (map data_of l.list.items));
 }
