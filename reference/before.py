@@ -75,7 +75,33 @@ def compiled(text, known, types=False, foreigners=False):
     if added:
         compilation = rpclang.Compilation(text, rpclang.Compilation(b"".join(added), known).known_behind(None))
     compilation.foreign = [(item, mention.place) for item, mention in (name.mentions[0] for name in foreign)]
+    compilation.foreign_uses = sorted((item, mention.place) for name in foreign for item, mention in name.mentions)
     return compilation
+
+
+def items_led_to(compilation, item):
+    """An item, and all that declare first what it or another one of them uses."""
+    led, left = {item}, [item]
+    while left:
+        for mention in rpclang.mentioned(compilation.definitions[left.pop()]):
+            first = compilation.own.get(mention.name)
+            if first is not None and first.item >= 0 and first.item not in led:
+                led.add(first.item)
+                left.append(first.item)
+    return led
+
+
+def foreign_use(compilation, name):
+    """The line and the column of the first mention of a foreign name among all that the definition of a name leads
+    to; None where there is none."""
+    first = compilation.own.get(name)
+    if first is None or first.item < 0:
+        return None
+    led = items_led_to(compilation, first.item)
+    for item, place in compilation.foreign_uses:
+        if item in led:
+            return rpclang.line_and_column(compilation.text, compilation.items[item][place].start)
+    return None
 
 
 class Faulty(Exception):
@@ -102,9 +128,10 @@ def known_of(files, types=False, foreigners=False):
     return known
 
 
-def known_to_values(files, types=False):
-    """What is known where no name is foreign; None where a file has a fault then."""
+def are_plain(files, types=False):
+    """Whether no file takes a name as foreign: then none has a fault where no name may be."""
     try:
-        return known_of(files, types)
+        known_of(files, types)
+        return True
     except Faulty:
-        return None
+        return False

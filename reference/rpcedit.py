@@ -35,31 +35,20 @@ class Session:
     """The text of one file. A line's answer depends on the text, the file's name, what is known before the text
     and what is taken from C alone."""
 
-    def __init__(self, file, text, known=rpclang.NOTHING, types=False, foreigners=False, known_to_values=None):
-        """`known_to_values` is what is known where no name is foreign, if names may be; None where that has a
-        fault."""
+    def __init__(self, file, text, known=rpclang.NOTHING, types=False, foreigners=False, is_plain=True):
+        """`is_plain` is whether no known file takes a name as foreign."""
         self.file = file
         self.base = base_of(file)
         self.text = text
         self.known, self.types, self.foreigners = known, types, foreigners
-        self.known_to_values = known_to_values
+        self.is_plain = is_plain
         self.refused = False
-        self.last = self.last_to_values = None
+        self.last = None
 
     def compiled(self):
         if self.last is None or self.last.text != self.text:
             self.last = before.compiled(self.text, self.known, self.types, self.foreigners)
         return self.last
-
-    def compiled_to_values(self):
-        """What values are read by: no name is foreign. None where what is known has a fault then."""
-        if not self.foreigners:
-            return self.compiled()
-        if self.known_to_values is None:
-            return None
-        if self.last_to_values is None or self.last_to_values.text != self.text:
-            self.last_to_values = before.compiled(self.text, self.known_to_values, self.types)
-        return self.last_to_values
 
     def refuse(self, answer):
         self.refused = True
@@ -96,8 +85,13 @@ class Session:
         return self.refuse(b"refused 43 BadLine\n")
 
     def dump(self, name, data):
-        compilation = self.compiled_to_values()
-        return b"refused 40 Faulty\n" if compilation is None else values.dump_answer(compilation, name, data)
+        compilation = self.compiled()
+        if self.foreigners and not self.is_plain:
+            return b"refused 40 Faulty\n"
+        at = None if compilation.faults else before.foreign_use(compilation, name)
+        if at is not None:
+            return b"refused 21 Unknown at %d:%d\n" % at
+        return values.dump_answer(compilation, name, data)
 
     def edit(self, start, end, insert):
         if start > end or end > len(self.text):
@@ -152,7 +146,7 @@ def opened(words):
         os.write(2, before.told_faults(*faulty.args))
         raise Stop(1, None) from None
     text = read_whole(files[0])
-    return Session(os.fsencode(files[0]), text, known, *from_c, before.known_to_values(read, from_c[0]))
+    return Session(os.fsencode(files[0]), text, known, *from_c, before.are_plain(read, from_c[0]))
 
 
 def main(words):
