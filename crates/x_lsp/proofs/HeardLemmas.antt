@@ -1,5 +1,5 @@
 -- What is kept of the faults of a text while going over them by its names.
-use Rattle.std.proofs.Common.{◌≡◌, ℕ, ◌+◌, ◌<◌, Bool, true, false, cond, ltb, List, [], ◌∷◌, ◌++◌, length, get_or, set}
+use Rattle.std.proofs.Common.{◌≡◌, ℕ, ◌<◌, Bool, true, false, cond, ltb, List, [], ◌∷◌, ◌++◌, length, get_or, set}
 use Rattle.std.proofs.Common.{zero, suc, replicate, refl, sym, ap, subst, ◌∙◌, append_assoc, append-nil}
 use Rattle.std.proofs.lemmas.List.{get_or_default, length-replicate, length-set}
 use Rattle.std.proofs.lemmas.List.Elements.{filter-append}
@@ -23,7 +23,7 @@ use Rattle.x_lsp.specs.Telling.{is_told, is_told_where, told_of, word_from}
 use Rattle.x_lsp.specs.Voices.{heard_in, heard_with, is_silent_voice, voice_at}
 use Rattle.x_lsp.specs.declared.telling.Voice.{Voice}
 use Rattle.x_lsp.specs.declared.telling.Voice.TheVariants.{Faultless}
-use Rattle.x_lsp.proofs.PlacedLemmas.{IsNext, next_place}
+use Rattle.x_lsp.proofs.PlacedLemmas.{next_place}
 use Rattle.x_lsp.proofs.SilentLemmas.{heard_more, silent_by}
 
 -- the names of the text's items
@@ -120,9 +120,9 @@ heard_next text turns names left rest voices new told more p f end b h is ends t
     let parts = ap (λ l. h.done ++ l) (sym is) ∙ h.parts in
     let next = next_place text h.tokens h.items h.done p rest h.compiled parts in
     let so : (shown : List ℕ) → SayBranchesOf turns shown → is_told shown h.items p ≡ b =
-        λ shown say. sym (tells shown say h.items h.named (next.word end ends)
-        ∙ ap (λ s. is_told_where shown h.items s p) (λ i j. silent_by shown h.items h.done (p ∷ rest) voices p.item
-        parts next.from (h.heard shown say) j i)) in
+    λ shown say. sym (tells shown say h.items h.named (next.word end ends)
+    ∙ ap (λ s. is_told_where shown h.items s p) (λ i j. silent_by shown h.items h.done (p ∷ rest) voices p.item
+    parts next.from (h.heard shown say) j i)) in
     record {
       tokens = h.tokens;
       items = h.items;
@@ -143,6 +143,9 @@ pub heard_all : {known : KnownText} (text : List ℕ) (turns : List Turn) (names
     → SayBranchesOf turns shown → Compiles known text (λ items. AreFound text (told_of true shown items) told)
 heard_all text turns names left voices told h none shown say =
     let all : h.done ≡ places_of h.items =
-        sym (append-nil h.done) ∙ ap (λ l. h.done ++ l) (sym none) ∙ h.parts in
-    (h.tokens, h.items, h.compiled,
-    subst (λ l. AreFound text (filter (is_told shown h.items) l) told) all (h.found shown say))
+    sym (append-nil h.done) ∙ ap (λ l. h.done ++ l) (sym none) ∙ h.parts in (
+      h.tokens,
+      h.items,
+      h.compiled,
+      subst (λ l. AreFound text (filter (is_told shown h.items) l) told) all (h.found shown say),
+    )

@@ -8,10 +8,9 @@ use Rattle.std.proofs.lemmas.List.Folds.{list_any-append}
 use Rattle.std.specs.Prelude.{◌==◌, ◌||◌, All, slice_range}
 use Rattle.std.specs.List.{list_any}
 use Rattle.x_lex.specs.declared.kind.Kind.{Kind}
-use Rattle.x_lex.specs.Places.{Follow, IsLexeme, IsTokenAt, IsWordAt, Lexeme, TilesByPlace, is_line_start, lexemes}
+use Rattle.x_lex.specs.Places.{Follow, IsLexeme, IsTokenAt, Lexeme, TilesByPlace, is_line_start}
 use Rattle.x_lex.specs.Word.{IsWord}
 use Rattle.x_lex.proofs.PlaceLemmas.{by_place}
-use Rattle.x_cutting.specs.Items.{joined}
 use Rattle.x_compile.specs.Compile.{Item, IsCompilation, item_places, place_in, places_from, places_of, start_of}
 use Rattle.x_compile.specs.Compile.{token_faults, tokens_of}
 use Rattle.x_compile.specs.Known.{KnownText}
@@ -56,11 +55,12 @@ ascend_append : (k : ℕ) (ps qs : List FaultPlace) → Each (λ p. p.item ≡ k
     → Ascend qs → Ascend (ps ++ qs)
 ascend_append k [] qs here behind order = order
 ascend_append k (p ∷ ps) qs here behind order =
-    let same = here.0 in
-    (from_so p.item (ps ++ qs) (each_append (λ q. p.item ≤ q.item) ps qs
-        (each_so (λ q. q.item ≡ k) (λ q. p.item ≤ q.item) (λ q e. omega (arith, e, same)) ps here.1)
-        (each_so (λ q. k ≤ q.item) (λ q. p.item ≤ q.item) (λ q le. omega (arith, le, same)) qs behind)),
-    ascend_append k ps qs here.1 behind order)
+    let same = here.0 in (
+      from_so p.item (ps ++ qs) (each_append (λ q. p.item ≤ q.item) ps qs
+          (each_so (λ q. q.item ≡ k) (λ q. p.item ≤ q.item) (λ q e. omega (arith, e, same)) ps here.1)
+          (each_so (λ q. k ≤ q.item) (λ q. p.item ≤ q.item) (λ q le. omega (arith, le, same)) qs behind)),
+      ascend_append k ps qs here.1 behind order,
+    )
 
 all_here : (k : ℕ) (i : Item) (fs : List TokenFault) → Each (λ p. p.item ≡ k) (map (place_in k i.tokens) fs)
 all_here k i [] = tt
@@ -236,12 +236,12 @@ pub next_place : {known : KnownText} (text : List ℕ) (tokens : List (Kind × �
     → done ++ p ∷ rest ≡ places_of items → IsNext text items p rest
 next_place text tokens items done p rest compiled parts =
     let tiles : TilesByPlace text (tokens_of items) =
-        subst (TilesByPlace text) (sym compiled.are_items.all) (by_place text tokens compiled.are_tokens) in
+    subst (TilesByPlace text) (sym compiled.are_items.all) (by_place text tokens compiled.are_tokens) in
     let order : Ascend (p ∷ rest) = order_left done (p ∷ rest) (subst Ascend (sym parts) (in_order 0 items)) in
     let within = each_left (λ q. q.item < length items) done (p ∷ rest)
-        (subst (Each (λ q. q.item < length items)) (sym parts) (all_within (length items) 0 items (omega arith))) in
+    (subst (Each (λ q. q.item < length items)) (sym parts) (all_within (length items) 0 items (omega arith))) in
     let start = each_left (λ q. IsStart (tokens_of items) q.start) done (p ∷ rest)
-        (subst (Each (λ q. IsStart (tokens_of items) q.start)) (sym parts) (all_start 0 items)) in
+    (subst (Each (λ q. IsStart (tokens_of items) q.start)) (sym parts) (all_start 0 items)) in
     record {
       from = (omega arith, order.0);
       within = within.0;

@@ -1,6 +1,6 @@
 -- Which items are silent, by what is kept of the faults gone over.
-use Rattle.std.proofs.Common.{◌≡◌, ◌≢◌, ℕ, zero, suc, ◌+◌, ◌<◌, ◌≤◌, Bool, true, false, cond, eqb, ltb, List, []}
-use Rattle.std.proofs.Common.{◌∷◌, ◌++◌, length, get_or, set, Option, None, Some, refl, sym, ap, subst, ◌∙◌, arith}
+use Rattle.std.proofs.Common.{◌≡◌, ◌≢◌, ℕ, zero, suc, ◌<◌, ◌≤◌, Bool, true, false, cond, eqb, ltb, List, []}
+use Rattle.std.proofs.Common.{◌∷◌, ◌++◌, length, set, Option, None, Some, refl, sym, ap, ◌∙◌, arith}
 use Rattle.std.proofs.Common.{eq-eqb, ne_eqb, ◌⊎◌, inl, inr}
 use Rattle.std.proofs.lemmas.Bool.{eqb-true, ltb-true, lt-ltb, le-ltb, ltb-false}
 use Rattle.std.proofs.lemmas.List.{get_or-set_same, get_or-set_other}
@@ -17,7 +17,7 @@ use Rattle.x_lsp.specs.Telling.{follows_from, has_fault, is_of_branch, is_of_fau
 use Rattle.x_lsp.specs.Telling.{silent_before, word_from}
 use Rattle.x_lsp.specs.Voices.{heard_in, heard_with, is_silent_voice, voice_at, voice_of}
 use Rattle.x_lsp.specs.declared.telling.Voice.{Voice}
-use Rattle.x_lsp.specs.declared.telling.Voice.TheVariants.{Faultless, Silent, Telling}
+use Rattle.x_lsp.specs.declared.telling.Voice.TheVariants.{Faultless}
 use Rattle.x_lsp.proofs.ToldLemmas.{is_free}
 
 -- ---- tests
@@ -65,10 +65,12 @@ silent_step shown items none n j before = by (j == n)
     untold p e =
         (λ i. p.item == n && not (not (e i || follows_none items (silent_before shown items n) before p i)))
         ∙ and_no (p.item == n)
+
     no_fault : has_fault items (λ p. not (is_told_where shown items (silent_before shown items n) p)) n ≡ false
     no_fault = finds_none (is_of_branch shown)
         (λ p. p.item == n && not (is_told_where shown items (silent_before shown items n) p)) untold
         (places_of items) none
+
     by : (b : Bool) → cond b (is_silent items (is_told_where shown items (silent_before shown items n)) n)
         (silent_before shown items n j) ≡ false
     by true = ap (λ b. b && not (has_fault items
@@ -95,9 +97,9 @@ none_follows shown items [] none = refl
 none_follows shown items (p ∷ ps) none =
     let both = neither (is_of_faulty p.code) (list_any (λ (q : FaultPlace). is_of_faulty q.code) ps) none in
     let o = option_map_or (λ (d : Declarer). silent_before shown items p.item d.item)
-        (first_declarer (definitions_of items) (word_from (tokens_of items) p.start)) false in
+    (first_declarer (definitions_of items) (word_from (tokens_of items) p.start)) false in
     let same : is_told shown items p ≡ is_free shown p =
-        ap (λ b. not (is_of_branch shown p || (b && o))) both.0 ∙ ap not (or_no (is_of_branch shown p)) in
+    ap (λ b. not (is_of_branch shown p || (b && o))) both.0 ∙ ap not (or_no (is_of_branch shown p)) in
     let rest = none_follows shown items ps both.1 in
     (λ i. cond (same i) (p ∷ rest i) (rest i))
 
@@ -133,12 +135,12 @@ silent_in : (shown : List ℕ) (items : List Item) (j : ℕ)
     ≡ is_silent items (is_told shown items) j
 silent_in shown items j =
     let same : (p : FaultPlace) → p.item ≡ j
-            → is_told_where shown items (silent_before shown items j) p ≡ is_told shown items p =
-        λ p e. ap (λ n. is_told_where shown items (silent_before shown items n) p) (sym e) in
+    → is_told_where shown items (silent_before shown items j) p ≡ is_told shown items p =
+    λ p e. ap (λ n. is_told_where shown items (silent_before shown items n) p) (sym e) in
     (λ i. scoped j (λ p. not (is_told_where shown items (silent_before shown items j) p))
-        (λ p. not (is_told shown items p)) (λ p e. ap not (same p e)) (places_of items) i
-        && not (scoped j (is_told_where shown items (silent_before shown items j)) (is_told shown items) same
-        (places_of items) i))
+    (λ p. not (is_told shown items p)) (λ p e. ap not (same p e)) (places_of items) i
+    && not (scoped j (is_told_where shown items (silent_before shown items j)) (is_told shown items) same
+    (places_of items) i))
 
 -- an item is silent before a number if it has a lesser one and is silent
 next_silent : (shown : List ℕ) (items : List Item) (n j : ℕ)
@@ -153,6 +155,7 @@ next_silent shown items n j before = by (j == n) refl
     less other false e =
         let le = ltb-false j n e in
         e ∙ sym (le-ltb j (suc n) (omega (arith, le, other)))
+
     by : (b : Bool) → (j == n) ≡ b
         → cond b (is_silent items (is_told_where shown items (silent_before shown items n)) n)
         (silent_before shown items n j) ≡ (ltb j (suc n) && is_silent items (is_told shown items) j)
@@ -199,11 +202,11 @@ heard_silent : (shown : List ℕ) (items : List Item) (done left : List FaultPla
 heard_silent shown items done left n j parts from lt =
     let told = is_told shown items in
     let whole : (f : FaultPlace → Bool) → list_any (λ p. p.item == j && f p) done ≡ has_fault items f j =
-        λ f. sym (or_no (list_any (λ (p : FaultPlace). p.item == j && f p) done))
-        ∙ ap (λ b. list_any (λ (p : FaultPlace). p.item == j && f p) done || b)
-        (sym (later_none n j f lt left from))
-        ∙ sym (list_any-append (λ (p : FaultPlace). p.item == j && f p) done left)
-        ∙ ap (list_any (λ (p : FaultPlace). p.item == j && f p)) parts in
+    λ f. sym (or_no (list_any (λ (p : FaultPlace). p.item == j && f p) done))
+    ∙ ap (λ b. list_any (λ (p : FaultPlace). p.item == j && f p) done || b)
+    (sym (later_none n j f lt left from))
+    ∙ sym (list_any-append (λ (p : FaultPlace). p.item == j && f p) done left)
+    ∙ ap (list_any (λ (p : FaultPlace). p.item == j && f p)) parts in
     silent_voice (list_any (λ (p : FaultPlace). p.item == j && told p) done)
     (list_any (λ (p : FaultPlace). p.item == j && not (told p)) done)
     ∙ (λ i. whole (λ p. not (told p)) i && not (whole told i))
@@ -244,15 +247,18 @@ heard_more told done voices new p b is lt heard new_is j =
   where
     of_told : Bool
     of_told = list_any (λ (q : FaultPlace). q.item == j && told q) done
+
     of_untold : Bool
     of_untold = list_any (λ (q : FaultPlace). q.item == j && not (told q)) done
+
     more : heard_in told (done ++ p ∷ []) j
         ≡ voice_of (of_told || ((eqb p.item j && b) || false)) (of_untold || ((eqb p.item j && not b) || false))
     more =
         (λ i. voice_of (list_any-append (λ (q : FaultPlace). q.item == j && told q) done (p ∷ []) i)
-            (list_any-append (λ (q : FaultPlace). q.item == j && not (told q)) done (p ∷ []) i))
+        (list_any-append (λ (q : FaultPlace). q.item == j && not (told q)) done (p ∷ []) i))
         ∙ (λ i. voice_of (of_told || ((eqb p.item j && is i) || false))
-            (of_untold || ((eqb p.item j && not (is i)) || false)))
+        (of_untold || ((eqb p.item j && not (is i)) || false)))
+
     by : (c : Bool) → eqb p.item j ≡ c
         → voice_at (set voices p.item (heard_with b (voice_at voices p.item))) j
         ≡ voice_of (of_told || ((c && b) || false)) (of_untold || ((c && not b) || false))

@@ -1,5 +1,5 @@
 -- The faults that are told, and hints of names that are taken from C.
-use Rattle.std.proofs.Common.{◌≡◌, ℕ, suc, ◌+◌, ◌<◌, Bool, true, false, cond, List, [], ◌∷◌, ◌++◌, map, take, drop}
+use Rattle.std.proofs.Common.{◌≡◌, ℕ, suc, ◌+◌, ◌<◌, Bool, true, false, cond, List, [], ◌∷◌, ◌++◌, take, drop}
 use Rattle.std.proofs.Common.{get_or, length, append_assoc, refl, sym, ap, subst, ◌∙◌}
 use Rattle.std.proofs.Common.{drop-cons}
 use Rattle.std.proofs.lemmas.List.{drop_more, map-append}

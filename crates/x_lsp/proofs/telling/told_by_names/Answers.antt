@@ -17,7 +17,7 @@ loop-place-init c =
     let told = c.new-told.result.items in
     let named = subst (λ n. Compiles known text (AreNames n)) (sym c.names-2.view_is) c.in_ok-names.ensures in
     let listed = subst (λ l. Compiles known text (λ items. l ≡ places_of items))
-        (sym c.into_iter-place-iterator.ensures.into_iter_gives) c.fault_places-place-items.ensures in
+    (sym c.into_iter-place-iterator.ensures.into_iter_gives) c.fault_places-place-items.ensures in
     subst (λ t. IsHeard known t turns names left voices told) (sym c.bytes-text.ensures)
     (heard_none known text turns names left voices told c.item_count.result named c.item_count.ensures listed
     (c.in_ok-voices.ensures.items_if_clones_equal (search rules)) c.new-told.ensures.items)
