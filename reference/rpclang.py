@@ -845,6 +845,7 @@ class Compilation:
         self.faulty = set()
         self.schema = None          # that of values.py, once it is asked for
         self.foreign = []           # by before.py: item and place of the first mention of each foreign name
+        self.foreign_uses = []      # by before.py: item and place of each mention of one
         for item, (kind, found) in enumerate(parses):
             if kind == "fault":
                 self.tell(item, [found])
