@@ -1,21 +1,19 @@
 -- The names of inline types that are declared again.
-use Rattle.std.proofs.Common.{◌≡◌, ℕ, suc, ◌-◌, ◌<◌, ◌^◌, Bool, true, false, cond, Option, None, Some, length, drop, arith, List, [], ◌∷◌, ◌++◌, map, refl, sym, ap, ◌∙◌}
+use Rattle.std.proofs.Common.{◌≡◌, ℕ, suc, ◌-◌, ◌<◌, Bool, true, false, cond, Option, None, Some, length, drop, arith, List, [], ◌∷◌, ◌++◌, map, refl, sym, ap, ◌∙◌}
 use Rattle.std.specs.Prelude.{nat_eq, not, ◌&&◌, slice_get}
 use Rattle.std.specs.Option.{option_or}
-use Rattle.x_text.proofs.ListLemmas.{get_mapped}
 use Rattle.x_lex.specs.declared.kind.Kind.{Kind}
 use Rattle.x_trees.specs.Collected.{view_name}
 use Rattle.x_trees.specs.Names.{Declared}
-use Rattle.x_trees.specs.Spell.{spell}
 use Rattle.x_trees.specs.Tree.{Definition}
 use Rattle.x_trees.specs.declared.names.declared_name.DeclaredName.{DeclaredName}
 use Rattle.x_names.proofs.NameLemmas.{option_or_after}
-use Rattle.x_compile.specs.Compile.{IsCompilation, Item, definition_at, parsed_definition, tokens_of}
+use Rattle.x_compile.specs.Compile.{IsCompilation, Item, definition_at, parsed_definition}
 use Rattle.x_compile.specs.Known.{KnownText}
 use Rattle.x_session.specs.Session.{Compiles}
 use Rattle.x_explain.specs.AgainNames.{again_among, again_from, again_in, at_start, ends_with_own, name_at, start_again}
-use Rattle.x_explain.proofs.DeclaredLemmas.{of_each, short_each}
-use Rattle.x_explain.proofs.ItemsLeft.{item_at, none_left}
+use Rattle.x_declared.proofs.DeclaredLemmas.{of_each}
+use Rattle.x_declared.proofs.ItemsLeft.{item_at, none_left}
 
 -- the last of a list of names
 pub ends_with : (word : ℕ) (names : List DeclaredName) (x : DeclaredName) → slice_get names (length names - 1) ≡ Some x → ends_with_own word (map view_name names) ≡ nat_eq x.word word && not x.lifted
@@ -67,17 +65,3 @@ pub none_behind : {known : KnownText} (text : List ℕ) (tokens : List (Kind × 
 none_behind text tokens items count start is many =
     let count_is = of_each text many tokens items is in
     sym (ap (λ l. name_at (again_from items count l) start) (none_left items count (omega (arith, count_is))))
-
--- a definition of the text is short
-pub short_at : {known : KnownText} (text : List ℕ) (tokens : List (Kind × ℕ)) (items : List Item) (n count all : ℕ) (d : Definition) → n < count → all < 2 ^ 64 → IsCompilation known text tokens items
-    → Compiles known text (λ items. count ≡ length items) → Compiles known text (λ items. all ≡ length (tokens_of items)) → Compiles known text (λ items. Some d ≡ definition_at items n) → length (spell d) < 2 ^ 64
-short_at text tokens items n count all d lt few is many words defined =
-    let count_is = of_each text many tokens items is in
-    let all_is = of_each text words tokens items is in
-    let at = item_at items n (omega (arith, lt, count_is)) is.are_parses in
-    let here = of_each text defined tokens items is ∙ at.definition in
-    short_each items n d all is.are_parses (omega (arith, all_is)) few (get_mapped (λ (i : Item). parsed_definition i.parse) items n at.item (drop (suc n) items) at.here ∙ ap Some (sym here))
-
-pub none_is : {X : Type 0} (o : Option X) → ((x : X) → o ≡ Some x → ⊥) → o ≡ None
-none_is None not = refl
-none_is (Some x) not = absurd (not x refl)

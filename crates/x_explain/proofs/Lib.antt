@@ -1,10 +1,8 @@
 pub mod AgainLemmas
 pub mod ColumnLemmas
-pub mod DeclaredLemmas
 pub mod ExcerptLemmas
 pub mod ForeignLemmas
 pub mod FoundLemmas
-pub mod ItemsLeft
 pub mod KnownFileLemmas
 pub mod PassLemmas
 pub mod SuggestionLemmas

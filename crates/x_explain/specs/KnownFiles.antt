@@ -1,16 +1,11 @@
 -- Where names are declared first that a text uses: in files that are known before it, or in itself.
-use Rattle.std.specs.Prelude.{ℕ, List, [], ◌∷◌, Option, None, Some, map, option_and_then, option_map}
-use Rattle.std.specs.Prelude.{slice_get}
+use Rattle.std.specs.Prelude.{ℕ, List, [], ◌∷◌, Option, None, Some, map, option_map}
 use Rattle.std.specs.Option.{option_or}
-use Rattle.x_names.specs.DeclarerTable.{first_in}
-use Rattle.x_names.specs.declared.names.Declarer.{Declarer}
 use Rattle.x_compile.specs.Compile.{Item}
-use Rattle.x_explain.specs.declared.declared.DeclaredNames.{DeclaredNames}
-use Rattle.x_explain.specs.declared.declared.FirstPlace.{FirstPlace}
-use Rattle.x_explain.specs.declared.declared.Spot.{Spot}
+use Rattle.x_declared.specs.declared.declared.FirstPlace.{FirstPlace}
 use Rattle.x_explain.specs.declared.known_files.FirstDeclaration as rust
 use Rattle.x_explain.specs.declared.known_files.KnownFile.{KnownFile}
-use Rattle.x_explain.specs.DeclaredNames.{declared_at, first_place}
+use Rattle.x_declared.specs.DeclaredNames.{first_place, place_in}
 
 -- where a name is declared first: in the file of this name, or in the text itself
 pub record FirstDeclaration : Type 0 where
@@ -39,20 +34,6 @@ first_declaration before text items name =
     option_or (before name) (option_map (declared_in None) (first_place text items name))
 
 -- ---- what the program has of that
-
--- where a word starts, and a name is declared first, by the table of a text
-abbrev pub word_spot : DeclaredNames → (item word : ℕ) → Option Spot
-word_spot table item word = option_and_then (λ words. slice_get words word)
-    (slice_get (map (λ v. v.items) table.words.items) item)
-
-abbrev pub spot_in : DeclaredNames → Declarer → Option Spot
-spot_in table d = word_spot table d.item d.word
-
-abbrev pub place_by : DeclaredNames → Declarer → Option FirstPlace
-place_by table d = option_map (declared_at d) (spot_in table d)
-
-abbrev pub place_in : DeclaredNames → List ℕ → Option FirstPlace
-place_in table name = option_and_then (place_by table) (first_in table.names name)
 
 abbrev pub file_place : KnownFile → KnownPlaces
 file_place f name = option_map (declared_in (Some f.file.now)) (place_in f.names name)

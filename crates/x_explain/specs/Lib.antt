@@ -1,10 +1,8 @@
 pub mod AgainNames
 pub mod Columns
-pub mod DeclaredNames
 pub mod Excerpts
 pub mod Explained
 pub mod Facts
-pub mod Foreign
 pub mod Found
 pub mod KnownFiles
 pub mod Sentences

@@ -1,21 +1,13 @@
-//! The names that a text takes from C.
+//! The names that a text takes from C, as they are told.
 
 ghost use Rattle.std.specs.List.{flat_map};
 ghost use Rattle.x_text.specs.Writing.{Adds};
 ghost use Rattle.x_explain.specs.Explained.{foreign_line};
-ghost use Rattle.x_explain.specs.Foreign.{view_all, view_foreign};
+ghost use Rattle.x_declared.specs.Foreign.{view_all, view_foreign};
 
-use crate::declared::Spot;
 use crate::lines::{CYAN, add_painted, add_place};
+use x_declared::ForeignName;
 use x_text::{Pen, Sink};
-
-/// A name that a text takes from C, as nobody declares it.
-#[derive(Clone, Copy, Debug)]
-pub struct ForeignName<'s> {
-    pub name: &'s [u8],
-    /// Where the text uses it first.
-    pub spot: Spot,
-}
 
 /// Adds a line for each of the names.
 pub(crate) fn add_foreign_lines<S: Sink>(

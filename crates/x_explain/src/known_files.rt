@@ -4,8 +4,8 @@ ghost use Rattle.std.specs.Prelude.{◌≡◌, OnOk, option_map};
 ghost use Rattle.x_session.specs.Session.{Compiles};
 ghost use Rattle.x_explain.specs.KnownFiles.{no_places, places_of_files, view_first, with_file};
 
-use crate::declared::{DeclaredNames, FirstPlace};
 use std::alloc::Global;
+use x_declared::{DeclaredNames, FirstPlace};
 use x_session::Session;
 use x_text::NoMemory;
 

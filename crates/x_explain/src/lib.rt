@@ -2,7 +2,6 @@
 #![tactic(auto)]
 
 mod again;
-mod declared;
 mod excerpt;
 mod explained;
 mod facts;
@@ -15,10 +14,8 @@ mod sentences;
 mod shown;
 mod suggestions;
 
-pub use declared::{DeclaredNames, FirstPlace, Spot, definitions, names};
 pub use explained::add_explained_faults;
 pub use facts::{FaultFacts, FaultNames, Known};
-pub use foreign::ForeignName;
 pub use found::{FoundFault, found_faults, token_end};
 pub use known_files::{FirstDeclaration, KnownFiles};
 pub use laws::mark_under_word;

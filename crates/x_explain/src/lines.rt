@@ -8,11 +8,11 @@ ghost use Rattle.x_explain.specs.Explained.{blank_front, caret_line, declared_li
 ghost use Rattle.x_explain.specs.Explained.{mark, meant, note_line, number_field, painted, place};
 ghost use Rattle.x_explain.specs.Explained.{shown_front, shown_rear, source_line, word_tildes};
 
-use crate::declared::FirstPlace;
 use crate::excerpt::Excerpt;
 use crate::known_files::FirstDeclaration;
 use crate::shown::{add_blanks, add_other_tildes, add_shown, first_of};
 use itoa::Buffer;
+use x_declared::FirstPlace;
 use x_text::{Pen, Sink};
 use x_value::add_number;
 

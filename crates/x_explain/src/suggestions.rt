@@ -16,11 +16,11 @@ ghost use Rattle.x_explain.specs.Suggestions.{is_unsigned_int, is_unsigned_long,
 ghost use Rattle.x_explain.specs.Suggestions.{nearest, sought, suggested};
 ghost use Rattle.x_explain.specs.Suggestions.{suggested_at, suggestion, type_of_c, view_suggestion};
 
-use crate::declared::definitions;
 use crate::found::{FoundFault, found_at, word_at};
 use std::alloc::Global;
 use std::borrow::CowSlice;
 use strsim::generic_damerau_levenshtein;
+use x_declared::definitions;
 use x_item::{Definition, declares};
 use x_session::{FaultCode, FaultPlace, RuleCode, Session};
 use x_text::NoMemory;

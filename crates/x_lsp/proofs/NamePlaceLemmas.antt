@@ -19,8 +19,8 @@ use Rattle.x_compile.proofs.Compiled.{one_compilation}
 use Rattle.x_compile.specs.Known.{KnownText}
 use Rattle.x_session.specs.Session.{Compiles}
 use Rattle.x_lsp.specs.declared.questions.name_places.Standing.{Standing}
-use Rattle.x_explain.specs.DeclaredNames.{words_in}
-use Rattle.x_explain.proofs.ItemsLeft.{AreLeft, all_left, item_at, next_item_is, none_left}
+use Rattle.x_declared.specs.DeclaredNames.{words_in}
+use Rattle.x_declared.proofs.ItemsLeft.{AreLeft, all_left, item_at, next_item_is, none_left}
 use Rattle.x_lsp.specs.NamePlaces.{NamePlace, declared_on, mentioned_on, name_on, names_by, names_of, tokens_where}
 
 -- ---- lists of names

@@ -10,9 +10,9 @@ use Rattle.serde_json.specs.Written.{compact_text}
 use Rattle.x_compile.specs.declared.fault.FaultPlace.{FaultPlace}
 use Rattle.x_directives.specs.Branches.{SayBranchesOf, said_of}
 use Rattle.x_directives.specs.declared.branches.Turn.{Turn}
-use Rattle.x_explain.specs.Foreign.{ForeignName, view_all, view_foreign}
+use Rattle.x_declared.specs.Foreign.{ForeignName, view_all, view_foreign}
 use Rattle.x_explain.specs.Found.{AreFound, IsFound}
-use Rattle.x_explain.specs.declared.foreign.ForeignName as rust
+use Rattle.x_declared.specs.declared.foreign.ForeignName as rust
 use Rattle.x_explain.specs.declared.found.FoundFault.{FoundFault}
 use Rattle.x_explain.proofs.FoundLemmas.{take_more}
 use Rattle.x_lsp.specs.Diagnostics.{AreForeignHints, IsForeignHint, published_data}

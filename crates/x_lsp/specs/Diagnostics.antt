@@ -17,9 +17,9 @@ use Rattle.x_compile.specs.Compile.{Item}
 use Rattle.x_compile.specs.Faults.{fault_text}
 use Rattle.x_directives.specs.Conditionals.{conditionals}
 use Rattle.x_directives.specs.declared.conditions.Conditional.{Conditional}
-use Rattle.x_explain.specs.DeclaredNames.{definition_of}
+use Rattle.x_declared.specs.DeclaredNames.{definition_of}
 use Rattle.x_explain.specs.Facts.{name_of}
-use Rattle.x_explain.specs.Foreign.{ForeignName}
+use Rattle.x_declared.specs.Foreign.{ForeignName}
 use Rattle.x_explain.specs.Found.{IsEndOfToken}
 use Rattle.x_prelude.specs.Foreign.{AreForeign}
 use Rattle.x_lsp.specs.declared.changes.Range.{Range}

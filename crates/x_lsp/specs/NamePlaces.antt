@@ -8,7 +8,7 @@ use Rattle.x_trees.specs.Tree.{Definition}
 use Rattle.x_trees.specs.Names.{Declared, declared}
 use Rattle.x_trees.specs.Mentions.{Mention, mentioned}
 use Rattle.x_compile.specs.Compile.{Item, parsed_definition}
-use Rattle.x_explain.specs.DeclaredNames.{words_in}
+use Rattle.x_declared.specs.DeclaredNames.{words_in}
 use Rattle.x_lsp.specs.declared.questions.name_places.Standing.{Standing}
 use Rattle.x_lsp.specs.declared.questions.name_places.Standing.TheVariants.{Declares, Lifts, Uses}
 

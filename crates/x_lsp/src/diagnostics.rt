@@ -8,7 +8,7 @@ ghost use Rattle.serde_json.specs.View.{view};
 ghost use Rattle.serde_json.specs.Written.{compact_text};
 ghost use Rattle.x_compile.specs.Faults.{fault_text};
 ghost use Rattle.x_session.specs.Session.{Compiles};
-ghost use Rattle.x_explain.specs.Foreign.{view_all};
+ghost use Rattle.x_declared.specs.Foreign.{view_all};
 ghost use Rattle.x_directives.specs.Conditionals.{conditionals};
 ghost use Rattle.x_lsp.specs.Diagnostics.{AreDiagnostics, AreForeignHints, IsPublishedOf, closing_data};
 ghost use Rattle.x_lsp.specs.Diagnostics.{diagnostic_data, fault_number, hint_data, position_data};
@@ -30,7 +30,8 @@ use crate::waymarks::Waymarks;
 use serde_json::{Value, json};
 use std::alloc::{AllocError, Global};
 use x_directives::conditionals;
-use x_explain::{ForeignName, token_end};
+use x_declared::ForeignName;
+use x_explain::token_end;
 use x_session::Session;
 use x_text::NoMemory;
 

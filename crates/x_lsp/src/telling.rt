@@ -13,7 +13,8 @@ ghost use Rattle.x_lsp.specs.Voices.{heard_with, is_of_branch_by, is_silent_voic
 
 use std::alloc::Global;
 use x_directives::LaterBranches;
-use x_explain::{FoundFault, found_faults, names, token_end};
+use x_declared::names;
+use x_explain::{FoundFault, found_faults, token_end};
 use x_names::Names;
 use x_session::{FaultCode, FaultPlace, RuleCode, Session};
 use x_text::NoMemory;

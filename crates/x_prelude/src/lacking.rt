@@ -12,7 +12,7 @@ ghost use Rattle.x_prelude.specs.LackingTable.{HasFirsts, HasNames, HasTags, occ
 use indexmap::IndexMap;
 use std::alloc::Global;
 use x_compile::KnownDefinitions;
-use x_explain::names;
+use x_declared::names;
 use x_hash::{HashKey, KeyedTable};
 use x_names::{Names, is_beforehand};
 use x_session::Session;

@@ -14,7 +14,7 @@ use crate::definition::{FromC, is_type};
 use crate::lacking::is_lacking;
 use std::alloc::Global;
 use x_compile::KnownDefinitions;
-use x_explain::{DeclaredNames, Spot, definitions, names};
+use x_declared::{DeclaredNames, Spot, definitions, names};
 use x_names::Names;
 use x_session::Session;
 use x_text::NoMemory;

@@ -10,7 +10,7 @@ use crate::questions::surroundings::{Expected, expected_at};
 use serde_json::{Value, json};
 use std::alloc::Global;
 use std::str;
-use x_explain::definitions;
+use x_declared::definitions;
 use x_item::{DeclaredName, Definition, Glossary, NameKind};
 use x_names::Names;
 use x_session::Session;

@@ -3,7 +3,7 @@
 ghost use Rattle.std.specs.Prelude.{◌≡◌, IfOk, map, option_and_then, option_map};
 ghost use Rattle.x_lex.specs.Places.{lexeme};
 ghost use Rattle.x_session.specs.Session.{Compiles};
-ghost use Rattle.x_explain.specs.DeclaredNames.{definition_of};
+ghost use Rattle.x_declared.specs.DeclaredNames.{definition_of};
 ghost use Rattle.x_lsp.specs.NamePlaces.{first_of, name_at, references_of};
 
 use crate::questions::name_places::{Sought, find_names};

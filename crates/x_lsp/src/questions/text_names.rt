@@ -2,7 +2,7 @@
 
 use crate::questions::name_places::{Sought, find_names};
 use std::alloc::Global;
-use x_explain::definitions;
+use x_declared::definitions;
 use x_lex::Token;
 use x_names::{Declarer, Names};
 use x_session::Session;

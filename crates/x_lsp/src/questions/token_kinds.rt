@@ -12,7 +12,7 @@ use crate::questions::cursor::Cursor;
 use crate::questions::parts::{PartKind, parts_of};
 use serde_json::{Value, json};
 use std::alloc::Global;
-use x_explain::definitions;
+use x_declared::definitions;
 use x_item::{Glossary, NameKind, is_significant, next_item};
 use x_lex::{Kind, Token};
 use x_names::{Names, is_beforehand};

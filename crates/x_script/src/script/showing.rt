@@ -20,7 +20,7 @@ use super::command::message_bytes;
 use super::refusal::LineRefusal;
 use super::{ScriptFile, renew};
 use std::alloc::Global;
-use x_explain::Spot;
+use x_declared::Spot;
 use x_prelude::FollowedText;
 use x_session::{Schema, SchemaFault, Session, TypeId};
 use x_text::{NoMemory, Pen, Sink};

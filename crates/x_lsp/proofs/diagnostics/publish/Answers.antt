@@ -2,7 +2,7 @@ use Rattle.std.proofs.Common.{◌≡◌, ◌++◌, ◌∙◌, [], append-nil, ap
 use Rattle.std.specs.Prelude.{All}
 use Rattle.serde_json.specs.Written.{compact_text}
 use Rattle.std.proofs.lemmas.Int.{to_z-of_z}
-use Rattle.x_explain.specs.Foreign.{view_all}
+use Rattle.x_declared.specs.Foreign.{view_all}
 use Rattle.x_lsp.specs.Diagnostics.{AreForeignHints, hints_of, published_data}
 use Rattle.x_lsp.specs.Published.{data_of}
 use Rattle.x_lsp.specs.Waymarks.{IsWaymark}

@@ -3,7 +3,7 @@ use Rattle.std.specs.List.{filter, list_any}
 use Rattle.x_compile.specs.Compile.{places_of}
 use Rattle.x_session.specs.Session.{Compiles}
 use Rattle.x_explain.specs.Found.{AreFound}
-use Rattle.x_explain.proofs.DeclaredLemmas.{ok_then}
+use Rattle.x_declared.proofs.DeclaredLemmas.{ok_then}
 use Rattle.x_lsp.specs.Telling.{is_of_branch, is_of_faulty, told_of}
 use Rattle.x_lsp.proofs.ToldLemmas.{any_faulty, any_of_branch, found_kept, is_free, is_free_by}
 use Rattle.x_lsp.proofs.SilentLemmas.{all_free}

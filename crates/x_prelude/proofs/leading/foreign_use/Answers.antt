@@ -4,7 +4,7 @@ use Rattle.x_names.specs.DeclarerTable.{first_in}
 use Rattle.x_compile.specs.Compile.{definitions_of}
 use Rattle.x_compile.specs.Known.{known_names}
 use Rattle.x_session.specs.Session.{Compiles}
-use Rattle.x_explain.proofs.DeclaredLemmas.{of_each}
+use Rattle.x_declared.proofs.DeclaredLemmas.{of_each}
 use Rattle.x_prelude.specs.Leading.{AreLed}
 use Rattle.x_prelude.specs.Reaching.{AreNamesOf, is_marked}
 use Rattle.x_prelude.proofs.LeadingLemmas.{Finds, names_of, none_found, use_found, within_text}

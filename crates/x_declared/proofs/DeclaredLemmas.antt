@@ -5,6 +5,7 @@ use Rattle.std.specs.Option.{option_copied}
 use Rattle.std.proofs.lemmas.List.{append-nil, length-append}
 use Rattle.std.proofs.lemmas.List.Sums.{length-filter, count_by-le-length}
 use Rattle.std.proofs.lemmas.Option.{slice_get-map, slice_get_read}
+use Rattle.x_text.proofs.ListLemmas.{get_mapped}
 use Rattle.x_lex.specs.declared.kind.Kind.{Kind}
 use Rattle.x_lex.specs.declared.tokens.token.Token.{Token}
 use Rattle.x_lex.specs.Places.{Lexeme, lexeme}
@@ -20,12 +21,12 @@ use Rattle.x_compile.specs.Compile.{AreParses, IsCompilation, Item, definition_a
 use Rattle.x_compile.proofs.Compiled.{one_compilation}
 use Rattle.x_compile.specs.Known.{KnownText}
 use Rattle.x_session.specs.Session.{Compiles}
-use Rattle.x_explain.specs.declared.declared.DeclaredNames.{DeclaredNames}
-use Rattle.x_explain.specs.declared.declared.FirstPlace.{FirstPlace}
-use Rattle.x_explain.specs.declared.declared.Spot.{Spot}
-use Rattle.x_explain.specs.DeclaredNames.{IsTableOf, declared_at, first_place, first_place_by, spot_at, word_at, word_of_item, word_spots, words_in}
-use Rattle.x_explain.specs.KnownFiles.{place_by, place_in, word_spot}
-use Rattle.x_explain.proofs.ItemsLeft.{AreLeft, all_left, item_at, next_item_is, none_left, short_definition}
+use Rattle.x_declared.specs.declared.declared.DeclaredNames.{DeclaredNames}
+use Rattle.x_declared.specs.declared.declared.FirstPlace.{FirstPlace}
+use Rattle.x_declared.specs.declared.declared.Spot.{Spot}
+use Rattle.x_declared.specs.DeclaredNames.{IsTableOf, declared_at, first_place, first_place_by, spot_at, word_at, word_of_item, word_spots, words_in}
+use Rattle.x_declared.specs.DeclaredNames.{place_by, place_in, word_spot}
+use Rattle.x_declared.proofs.ItemsLeft.{AreLeft, all_left, item_at, next_item_is, none_left, short_definition}
 
 -- what holds of one compilation holds of each
 pub of_each : {known : KnownText} {P : List Item → Type 0} (text : List ℕ) → Compiles known text P → (tokens : List (Kind × ℕ)) (items : List Item) → IsCompilation known text tokens items → P items
@@ -221,3 +222,17 @@ names_found text definitions table count few tokens are first =
 pub table_found : {known : KnownText} (text : List ℕ) (table : DeclaredNames) → Compiles known text (λ items. map (λ v. v.items) table.words.items ≡ map (word_spots text) items)
     → Compiles known text (λ items. (name : List ℕ) → first_in table.names name ≡ first_declarer (definitions_of items) name) → Compiles known text (λ items. IsTableOf text items table)
 table_found text table words names = (names.0, names.1, names.2, record { words = of_each text words names.0 names.1 names.2; names = names.3 })
+
+-- a definition of the text is short
+pub short_at : {known : KnownText} (text : List ℕ) (tokens : List (Kind × ℕ)) (items : List Item) (n count all : ℕ) (d : Definition) → n < count → all < 2 ^ 64 → IsCompilation known text tokens items
+    → Compiles known text (λ items. count ≡ length items) → Compiles known text (λ items. all ≡ length (tokens_of items)) → Compiles known text (λ items. Some d ≡ definition_at items n) → length (spell d) < 2 ^ 64
+short_at text tokens items n count all d lt few is many words defined =
+    let count_is = of_each text many tokens items is in
+    let all_is = of_each text words tokens items is in
+    let at = item_at items n (omega (arith, lt, count_is)) is.are_parses in
+    let here = of_each text defined tokens items is ∙ at.definition in
+    short_each items n d all is.are_parses (omega (arith, all_is)) few (get_mapped (λ (i : Item). parsed_definition i.parse) items n at.item (drop (suc n) items) at.here ∙ ap Some (sym here))
+
+pub none_is : {X : Type 0} (o : Option X) → ((x : X) → o ≡ Some x → ⊥) → o ≡ None
+none_is None not = refl
+none_is (Some x) not = absurd (not x refl)

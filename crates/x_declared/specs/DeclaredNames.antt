@@ -8,9 +8,9 @@ use Rattle.x_names.specs.Declarers.{first_declarer}
 use Rattle.x_names.specs.DeclarerTable.{first_in}
 use Rattle.x_names.specs.declared.names.Declarer.{Declarer}
 use Rattle.x_compile.specs.Compile.{Item, definitions_of}
-use Rattle.x_explain.specs.declared.declared.DeclaredNames.{DeclaredNames}
-use Rattle.x_explain.specs.declared.declared.FirstPlace.{FirstPlace}
-use Rattle.x_explain.specs.declared.declared.Spot.{Spot}
+use Rattle.x_declared.specs.declared.declared.DeclaredNames.{DeclaredNames}
+use Rattle.x_declared.specs.declared.declared.FirstPlace.{FirstPlace}
+use Rattle.x_declared.specs.declared.declared.Spot.{Spot}
 
 -- the words of an item: its tokens that count
 abbrev pub words_in : List Lexeme → List Lexeme
@@ -51,3 +51,19 @@ word_spots text i = map (λ t. spot_at text t.start) (words_in i.tokens)
 pub record IsTableOf (text : List ℕ) (items : List Item) (table : DeclaredNames) : Type 0 where
   pub words : map (λ v. v.items) table.words.items ≡ map (word_spots text) items
   pub names : (name : List ℕ) → first_in table.names name ≡ first_declarer (definitions_of items) name
+
+-- ---- what the program has of that
+
+-- where a word starts, and a name is declared first, by the table of a text
+abbrev pub word_spot : DeclaredNames → (item word : ℕ) → Option Spot
+word_spot table item word = option_and_then (λ words. slice_get words word)
+    (slice_get (map (λ v. v.items) table.words.items) item)
+
+abbrev pub spot_in : DeclaredNames → Declarer → Option Spot
+spot_in table d = word_spot table d.item d.word
+
+abbrev pub place_by : DeclaredNames → Declarer → Option FirstPlace
+place_by table d = option_map (declared_at d) (spot_in table d)
+
+abbrev pub place_in : DeclaredNames → List ℕ → Option FirstPlace
+place_in table name = option_and_then (place_by table) (first_in table.names name)

@@ -7,9 +7,9 @@ ghost use Rattle.x_names.specs.Declarers.{first_declarer};
 ghost use Rattle.x_names.specs.DeclarerTable.{first_in};
 ghost use Rattle.x_compile.specs.Compile.{Item, definitions_of};
 ghost use Rattle.x_session.specs.Session.{Compiles};
-ghost use Rattle.x_explain.specs.DeclaredNames.{IsTableOf, first_place, spot_at, word_at, word_of_item};
-ghost use Rattle.x_explain.specs.DeclaredNames.{word_spots, words_in};
-ghost use Rattle.x_explain.specs.KnownFiles.{place_in, spot_in, word_spot};
+ghost use Rattle.x_declared.specs.DeclaredNames.{IsTableOf, first_place, spot_at, word_at, word_of_item};
+ghost use Rattle.x_declared.specs.DeclaredNames.{word_spots, words_in};
+ghost use Rattle.x_declared.specs.DeclaredNames.{place_in, spot_in, word_spot};
 
 use std::alloc::Global;
 use x_item::{Definition, NameKind, is_significant, next_item};
@@ -78,7 +78,7 @@ impl<'s> DeclaredNames<'s> {
     }
 
     /// Who declares a name first (RFC 4506, section 6.4).
-    pub(crate) fn first_declarer(&self, name: &[u8]) -> Option<Declarer>
+    pub fn first_declarer(&self, name: &[u8]) -> Option<Declarer>
         ensures { (text : List ℕ) (items : List Item) → IsTableOf text items self.now
             → result ≡ first_declarer (definitions_of items) name.now }
     {
@@ -86,7 +86,7 @@ impl<'s> DeclaredNames<'s> {
     }
 
     /// Where the word starts that declares a name.
-    pub(crate) fn spot(&self, declarer: &Declarer) -> Option<Spot>
+    pub fn spot(&self, declarer: &Declarer) -> Option<Spot>
         ensures by_table { result ≡ spot_in self.now declarer.now }
         ensures by_items { (text : List ℕ) (items : List Item) → IsTableOf text items self.now
             → result ≡ option_map (λ t. spot_at text t.start) (word_at items declarer.now) }

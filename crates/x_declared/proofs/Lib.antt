@@ -1,0 +1,2 @@
+pub mod DeclaredLemmas
+pub mod ItemsLeft

@@ -1,0 +1,2 @@
+pub mod DeclaredNames
+pub mod Foreign
