@@ -1,0 +1,120 @@
+//! The names that types and enumerators have in C.
+
+ghost use Rattle.std.specs.Prelude.{◌≡◌, ◌++◌, ◌<◌, ◌^◌, length, map, OnOk, IfOk};
+ghost use Rattle.x_trees.specs.Collected.{view_name};
+ghost use Rattle.x_trees.specs.View.{view_definition};
+ghost use Rattle.x_outline.specs.BodyWalks.{view_body_at, AreFilled};
+ghost use Rattle.x_clash.specs.Given.{bodies_after, body_names, declared_names, type_names, typedef_names};
+ghost use Rattle.x_clash.specs.Parts.{has_body};
+ghost use Rattle.x_clash.specs.Views.{view_all};
+
+use crate::given::{Given, Sort, add, add_made, kept};
+use crate::members::{add_length, add_members};
+use std::alloc::Global;
+use x_outline::{BodyAt, Outline};
+use x_text::NoMemory;
+use x_trees::{DeclaredName, Definition, NameKind};
+
+/// Whether a name is that of a type with a body.
+fn has_body(kind: NameKind) -> bool
+    ensures { result ≡ has_body kind }
+{
+    matches!(kind, NameKind::Enum | NameKind::Struct | NameKind::Union)
+}
+
+/// Adds a type of this sort, and its routine.
+fn add_type<'d>(
+    alloc: Global,
+    list: &mut Vec<Given<'d>>,
+    declared: &DeclaredName<'d>,
+    sort: Sort<'d>,
+) -> Result<(), NoMemory> {
+    add(list, kept(alloc, &declared.name)?, declared.word, sort)?;
+    add_made(alloc, list, &[b"xdr_", &declared.name], declared.word, Sort::Function)
+}
+
+/// Adds what a name that is declared gives: a type has a routine, too.
+fn add_declared<'d>(
+    alloc: Global,
+    list: &mut Vec<Given<'d>>,
+    declared: &DeclaredName<'d>,
+) -> Result<(), NoMemory>
+    ensures { OnOk result (view_all list.new.items
+        ≡ view_all list.old.items ++ declared_names (view_name declared.now)) }
+{
+    match declared.kind {
+        NameKind::Constant => add(
+            list,
+            kept(alloc, &declared.name)?,
+            declared.word,
+            Sort::Plain,
+        ),
+        NameKind::Typedef => add_type(alloc, list, declared, Sort::Plain),
+        NameKind::Program => Ok(()),
+        NameKind::Enum | NameKind::Struct | NameKind::Union => {
+            add_type(alloc, list, declared, Sort::Tagged)
+        }
+    }
+}
+
+/// Adds the members of the struct that a `typedef` of many elements is.
+fn add_typedef<'d>(
+    alloc: Global,
+    list: &mut Vec<Given<'d>>,
+    definition: &Definition,
+    declared: &DeclaredName<'d>,
+) -> Result<(), NoMemory>
+    ensures { OnOk result (view_all list.new.items ≡ view_all list.old.items
+        ++ typedef_names (view_definition definition.now) (view_name declared.now)) }
+{
+    match definition {
+        Definition::Typedef(declaration) if declared.kind == NameKind::Typedef => {
+            add_length(alloc, list, &declared.name, declared.word, declaration)
+        }
+        _ => Ok(()),
+    }
+}
+
+/// Adds the members of a type whose body is the first of these, and answers those that are left.
+fn add_body<'d, 'b>(
+    alloc: Global,
+    list: &mut Vec<Given<'d>>,
+    declared: &DeclaredName<'d>,
+    bodies: &'b [BodyAt<'d>],
+) -> Result<&'b [BodyAt<'d>], NoMemory>
+    ensures names { OnOk result (AreFilled bodies.now → view_all list.new.items ≡ view_all list.old.items
+        ++ body_names (view_name declared.now) (map view_body_at bodies.now)) }
+    ensures left { IfOk result (λ left. map view_body_at left.now
+        ≡ bodies_after (view_name declared.now) (map view_body_at bodies.now)) }
+    ensures filled { IfOk result (λ left. AreFilled bodies.now → AreFilled left.now) }
+{
+    if !has_body(declared.kind) {
+        return Ok(bodies);
+    }
+    match bodies.split_first() {
+        Some((body, left)) => {
+            add_members(alloc, list, &declared.name, body)?;
+            Ok(left)
+        }
+        None => Ok(bodies),
+    }
+}
+
+/// Adds the names that the definition of an outline gives, which is no constant and no program.
+pub fn add_types<'d>(
+    alloc: Global,
+    list: &mut Vec<Given<'d>>,
+    outline: &Outline<'d>,
+) -> Result<(), NoMemory>
+    ensures { OnOk result (AreFilled outline.now.bodies.items → view_all list.new.items
+        ≡ view_all list.old.items ++ type_names (view_definition outline.now.definition.now)
+        (map view_name outline.now.declared.items) (map view_body_at outline.now.bodies.items)) }
+{
+    let mut bodies = outline.bodies.as_slice();
+    for declared in &outline.declared {
+        add_declared(alloc, list, declared)?;
+        add_typedef(alloc, list, outline.definition, declared)?;
+        bodies = add_body(alloc, list, declared, bodies)?;
+    }
+    Ok(())
+}
