@@ -1,10 +1,11 @@
 -- Which names of a text clash in C (C11, 6.2.1, 6.2.3 and 6.10.3): two things have one name and meet, or C has
 -- the name already.
 use Rattle.std.specs.Prelude.{◌≡◌, ℕ, suc, Bool, true, false, not, ◌&&◌, List, [], ◌∷◌, ◌++◌, map, find}
-use Rattle.std.specs.Prelude.{Option, None, Some, option_and_then, option_map, nat_cmp, IsPermutation}
+use Rattle.std.specs.Prelude.{Option, None, Some, option_and_then, option_map, IsPermutation}
 use Rattle.std.specs.Prelude.{if◌then◌else◌}
 use Rattle.std.specs.List.Sorted.{IsSortedByKey, IsStableByKey}
 use Rattle.std.specs.Option.{option_or, option_to_list}
+use Rattle.std.specs.Ordering.{nat_cmp}
 use Rattle.std.specs.Str.{bytes_eq}
 use Rattle.x_trees.specs.Tree as tree
 use Rattle.x_taken.specs.declared.taken_as.TakenAs.{TakenAs}

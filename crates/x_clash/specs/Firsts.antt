@@ -8,13 +8,14 @@ use Rattle.x_clash.specs.declared.clash.Place.{Place}
 use Rattle.x_clash.specs.declared.firsts.FirstMacro.{FirstMacro}
 use Rattle.x_clash.specs.declared.firsts.Firsts.{Firsts}
 
--- the first macro that stands for another text than this
+-- the first macro that stands for another text than this, by the first macro and the first that stands for
+-- another text than that
+abbrev pub beside : List ℕ → Option FirstMacro → Option Place → Option Place
+beside text None other = None
+beside text (Some m) other = if bytes_eq text m.text.now then other else Some m.place
+
 abbrev pub macro_beside : List ℕ → Firsts → Option Place
-macro_beside text f = of f.first_macro
-  where
-    of : Option FirstMacro → Option Place
-    of None = None
-    of (Some m) = if bytes_eq text m.text.now then f.other_macro else Some m.place
+macro_beside text f = beside text f.first_macro f.other_macro
 
 -- the first macro
 abbrev pub macro_place : Firsts → Option Place

@@ -103,16 +103,16 @@ variant_names around word ns arms other =
       twin = discriminant_named (around ++ codes "_u") ns;
     } ∷ []
 
--- the members of the type of this name
+-- the members of the type of this name, whose body has fields of these names
+abbrev pub members_in : List ℕ → ℕ → List NameAt → tree.Body → List Given
+members_in around word ns (tree.Enum es) = []
+members_in around word ns (tree.Struct ds) = struct_names ns ds
+members_in around word ns (tree.Union d arms other) =
+    field_names ns d
+    ++ (arm_names (fields_after ns d) arms other ++ variant_names around word ns arms other)
+
 abbrev pub member_names : List ℕ → BodyAt → List Given
-member_names around b = of b.body
-  where
-    of : tree.Body → List Given
-    of (tree.Enum es) = []
-    of (tree.Struct ds) = struct_names (fields_of b) ds
-    of (tree.Union d arms other) =
-        field_names (fields_of b) d ++ arm_names (fields_after (fields_of b) d) arms other
-        ++ variant_names around b.named (fields_of b) arms other
+member_names around b = members_in around b.named (fields_of b) b.body
 
 -- Types that have bodies, and the bodies, come in one order.
 

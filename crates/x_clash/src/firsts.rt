@@ -83,7 +83,7 @@ impl<'d> Firsts<'d> {
     /// These, and behind them a thing of the sort.
     pub fn with(self, sort: &Sort<'d>, place: Place) -> Firsts<'d>
         ensures { (things : List Thing) (t : Thing) → place_of t ≡ place → t.given.sort ≡ view_sort sort.now
-            → AreFirsts t.given.name things self → AreFirsts t.given.name (things ++ t ∷ []) result }
+            → AreFirsts t.given.name things self.entry → AreFirsts t.given.name (things ++ t ∷ []) result }
     {
         match sort {
             Sort::Macro(text) => self.with_macro(text, place),
@@ -94,7 +94,7 @@ impl<'d> Firsts<'d> {
 
     fn with_macro(self, text: &'d [u8], place: Place) -> Firsts<'d>
         ensures { (things : List Thing) (t : Thing) → place_of t ≡ place → t.given.sort ≡ Macro text.now
-            → AreFirsts t.given.name things self → AreFirsts t.given.name (things ++ t ∷ []) result }
+            → AreFirsts t.given.name things self.entry → AreFirsts t.given.name (things ++ t ∷ []) result }
     {
         match self.first_macro {
             None => Firsts {
@@ -115,7 +115,7 @@ impl<'d> Firsts<'d> {
 
     fn with_member(self, place: Place) -> Firsts<'d>
         ensures { (things : List Thing) (t : Thing) → place_of t ≡ place → t.given.sort ≡ Member
-            → AreFirsts t.given.name things self → AreFirsts t.given.name (things ++ t ∷ []) result }
+            → AreFirsts t.given.name things self.entry → AreFirsts t.given.name (things ++ t ∷ []) result }
     {
         Firsts {
             first_macro: self.first_macro,
@@ -129,7 +129,7 @@ impl<'d> Firsts<'d> {
     fn with_name(self, place: Place) -> Firsts<'d>
         ensures { (things : List Thing) (t : Thing) → place_of t ≡ place
             → is_at_file_scope t.given.sort ≡ true
-            → AreFirsts t.given.name things self → AreFirsts t.given.name (things ++ t ∷ []) result }
+            → AreFirsts t.given.name things self.entry → AreFirsts t.given.name (things ++ t ∷ []) result }
     {
         Firsts {
             first_macro: self.first_macro,

@@ -1,6 +1,6 @@
 //! A name that a text gives to C.
 
-ghost use Rattle.std.specs.Prelude.{◌≡◌, ◌∷◌, [], ◌++◌, map, None, OnOk, IfOk};
+ghost use Rattle.std.specs.Prelude.{◌≡◌, ◌∷◌, [], ◌++◌, drop, map, None, OnOk, IfOk};
 ghost use Rattle.std.specs.Cow.{cow_slice_items};
 ghost use Rattle.x_pieces.specs.Parts.{together};
 ghost use Rattle.x_clash.specs.Given.{given};
@@ -101,5 +101,15 @@ pub fn kept<'d>(alloc: Global, name: &CowSlice<'d, u8>) -> Result<CowSlice<'d, u
     match name {
         CowSlice::Borrowed(spelled) => Ok(CowSlice::Borrowed(*spelled)),
         CowSlice::Owned(made) => Ok(CowSlice::Owned(Vec::from_slice(alloc, made)?)),
+    }
+}
+
+/// All but the first of a list.
+pub fn others<T>(list: &[T]) -> &[T]
+    ensures { result.now ≡ drop 1 list.now }
+{
+    match list.split_first() {
+        Some((_, others)) => others,
+        None => list,
     }
 }

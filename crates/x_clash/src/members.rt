@@ -2,16 +2,17 @@
 
 ghost use Rattle.std.specs.Prelude.{◌≡◌, ◌++◌, map, OnOk, IfOk, option_map};
 ghost use Rattle.x_trees.specs.View.{view_arms, view_declaration, view_declarations, view_default, view_length};
-ghost use Rattle.x_trees.specs.View.{view_shape};
+ghost use Rattle.x_trees.specs.View.{view_shape, view_union};
 ghost use Rattle.x_outline.specs.BodyWalks.{view_body_at, IsFilled};
 ghost use Rattle.x_outline.specs.Parts.{view_name_at};
 ghost use Rattle.x_pieces.specs.Header.{are_void, is_void_default};
 ghost use Rattle.x_clash.specs.Given.{arm_names, default_names, discriminant_named, field_names};
-ghost use Rattle.x_clash.specs.Given.{fields_after, length_names, member_names, struct_names, variant_names};
+ghost use Rattle.x_clash.specs.Given.{fields_after, length_names, member_names, members_in};
+ghost use Rattle.x_clash.specs.Given.{struct_names, variant_names};
 ghost use Rattle.x_clash.specs.Parts.{is_counted, is_counted_shape, is_variable};
 ghost use Rattle.x_clash.specs.Views.{view_all};
 
-use crate::given::{Given, Sort, add_made, add_spelled, joined};
+use crate::given::{Given, Sort, add_made, add_spelled, joined, others};
 use std::alloc::Global;
 use std::borrow::CowSlice;
 use x_outline::{BodyAt, NameAt};
@@ -63,30 +64,40 @@ pub fn add_length<'d>(
     add_made(alloc, list, &[name, b"_val"], word, Sort::Member)
 }
 
-/// Adds what a declaration gives, whose name is the first of these, if it has one; and answers the names that
-/// are left.
-fn add_field<'d, 'b>(
+/// Adds what a declaration gives, whose name is the first of these, if it has one.
+fn add_field<'d>(
     alloc: Global,
     list: &mut Vec<Given<'d>>,
-    names: &'b [NameAt<'d>],
+    names: &[NameAt<'d>],
     declaration: &Declaration,
-) -> Result<&'b [NameAt<'d>], NoMemory>
-    ensures names { OnOk result (view_all list.new.items ≡ view_all list.old.items
+) -> Result<(), NoMemory>
+    ensures { OnOk result (view_all list.new.items ≡ view_all list.old.items
         ++ field_names (map view_name_at names.now) (view_declaration declaration.now)) }
-    ensures left { IfOk result (λ left. map view_name_at left.now
-        ≡ fields_after (map view_name_at names.now) (view_declaration declaration.now)) }
 {
     if declaration.is_void() {
-        return Ok(names);
+        return Ok(());
     }
-    match names.split_first() {
-        Some((field, left)) => {
+    match names.first() {
+        Some(field) => {
             add_spelled(list, field.name, field.word, Sort::Member)?;
-            add_length(alloc, list, field.name, field.word, declaration)?;
-            Ok(left)
+            add_length(alloc, list, field.name, field.word, declaration)
         }
-        None => Ok(names),
+        None => Ok(()),
     }
+}
+
+/// The names that are left after a declaration.
+fn fields_after<'b, 'd>(
+    names: &'b [NameAt<'d>],
+    declaration: &Declaration,
+) -> &'b [NameAt<'d>]
+    ensures { map view_name_at result.now
+        ≡ fields_after (map view_name_at names.now) (view_declaration declaration.now) }
+{
+    if declaration.is_void() {
+        return names;
+    }
+    others(names)
 }
 
 /// Adds the fields of a struct.
@@ -101,7 +112,8 @@ fn add_fields<'d>(
 {
     let mut names = names;
     for declaration in declarations {
-        names = add_field(alloc, list, names, declaration)?;
+        add_field(alloc, list, names, declaration)?;
+        names = fields_after(names, declaration);
     }
     Ok(())
 }
@@ -119,7 +131,8 @@ fn add_arms<'d>(
 {
     let mut names = names;
     for arm in arms {
-        names = add_field(alloc, list, names, &arm.declaration)?;
+        add_field(alloc, list, names, &arm.declaration)?;
+        names = fields_after(names, &arm.declaration);
     }
     add_default(alloc, list, names, default)
 }
@@ -135,10 +148,7 @@ fn add_default<'d>(
         ++ default_names (map view_name_at names.now) (view_default default.now)) }
 {
     match default {
-        Some(declaration) => {
-            add_field(alloc, list, names, declaration)?;
-            Ok(())
-        }
+        Some(declaration) => add_field(alloc, list, names, declaration),
         None => Ok(()),
     }
 }
@@ -181,13 +191,14 @@ fn add_variant<'d>(
     around: &[u8],
     word: usize,
     names: &[NameAt<'d>],
-    union: &UnionBody,
+    arms: &[Arm],
+    default: &Option<Declaration>,
 ) -> Result<(), NoMemory>
     ensures { OnOk result (view_all list.new.items ≡ view_all list.old.items
         ++ variant_names around.now word (map view_name_at names.now)
-        (view_arms union.now.arms.items) (view_default union.now.default)) }
+        (view_arms arms.now) (view_default default.now)) }
 {
-    if are_void(&union.arms, &union.default) {
+    if are_void(arms, default) {
         return Ok(());
     }
     let name = joined(alloc, &[around, b"_u"])?;
@@ -206,20 +217,17 @@ fn add_union<'d>(
     alloc: Global,
     list: &mut Vec<Given<'d>>,
     around: &[u8],
-    body: &BodyAt<'d>,
+    word: usize,
+    names: &[NameAt<'d>],
     union: &UnionBody,
 ) -> Result<(), NoMemory>
     ensures { OnOk result (view_all list.new.items ≡ view_all list.old.items
-        ++ (field_names (map view_name_at body.now.fields.items) (view_declaration union.now.discriminant)
-        ++ arm_names (fields_after (map view_name_at body.now.fields.items)
-        (view_declaration union.now.discriminant))
-        (view_arms union.now.arms.items) (view_default union.now.default)
-        ++ variant_names around.now body.now.named (map view_name_at body.now.fields.items)
-        (view_arms union.now.arms.items) (view_default union.now.default))) }
+        ++ members_in around.now word (map view_name_at names.now) (view_union union.now)) }
 {
-    let names = add_field(alloc, list, &body.fields, &union.discriminant)?;
-    add_arms(alloc, list, names, &union.arms, &union.default)?;
-    add_variant(alloc, list, around, body.named, &body.fields, union)
+    add_field(alloc, list, names, &union.discriminant)?;
+    let left = fields_after(names, &union.discriminant);
+    add_arms(alloc, list, left, &union.arms, &union.default)?;
+    add_variant(alloc, list, around, word, names, &union.arms, &union.default)
 }
 
 /// Adds the members of the type of this name, whose body this is.
@@ -235,6 +243,6 @@ pub fn add_members<'d>(
     match body.body {
         Body::Enum(_) => Ok(()),
         Body::Struct(declarations) => add_fields(alloc, list, &body.fields, declarations),
-        Body::Union(union) => add_union(alloc, list, around, body, union),
+        Body::Union(union) => add_union(alloc, list, around, body.named, &body.fields, union),
     }
 }

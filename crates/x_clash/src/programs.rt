@@ -1,16 +1,17 @@
 //! The names that programs, their versions and their procedures have in C.
 
-ghost use Rattle.std.specs.Prelude.{◌≡◌, ◌++◌, drop, map, codes, OnOk, IfOk};
+ghost use Rattle.std.specs.Prelude.{◌≡◌, ◌∷◌, [], ◌++◌, map, codes, OnOk, IfOk};
 ghost use Rattle.x_trees.specs.View.{view_argument, view_procedure, view_version};
 ghost use Rattle.x_outline.specs.Parts.{view_members, view_name_at};
 ghost use Rattle.x_pieces.specs.Procedures.{function_name, in_decimal, lower, lower_byte};
 ghost use Rattle.x_pieces.specs.Table.{table_name};
-ghost use Rattle.x_clash.specs.Given.{argument_names, group_names, procedure_names, procedures_names};
+ghost use Rattle.std.specs.Fmt.{decimal};
+ghost use Rattle.x_clash.specs.Given.{Member, argument_names, given, group_names, procedure_names, procedures_names};
 ghost use Rattle.x_clash.specs.Given.{version_names, versions_names};
 ghost use Rattle.x_clash.specs.Parts.{first_names, first_word};
 ghost use Rattle.x_clash.specs.Views.{view_all};
 
-use crate::given::{Given, Sort, add_made, add_spelled};
+use crate::given::{Given, Sort, add_made, add_spelled, others};
 use itoa::Buffer;
 use std::alloc::Global;
 use x_numbers::number_value;
@@ -71,24 +72,19 @@ fn first_word(names: &[NameAt]) -> usize
     }
 }
 
-/// The names in the first of the groups.
-fn first_names<'b, 'd>(groups: &'b [Members<'d>]) -> &'b [NameAt<'d>]
-    ensures { map view_name_at result.now ≡ first_names (map view_members groups.now) }
+/// Adds the member that is the argument of this number.
+fn add_argument<'d>(
+    alloc: Global,
+    list: &mut Vec<Given<'d>>,
+    word: usize,
+    number: u128,
+) -> Result<(), NoMemory>
+    ensures { OnOk result (view_all list.new.items ≡ view_all list.old.items
+        ++ given (codes "arg" ++ decimal number) word Member ∷ []) }
 {
-    match groups.first() {
-        Some(first) => &first.names,
-        None => &[],
-    }
-}
-
-/// All but the first of a list.
-fn others<T>(list: &[T]) -> &[T]
-    ensures { result.now ≡ drop 1 list.now }
-{
-    match list.split_first() {
-        Some((_, others)) => others,
-        None => list,
-    }
+    let mut buffer = Buffer::new();
+    let digits = buffer.format(number).as_bytes();
+    add_made(alloc, list, &[b"arg", digits], word, Sort::Member)
 }
 
 /// Adds the members that are several arguments, but for the first.
@@ -101,10 +97,8 @@ fn add_arguments<'d>(
     ensures { OnOk result (view_all list.new.items ≡ view_all list.old.items
         ++ argument_names word 2 (map view_argument arguments.now)) }
 {
-    for index in 0..arguments.len() {
-        let mut buffer = Buffer::new();
-        let number = buffer.format(index as u128 + 2).as_bytes();
-        add_made(alloc, list, &[b"arg", number], word, Sort::Member)?;
+    for (index, _) in arguments.iter().enumerate() {
+        add_argument(alloc, list, word, index as u128 + 2)?;
     }
     Ok(())
 }
@@ -166,6 +160,23 @@ fn add_procedures<'d>(
     Ok(())
 }
 
+/// Adds what the procedures of a version give, which have the names of the first of these groups.
+fn add_first_group<'d>(
+    alloc: Global,
+    list: &mut Vec<Given<'d>>,
+    version: &'d Version,
+    groups: &[Members<'d>],
+) -> Result<(), NoMemory>
+    ensures { OnOk result (view_all list.new.items ≡ view_all list.old.items
+        ++ procedures_names (view_version version.now) (first_names (map view_members groups.now))
+        (view_version version.now).procedures) }
+{
+    match groups.first() {
+        Some(group) => add_procedures(alloc, list, version, &group.names),
+        None => add_procedures(alloc, list, version, &[]),
+    }
+}
+
 /// Adds what a version of a program gives, but for its procedures, where its name is this word.
 fn add_version<'d>(
     alloc: Global,
@@ -201,7 +212,7 @@ pub fn add_versions<'d>(
     let mut groups = groups;
     for version in versions {
         add_version(alloc, list, program, version, first_word(names))?;
-        add_procedures(alloc, list, version, first_names(groups))?;
+        add_first_group(alloc, list, version, groups)?;
         names = others(names);
         groups = others(groups);
     }

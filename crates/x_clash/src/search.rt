@@ -97,10 +97,10 @@ fn meet<'d>(
     given: Given<'d>,
 ) -> Result<(), NoMemory>
     ensures table { OnOk result ((things : List Thing) → HasFirsts table.old.entries things
-        → HasFirsts table.new.entries (things ++ thing item (view_given given) ∷ [])) }
+        → HasFirsts table.new.entries (things ++ thing item (view_given given.entry) ∷ [])) }
     ensures found { OnOk result ((things : List Thing) → HasFirsts table.old.entries things
         → map view_clash found.new.items ≡ map view_clash found.old.items
-        ++ clashes_of (taken_in taken.now) things (thing item (view_given given))) }
+        ++ clashes_of (taken_in taken.now) things (thing item (view_given given.entry))) }
 {
     let place = Place {
         item,
@@ -126,10 +126,10 @@ fn meet_all<'d>(
     names: Vec<Given<'d>>,
 ) -> Result<(), NoMemory>
     ensures table { OnOk result ((things : List Thing) → HasFirsts table.old.entries things
-        → HasFirsts table.new.entries (things ++ map (thing item) (view_all names.items))) }
+        → HasFirsts table.new.entries (things ++ map (thing item) (view_all names.entry.items))) }
     ensures found { OnOk result ((things : List Thing) → HasFirsts table.old.entries things
         → map view_clash found.new.items ≡ map view_clash found.old.items
-        ++ clashes_behind (taken_in taken.now) things (map (thing item) (view_all names.items))) }
+        ++ clashes_behind (taken_in taken.now) things (map (thing item) (view_all names.entry.items))) }
 {
     for given in names {
         meet(alloc, taken, table, found, item, given)?;

@@ -8,7 +8,7 @@ ghost use Rattle.x_clash.specs.Given.{bodies_after, body_names, declared_names, 
 ghost use Rattle.x_clash.specs.Parts.{has_body};
 ghost use Rattle.x_clash.specs.Views.{view_all};
 
-use crate::given::{Given, Sort, add, add_made, kept};
+use crate::given::{Given, Sort, add, add_made, kept, others};
 use crate::members::{add_length, add_members};
 use std::alloc::Global;
 use x_outline::{BodyAt, Outline};
@@ -30,7 +30,8 @@ fn add_type<'d>(
     sort: Sort<'d>,
 ) -> Result<(), NoMemory> {
     add(list, kept(alloc, &declared.name)?, declared.word, sort)?;
-    add_made(alloc, list, &[b"xdr_", &declared.name], declared.word, Sort::Function)
+    let name = declared.name.as_slice();
+    add_made(alloc, list, &[b"xdr_", name], declared.word, Sort::Function)
 }
 
 /// Adds what a name that is declared gives: a type has a routine, too.
@@ -75,29 +76,38 @@ fn add_typedef<'d>(
     }
 }
 
-/// Adds the members of a type whose body is the first of these, and answers those that are left.
-fn add_body<'d, 'b>(
+/// Adds the members of a type whose body is the first of these, if the name is that of one with a body.
+fn add_body<'d>(
     alloc: Global,
     list: &mut Vec<Given<'d>>,
     declared: &DeclaredName<'d>,
-    bodies: &'b [BodyAt<'d>],
-) -> Result<&'b [BodyAt<'d>], NoMemory>
-    ensures names { OnOk result (AreFilled bodies.now → view_all list.new.items ≡ view_all list.old.items
+    bodies: &[BodyAt<'d>],
+) -> Result<(), NoMemory>
+    ensures { OnOk result (AreFilled bodies.now → view_all list.new.items ≡ view_all list.old.items
         ++ body_names (view_name declared.now) (map view_body_at bodies.now)) }
-    ensures left { IfOk result (λ left. map view_body_at left.now
-        ≡ bodies_after (view_name declared.now) (map view_body_at bodies.now)) }
-    ensures filled { IfOk result (λ left. AreFilled bodies.now → AreFilled left.now) }
 {
     if !has_body(declared.kind) {
-        return Ok(bodies);
+        return Ok(());
     }
-    match bodies.split_first() {
-        Some((body, left)) => {
-            add_members(alloc, list, &declared.name, body)?;
-            Ok(left)
-        }
-        None => Ok(bodies),
+    match bodies.first() {
+        Some(body) => add_members(alloc, list, &declared.name, body),
+        None => Ok(()),
     }
+}
+
+/// The bodies that are left after a name.
+fn bodies_after<'b, 'd>(
+    bodies: &'b [BodyAt<'d>],
+    declared: &DeclaredName<'d>,
+) -> &'b [BodyAt<'d>]
+    ensures left { map view_body_at result.now
+        ≡ bodies_after (view_name declared.now) (map view_body_at bodies.now) }
+    ensures filled { AreFilled bodies.now → AreFilled result.now }
+{
+    if !has_body(declared.kind) {
+        return bodies;
+    }
+    others(bodies)
 }
 
 /// Adds the names that the definition of an outline gives, which is no constant and no program.
@@ -114,7 +124,8 @@ pub fn add_types<'d>(
     for declared in &outline.declared {
         add_declared(alloc, list, declared)?;
         add_typedef(alloc, list, outline.definition, declared)?;
-        bodies = add_body(alloc, list, declared, bodies)?;
+        add_body(alloc, list, declared, bodies)?;
+        bodies = bodies_after(bodies, declared);
     }
     Ok(())
 }
