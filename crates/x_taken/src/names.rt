@@ -12,8 +12,7 @@ pub(crate) const KEYWORDS: &str = "\
     inline int long register restrict return short signed sizeof static struct switch typedef \
     typeof union unsigned void volatile while";
 
-/// Keywords and alternative tokens of C++17 (N4659, sections 5.11 and 5.5) that C has
-/// not.
+/// Keywords and alternative tokens of C++17 (N4659, sections 5.11 and 5.5) that C lacks.
 pub(crate) const KEYWORDS_OF_CPP: &str = "\
     alignas alignof and and_eq bitand bitor bool catch char16_t char32_t class compl const_cast \
     constexpr decltype delete dynamic_cast explicit export false friend mutable namespace new \

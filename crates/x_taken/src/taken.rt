@@ -1,7 +1,8 @@
 //! What C has a name for.
 ghost use Rattle.std.specs.Prelude.{◌≡◌, ℕ, List, Some, IfOk, OnOk, if◌then◌else◌};
 ghost use Rattle.std.specs.Str.{bytes_eq};
-ghost use Rattle.x_taken.specs.TakenNames.{entry_in, is_among, kind_in, taken_as, taken_in, view_lists, words};
+ghost use Rattle.x_taken.specs.TakenNames.{entry_in, is_among, kind_in, taken_as, taken_in};
+ghost use Rattle.x_taken.specs.TakenNames.{view_lists, words};
 
 use crate::names::{
     CALL_MACROS, KEYWORDS, KEYWORDS_OF_CPP, MACROS, NAME_COUNT, NAMES, PARAMETERS, TAGGED_NAMES,
