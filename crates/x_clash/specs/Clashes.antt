@@ -8,8 +8,8 @@ use Rattle.std.specs.Option.{option_or, option_to_list}
 use Rattle.std.specs.Ordering.{nat_cmp}
 use Rattle.std.specs.Str.{bytes_eq}
 use Rattle.x_trees.specs.Tree as tree
-use Rattle.x_taken.specs.declared.taken_as.TakenAs.{TakenAs}
-use Rattle.x_taken.specs.declared.taken_as.TakenAs.TheVariants as taken
+use Rattle.x_taken.specs.declared.taken.TakenAs.{TakenAs}
+use Rattle.x_taken.specs.declared.taken.TakenAs.TheVariants as taken
 use Rattle.x_clash.specs.declared.clash.Clash as rust
 use Rattle.x_clash.specs.declared.clash.Place.{Place}
 use Rattle.x_clash.specs.declared.clash.Rival.{Rival}
@@ -78,6 +78,9 @@ is_in_way taken.Name Tagged = true
 is_in_way taken.Name Function = true
 is_in_way taken.Name Plain = true
 is_in_way taken.Tag Tagged = true
+is_in_way taken.TaggedName Tagged = true
+is_in_way taken.TaggedName Function = true
+is_in_way taken.TaggedName Plain = true
 is_in_way taken.Parameter Tagged = true
 is_in_way taken.Parameter Plain = true
 is_in_way kind sort = false

@@ -6,7 +6,7 @@ ghost use Rattle.std.specs.Option.{option_to_list};
 ghost use Rattle.x_trees.specs.View.{tree_at, view_definition};
 ghost use Rattle.x_trees.specs.Spell.{IsShort};
 ghost use Rattle.x_names.specs.Declarers.{AreShort};
-ghost use Rattle.x_taken.specs.Taken.{taken_in};
+ghost use Rattle.x_taken.specs.TakenNames.{taken_in};
 ghost use Rattle.x_clash.specs.Clashes.{AreClashes, AreInOrder, Thing, clashes_behind, clashes_of, is_in_way};
 ghost use Rattle.x_clash.specs.Clashes.{rival_of_c, thing, things_of, twin_of};
 ghost use Rattle.x_clash.specs.Table.{HasFirsts, firsts_in};
@@ -32,7 +32,10 @@ fn is_in_way(kind: TakenAs, sort: &Sort) -> bool
         (_, Sort::Macro(_)) => true,
         (TakenAs::Keyword | TakenAs::KeywordOfCpp | TakenAs::Macro, _) => true,
         (TakenAs::CallMacro, Sort::Function) => true,
-        (TakenAs::Name, Sort::Tagged | Sort::Function | Sort::Plain) => true,
+        (
+            TakenAs::Name | TakenAs::TaggedName,
+            Sort::Tagged | Sort::Function | Sort::Plain,
+        ) => true,
         (TakenAs::Tag, Sort::Tagged) => true,
         (TakenAs::Parameter, Sort::Tagged | Sort::Plain) => true,
         _ => false,
@@ -55,6 +58,16 @@ fn twin_of(item: usize, given: &Given) -> Option<Rival>
 {
     match given.twin {
         Some(word) => Some(Rival::OfText(Place { item, word })),
+        None => None,
+    }
+}
+
+/// The thing of the text that is met, if one is.
+fn rival_at(met: Option<Place>) -> Option<Rival>
+    ensures { result ≡ option_map Rival.OfText met }
+{
+    match met {
+        Some(place) => Some(Rival::OfText(place)),
         None => None,
     }
 }
@@ -110,7 +123,7 @@ fn meet<'d>(
     let met = firsts.met_by(&given.sort);
     add_clash(alloc, found, &given.name, place, rival_of_c(taken, &given))?;
     add_clash(alloc, found, &given.name, place, twin_of(item, &given))?;
-    add_clash(alloc, found, &given.name, place, met.map(Rival::OfText))?;
+    add_clash(alloc, found, &given.name, place, rival_at(met))?;
     let after = firsts.with(&given.sort, place);
     table.insert(given.name, after)?;
     Ok(())

@@ -1,12 +1,13 @@
 //! The names that types and enumerators have in C.
 
-ghost use Rattle.std.specs.Prelude.{◌≡◌, ◌++◌, ◌<◌, ◌^◌, length, map, OnOk, IfOk};
+ghost use Rattle.std.specs.Prelude.{◌≡◌, ◌∷◌, [], ◌++◌, map, OnOk};
 ghost use Rattle.x_trees.specs.Collected.{view_name};
 ghost use Rattle.x_trees.specs.View.{view_definition};
 ghost use Rattle.x_outline.specs.BodyWalks.{view_body_at, AreFilled};
-ghost use Rattle.x_clash.specs.Given.{bodies_after, body_names, declared_names, type_names, typedef_names};
+ghost use Rattle.x_clash.specs.Given.{bodies_after, body_names, declared_names, given, routine, type_names};
+ghost use Rattle.x_clash.specs.Given.{typedef_names};
 ghost use Rattle.x_clash.specs.Parts.{has_body};
-ghost use Rattle.x_clash.specs.Views.{view_all};
+ghost use Rattle.x_clash.specs.Views.{view_all, view_sort};
 
 use crate::given::{Given, Sort, add, add_made, kept, others};
 use crate::members::{add_length, add_members};
@@ -22,16 +23,32 @@ fn has_body(kind: NameKind) -> bool
     matches!(kind, NameKind::Enum | NameKind::Struct | NameKind::Union)
 }
 
+/// Adds the routine of a type of this name.
+fn add_routine<'d>(
+    alloc: Global,
+    list: &mut Vec<Given<'d>>,
+    name: &[u8],
+    word: usize,
+) -> Result<(), NoMemory>
+    ensures { OnOk result
+        (view_all list.new.items ≡ view_all list.old.items ++ routine name.now word ∷ []) }
+{
+    add_made(alloc, list, &[b"xdr_", name], word, Sort::Function)
+}
+
 /// Adds a type of this sort, and its routine.
 fn add_type<'d>(
     alloc: Global,
     list: &mut Vec<Given<'d>>,
     declared: &DeclaredName<'d>,
     sort: Sort<'d>,
-) -> Result<(), NoMemory> {
+) -> Result<(), NoMemory>
+    ensures { OnOk result (view_all list.new.items ≡ view_all list.old.items
+        ++ given (view_name declared.now).name declared.now.word (view_sort sort.entry)
+        ∷ routine (view_name declared.now).name declared.now.word ∷ []) }
+{
     add(list, kept(alloc, &declared.name)?, declared.word, sort)?;
-    let name = declared.name.as_slice();
-    add_made(alloc, list, &[b"xdr_", name], declared.word, Sort::Function)
+    add_routine(alloc, list, &declared.name, declared.word)
 }
 
 /// Adds what a name that is declared gives: a type has a routine, too.
