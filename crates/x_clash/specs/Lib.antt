@@ -1,0 +1,6 @@
+pub mod Clashes
+pub mod Firsts
+pub mod Given
+pub mod Parts
+pub mod Table
+pub mod Views
