@@ -275,23 +275,19 @@ def text_of(seed):
             return text
 
 
-def kinds_met(compilation, clash):
-    """What clashes: the kind of name that C has, or the kinds of the two things."""
-    if isinstance(clash.other, str):
-        return clash.other
-    things = [thing for thing in clashes.things_of(compilation) if thing.name == clash.name]
-    at = [thing.kind for thing in things if (thing.item, thing.word) == (clash.item, clash.word)]
-    other = [thing.kind for thing in things if (thing.item, thing.word) == clash.other]
-    return " and ".join(sorted({*at[:1], *other[:1]}))
+def kinds_met(compilation):
+    """Of each clash of a text, the kind of name that C has, or the kinds of the two things."""
+    return [other if isinstance(other, str) else " and ".join(sorted({thing.kind, other.kind}))
+            for thing, other in clashes.meetings_of(compilation)]
 
 
 def main(words):
     counts, clean = collections.Counter(), 0
     for k in range(int(words[0])):
         compilation = rpclang.Compilation(text_of(f"{words[1]}/{k}"))
-        told = clashes.clashes_of(compilation)
-        clean += not told
-        counts.update(kinds_met(compilation, clash) for clash in told)
+        kinds = kinds_met(compilation)
+        clean += not kinds
+        counts.update(kinds)
     print(f"{words[0]} texts, {clean} without a clash")
     for kind, often in sorted(counts.items()):
         print(f"{often:6} {kind}")

@@ -161,29 +161,33 @@ def first_met(thing, others):
     return next(iter(macros + at_file_scope + members), None)
 
 
-def clashes_of_thing(thing, others):
-    """What is told of a thing, before which these have its name: that C has it, the other member of its struct, and
-    the other thing."""
+def met_by(thing, others):
+    """What a thing meets, before which these have its name: the kind of name that C has, the other member of its
+    struct, and the other thing."""
     taken = names_of_c().get(thing.name)
-    if taken is not None and thing.kind in taken.meets:
-        yield taken.kind
+    met = [taken.kind] if taken is not None and thing.kind in taken.meets else []
     if thing.kind == MEMBER:
-        yield from [(other.item, other.word) for other in others if (other.kind, other.of) == (MEMBER, thing.of)][:1]
+        met += [other for other in others if (other.kind, other.of) == (MEMBER, thing.of)][:1]
     other = first_met(thing, others)
-    if other is not None:
-        yield other.item, other.word
+    return met if other is None else met + [other]
+
+
+def meetings_of(compilation):
+    """The pairs of a thing and what it meets, a kind of name that C has or another thing, in the order of words."""
+    assert not compilation.faults
+    before = collections.defaultdict(list)
+    pairs = []
+    for thing in things_of(compilation):
+        others = before[thing.name]
+        pairs += [(thing, other) for other in met_by(thing, others)]
+        others.append(thing)
+    return sorted(pairs, key=lambda pair: (pair[0].item, pair[0].word))
 
 
 def clashes_of(compilation):
     """The clashes of a text without a fault, in the order of their words."""
-    assert not compilation.faults
-    before = collections.defaultdict(list)
-    told = []
-    for thing in things_of(compilation):
-        others = before[thing.name]
-        told += [Clash(thing.item, thing.word, thing.name, other) for other in clashes_of_thing(thing, others)]
-        others.append(thing)
-    return sorted(told, key=lambda clash: (clash.item, clash.word))
+    return [Clash(thing.item, thing.word, thing.name, other if isinstance(other, str) else (other.item, other.word))
+            for thing, other in meetings_of(compilation)]
 
 
 def warning(path, compilation, clash):
