@@ -1,3 +1,4 @@
+#!/usr/bin/env python3
 """Random texts without a fault whose names meet in C, from a seed.
 
     clash_texts.py TEXTS SEED    prints how often each kind of clash comes up
