@@ -2,7 +2,8 @@
 """rpcgen -c|-h|-l|-t [-o OUT] [OPTIONS] FILE: writes the routines, header, stubs or table of FILE, or its
 faults. rpcgen --check [OPTIONS] FILE..: writes the faults of each FILE.
 
-The OPTIONS are --explain, --plain, --known FILE, --c-types and --foreign."""
+The OPTIONS are --explain, --plain, --known FILE, --c-types and --foreign. With --explain the names of a FILE
+without faults that clash in C are told too."""
 import getopt
 import os
 import sys
@@ -10,6 +11,7 @@ import sys
 sys.dont_write_bytecode = True
 
 import before
+import clashes
 import explained
 import rpclang
 import rpcedit
@@ -60,9 +62,15 @@ class Opening:
             self.tell(path, compilation)
         return compilation
 
+    def warn(self, path, compilation):
+        """Tells the clashes of a text without faults, where faults are explained."""
+        if self.explains:
+            sys.stderr.flush()
+            os.write(2, clashes.warnings(os.fsencode(path), compilation))
+
     def status_of(self, path):
         try:
-            self.open(path)
+            self.warn(path, self.open(path))
         except rpcedit.Stop as reason:
             return stopped(reason)
         return 0
@@ -91,7 +99,8 @@ def run(words):
     if len(modes) != 1:
         return stop("exactly one of -c, -h, -l, -t")
     path = files[0]
-    compilation = Opening(options).open(path)
+    opening = Opening(options)
+    compilation = opening.open(path)
     try:
         out = open(outs[-1], "wb") if outs else rpcedit.standard_output()
     except OSError:
@@ -103,6 +112,7 @@ def run(words):
         return 2
     except OSError:
         return stop("output cannot be written")
+    opening.warn(path, compilation)
     return 0
 
 
