@@ -10,6 +10,7 @@ use Rattle.rpcx.specs.declared.files.opening.Opening.{Opening}
 use Rattle.rpcx.specs.Opening.{CompilesBy}
 use Rattle.rpcx.specs.Checking.{AreChecked, IsChecked}
 use Rattle.rpcx.specs.Generate.{IsFaultless, NotOpened, TellsFaults}
+use Rattle.rpcx.specs.Warnings.{Warns}
 
 worse_done : (s : Status) → worse s Done ≡ s
 worse_done Done = refl
@@ -28,7 +29,8 @@ worse_of_three Failed b c = refl
 -- what the check of a text that was read comes to, by its status
 pub checked : (how : Opening) (file text : List ℕ) (before after : Stream) (status : Status)
     → (status ≡ Faulty → CompilesBy how text (λ items. (0 < length (faults_of text items)) × TellsFaults how file text items before after))
-    → (status ≡ Done → IsFaultless how text) → (status ≡ Failed → NotOpened how (codes "rpcgen") file text before after) → (status ≡ Done → after ≡ before)
+    → (status ≡ Done → IsFaultless how text) → (status ≡ Failed → NotOpened how (codes "rpcgen") file text before after)
+    → (status ≡ Done → CompilesBy how text (λ items. Warns how.style file text items before after))
     → IsChecked how file before after status
 checked how file text before after Done faulty clean failed quiet = (text, clean refl, quiet refl)
 checked how file text before after Faulty faulty clean failed quiet = (text, faulty refl)

@@ -9,6 +9,7 @@ use Rattle.x_args.specs.declared.status.Status.TheVariants.{Done, Faulty, Failed
 use Rattle.rpcx.specs.declared.files.opening.Opening.{Opening}
 use Rattle.rpcx.specs.Opening.{CompilesBy}
 use Rattle.rpcx.specs.Generate.{IsFaultless, NotOpened, TellsFaults}
+use Rattle.rpcx.specs.Warnings.{Warns}
 
 -- a file is not read, which is told
 abbrev pub IsUnread : (file : List ℕ) → (before after : Stream) → Type 0
@@ -16,11 +17,12 @@ IsUnread file before after =
     IsTold before after (told_of (codes "rpcgen") (codes "out of memory"))
     ⊎ IsTold before after (codes "rpcgen" ++ codes ": " ++ file ++ codes ": cannot be read\n")
 
--- What the check of a file comes to, by its status: the text that was read has no fault, and nothing is told;
--- or it has faults, which are told as a run of `rpcgen` tells them; or the file is not read, or its text is
+-- What the check of a file comes to, by its status: the text that was read has no fault, and which of its names
+-- clash in C is told; or it has faults, which are told as a run of `rpcgen` tells them; or the file is not read, or its text is
 -- not opened, which is told.
 abbrev pub IsChecked : (how : Opening) → (file : List ℕ) → (before after : Stream) → Status → Type 0
-IsChecked how file before after Done = (text : List ℕ) × IsFaultless how text × (after ≡ before)
+IsChecked how file before after Done = (text : List ℕ) × IsFaultless how text
+    × CompilesBy how text (λ items. Warns how.style file text items before after)
 IsChecked how file before after Faulty =
     (text : List ℕ) × CompilesBy how text (λ items. (0 < length (faults_of text items))
     × TellsFaults how file text items before after)

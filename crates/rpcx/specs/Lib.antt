@@ -5,3 +5,4 @@ pub mod Editing
 pub mod Generate
 pub mod Opening
 pub mod Outputs
+pub mod Warnings

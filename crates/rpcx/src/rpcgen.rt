@@ -7,6 +7,7 @@ ghost use Rattle.rpcx.specs.Generate.{IsFaultless, IsOpened, NotGenerated, NotWr
 ghost use Rattle.rpcx.specs.Generate.{TellsFaults, no_output_told, output_told};
 ghost use Rattle.rpcx.specs.Opening.{CompilesBy};
 ghost use Rattle.rpcx.specs.Outputs.{Holds, IsNamed};
+ghost use Rattle.rpcx.specs.Warnings.{IsSaid, Warns};
 ghost use Rattle.x_args.specs.Telling.{Complains, Grows, IsTold};
 ghost use Rattle.x_session.specs.Session.{Compiles};
 ghost use Rattle.x_compile.specs.Compile.{faults_of};
@@ -15,15 +16,17 @@ ghost use Rattle.x_text.specs.Limits.{most_text};
 
 mod checking;
 mod output;
+mod warnings;
 
 use crate::files::opening::{Opening, open_text};
 pub use checking::{Screen, check_run};
 pub use output::{Output, OutputFault};
 use std::alloc::Global;
 use std::mem;
+use warnings::{say, warnings_of};
 use x_args::{GenArgs, Status, complain_of_output, tell_of_file};
 use x_session::{Session, Which};
-use x_text::{Outlet, Sink};
+use x_text::{NoMemory, Outlet, Sink};
 
 /// Opens the text of a file for a run of `rpcgen`, or tells what is wrong with it and answers the status:
 /// `Faulty` where the text has faults, which are reported, and `Failed` where it, or what stands before it,
@@ -93,7 +96,7 @@ pub fn gen_write<O: Outlet, E: Sink>(
 /// output's reader has enough.
 ///
 /// The output is opened only where the text has no fault, and a whole text or nothing stands under its name
-/// that did not before.
+/// that did not before. Where faults are explained, the names of the text that clash in C are told after it.
 pub fn gen_run<O: Output, E: Sink>(
     alloc: Global,
     which: Which,
@@ -118,7 +121,9 @@ pub fn gen_run<O: Output, E: Sink>(
         (λ is_closed. (left : O.Opened) × IsTrue (O.Opened.state left).failed
         × (O.Opened.is_closed left ≡ is_closed))
         (E.state err.old) (E.state err.new) }
-    ensures quiet { result ≡ Status.Done → err.new ≡ err.old }
+    ensures warned { result ≡ Status.Done → CompilesBy how.now bytes.now
+        (λ items. Warns how.now.style args.now.file.now bytes.now items
+        (E.state err.old) (E.state err.new)) }
     ensures whole { result ≡ Status.Done
         → CompilesBy how.now bytes.now (λ items. Holds (O.standing output.old) (O.standing output.new)
         (text_of which (base_of args.now.file.now) items)) }
@@ -131,10 +136,54 @@ pub fn gen_run<O: Output, E: Sink>(
         Ok(session) => session,
         Err(status) => return status,
     };
-    let status = write_output(which, args, &session, output, err);
+    let said = match warnings_of(alloc, how, args.file, &session) {
+        Ok(said) => said,
+        Err(NoMemory) => {
+            tell_of_file("rpcgen", "out of memory", "\n", err);
+            return Status::Failed;
+        }
+    };
+    let status = write_and_say(which, args, &session, &said, output, err);
     // The process ends next, and gives all memory back at once.
     mem::forget(session);
     status
+}
+
+/// Opens the output and writes a generated text, and then says this on `err`; and answers the status:
+/// `Failed` where the output cannot be opened or fails, which it tells.
+fn write_and_say<O: Output, E: Sink>(
+    which: Which,
+    args: &GenArgs,
+    session: &Session,
+    said: &[u8],
+    output: &mut O,
+    err: &mut E,
+) -> Status
+    ensures written { result ≡ Status.Done → (opened : O.Opened) × (left : O.Opened)
+        × Compiles session.now.known session.now.text
+        (λ items. Appends (O.Opened.state opened).bytes (O.Opened.state left).bytes
+        (text_of which session.now.base items)) }
+    ensures status { result ≢ Status.Faulty }
+    ensures failed { result ≡ Status.Failed → NotWritten args.now
+        (λ is_closed. (left : O.Opened) × IsTrue (O.Opened.state left).failed
+        × (O.Opened.is_closed left ≡ is_closed))
+        (E.state err.old) (E.state err.new) }
+    ensures said { result ≡ Status.Done → IsSaid (E.state err.old) (E.state err.new) said.now }
+    ensures whole { result ≡ Status.Done
+        → Compiles session.now.known session.now.text
+        (λ items. Holds (O.standing output.old) (O.standing output.new)
+        (text_of which session.now.base items)) }
+    ensures as_it_was { result ≢ Status.Done → O.standing output.new ≡ O.standing output.old }
+    ensures tidy { O.has_draft output.old ≡ false → O.has_draft output.new ≡ false }
+{
+    match write_output(which, args, session, output, err) {
+        Status::Done => {
+            say(said, err);
+            Status::Done
+        }
+        Status::Faulty => Status::Faulty,
+        Status::Failed => Status::Failed,
+    }
 }
 
 /// Opens the output and writes a generated text, and answers the status: `Failed` where the output cannot be

@@ -4,7 +4,7 @@
 //! Of gcc 12, glibc 2.36, libtirpc 1.3.2.
 
 /// How many names there are.
-pub(crate) const NAME_COUNT: usize = 1961;
+pub(crate) const NAME_COUNT: usize = 1963;
 
 /// Keywords: C11, section 6.4.1, and `asm` and `typeof` of GNU C.
 pub(crate) const KEYWORDS: &str = "\
@@ -294,6 +294,6 @@ pub(crate) const TAGGED_NAMES: &str = "\
 pub(crate) const PARAMETERS: &str = "\
     argp clnt objp xdrs";
 
-/// Variables of the generated functions: a result, and a time-out at file scope.
+/// Variables of the generated functions: a result and a time-out; and the members that `clnt_call` names.
 pub(crate) const VARIABLES: &str = "\
-    clnt_res timeout";
+    cl_call cl_ops clnt_res timeout";

@@ -4,12 +4,14 @@ ghost use Rattle.std.specs.Prelude.{◌≡◌, ◌<◌, codes, length, map};
 ghost use Rattle.rpcx.specs.Checking.{AreChecked, IsChecked};
 ghost use Rattle.rpcx.specs.Generate.{IsFaultless, NotOpened, TellsFaults};
 ghost use Rattle.rpcx.specs.Opening.{CompilesBy};
+ghost use Rattle.rpcx.specs.Warnings.{Warns};
 ghost use Rattle.x_compile.specs.Compile.{faults_of};
 ghost use Rattle.x_text.specs.Limits.{most_text};
 
 use crate::files::opening::Opening;
 use crate::files::reading::read_text;
 use crate::rpcgen::gen_open;
+use crate::rpcgen::warnings::warn;
 use std::alloc::Global;
 use x_args::{CheckArgs, Status};
 use x_text::Sink;
@@ -24,7 +26,8 @@ pub trait Screen: Sink {
 
 /// Reports the faults of a file's text, and answers the status: `Done` where it has none, `Faulty` where it
 /// has some, which are written one a line, or explained where that is asked for, and `Failed` where it is too
-/// large or memory runs out, which it tells.
+/// large or memory runs out, which it tells. Where faults are explained, the names of a text without faults
+/// that clash in C are told.
 fn check_text<E: Sink>(
     alloc: Global,
     file: &str,
@@ -40,13 +43,13 @@ fn check_text<E: Sink>(
     ensures clean { result ≡ Status.Done → IsFaultless how.now bytes.now }
     ensures failed { result ≡ Status.Failed
         → NotOpened how.now (codes "rpcgen") file.now bytes.now (E.state err.old) (E.state err.new) }
-    ensures quiet { result ≡ Status.Done → err.new ≡ err.old }
+    ensures warned { result ≡ Status.Done → CompilesBy how.now bytes.now
+        (λ items. Warns how.now.style file.now bytes.now items (E.state err.old) (E.state err.new)) }
 {
     match gen_open(alloc, file, bytes, how, err) {
-        Ok(_) => {}
-        Err(status) => return status,
+        Ok(session) => warn(alloc, how, file, &session, err),
+        Err(status) => status,
     }
-    Status::Done
 }
 
 /// Reads the text of a file and reports its faults. Where it cannot be read that is told.

@@ -1,4 +1,4 @@
-use Rattle.std.proofs.Common.{ap, inl, subst, sym}
+use Rattle.std.proofs.Common.{inl, subst, sym}
 use Rattle.rpcx.specs.Checking.{IsChecked}
 use Rattle.rpcx.proofs.Checking.{checked}
 use Rattle.rpcx.proofs.rpcgen.checking.check_file.Goals as goal
@@ -10,7 +10,7 @@ returns-in-Ok g c =
     let text = c.check_text.ensures in
     subst (λ now. IsChecked c.args.how.now c.args.file.now (state now) after c.check_text.result) c.in-Ok.ensures.quiet
     (checked c.args.how.now c.args.file.now c.deref.result.now (state c.read_text.new.err) after c.check_text.result
-    text.faulty text.clean text.failed (λ done. ap state (text.quiet done)))
+    text.faulty text.clean text.failed text.warned)
 
 pub returns-in-Err : goal.returns-in-Err
 returns-in-Err g c =
