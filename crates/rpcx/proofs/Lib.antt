@@ -1,6 +1,7 @@
 pub mod Bases
 pub mod Before
 pub mod Checking
+pub mod ClashLemmas
 pub mod Dumping
 pub mod Editing
 pub mod Outputs

@@ -17,9 +17,9 @@ IsUnread file before after =
     IsTold before after (told_of (codes "rpcgen") (codes "out of memory"))
     ⊎ IsTold before after (codes "rpcgen" ++ codes ": " ++ file ++ codes ": cannot be read\n")
 
--- What the check of a file comes to, by its status: the text that was read has no fault, and which of its names
--- clash in C is told; or it has faults, which are told as a run of `rpcgen` tells them; or the file is not read, or its text is
--- not opened, which is told.
+-- What the check of a file comes to, by its status: the text that was read has no fault, and which of its
+-- names clash in C is told; or it has faults, which are told as a run of `rpcgen` tells them; or the file is
+-- not read, or its text is not opened, which is told.
 abbrev pub IsChecked : (how : Opening) → (file : List ℕ) → (before after : Stream) → Status → Type 0
 IsChecked how file before after Done = (text : List ℕ) × IsFaultless how text
     × CompilesBy how text (λ items. Warns how.style file text items before after)

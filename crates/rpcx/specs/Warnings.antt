@@ -42,7 +42,8 @@ kind_text taken.Variable = codes "is a variable of generated functions"
 
 abbrev pub rival_text : List ℕ → Spots → Rival → List ℕ
 rival_text file spots (OfC kind) = kind_text kind
-rival_text file spots (OfText p) = codes "has two meanings in C; the other is at " ++ place_text file (spots p)
+rival_text file spots (OfText p) =
+    codes "has two meanings in C; the other is at " ++ place_text file (spots p)
 
 -- `FILE:LINE:COL: warning: 'NAME' has two meanings in C; the other is at FILE:LINE:COL`
 abbrev pub clash_line : List ℕ → Spots → Clash → List ℕ

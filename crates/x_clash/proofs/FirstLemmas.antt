@@ -42,7 +42,7 @@ pub after : (test : Sort → Bool) (name : List ℕ) (things : List Thing) (t : 
     → option_or o (place_if b t) ≡ first_of test name (things ++ t ∷ [])
 after test name things t o b same is tested =
     let here : has_name name test t ≡ b =
-        ap (λ c. c && test t.given.sort) (same_bytes name t.given.name same) ∙ tested in
+    ap (λ c. c && test t.given.sort) (same_bytes name t.given.name same) ∙ tested in
     ap (λ x. option_or x (place_if b t)) is ∙ sym (ap (λ c. option_or (first_of test name things) (place_if c t)) here)
     ∙ sym (first_more test name things t)
 
@@ -175,13 +175,13 @@ with_other_macro name things t f m text other same sort first differs more are =
         let one : wanted ≡ m.text.now = (bytes_eq-Decides wanted m.text.now).0 e in
         let apart : bytes_eq wanted text ≡ false = ap (λ n. bytes_eq n text) one ∙ differs in
         let here : (o : Option Place) → beside wanted f.first_macro o ≡ o =
-            λ o. ap (λ x. beside wanted x o) first ∙ ap (λ c. cond c o (Some m.place)) e in
+        λ o. ap (λ x. beside wanted x o) first ∙ ap (λ c. cond c o (Some m.place)) e in
         here other ∙ more ∙ sym (ap (λ o. option_or o (Some (place_of t))) (here f.other_macro))
         ∙ after (is_other_macro wanted) name things t (macro_beside wanted f) true same (are.other_macros wanted)
         (ap (is_other_macro wanted) sort ∙ ap not apart)
     by wanted false e =
         let here : (o : Option Place) → beside wanted f.first_macro o ≡ Some m.place =
-            λ o. ap (λ x. beside wanted x o) first ∙ ap (λ c. cond c o (Some m.place)) e in
+        λ o. ap (λ x. beside wanted x o) first ∙ ap (λ c. cond c o (Some m.place)) e in
         here other ∙ sym (here f.other_macro)
         ∙ kept (macro_beside wanted f) (place_if (not (bytes_eq wanted text)) t) m.place (here f.other_macro)
         ∙ after (is_other_macro wanted) name things t (macro_beside wanted f) (not (bytes_eq wanted text)) same

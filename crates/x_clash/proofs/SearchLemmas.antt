@@ -12,13 +12,12 @@ use Rattle.std.proofs.lemmas.Slice.Eq.{bytes_eq-Decides}
 use Rattle.x_taken.specs.declared.taken.TakenAs.{TakenAs}
 use Rattle.x_trees.specs.Tree.{Definition}
 use Rattle.x_clash.specs.declared.clash.Clash as told_as
-use Rattle.x_clash.specs.Clashes.{AreClashes, AreInOrder, Thing, clash_with, clashes_behind, clashes_of, first_of, is_at_file_scope, is_macro, is_member, is_other_macro, met_by, place_of, rival_of_c, thing, things_of, twin_of}
-use Rattle.x_clash.specs.Firsts.{AreFirsts, macro_beside, macro_place, met_in, no_firsts}
+use Rattle.x_clash.specs.Clashes.{AreClashes, AreInOrder, Thing, clash_with, clashes_behind, clashes_of, first_of, is_at_file_scope, is_macro, is_other_macro, met_by, rival_of_c, thing, things_of, twin_of}
+use Rattle.x_clash.specs.Firsts.{AreFirsts, met_in, no_firsts}
 use Rattle.x_clash.specs.Given.{Sort, Macro, Tagged, Function, Plain, Member}
 use Rattle.x_clash.specs.Table.{HasFirsts, firsts_in}
 use Rattle.x_clash.specs.Views.{Clash, view_all, view_given}
 use Rattle.x_clash.specs.declared.given.Given as rust
-use Rattle.x_clash.specs.declared.clash.Place.{Place}
 use Rattle.x_clash.specs.declared.clash.Rival.{Rival}
 use Rattle.x_clash.specs.declared.clash.Rival.TheVariants.{OfText}
 use Rattle.x_clash.specs.declared.firsts.Firsts.{Firsts}
@@ -57,13 +56,13 @@ put old new things t f more are has name = by (bytes_eq name t.given.name) refl
     by true e =
         let same : name ≡ t.given.name = (bytes_eq-Decides name t.given.name).0 e in
         let here : firsts_in new name ≡ f = ap (λ o. unwrap_or o no_firsts) (more name
-            ∙ ap (λ c. option_or (cond c (Some f) None) (found_in name old)) e) in
+        ∙ ap (λ c. option_or (cond c (Some f) None) (found_in name old)) e) in
         let P : List ℕ → Type 0 = λ n. AreFirsts n (things ++ t ∷ []) f in
         let Q : Firsts → Type 0 = λ g. AreFirsts name (things ++ t ∷ []) g in
         subst Q (sym here) (subst P (sym same) are)
     by false e =
         let here : firsts_in new name ≡ firsts_in old name = ap (λ o. unwrap_or o no_firsts) (more name
-            ∙ ap (λ c. option_or (cond c (Some f) None) (found_in name old)) e) in
+        ∙ ap (λ c. option_or (cond c (Some f) None) (found_in name old)) e) in
         let Q : Firsts → Type 0 = λ g. AreFirsts name (things ++ t ∷ []) g in
         subst Q (sym here) (with_other name things t (firsts_in old name) e (has name))
 

@@ -1,5 +1,5 @@
--- Which names of a text clash in C (C11, 6.2.1, 6.2.3 and 6.10.3): two things have one name and meet, or C has
--- the name already.
+-- Which names of a text clash in C (C11, 6.2.1, 6.2.3 and 6.10.3): two things have one name and meet, or C
+-- has the name already.
 use Rattle.std.specs.Prelude.{◌≡◌, ℕ, suc, Bool, true, false, not, ◌&&◌, List, [], ◌∷◌, ◌++◌, map, find}
 use Rattle.std.specs.Prelude.{Option, None, Some, option_and_then, option_map, IsPermutation}
 use Rattle.std.specs.Prelude.{if◌then◌else◌}
@@ -65,8 +65,8 @@ met_by sort name things = option_or (first_of is_macro name things) (first_of is
 
 -- ---- what C has
 
--- Whether a name that C has already is in the way of a thing of the sort: a keyword or a macro is in the way of
--- all; a macro with parameters of what stands before a parenthesis; names at file scope, and parameters of
+-- Whether a name that C has already is in the way of a thing of the sort: a keyword or a macro is in the way
+-- of all; a macro with parameters of what stands before a parenthesis; names at file scope, and parameters of
 -- generated functions, of those that they hide or replace. And no macro may replace any of them.
 abbrev pub is_in_way : TakenAs → Sort → Bool
 is_in_way kind (Macro text) = true

@@ -1,9 +1,9 @@
 -- What is kept of the things that have a name.
-use Rattle.std.specs.Prelude.{◌≡◌, ℕ, Bool, not, List, Option, None, Some, option_map, if◌then◌else◌}
+use Rattle.std.specs.Prelude.{◌≡◌, ℕ, not, List, Option, None, Some, option_map, if◌then◌else◌}
 use Rattle.std.specs.Option.{option_or}
 use Rattle.std.specs.Str.{bytes_eq}
 use Rattle.x_clash.specs.Clashes.{Thing, first_of, is_at_file_scope, is_macro, is_member, is_other_macro}
-use Rattle.x_clash.specs.Given.{Sort, Macro, Tagged, Function, Plain, Member}
+use Rattle.x_clash.specs.Given.{Sort, Macro, Member}
 use Rattle.x_clash.specs.declared.clash.Place.{Place}
 use Rattle.x_clash.specs.declared.firsts.FirstMacro.{FirstMacro}
 use Rattle.x_clash.specs.declared.firsts.Firsts.{Firsts}

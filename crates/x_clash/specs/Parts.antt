@@ -1,7 +1,7 @@
 -- What is in what a definition holds, as far as its C depends on it.
 use Rattle.std.specs.Prelude.{ℕ, Bool, true, false, List, [], ◌∷◌}
-use Rattle.x_trees.specs.Tree.{Declaration, Void, Of, Opaque, String, Length, Fixed, Variable, Shape, Plain}
-use Rattle.x_trees.specs.Tree.{Optional, Array}
+use Rattle.x_trees.specs.Tree.{Declaration, Of, Opaque, Length, Fixed, Variable, Shape}
+use Rattle.x_trees.specs.Tree.{Array}
 use Rattle.x_trees.specs.declared.names.declared_name.NameKind.{NameKind}
 use Rattle.x_trees.specs.declared.names.declared_name.NameKind.TheVariants as kinds
 use Rattle.x_outline.specs.Bodies.{NameAt, Members}

@@ -1,5 +1,5 @@
 -- What the program's values stand for.
-use Rattle.std.specs.Prelude.{ℕ, List, map, Option, None, Some}
+use Rattle.std.specs.Prelude.{ℕ, List, map}
 use Rattle.std.specs.Cow.{cow_slice_items}
 use Rattle.x_clash.specs.Given.{Given, Sort, Macro, Tagged, Function, Plain, Member}
 use Rattle.x_clash.specs.declared.given.Given as rust

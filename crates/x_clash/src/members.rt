@@ -1,8 +1,8 @@
 //! The members of the structs and unions of C.
 
 ghost use Rattle.std.specs.Prelude.{◌≡◌, ◌++◌, map, OnOk, IfOk, option_map};
-ghost use Rattle.x_trees.specs.View.{view_arms, view_declaration, view_declarations, view_default, view_length};
-ghost use Rattle.x_trees.specs.View.{view_shape, view_union};
+ghost use Rattle.x_trees.specs.View.{view_arms, view_declaration, view_declarations, view_default};
+ghost use Rattle.x_trees.specs.View.{view_length, view_shape, view_union};
 ghost use Rattle.x_outline.specs.BodyWalks.{view_body_at, IsFilled};
 ghost use Rattle.x_outline.specs.Parts.{view_name_at};
 ghost use Rattle.x_pieces.specs.Header.{are_void, is_void_default};
@@ -87,10 +87,7 @@ fn add_field<'d>(
 }
 
 /// The names that are left after a declaration.
-fn fields_after<'b, 'd>(
-    names: &'b [NameAt<'d>],
-    declaration: &Declaration,
-) -> &'b [NameAt<'d>]
+fn fields_after<'b, 'd>(names: &'b [NameAt<'d>], declaration: &Declaration) -> &'b [NameAt<'d>]
     ensures { map view_name_at result.now
         ≡ fields_after (map view_name_at names.now) (view_declaration declaration.now) }
 {
@@ -227,7 +224,15 @@ fn add_union<'d>(
     add_field(alloc, list, names, &union.discriminant)?;
     let left = fields_after(names, &union.discriminant);
     add_arms(alloc, list, left, &union.arms, &union.default)?;
-    add_variant(alloc, list, around, word, names, &union.arms, &union.default)
+    add_variant(
+        alloc,
+        list,
+        around,
+        word,
+        names,
+        &union.arms,
+        &union.default,
+    )
 }
 
 /// Adds the members of the type of this name, whose body this is.

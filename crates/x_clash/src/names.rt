@@ -76,7 +76,14 @@ fn add_program<'d>(
     let members = members(alloc, program)?;
     match members.split_last() {
         Some((of_versions, of_procedures)) => {
-            add_versions(alloc, list, name, &of_versions.names, of_procedures, versions)
+            add_versions(
+                alloc,
+                list,
+                name,
+                &of_versions.names,
+                of_procedures,
+                versions,
+            )
         }
         None => Ok(()),
     }

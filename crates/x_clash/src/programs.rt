@@ -6,8 +6,8 @@ ghost use Rattle.x_outline.specs.Parts.{view_members, view_name_at};
 ghost use Rattle.x_pieces.specs.Procedures.{function_name, in_decimal, lower, lower_byte};
 ghost use Rattle.x_pieces.specs.Table.{table_name};
 ghost use Rattle.std.specs.Fmt.{decimal};
-ghost use Rattle.x_clash.specs.Given.{Member, argument_names, given, group_names, procedure_names, procedures_names};
-ghost use Rattle.x_clash.specs.Given.{version_names, versions_names};
+ghost use Rattle.x_clash.specs.Given.{Member, argument_names, given, group_names, procedure_names};
+ghost use Rattle.x_clash.specs.Given.{procedures_names, version_names, versions_names};
 ghost use Rattle.x_clash.specs.Parts.{first_names, first_word};
 ghost use Rattle.x_clash.specs.Views.{view_all};
 
@@ -118,7 +118,13 @@ fn add_group<'d>(
         return Ok(());
     }
     add_made(alloc, list, &[function, b"_argument"], word, Sort::Tagged)?;
-    add_made(alloc, list, &[b"xdr_", function, b"_argument"], word, Sort::Function)?;
+    add_made(
+        alloc,
+        list,
+        &[b"xdr_", function, b"_argument"],
+        word,
+        Sort::Function,
+    )?;
     add_spelled(list, b"arg1", word, Sort::Member)?;
     add_arguments(alloc, list, word, arguments)
 }

@@ -32,10 +32,7 @@ fn is_in_way(kind: TakenAs, sort: &Sort) -> bool
         (_, Sort::Macro(_)) => true,
         (TakenAs::Keyword | TakenAs::KeywordOfCpp | TakenAs::Macro, _) => true,
         (TakenAs::CallMacro, Sort::Function) => true,
-        (
-            TakenAs::Name | TakenAs::TaggedName,
-            Sort::Tagged | Sort::Function | Sort::Plain,
-        ) => true,
+        (TakenAs::Name | TakenAs::TaggedName, Sort::Tagged | Sort::Function | Sort::Plain) => true,
         (TakenAs::Tag, Sort::Tagged) => true,
         (TakenAs::Parameter, Sort::Tagged | Sort::Plain) => true,
         _ => false,

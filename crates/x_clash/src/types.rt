@@ -113,10 +113,7 @@ fn add_body<'d>(
 }
 
 /// The bodies that are left after a name.
-fn bodies_after<'b, 'd>(
-    bodies: &'b [BodyAt<'d>],
-    declared: &DeclaredName<'d>,
-) -> &'b [BodyAt<'d>]
+fn bodies_after<'b, 'd>(bodies: &'b [BodyAt<'d>], declared: &DeclaredName<'d>) -> &'b [BodyAt<'d>]
     ensures left { map view_body_at result.now
         ≡ bodies_after (view_name declared.now) (map view_body_at bodies.now) }
     ensures filled { AreFilled bodies.now → AreFilled result.now }

@@ -15,7 +15,7 @@ returns-in-Struct c =
     let old = view_all c.args.list.now.items in
     let around = c.args.around.now in
     let is : view_body body.body.now ≡ Struct (view_declarations c.in-Struct.declarations.items) =
-        ap view_body c.in-Struct.is ∙ struct_view c.in-Struct.declarations in
+    ap view_body c.in-Struct.is ∙ struct_view c.in-Struct.declarations in
     on_ok_weaker c.add_fields.result
     (λ last filled. last
     ∙ ap (λ ns. old ++ members_in around body.named ns (Struct (view_declarations c.in-Struct.declarations.items)))

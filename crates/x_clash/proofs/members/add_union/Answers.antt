@@ -1,11 +1,11 @@
-use Rattle.std.proofs.Common.{◌≡◌, ◌++◌, List, map, sym, ap, ◌∙◌}
+use Rattle.std.proofs.Common.{◌≡◌, ◌++◌, map, sym, ap, ◌∙◌}
 use Rattle.std.proofs.lemmas.Result.{on_ok_weaker}
 use Rattle.x_trees.specs.View.{view_arms, view_declaration, view_default}
 use Rattle.x_trees.specs.declared.trees.declaration.UnionBody.{out-UnionBody}
 use Rattle.x_trees.proofs.Rows.{union_parts}
 use Rattle.x_outline.specs.Parts.{view_name_at}
 use Rattle.x_pieces.proofs.PartLemmas.{then}
-use Rattle.x_clash.specs.Given.{Given, arm_names, field_names, fields_after, members_in, variant_names}
+use Rattle.x_clash.specs.Given.{arm_names, field_names, fields_after, members_in, variant_names}
 use Rattle.x_clash.specs.Views.{view_all}
 use Rattle.x_clash.proofs.members.add_union.Goals as goal
 
@@ -22,7 +22,7 @@ returns c =
     let y = arm_names (fields_after ns d) (view_arms u.arms.items) (view_default u.default) in
     let z = variant_names c.args.around.now c.args.word ns (view_arms u.arms.items) (view_default u.default) in
     let arms : two ≡ one ++ y =
-        rw c.deref.ensures.value at (rw c.fields_after-left.ensures at c.in_ok-add_arms.ensures) in
+    rw c.deref.ensures.value at (rw c.fields_after-left.ensures at c.in_ok-add_arms.ensures) in
     on_ok_weaker c.add_variant.result
     (λ (last : three ≡ two ++ z).
     then a one three x (y ++ z) c.in_ok-add_field.ensures (then one two three y z arms last)

@@ -1,4 +1,4 @@
-use Rattle.std.proofs.Common.{◌≡◌, List, [], ◌++◌, drop, map}
+use Rattle.std.proofs.Common.{List, [], ◌++◌, drop, map}
 use Rattle.x_names.specs.Declarers.{AreShort}
 use Rattle.x_taken.specs.TakenNames.{taken_in}
 use Rattle.x_trees.specs.View.{tree_at}

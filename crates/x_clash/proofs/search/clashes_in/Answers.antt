@@ -1,4 +1,4 @@
-use Rattle.std.proofs.Common.{◌≡◌, List, ◌++◌, map, sym, ap, subst, ◌∙◌, rules}
+use Rattle.std.proofs.Common.{List, ◌++◌, map, ap, subst, ◌∙◌, rules}
 use Rattle.std.proofs.lemmas.List.Sorted.{answers_always}
 use Rattle.x_taken.specs.TakenNames.{taken_in}
 use Rattle.x_clash.specs.Clashes.{clashes_behind, thing}

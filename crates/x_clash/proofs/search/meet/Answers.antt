@@ -1,4 +1,4 @@
-use Rattle.std.proofs.Common.{◌≡◌, List, ℕ, refl, sym, ap, map, subst, ◌∙◌}
+use Rattle.std.proofs.Common.{◌≡◌, refl, sym, ap, map, subst, ◌∙◌}
 use Rattle.std.specs.Prelude.{option_map}
 use Rattle.std.specs.Cow.{cow_slice_items}
 use Rattle.std.specs.Map.{lookup}
@@ -21,7 +21,7 @@ returns-clause-table c things has =
     let old = c.args.table.now.entries in
     let f = c.with-after.result in
     let firsts : c.firsts_in-firsts.result ≡ firsts_in old name =
-        rw c.deref.ensures.value at c.firsts_in-firsts.ensures in
+    rw c.deref.ensures.value at c.firsts_in-firsts.ensures in
     let P : Firsts → Type 0 = λ g. AreFirsts name things g in
     let kept = subst P (sym firsts) (has name) in
     put old c.insert.new.self.entries things t f
@@ -35,7 +35,7 @@ returns-clause-found c things has =
     let name = cow_slice_items c.args.given.name in
     let old = c.args.table.now.entries in
     let firsts : c.firsts_in-firsts.result ≡ firsts_in old name =
-        rw c.deref.ensures.value at c.firsts_in-firsts.ensures in
+    rw c.deref.ensures.value at c.firsts_in-firsts.ensures in
     let P : Firsts → Type 0 = λ g. AreFirsts name things g in
     let kept = subst P (sym firsts) (has name) in
     told (taken_in c.args.taken.now) things t (map view_clash c.args.found.now.items)

@@ -1,4 +1,4 @@
-use Rattle.std.proofs.Common.{◌≡◌, ◌+◌, ◌∷◌, ◌++◌, drop, map, sym, ap, ◌∙◌, append_assoc}
+use Rattle.std.proofs.Common.{◌+◌, ◌∷◌, drop, map, sym, ap, ◌∙◌}
 use Rattle.x_trees.specs.Collected.{view_name}
 use Rattle.x_trees.specs.View.{view_definition}
 use Rattle.x_outline.specs.BodyWalks.{view_body_at}
@@ -14,7 +14,7 @@ loop-declared-preserved c =
     let here = c.declared-item.result in
     let bodies = map view_body_at c.loop-declared.bodies.now in
     let is = ap (map view_name) (drop_one all c.loop-declared.declared-index here c.loop-declared-test.true
-        ∙ ap (λ x. x ∷ drop (c.loop-declared.declared-index + 1) all) (sym c.declared-item.is)) in
+    ∙ ap (λ x. x ∷ drop (c.loop-declared.declared-index + 1) all) (sym c.declared-item.is)) in
     record {
       filled = λ filled. c.bodies_after-bodies.ensures.filled (c.loop-declared.invariant.filled filled);
       names = λ filled.
