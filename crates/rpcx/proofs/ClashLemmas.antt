@@ -1,6 +1,7 @@
 -- The names of a text that clash, as they are told.
-use Rattle.std.proofs.Common.{◌≡◌, ◌<◌, ◌≤◌, ◌^◌, ℕ, List, [], ◌∷◌, Option, length, sym, ap, refl, subst, ◌∙◌, arith}
+use Rattle.std.proofs.Common.{◌≡◌, ◌<◌, ◌≤◌, ◌^◌, ℕ, List, [], ◌∷◌, ◌++◌, Option, Result, Ok, Err, append_assoc, length, sym, ap, refl, subst, ◌∙◌, arith}
 use Rattle.std.specs.List.{flat_map}
+use Rattle.std.specs.Prelude.{OnOk}
 use Rattle.x_text.specs.Streams.{Stream}
 use Rattle.x_trees.specs.Tree.{Definition}
 use Rattle.x_names.specs.Declarers.{AreShort}
@@ -32,7 +33,7 @@ lines_are file text definitions taken found table said count few tokens are same
     let many = of_each text tokens are.0 items are.2 in
     let le : length (tokens_of items) ≤ count = omega (arith, many) in
     let short : AreShort definitions =
-        subst AreShort (sym are.3) (λ index d there. short_each items index d count are.2.are_parses le few there) in
+    subst AreShort (sym are.3) (λ index d there. short_each items index d count are.2.are_parses le few there) in
     let kinds : taken ≡ taken_as = λ i name. same name i in
     let P : (List ℕ → Option TakenAs) → Type 0 = λ f. AreClashes f 0 [] definitions found in
     let Q : List (Option Definition) → Type 0 = λ ds. AreClashes taken_as 0 [] ds found in
@@ -62,3 +63,9 @@ said_some before after (b ∷ bs) some told = told
 pub compiles_so : {known : KnownText} (text : List ℕ) {P Q : List Item → Type 0} → Compiles known text P
     → ((items : List Item) → P items → Q items) → Compiles known text Q
 compiles_so text h so = (h.0, h.1, h.2, so h.1 h.3)
+
+-- what a call that went well adds
+pub adds_more : {T E : Type 0} (r : Result T E) (old mid new first second : List ℕ) → mid ≡ old ++ first
+    → OnOk r (new ≡ mid ++ second) → OnOk r (new ≡ old ++ (first ++ second))
+adds_more (Ok x) old mid new first second one two = two ∙ ap (λ l. l ++ second) one ∙ append_assoc old first second
+adds_more (Err e) old mid new first second one two = two

@@ -1,12 +1,12 @@
 -- Why a file's text is not opened.
-use Rattle.std.proofs.Common.{◌⊎◌, inl, inr, ℕ, ◌+◌, ◌<◌, ◌≤◌, List, Result, Err, length, refl, arith}
+use Rattle.std.proofs.Common.{◌⊎◌, inl, inr, ℕ, ◌+◌, ◌<◌, ◌≤◌, List, codes, Result, Err, length, refl, arith}
 use Rattle.std.specs.Prelude.{IsErrOf}
 use Rattle.std.proofs.Math.Nat.{lt_of_not-le}
 use Rattle.x_text.specs.Streams.{Stream}
 use Rattle.x_text.specs.declared.text.fault.TextFault.{TextFault}
 use Rattle.x_text.specs.declared.text.fault.TextFault.TheVariants as faults
 use Rattle.x_text.specs.declared.text.source.TheConstants.{MAX_TEXT}
-use Rattle.x_args.specs.Telling.{IsTold}
+use Rattle.x_args.specs.Telling.{IsTold, told_of}
 use Rattle.rpcx.specs.declared.files.opening.Opening.{Opening}
 use Rattle.rpcx.specs.Generate.{unopened_told, NotOpened, Crowded, TooLarge, NoRoom}
 use Rattle.rpcx.specs.Opening.{IsCrowded}
@@ -29,3 +29,8 @@ not_opened T how program file text before after faults.TooLarge too_large large 
 not_opened T how program file text before after faults.BadRange too_large large range told = absurd (range refl)
 not_opened T how program file text before after faults.NoMemory too_large large range told =
     NoRoom (fits (length text) (λ more. let no = too_large more in cc)) told
+
+-- the text fits, and memory ran out
+pub no_memory : (how : Opening) (program file text : List ℕ) (before after : Stream) → (MAX_TEXT < length text → ⊥)
+    → IsTold before after (told_of program (codes "out of memory")) → NotOpened how program file text before after
+no_memory how program file text before after few told = NoRoom (fits (length text) few) told
