@@ -14,8 +14,8 @@ use Rattle.x_explain.specs.declared.facts.FaultNames.{FaultNames}
 use Rattle.x_declared.specs.DeclaredNames.{declared_at, definition_of, first_place, first_place_by, spot_at, word_at}
 use Rattle.x_explain.specs.Facts.{AreNamesOf, name_of}
 use Rattle.x_declared.proofs.DeclaredLemmas.{of_each}
-use Rattle.x_lsp.specs.declared.changes.Range.{Range}
-use Rattle.x_lsp.specs.declared.encoding.Encoding.{Encoding}
+use Rattle.x_positions.specs.declared.range.Range.{Range}
+use Rattle.x_positions.specs.declared.encoding.Encoding.{Encoding}
 use Rattle.x_lsp.specs.Diagnostics.{IsRangeAt, declared_elsewhere, is_of_declarer, other_place}
 
 -- ---- beside a fault

@@ -2,10 +2,10 @@
 use Rattle.std.proofs.Common.{◌≡◌, ℕ, ℤ, List, Option, Some, codes, refl, subst, sym}
 use Rattle.serde_json.specs.Data.{Data, object, string, number, unsigned, member, no_members}
 use Rattle.serde_json.specs.Written.{compact_text}
-use Rattle.x_lsp.specs.Answers.{IsNote, IsShown, IsToNotification}
+use Rattle.x_frames.specs.Answers.{IsNote, IsShown, IsToNotification}
 use Rattle.serde_json.specs.Find.{of_integer}
 use Rattle.x_lsp.specs.Diagnostics.{params_with, published_data}
-use Rattle.x_lsp.specs.KeptSaid.{no_memory_note}
+use Rattle.x_frames.specs.KeptSaid.{no_memory_note}
 
 -- that memory ran out is shown
 pub no_memory_shown : IsShown (Some no_memory_note)

@@ -18,7 +18,7 @@ use Rattle.x_explain.proofs.FoundLemmas.{take_more}
 use Rattle.x_lsp.specs.Diagnostics.{AreForeignHints, IsForeignHint, published_data}
 use Rattle.x_lsp.specs.Telling.{is_of_branch, is_of_faulty, is_repeat}
 use Rattle.x_lsp.specs.Voices.{is_of_branch_by}
-use Rattle.x_lsp.specs.declared.encoding.Encoding.{Encoding}
+use Rattle.x_positions.specs.declared.encoding.Encoding.{Encoding}
 
 -- a fault that does not repeat a name in a later branch
 abbrev pub is_free : List ℕ → FaultPlace → Bool

@@ -22,16 +22,16 @@ use Rattle.x_explain.specs.Facts.{name_of}
 use Rattle.x_declared.specs.Foreign.{ForeignName}
 use Rattle.x_explain.specs.Found.{IsEndOfToken}
 use Rattle.x_prelude.specs.Foreign.{AreForeign}
-use Rattle.x_lsp.specs.declared.changes.Range.{Range}
+use Rattle.x_positions.specs.declared.range.Range.{Range}
 use Rattle.x_lsp.specs.declared.client.Client.{Client}
-use Rattle.x_lsp.specs.declared.encoding.Encoding.{Encoding}
-use Rattle.x_lsp.specs.declared.positions.Position.{Position}
+use Rattle.x_positions.specs.declared.encoding.Encoding.{Encoding}
+use Rattle.x_positions.specs.declared.positions.Position.{Position}
 use Rattle.x_lsp.specs.declared.published.Severity.{Severity}
 use Rattle.x_lsp.specs.declared.published.Severity.TheVariants.{Error, Hint}
-use Rattle.x_lsp.specs.Answers.{note_data}
-use Rattle.x_lsp.specs.Framing.{number_of}
+use Rattle.x_frames.specs.Answers.{note_data}
+use Rattle.x_frames.specs.Framing.{number_of}
 use Rattle.x_lsp.specs.Grounds.{CompilesOn, Ground, compiled_of, constants_of}
-use Rattle.x_lsp.specs.Positions.{position_of}
+use Rattle.x_positions.specs.Positions.{position_of}
 use Rattle.x_lsp.specs.Telling.{told_of}
 
 -- a position, and a range, as LSP writes them

@@ -1,22 +1,12 @@
-pub mod Answers
 pub mod Changes
 pub mod Compiled
 pub mod Diagnostics
 pub mod DocumentTexts
 pub mod Documents
-pub mod Encodings
 pub mod FaultMessages
-pub mod FrameSteps
-pub mod Framing
 pub mod Grounds
-pub mod KeptSaid
-pub mod LineStarts
-pub mod Lives
-pub mod Messages
 pub mod NamePlaces
 pub mod OtherPlaces
-pub mod PassedLines
-pub mod Positions
 pub mod Published
 pub mod Publishing
 pub mod Replies
@@ -25,4 +15,3 @@ pub mod Sought
 pub mod Symbols
 pub mod Telling
 pub mod Voices
-pub mod Waymarks

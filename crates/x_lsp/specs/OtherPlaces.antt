@@ -3,7 +3,7 @@ use Rattle.std.specs.Prelude.{IfSome}
 use Rattle.x_session.specs.Session.{Compiles}
 use Rattle.x_explain.specs.Facts.{AreNamesOf}
 use Rattle.x_lsp.specs.declared.other_places.OtherPlaces.{OtherPlaces}
-use Rattle.x_lsp.specs.Waymarks.{AreWaymarks}
+use Rattle.x_positions.specs.Waymarks.{AreWaymarks}
 
 -- the waymarks are those of the text that is shown, and the names, if they are looked up, of the session's
 pub record AreOfText (others : OtherPlaces) : Type 0 where

@@ -1,7 +1,7 @@
 -- What is said where a document was opened or changed.
 use Rattle.std.specs.Prelude.{◌≡◌, ◌⊎◌, ℕ, ℤ, List, Option, Some}
 use Rattle.x_lsp.specs.declared.client.Client.{Client}
-use Rattle.x_lsp.specs.Answers.{IsShown}
+use Rattle.x_frames.specs.Answers.{IsShown}
 use Rattle.x_lsp.specs.Diagnostics.{IsPublished}
 use Rattle.x_lsp.specs.Grounds.{Ground}
 

@@ -4,11 +4,10 @@ ghost use Rattle.std.specs.Prelude.{◌≡◌, false, IfOk};
 ghost use Rattle.serde_json.specs.View.{view};
 ghost use Rattle.serde_json.specs.Written.{has_float};
 
-use crate::encoding::Encoding;
-use crate::plain_list::PlainList;
-use crate::plain_object::PlainObject;
 use serde_json::{Map, Value, json};
 use std::alloc::{AllocError, Global};
+use x_frames::{PlainList, PlainObject};
+use x_positions::Encoding;
 use x_text::NoMemory;
 
 /// The version of the server.

@@ -3,23 +3,13 @@
 ghost use Rattle.std.specs.Prelude.{◌≡◌, ℕ, List, OnErr, OnOk};
 ghost use Rattle.x_text.specs.Edits.{edited_by, Judges};
 ghost use Rattle.x_lsp.specs.Changes.{change_by, change_in};
-ghost use Rattle.x_lsp.specs.Waymarks.{AreWaymarks};
+ghost use Rattle.x_positions.specs.Waymarks.{AreWaymarks};
 
-use crate::positions::Position;
-use crate::waymarks::Waymarks;
 use serde_json::Value;
 use std::alloc::Global;
+use x_positions::{Position, Range, Waymarks};
 use x_session::EditFault;
 use x_text::{Edit, Source};
-
-/// A part of a text.
-#[derive(Clone, Copy, Debug, PartialEq, Eq)]
-pub struct Range {
-    /// The position of its first character.
-    pub start: Position,
-    /// The position behind its last one.
-    pub end: Position,
-}
 
 /// A change of a text: another text takes the place of a range, or of all.
 #[derive(Clone, Copy, Debug)]

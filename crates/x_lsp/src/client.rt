@@ -1,7 +1,7 @@
 //! What a client takes.
 
-use crate::encoding::Encoding;
 use serde_json::Value;
+use x_positions::Encoding;
 
 /// What a client takes.
 #[derive(Clone, Copy, Debug, PartialEq, Eq)]

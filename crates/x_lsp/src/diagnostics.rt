@@ -15,23 +15,20 @@ ghost use Rattle.x_lsp.specs.Diagnostics.{diagnostic_data, fault_number, hint_da
 ghost use Rattle.x_lsp.specs.Diagnostics.{range_data, related_data};
 ghost use Rattle.x_lsp.specs.Published.{data_of, place_data};
 ghost use Rattle.x_lsp.specs.Telling.{told_of};
-ghost use Rattle.x_lsp.specs.Waymarks.{AreWaymarks};
+ghost use Rattle.x_positions.specs.Waymarks.{AreWaymarks};
 
-use crate::answers::note;
-use crate::changes::Range;
 use crate::client::Client;
 use crate::fault_messages::{FaultMessages, branch_message, foreign_message};
-use crate::marking::Marker;
 use crate::other_places::OtherPlaces;
-use crate::positions::Position;
 use crate::published::{Diagnostic, Place, Severity, published_text};
 use crate::telling::{told_faults, word_at};
-use crate::waymarks::Waymarks;
 use serde_json::{Value, json};
 use std::alloc::{AllocError, Global};
-use x_directives::conditionals;
 use x_declared::ForeignName;
+use x_directives::conditionals;
 use x_explain::token_end;
+use x_frames::note;
+use x_positions::{Marker, Position, Range, Waymarks};
 use x_session::Session;
 use x_text::NoMemory;
 

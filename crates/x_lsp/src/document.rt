@@ -2,14 +2,14 @@
 
 ghost use Rattle.std.specs.Prelude.{◌≡◌, IfOk, OnOk, string_bytes};
 ghost use Rattle.x_prelude.specs.Followed.{IsOver};
-ghost use Rattle.x_lsp.specs.Answers.{IsToNotification};
+ghost use Rattle.x_frames.specs.Answers.{IsToNotification};
 ghost use Rattle.x_lsp.specs.Changes.{changed_by_all};
 ghost use Rattle.x_lsp.specs.Compiled.{IsCompiled};
 ghost use Rattle.x_lsp.specs.Grounds.{ground_of, ground_with};
-ghost use Rattle.x_lsp.specs.Positions.{offset_of};
+ghost use Rattle.x_positions.specs.Positions.{offset_of};
 ghost use Rattle.x_lsp.specs.Publishing.{Publishes};
 ghost use Rattle.x_lsp.specs.Replies.{said_of};
-ghost use Rattle.x_lsp.specs.Waymarks.{AreWaymarks};
+ghost use Rattle.x_positions.specs.Waymarks.{AreWaymarks};
 
 use crate::base::base_of;
 use crate::changes::{TextChange, apply_change};
@@ -18,11 +18,10 @@ use crate::compiled::{follow_text, open_text};
 use crate::diagnostics::{Hints, publish};
 use crate::fault_messages::FaultMessages;
 use crate::kept::{ChangeFault, Reply, told};
-use crate::positions::Position;
 use crate::setting::Setting;
-use crate::waymarks::Waymarks;
 use std::alloc::Global;
 use x_hash::HashKey;
+use x_positions::{Position, Waymarks};
 use x_prelude::FollowedText;
 use x_session::EditFault;
 use x_text::Source;

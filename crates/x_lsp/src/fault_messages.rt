@@ -9,12 +9,12 @@ ghost use Rattle.x_compile.specs.declared.fault.FaultCode.TheVariants.{Rule};
 ghost use Rattle.x_lsp.specs.Diagnostics.{branch_message, fault_number};
 ghost use Rattle.x_lsp.specs.FaultMessages.{GoesOn};
 
-use crate::head::number;
 use crate::published::{Diagnostic, Severity};
 use memchr::memchr;
 use std::alloc::{AllocError, Global};
 use std::str;
 use x_explain::{Known, MEANT, MEANT_END, Sentence, escape_of, sentence_of};
+use x_frames::number;
 use x_item::{FaultCode as ItemCode, NameKind};
 use x_session::{FaultCode, RuleCode};
 

@@ -7,12 +7,11 @@ ghost use Rattle.x_declared.specs.DeclaredNames.{definition_of};
 ghost use Rattle.x_explain.specs.Facts.{AreNamesOf};
 ghost use Rattle.x_lsp.specs.Diagnostics.{IsRangeAt, declared_elsewhere, is_of_declarer, other_place};
 ghost use Rattle.x_lsp.specs.OtherPlaces.{AreOfText};
-ghost use Rattle.x_lsp.specs.Waymarks.{AreWaymarks};
+ghost use Rattle.x_positions.specs.Waymarks.{AreWaymarks};
 
-use crate::changes::Range;
-use crate::waymarks::Waymarks;
 use std::alloc::Global;
 use x_explain::{FaultNames, FirstDeclaration, Known, Suggestions, token_end};
+use x_positions::{Range, Waymarks};
 use x_session::{FaultCode, RuleCode, Session};
 use x_text::NoMemory;
 

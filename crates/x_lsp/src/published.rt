@@ -10,12 +10,11 @@ ghost use Rattle.x_lsp.specs.Diagnostics.{last_members, position_data, published
 ghost use Rattle.x_lsp.specs.Diagnostics.{rest_members, severity_number};
 ghost use Rattle.x_lsp.specs.Published.{data_of, place_data};
 
-use crate::changes::Range;
 use crate::fault_messages::FaultMessage;
-use crate::positions::Position;
 use serde::{Described, Serialize, Serializer};
 use serde_json::Value;
 use std::alloc::{AllocError, Global};
+use x_positions::{Position, Range};
 
 /// How much a diagnostic matters.
 #[derive(Clone, Copy, Debug, PartialEq, Eq)]

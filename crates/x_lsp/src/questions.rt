@@ -3,10 +3,9 @@
 ghost use Rattle.std.specs.Prelude.{◌≡◌, false, true, IfErr, IfOk};
 ghost use Rattle.serde_json.specs.View.{view};
 ghost use Rattle.serde_json.specs.Written.{has_float};
-ghost use Rattle.x_lsp.specs.Lives.{is_of_request};
+ghost use Rattle.x_frames.specs.Lives.{is_of_request};
 
 mod completion;
-mod cursor;
 mod folds;
 mod generated;
 mod hover;
@@ -22,12 +21,8 @@ mod text_names;
 mod text_sink;
 mod token_kinds;
 
-use crate::answers::ErrorCode;
 use crate::document::OpenDocument;
-use crate::encoding::Encoding;
-use crate::method::{DocumentQuestion, PositionQuestion, Question};
 use crate::params::{declared_in, new_name_in, place_in, which_in};
-use crate::places::Places;
 use completion::completion;
 use folds::folds;
 use generated::text;
@@ -39,7 +34,9 @@ use serde_json::Value;
 use std::alloc::Global;
 use symbols::symbols;
 use token_kinds::token_kinds;
+use x_frames::{DocumentQuestion, ErrorCode, PositionQuestion, Question};
 use x_lex::Token;
+use x_positions::{Encoding, Places};
 use x_text::NoMemory;
 
 /// The result of a question about a document.

@@ -12,8 +12,8 @@ ghost use Rattle.x_lsp.specs.Telling.{is_of_faulty, is_repeat, is_told_where, to
 ghost use Rattle.x_lsp.specs.Voices.{heard_with, is_of_branch_by, is_silent_voice, voice_at};
 
 use std::alloc::Global;
-use x_directives::LaterBranches;
 use x_declared::names;
+use x_directives::LaterBranches;
 use x_explain::{FoundFault, found_faults, token_end};
 use x_names::Names;
 use x_session::{FaultCode, FaultPlace, RuleCode, Session};

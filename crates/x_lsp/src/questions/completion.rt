@@ -5,12 +5,12 @@ ghost use Rattle.serde_json.specs.View.{view};
 ghost use Rattle.serde_json.specs.Written.{has_float};
 
 use crate::document::OpenDocument;
-use crate::plain_list::PlainList;
 use crate::questions::surroundings::{Expected, expected_at};
 use serde_json::{Value, json};
 use std::alloc::Global;
 use std::str;
 use x_declared::definitions;
+use x_frames::PlainList;
 use x_item::{DeclaredName, Definition, Glossary, NameKind};
 use x_names::Names;
 use x_session::Session;

@@ -5,13 +5,12 @@ ghost use Rattle.serde_json.specs.View.{view};
 ghost use Rattle.serde_json.specs.Written.{has_float};
 
 use crate::document::OpenDocument;
-use crate::encoding::Encoding;
-use crate::places::Places;
-use crate::plain_list::PlainList;
 use crate::questions::locations::range_of;
 use serde_json::{Value, json};
 use std::alloc::Global;
+use x_frames::PlainList;
 use x_lex::{Kind, Mark, Token};
+use x_positions::{Encoding, Places};
 use x_text::NoMemory;
 
 /// A `FoldingRange` of each part of a document that has more than one line.

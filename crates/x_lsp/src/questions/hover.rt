@@ -6,14 +6,13 @@ ghost use Rattle.serde_json.specs.Written.{has_float};
 
 use crate::diagnostics::range_value;
 use crate::document::OpenDocument;
-use crate::encoding::Encoding;
-use crate::places::Places;
 use crate::questions::locations::range_of;
 use crate::questions::sizes::Size;
 use crate::questions::text_names::{FoundName, declared_name_at, names};
 use serde_json::{Value, json};
 use std::alloc::{AllocError, Global};
 use x_item::{is_significant, next_item};
+use x_positions::{Encoding, Places};
 use x_rules::Meaning;
 use x_session::{SchemaFault, Session};
 use x_text::NoMemory;

@@ -5,14 +5,12 @@ ghost use Rattle.serde_json.specs.View.{view};
 ghost use Rattle.serde_json.specs.Written.{has_float};
 ghost use Rattle.x_text.specs.Limits.{most_text};
 
-use crate::changes::Range;
 use crate::diagnostics::range_value;
 use crate::document::OpenDocument;
-use crate::encoding::Encoding;
-use crate::places::Places;
 use serde_json::{Value, json, push};
 use std::alloc::Global;
 use x_lex::Token;
+use x_positions::{Encoding, Places, Range};
 use x_text::NoMemory;
 
 /// What is said of each of some tokens.

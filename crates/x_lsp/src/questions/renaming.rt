@@ -3,23 +3,21 @@
 ghost use Rattle.std.specs.Prelude.{◌≡◌, false, true, IfErr, IfOk, IfSome};
 ghost use Rattle.serde_json.specs.View.{view};
 ghost use Rattle.serde_json.specs.Written.{has_float};
-ghost use Rattle.x_lsp.specs.Lives.{is_of_request};
+ghost use Rattle.x_frames.specs.Lives.{is_of_request};
 
-use crate::answers::ErrorCode;
 use crate::diagnostics::range_value;
 use crate::document::OpenDocument;
-use crate::encoding::Encoding;
-use crate::places::Places;
-use crate::plain_list::PlainList;
 use crate::questions::locations::range_of;
 use crate::questions::name_places::{Sought, find_names};
 use crate::questions::text_names::{FoundName, declared_name_at, names};
 use serde_json::{Value, json};
 use std::alloc::{AllocError, Global};
 use std::collections::BTreeMap;
+use x_frames::{ErrorCode, PlainList};
 use x_item::{Glossary, NameKind, lifted_name};
 use x_lex::{Kind, Token, lex_one};
 use x_names::{Declarer, Names, is_beforehand};
+use x_positions::{Encoding, Places};
 use x_session::Session;
 use x_text::{Meter, NoMemory};
 

@@ -6,19 +6,17 @@ ghost use Rattle.serde_json.specs.Written.{has_float};
 ghost use Rattle.x_lsp.specs.Diagnostics.{range_data};
 ghost use Rattle.x_lsp.specs.Symbols.{symbol_data, symbol_kind};
 
-use crate::changes::Range;
 use crate::diagnostics::range_value;
 use crate::document::OpenDocument;
-use crate::encoding::Encoding;
-use crate::places::Places;
-use crate::plain_list::PlainList;
 use crate::questions::locations::range_of;
 use crate::questions::parts::{Part, PartKind, parts_of};
 use serde_json::{Value, json};
 use std::alloc::{AllocError, Global};
 use std::str;
+use x_frames::PlainList;
 use x_item::next_item;
 use x_lex::Token;
+use x_positions::{Encoding, Places, Range};
 use x_text::NoMemory;
 
 /// What a document defines: a `DocumentSymbol` of each definition, with what stands in it.

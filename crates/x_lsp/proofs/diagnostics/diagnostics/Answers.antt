@@ -9,9 +9,9 @@ use Rattle.x_session.specs.Session.{Compiles, Document}
 use Rattle.x_explain.specs.declared.found.FoundFault.{FoundFault}
 use Rattle.x_lsp.specs.declared.published.Diagnostic.{Diagnostic}
 use Rattle.x_lsp.specs.declared.published.Severity.TheVariants.{Error}
-use Rattle.x_lsp.specs.declared.waymarks.Waymarks.{Waymarks}
+use Rattle.x_positions.specs.declared.waymarks.Waymarks.{Waymarks}
 use Rattle.x_lsp.specs.Diagnostics.{AreDiagnostics, IsDiagnostic, IsRangeAt, diagnostic_data, fault_number, other_place, range_data}
-use Rattle.x_lsp.specs.Positions.{position_of}
+use Rattle.x_positions.specs.Positions.{position_of}
 use Rattle.x_lsp.specs.Published.{data_of}
 use Rattle.x_lsp.specs.Telling.{told_of}
 use Rattle.x_lsp.proofs.DiagnosticLemmas.{begun_so, diagnostics_more, map-snoc, same_diagnostic}

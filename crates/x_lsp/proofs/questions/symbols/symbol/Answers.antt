@@ -1,7 +1,7 @@
 use Rattle.std.proofs.Common.{ap, ◌∙◌}
 use Rattle.serde_json.specs.View.{view}
 use Rattle.serde_json.specs.Written.{has_float}
-use Rattle.x_lsp.proofs.JsonLemmas.{plain_symbol}
+use Rattle.x_lsp.proofs.SymbolLemmas.{plain_symbol}
 use Rattle.x_lsp.proofs.questions.symbols.symbol.Goals as goal
 
 pub returns : goal.returns

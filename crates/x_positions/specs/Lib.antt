@@ -1,0 +1,5 @@
+pub mod Encodings
+pub mod LineStarts
+pub mod PassedLines
+pub mod Positions
+pub mod Waymarks
