@@ -1,11 +1,8 @@
 pub mod CompiledLemmas
-pub mod DeclarerLemmas
 pub mod DiagnosticLemmas
 pub mod HeardLemmas
 pub mod HintLemmas
 pub mod ListLemmas
-pub mod LookupLemmas
-pub mod NamePlaceLemmas
 pub mod PlaceTableLemmas
 pub mod PlacedLemmas
 pub mod SaidLemmas

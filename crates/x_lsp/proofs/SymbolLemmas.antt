@@ -4,7 +4,7 @@ use Rattle.std.specs.Prelude.{◌||◌}
 use Rattle.serde_json.specs.Data.{Data}
 use Rattle.serde_json.specs.Written.{has_float}
 use Rattle.x_positions.specs.declared.positions.Position.{Position}
-use Rattle.x_lsp.specs.declared.questions.parts.PartKind.{PartKind}
+use Rattle.x_lookups.specs.declared.parts.PartKind.{PartKind}
 use Rattle.x_lsp.specs.Diagnostics.{range_data}
 use Rattle.x_lsp.specs.Symbols.{symbol_data}
 

@@ -5,13 +5,11 @@ pub mod DocumentTexts
 pub mod Documents
 pub mod FaultMessages
 pub mod Grounds
-pub mod NamePlaces
 pub mod OtherPlaces
 pub mod Published
 pub mod Publishing
 pub mod Replies
 pub mod Serving
-pub mod Sought
 pub mod Symbols
 pub mod Telling
 pub mod Voices

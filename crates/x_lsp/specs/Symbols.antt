@@ -1,10 +1,10 @@
 -- How the parts of a document are told (LSP 3.17, `textDocument/documentSymbol`).
 use Rattle.std.specs.Prelude.{ℕ, List, codes}
 use Rattle.serde_json.specs.Data.{Data, number, string, object, member, no_members, unsigned}
-use Rattle.x_lsp.specs.declared.questions.parts.PartKind.{PartKind}
-use Rattle.x_lsp.specs.declared.questions.parts.PartKind.TheVariants.{Constant, Enum, Enumerator}
-use Rattle.x_lsp.specs.declared.questions.parts.PartKind.TheVariants.{Struct, Union, Typedef, Field}
-use Rattle.x_lsp.specs.declared.questions.parts.PartKind.TheVariants.{Program, Version, Procedure}
+use Rattle.x_lookups.specs.declared.parts.PartKind.{PartKind}
+use Rattle.x_lookups.specs.declared.parts.PartKind.TheVariants.{Constant, Enum, Enumerator}
+use Rattle.x_lookups.specs.declared.parts.PartKind.TheVariants.{Struct, Union, Typedef, Field}
+use Rattle.x_lookups.specs.declared.parts.PartKind.TheVariants.{Program, Version, Procedure}
 
 -- the `SymbolKind` of a part
 abbrev pub symbol_kind : PartKind → ℕ

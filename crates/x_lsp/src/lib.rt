@@ -26,7 +26,6 @@ pub use client::Client;
 pub use diagnostics::{Hints, publish};
 pub use fault_messages::FaultMessages;
 pub use kept::Reply;
-pub use questions::{definition_at, references_at};
 pub use running::serve_run;
 pub use server::Server;
 pub use serving::{ServeFault, serve};

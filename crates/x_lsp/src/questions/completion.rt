@@ -5,13 +5,13 @@ ghost use Rattle.serde_json.specs.View.{view};
 ghost use Rattle.serde_json.specs.Written.{has_float};
 
 use crate::document::OpenDocument;
-use crate::questions::surroundings::{Expected, expected_at};
 use serde_json::{Value, json};
 use std::alloc::Global;
 use std::str;
 use x_declared::definitions;
 use x_frames::PlainList;
 use x_item::{DeclaredName, Definition, Glossary, NameKind};
+use x_lookups::{Expected, expected_at};
 use x_names::Names;
 use x_session::Session;
 use x_text::NoMemory;

@@ -15,9 +15,9 @@ ghost use Rattle.x_lsp.specs.DocumentTexts.{told_text};
 
 use crate::document::OpenDocument;
 use crate::params::Wanted;
-use crate::questions::text_sink::TextSink;
 use serde_json::Value;
 use std::alloc::Global;
+use x_lookups::TextSink;
 use x_session::{Fault, Session, Which, add_place};
 use x_text::{NoMemory, Pen, Sink};
 

@@ -9,13 +9,13 @@ ghost use Rattle.x_lsp.specs.Symbols.{symbol_data, symbol_kind};
 use crate::diagnostics::range_value;
 use crate::document::OpenDocument;
 use crate::questions::locations::range_of;
-use crate::questions::parts::{Part, PartKind, parts_of};
 use serde_json::{Value, json};
 use std::alloc::{AllocError, Global};
 use std::str;
 use x_frames::PlainList;
 use x_item::next_item;
 use x_lex::Token;
+use x_lookups::{Part, PartKind, parts_of};
 use x_positions::{Encoding, Places, Range};
 use x_text::NoMemory;
 

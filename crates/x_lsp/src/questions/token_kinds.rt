@@ -5,13 +5,13 @@ ghost use Rattle.serde_json.specs.View.{view};
 ghost use Rattle.serde_json.specs.Written.{has_float};
 
 use crate::document::OpenDocument;
-use crate::questions::parts::{PartKind, parts_of};
 use serde_json::{Value, json};
 use std::alloc::Global;
 use x_declared::definitions;
 use x_frames::PlainList;
 use x_item::{Glossary, NameKind, is_significant, next_item};
 use x_lex::{Kind, Token};
+use x_lookups::{PartKind, parts_of};
 use x_names::{Names, is_beforehand};
 use x_positions::{Cursor, Encoding, Position};
 use x_text::NoMemory;
