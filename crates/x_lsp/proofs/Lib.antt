@@ -1,13 +1,9 @@
 pub mod CompiledLemmas
 pub mod DiagnosticLemmas
-pub mod HeardLemmas
 pub mod HintLemmas
 pub mod ListLemmas
 pub mod PlaceTableLemmas
-pub mod PlacedLemmas
 pub mod SaidLemmas
 pub mod ServingLemmas
-pub mod SilentLemmas
 pub mod SymbolLemmas
-pub mod ToldLemmas
 pub mod WritingLemmas

@@ -32,7 +32,7 @@ use Rattle.x_frames.specs.Answers.{note_data}
 use Rattle.x_frames.specs.Framing.{number_of}
 use Rattle.x_lsp.specs.Grounds.{CompilesOn, Ground, compiled_of, constants_of}
 use Rattle.x_positions.specs.Positions.{position_of}
-use Rattle.x_lsp.specs.Telling.{told_of}
+use Rattle.x_told.specs.Telling.{told_of}
 
 -- a position, and a range, as LSP writes them
 abbrev pub position_data : Position → Data

@@ -11,5 +11,3 @@ pub mod Publishing
 pub mod Replies
 pub mod Serving
 pub mod Symbols
-pub mod Telling
-pub mod Voices

@@ -14,14 +14,13 @@ ghost use Rattle.x_lsp.specs.Diagnostics.{AreDiagnostics, AreForeignHints, IsPub
 ghost use Rattle.x_lsp.specs.Diagnostics.{diagnostic_data, fault_number, hint_data, position_data};
 ghost use Rattle.x_lsp.specs.Diagnostics.{range_data, related_data};
 ghost use Rattle.x_lsp.specs.Published.{data_of, place_data};
-ghost use Rattle.x_lsp.specs.Telling.{told_of};
+ghost use Rattle.x_told.specs.Telling.{told_of};
 ghost use Rattle.x_positions.specs.Waymarks.{AreWaymarks};
 
 use crate::client::Client;
 use crate::fault_messages::{FaultMessages, branch_message, foreign_message};
 use crate::other_places::OtherPlaces;
 use crate::published::{Diagnostic, Place, Severity, published_text};
-use crate::telling::{told_faults, word_at};
 use serde_json::{Value, json};
 use std::alloc::{AllocError, Global};
 use x_declared::ForeignName;
@@ -31,6 +30,7 @@ use x_frames::note;
 use x_positions::{Marker, Position, Range, Waymarks};
 use x_session::Session;
 use x_text::NoMemory;
+use x_told::{told_faults, word_at};
 
 /// What is told of a document beside its faults.
 #[derive(Clone, Copy, Debug)]

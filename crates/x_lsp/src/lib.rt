@@ -19,7 +19,6 @@ mod running;
 mod server;
 mod serving;
 mod setting;
-mod telling;
 
 pub use changes::{TextChange, apply_change};
 pub use client::Client;

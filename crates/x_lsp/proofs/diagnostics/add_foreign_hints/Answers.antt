@@ -11,7 +11,7 @@ use Rattle.x_lsp.specs.Published.{data_of}
 use Rattle.x_lsp.specs.declared.published.Diagnostic.{Diagnostic}
 use Rattle.x_lsp.specs.declared.published.Severity.TheVariants.{Hint}
 use Rattle.x_lsp.proofs.DiagnosticLemmas.{begun_so, map-snoc}
-use Rattle.x_lsp.proofs.ToldLemmas.{hint_more}
+use Rattle.x_lsp.proofs.HintLemmas.{hint_more}
 use Rattle.x_lsp.proofs.diagnostics.add_foreign_hints.Goals as goal
 
 pub loop-name-init : goal.loop-name-init

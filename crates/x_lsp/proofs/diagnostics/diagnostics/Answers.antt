@@ -13,7 +13,7 @@ use Rattle.x_positions.specs.declared.waymarks.Waymarks.{Waymarks}
 use Rattle.x_lsp.specs.Diagnostics.{AreDiagnostics, IsDiagnostic, IsRangeAt, diagnostic_data, fault_number, other_place, range_data}
 use Rattle.x_positions.specs.Positions.{position_of}
 use Rattle.x_lsp.specs.Published.{data_of}
-use Rattle.x_lsp.specs.Telling.{told_of}
+use Rattle.x_told.specs.Telling.{told_of}
 use Rattle.x_lsp.proofs.DiagnosticLemmas.{begun_so, diagnostics_more, map-snoc, same_diagnostic}
 use Rattle.x_explain.proofs.FoundLemmas.{ends_there, found_to_the_last, next_at}
 use Rattle.x_lsp.proofs.diagnostics.diagnostics.Goals as goal

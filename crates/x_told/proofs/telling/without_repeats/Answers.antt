@@ -1,9 +1,9 @@
 use Rattle.std.proofs.Common.{◌≡◌, ◌++◌, ◌+◌, ap, drop, sym, subst, ◌∙◌}
 use Rattle.std.specs.Prelude.{not}
 use Rattle.std.specs.List.{filter}
-use Rattle.x_lsp.proofs.ToldLemmas.{is_free_by, is_kept, is_left_out}
-use Rattle.x_lsp.proofs.telling.without_repeats.Goals as goal
-use Rattle.x_lsp.proofs.telling.without_repeats.Goals.{then-not-is_of_branch+in_ok-push, else-not-is_of_branch}
+use Rattle.x_told.proofs.ToldLemmas.{is_free_by, is_kept, is_left_out}
+use Rattle.x_told.proofs.telling.without_repeats.Goals as goal
+use Rattle.x_told.proofs.telling.without_repeats.Goals.{then-not-is_of_branch+in_ok-push, else-not-is_of_branch}
 
 pub loop-fault-preserved : goal.loop-fault-preserved
 loop-fault-preserved c =

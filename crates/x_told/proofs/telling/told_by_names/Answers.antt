@@ -3,8 +3,8 @@ use Rattle.x_names.specs.DeclarerTable.{names_in}
 use Rattle.x_compile.specs.Compile.{places_of}
 use Rattle.x_session.specs.Session.{Compiles}
 use Rattle.x_explain.specs.declared.found.FoundFault.{FoundFault}
-use Rattle.x_lsp.proofs.HeardLemmas.{AreNames, IsHeard, IsToldNext, heard_next, heard_none, next_within, one_voice}
-use Rattle.x_lsp.proofs.telling.told_by_names.Goals as goal
+use Rattle.x_told.proofs.HeardLemmas.{AreNames, IsHeard, IsToldNext, heard_next, heard_none, next_within, one_voice}
+use Rattle.x_told.proofs.telling.told_by_names.Goals as goal
 
 pub loop-place-init : goal.loop-place-init
 loop-place-init c =

@@ -6,9 +6,9 @@ use Rattle.x_compile.specs.declared.fault.FaultPlace.{FaultPlace}
 use Rattle.x_compile.specs.declared.fault.FaultCode.{FaultCode}
 use Rattle.x_directives.specs.Branches.{said_of}
 use Rattle.x_directives.specs.declared.branches.Turn.{Turn}
-use Rattle.x_lsp.specs.declared.telling.Voice.{Voice}
-use Rattle.x_lsp.specs.declared.telling.Voice.TheVariants.{Faultless, Silent, Telling}
-use Rattle.x_lsp.specs.Telling.{is_repeat}
+use Rattle.x_told.specs.declared.telling.Voice.{Voice}
+use Rattle.x_told.specs.declared.telling.Voice.TheVariants.{Faultless, Silent, Telling}
+use Rattle.x_told.specs.Telling.{is_repeat}
 
 -- whether a fault repeats a name in a later branch, by what is kept of the branches of cpp
 abbrev pub is_of_branch_by : List Turn → FaultCode → (start : ℕ) → Bool

@@ -17,8 +17,8 @@ use Rattle.x_compile.specs.Known.{KnownText}
 use Rattle.x_compile.specs.declared.fault.FaultPlace.{FaultPlace}
 use Rattle.x_compile.specs.declared.fault.TokenFault.{TokenFault}
 use Rattle.x_explain.specs.Found.{IsEndOfToken}
-use Rattle.x_lsp.specs.Telling.{word_from}
-use Rattle.x_lsp.proofs.SilentLemmas.{AreFrom}
+use Rattle.x_told.specs.Telling.{word_from}
+use Rattle.x_told.proofs.SilentLemmas.{AreFrom}
 
 -- ---- of each fault of a list
 

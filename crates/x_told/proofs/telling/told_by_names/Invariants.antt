@@ -1,6 +1,6 @@
 use Rattle.x_names.specs.DeclarerTable.{names_in}
-use Rattle.x_lsp.proofs.HeardLemmas.{IsHeard}
-use Rattle.x_lsp.proofs.telling.told_by_names.Given as goal
+use Rattle.x_told.proofs.HeardLemmas.{IsHeard}
+use Rattle.x_told.proofs.telling.told_by_names.Given as goal
 
 -- what is kept of the faults so far
 abbrev pub invariant-loop-place : goal.invariant-loop-place

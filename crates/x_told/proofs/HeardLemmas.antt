@@ -19,12 +19,12 @@ use Rattle.x_session.specs.Session.{Compiles}
 use Rattle.x_explain.specs.Found.{AreFound, IsEndOfToken, IsFound}
 use Rattle.x_explain.specs.declared.found.FoundFault.{FoundFault}
 use Rattle.x_explain.proofs.FoundLemmas.{found_more}
-use Rattle.x_lsp.specs.Telling.{is_told, is_told_where, told_of, word_from}
-use Rattle.x_lsp.specs.Voices.{heard_in, heard_with, is_silent_voice, voice_at}
-use Rattle.x_lsp.specs.declared.telling.Voice.{Voice}
-use Rattle.x_lsp.specs.declared.telling.Voice.TheVariants.{Faultless}
-use Rattle.x_lsp.proofs.PlacedLemmas.{next_place}
-use Rattle.x_lsp.proofs.SilentLemmas.{heard_more, silent_by}
+use Rattle.x_told.specs.Telling.{is_told, is_told_where, told_of, word_from}
+use Rattle.x_told.specs.Voices.{heard_in, heard_with, is_silent_voice, voice_at}
+use Rattle.x_told.specs.declared.telling.Voice.{Voice}
+use Rattle.x_told.specs.declared.telling.Voice.TheVariants.{Faultless}
+use Rattle.x_told.proofs.PlacedLemmas.{next_place}
+use Rattle.x_told.proofs.SilentLemmas.{heard_more, silent_by}
 
 -- the names of the text's items
 abbrev pub AreNames : List (List ℕ × Declarer) → List Item → Type 0

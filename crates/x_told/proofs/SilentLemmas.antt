@@ -13,12 +13,12 @@ use Rattle.x_names.specs.Declarers.{first_declarer}
 use Rattle.x_names.specs.declared.names.Declarer.{Declarer}
 use Rattle.x_compile.specs.Compile.{Item, definitions_of, places_of, tokens_of}
 use Rattle.x_compile.specs.declared.fault.FaultPlace.{FaultPlace}
-use Rattle.x_lsp.specs.Telling.{follows_from, has_fault, is_of_branch, is_of_faulty, is_silent, is_told, is_told_where}
-use Rattle.x_lsp.specs.Telling.{silent_before, word_from}
-use Rattle.x_lsp.specs.Voices.{heard_in, heard_with, is_silent_voice, voice_at, voice_of}
-use Rattle.x_lsp.specs.declared.telling.Voice.{Voice}
-use Rattle.x_lsp.specs.declared.telling.Voice.TheVariants.{Faultless}
-use Rattle.x_lsp.proofs.ToldLemmas.{is_free}
+use Rattle.x_told.specs.Telling.{follows_from, has_fault, is_of_branch, is_of_faulty, is_silent, is_told, is_told_where}
+use Rattle.x_told.specs.Telling.{silent_before, word_from}
+use Rattle.x_told.specs.Voices.{heard_in, heard_with, is_silent_voice, voice_at, voice_of}
+use Rattle.x_told.specs.declared.telling.Voice.{Voice}
+use Rattle.x_told.specs.declared.telling.Voice.TheVariants.{Faultless}
+use Rattle.x_told.proofs.ToldLemmas.{is_free}
 
 -- ---- tests
 

@@ -8,8 +8,8 @@ ghost use Rattle.x_explain.specs.Found.{AreFound, IsEndOfToken};
 ghost use Rattle.x_names.specs.Declarers.{first_declarer};
 ghost use Rattle.x_names.specs.DeclarerTable.{first_in};
 ghost use Rattle.x_session.specs.Session.{Compiles};
-ghost use Rattle.x_lsp.specs.Telling.{is_of_faulty, is_repeat, is_told_where, told_of, word_from};
-ghost use Rattle.x_lsp.specs.Voices.{heard_with, is_of_branch_by, is_silent_voice, voice_at};
+ghost use Rattle.x_told.specs.Telling.{is_of_faulty, is_repeat, is_told_where, told_of, word_from};
+ghost use Rattle.x_told.specs.Voices.{heard_with, is_of_branch_by, is_silent_voice, voice_at};
 
 use std::alloc::Global;
 use x_declared::names;
@@ -50,7 +50,11 @@ impl Voice {
 }
 
 /// The faults that are told.
-pub(crate) fn told_faults(
+///
+/// # Errors
+///
+/// [`NoMemory`] where a list could not grow.
+pub fn told_faults(
     alloc: Global,
     blanks: bool,
     shown: &[u8],
@@ -203,7 +207,7 @@ fn is_silent_before(voices: &[Voice], number: usize, item: usize) -> bool
 }
 
 /// The bytes of the token between two places.
-pub(crate) fn word_at(text: &[u8], start: usize, end: usize) -> &[u8]
+pub fn word_at(text: &[u8], start: usize, end: usize) -> &[u8]
     requires { IsEndOfToken text.now start end }
     ensures { result.now ≡ slice_range text.now start end }
 {

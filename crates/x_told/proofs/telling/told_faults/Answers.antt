@@ -4,11 +4,11 @@ use Rattle.x_compile.specs.Compile.{places_of}
 use Rattle.x_session.specs.Session.{Compiles}
 use Rattle.x_explain.specs.Found.{AreFound}
 use Rattle.x_declared.proofs.DeclaredLemmas.{ok_then}
-use Rattle.x_lsp.specs.Telling.{is_of_branch, is_of_faulty, told_of}
-use Rattle.x_lsp.proofs.ToldLemmas.{any_faulty, any_of_branch, found_kept, is_free, is_free_by}
-use Rattle.x_lsp.proofs.SilentLemmas.{all_free}
-use Rattle.x_lsp.proofs.telling.told_faults.Goals as goal
-use Rattle.x_lsp.proofs.telling.told_faults.Goals.{else-has_repeat-via-then-has_repeat+else-has_use_of_faulty, else-has_repeat-via-else-has_repeat}
+use Rattle.x_told.specs.Telling.{is_of_branch, is_of_faulty, told_of}
+use Rattle.x_told.proofs.ToldLemmas.{any_faulty, any_of_branch, found_kept, is_free, is_free_by}
+use Rattle.x_told.proofs.SilentLemmas.{all_free}
+use Rattle.x_told.proofs.telling.told_faults.Goals as goal
+use Rattle.x_told.proofs.telling.told_faults.Goals.{else-has_repeat-via-then-has_repeat+else-has_use_of_faulty, else-has_repeat-via-else-has_repeat}
 
 pub returns-then-has_use_of_faulty : goal.returns-then-has_use_of_faulty
 returns-then-has_use_of_faulty c =

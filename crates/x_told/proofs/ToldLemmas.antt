@@ -1,24 +1,16 @@
--- The faults that are told, and hints of names that are taken from C.
-use Rattle.std.proofs.Common.{◌≡◌, ℕ, suc, ◌+◌, ◌<◌, Bool, true, false, cond, List, [], ◌∷◌, ◌++◌, take, drop}
-use Rattle.std.proofs.Common.{get_or, length, append_assoc, refl, sym, ap, subst, ◌∙◌}
-use Rattle.std.proofs.Common.{drop-cons}
-use Rattle.std.proofs.lemmas.List.{drop_more, map-append}
-use Rattle.std.specs.Prelude.{ℤ, not, ◌&&◌, ◌||◌}
+-- The faults that are told.
+use Rattle.std.proofs.Common.{◌≡◌, ℕ, ◌+◌, ◌<◌, Bool, true, false, cond, List, [], ◌∷◌, ◌++◌, drop}
+use Rattle.std.proofs.Common.{get_or, length, append_assoc, refl, sym, ap, ◌∙◌}
+use Rattle.std.proofs.lemmas.List.{drop_more}
+use Rattle.std.specs.Prelude.{not, ◌&&◌, ◌||◌}
 use Rattle.std.specs.List.{filter, list_any}
-use Rattle.serde_json.specs.Data.{Data}
-use Rattle.serde_json.specs.Written.{compact_text}
 use Rattle.x_compile.specs.declared.fault.FaultPlace.{FaultPlace}
 use Rattle.x_directives.specs.Branches.{SayBranchesOf, said_of}
 use Rattle.x_directives.specs.declared.branches.Turn.{Turn}
-use Rattle.x_declared.specs.Foreign.{ForeignName, view_all, view_foreign}
 use Rattle.x_explain.specs.Found.{AreFound, IsFound}
-use Rattle.x_declared.specs.declared.foreign.ForeignName as rust
 use Rattle.x_explain.specs.declared.found.FoundFault.{FoundFault}
-use Rattle.x_explain.proofs.FoundLemmas.{take_more}
-use Rattle.x_lsp.specs.Diagnostics.{AreForeignHints, IsForeignHint, published_data}
-use Rattle.x_lsp.specs.Telling.{is_of_branch, is_of_faulty, is_repeat}
-use Rattle.x_lsp.specs.Voices.{is_of_branch_by}
-use Rattle.x_positions.specs.declared.encoding.Encoding.{Encoding}
+use Rattle.x_told.specs.Telling.{is_of_branch, is_of_faulty, is_repeat}
+use Rattle.x_told.specs.Voices.{is_of_branch_by}
 
 -- a fault that does not repeat a name in a later branch
 abbrev pub is_free : List ℕ → FaultPlace → Bool
@@ -103,29 +95,3 @@ pub is_left_out : (turns : List Turn) (told : List FoundFault) (found : List Fou
     → told ++ filter (is_free_by turns) (drop i found) ≡ filter (is_free_by turns) found
     → told ++ filter (is_free_by turns) (drop (i + 1) found) ≡ filter (is_free_by turns) found
 is_left_out turns told found i none lt is had = kept_more turns told told found i none false lt is refl had
-
--- a hint more
-hint_behind : (e : Encoding) (shown text : List ℕ) (fs : List ForeignName) (ds : List Data) (f : ForeignName)
-    (d : Data) → AreForeignHints e shown text fs ds → IsForeignHint e shown text f d
-    → AreForeignHints e shown text (fs ++ f ∷ []) (ds ++ d ∷ [])
-hint_behind e shown text [] [] f d are is = (is, tt)
-hint_behind e shown text [] (x ∷ ds) f d are is = absurd are
-hint_behind e shown text (x ∷ fs) [] f d are is = absurd are
-hint_behind e shown text (x ∷ fs) (y ∷ ds) f d are is = (are.0, hint_behind e shown text fs ds f d are.1 is)
-
-pub hint_more : (e : Encoding) (shown text : List ℕ) (names : List rust.ForeignName) (i : ℕ)
-    (none : rust.ForeignName) (ds : List Data) (d : Data) → i < length names
-    → AreForeignHints e shown text (view_all (take i names)) ds
-    → IsForeignHint e shown text (view_foreign (get_or names i none)) d
-    → AreForeignHints e shown text (view_all (take (i + 1) names)) (ds ++ d ∷ [])
-hint_more e shown text names i none ds d lt are is =
-    let name = get_or names i none in
-    subst (λ fs. AreForeignHints e shown text fs (ds ++ d ∷ []))
-    (sym (ap view_all (take_more names i name (drop (suc i) names) (drop-cons names i none lt))
-    ∙ map-append view_foreign (take i names) (name ∷ [])))
-    (hint_behind e shown text (view_all (take i names)) ds (view_foreign name) d are is)
-
--- the text that publishes a list publishes what the list is
-pub said_so : (said uri : List ℕ) (version : ℤ) (l m : List Data) → l ≡ m
-    → said ≡ compact_text (published_data uri version l) → said ≡ compact_text (published_data uri version m)
-said_so said uri version l m same is = is ∙ ap (λ x. compact_text (published_data uri version x)) same

@@ -1,8 +1,8 @@
 use Rattle.std.proofs.Common.{◌≡◌, drop}
 use Rattle.std.specs.List.{list_any}
 use Rattle.x_explain.specs.declared.found.FoundFault.{FoundFault}
-use Rattle.x_lsp.specs.Voices.{is_of_branch_by}
-use Rattle.x_lsp.proofs.telling.has_repeat.Given as goal
+use Rattle.x_told.specs.Voices.{is_of_branch_by}
+use Rattle.x_told.proofs.telling.has_repeat.Given as goal
 
 -- what is sought is among those that are left, or nowhere
 abbrev pub invariant-loop-fault : goal.invariant-loop-fault
