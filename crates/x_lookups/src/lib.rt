@@ -1,5 +1,5 @@
-//! What an editor looks up in an open text: where names stand, the parts of definitions, what is expected at a
-//! place, and how many bytes values take.
+//! What an editor looks up in an open text: where names stand, the parts of definitions, what is expected at
+//! a place, and how many bytes values take.
 #![tactic(auto)]
 
 mod lookups;

@@ -100,11 +100,7 @@ impl Expected {
 /// # Errors
 ///
 /// [`NoMemory`] where a list could not grow.
-pub fn expected_at(
-    alloc: Global,
-    session: &Session,
-    at: usize,
-) -> Result<Expected, NoMemory> {
+pub fn expected_at(alloc: Global, session: &Session, at: usize) -> Result<Expected, NoMemory> {
     let mut around = Surroundings::new(alloc);
     for token in session.tokens() {
         if token.start >= at || is_typed(&token, at) {

@@ -7,8 +7,8 @@ use Rattle.x_declared.specs.Foreign.{ForeignName, view_all, view_foreign}
 use Rattle.x_declared.specs.declared.foreign.ForeignName as rust
 use Rattle.x_explain.proofs.FoundLemmas.{take_more}
 use Rattle.x_positions.specs.declared.encoding.Encoding.{Encoding}
-use Rattle.x_lsp.specs.Diagnostics.{AreForeignHints, IsForeignHint}
-use Rattle.x_lsp.proofs.DiagnosticLemmas.{map-snoc}
+use Rattle.x_published.specs.Diagnostics.{AreForeignHints, IsForeignHint}
+use Rattle.x_published.proofs.DiagnosticLemmas.{map-snoc}
 
 -- one more of what a list is to have behind what it has
 pub one_more : {X Y Z : Type 0} (told : X → Z) (wanted : Y → Z) (xs : List X) (x : X) (new : List X) (ys : List Y)

@@ -1,9 +1,6 @@
 pub mod CompiledLemmas
-pub mod DiagnosticLemmas
 pub mod HintLemmas
 pub mod ListLemmas
-pub mod PlaceTableLemmas
 pub mod SaidLemmas
 pub mod ServingLemmas
 pub mod SymbolLemmas
-pub mod WritingLemmas

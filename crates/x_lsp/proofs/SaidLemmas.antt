@@ -4,7 +4,7 @@ use Rattle.serde_json.specs.Data.{Data, object, string, number, unsigned, member
 use Rattle.serde_json.specs.Written.{compact_text}
 use Rattle.x_frames.specs.Answers.{IsNote, IsShown, IsToNotification}
 use Rattle.serde_json.specs.Find.{of_integer}
-use Rattle.x_lsp.specs.Diagnostics.{params_with, published_data}
+use Rattle.x_published.specs.Diagnostics.{params_with, published_data}
 use Rattle.x_frames.specs.KeptSaid.{no_memory_note}
 
 -- that memory ran out is shown

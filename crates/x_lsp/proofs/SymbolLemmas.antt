@@ -5,7 +5,7 @@ use Rattle.serde_json.specs.Data.{Data}
 use Rattle.serde_json.specs.Written.{has_float}
 use Rattle.x_positions.specs.declared.positions.Position.{Position}
 use Rattle.x_lookups.specs.declared.parts.PartKind.{PartKind}
-use Rattle.x_lsp.specs.Diagnostics.{range_data}
+use Rattle.x_published.specs.Diagnostics.{range_data}
 use Rattle.x_lsp.specs.Symbols.{symbol_data}
 
 -- a symbol in which no float stands

@@ -1,12 +1,8 @@
 pub mod Changes
 pub mod Compiled
-pub mod Diagnostics
 pub mod DocumentTexts
 pub mod Documents
-pub mod FaultMessages
 pub mod Grounds
-pub mod OtherPlaces
-pub mod Published
 pub mod Publishing
 pub mod Replies
 pub mod Serving

@@ -10,17 +10,14 @@ ghost use Rattle.x_compile.specs.Faults.{fault_text};
 ghost use Rattle.x_session.specs.Session.{Compiles};
 ghost use Rattle.x_declared.specs.Foreign.{view_all};
 ghost use Rattle.x_directives.specs.Conditionals.{conditionals};
-ghost use Rattle.x_lsp.specs.Diagnostics.{AreDiagnostics, AreForeignHints, IsPublishedOf, closing_data};
-ghost use Rattle.x_lsp.specs.Diagnostics.{diagnostic_data, fault_number, hint_data, position_data};
-ghost use Rattle.x_lsp.specs.Diagnostics.{range_data, related_data};
-ghost use Rattle.x_lsp.specs.Published.{data_of, place_data};
+ghost use Rattle.x_published.specs.Diagnostics.{AreDiagnostics, AreForeignHints, closing_data};
+ghost use Rattle.x_published.specs.Diagnostics.{diagnostic_data, fault_number, hint_data, position_data};
+ghost use Rattle.x_published.specs.Diagnostics.{range_data, related_data};
+ghost use Rattle.x_published.specs.Published.{data_of, place_data};
+ghost use Rattle.x_lsp.specs.Publishing.{IsPublishedOf};
 ghost use Rattle.x_told.specs.Telling.{told_of};
 ghost use Rattle.x_positions.specs.Waymarks.{AreWaymarks};
 
-use crate::client::Client;
-use crate::fault_messages::{FaultMessages, branch_message, foreign_message};
-use crate::other_places::OtherPlaces;
-use crate::published::{Diagnostic, Place, Severity, published_text};
 use serde_json::{Value, json};
 use std::alloc::{AllocError, Global};
 use x_declared::ForeignName;
@@ -28,6 +25,10 @@ use x_directives::conditionals;
 use x_explain::token_end;
 use x_frames::note;
 use x_positions::{Marker, Position, Range, Waymarks};
+use x_published::{
+    Client, Diagnostic, FaultMessages, OtherPlaces, Place, Severity, branch_message,
+    foreign_message, published_text,
+};
 use x_session::Session;
 use x_text::NoMemory;
 use x_told::{told_faults, word_at};

@@ -13,16 +13,15 @@ ghost use Rattle.x_positions.specs.Waymarks.{AreWaymarks};
 
 use crate::base::base_of;
 use crate::changes::{TextChange, apply_change};
-use crate::client::Client;
 use crate::compiled::{follow_text, open_text};
 use crate::diagnostics::{Hints, publish};
-use crate::fault_messages::FaultMessages;
 use crate::kept::{ChangeFault, Reply, told};
 use crate::setting::Setting;
 use std::alloc::Global;
 use x_hash::HashKey;
 use x_positions::{Position, Waymarks};
 use x_prelude::FollowedText;
+use x_published::{Client, FaultMessages};
 use x_session::EditFault;
 use x_text::Source;
 

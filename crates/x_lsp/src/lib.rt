@@ -5,15 +5,11 @@
 mod base;
 mod capabilities;
 mod changes;
-mod client;
 mod compiled;
 mod diagnostics;
 mod document;
-mod fault_messages;
 mod kept;
-mod other_places;
 mod params;
-mod published;
 mod questions;
 mod running;
 mod server;
@@ -21,9 +17,7 @@ mod serving;
 mod setting;
 
 pub use changes::{TextChange, apply_change};
-pub use client::Client;
 pub use diagnostics::{Hints, publish};
-pub use fault_messages::FaultMessages;
 pub use kept::Reply;
 pub use running::serve_run;
 pub use server::Server;

@@ -16,7 +16,6 @@ ghost use Rattle.x_lsp.specs.Publishing.{Publishes};
 ghost use Rattle.x_lsp.specs.Replies.{said_of};
 
 use crate::capabilities::capabilities;
-use crate::client::{Client, client_in};
 use crate::diagnostics::closing_note;
 use crate::document::OpenDocument;
 use crate::kept::{ChangeFault, KeptTexts, Reply, refused, shown, told};
@@ -28,6 +27,7 @@ use std::alloc::{AllocError, Global};
 use x_frames::{ErrorCode, Incoming, Life, Method, Question, answer, classify};
 use x_hash::HashKey;
 use x_positions::Encoding;
+use x_published::{Client, client_in};
 
 /// A server of a client.
 #[derive(Drop)]

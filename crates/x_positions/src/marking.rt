@@ -22,8 +22,10 @@ const NEAR: usize = APART / 4;
 /// Marks places of a text, one behind another.
 #[derive(Drop)]
 pub struct Marker<'t> {
-    encoding: Encoding,
-    text: &'t [u8],
+    /// How characters are counted.
+    pub encoding: Encoding,
+    /// The text.
+    pub text: &'t [u8],
     /// The marks, one behind another.
     pub list: Vec<Waymark>,
     /// The spot from which this goes on.

@@ -1,5 +1,5 @@
-//! Which faults of an open text an editor is told: where the lines of the C preprocessor are blanked, none of a
-//! later branch that says again what an earlier one does, and none that follows from such ones alone.
+//! Which faults of an open text an editor is told: where the lines of the C preprocessor are blanked, none
+//! that a name is declared again in a later branch, and none that follows from such ones alone.
 #![tactic(auto)]
 
 mod telling;

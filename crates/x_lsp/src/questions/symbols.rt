@@ -3,7 +3,7 @@
 ghost use Rattle.std.specs.Prelude.{◌≡◌, false, IfOk, IfSome};
 ghost use Rattle.serde_json.specs.View.{view};
 ghost use Rattle.serde_json.specs.Written.{has_float};
-ghost use Rattle.x_lsp.specs.Diagnostics.{range_data};
+ghost use Rattle.x_published.specs.Diagnostics.{range_data};
 ghost use Rattle.x_lsp.specs.Symbols.{symbol_data, symbol_kind};
 
 use crate::diagnostics::range_value;
