@@ -3,4 +3,3 @@ pub mod HintLemmas
 pub mod ListLemmas
 pub mod SaidLemmas
 pub mod ServingLemmas
-pub mod SymbolLemmas

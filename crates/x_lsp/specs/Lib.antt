@@ -1,9 +1,7 @@
 pub mod Changes
 pub mod Compiled
-pub mod DocumentTexts
 pub mod Documents
 pub mod Grounds
 pub mod Publishing
 pub mod Replies
 pub mod Serving
-pub mod Symbols

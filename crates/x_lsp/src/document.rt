@@ -22,6 +22,7 @@ use x_hash::HashKey;
 use x_positions::{Position, Waymarks};
 use x_prelude::FollowedText;
 use x_published::{Client, FaultMessages};
+use x_questions::OpenText;
 use x_session::EditFault;
 use x_text::Source;
 
@@ -174,6 +175,15 @@ impl OpenDocument {
         ) {
             Ok(text) => Reply::Text(text),
             Err(_) => Reply::NoMemoryNote,
+        }
+    }
+
+    /// What questions are about.
+    pub(crate) fn open_text(&self) -> OpenText<'_> {
+        OpenText {
+            uri: self.uri.as_str(),
+            shown: &self.shown,
+            compiled: &self.compiled,
         }
     }
 

@@ -10,7 +10,6 @@ mod diagnostics;
 mod document;
 mod kept;
 mod params;
-mod questions;
 mod running;
 mod server;
 mod serving;

@@ -4,7 +4,6 @@ use crate::changes::{TextChange, position_in, text_change};
 use crate::document::OpenDocument;
 use serde_json::Value;
 use std::alloc::{AllocError, Global};
-use x_session::Which;
 
 /// The name, the version and the text of a document that is opened.
 pub(crate) fn opened_in(params: Option<&Value>) -> Option<(&str, i64, &str)> {
@@ -49,35 +48,4 @@ pub(crate) fn uri_in(params: Option<&Value>) -> Option<&str> {
 pub(crate) fn place_in(document: &OpenDocument, params: Option<&Value>) -> Option<usize> {
     let position = position_in(params?.get("position")?)?;
     Some(document.place(position))
-}
-
-/// Whether the places are asked for where a name is declared.
-pub(crate) fn declared_in(params: Option<&Value>) -> Option<bool> {
-    params?.get("context")?.get("includeDeclaration")?.as_bool()
-}
-
-/// What is asked for of a document.
-#[derive(Clone, Copy, Debug, PartialEq, Eq)]
-pub(crate) enum Wanted {
-    /// A generated text.
-    Generated(Which),
-    /// What is wrong with it.
-    Faults,
-}
-
-/// Which text of a document is asked for: `which` has the word of scripts.
-pub(crate) fn which_in(params: Option<&Value>) -> Option<Wanted> {
-    match params?.get("which")?.as_str()? {
-        "header" => Some(Wanted::Generated(Which::Header)),
-        "routines" => Some(Wanted::Generated(Which::Routines)),
-        "stubs" => Some(Wanted::Generated(Which::Stubs)),
-        "table" => Some(Wanted::Generated(Which::Table)),
-        "faults" => Some(Wanted::Faults),
-        _ => None,
-    }
-}
-
-/// The name that is to take the place of another.
-pub(crate) fn new_name_in(params: Option<&Value>) -> Option<&str> {
-    params?.get("newName")?.as_str()
 }

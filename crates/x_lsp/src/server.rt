@@ -19,8 +19,7 @@ use crate::capabilities::capabilities;
 use crate::diagnostics::closing_note;
 use crate::document::OpenDocument;
 use crate::kept::{ChangeFault, KeptTexts, Reply, refused, shown, told};
-use crate::params::{changed_in, opened_in, text_changes, uri_in};
-use crate::questions::result_of;
+use crate::params::{changed_in, opened_in, place_in, text_changes, uri_in};
 use crate::setting::Setting;
 use serde_json::Value;
 use std::alloc::{AllocError, Global};
@@ -28,6 +27,7 @@ use x_frames::{ErrorCode, Incoming, Life, Method, Question, answer, classify};
 use x_hash::HashKey;
 use x_positions::Encoding;
 use x_published::{Client, client_in};
+use x_questions::result_of;
 
 /// A server of a client.
 #[derive(Drop)]
@@ -172,7 +172,14 @@ impl<'k> Server<'k> {
         match self.find(uri) {
             Some(at) => {
                 let document = &self.documents[at];
-                result_of(self.alloc, self.client.encoding, document, question, params)
+                result_of(
+                    self.alloc,
+                    self.client.encoding,
+                    &document.open_text(),
+                    place_in(document, params),
+                    question,
+                    params,
+                )
             }
             None => Err(ErrorCode::InvalidParams),
         }

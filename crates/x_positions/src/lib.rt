@@ -9,6 +9,7 @@ mod places;
 mod positions;
 mod range;
 mod spots;
+mod values;
 mod waymarks;
 
 pub use cursor::Cursor;
@@ -19,4 +20,5 @@ pub use places::Places;
 pub use positions::Position;
 pub use range::Range;
 pub use spots::offset_of;
+pub use values::range_value;
 pub use waymarks::Waymarks;

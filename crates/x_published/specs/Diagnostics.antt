@@ -23,21 +23,12 @@ use Rattle.x_explain.specs.Found.{IsEndOfToken}
 use Rattle.x_positions.specs.declared.range.Range.{Range}
 use Rattle.x_published.specs.declared.client.Client.{Client}
 use Rattle.x_positions.specs.declared.encoding.Encoding.{Encoding}
-use Rattle.x_positions.specs.declared.positions.Position.{Position}
 use Rattle.x_published.specs.declared.published.Severity.{Severity}
 use Rattle.x_published.specs.declared.published.Severity.TheVariants.{Error, Hint}
 use Rattle.x_frames.specs.Answers.{note_data}
 use Rattle.x_frames.specs.Framing.{number_of}
 use Rattle.x_positions.specs.Positions.{position_of}
-
--- a position, and a range, as LSP writes them
-abbrev pub position_data : Position → Data
-position_data p = object (member (codes "character") (number (unsigned p.character))
-    (member (codes "line") (number (unsigned p.line)) no_members))
-
-abbrev pub range_data : Position → Position → Data
-range_data start end = object (member (codes "end") (position_data end)
-    (member (codes "start") (position_data start) no_members))
+use Rattle.x_positions.specs.PositionData.{range_data}
 
 -- the number of a fault, which its text begins with
 abbrev pub fault_number : FaultCode → ℕ

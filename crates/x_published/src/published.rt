@@ -6,7 +6,8 @@ ghost use Rattle.serde_json.specs.Data.{number};
 ghost use Rattle.serde_json.specs.Find.{of_integer};
 ghost use Rattle.serde_json.specs.View.{view};
 ghost use Rattle.serde_json.specs.Written.{compact_text};
-ghost use Rattle.x_published.specs.Diagnostics.{last_members, position_data, published_data, range_data};
+ghost use Rattle.x_published.specs.Diagnostics.{last_members, published_data};
+ghost use Rattle.x_positions.specs.PositionData.{position_data, range_data};
 ghost use Rattle.x_published.specs.Diagnostics.{rest_members, severity_number};
 ghost use Rattle.x_published.specs.Published.{data_of, place_data};
 

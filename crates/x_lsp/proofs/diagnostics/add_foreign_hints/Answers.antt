@@ -6,7 +6,8 @@ use Rattle.x_compile.specs.Faults.{fault_text}
 use Rattle.x_compile.specs.declared.fault.FaultCode.TheVariants.{Rule}
 use Rattle.x_declared.specs.Foreign.{view_all}
 use Rattle.x_rules.specs.declared.fault.RuleCode.TheVariants.{Unknown}
-use Rattle.x_published.specs.Diagnostics.{AreForeignHints, diagnostic_data, fault_number, range_data}
+use Rattle.x_published.specs.Diagnostics.{AreForeignHints, diagnostic_data, fault_number}
+use Rattle.x_positions.specs.PositionData.{range_data}
 use Rattle.x_published.specs.Published.{data_of}
 use Rattle.x_published.specs.declared.published.Diagnostic.{Diagnostic}
 use Rattle.x_published.specs.declared.published.Severity.TheVariants.{Hint}

@@ -10,7 +10,8 @@ use Rattle.x_explain.specs.declared.found.FoundFault.{FoundFault}
 use Rattle.x_published.specs.declared.published.Diagnostic.{Diagnostic}
 use Rattle.x_published.specs.declared.published.Severity.TheVariants.{Error}
 use Rattle.x_positions.specs.declared.waymarks.Waymarks.{Waymarks}
-use Rattle.x_published.specs.Diagnostics.{AreDiagnostics, IsDiagnostic, IsRangeAt, diagnostic_data, fault_number, other_place, range_data}
+use Rattle.x_published.specs.Diagnostics.{AreDiagnostics, IsDiagnostic, IsRangeAt, diagnostic_data, fault_number, other_place}
+use Rattle.x_positions.specs.PositionData.{range_data}
 use Rattle.x_positions.specs.Positions.{position_of}
 use Rattle.x_published.specs.Published.{data_of}
 use Rattle.x_told.specs.Telling.{told_of}
