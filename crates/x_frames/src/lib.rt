@@ -3,19 +3,24 @@
 #![tactic(auto)]
 
 mod answers;
+mod capabilities;
+mod changes;
 mod framing;
 mod head;
 mod life;
 mod messages;
 mod method;
+mod params;
 mod plain_list;
 mod plain_object;
 
 pub use answers::{ErrorCode, answer, note, refusal, shown_text};
+pub use capabilities::capabilities;
+pub use changes::TextChange;
 pub use framing::{FrameFault, FrameFound, MOST_BODY, MOST_HEAD, MessageReader};
 pub use head::number;
 pub use life::Life;
 pub use messages::{Incoming, classify};
 pub use method::{DocumentQuestion, Method, PositionQuestion, Question};
+pub use params::{changed_in, opened_in, position_asked, text_changes, uri_in};
 pub use plain_list::PlainList;
-pub use plain_object::PlainObject;

@@ -2,7 +2,7 @@
 use Rattle.std.specs.Prelude.{ℕ, List, [], ◌∷◌, length, Option, None, Some}
 use Rattle.x_text.specs.Edits.{Change, edited_by}
 use Rattle.x_positions.specs.declared.encoding.Encoding.{Encoding}
-use Rattle.x_lsp.specs.declared.changes.TextChange.{TextChange}
+use Rattle.x_frames.specs.declared.changes.TextChange.{TextChange}
 use Rattle.x_positions.specs.declared.range.Range.{Range}
 use Rattle.x_positions.specs.Positions.{offset_of}
 

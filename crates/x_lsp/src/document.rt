@@ -12,12 +12,14 @@ ghost use Rattle.x_lsp.specs.Replies.{said_of};
 ghost use Rattle.x_positions.specs.Waymarks.{AreWaymarks};
 
 use crate::base::base_of;
-use crate::changes::{TextChange, apply_change};
+use crate::changes::apply_change;
 use crate::compiled::{follow_text, open_text};
 use crate::diagnostics::{Hints, publish};
 use crate::kept::{ChangeFault, Reply, told};
 use crate::setting::Setting;
+use serde_json::Value;
 use std::alloc::Global;
+use x_frames::{TextChange, position_asked};
 use x_hash::HashKey;
 use x_positions::{Position, Waymarks};
 use x_prelude::FollowedText;
@@ -187,8 +189,13 @@ impl OpenDocument {
         }
     }
 
+    /// The place that is asked about.
+    pub(crate) fn place_asked(&self, params: Option<&Value>) -> Option<usize> {
+        Some(self.place(position_asked(params)?))
+    }
+
     /// The place of a position in the text.
-    pub(crate) fn place(&self, position: Position) -> usize
+    fn place(&self, position: Position) -> usize
         ensures { result ≡ offset_of self.now.client.encoding self.now.shown position }
     {
         self.marks.offset(self.shown.bytes(), position)

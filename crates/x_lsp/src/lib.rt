@@ -3,19 +3,17 @@
 #![tactic(auto)]
 
 mod base;
-mod capabilities;
 mod changes;
 mod compiled;
 mod diagnostics;
 mod document;
 mod kept;
-mod params;
 mod running;
 mod server;
 mod serving;
 mod setting;
 
-pub use changes::{TextChange, apply_change};
+pub use changes::apply_change;
 pub use diagnostics::{Hints, publish};
 pub use kept::Reply;
 pub use running::serve_run;

@@ -15,15 +15,16 @@ ghost use Rattle.x_frames.specs.declared.life.Life.TheVariants.{Fresh};
 ghost use Rattle.x_lsp.specs.Publishing.{Publishes};
 ghost use Rattle.x_lsp.specs.Replies.{said_of};
 
-use crate::capabilities::capabilities;
 use crate::diagnostics::closing_note;
 use crate::document::OpenDocument;
 use crate::kept::{ChangeFault, KeptTexts, Reply, refused, shown, told};
-use crate::params::{changed_in, opened_in, place_in, text_changes, uri_in};
 use crate::setting::Setting;
 use serde_json::Value;
 use std::alloc::{AllocError, Global};
-use x_frames::{ErrorCode, Incoming, Life, Method, Question, answer, classify};
+use x_frames::{
+    ErrorCode, Incoming, Life, Method, Question, answer, capabilities, changed_in, classify,
+    opened_in, text_changes, uri_in,
+};
 use x_hash::HashKey;
 use x_positions::Encoding;
 use x_published::{Client, client_in};
@@ -176,7 +177,7 @@ impl<'k> Server<'k> {
                     self.alloc,
                     self.client.encoding,
                     &document.open_text(),
-                    place_in(document, params),
+                    document.place_asked(params),
                     question,
                     params,
                 )

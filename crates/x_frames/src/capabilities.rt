@@ -4,9 +4,10 @@ ghost use Rattle.std.specs.Prelude.{◌≡◌, false, IfOk};
 ghost use Rattle.serde_json.specs.View.{view};
 ghost use Rattle.serde_json.specs.Written.{has_float};
 
+use crate::plain_list::PlainList;
+use crate::plain_object::PlainObject;
 use serde_json::{Map, Value, json};
 use std::alloc::{AllocError, Global};
-use x_frames::{PlainList, PlainObject};
 use x_positions::Encoding;
 use x_text::NoMemory;
 
@@ -42,7 +43,11 @@ const TOKEN_TYPES: [&str; 11] = [
 ];
 
 /// What the server can do, as it tells a client that initializes it.
-pub(crate) fn capabilities(alloc: Global, encoding: Encoding) -> Result<Value, NoMemory>
+///
+/// # Errors
+///
+/// [`NoMemory`] where the value could not grow.
+pub fn capabilities(alloc: Global, encoding: Encoding) -> Result<Value, NoMemory>
     ensures { IfOk result (λ v. has_float (view v) ≡ false) }
 {
     let mut told = PlainObject::new(alloc);

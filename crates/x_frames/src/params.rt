@@ -1,12 +1,12 @@
 //! What the parameters of messages say.
 
 use crate::changes::{TextChange, position_in, text_change};
-use crate::document::OpenDocument;
 use serde_json::Value;
 use std::alloc::{AllocError, Global};
+use x_positions::Position;
 
 /// The name, the version and the text of a document that is opened.
-pub(crate) fn opened_in(params: Option<&Value>) -> Option<(&str, i64, &str)> {
+pub fn opened_in(params: Option<&Value>) -> Option<(&str, i64, &str)> {
     let document = params?.get("textDocument")?;
     let uri = document.get("uri")?.as_str()?;
     let version = document.get("version")?.as_i64()?;
@@ -15,7 +15,7 @@ pub(crate) fn opened_in(params: Option<&Value>) -> Option<(&str, i64, &str)> {
 }
 
 /// The name of a document that is changed, its version then, and the changes.
-pub(crate) fn changed_in(params: Option<&Value>) -> Option<(&str, i64, &Vec<Value>)> {
+pub fn changed_in(params: Option<&Value>) -> Option<(&str, i64, &Vec<Value>)> {
     let params = params?;
     let document = params.get("textDocument")?;
     let uri = document.get("uri")?.as_str()?;
@@ -25,7 +25,11 @@ pub(crate) fn changed_in(params: Option<&Value>) -> Option<(&str, i64, &Vec<Valu
 }
 
 /// The changes that a client describes; none where one of them is not understood.
-pub(crate) fn text_changes(
+///
+/// # Errors
+///
+/// [`AllocError`] where the list could not grow.
+pub fn text_changes(
     alloc: Global,
     changes: &Vec<Value>,
 ) -> Result<Option<Vec<TextChange<'_>>>, AllocError> {
@@ -40,12 +44,11 @@ pub(crate) fn text_changes(
 }
 
 /// The name of a document.
-pub(crate) fn uri_in(params: Option<&Value>) -> Option<&str> {
+pub fn uri_in(params: Option<&Value>) -> Option<&str> {
     params?.get("textDocument")?.get("uri")?.as_str()
 }
 
-/// The place of a position in a document.
-pub(crate) fn place_in(document: &OpenDocument, params: Option<&Value>) -> Option<usize> {
-    let position = position_in(params?.get("position")?)?;
-    Some(document.place(position))
+/// The position that is asked about.
+pub fn position_asked(params: Option<&Value>) -> Option<Position> {
+    position_in(params?.get("position")?)
 }
