@@ -47,7 +47,7 @@ const TOKEN_TYPES: [&str; 11] = [
 /// # Errors
 ///
 /// [`NoMemory`] where the value could not grow.
-pub fn capabilities(alloc: Global, encoding: Encoding) -> Result<Value, NoMemory>
+pub fn capabilities_of(alloc: Global, encoding: Encoding) -> Result<Value, NoMemory>
     ensures { IfOk result (λ v. has_float (view v) ≡ false) }
 {
     let mut told = PlainObject::new(alloc);

@@ -15,7 +15,7 @@ mod plain_list;
 mod plain_object;
 
 pub use answers::{ErrorCode, answer, note, refusal, shown_text};
-pub use capabilities::capabilities;
+pub use capabilities::capabilities_of;
 pub use changes::TextChange;
 pub use framing::{FrameFault, FrameFound, MOST_BODY, MOST_HEAD, MessageReader};
 pub use head::number;

@@ -22,7 +22,7 @@ use crate::setting::Setting;
 use serde_json::Value;
 use std::alloc::{AllocError, Global};
 use x_frames::{
-    ErrorCode, Incoming, Life, Method, Question, answer, capabilities, changed_in, classify,
+    ErrorCode, Incoming, Life, Method, Question, answer, capabilities_of, changed_in, classify,
     opened_in, text_changes, uri_in,
 };
 use x_hash::HashKey;
@@ -153,7 +153,7 @@ impl<'k> Server<'k> {
         ensures code { IfErr result (λ code. is_of_request code ≡ true) }
     {
         match method {
-            Method::Initialize => match capabilities(self.alloc, client_in(params).encoding) {
+            Method::Initialize => match capabilities_of(self.alloc, client_in(params).encoding) {
                 Ok(value) => Ok(value),
                 Err(_) => Err(ErrorCode::InternalError),
             },
