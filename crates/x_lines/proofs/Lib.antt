@@ -1,4 +1,5 @@
 pub mod LineLemmas
+pub mod NumberLemmas
 pub mod Parting
 pub mod QueueLemmas
 pub mod ReadingLemmas

@@ -8,15 +8,15 @@ use Rattle.httparse.proofs.GrammarLemmas.{ReadsSection-append}
 use Rattle.x_text.specs.Streams.{Stream}
 use Rattle.x_text.specs.Writing.{Adds, Inked, Writes, counted}
 use Rattle.x_text.proofs.Pens.{all_written, counted_all, front_written, writes_none}
-use Rattle.x_lsp.specs.Answers.{IsSaid, framed_if}
-use Rattle.x_lsp.specs.Framing.{FrameReading, IsFramed, IsUnframed, ReadsFrame}
-use Rattle.x_lsp.specs.Lives.{end_of}
+use Rattle.x_frames.specs.Answers.{IsSaid, framed_if}
+use Rattle.x_frames.specs.Framing.{FrameReading, IsFramed, IsUnframed, ReadsFrame}
+use Rattle.x_frames.specs.Lives.{end_of}
 use Rattle.x_lsp.specs.Serving.{AreServed, Exchange, HasFailed, HasServed, HasStopped, Serves, stop_by, written_of}
-use Rattle.x_lsp.specs.declared.framing.FrameFault.{FrameFault}
-use Rattle.x_lsp.specs.declared.framing.FrameFault.TheVariants as frame
-use Rattle.x_lsp.specs.declared.framing.FrameFound.TheVariants.{Message, End}
-use Rattle.x_lsp.specs.declared.life.Life.{Life}
-use Rattle.x_lsp.specs.declared.life.Life.TheVariants.{Fresh}
+use Rattle.x_frames.specs.declared.framing.FrameFault.{FrameFault}
+use Rattle.x_frames.specs.declared.framing.FrameFault.TheVariants as frame
+use Rattle.x_frames.specs.declared.framing.FrameFound.TheVariants.{Message, End}
+use Rattle.x_frames.specs.declared.life.Life.{Life}
+use Rattle.x_frames.specs.declared.life.Life.TheVariants.{Fresh}
 use Rattle.x_lsp.specs.declared.serving.ServeFault.TheVariants.{NoMemory, Write}
 
 -- ---- messages

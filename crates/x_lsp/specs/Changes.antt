@@ -1,10 +1,10 @@
 -- What a client does to a text (LSP 3.17, `TextDocumentContentChangeEvent`).
 use Rattle.std.specs.Prelude.{ℕ, List, [], ◌∷◌, length, Option, None, Some}
 use Rattle.x_text.specs.Edits.{Change, edited_by}
-use Rattle.x_lsp.specs.declared.encoding.Encoding.{Encoding}
-use Rattle.x_lsp.specs.declared.changes.TextChange.{TextChange}
-use Rattle.x_lsp.specs.declared.changes.Range.{Range}
-use Rattle.x_lsp.specs.Positions.{offset_of}
+use Rattle.x_positions.specs.declared.encoding.Encoding.{Encoding}
+use Rattle.x_frames.specs.declared.changes.TextChange.{TextChange}
+use Rattle.x_positions.specs.declared.range.Range.{Range}
+use Rattle.x_positions.specs.Positions.{offset_of}
 
 -- the change of a text that another text takes the place of a range of it, or of all
 abbrev pub change_in : Encoding → List ℕ → Option Range → List ℕ → Change

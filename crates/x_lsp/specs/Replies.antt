@@ -1,6 +1,6 @@
 -- The text of what is said to a message.
 use Rattle.std.specs.Prelude.{ℕ, List, Option, None, Some}
-use Rattle.x_lsp.specs.KeptSaid.{no_memory_answer, no_memory_note}
+use Rattle.x_frames.specs.KeptSaid.{no_memory_answer, no_memory_note}
 use Rattle.x_lsp.specs.declared.kept.Reply.{Reply}
 use Rattle.x_lsp.specs.declared.kept.Reply.TheVariants.{Nothing, Text, NoMemoryAnswer, NoMemoryNote}
 

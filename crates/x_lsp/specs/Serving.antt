@@ -8,15 +8,15 @@ use Rattle.x_text.specs.Writing.{Adds, HasFront, Inked, counted}
 use Rattle.x_args.specs.Telling.{Complains, IsTold}
 use Rattle.x_args.specs.declared.status.Status.{Status}
 use Rattle.x_args.specs.declared.status.Status.TheVariants.{Done, Faulty, Failed}
-use Rattle.x_lsp.specs.Answers.{IsSaid, framed_if}
-use Rattle.x_lsp.specs.Framing.{IsFramed, IsUnframed}
-use Rattle.x_lsp.specs.Lives.{end_of}
-use Rattle.x_lsp.specs.declared.framing.FrameFault.{FrameFault}
-use Rattle.x_lsp.specs.declared.framing.FrameFault.TheVariants as frame
-use Rattle.x_lsp.specs.declared.framing.FrameFound.{FrameFound}
-use Rattle.x_lsp.specs.declared.framing.FrameFound.TheVariants.{Message}
-use Rattle.x_lsp.specs.declared.life.Life.{Life}
-use Rattle.x_lsp.specs.declared.life.Life.TheVariants.{Fresh}
+use Rattle.x_frames.specs.Answers.{IsSaid, framed_if}
+use Rattle.x_frames.specs.Framing.{IsFramed, IsUnframed}
+use Rattle.x_frames.specs.Lives.{end_of}
+use Rattle.x_frames.specs.declared.framing.FrameFault.{FrameFault}
+use Rattle.x_frames.specs.declared.framing.FrameFault.TheVariants as frame
+use Rattle.x_frames.specs.declared.framing.FrameFound.{FrameFound}
+use Rattle.x_frames.specs.declared.framing.FrameFound.TheVariants.{Message}
+use Rattle.x_frames.specs.declared.life.Life.{Life}
+use Rattle.x_frames.specs.declared.life.Life.TheVariants.{Fresh}
 use Rattle.x_lsp.specs.declared.serving.ServeFault.{ServeFault}
 use Rattle.x_lsp.specs.declared.serving.ServeFault.TheVariants.{Read, Bad, Write, NoMemory}
 

@@ -3,32 +3,13 @@
 ghost use Rattle.std.specs.Prelude.{◌≡◌, ℕ, List, OnErr, OnOk};
 ghost use Rattle.x_text.specs.Edits.{edited_by, Judges};
 ghost use Rattle.x_lsp.specs.Changes.{change_by, change_in};
-ghost use Rattle.x_lsp.specs.Waymarks.{AreWaymarks};
+ghost use Rattle.x_positions.specs.Waymarks.{AreWaymarks};
 
-use crate::positions::Position;
-use crate::waymarks::Waymarks;
-use serde_json::Value;
 use std::alloc::Global;
+use x_frames::TextChange;
+use x_positions::{Range, Waymarks};
 use x_session::EditFault;
 use x_text::{Edit, Source};
-
-/// A part of a text.
-#[derive(Clone, Copy, Debug, PartialEq, Eq)]
-pub struct Range {
-    /// The position of its first character.
-    pub start: Position,
-    /// The position behind its last one.
-    pub end: Position,
-}
-
-/// A change of a text: another text takes the place of a range, or of all.
-#[derive(Clone, Copy, Debug)]
-pub struct TextChange<'m> {
-    /// The range; all where there is none.
-    pub range: Option<Range>,
-    /// The text that takes its place.
-    pub text: &'m str,
-}
 
 /// Carries a change of a text out, by waymarks of it, which follow the change. After a fault the text is as
 /// before.
@@ -70,34 +51,4 @@ fn places_of(marks: &Waymarks, text: &[u8], range: &Option<Range>) -> (usize, us
             marks.offset(text, range.end),
         ),
     }
-}
-
-/// The change that a client describes, if it does.
-pub(crate) fn text_change(change: &Value) -> Option<TextChange<'_>> {
-    let text = change.get("text")?.as_str()?;
-    let range = match change.get("range") {
-        None => None,
-        Some(range) => Some(range_of(range)?),
-    };
-    Some(TextChange { range, text })
-}
-
-/// The range that a client describes, if it does.
-fn range_of(range: &Value) -> Option<Range> {
-    Some(Range {
-        start: position_in(range.get("start")?)?,
-        end: position_in(range.get("end")?)?,
-    })
-}
-
-/// The position that a client describes, if it does.
-pub(crate) fn position_in(position: &Value) -> Option<Position> {
-    Some(Position {
-        line: number_in(position.get("line")?)?,
-        character: number_in(position.get("character")?)?,
-    })
-}
-
-fn number_in(number: &Value) -> Option<usize> {
-    Some(number.as_u64()? as usize)
 }

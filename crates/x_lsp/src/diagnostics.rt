@@ -10,30 +10,27 @@ ghost use Rattle.x_compile.specs.Faults.{fault_text};
 ghost use Rattle.x_session.specs.Session.{Compiles};
 ghost use Rattle.x_declared.specs.Foreign.{view_all};
 ghost use Rattle.x_directives.specs.Conditionals.{conditionals};
-ghost use Rattle.x_lsp.specs.Diagnostics.{AreDiagnostics, AreForeignHints, IsPublishedOf, closing_data};
-ghost use Rattle.x_lsp.specs.Diagnostics.{diagnostic_data, fault_number, hint_data, position_data};
-ghost use Rattle.x_lsp.specs.Diagnostics.{range_data, related_data};
-ghost use Rattle.x_lsp.specs.Published.{data_of, place_data};
-ghost use Rattle.x_lsp.specs.Telling.{told_of};
-ghost use Rattle.x_lsp.specs.Waymarks.{AreWaymarks};
+ghost use Rattle.x_published.specs.Diagnostics.{AreDiagnostics, AreForeignHints, closing_data};
+ghost use Rattle.x_published.specs.Diagnostics.{diagnostic_data, fault_number, hint_data, related_data};
+ghost use Rattle.x_published.specs.Published.{data_of, place_data};
+ghost use Rattle.x_lsp.specs.Publishing.{IsPublishedOf};
+ghost use Rattle.x_told.specs.Telling.{told_of};
+ghost use Rattle.x_positions.specs.Waymarks.{AreWaymarks};
 
-use crate::answers::note;
-use crate::changes::Range;
-use crate::client::Client;
-use crate::fault_messages::{FaultMessages, branch_message, foreign_message};
-use crate::marking::Marker;
-use crate::other_places::OtherPlaces;
-use crate::positions::Position;
-use crate::published::{Diagnostic, Place, Severity, published_text};
-use crate::telling::{told_faults, word_at};
-use crate::waymarks::Waymarks;
-use serde_json::{Value, json};
+use serde_json::json;
 use std::alloc::{AllocError, Global};
-use x_directives::conditionals;
 use x_declared::ForeignName;
+use x_directives::conditionals;
 use x_explain::token_end;
+use x_frames::note;
+use x_positions::{Marker, Range, Waymarks};
+use x_published::{
+    Client, Diagnostic, FaultMessages, OtherPlaces, Place, Severity, branch_message,
+    foreign_message, published_text,
+};
 use x_session::Session;
 use x_text::NoMemory;
+use x_told::{told_faults, word_at};
 
 /// What is told of a document beside its faults.
 #[derive(Clone, Copy, Debug)]
@@ -206,21 +203,4 @@ fn place_of(uri: &str, range: Option<Range>) -> Option<Place<'_>>
         Some(range) => Some(Place { uri, range }),
         None => None,
     }
-}
-
-/// A range, as LSP writes it.
-pub(crate) fn range_value(alloc: Global, range: &Range) -> Result<Value, AllocError>
-    ensures { IfOk result (λ v. view v ≡ range_data range.now.start range.now.end) }
-{
-    let start = position_value(alloc, &range.start)?;
-    let end = position_value(alloc, &range.end)?;
-    json!(in alloc; {"start": start, "end": end})
-}
-
-fn position_value(alloc: Global, position: &Position) -> Result<Value, AllocError>
-    ensures { IfOk result (λ v. view v ≡ position_data position.now) }
-{
-    let line = position.line;
-    let character = position.character;
-    json!(in alloc; {"line": line, "character": character})
 }

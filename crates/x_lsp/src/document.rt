@@ -2,28 +2,29 @@
 
 ghost use Rattle.std.specs.Prelude.{◌≡◌, IfOk, OnOk, string_bytes};
 ghost use Rattle.x_prelude.specs.Followed.{IsOver};
-ghost use Rattle.x_lsp.specs.Answers.{IsToNotification};
+ghost use Rattle.x_frames.specs.Answers.{IsToNotification};
 ghost use Rattle.x_lsp.specs.Changes.{changed_by_all};
 ghost use Rattle.x_lsp.specs.Compiled.{IsCompiled};
 ghost use Rattle.x_lsp.specs.Grounds.{ground_of, ground_with};
-ghost use Rattle.x_lsp.specs.Positions.{offset_of};
+ghost use Rattle.x_positions.specs.Positions.{offset_of};
 ghost use Rattle.x_lsp.specs.Publishing.{Publishes};
 ghost use Rattle.x_lsp.specs.Replies.{said_of};
-ghost use Rattle.x_lsp.specs.Waymarks.{AreWaymarks};
+ghost use Rattle.x_positions.specs.Waymarks.{AreWaymarks};
 
 use crate::base::base_of;
-use crate::changes::{TextChange, apply_change};
-use crate::client::Client;
+use crate::changes::apply_change;
 use crate::compiled::{follow_text, open_text};
 use crate::diagnostics::{Hints, publish};
-use crate::fault_messages::FaultMessages;
 use crate::kept::{ChangeFault, Reply, told};
-use crate::positions::Position;
 use crate::setting::Setting;
-use crate::waymarks::Waymarks;
+use serde_json::Value;
 use std::alloc::Global;
+use x_frames::{TextChange, position_asked};
 use x_hash::HashKey;
+use x_positions::{Position, Waymarks};
 use x_prelude::FollowedText;
+use x_published::{Client, FaultMessages};
+use x_questions::OpenText;
 use x_session::EditFault;
 use x_text::Source;
 
@@ -179,8 +180,22 @@ impl OpenDocument {
         }
     }
 
+    /// What questions are about.
+    pub(crate) fn open_text(&self) -> OpenText<'_> {
+        OpenText {
+            uri: self.uri.as_str(),
+            shown: &self.shown,
+            compiled: &self.compiled,
+        }
+    }
+
+    /// The place that is asked about.
+    pub(crate) fn place_asked(&self, params: Option<&Value>) -> Option<usize> {
+        Some(self.place(position_asked(params)?))
+    }
+
     /// The place of a position in the text.
-    pub(crate) fn place(&self, position: Position) -> usize
+    fn place(&self, position: Position) -> usize
         ensures { result ≡ offset_of self.now.client.encoding self.now.shown position }
     {
         self.marks.offset(self.shown.bytes(), position)

@@ -3,13 +3,13 @@
 ghost use Rattle.std.specs.Prelude.{◌≡◌, false, option_map};
 ghost use Rattle.serde_json.specs.View.{view};
 ghost use Rattle.serde_json.specs.Written.{has_float};
-ghost use Rattle.x_lsp.specs.Answers.{IsRefused, IsShown};
-ghost use Rattle.x_lsp.specs.KeptSaid.{no_memory_answer, no_memory_note};
+ghost use Rattle.x_frames.specs.Answers.{IsRefused, IsShown};
+ghost use Rattle.x_frames.specs.KeptSaid.{no_memory_answer, no_memory_note};
 ghost use Rattle.x_lsp.specs.Replies.{said_of};
 
-use crate::answers::{ErrorCode, refusal, shown_text};
 use serde_json::Value;
 use std::alloc::{AllocError, Global};
+use x_frames::{ErrorCode, refusal, shown_text};
 use x_session::EditFault;
 
 /// What is said to a message.

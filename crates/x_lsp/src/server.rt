@@ -5,32 +5,30 @@ ghost use Rattle.std.specs.Prelude.{vec_len};
 ghost use Rattle.serde_json.specs.Data.{null};
 ghost use Rattle.serde_json.specs.View.{view};
 ghost use Rattle.serde_json.specs.Written.{has_float};
-ghost use Rattle.x_lsp.specs.Answers.{IsRefused, IsSaid, IsSaidTo, IsToMethod, IsToNotification};
-ghost use Rattle.x_lsp.specs.Answers.{IsToRequest};
+ghost use Rattle.x_frames.specs.Answers.{IsRefused, IsSaid, IsSaidTo, IsToMethod, IsToNotification};
+ghost use Rattle.x_frames.specs.Answers.{IsToRequest};
 ghost use Rattle.x_lsp.specs.Documents.{without};
 ghost use Rattle.x_lsp.specs.Grounds.{ground_of};
-ghost use Rattle.x_lsp.specs.Lives.{end_of, is_of_request, life_behind, life_noted};
-ghost use Rattle.x_lsp.specs.Messages.{asked_by};
-ghost use Rattle.x_lsp.specs.declared.life.Life.TheVariants.{Fresh};
+ghost use Rattle.x_frames.specs.Lives.{end_of, is_of_request, life_behind, life_noted};
+ghost use Rattle.x_frames.specs.Messages.{asked_by};
+ghost use Rattle.x_frames.specs.declared.life.Life.TheVariants.{Fresh};
 ghost use Rattle.x_lsp.specs.Publishing.{Publishes};
 ghost use Rattle.x_lsp.specs.Replies.{said_of};
 
-use crate::answers::{ErrorCode, answer};
-use crate::capabilities::capabilities;
-use crate::client::{Client, client_in};
 use crate::diagnostics::closing_note;
 use crate::document::OpenDocument;
-use crate::encoding::Encoding;
 use crate::kept::{ChangeFault, KeptTexts, Reply, refused, shown, told};
-use crate::life::Life;
-use crate::messages::{Incoming, classify};
-use crate::method::{Method, Question};
-use crate::params::{changed_in, opened_in, text_changes, uri_in};
-use crate::questions::result_of;
 use crate::setting::Setting;
 use serde_json::Value;
 use std::alloc::{AllocError, Global};
+use x_frames::{
+    ErrorCode, Incoming, Life, Method, Question, answer, capabilities_of, changed_in, classify,
+    opened_in, text_changes, uri_in,
+};
 use x_hash::HashKey;
+use x_positions::Encoding;
+use x_published::{Client, client_in};
+use x_questions::result_of;
 
 /// A server of a client.
 #[derive(Drop)]
@@ -155,7 +153,7 @@ impl<'k> Server<'k> {
         ensures code { IfErr result (λ code. is_of_request code ≡ true) }
     {
         match method {
-            Method::Initialize => match capabilities(self.alloc, client_in(params).encoding) {
+            Method::Initialize => match capabilities_of(self.alloc, client_in(params).encoding) {
                 Ok(value) => Ok(value),
                 Err(_) => Err(ErrorCode::InternalError),
             },
@@ -175,7 +173,14 @@ impl<'k> Server<'k> {
         match self.find(uri) {
             Some(at) => {
                 let document = &self.documents[at];
-                result_of(self.alloc, self.client.encoding, document, question, params)
+                result_of(
+                    self.alloc,
+                    self.client.encoding,
+                    &document.open_text(),
+                    document.place_asked(params),
+                    question,
+                    params,
+                )
             }
             None => Err(ErrorCode::InvalidParams),
         }

@@ -2,18 +2,18 @@
 
 ghost use Rattle.std.specs.Prelude.{◌≡◌, MatchOption};
 ghost use Rattle.x_text.specs.Writing.{Adds};
-ghost use Rattle.x_lsp.specs.Answers.{framed, framed_if};
-ghost use Rattle.x_lsp.specs.Framing.{FailsReading, ReadsFrame};
+ghost use Rattle.x_frames.specs.Answers.{framed, framed_if};
+ghost use Rattle.x_frames.specs.Framing.{FailsReading, ReadsFrame};
 ghost use Rattle.x_lsp.specs.Replies.{said_of};
 ghost use Rattle.x_lsp.specs.Serving.{IsAnswered, NamesFault, Serves, stop_by};
-ghost use Rattle.x_lsp.specs.declared.life.Life.TheVariants.{Fresh};
+ghost use Rattle.x_frames.specs.declared.life.Life.TheVariants.{Fresh};
 
-use crate::framing::{FrameFault, FrameFound, MessageReader};
 use crate::kept::Reply;
 use crate::server::Server;
 use crate::setting::Setting;
 use std::alloc::Global;
 use thiserror::Error;
+use x_frames::{FrameFault, FrameFound, MessageReader};
 use x_hash::HashKey;
 use x_text::{Pen, Sink, Tap};
 use x_value::add_number;

@@ -1,12 +1,12 @@
-//! Each public call of `x_lsp` once.
+//! Each public call of `x_lsp` once, and of what it stands on.
 use crate::setting::SETTING;
 use std::test::Fail;
+use x_frames::{MessageReader, TextChange};
 use x_hash::HashKey;
-use x_lsp::{
-    Client, Encoding, FaultMessages, Hints, MessageReader, Places, Position, Server, TextChange,
-    Waymarks, apply_change, definition_at, offset_of, positions_lead_back, publish, references_at,
-    serve,
-};
+use x_lookups::{definition_at, references_at};
+use x_lsp::{Hints, Server, apply_change, publish, serve};
+use x_positions::{Encoding, Places, Position, Waymarks, offset_of, positions_lead_back};
+use x_published::{Client, FaultMessages};
 use x_session::Session;
 use x_text::{MemSink, MemTap, Source};
 

@@ -4,7 +4,7 @@ use Rattle.std.specs.Prelude.{◌∷◌, length, Option, Some, None, codes, byte
 use Rattle.std.specs.List.{list_all, slice_split}
 use Rattle.std.specs.Char.{is_ascii_hexdigit, digit_value}
 use Rattle.std.specs.Str.Parse.{digits_value}
-use Rattle.x_session.specs.Numbers.{is_number}
+use Rattle.x_lines.specs.Numbers.{is_number}
 use Rattle.x_script.specs.declared.script.command.Command.{Command}
 use Rattle.x_script.specs.declared.script.command.Command.TheVariants.{Edit, Tokens, Definitions, Faults}
 use Rattle.x_script.specs.declared.script.command.Command.TheVariants.{Text, Bad}

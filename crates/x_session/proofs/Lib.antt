@@ -4,7 +4,6 @@ pub mod FollowLemmas
 pub mod FreshLemmas
 pub mod LackingLemmas
 pub mod MoveLemmas
-pub mod NumberLemmas
 pub mod PatchLemmas
 pub mod PlacingLemmas
 pub mod PlannedLemmas

@@ -2,7 +2,6 @@ pub mod FaultLines
 pub mod Following
 pub mod Lacking
 pub mod Moves
-pub mod Numbers
 pub mod Planned
 pub mod Rendered
 pub mod Session

@@ -5,7 +5,7 @@ ghost use Rattle.std.specs.Char.{is_ascii_hexdigit, is_ascii_digit, digit_value}
 ghost use Rattle.std.specs.List.{list_all};
 ghost use Rattle.std.specs.Str.Parse.{digits_value};
 ghost use Rattle.x_script.specs.Commands.{edit_by, command_of, words_of, one_word, edit_of};
-ghost use Rattle.x_session.specs.Numbers.{is_number};
+ghost use Rattle.x_lines.specs.Numbers.{is_number};
 ghost use Rattle.x_script.specs.Commands.{is_hex, bytes_of, asked_if, dump_by, dump_asked, explain_asked};
 
 use memchr::memchr;

@@ -6,12 +6,13 @@ use Rattle.x_compile.specs.Faults.{fault_text}
 use Rattle.x_compile.specs.declared.fault.FaultCode.TheVariants.{Rule}
 use Rattle.x_declared.specs.Foreign.{view_all}
 use Rattle.x_rules.specs.declared.fault.RuleCode.TheVariants.{Unknown}
-use Rattle.x_lsp.specs.Diagnostics.{AreForeignHints, diagnostic_data, fault_number, range_data}
-use Rattle.x_lsp.specs.Published.{data_of}
-use Rattle.x_lsp.specs.declared.published.Diagnostic.{Diagnostic}
-use Rattle.x_lsp.specs.declared.published.Severity.TheVariants.{Hint}
-use Rattle.x_lsp.proofs.DiagnosticLemmas.{begun_so, map-snoc}
-use Rattle.x_lsp.proofs.ToldLemmas.{hint_more}
+use Rattle.x_published.specs.Diagnostics.{AreForeignHints, diagnostic_data, fault_number}
+use Rattle.x_positions.specs.PositionData.{range_data}
+use Rattle.x_published.specs.Published.{data_of}
+use Rattle.x_published.specs.declared.published.Diagnostic.{Diagnostic}
+use Rattle.x_published.specs.declared.published.Severity.TheVariants.{Hint}
+use Rattle.x_published.proofs.DiagnosticLemmas.{begun_so, map-snoc}
+use Rattle.x_lsp.proofs.HintLemmas.{hint_more}
 use Rattle.x_lsp.proofs.diagnostics.add_foreign_hints.Goals as goal
 
 pub loop-name-init : goal.loop-name-init

@@ -1,8 +1,8 @@
 use Rattle.std.proofs.Common.{◌≡◌, ◌++◌, List, map, take}
 use Rattle.serde_json.specs.Data.{Data}
 use Rattle.x_declared.specs.Foreign.{view_all}
-use Rattle.x_lsp.specs.Diagnostics.{AreForeignHints}
-use Rattle.x_lsp.specs.Published.{data_of}
+use Rattle.x_published.specs.Diagnostics.{AreForeignHints}
+use Rattle.x_published.specs.Published.{data_of}
 use Rattle.x_lsp.proofs.diagnostics.add_foreign_hints.Given as goal
 
 -- the list has the hints of the names so far

@@ -1,9 +1,10 @@
 use Rattle.std.proofs.Common.{◌≡◌, ◌∙◌, ap, get_or, map, ◌++◌}
 use Rattle.std.specs.Prelude.{None, string_bytes}
-use Rattle.x_lsp.specs.Diagnostics.{diagnostic_data, hint_data, range_data}
-use Rattle.x_lsp.specs.Published.{data_of}
-use Rattle.x_lsp.specs.declared.published.Diagnostic.{Diagnostic}
-use Rattle.x_lsp.specs.declared.published.Severity.TheVariants.{Hint}
+use Rattle.x_published.specs.Diagnostics.{diagnostic_data, hint_data}
+use Rattle.x_positions.specs.PositionData.{range_data}
+use Rattle.x_published.specs.Published.{data_of}
+use Rattle.x_published.specs.declared.published.Diagnostic.{Diagnostic}
+use Rattle.x_published.specs.declared.published.Severity.TheVariants.{Hint}
 use Rattle.x_lsp.proofs.HintLemmas.{one_more}
 use Rattle.x_lsp.proofs.diagnostics.add_hints.Goals as goal
 

@@ -1,6 +1,6 @@
 use Rattle.std.proofs.Common.{◌≡◌, ◌++◌, map, drop}
-use Rattle.x_lsp.specs.Diagnostics.{hint_data}
-use Rattle.x_lsp.specs.Published.{data_of}
+use Rattle.x_published.specs.Diagnostics.{hint_data}
+use Rattle.x_published.specs.Published.{data_of}
 use Rattle.x_lsp.proofs.diagnostics.add_hints.Given as goal
 
 -- with the hints of the places that are left behind it, the list is what it is to be

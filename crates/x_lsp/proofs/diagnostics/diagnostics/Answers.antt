@@ -7,14 +7,15 @@ use Rattle.x_compile.specs.declared.fault.FaultCode.TheVariants as fault_codes
 use Rattle.x_item.specs.declared.parsing.fault_code.FaultCode.TheVariants as item_codes
 use Rattle.x_session.specs.Session.{Compiles, Document}
 use Rattle.x_explain.specs.declared.found.FoundFault.{FoundFault}
-use Rattle.x_lsp.specs.declared.published.Diagnostic.{Diagnostic}
-use Rattle.x_lsp.specs.declared.published.Severity.TheVariants.{Error}
-use Rattle.x_lsp.specs.declared.waymarks.Waymarks.{Waymarks}
-use Rattle.x_lsp.specs.Diagnostics.{AreDiagnostics, IsDiagnostic, IsRangeAt, diagnostic_data, fault_number, other_place, range_data}
-use Rattle.x_lsp.specs.Positions.{position_of}
-use Rattle.x_lsp.specs.Published.{data_of}
-use Rattle.x_lsp.specs.Telling.{told_of}
-use Rattle.x_lsp.proofs.DiagnosticLemmas.{begun_so, diagnostics_more, map-snoc, same_diagnostic}
+use Rattle.x_published.specs.declared.published.Diagnostic.{Diagnostic}
+use Rattle.x_published.specs.declared.published.Severity.TheVariants.{Error}
+use Rattle.x_positions.specs.declared.waymarks.Waymarks.{Waymarks}
+use Rattle.x_published.specs.Diagnostics.{AreDiagnostics, IsDiagnostic, IsRangeAt, diagnostic_data, fault_number, other_place}
+use Rattle.x_positions.specs.PositionData.{range_data}
+use Rattle.x_positions.specs.Positions.{position_of}
+use Rattle.x_published.specs.Published.{data_of}
+use Rattle.x_told.specs.Telling.{told_of}
+use Rattle.x_published.proofs.DiagnosticLemmas.{begun_so, diagnostics_more, map-snoc, same_diagnostic}
 use Rattle.x_explain.proofs.FoundLemmas.{ends_there, found_to_the_last, next_at}
 use Rattle.x_lsp.proofs.diagnostics.diagnostics.Goals as goal
 

@@ -1,10 +1,10 @@
 use Rattle.std.proofs.Common.{◌≡◌, map, take}
 use Rattle.x_session.specs.Session.{Compiles}
-use Rattle.x_lsp.specs.OtherPlaces.{AreOfText}
-use Rattle.x_lsp.specs.Diagnostics.{AreDiagnostics}
+use Rattle.x_published.specs.OtherPlaces.{AreOfText}
+use Rattle.x_published.specs.Diagnostics.{AreDiagnostics}
 use Rattle.x_explain.specs.Found.{AreFound}
-use Rattle.x_lsp.specs.Published.{data_of}
-use Rattle.x_lsp.specs.Telling.{told_of}
+use Rattle.x_published.specs.Published.{data_of}
+use Rattle.x_told.specs.Telling.{told_of}
 use Rattle.x_lsp.proofs.diagnostics.diagnostics.Given as goal
 
 abbrev pub invariant-loop-fault : goal.invariant-loop-fault

@@ -3,10 +3,10 @@ use Rattle.std.specs.Prelude.{All}
 use Rattle.serde_json.specs.Written.{compact_text}
 use Rattle.std.proofs.lemmas.Int.{to_z-of_z}
 use Rattle.x_declared.specs.Foreign.{view_all}
-use Rattle.x_lsp.specs.Diagnostics.{AreForeignHints, hints_of, published_data}
-use Rattle.x_lsp.specs.Published.{data_of}
-use Rattle.x_lsp.specs.Waymarks.{IsWaymark}
-use Rattle.x_lsp.proofs.ToldLemmas.{said_so}
+use Rattle.x_published.specs.Diagnostics.{AreForeignHints, hints_of, published_data}
+use Rattle.x_published.specs.Published.{data_of}
+use Rattle.x_positions.specs.Waymarks.{IsWaymark}
+use Rattle.x_lsp.proofs.SaidLemmas.{said_so}
 use Rattle.x_lsp.proofs.diagnostics.publish.Goals as goal
 use Rattle.x_lsp.proofs.diagnostics.publish.Goals.{then-hints+in_ok-add_hints, else-hints}
 

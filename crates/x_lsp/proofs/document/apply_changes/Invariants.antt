@@ -1,6 +1,6 @@
 use Rattle.std.proofs.Common.{◌≡◌, drop}
 use Rattle.x_lsp.specs.Changes.{changed_by_all}
-use Rattle.x_lsp.specs.Waymarks.{AreWaymarks}
+use Rattle.x_positions.specs.Waymarks.{AreWaymarks}
 use Rattle.x_lsp.proofs.document.apply_changes.Given as goal
 
 abbrev pub invariant-loop-change : goal.invariant-loop-change

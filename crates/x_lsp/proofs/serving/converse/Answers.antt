@@ -2,8 +2,8 @@ use Rattle.std.proofs.Common.{sym, ap, subst, false, ◌∙◌, Ok, Err}
 use Rattle.x_session.proofs.Working.{works_at_start, works_on}
 use Rattle.x_text.proofs.Cases.{match_some}
 use Rattle.x_text.specs.Streams.{Stream}
-use Rattle.x_lsp.specs.Answers.{framed_if}
-use Rattle.x_lsp.specs.Framing.{ReadsFrame}
+use Rattle.x_frames.specs.Answers.{framed_if}
+use Rattle.x_frames.specs.Framing.{ReadsFrame}
 use Rattle.x_lsp.specs.Serving.{IsAnswered, Serves, stop_by}
 use Rattle.x_lsp.proofs.ServingLemmas.{at_start, behind, between, at_exit, at_end, at_fault, so_far, at_stop}
 use Rattle.x_lsp.proofs.serving.converse.Goals as goal

@@ -7,7 +7,8 @@ use Rattle.x_declared.proofs.DeclaredLemmas.{of_each}
 use Rattle.x_prelude.specs.Before.{IsBefore}
 use Rattle.x_prelude.specs.Foreign.{AreForeign}
 use Rattle.x_session.specs.Session.{Compiles}
-use Rattle.x_lsp.specs.Diagnostics.{IsPublishedOf, hints_of}
+use Rattle.x_published.specs.Diagnostics.{hints_of}
+use Rattle.x_lsp.specs.Publishing.{IsPublishedOf}
 use Rattle.x_lsp.specs.Grounds.{compiled_of, constants_of}
 use Rattle.x_lsp.proofs.SaidLemmas.{no_memory_is_note, no_memory_shown, published_note}
 use Rattle.x_lsp.proofs.document.OpenDocument.publish.Goals as goal

@@ -1,7 +1,7 @@
 use Rattle.std.proofs.Common.{Some, ap, refl}
 use Rattle.serde_json.specs.View.{view}
-use Rattle.x_lsp.specs.Answers.{answered, failed}
-use Rattle.x_lsp.specs.declared.answers.ErrorCode.TheVariants.{InternalError}
+use Rattle.x_frames.specs.Answers.{answered, failed}
+use Rattle.x_frames.specs.declared.answers.ErrorCode.TheVariants.{InternalError}
 use Rattle.x_lsp.proofs.server.Server.carry_out.Goals as goal
 
 pub returns-in-Ok-answer : goal.returns-in-Ok-answer

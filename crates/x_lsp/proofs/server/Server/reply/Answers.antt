@@ -1,7 +1,7 @@
 use Rattle.std.proofs.Common.{refl}
 use Rattle.serde_json.specs.View.{view}
-use Rattle.x_lsp.specs.Answers.{to_message, no_memory}
-use Rattle.x_lsp.specs.KeptSaid.{no_memory_answer}
+use Rattle.x_frames.specs.Answers.{to_message, no_memory}
+use Rattle.x_frames.specs.KeptSaid.{no_memory_answer}
 use Rattle.x_lsp.proofs.server.Server.reply.Goals as goal
 
 pub returns-in-Ok : goal.returns-in-Ok

@@ -1,5 +1,5 @@
 use Rattle.std.proofs.Common.{◌∙◌, get_or, sym, refl, arith}
-use Rattle.x_session.proofs.NumberLemmas.{IsNextDigit, next_digit}
+use Rattle.x_lines.proofs.NumberLemmas.{IsNextDigit, next_digit}
 use Rattle.x_script.proofs.script.command.number.Goals as goal
 use Rattle.x_script.proofs.script.command.number.Goals.{After-from}
 

@@ -1,0 +1,3 @@
+mod Choices
+mod FrameLemmas
+pub mod JsonLemmas

@@ -1,0 +1,6 @@
+pub mod Answers
+pub mod FrameSteps
+pub mod Framing
+pub mod KeptSaid
+pub mod Lives
+pub mod Messages

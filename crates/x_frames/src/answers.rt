@@ -1,0 +1,119 @@
+//! What a server says.
+
+ghost use Rattle.std.specs.Prelude.{◌≡◌, false, IfOk};
+ghost use Rattle.serde_json.specs.View.{view};
+ghost use Rattle.serde_json.specs.Written.{compact_text, has_float};
+ghost use Rattle.x_frames.specs.Answers.{answer_data, error_name, error_number, note_data};
+ghost use Rattle.x_frames.specs.Answers.{refusal_data, shown_data};
+
+use serde_json::{Value, json};
+use std::alloc::{AllocError, Global};
+
+/// Why a request is refused.
+#[derive(Clone, Copy, Debug, PartialEq, Eq)]
+pub enum ErrorCode {
+    /// The message is no JSON.
+    ParseError,
+    /// The message is no request.
+    InvalidRequest,
+    /// The method is not known.
+    MethodNotFound,
+    /// The parameters are wrong.
+    InvalidParams,
+    /// Memory ran out.
+    InternalError,
+    /// It asks for what may not be: a name that is none, or is declared.
+    RequestFailed,
+    /// No request came before that initializes the server.
+    NotInitialized,
+}
+
+impl ErrorCode {
+    fn number(self) -> i64
+        ensures { result ≡ error_number self }
+    {
+        match self {
+            ErrorCode::ParseError => -32700,
+            ErrorCode::InvalidRequest => -32600,
+            ErrorCode::MethodNotFound => -32601,
+            ErrorCode::InvalidParams => -32602,
+            ErrorCode::InternalError => -32603,
+            ErrorCode::RequestFailed => -32803,
+            ErrorCode::NotInitialized => -32002,
+        }
+    }
+
+    fn name(self) -> &'static str
+        ensures { result.now ≡ error_name self }
+    {
+        match self {
+            ErrorCode::ParseError => "the message is no JSON",
+            ErrorCode::InvalidRequest => "the message is no request",
+            ErrorCode::MethodNotFound => "the method is not known",
+            ErrorCode::InvalidParams => "the parameters are wrong",
+            ErrorCode::InternalError => "out of memory",
+            ErrorCode::RequestFailed => "the new name is none, or is declared",
+            ErrorCode::NotInitialized => "the server is not initialized",
+        }
+    }
+}
+
+/// The answer to the request with this id.
+pub fn answer(alloc: Global, id: &Value, found: Value) -> Result<Vec<u8>, AllocError>
+    requires id { has_float (view id.now) ≡ false }
+    requires found { has_float (view found) ≡ false }
+    ensures { IfOk result (λ text. text.items ≡ compact_text (answer_data (view id.now) (view found))) }
+{
+    answer_value(alloc, id, found)?.to_vec(alloc)
+}
+
+fn answer_value(alloc: Global, id: &Value, found: Value) -> Result<Value, AllocError>
+    ensures { IfOk result (λ v. view v ≡ answer_data (view id.now) (view found)) }
+{
+    json!(in alloc; {"jsonrpc": "2.0", "id": id, "result": found})
+}
+
+/// The answer that refuses the request with this id.
+pub fn refusal(alloc: Global, id: &Value, code: ErrorCode) -> Result<Vec<u8>, AllocError>
+    requires { has_float (view id.now) ≡ false }
+    ensures { IfOk result (λ text. text.items ≡ compact_text (refusal_data (view id.now) code)) }
+{
+    refusal_value(alloc, id, code)?.to_vec(alloc)
+}
+
+fn refusal_value(alloc: Global, id: &Value, code: ErrorCode) -> Result<Value, AllocError>
+    ensures { IfOk result (λ v. view v ≡ refusal_data (view id.now) code) }
+{
+    let number = code.number();
+    let name = code.name();
+    json!(in alloc; {
+        "jsonrpc": "2.0",
+        "id": id,
+        "error": {"code": number, "message": name}
+    })
+}
+
+/// A note: a notification of the server.
+pub fn note(alloc: Global, method: &str, params: Value) -> Result<Vec<u8>, AllocError>
+    requires { has_float (view params) ≡ false }
+    ensures { IfOk result (λ text. text.items ≡ compact_text (note_data method.now (view params))) }
+{
+    note_value(alloc, method, params)?.to_vec(alloc)
+}
+
+fn note_value(alloc: Global, method: &str, params: Value) -> Result<Value, AllocError>
+    ensures { IfOk result (λ v. view v ≡ note_data method.now (view params)) }
+{
+    json!(in alloc; {"jsonrpc": "2.0", "method": method, "params": params})
+}
+
+/// The type of a message to the user that tells of a fault.
+const ERROR: u32 = 1;
+
+/// The note that shows a text to the user.
+pub fn shown_text(alloc: Global, text: &str) -> Result<Vec<u8>, AllocError>
+    ensures { IfOk result (λ shown. shown.items ≡ compact_text (shown_data text.now)) }
+{
+    let params = json!(in alloc; {"type": ERROR, "message": text})?;
+    note(alloc, "window/showMessage", params)
+}

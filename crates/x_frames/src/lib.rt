@@ -1,0 +1,26 @@
+//! Messages of LSP (3.17): how they are framed, what a client says, what a server answers, and which requests
+//! it carries out in which part of its life.
+#![tactic(auto)]
+
+mod answers;
+mod capabilities;
+mod changes;
+mod framing;
+mod head;
+mod life;
+mod messages;
+mod method;
+mod params;
+mod plain_list;
+mod plain_object;
+
+pub use answers::{ErrorCode, answer, note, refusal, shown_text};
+pub use capabilities::capabilities_of;
+pub use changes::TextChange;
+pub use framing::{FrameFault, FrameFound, MOST_BODY, MOST_HEAD, MessageReader};
+pub use head::number;
+pub use life::Life;
+pub use messages::{Incoming, classify};
+pub use method::{DocumentQuestion, Method, PositionQuestion, Question};
+pub use params::{changed_in, opened_in, position_asked, text_changes, uri_in};
+pub use plain_list::PlainList;

@@ -1,0 +1,45 @@
+//! Lists of JSON values.
+
+ghost use Rattle.std.specs.Prelude.{◌≡◌, false};
+ghost use Rattle.serde_json.specs.View.{items_view, view};
+ghost use Rattle.serde_json.specs.Written.{has_float, items_have_float};
+
+use serde_json::{Value, push};
+use std::alloc::Global;
+use x_text::NoMemory;
+
+/// A list of values in which no float stands, so that it is written as it is.
+#[derive(Drop)]
+pub struct PlainList {
+    values: Vec<Value>,
+    ghost plain: { items_have_float (items_view values.items) ≡ false },
+}
+
+impl PlainList {
+    /// No values.
+    pub fn new(alloc: Global) -> PlainList {
+        PlainList {
+            values: Vec::new(alloc),
+        }
+    }
+
+    /// Adds a value.
+    pub fn push(&mut self, value: Value) -> Result<(), NoMemory>
+        requires { has_float (view value) ≡ false }
+    {
+        push(&mut self.values, value)?;
+        Ok(())
+    }
+
+    /// Adds a number.
+    pub fn push_number(&mut self, number: usize) -> Result<(), NoMemory> {
+        self.push(Value::from(number))
+    }
+
+    /// The list as a value.
+    pub fn into_value(self) -> Value
+        ensures { has_float (view result) ≡ false }
+    {
+        Value::Array(self.values)
+    }
+}

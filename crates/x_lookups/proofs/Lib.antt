@@ -1,0 +1,3 @@
+mod DeclarerLemmas
+mod LookupLemmas
+mod NamePlaceLemmas

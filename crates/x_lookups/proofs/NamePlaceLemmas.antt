@@ -1,0 +1,156 @@
+-- The tokens at which names stand that are sought.
+use Rattle.std.proofs.Common.{◌≡◌, ℕ, zero, suc, ◌+◌, ◌<◌, ◌≤◌, Bool, true, false, cond, get_or, List, [], ◌∷◌, ◌++◌, length, map, drop, filter, Option, None, Some, refl, ap, sym, subst, ◌∙◌, append_assoc, arith}
+use Rattle.std.specs.Prelude.{slice_get}
+use Rattle.std.specs.List.{flat_map}
+use Rattle.std.proofs.lemmas.List.{append-nil, map-append, length-map}
+use Rattle.std.proofs.lemmas.List.Elements.{filter-append}
+use Rattle.x_lex.specs.declared.kind.Kind.{Kind}
+use Rattle.x_lex.specs.declared.tokens.token.Token.{Token}
+use Rattle.x_lex.specs.Places.{Lexeme, lexeme}
+use Rattle.x_cutting.specs.Items.{AreItems, IsNext}
+use Rattle.x_trees.specs.Tree.{Definition}
+use Rattle.x_trees.specs.Names.{Declared, declared}
+use Rattle.x_trees.specs.Mentions.{Mention, mentioned}
+use Rattle.x_trees.specs.Spell.{spell}
+use Rattle.x_trees.specs.Words.{is_significant, word_of}
+use Rattle.x_item.specs.Parse.{Parse, Nothing, Def, Fault, IsParse}
+use Rattle.x_compile.specs.Compile.{Item, IsCompilation, definition_at, parsed_definition, tokens_of}
+use Rattle.x_compile.proofs.Compiled.{one_compilation}
+use Rattle.x_compile.specs.Known.{KnownText}
+use Rattle.x_session.specs.Session.{Compiles}
+use Rattle.x_lookups.specs.declared.name_places.Standing.{Standing}
+use Rattle.x_declared.specs.DeclaredNames.{words_in}
+use Rattle.x_declared.proofs.ItemsLeft.{AreLeft, all_left, item_at, next_item_is, none_left}
+use Rattle.x_lookups.specs.NamePlaces.{NamePlace, declared_on, mentioned_on, name_on, names_by, names_of, tokens_where}
+
+-- ---- lists of names
+
+pub where_append : (test : NamePlace → Bool) (xs ys : List NamePlace) → tokens_where test (xs ++ ys) ≡ tokens_where test xs ++ tokens_where test ys
+where_append test xs ys = ap (map (λ n. n.token)) (filter-append test xs ys) ∙ map-append (λ n. n.token) (filter test xs) (filter test ys)
+
+-- a part of what is to be found is found
+pub found_more : (found found' part rest all whole : List Lexeme) → found' ≡ found ++ part → all ≡ part ++ rest → found ++ all ≡ whole → found' ++ rest ≡ whole
+found_more found found' part rest all whole more is had =
+    ap (λ l. l ++ rest) more ∙ append_assoc found part rest ∙ ap (λ l. found ++ l) (sym is) ∙ had
+
+-- what names of a list are sought, of which one is the first
+pub where_over : {X : Type 0} (test : NamePlace → Bool) (names : X → List NamePlace) (x : X) (all rest : List X) → all ≡ x ∷ rest
+    → tokens_where test (flat_map names all) ≡ tokens_where test (names x) ++ tokens_where test (flat_map names rest)
+where_over test names x all rest is = ap (λ l. tokens_where test (flat_map names l)) is ∙ where_append test (names x) (flat_map names rest)
+
+-- ---- the items of a text
+
+-- in the items before one what is sought is found, and the tokens of the others are left
+pub record HasFound (known : KnownText) (text : List ℕ) (test : NamePlace → Bool) (n : ℕ) (walk found : List Lexeme) : Type 0 where
+  pub tokens : List (Kind × ℕ)
+  pub items : List Item
+  pub compiles : IsCompilation known text tokens items
+  pub left : AreLeft walk (map (λ i. i.tokens) (drop n items))
+  pub found_is : found ++ tokens_where test (names_of (drop n items)) ≡ tokens_where test (names_of items)
+
+pub found_none : {known : KnownText} (text : List ℕ) (test : NamePlace → Bool) (walk : List Lexeme) → Compiles known text (λ items. walk ≡ tokens_of items) → HasFound known text test 0 walk []
+found_none text test walk c = record {
+  tokens = c.0;
+  items = c.1;
+  compiles = c.2;
+  left = all_left (tokens_of c.1) walk (map (λ i. i.tokens) c.1) (subst (λ l. AreItems l (map (λ i. i.tokens) c.1)) (sym c.2.are_items.all) c.2.are_items) c.3;
+  found_is = refl;
+}
+
+-- one item more
+pub found_item : {known : KnownText} (text : List ℕ) (test : NamePlace → Bool) (n m count : ℕ) (whole : Bool) (walk walk' part found found' : List Lexeme) (o : Option Definition) → m ≡ n + 1 → n < count → Compiles known text (λ items. count ≡ length items)
+    → Compiles known text (λ items. o ≡ definition_at items n) → HasFound known text test n walk found → IsNext whole walk part walk'
+    → ((p : Parse) → IsParse part p → o ≡ parsed_definition p → found' ≡ found ++ tokens_where test (names_by part o)) → HasFound known text test m walk' found'
+found_item {known} text test n m count whole walk walk' part found found' o step lt many has had next names =
+    let same : had.items ≡ many.1 = (one_compilation known text had.tokens many.0 had.items many.1 had.compiles many.2).1 in
+    let same' : has.1 ≡ had.items = (one_compilation known text has.0 had.tokens has.1 had.items has.2 had.compiles).1 in
+    let count_is : count ≡ length had.items = many.3 ∙ ap length (sym same) in
+    let at = item_at had.items n (omega (arith, lt, count_is)) had.compiles.are_parses in
+    let rest = drop (suc n) had.items in
+    let here : map (λ i. i.tokens) (drop n had.items) ≡ at.item.tokens ∷ map (λ i. i.tokens) rest = ap (map (λ i. i.tokens)) at.here in
+    let left = next_item_is whole walk part walk' at.item.tokens (map (λ i. i.tokens) rest) (subst (AreLeft walk) here had.left) next in
+    let o_is : o ≡ parsed_definition at.item.parse = has.3 ∙ ap (λ is. definition_at is n) same' ∙ at.definition in
+    let these = tokens_where test (names_by at.item.tokens (parsed_definition at.item.parse)) in
+    let more : found' ≡ found ++ these =
+    names at.item.parse (subst (λ ts. IsParse ts at.item.parse) (sym left.0) at.parsed) o_is ∙ (λ k. found ++ tokens_where test (names_by (left.0 k) (o_is k))) in
+    let suc_is : suc n ≡ m = omega (arith, step) in
+    subst (λ k. HasFound known text test k walk' found') suc_is record {
+      tokens = had.tokens;
+      items = had.items;
+      compiles = had.compiles;
+      left = left.1;
+      found_is = found_more found found' these (tokens_where test (names_of rest)) (tokens_where test (names_of (drop n had.items))) (tokens_where test (names_of had.items)) more
+          (where_over test (λ i. names_by i.tokens (parsed_definition i.parse)) at.item (drop n had.items) rest at.here) had.found_is;
+    }
+
+-- all is found
+pub found_all : {known : KnownText} (text : List ℕ) (test : NamePlace → Bool) (n count : ℕ) (walk found : List Lexeme) → count ≤ n → Compiles known text (λ items. count ≡ length items) → HasFound known text test n walk found
+    → Compiles known text (λ items. found ≡ tokens_where test (names_of items))
+found_all {known} text test n count walk found le many had =
+    let same : had.items ≡ many.1 = (one_compilation known text had.tokens many.0 had.items many.1 had.compiles many.2).1 in
+    let count_is : count ≡ length had.items = many.3 ∙ ap length (sym same) in
+    let none = none_left had.items n (omega (arith, le, count_is)) in (
+      had.tokens,
+      had.items,
+      had.compiles,
+      sym (append-nil found) ∙ ap (λ is. found ++ tokens_where test (names_of is)) (sym none) ∙ had.found_is,
+    )
+
+-- ---- the names in an item
+
+-- one without a definition has none
+pub names_without : (test : NamePlace → Bool) (part : List Lexeme) (o : Option Definition) → o ≡ None → [] ≡ tokens_where test (names_by part o)
+names_without test part o none = ap (λ d. tokens_where test (names_by part d)) (sym none)
+
+-- ---- words
+
+none_behind : (words : List Token) (word : ℕ) → length words ≤ word → slice_get (map lexeme words) word ≡ None
+none_behind [] zero le = refl
+none_behind [] (suc word) le = refl
+none_behind (w ∷ words) zero le = absurd (omega arith)
+none_behind (w ∷ words) (suc word) le = none_behind words word (omega arith)
+
+found_there : (words : List Token) (word : ℕ) (d : Token) → word < length words → slice_get (map lexeme words) word ≡ Some (lexeme (get_or words word d))
+found_there [] word d lt = absurd (omega arith)
+found_there (w ∷ words) zero d lt = refl
+found_there (w ∷ words) (suc word) d lt = found_there words word d (omega arith)
+
+-- there is no such word
+pub no_word : (test : NamePlace → Bool) (words : List Token) (word : ℕ) (name : List ℕ) (standing : Standing) (found : List Lexeme) → length words ≤ word
+    → found ≡ found ++ tokens_where test (name_on (slice_get (map lexeme words) word) name standing)
+no_word test words word name standing found le = sym (ap (λ o. found ++ tokens_where test (name_on o name standing)) (none_behind words word le) ∙ append-nil found)
+
+-- a word is sought, or is not
+pub one_word : (test : NamePlace → Bool) (words : List Token) (word : ℕ) (d : Token) (name : List ℕ) (standing : Standing) (b : Bool) → word < length words
+    → b ≡ test (record { name = name; token = lexeme (get_or words word d); standing = standing })
+    → cond b (lexeme (get_or words word d) ∷ []) [] ≡ tokens_where test (name_on (slice_get (map lexeme words) word) name standing)
+one_word test words word d name standing b lt is =
+    let place : NamePlace = record { name = name; token = lexeme (get_or words word d); standing = standing } in
+    by b (test place) is ∙ ap (λ o. tokens_where test (name_on o name standing)) (sym (found_there words word d lt))
+  where
+    by : (b c : Bool) → b ≡ c → cond b (lexeme (get_or words word d) ∷ []) [] ≡ map (λ (n : NamePlace). n.token) (cond c (record { name = name; token = lexeme (get_or words word d); standing = standing } ∷ []) [])
+    by true true is = refl
+    by true false is = absurd (cc)
+    by false true is = absurd (cc)
+    by false false is = refl
+
+kept_by : (b : Bool) (t : Token) (kept : List Token) (words : List Lexeme) → map lexeme kept ≡ words → map lexeme (cond b (t ∷ kept) kept) ≡ cond b (lexeme t ∷ words) words
+kept_by true t kept words is = ap (λ l. lexeme t ∷ l) is
+kept_by false t kept words is = is
+
+-- the words among tokens
+pub words_kept : (tokens : List Token) → map lexeme (filter (λ t. is_significant t.kind) tokens) ≡ words_in (map lexeme tokens)
+words_kept [] = refl
+words_kept (t ∷ tokens) = kept_by (is_significant t.kind) t (filter (λ t. is_significant t.kind) tokens) (words_in (map lexeme tokens)) (words_kept tokens)
+
+-- the names of a definition are added: those that its words declare, and then those that they use
+pub names_added : (test : NamePlace → Bool) (part words words' old mid new : List Lexeme) (d : Definition) (ds : List Declared) (ms : List Mention) → words ≡ words_in part → words' ≡ words_in part → ds ≡ declared d → ms ≡ mentioned d
+    → mid ≡ old ++ tokens_where test (flat_map (declared_on words) ds) → new ≡ mid ++ tokens_where test (flat_map (mentioned_on words') ms) → new ≡ old ++ tokens_where test (names_by part (Some d))
+names_added test part words words' old mid new d ds ms words_are words'_are declared_are mentioned_are first second =
+    let those = flat_map (declared_on (words_in part)) (declared d) in
+    let others = flat_map (mentioned_on (words_in part)) (mentioned d) in
+    let one : mid ≡ old ++ tokens_where test those = first ∙ (λ k. old ++ tokens_where test (flat_map (declared_on (words_are k)) (declared_are k))) in
+    second
+    ∙ (λ k. one k ++ tokens_where test (flat_map (mentioned_on (words'_are k)) (mentioned_are k)))
+    ∙ append_assoc old (tokens_where test those) (tokens_where test others)
+    ∙ ap (λ l. old ++ l) (sym (where_append test those others))

@@ -1,6 +1,0 @@
-use Rattle.std.proofs.Common.{sym}
-use Rattle.x_lsp.proofs.FrameLemmas.{unnamed}
-use Rattle.x_lsp.proofs.head.is_named.Goals as goal
-
-pub returns-then-name-wanted : goal.returns-then-name-wanted
-returns-then-name-wanted c = sym (unnamed c.args.name.now c.args.wanted.now c.if-name-wanted.true)

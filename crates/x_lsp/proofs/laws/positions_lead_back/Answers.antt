@@ -1,5 +1,0 @@
-use Rattle.x_lsp.proofs.PositionLemmas as lemmas
-use Rattle.x_lsp.proofs.laws.positions_lead_back.Goals as goal
-
-pub returns : goal.returns
-returns c encoding text at h = lemmas.positions_lead_back encoding text at h

@@ -1,0 +1,7 @@
+mod Choices
+mod LineLemmas
+mod MarkLemmas
+mod PassedLineLemmas
+mod PositionLemmas
+mod SpotLemmas
+mod WalkLemmas

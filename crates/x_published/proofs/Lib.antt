@@ -1,0 +1,3 @@
+pub mod DiagnosticLemmas
+mod PlaceTableLemmas
+mod WritingLemmas

@@ -1,0 +1,4 @@
+pub mod Diagnostics
+pub mod FaultMessages
+pub mod OtherPlaces
+pub mod Published

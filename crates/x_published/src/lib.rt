@@ -1,0 +1,13 @@
+//! What a client is told of a text's faults (LSP 3.17, `textDocument/publishDiagnostics`): the messages, the
+//! other places that matter, and the text of the note.
+#![tactic(auto)]
+
+mod client;
+mod fault_messages;
+mod other_places;
+mod published;
+
+pub use client::{Client, client_in};
+pub use fault_messages::{FaultMessage, FaultMessages, branch_message, foreign_message};
+pub use other_places::OtherPlaces;
+pub use published::{Diagnostic, Place, Severity, published_text};

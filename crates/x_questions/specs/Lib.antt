@@ -1,0 +1,2 @@
+pub mod DocumentTexts
+pub mod Symbols

@@ -1,0 +1,68 @@
+//! The places of tokens, as LSP writes them.
+
+ghost use Rattle.std.specs.Prelude.{◌≡◌, ◌≤◌, false, IfOk, length};
+ghost use Rattle.serde_json.specs.View.{view};
+ghost use Rattle.serde_json.specs.Written.{has_float};
+ghost use Rattle.x_text.specs.Limits.{most_text};
+
+use crate::open_text::OpenText;
+use serde_json::{Value, json, push};
+use std::alloc::Global;
+use x_lex::Token;
+use x_positions::{Encoding, Places, Range, range_value};
+use x_text::NoMemory;
+
+/// What is said of each of some tokens.
+#[derive(Clone, Copy, Debug, PartialEq, Eq)]
+pub(crate) enum Told {
+    /// The document, and the range in it: a `Location`.
+    Location,
+    /// The range alone: a `DocumentHighlight`.
+    Highlight,
+}
+
+/// The places of tokens of a document, in their order.
+pub(crate) fn places_value(
+    alloc: Global,
+    encoding: Encoding,
+    document: &OpenText,
+    tokens: &[Token],
+    told: Told,
+) -> Result<Value, NoMemory>
+    ensures { IfOk result (λ v. has_float (view v) ≡ false) }
+{
+    let mut list = Vec::new(alloc);
+    let mut places = Places::of(encoding, document.shown.bytes());
+    for token in tokens {
+        let range = range_of(&mut places, token);
+        push(&mut list, place_value(alloc, document, &range, told)?)?;
+    }
+    Ok(Value::Array(list))
+}
+
+/// The range of a token.
+pub(crate) fn range_of(places: &mut Places, token: &Token) -> Range {
+    Range {
+        start: places.position(token.start),
+        end: places.position(token.end),
+    }
+}
+
+/// A range of a document.
+pub(crate) fn place_value(
+    alloc: Global,
+    document: &OpenText,
+    range: &Range,
+    told: Told,
+) -> Result<Value, NoMemory>
+    ensures { IfOk result (λ v. has_float (view v) ≡ false) }
+{
+    let range = range_value(alloc, range)?;
+    match told {
+        Told::Location => {
+            let uri = document.uri;
+            Ok(json!(in alloc; {"range": range, "uri": uri})?)
+        }
+        Told::Highlight => Ok(json!(in alloc; {"range": range})?),
+    }
+}

@@ -1,0 +1,165 @@
+//! What is answered to questions about a document.
+
+ghost use Rattle.std.specs.Prelude.{◌≡◌, false, true, IfErr, IfOk};
+ghost use Rattle.serde_json.specs.View.{view};
+ghost use Rattle.serde_json.specs.Written.{has_float};
+ghost use Rattle.x_frames.specs.Lives.{is_of_request};
+
+use crate::completion::completion;
+use crate::folds::folds;
+use crate::generated::text;
+use crate::hover::hover;
+use crate::locations::{Told, place_value, places_value, range_of};
+use crate::open_text::OpenText;
+use crate::params::{declared_in, new_name_in, which_in};
+use crate::renaming::{rename, renamed_range};
+use crate::symbols::symbols;
+use crate::token_kinds::token_kinds;
+use serde_json::Value;
+use std::alloc::Global;
+use x_frames::{DocumentQuestion, ErrorCode, PositionQuestion, Question};
+use x_lex::Token;
+use x_lookups::{definition_at, references_at};
+use x_positions::{Encoding, Places};
+use x_text::NoMemory;
+
+/// The result of a question about a document, at the place that its parameters name, if they name one.
+///
+/// # Errors
+///
+/// What the request is refused for: its parameters, a new name, or want of memory.
+pub fn result_of(
+    alloc: Global,
+    encoding: Encoding,
+    document: &OpenText,
+    place: Option<usize>,
+    question: Question,
+    params: Option<&Value>,
+) -> Result<Value, ErrorCode>
+    ensures value { IfOk result (λ v. has_float (view v) ≡ false) }
+    ensures code { IfErr result (λ code. is_of_request code ≡ true) }
+{
+    match question {
+        Question::OfDocument(question) => {
+            result_of_document(alloc, encoding, document, question, params)
+        }
+        Question::OfPosition(question) => {
+            result_of_position(alloc, encoding, document, place, question, params)
+        }
+    }
+}
+
+/// The result of a question about a whole document.
+fn result_of_document(
+    alloc: Global,
+    encoding: Encoding,
+    document: &OpenText,
+    question: DocumentQuestion,
+    params: Option<&Value>,
+) -> Result<Value, ErrorCode>
+    ensures value { IfOk result (λ v. has_float (view v) ≡ false) }
+    ensures code { IfErr result (λ code. is_of_request code ≡ true) }
+{
+    match question {
+        DocumentQuestion::Symbols => found(symbols(alloc, encoding, document)),
+        DocumentQuestion::Folds => found(folds(alloc, document)),
+        DocumentQuestion::Tokens => found(token_kinds(alloc, encoding, document)),
+        DocumentQuestion::Text => match which_in(params) {
+            Some(wanted) => found(text(alloc, document, wanted)),
+            None => Err(ErrorCode::InvalidParams),
+        },
+    }
+}
+
+/// The result of a question about a position in a document.
+fn result_of_position(
+    alloc: Global,
+    encoding: Encoding,
+    document: &OpenText,
+    place: Option<usize>,
+    question: PositionQuestion,
+    params: Option<&Value>,
+) -> Result<Value, ErrorCode>
+    ensures value { IfOk result (λ v. has_float (view v) ≡ false) }
+    ensures code { IfErr result (λ code. is_of_request code ≡ true) }
+{
+    let Some(at) = place else {
+        return Err(ErrorCode::InvalidParams);
+    };
+    match question {
+        PositionQuestion::Definition => found(definition(alloc, encoding, document, at)),
+        PositionQuestion::References => match declared_in(params) {
+            Some(declared) => found(references(
+                alloc,
+                encoding,
+                document,
+                at,
+                declared,
+                Told::Location,
+            )),
+            None => Err(ErrorCode::InvalidParams),
+        },
+        PositionQuestion::Highlights => {
+            found(references(alloc, encoding, document, at, true, Told::Highlight))
+        }
+        PositionQuestion::Hover => found(hover(alloc, encoding, document, at)),
+        PositionQuestion::Completion => found(completion(alloc, document, at)),
+        PositionQuestion::PrepareRename => found(renamed_range(alloc, encoding, document, at)),
+        PositionQuestion::Rename => match new_name_in(params) {
+            Some(name) => rename(alloc, encoding, document, at, name),
+            None => Err(ErrorCode::InvalidParams),
+        },
+    }
+}
+
+/// A result, or that memory ran out.
+fn found(value: Result<Value, NoMemory>) -> Result<Value, ErrorCode>
+    requires { IfOk value (λ v. has_float (view v) ≡ false) }
+    ensures value { IfOk result (λ v. has_float (view v) ≡ false) }
+    ensures code { IfErr result (λ code. is_of_request code ≡ true) }
+{
+    match value {
+        Ok(value) => Ok(value),
+        Err(NoMemory) => Err(ErrorCode::InternalError),
+    }
+}
+
+/// Where the name at a place is declared first; null where it is not.
+fn definition(
+    alloc: Global,
+    encoding: Encoding,
+    document: &OpenText,
+    at: usize,
+) -> Result<Value, NoMemory>
+    ensures { IfOk result (λ v. has_float (view v) ≡ false) }
+{
+    match definition_at(alloc, &document.compiled.session, at)? {
+        Some(token) => {
+            let mut places = Places::of(encoding, document.shown.bytes());
+            let range = range_of(&mut places, &token);
+            place_value(alloc, document, &range, Told::Location)
+        }
+        None => Ok(Value::Null),
+    }
+}
+
+/// Where the name at a place is used, and if asked for, where it is declared.
+fn references(
+    alloc: Global,
+    encoding: Encoding,
+    document: &OpenText,
+    at: usize,
+    declared: bool,
+    told: Told,
+) -> Result<Value, NoMemory>
+    ensures { IfOk result (λ v. has_float (view v) ≡ false) }
+{
+    let mut tokens = references_at(alloc, &document.compiled.session, at, declared)?;
+    put_in_order(&mut tokens);
+    places_value(alloc, encoding, document, &tokens, told)
+}
+
+/// Puts tokens in the order of the text, so that one walk over it finds the places of all.
+fn put_in_order(tokens: &mut Vec<Token>) {
+    tokens.sort_unstable_by_key(|token| token.start);
+}

@@ -1,0 +1,4 @@
+mod HeardLemmas
+mod PlacedLemmas
+mod SilentLemmas
+mod ToldLemmas
