@@ -1,5 +1,15 @@
+use Rattle.std.proofs.Common.{[], sym, subst}
+use Rattle.x_text.specs.Writing.{Inked, Writes}
+use Rattle.x_text.proofs.Pens.{writes_none}
+use Rattle.x_args.proofs.Grown.{told}
 use Rattle.rpcx.proofs.ClashLemmas.{said_some}
 use Rattle.rpcx.proofs.rpcgen.warnings.say.Goals as goal
 
 pub returns : goal.returns
-returns g c = said_some (g.E.Sink.state c.args.err.now) (g.E.Sink.state c.finish.new.sink) c.args.said.now ? ?
+returns g c =
+    let said = c.args.said.now in
+    let start = g.E.Sink.state c.args.err.now in
+    let now = g.E.Sink.state c.finish.new.sink in
+    let none : Writes start [] c.new-pen.result start = subst (λ (p : Inked). Writes start [] p start) (sym c.new-pen.ensures) (writes_none start) in
+    said_some start now said (λ none. let is = c.is_empty.ensures in let not = c.if-is_empty.false in cc)
+    (told c.finish.result start now said (c.finish.ensures.written start said (c.add.ensures.goes_on start [] none)))
