@@ -1,5 +1,5 @@
 -- The names of a text that clash, as they are told.
-use Rattle.std.proofs.Common.{◌≡◌, ◌<◌, ◌≤◌, ◌^◌, ℕ, List, [], ◌∷◌, ◌++◌, Option, Result, Ok, Err, append_assoc, length, sym, ap, refl, subst, ◌∙◌, arith}
+use Rattle.std.proofs.Common.{◌≡◌, ◌<◌, ◌≤◌, ◌^◌, ℕ, List, [], ◌∷◌, ◌++◌, Option, Result, Ok, Err, Bool, false, nat_eq, true≢false, append_assoc, length, sym, ap, refl, subst, ◌∙◌, arith}
 use Rattle.std.specs.List.{flat_map}
 use Rattle.std.specs.Prelude.{OnOk}
 use Rattle.x_text.specs.Streams.{Stream}
@@ -58,6 +58,9 @@ pub said_some : (before after : Stream) (said : List ℕ) → (said ≡ [] → �
     → IsSaid before after said
 said_some before after [] some told = absurd (some refl)
 said_some before after (b ∷ bs) some told = told
+
+pub not_empty : (said : List ℕ) (is_empty : Bool) → is_empty ≡ nat_eq (length said) 0 → is_empty ≡ false → (said ≡ [] → ⊥)
+not_empty said is_empty is not none = true≢false (sym (ap (λ l. nat_eq (length l) 0) none) ∙ sym is ∙ not)
 
 -- what holds of a compilation, by what does
 pub compiles_so : {known : KnownText} (text : List ℕ) {P Q : List Item → Type 0} → Compiles known text P

@@ -2,7 +2,7 @@ use Rattle.std.proofs.Common.{[], sym, subst}
 use Rattle.x_text.specs.Writing.{Inked, Writes}
 use Rattle.x_text.proofs.Pens.{writes_none}
 use Rattle.x_args.proofs.Grown.{told}
-use Rattle.rpcx.proofs.ClashLemmas.{said_some}
+use Rattle.rpcx.proofs.ClashLemmas.{not_empty, said_some}
 use Rattle.rpcx.proofs.rpcgen.warnings.say.Goals as goal
 
 pub returns : goal.returns
@@ -11,5 +11,5 @@ returns g c =
     let start = g.E.Sink.state c.args.err.now in
     let now = g.E.Sink.state c.finish.new.sink in
     let none : Writes start [] c.new-pen.result start = subst (λ (p : Inked). Writes start [] p start) (sym c.new-pen.ensures) (writes_none start) in
-    said_some start now said (λ none. let is = c.is_empty.ensures in let not = c.if-is_empty.false in cc)
+    said_some start now said (not_empty said c.is_empty.result c.is_empty.ensures c.if-is_empty.false)
     (told c.finish.result start now said (c.finish.ensures.written start said (c.add.ensures.goes_on start [] none)))
