@@ -16,7 +16,8 @@ use Rattle.x_taken.specs.declared.taken.TakenAs.{TakenAs}
 use Rattle.x_clash.specs.Clashes.{AreClashes}
 use Rattle.x_clash.specs.declared.clash.Clash.{Clash}
 use Rattle.x_args.specs.Telling.{IsTold}
-use Rattle.rpcx.specs.Warnings.{AreClashLines, IsSaid, clash_line, spots_in, spots_of}
+use Rattle.rpcx.specs.declared.files.opening.FaultStyle.{FaultStyle}
+use Rattle.rpcx.specs.Warnings.{AreClashLines, AreWarnings, IsPlain, IsSaid, clash_line, spots_in, spots_of}
 
 -- the lines about clashes that are found by tables of a text
 pub lines_are : {known : KnownText} (file text : List ℕ) (definitions : List (Option Definition))
@@ -48,6 +49,11 @@ lines_are file text definitions taken found table said count few tokens are same
         is ∙ ap (λ s. flat_map (clash_line file s) found) spots,
       ),
     )
+
+-- where faults are told one a line nothing is said of clashes
+pub plain_is_nothing : {known : KnownText} (style : FaultStyle) (file text said : List ℕ) → IsPlain style
+    → Compiles known text (λ items. AreWarnings style file text items said) → said ≡ []
+plain_is_nothing style file text said plain h = subst (λ s. AreWarnings s file text h.1 said) plain h.3
 
 -- nothing is written where nothing is said
 pub said_nothing : (before : Stream) (said : List ℕ) → said ≡ [] → IsSaid before before said

@@ -70,6 +70,10 @@ abbrev pub AreWarnings : FaultStyle → List ℕ → List ℕ → List Item → 
 AreWarnings Plain file text items said = said ≡ []
 AreWarnings style file text items said = AreClashLines file text items said
 
+-- faults are told one a line, and nothing else is
+abbrev pub IsPlain : FaultStyle → Type 0
+IsPlain style = style ≡ Plain
+
 -- nothing is written where there is nothing to say
 abbrev pub IsSaid : (before after : Stream) → List ℕ → Type 0
 IsSaid before after [] = after ≡ before

@@ -1,13 +1,13 @@
 //! What `rpcgen` does, over a text that was read and sinks.
 
-ghost use Rattle.std.specs.Prelude.{◌≡◌, ◌≢◌, ◌⊎◌, ◌<◌, false, not, codes, length, IsTrue, OnOk};
+ghost use Rattle.std.specs.Prelude.{◌≡◌, ◌≢◌, ◌⊎◌, ◌<◌, [], false, not, codes, length, IsTrue, OnOk};
 ghost use Rattle.std.specs.Prelude.{if◌then◌else◌};
 ghost use Rattle.std.specs.Io.KnownBytes.{Appends};
 ghost use Rattle.rpcx.specs.Generate.{IsFaultless, IsOpened, NotGenerated, NotWritten, base_of};
 ghost use Rattle.rpcx.specs.Generate.{TellsFaults, no_output_told, output_told};
 ghost use Rattle.rpcx.specs.Opening.{CompilesBy};
 ghost use Rattle.rpcx.specs.Outputs.{Holds, IsNamed};
-ghost use Rattle.rpcx.specs.Warnings.{IsSaid, Warns};
+ghost use Rattle.rpcx.specs.Warnings.{IsPlain, IsSaid, Warns};
 ghost use Rattle.x_args.specs.Telling.{Complains, Grows, IsTold};
 ghost use Rattle.x_session.specs.Session.{Compiles};
 ghost use Rattle.x_compile.specs.Compile.{faults_of};
@@ -124,6 +124,7 @@ pub fn gen_run<O: Output, E: Sink>(
     ensures warned { result ≡ Status.Done → CompilesBy how.now bytes.now
         (λ items. Warns how.now.style args.now.file.now bytes.now items
         (E.state err.old) (E.state err.new)) }
+    ensures quiet { IsPlain how.now.style → result ≡ Status.Done → err.new ≡ err.old }
     ensures whole { result ≡ Status.Done
         → CompilesBy how.now bytes.now (λ items. Holds (O.standing output.old) (O.standing output.new)
         (text_of which (base_of args.now.file.now) items)) }
@@ -169,6 +170,7 @@ fn write_and_say<O: Output, E: Sink>(
         × (O.Opened.is_closed left ≡ is_closed))
         (E.state err.old) (E.state err.new) }
     ensures said { result ≡ Status.Done → IsSaid (E.state err.old) (E.state err.new) said.now }
+    ensures quiet { said.now ≡ [] → result ≡ Status.Done → err.new ≡ err.old }
     ensures whole { result ≡ Status.Done
         → Compiles session.now.known session.now.text
         (λ items. Holds (O.standing output.old) (O.standing output.new)

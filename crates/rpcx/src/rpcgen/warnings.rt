@@ -168,7 +168,8 @@ pub(super) fn warnings_of(
 
 /// Writes what is said, if anything is.
 pub(super) fn say<E: Sink>(said: &[u8], err: &mut E)
-    ensures { IsSaid (E.state err.old) (E.state err.new) said.now }
+    ensures said { IsSaid (E.state err.old) (E.state err.new) said.now }
+    ensures quiet { said.now ≡ [] → err.new ≡ err.old }
 {
     if said.is_empty() {
         return;

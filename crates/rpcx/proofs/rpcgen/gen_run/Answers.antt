@@ -1,10 +1,11 @@
-use Rattle.std.proofs.Common.{◌≡◌, ℕ, List, Err, IsTrue, ap, codes, subst}
+use Rattle.std.proofs.Common.{◌≡◌, ℕ, List, Err, IsTrue, ap, codes, subst, ◌∙◌}
 use Rattle.std.specs.Io.KnownBytes.{Appends}
 use Rattle.x_compile.specs.Generated.{text_of}
 use Rattle.x_session.specs.Session.{Compiles}
 use Rattle.x_args.specs.Telling.{IsTold, told_of}
 use Rattle.rpcx.specs.Generate.{unopened, unwritten, NotWritten}
 use Rattle.rpcx.specs.Outputs.{Holds}
+use Rattle.rpcx.proofs.ClashLemmas.{plain_is_nothing}
 use Rattle.rpcx.proofs.Dumping.{faultless}
 use Rattle.rpcx.proofs.Unopened.{no_memory}
 use Rattle.rpcx.proofs.rpcgen.gen_run.Goals as goal
@@ -52,3 +53,10 @@ returns-in-Err-warnings_of-clause-failed g c e =
     unopened (no_memory c.args.how.now (codes "rpcgen") c.args.args.now.file.now c.args.bytes.now (state c.args.err.now)
     (state c.tell_of_file.new.err) (λ more. let off = c.in-Ok.ensures.opened.too_large more in cc)
     (subst (λ old. IsTold (state old) (state c.tell_of_file.new.err) (told_of (codes "rpcgen") (codes "out of memory"))) c.in-Ok.ensures.quiet c.tell_of_file.ensures))
+
+pub returns-clause-quiet : goal.returns-clause-quiet
+returns-clause-quiet g c plain done =
+    let session = c.in-Ok.session in
+    let said = c.in-Ok-warnings_of.said in
+    let none = plain_is_nothing c.args.how.now.style c.args.args.now.file.now session.text said.items plain c.in-Ok-warnings_of.ensures in
+    c.write_and_say-status.ensures.quiet (c.deref.ensures.value ∙ none) done ∙ c.in-Ok.ensures.quiet
