@@ -1,6 +1,7 @@
 -- The names of a text that clash, and the lines that tell them.
-use Rattle.std.proofs.Common.{◌≡◌, ◌<◌, ◌≤◌, ◌+◌, ◌^◌, ℕ, List, [], ◌∷◌, ◌++◌, Option, None, Some, map, drop}
-use Rattle.std.proofs.Common.{get_or, length, sym, ap, subst, ◌∙◌, arith}
+use Rattle.std.proofs.Common.{◌≡◌, ◌<◌, ◌≤◌, ◌+◌, ◌^◌, ℕ, suc, Bool, true, nat_eq, List, [], ◌∷◌, Option, map, drop}
+use Rattle.std.proofs.Common.{get_or, length, refl, sym, ap, subst, ◌∙◌, arith}
+use Rattle.std.proofs.lemmas.Bool.Decides.{nat_tests}
 use Rattle.std.specs.List.{flat_map}
 use Rattle.std.proofs.lemmas.List.{drop_more}
 use Rattle.x_text.specs.Streams.{Stream}
@@ -70,3 +71,12 @@ line_more file ws i d p q r a b c lt one others =
     subst (λ l. Adds p a r c (flat_map (warning_line file) (map view_warning l))) (sym (drop_more ws i d lt))
     (adds_trans p q r a b c (warning_line file (view_warning (get_or ws i d)))
     (flat_map (warning_line file) (map view_warning (drop (i + 1) ws))) one others)
+
+-- a list that is empty by its length
+pub empty_is : {X : Type 0} (xs : List X) (is_empty : Bool) → is_empty ≡ nat_eq (length xs) 0
+    → is_empty ≡ true → xs ≡ []
+empty_is [] is_empty is so = refl
+empty_is (x ∷ xs) is_empty is so = absurd (never (length xs) (sym is ∙ so))
+  where
+    never : (n : ℕ) → nat_eq (suc n) 0 ≡ true → ⊥
+    never n e = grind (arith, nat_tests)

@@ -42,7 +42,7 @@ fn placed<'s>(
     found: Vec<Clash<'s>>,
 ) -> Result<Vec<Warning<'s>>, NoMemory>
     ensures { IfOk result (λ list. map view_warning list.items
-        ≡ map (warning_of (spots_in table.now)) found.items) }
+        ≡ map (warning_of (spots_in table.now)) found.entry.items) }
 {
     let mut list = Vec::with_capacity(alloc, found.len())?;
     for clash in found {
@@ -53,7 +53,7 @@ fn placed<'s>(
 
 /// A clash at its places.
 fn warning_at<'s>(table: &DeclaredNames, clash: Clash<'s>) -> Warning<'s>
-    ensures { view_warning result ≡ warning_of (spots_in table.now) clash }
+    ensures { view_warning result ≡ warning_of (spots_in table.now) clash.entry }
 {
     Warning {
         name: clash.name,
