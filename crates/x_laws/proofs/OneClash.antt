@@ -1,9 +1,10 @@
 -- The names of a text that clash are told in one way.
-use Rattle.std.proofs.Common.{◌≡◌, ◌<◌, ◌⊎◌, inl, inr, ℕ, suc, Bool, true, false, cond, nat_eq}
+use Rattle.std.proofs.Common.{◌≡◌, ◌<◌, inl, inr, ℕ, suc, Bool, true, false, cond, nat_eq}
 use Rattle.std.proofs.Common.{List, [], ◌∷◌, ◌++◌, get_or, length, map, Option, arith, ap, refl, sym, ◌∙◌}
 use Rattle.std.specs.List.{filter}
 use Rattle.std.specs.List.Sorted.{IsNonDecreasingBy, IsSortedByKey, IsStableByKey, ties}
 use Rattle.std.specs.Ordering.{is_lt, nat_cmp}
+use Rattle.std.proofs.lemmas.Bool.{cases_order}
 use Rattle.std.proofs.lemmas.Bool.Decides.{nat_tests}
 use Rattle.std.proofs.lemmas.List.{map-append}
 use Rattle.std.proofs.lemmas.List.Sorted.{IsNonDecreasingBy-from_sort}
@@ -26,9 +27,6 @@ other_test a b lt = grind (arith, nat_tests)
 
 keys_tie : (a b : ℕ) → ties (λ (x y : ℕ). is_lt (nat_cmp x y)) a b ≡ nat_eq b a
 keys_tie a b = grind (arith, nat_tests)
-
-either : (a b : ℕ) → (a < b) ⊎ ((a ≡ b) ⊎ (b < a))
-either a b = grind arith
 
 module _ {X V : Type 0} (v : X → V) (n : V → ℕ) where
   abbrev key : X → ℕ
@@ -88,10 +86,10 @@ module _ {X V : Type 0} (v : X → V) (n : V → ℕ) where
   same_lists [] [] h k same = refl
   same_lists [] (y ∷ ys) h k same = absurd (no_cons (v y) _ (sym (own y ys) ∙ sym (same y)))
   same_lists (x ∷ xs) [] h k same = absurd (no_cons (v x) _ (sym (own x xs) ∙ same x))
-  same_lists (x ∷ xs) (y ∷ ys) h k same = elim (either (key x) (key y)) [
-    | inl less ↦ absurd (no_cons (v x) _ (sym (own x xs) ∙ same x
+  same_lists (x ∷ xs) (y ∷ ys) h k same = elim (cases_order (key x) (key y)) [
+    | inr (inl less) ↦ absurd (no_cons (v x) _ (sym (own x xs) ∙ same x
         ∙ no_such (key x) (y ∷ ys) (above_all (key x) y ys k less)))
-    | inr (inl is) ↦
+    | inl is ↦
         let first : of_key (key x) (y ∷ ys) ≡ v y ∷ of_key (key x) ys =
         step y ys (key x) true (same_test (key y) (key x) (sym is)) in
         let one : v x ≡ v y = ap (head_of (v x)) (sym (own x xs) ∙ same x ∙ first) in
@@ -131,12 +129,11 @@ module _ {X V : Type 0} (v : X → V) (n : V → ℕ) where
 
 -- ---- clashes
 
-word_of : Clash → ℕ
+abbrev word_of : Clash → ℕ
 word_of c = c.place.word
 
 one_in_order : (all : List Clash) (found other : List rust.Clash) → AreInOrder all found
     → AreInOrder all other → map view_clash found ≡ map view_clash other
-unfolding word_of
 one_in_order all found other h k = one_order view_clash word_of h.unsorted found k.unsorted other
     (h.these ∙ sym k.these) h.sorted h.stable k.sorted k.stable
 
