@@ -63,14 +63,17 @@ placed_are text found table ws h tabled is =
     λ i p. word_items text items table p.item p.word table_is i in
     (h.0, items, h.2, (found, h.3, is ∙ ap (λ s. map (warning_of s) found) spots))
 
-pub line_more : (file : List ℕ) (ws : List rust.Warning) (i : ℕ) (d : rust.Warning) (p q r : Inked)
-    (a b c : Stream) → i < length ws → Adds p a q b (warning_line file (view_warning (get_or ws i d)))
+-- one line more
+pub line_more : (file : List ℕ) (ws : List rust.Warning) (i : ℕ) (w : rust.Warning) (p q r : Inked)
+    (a b c : Stream) → i < length ws → w ≡ get_or ws i w → Adds p a q b (warning_line file (view_warning w))
     → Adds q b r c (flat_map (warning_line file) (map view_warning (drop (i + 1) ws)))
     → Adds p a r c (flat_map (warning_line file) (map view_warning (drop i ws)))
-line_more file ws i d p q r a b c lt one others =
-    subst (λ l. Adds p a r c (flat_map (warning_line file) (map view_warning l))) (sym (drop_more ws i d lt))
-    (adds_trans p q r a b c (warning_line file (view_warning (get_or ws i d)))
-    (flat_map (warning_line file) (map view_warning (drop (i + 1) ws))) one others)
+line_more file ws i w p q r a b c lt is one others =
+    let rest = drop (i + 1) ws in
+    let split : drop i ws ≡ w ∷ rest = drop_more ws i w lt ∙ ap (λ x. x ∷ rest) (sym is) in
+    subst (λ l. Adds p a r c (flat_map (warning_line file) (map view_warning l))) (sym split)
+    (adds_trans p q r a b c (warning_line file (view_warning w))
+    (flat_map (warning_line file) (map view_warning rest)) one others)
 
 -- a list that is empty by its length
 pub empty_is : {X : Type 0} (xs : List X) (is_empty : Bool) → is_empty ≡ nat_eq (length xs) 0

@@ -68,7 +68,6 @@ fn add_other<S: Sink>(file: &str, other: OtherMeaning, pen: &mut Pen, sink: &mut
 }
 
 /// Adds `FILE:LINE:COL: warning: 'NAME' ..`.
-#[tactic(auto, using(x_text::proofs::Adding::six))]
 fn add_warning<S: Sink>(file: &str, warning: &Warning, pen: &mut Pen, sink: &mut S)
     ensures { Adds pen.old (S.state sink.old) pen.new (S.state sink.new)
         (warning_line file.now (view_warning warning.now)) }

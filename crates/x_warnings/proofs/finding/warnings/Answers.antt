@@ -1,4 +1,4 @@
-use Rattle.std.proofs.Common.{◌≡◌, ◌<◌, ◌^◌, ap, map, sym, ◌∙◌, arith}
+use Rattle.std.proofs.Common.{◌≡◌, ◌<◌, ◌^◌, ap, map, nat_eq, ◌∙◌, arith}
 use Rattle.x_trees.specs.View.{tree_at}
 use Rattle.x_declared.proofs.DeclaredLemmas.{ok_then}
 use Rattle.x_taken.specs.TakenNames.{taken_in}
@@ -16,7 +16,8 @@ returns-then-is_empty c =
     c.token_count.result few c.token_count.ensures
     (d.0, d.1, d.2, ap (map tree_at) c.deref.ensures.value ∙ d.3) c.in_ok-taken.ensures c.in_ok-found.ensures in
     none_are text found (map view_warning c.new.result.items)
-    (empty_is found c.is_empty.result c.is_empty.ensures c.if-is_empty.true)
+    (empty_is found c.is_empty.result (c.is_empty.ensures ∙ ap (λ n. nat_eq n 0) c.in_ok-found.found.ok.0)
+    c.if-is_empty.true)
     (ap (map view_warning) c.new.ensures.items) are
 
 pub returns : goal.returns

@@ -14,9 +14,10 @@ loop-warning-init g c q end h = h
 pub loop-warning-preserved : goal.loop-warning-preserved
 loop-warning-preserved g c q end h =
     c.loop-warning.invariant q end
-    (line_more c.args.file.now c.args.warnings.now c.loop-warning.warning-index _ c.loop-warning.pen
-    c.add_warning.new.pen q (g.S.Sink.state c.loop-warning.sink) (g.S.Sink.state c.add_warning.new.sink)
-    end c.loop-warning-test.true c.add_warning.ensures h)
+    (line_more c.args.file.now c.args.warnings.now c.loop-warning.warning-index c.warning-item.result
+    c.loop-warning.pen c.add_warning.new.pen q (g.S.Sink.state c.loop-warning.sink)
+    (g.S.Sink.state c.add_warning.new.sink) end c.loop-warning-test.true c.warning-item.is
+    c.add_warning.ensures h)
 
 pub returns : goal.returns
 returns g c =
