@@ -58,11 +58,11 @@ module _ {X V : Type 0} (v : X → V) (n : V → ℕ) where
       → (j : ℕ) (d : X) → j < length (x ∷ xs) → k < key (get_or (x ∷ xs) j d)
   above_all k x xs h less j d lt = let le = h 0 j d (omega arith) lt in omega (arith, le, less)
 
-  head_of : V → List V → V
+  abbrev head_of : V → List V → V
   head_of d [] = d
   head_of d (a ∷ rest) = a
 
-  tail_of : List V → List V
+  abbrev tail_of : List V → List V
   tail_of [] = []
   tail_of (a ∷ rest) = rest
 
@@ -104,17 +104,19 @@ module _ {X V : Type 0} (v : X → V) (n : V → ℕ) where
   tied : (x : X) (xs : List X)
       → map v (filter (ties (λ a b. is_lt (nat_cmp (key a) (key b))) x) xs) ≡ of_key (key x) xs
   tied x [] = refl
-  tied x (y ∷ ys) = go (nat_eq (key y) (key x)) refl
+  tied x (y ∷ ys) = go (tied x ys) (nat_eq (key y) (key x)) refl
     where
       test : X → Bool
       test = ties (λ a b. is_lt (nat_cmp (key a) (key b))) x
 
-      go : (b : Bool) → nat_eq (key y) (key x) ≡ b
+      go : map v (filter test ys) ≡ of_key (key x) ys → (b : Bool) → nat_eq (key y) (key x) ≡ b
           → map v (filter test (y ∷ ys)) ≡ of_key (key x) (y ∷ ys)
-      go true e = ap (λ b. map v (cond b (y ∷ filter test ys) (filter test ys))) (keys_tie (key x) (key y) ∙ e)
-          ∙ ap (λ l. v y ∷ l) (tied x ys) ∙ sym (step y ys (key x) true e)
-      go false e = ap (λ b. map v (cond b (y ∷ filter test ys) (filter test ys))) (keys_tie (key x) (key y) ∙ e)
-          ∙ tied x ys ∙ sym (step y ys (key x) false e)
+      go rest true e =
+          ap (λ b. map v (cond b (y ∷ filter test ys) (filter test ys))) (keys_tie (key x) (key y) ∙ e)
+          ∙ ap (λ l. v y ∷ l) rest ∙ sym (step y ys (key x) true e)
+      go rest false e =
+          ap (λ b. map v (cond b (y ∷ filter test ys) (filter test ys))) (keys_tie (key x) (key y) ∙ e)
+          ∙ rest ∙ sym (step y ys (key x) false e)
 
   -- lists that are seen alike, sorted by a key so that ties stay in order, are seen alike
   pub one_order : (xs xs' ys ys' : List X) → map v xs ≡ map v ys → IsSortedByKey key nat_cmp xs'
