@@ -21,6 +21,7 @@ abbrev pub kind_text : TakenAs → List ℕ
 kind_text taken.Keyword = codes "is a keyword of C"
 kind_text taken.KeywordOfCpp = codes "is a keyword of C++"
 kind_text taken.Macro = codes "is a macro of C's headers"
+kind_text taken.Number = codes "is a macro of C's headers"
 kind_text taken.CallMacro = codes "is a macro of C's headers"
 kind_text taken.Name = codes "is a name of C's headers"
 kind_text taken.Tag = codes "is a name of C's headers"

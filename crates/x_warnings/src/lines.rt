@@ -20,7 +20,7 @@ pub fn kind_text(kind: TakenAs) -> &'static str
     match kind {
         TakenAs::Keyword => "is a keyword of C",
         TakenAs::KeywordOfCpp => "is a keyword of C++",
-        TakenAs::Macro | TakenAs::CallMacro => "is a macro of C's headers",
+        TakenAs::Macro | TakenAs::Number | TakenAs::CallMacro => "is a macro of C's headers",
         TakenAs::Name | TakenAs::Tag | TakenAs::TaggedName => "is a name of C's headers",
         TakenAs::Parameter => "is a parameter of generated functions",
         TakenAs::Variable => "is a variable of generated functions",
