@@ -1,7 +1,7 @@
 -- Which names of a text clash in C (C11, 6.2.1, 6.2.3 and 6.10.3): two things have one name and meet, or C
 -- has the name already.
 use Rattle.std.specs.Prelude.{◌≡◌, ℕ, suc, Bool, true, false, not, ◌&&◌, List, [], ◌∷◌, ◌++◌, map, find}
-use Rattle.std.specs.Prelude.{Option, None, Some, option_and_then, option_map, IsPermutation}
+use Rattle.std.specs.Prelude.{Option, None, Some, codes, is_some, option_and_then, option_map, IsPermutation}
 use Rattle.std.specs.Prelude.{if◌then◌else◌}
 use Rattle.std.specs.List.Sorted.{IsSortedByKey, IsStableByKey}
 use Rattle.std.specs.Option.{option_or, option_to_list}
@@ -85,10 +85,17 @@ is_in_way taken.Parameter Tagged = true
 is_in_way taken.Parameter Plain = true
 is_in_way kind sort = false
 
+-- Whether C has a macro of the name that stands for the same number, spelled alike: so it may be defined
+-- again (6.10.3).
+abbrev pub has_number : (List ℕ → Option TakenAs) → List ℕ → Sort → Bool
+has_number taken name (Macro text) = is_some (taken (name ++ codes "=" ++ text))
+has_number taken name sort = false
+
 -- what C has the name for, if that is in the way
 abbrev pub rival_of_c : (List ℕ → Option TakenAs) → Given → Option Rival
 rival_of_c taken g =
-    option_and_then (λ kind. if is_in_way kind g.sort then Some (OfC kind) else None) (taken g.name)
+    option_and_then (λ kind. if is_in_way kind g.sort && not (has_number taken g.name g.sort)
+    then Some (OfC kind) else None) (taken g.name)
 
 -- ---- clashes
 

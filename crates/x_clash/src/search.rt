@@ -7,14 +7,14 @@ ghost use Rattle.x_trees.specs.View.{tree_at, view_definition};
 ghost use Rattle.x_trees.specs.Spell.{IsShort};
 ghost use Rattle.x_names.specs.Declarers.{AreShort};
 ghost use Rattle.x_taken.specs.TakenNames.{taken_in};
-ghost use Rattle.x_clash.specs.Clashes.{AreClashes, AreInOrder, Thing, clashes_behind, clashes_of, is_in_way};
-ghost use Rattle.x_clash.specs.Clashes.{rival_of_c, thing, things_of, twin_of};
+ghost use Rattle.x_clash.specs.Clashes.{AreClashes, AreInOrder, Thing, clashes_behind, clashes_of};
+ghost use Rattle.x_clash.specs.Clashes.{has_number, is_in_way, rival_of_c, thing, things_of, twin_of};
 ghost use Rattle.x_clash.specs.Table.{HasFirsts, firsts_in};
 ghost use Rattle.x_clash.specs.Views.{clash_at, view_all, view_clash, view_given, view_sort};
 
 use crate::clash::{Clash, Place, Rival};
 use crate::firsts::Firsts;
-use crate::given::{Given, Sort, kept};
+use crate::given::{Given, Sort, joined, kept};
 use crate::names::names_given;
 use indexmap::IndexMap;
 use std::alloc::Global;
@@ -39,14 +39,33 @@ fn is_in_way(kind: TakenAs, sort: &Sort) -> bool
     }
 }
 
-/// What C has a name for, if that is in the way.
-fn rival_of_c(taken: &Taken, given: &Given) -> Option<Rival>
-    ensures { result ≡ rival_of_c (taken_in taken.now) (view_given given.now) }
+/// Whether C has a macro of the name that stands for the same number, spelled alike.
+fn has_number(alloc: Global, taken: &Taken, name: &[u8], sort: &Sort) -> Result<bool, NoMemory>
+    ensures { IfOk result (λ has. has ≡ has_number (taken_in taken.now) name.now (view_sort sort.now)) }
 {
-    match taken.get(&given.name) {
-        Some(kind) if is_in_way(kind, &given.sort) => Some(Rival::OfC(kind)),
-        _ => None,
+    match sort {
+        Sort::Macro(text) => {
+            let with_number = joined(alloc, &[name, b"=", text])?;
+            Ok(taken.get(&with_number).is_some())
+        }
+        _ => Ok(false),
     }
+}
+
+/// What C has a name for, if that is in the way.
+fn rival_of_c(alloc: Global, taken: &Taken, given: &Given) -> Result<Option<Rival>, NoMemory>
+    ensures { IfOk result (λ rival. rival ≡ rival_of_c (taken_in taken.now) (view_given given.now)) }
+{
+    let Some(kind) = taken.get(&given.name) else {
+        return Ok(None);
+    };
+    if !is_in_way(kind, &given.sort) {
+        return Ok(None);
+    }
+    if has_number(alloc, taken, &given.name, &given.sort)? {
+        return Ok(None);
+    }
+    Ok(Some(Rival::OfC(kind)))
 }
 
 /// The other member of the same struct that has the name.
@@ -118,7 +137,8 @@ fn meet<'d>(
     };
     let firsts = firsts_in(table, &given.name);
     let met = firsts.met_by(&given.sort);
-    add_clash(alloc, found, &given.name, place, rival_of_c(taken, &given))?;
+    let of_c = rival_of_c(alloc, taken, &given)?;
+    add_clash(alloc, found, &given.name, place, of_c)?;
     add_clash(alloc, found, &given.name, place, twin_of(item, &given))?;
     add_clash(alloc, found, &given.name, place, rival_at(met))?;
     let after = firsts.with(&given.sort, place);

@@ -1,4 +1,4 @@
--- The names that C has already, and as what.
+-- The names that C has already, and as what; those of macros also with their numbers, as `SIGINT=2`.
 use Rattle.std.specs.Prelude.{ℕ, ◌==◌, Bool, List, [], ◌∷◌, Option, Some, None, map, if◌then◌else◌}
 use Rattle.std.specs.Borrow.{Bor}
 use Rattle.std.specs.List.{list_any, slice_split}

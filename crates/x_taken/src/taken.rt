@@ -5,8 +5,8 @@ ghost use Rattle.x_taken.specs.TakenNames.{entry_in, is_among, kind_in, taken_as
 ghost use Rattle.x_taken.specs.TakenNames.{view_lists, words};
 
 use crate::names::{
-    CALL_MACROS, KEYWORDS, KEYWORDS_OF_CPP, MACROS, NAME_COUNT, NAMES, PARAMETERS, TAGGED_NAMES,
-    TAGS, VARIABLES,
+    CALL_MACROS, KEYWORDS, KEYWORDS_OF_CPP, MACROS, NAME_COUNT, NAMES, NUMBERS, PARAMETERS,
+    TAGGED_NAMES, TAGS, VARIABLES,
 };
 use indexmap::IndexMap;
 use std::alloc::Global;
@@ -23,6 +23,9 @@ pub enum TakenAs {
     KeywordOfCpp,
     /// A macro without parameters, of the compiler or of the headers.
     Macro,
+    /// A macro without parameters, with `=` and the number that it stands for: `SIGINT=2`. By its name alone
+    /// it is a [`TakenAs::Macro`].
+    Number,
     /// A macro with parameters. None of these is a function besides.
     CallMacro,
     /// A type, a function, a variable or an enumerator of the headers, and no tag.
@@ -38,10 +41,11 @@ pub enum TakenAs {
 }
 
 /// The names of each kind, with a blank between two.
-const LISTS: [(TakenAs, &str); 9] = [
+const LISTS: [(TakenAs, &str); 10] = [
     (TakenAs::Keyword, KEYWORDS),
     (TakenAs::KeywordOfCpp, KEYWORDS_OF_CPP),
     (TakenAs::Macro, MACROS),
+    (TakenAs::Number, NUMBERS),
     (TakenAs::CallMacro, CALL_MACROS),
     (TakenAs::Name, NAMES),
     (TakenAs::Tag, TAGS),
@@ -50,8 +54,9 @@ const LISTS: [(TakenAs, &str); 9] = [
     (TakenAs::Variable, VARIABLES),
 ];
 
-/// The names that C has already. Those are left out that begin with two underscores, or with one and a
-/// capital letter: they are reserved (C11, section 7.1.3), and nobody gives such a name.
+/// The names that C has already; one of a macro that stands for a number also with that, as `SIGINT=2`. Names
+/// are left out that begin with two underscores, or with one and a capital letter: they are reserved (C11,
+/// section 7.1.3), and nobody gives such a name.
 #[derive(Drop)]
 pub struct Taken {
     table: KeyedTable<&'static [u8], TakenAs>,
@@ -71,7 +76,7 @@ impl Taken {
         })
     }
 
-    /// What C has the name for, if it has it.
+    /// What C has the name for, if it has it; or a macro with its number (`SIGINT=2`).
     pub fn get(&self, name: &[u8]) -> Option<TakenAs>
         ensures { result ≡ taken_in self.now name.now }
     {

@@ -40,8 +40,8 @@ returns-clause-found c things has =
     let kept = subst P (sym firsts) (has name) in
     told (taken_in c.args.taken.now) things t (map view_clash c.args.found.now.items)
     (map view_clash c.add_clash.new.found.items) (map view_clash c.add_clash-2.new.found.items)
-    (map view_clash c.add_clash-3.new.found.items) c.rival_of_c.result c.twin_of.result c.rival_at.result
+    (map view_clash c.add_clash-3.new.found.items) c.in_ok-of_c.of_c c.twin_of.result c.rival_at.result
     c.in_ok-add_clash.ensures c.in_ok-add_clash-2.ensures c.in_ok-add_clash-3.ensures
-    c.rival_of_c.ensures c.twin_of.ensures
+    c.in_ok-of_c.ensures c.twin_of.ensures
     (c.rival_at.ensures ∙ ap (option_map OfText)
     (c.met_by-met.ensures ∙ met_is name things c.firsts_in-firsts.result t.given.sort kept))
