@@ -4,8 +4,9 @@
     clash_texts.py TEXTS SEED    prints how often each kind of clash comes up
 
 Names come from small pools, one for each role, in which there are names that the texts give to C for others (`u_u`,
-`x_len`, `get_1`, `xdr_s`, `arg1`, `p_1_table`) and names that C has. How many names of a text are such ones is chosen
-for each text, so that there are texts without a clash, with a single one and with many.
+`x_len`, `get_1`, `xdr_s`, `arg1`, `p_1_table`) and names that C has, some of them as macros that stand for a number:
+these have that number in the text, in its spelling or another one, or another number. How many names of a text are such
+ones is chosen for each text, so that there are texts without a clash, with a single one and with many.
 """
 import collections
 import random
@@ -35,20 +36,25 @@ NASTY = {
     "version": "V V1 P Q GET N p_1_table x a s s_1 u_u x_val xdr_s TRUE",
     "procedure": "GET Get get get_1 XDR_S arg1 arg2 V N P x a s a_len u_u xdr_s S_1 TRUE NULL",
 }
-OF_C = ("register for asm typeof new class and unix linux MAXPATHLEN stdin xdr_getlong clnt_call xdr_rpcvers u_int"
+OF_C = ("register for asm typeof new class and MAXPATHLEN stdin xdr_getlong clnt_call xdr_rpcvers u_int"
         " int32_t int64_t bool_t FILE memset printf RPC_SUCCESS timeval sockaddr svc_req timezone rpcgen_table xdrs objp argp"
         " clnt clnt_res timeout getlong pointer u_long XDR cl_call cl_ops").split()
+# Names of macros that stand for a number in C; those of other roles have them less often.
+NUMBERED = "unix linux SIGHUP SIGINT SIGQUIT AUTH_SYS NC_VISIBLE RPC_ANYSOCK MAX_MACHINE_NAME".split()
+MACROS = "constant", "program", "version", "procedure"
 BASIC = "int|unsigned|unsigned int|long|unsigned long|hyper|unsigned hyper|float|double|bool".split("|")
 SIZES = range(1, 5)
 
 
 class Maker:
-    """Makes definitions as texts. `nasty` is how likely a name is one that meets others, `of_c` one that C has."""
+    """Makes definitions as texts. `nasty` is how likely a name is one that meets others, `of_c` one that C has, and
+    `of_number` that of a macro one that C has for a number."""
 
     def __init__(self, chance):
         self.chance = chance
         self.nasty = chance.choice([0, 0, 0.05, 0.1, 0.3, 0.6])
         self.of_c = chance.choice([0, 0, 0, 0.03, 0.1])
+        self.of_number = chance.choice([0, 0, 0, 0.05, 0.2])
         self.used = {"TRUE", "FALSE"}
         self.constants = []         # pairs of name and number
         self.types = []             # names that may be used by value
@@ -60,9 +66,11 @@ class Maker:
     # ------------------------------------------------------------ names
 
     def any_name(self, role):
+        if role in MACROS and self.chance.random() < self.of_number:
+            return self.chance.choice(NUMBERED)
         way = self.chance.random()
         if way < self.of_c:
-            return self.chance.choice(OF_C)
+            return self.chance.choice(OF_C + NUMBERED)
         if way < self.of_c + self.nasty:
             if self.given and self.chance.random() < 0.4:
                 return self.chance.choice(self.given)
@@ -92,6 +100,14 @@ class Maker:
         if number < 0:
             return str(number)
         return self.chance.choice([str(number)] * 4 + [f"0x{number:x}", f"0{number:o}"])
+
+    def number_of_c(self, name):
+        """Now and then the number that C has for a macro of the name, in that spelling or in another one."""
+        spelled = clashes.numbers_of_c().get(name.encode())
+        way = self.chance.random()
+        if spelled is None or way > 0.7:
+            return None
+        return spelled.decode() if way < 0.5 else self.spelled(rpclang.number_of(spelled))
 
     def value(self, numbers):
         """A number, or the name of a constant with one of these."""
@@ -200,8 +216,12 @@ class Maker:
         return self.type_definition()
 
     def constant(self):
-        name, number = self.declared("constant"), self.chance.randint(1, 6)
-        value = self.value([number])
+        name = self.declared("constant")
+        value, number = self.number_of_c(name), self.chance.randint(1, 6)
+        if value is None:
+            value = self.value([number])
+        else:
+            number = rpclang.number_of(value.encode())
         self.constants.append((name, number))
         return f"const {name} = {value};"
 
@@ -228,19 +248,21 @@ class Maker:
         name = self.declared("program")
         names, numbers = set(), set()
         versions = [self.version(name.lower(), names, numbers) for _ in range(self.chance.choice([1, 1, 2]))]
-        return f"program {name} {{ {' '.join(versions)} }} = {self.spelled(self.chance.randint(70, 75))};"
+        number = self.number_of_c(name) or self.spelled(self.chance.randint(70, 75))
+        return f"program {name} {{ {' '.join(versions)} }} = {number};"
 
     def numbered(self, role, names, numbers):
         """A name and a number that are free there."""
         name = self.name(role, lambda name: name not in names)
         names.add(name)
         number = self.chance.choice([number for number in range(1, 9) if number not in numbers][:2])
-        numbers.add(number)
-        return name, self.spelled(number)
+        number = self.number_of_c(name) or self.spelled(number)
+        numbers.add(rpclang.number_of(number.encode()))
+        return name, number
 
     def version(self, program, names, numbers):
         name, number = self.numbered("version", names, numbers)
-        decimal = int(number, 0 if number[1:2] == "x" else 8 if number[0] == "0" else 10)
+        decimal = rpclang.number_of(number.encode())
         self.given += [name, f"{program}_{decimal}_table", f"{program}_{decimal}_nproc"]
         inside = set(), set()
         procedures = [self.procedure(decimal, *inside) for _ in range(self.chance.choice([1, 1, 2, 3]))]

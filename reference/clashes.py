@@ -9,12 +9,14 @@ It is worked out from the rules of C (ISO/IEC 9899:2011) for what the four texts
   name too, by its typedef, so tags of a text meet where their ordinary names meet.
 - 6.2.1p4: in a function's body the parameters hide ordinary names of file scope, so a type or a constant with the
   name of a parameter is not to be seen there. A variable hides what is used before it in no text.
-- 6.10.3p1-2: a macro is defined again only with the same replacement; 6.10.3p9: its name is replaced wherever it
-  stands later, whatever it is there, a member too (5.1.1.2: that comes before all names are looked at).
+- 6.10.3p1-2: a macro, also one of the headers, is defined again only with the same replacement; 6.10.3p9: its name
+  is replaced wherever it stands later, whatever it is there, a member too (5.1.1.2: that comes before all names are
+  looked at).
 - 6.10.3p10: one with parameters is replaced only before a '(', which stands behind functions alone.
 - 6.4.1p2: keywords are reserved in all of that, and 7.1.3, 7.1.2p4: what headers declare is not declared again.
 
-The names that C has are those of the table of the crate x_taken.
+The names that C has are those of the table of the crate x_taken. What a macro of the headers stands for is there where
+that is one number.
 """
 import collections
 import functools
@@ -54,15 +56,27 @@ NAMES_OF_C = os.path.join(os.path.dirname(os.path.abspath(__file__)), "../crates
 
 
 @functools.lru_cache(None)
+def lists_of_c():
+    """The words of each constant of the table."""
+    with open(NAMES_OF_C, encoding="ascii") as file:
+        lists = re.findall(r'const (\w+): &str = "([^"]*)";', file.read())
+    return {constant: words.replace("\\\n", " ").encode().split() for constant, words in lists}
+
+
+@functools.lru_cache(None)
 def names_of_c():
     """Of each name that C has, the kind; that of the first list that has it."""
-    with open(NAMES_OF_C, encoding="ascii") as file:
-        lists = dict(re.findall(r'const (\w+): &str = "([^"]*)";', file.read()))
     kinds = {}
     for constant, taken in TAKEN.items():
-        for name in lists[constant].replace("\\\n", " ").split():
-            kinds.setdefault(name.encode(), taken)
+        for name in lists_of_c()[constant]:
+            kinds.setdefault(name, taken)
     return kinds
+
+
+@functools.lru_cache(None)
+def numbers_of_c():
+    """Of each macro that C has for one number, the spelling of that."""
+    return dict(word.split(b"=") for word in lists_of_c()["NUMBERS"])
 
 
 # ---------------------------------------------------------------- the things of a text
@@ -161,11 +175,18 @@ def first_met(thing, others):
     return next(iter(macros + at_file_scope + members), None)
 
 
+def is_in_way(taken, thing):
+    """Whether what C has a name for, if it has it, is in the way of a thing. A macro may be defined again as it is."""
+    if taken is None or thing.kind not in taken.meets:
+        return False
+    return thing.kind != MACRO or numbers_of_c().get(thing.name) != thing.of
+
+
 def met_by(thing, others):
     """What a thing meets, before which these have its name: the kind of name that C has, the other member of its
     struct, and the other thing."""
     taken = names_of_c().get(thing.name)
-    met = [taken.kind] if taken is not None and thing.kind in taken.meets else []
+    met = [taken.kind] if is_in_way(taken, thing) else []
     if thing.kind == MEMBER:
         met += [other for other in others if (other.kind, other.of) == (MEMBER, thing.of)][:1]
     other = first_met(thing, others)

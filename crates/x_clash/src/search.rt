@@ -62,12 +62,10 @@ fn rival_of_c(alloc: Global, taken: &Taken, given: &Given) -> Result<Option<Riva
     if !is_in_way(kind, &given.sort) {
         return Ok(None);
     }
-    let is_same = has_number(alloc, taken, &given.name, &given.sort)?;
-    Ok(if is_same {
-        None
-    } else {
-        Some(Rival::OfC(kind))
-    })
+    if has_number(alloc, taken, &given.name, &given.sort)? {
+        return Ok(None);
+    }
+    Ok(Some(Rival::OfC(kind)))
 }
 
 /// The other member of the same struct that has the name.
