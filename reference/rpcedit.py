@@ -9,6 +9,7 @@ import sys
 sys.dont_write_bytecode = True
 
 import before
+import clashes
 import explained
 import rpclang
 import texts
@@ -76,6 +77,8 @@ class Session:
         if line == b"explain":
             compilation = self.compiled()
             return b"explained %d\n" % len(compilation.faults) + explained.explanation(self.file, compilation)
+        if line == b"clashes":
+            return self.clashes()
         if line.decode("latin-1") in texts.KINDS:
             text = texts.text_of(line.decode(), self.base, self.compiled())
             return b"text %d\n" % len(text) + text
@@ -83,6 +86,13 @@ class Session:
             answer = self.dump(match[1], bytes.fromhex((match[2] or b"").decode()))
             return answer if answer.startswith(b"value") else self.refuse(answer)
         return self.refuse(b"refused 43 BadLine\n")
+
+    def clashes(self):
+        compilation = self.compiled()
+        if compilation.faults:
+            return self.refuse(b"refused 40 Faulty\n")
+        said = clashes.warnings(self.file, compilation)
+        return b"clashes %d\n" % said.count(b"\n") + said
 
     def dump(self, name, data):
         compilation = self.compiled()

@@ -2,8 +2,8 @@
 """rpcgen -c|-h|-l|-t [-o OUT] [OPTIONS] FILE: writes the routines, header, stubs or table of FILE, or its
 faults. rpcgen --check [OPTIONS] FILE..: writes the faults of each FILE.
 
-The OPTIONS are --explain, --plain, --known FILE, --c-types and --foreign. With --explain the names of a FILE
-without faults that clash in C are told too."""
+The OPTIONS are --explain, --plain, --strict, --known FILE, --c-types and --foreign. With --explain the names of
+a FILE without faults that clash in C are told too, and with --strict in place of the text."""
 import getopt
 import os
 import sys
@@ -43,6 +43,7 @@ class Opening:
     def __init__(self, options):
         names = [name for name, value in options]
         self.explains = "--explain" in names
+        self.is_strict = "--strict" in names
         self.from_c = "--c-types" in names, "--foreign" in names
         try:
             paths = [path for name, path in options if name == "--known"]
@@ -68,9 +69,19 @@ class Opening:
             sys.stderr.flush()
             os.write(2, clashes.warnings(os.fsencode(path), compilation))
 
+    def insist(self, path, compilation):
+        """Goes no further where clashes count as faults and there are some."""
+        said = clashes.warnings(os.fsencode(path), compilation) if self.is_strict else b""
+        if said:
+            sys.stderr.flush()
+            os.write(2, said)
+            raise rpcedit.Stop(1, None)
+
     def status_of(self, path):
         try:
-            self.warn(path, self.open(path))
+            compilation = self.open(path)
+            self.insist(path, compilation)
+            self.warn(path, compilation)
         except rpcedit.Stop as reason:
             return stopped(reason)
         return 0
@@ -87,7 +98,7 @@ def check(options, files):
 def run(words):
     try:
         options, files = getopt.gnu_getopt(
-            words, "chlto:", ["check", "explain", "plain", "known=", "c-types", "foreign"])
+            words, "chlto:", ["check", "explain", "plain", "strict", "known=", "c-types", "foreign"])
     except getopt.GetoptError as error:
         return stop(error)
     if "--check" in [name for name, value in options]:
@@ -101,6 +112,7 @@ def run(words):
     path = files[0]
     opening = Opening(options)
     compilation = opening.open(path)
+    opening.insist(path, compilation)
     try:
         out = open(outs[-1], "wb") if outs else rpcedit.standard_output()
     except OSError:

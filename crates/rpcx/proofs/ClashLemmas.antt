@@ -1,80 +1,122 @@
 -- The names of a text that clash, as they are told.
-use Rattle.std.proofs.Common.{◌≡◌, ◌<◌, ◌≤◌, ◌^◌, ℕ, List, [], ◌∷◌, ◌++◌, Option, Result, Ok, Err, Bool, false, nat_eq, true≢false, append_assoc, length, sym, ap, refl, subst, ◌∙◌, arith}
+use Rattle.std.proofs.Common.{◌≡◌, ◌<◌, ◌≤◌, ℕ, List, [], ◌∷◌, Bool, true, false, length, map, nat_eq, true≢false}
+use Rattle.std.proofs.Common.{arith, ap, refl, subst, sym, ◌∙◌}
+use Rattle.std.specs.Prelude.{IsTrue, MatchBool}
 use Rattle.std.specs.List.{flat_map}
-use Rattle.std.specs.Prelude.{OnOk}
 use Rattle.x_text.specs.Streams.{Stream}
-use Rattle.x_trees.specs.Tree.{Definition}
-use Rattle.x_names.specs.Declarers.{AreShort}
-use Rattle.x_compile.specs.Compile.{Item, definitions_of, tokens_of}
+use Rattle.x_compile.specs.Compile.{Item, faults_of}
 use Rattle.x_compile.specs.Known.{KnownText}
+use Rattle.x_declared.proofs.DeclaredLemmas.{of_each}
 use Rattle.x_session.specs.Session.{Compiles}
-use Rattle.x_declared.specs.DeclaredNames.{IsTableOf}
-use Rattle.x_declared.specs.declared.declared.DeclaredNames.{DeclaredNames}
-use Rattle.x_declared.proofs.DeclaredLemmas.{of_each, short_each, word_items}
-use Rattle.x_taken.specs.TakenNames.{taken_as}
-use Rattle.x_taken.specs.declared.taken.TakenAs.{TakenAs}
-use Rattle.x_clash.specs.Clashes.{AreClashes}
-use Rattle.x_clash.specs.declared.clash.Clash.{Clash}
 use Rattle.x_args.specs.Telling.{IsTold}
+use Rattle.x_warnings.specs.WarningLines.{warning_line}
+use Rattle.x_warnings.specs.Warnings.{AreWarnings, Warning}
+use Rattle.rpcx.specs.Generate.{TellsFaults}
 use Rattle.rpcx.specs.declared.files.opening.FaultStyle.{FaultStyle}
-use Rattle.rpcx.specs.Warnings.{AreClashLines, AreWarnings, IsPlain, IsSaid, clash_line, spots_in, spots_of}
-
--- the lines about clashes that are found by tables of a text
-pub lines_are : {known : KnownText} (file text : List ℕ) (definitions : List (Option Definition))
-    (taken : List ℕ → Option TakenAs) (found : List Clash) (table : DeclaredNames) (said : List ℕ) (count : ℕ)
-    → count < 2 ^ 64 → Compiles known text (λ items. count ≡ length (tokens_of items))
-    → Compiles known text (λ items. definitions ≡ definitions_of items)
-    → ((name : List ℕ) → taken name ≡ taken_as name)
-    → (AreShort definitions → AreClashes taken 0 [] definitions found)
-    → Compiles known text (λ items. IsTableOf text items table)
-    → said ≡ flat_map (clash_line file (spots_in table)) found
-    → Compiles known text (λ items. AreClashLines file text items said)
-lines_are file text definitions taken found table said count few tokens are same clash tabled is =
-    let items = are.1 in
-    let many = of_each text tokens are.0 items are.2 in
-    let le : length (tokens_of items) ≤ count = omega (arith, many) in
-    let short : AreShort definitions =
-    subst AreShort (sym are.3) (λ index d there. short_each items index d count are.2.are_parses le few there) in
-    let kinds : taken ≡ taken_as = λ i name. same name i in
-    let P : (List ℕ → Option TakenAs) → Type 0 = λ f. AreClashes f 0 [] definitions found in
-    let Q : List (Option Definition) → Type 0 = λ ds. AreClashes taken_as 0 [] ds found in
-    let table_is = of_each text tabled are.0 items are.2 in
-    let spots : spots_in table ≡ spots_of text items = λ i p. word_items text items table p.item p.word table_is i in (
-      are.0,
-      items,
-      are.2,
-      (
-        found,
-        subst Q are.3 (subst P kinds (clash short)),
-        is ∙ ap (λ s. flat_map (clash_line file s) found) spots,
-      ),
-    )
-
--- where faults are told one a line nothing is said of clashes
-pub plain_is_nothing : {known : KnownText} (style : FaultStyle) (file text said : List ℕ) → IsPlain style
-    → Compiles known text (λ items. AreWarnings style file text items said) → said ≡ []
-plain_is_nothing style file text said plain h = subst (λ s. AreWarnings s file text h.1 said) plain h.3
-
--- nothing is written where nothing is said
-pub said_nothing : (before : Stream) (said : List ℕ) → said ≡ [] → IsSaid before before said
-said_nothing before said none =
-    let P : List ℕ → Type 0 = λ l. IsSaid before before l in subst P (sym none) refl
-
-pub said_some : (before after : Stream) (said : List ℕ) → (said ≡ [] → ⊥) → IsTold before after said
-    → IsSaid before after said
-said_some before after [] some told = absurd (some refl)
-said_some before after (b ∷ bs) some told = told
-
-pub not_empty : (said : List ℕ) (is_empty : Bool) → is_empty ≡ nat_eq (length said) 0 → is_empty ≡ false → (said ≡ [] → ⊥)
-not_empty said is_empty is not none = true≢false (sym (ap (λ l. nat_eq (length l) 0) none) ∙ sym is ∙ not)
+use Rattle.rpcx.specs.declared.files.opening.FaultStyle.TheVariants.{Plain, Explained, Coloured}
+use Rattle.rpcx.specs.declared.files.opening.Opening.{Opening}
+use Rattle.rpcx.specs.Warnings.{AreTold, IsFaulty, IsGood, IsPlain, TellsClashes, TellsThem, are_faults, clashes}
+use Rattle.rpcx.specs.Warnings.{faults, tells_clashes}
 
 -- what holds of a compilation, by what does
 pub compiles_so : {known : KnownText} (text : List ℕ) {P Q : List Item → Type 0} → Compiles known text P
     → ((items : List Item) → P items → Q items) → Compiles known text Q
 compiles_so text h so = (h.0, h.1, h.2, so h.1 h.3)
 
--- what a call that went well adds
-pub adds_more : {T E : Type 0} (r : Result T E) (old mid new first second : List ℕ) → mid ≡ old ++ first
-    → OnOk r (new ≡ mid ++ second) → OnOk r (new ≡ old ++ (first ++ second))
-adds_more (Ok x) old mid new first second one two = two ∙ ap (λ l. l ++ second) one ∙ append_assoc old first second
-adds_more (Err e) old mid new first second one two = two
+on_true : (b : Bool) (P Q : Type 0) → b ≡ true → P → MatchBool b P Q
+on_true true P Q is p = p
+on_true false P Q is p = absurd (cc)
+
+on_false : (b : Bool) (P Q : Type 0) → b ≡ false → Q → MatchBool b P Q
+on_false true P Q is q = absurd (cc)
+on_false false P Q is q = q
+
+-- where clashes are told they are those of the text, and else there are none
+pub told_so : {known : KnownText} (strict : Bool) (style : FaultStyle) (text : List ℕ) (ws : List Warning)
+    → tells_clashes strict style ≡ true → Compiles known text (λ items. AreWarnings text items ws)
+    → Compiles known text (λ items. AreTold strict style text items ws)
+told_so strict style text ws is h =
+    compiles_so text h (λ items are. on_true (tells_clashes strict style) _ _ is are)
+
+pub untold_so : {known : KnownText} (strict : Bool) (style : FaultStyle) (text : List ℕ) (ws : List Warning)
+    (count : ℕ) → tells_clashes strict style ≡ false → ws ≡ []
+    → Compiles known text (λ items. count ≡ length items)
+    → Compiles known text (λ items. AreTold strict style text items ws)
+untold_so strict style text ws count is none h =
+    compiles_so text h (λ items many. on_false (tells_clashes strict style) _ _ is none)
+
+-- ---- what is written
+
+pub tells_none : (file : List ℕ) (before : Stream) (ws : List Warning) → ws ≡ []
+    → TellsThem file ws before before
+tells_none file before ws none =
+    let P : List Warning → Type 0 = λ l. TellsThem file l before before in subst P (sym none) refl
+
+pub tells_some : (file : List ℕ) (before after : Stream) (ws : List Warning) → (ws ≡ [] → ⊥)
+    → IsTold before after (flat_map (warning_line file) ws) → TellsThem file ws before after
+tells_some file before after [] some told = absurd (some refl)
+tells_some file before after (w ∷ ws) some told = told
+
+pub mapped_none : {X Y : Type 0} (f : X → Y) (xs : List X) → map f xs ≡ [] → xs ≡ []
+mapped_none f [] none = refl
+mapped_none f (x ∷ xs) none = absurd (cc)
+
+pub not_empty : {X : Type 0} (xs : List X) (is_empty : Bool) → is_empty ≡ nat_eq (length xs) 0
+    → is_empty ≡ false → (xs ≡ [] → ⊥)
+not_empty xs is_empty is not none = true≢false (sym (ap (λ l. nat_eq (length l) 0) none) ∙ sym is ∙ not)
+
+-- ---- what is made of it
+
+told_strictly : (style : FaultStyle) (text : List ℕ) (items : List Item) (ws : List Warning)
+    → AreTold true style text items ws → AreWarnings text items ws
+told_strictly Plain text items ws h = h
+told_strictly Explained text items ws h = h
+told_strictly Coloured text items ws h = h
+
+-- where clashes count as faults and there are some
+pub faulty_so : {known : KnownText} (strict : Bool) (style : FaultStyle) (file text : List ℕ)
+    (before after : Stream) (ws : List Warning) → are_faults strict ws ≡ true
+    → Compiles known text (λ items. AreTold strict style text items ws) → TellsThem file ws before after
+    → IsTrue strict × Compiles known text (λ items. TellsClashes file text items before after)
+faulty_so strict style file text before after [] is h told = absurd (true≢false (sym is))
+faulty_so true style file text before after (w ∷ ws) is h told =
+    let some : 0 < length (w ∷ ws) = omega arith in
+    (refl, compiles_so text h (λ items are. (w ∷ ws, told_strictly style text items (w ∷ ws) are, some, told)))
+faulty_so false style file text before after (w ∷ ws) is h told = absurd (true≢false (sym is))
+
+strictly : (strict : Bool) (ws : List Warning) → are_faults strict ws ≡ false → IsTrue strict → ws ≡ []
+strictly strict [] is so = refl
+strictly strict (w ∷ ws) is so = absurd (true≢false (sym so ∙ is))
+
+-- where they do not, or there are none
+pub good_so : {known : KnownText} (strict : Bool) (style : FaultStyle) (file text : List ℕ)
+    (before after : Stream) (ws : List Warning) → are_faults strict ws ≡ false
+    → Compiles known text (λ items. AreTold strict style text items ws) → TellsThem file ws before after
+    → Compiles known text (λ items. IsGood strict style file text items before after)
+good_so strict style file text before after ws is h told = compiles_so text h (λ items are.
+    record { warnings = ws; are_told = are; told = told; strictly = strictly strict ws is })
+
+-- where faults are told one a line a good text has none that are told
+pub plain_so : {known : KnownText} (strict : Bool) (style : FaultStyle) (text : List ℕ) (ws : List Warning)
+    → IsPlain style → are_faults strict ws ≡ false
+    → Compiles known text (λ items. AreTold strict style text items ws) → ws ≡ []
+plain_so true style text ws plain is h = strictly true ws is refl
+plain_so false style text ws plain is h = subst (λ s. AreTold false s text h.1 ws) plain h.3
+
+module _ {known : KnownText} (strict : Bool) (how : Opening) (file text : List ℕ) (before after : Stream) where
+  -- nothing is made of a text with faults
+  pub faults_so : Compiles known text (λ items. (0 < length (faults_of text items))
+      × TellsFaults how file text items before after)
+      → Compiles known text (λ items. IsFaulty strict how file text items before after)
+  faults_so h = compiles_so text h (λ items f. faults f.0 f.1)
+
+  -- nor of one with clashes, where they count as faults
+  pub clashes_so : IsTrue strict → Compiles known text (λ items. faults_of text items ≡ [])
+      → Compiles known text (λ items. TellsClashes file text items before after)
+      → Compiles known text (λ items. IsFaulty strict how file text items before after)
+  clashes_so counts none h = (
+    h.0,
+    h.1,
+    h.2,
+    clashes counts (of_each text none h.0 h.1 h.2) h.3,
+  )

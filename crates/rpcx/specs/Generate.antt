@@ -139,7 +139,8 @@ output_told args outputs.Refused = no_output_told args
 output_told args outputs.NoMemory = codes "rpcgen: out of memory\n"
 
 -- Why `rpcgen` does not write a generated text, as it tells it: its output is not opened; or what was opened
--- has failed, of which nothing is told where its reader has enough; or the output does not take the whole.
+-- has failed, of which nothing is told where its reader has enough; or the output does not take the whole; or
+-- memory ran out before that.
 pub data NotWritten (args : GenArgs) (HasFailed : (is_closed : Bool) → Type 0) (before after : Stream)
     : Type 0 where
   refused : (fault : OutputFault) → IsTold before after (output_told args fault)
@@ -148,6 +149,8 @@ pub data NotWritten (args : GenArgs) (HasFailed : (is_closed : Bool) → Type 0)
       → Complains is_closed before after (codes "rpcgen: output cannot be written\n")
       → NotWritten args HasFailed before after
   unkept : IsTold before after (no_output_told args) → NotWritten args HasFailed before after
+  no_room : IsTold before after (told_of (codes "rpcgen") (codes "out of memory"))
+      → NotWritten args HasFailed before after
 
 -- Why a run of `rpcgen` fails on a file's text that it can read, as it tells it: the text is not opened; or
 -- it has no fault, and what is generated of it is not written.

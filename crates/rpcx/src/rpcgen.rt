@@ -1,18 +1,18 @@
 //! What `rpcgen` does, over a text that was read and sinks.
 
-ghost use Rattle.std.specs.Prelude.{◌≡◌, ◌≢◌, ◌⊎◌, ◌<◌, [], false, not, codes, length, IsTrue, OnOk};
+ghost use Rattle.std.specs.Prelude.{◌≡◌, ◌≢◌, ◌⊎◌, ◌<◌, [], false, map, not, codes, length, IsTrue, OnOk};
 ghost use Rattle.std.specs.Prelude.{if◌then◌else◌};
 ghost use Rattle.std.specs.Io.KnownBytes.{Appends};
 ghost use Rattle.rpcx.specs.Generate.{IsFaultless, IsOpened, NotGenerated, NotWritten, base_of};
-ghost use Rattle.rpcx.specs.Generate.{TellsFaults, no_output_told, output_told};
+ghost use Rattle.rpcx.specs.Generate.{no_output_told, output_told};
 ghost use Rattle.rpcx.specs.Opening.{CompilesBy};
 ghost use Rattle.rpcx.specs.Outputs.{Holds, IsNamed};
-ghost use Rattle.rpcx.specs.Warnings.{IsPlain, IsSaid, Warns};
+ghost use Rattle.rpcx.specs.Warnings.{IsFaulty, IsGood, IsPlain, TellsClashes, TellsThem};
 ghost use Rattle.x_args.specs.Telling.{Complains, Grows, IsTold};
 ghost use Rattle.x_session.specs.Session.{Compiles};
-ghost use Rattle.x_compile.specs.Compile.{faults_of};
 ghost use Rattle.x_compile.specs.Generated.{text_of};
 ghost use Rattle.x_text.specs.Limits.{most_text};
+ghost use Rattle.x_warnings.specs.Warnings.{view_warning};
 
 mod checking;
 mod output;
@@ -23,10 +23,11 @@ pub use checking::{Screen, check_run};
 pub use output::{Output, OutputFault};
 use std::alloc::Global;
 use std::mem;
-use warnings::{say, warnings_of};
+use warnings::{are_faults, say, told_warnings};
 use x_args::{GenArgs, Status, complain_of_output, tell_of_file};
 use x_session::{Session, Which};
 use x_text::{NoMemory, Outlet, Sink};
+use x_warnings::Warning;
 
 /// Opens the text of a file for a run of `rpcgen`, or tells what is wrong with it and answers the status:
 /// `Faulty` where the text has faults, which are reported, and `Failed` where it, or what stands before it,
@@ -97,6 +98,7 @@ pub fn gen_write<O: Outlet, E: Sink>(
 ///
 /// The output is opened only where the text has no fault, and a whole text or nothing stands under its name
 /// that did not before. Where faults are explained, the names of the text that clash in C are told after it.
+/// Where clashes count as faults, `args.strict`, they are told in its place, and the status is `Faulty`.
 pub fn gen_run<O: Output, E: Sink>(
     alloc: Global,
     which: Which,
@@ -106,10 +108,8 @@ pub fn gen_run<O: Output, E: Sink>(
     output: &mut O,
     err: &mut E,
 ) -> Status
-    ensures faulty { result ≡ Status.Faulty
-        → CompilesBy how.now bytes.now
-        (λ items. (0 < length (faults_of bytes.now items))
-        × TellsFaults how.now args.now.file.now bytes.now items
+    ensures faulty { result ≡ Status.Faulty → CompilesBy how.now bytes.now (λ items.
+        IsFaulty args.now.strict how.now args.now.file.now bytes.now items
         (E.state err.old) (E.state err.new)) }
     ensures too_large { most_text < length bytes.now → result ≡ Status.Failed }
     ensures clean { result ≡ Status.Done → IsFaultless how.now bytes.now }
@@ -121,8 +121,8 @@ pub fn gen_run<O: Output, E: Sink>(
         (λ is_closed. (left : O.Opened) × IsTrue (O.Opened.state left).failed
         × (O.Opened.is_closed left ≡ is_closed))
         (E.state err.old) (E.state err.new) }
-    ensures warned { result ≡ Status.Done → CompilesBy how.now bytes.now
-        (λ items. Warns how.now.style args.now.file.now bytes.now items
+    ensures good { result ≡ Status.Done → CompilesBy how.now bytes.now (λ items.
+        IsGood args.now.strict how.now.style args.now.file.now bytes.now items
         (E.state err.old) (E.state err.new)) }
     ensures quiet { IsPlain how.now.style → result ≡ Status.Done → err.new ≡ err.old }
     ensures whole { result ≡ Status.Done
@@ -137,26 +137,68 @@ pub fn gen_run<O: Output, E: Sink>(
         Ok(session) => session,
         Err(status) => return status,
     };
-    let said = match warnings_of(alloc, how, args.file, &session) {
-        Ok(said) => said,
-        Err(NoMemory) => {
-            tell_of_file("rpcgen", "out of memory", "\n", err);
-            return Status::Failed;
-        }
-    };
-    let status = write_and_say(which, args, &session, &said, output, err);
+    let status = write_checked(alloc, which, args, how, &session, output, err);
     // The process ends next, and gives all memory back at once.
     mem::forget(session);
     status
 }
 
-/// Opens the output and writes a generated text, and then says this on `err`; and answers the status:
-/// `Failed` where the output cannot be opened or fails, which it tells.
+/// Writes what is asked for of a text without faults, and tells its names that clash in C as they are to be
+/// told, and answers the status: `Faulty` where they count as faults and there are some, which are told
+/// alone, and `Failed` where the text could not be written, which it tells.
+fn write_checked<O: Output, E: Sink>(
+    alloc: Global,
+    which: Which,
+    args: &GenArgs,
+    how: &Opening,
+    session: &Session,
+    output: &mut O,
+    err: &mut E,
+) -> Status
+    ensures faulty { result ≡ Status.Faulty → IsTrue args.now.strict
+        × Compiles session.now.known session.now.text (λ items. TellsClashes args.now.file.now
+        session.now.text items (E.state err.old) (E.state err.new)) }
+    ensures good { result ≡ Status.Done → Compiles session.now.known session.now.text (λ items.
+        IsGood args.now.strict how.now.style args.now.file.now session.now.text items
+        (E.state err.old) (E.state err.new)) }
+    ensures quiet { IsPlain how.now.style → result ≡ Status.Done → err.new ≡ err.old }
+    ensures written { result ≡ Status.Done → (opened : O.Opened) × (left : O.Opened)
+        × Compiles session.now.known session.now.text
+        (λ items. Appends (O.Opened.state opened).bytes (O.Opened.state left).bytes
+        (text_of which session.now.base items)) }
+    ensures failed { result ≡ Status.Failed → NotWritten args.now
+        (λ is_closed. (left : O.Opened) × IsTrue (O.Opened.state left).failed
+        × (O.Opened.is_closed left ≡ is_closed))
+        (E.state err.old) (E.state err.new) }
+    ensures whole { result ≡ Status.Done
+        → Compiles session.now.known session.now.text
+        (λ items. Holds (O.standing output.old) (O.standing output.new)
+        (text_of which session.now.base items)) }
+    ensures as_it_was { result ≢ Status.Done → O.standing output.new ≡ O.standing output.old }
+    ensures untouched { result ≡ Status.Faulty → output.new ≡ output.old }
+    ensures tidy { O.has_draft output.old ≡ false → O.has_draft output.new ≡ false }
+{
+    let list = match told_warnings(alloc, how, args.strict, session) {
+        Ok(list) => list,
+        Err(NoMemory) => {
+            tell_of_file("rpcgen", "out of memory", "\n", err);
+            return Status::Failed;
+        }
+    };
+    if are_faults(args.strict, &list) {
+        say(args.file, &list, err);
+        return Status::Faulty;
+    }
+    write_and_say(which, args, session, &list, output, err)
+}
+
+/// Opens the output and writes a generated text, and then tells these names that clash; and answers the
+/// status: `Failed` where the output cannot be opened or fails, which it tells.
 fn write_and_say<O: Output, E: Sink>(
     which: Which,
     args: &GenArgs,
     session: &Session,
-    said: &[u8],
+    list: &[Warning],
     output: &mut O,
     err: &mut E,
 ) -> Status
@@ -169,8 +211,9 @@ fn write_and_say<O: Output, E: Sink>(
         (λ is_closed. (left : O.Opened) × IsTrue (O.Opened.state left).failed
         × (O.Opened.is_closed left ≡ is_closed))
         (E.state err.old) (E.state err.new) }
-    ensures said { result ≡ Status.Done → IsSaid (E.state err.old) (E.state err.new) said.now }
-    ensures quiet { said.now ≡ [] → result ≡ Status.Done → err.new ≡ err.old }
+    ensures said { result ≡ Status.Done → TellsThem args.now.file.now (map view_warning list.now)
+        (E.state err.old) (E.state err.new) }
+    ensures quiet { list.now ≡ [] → result ≡ Status.Done → err.new ≡ err.old }
     ensures whole { result ≡ Status.Done
         → Compiles session.now.known session.now.text
         (λ items. Holds (O.standing output.old) (O.standing output.new)
@@ -180,7 +223,7 @@ fn write_and_say<O: Output, E: Sink>(
 {
     match write_output(which, args, session, output, err) {
         Status::Done => {
-            say(said, err);
+            say(args.file, list, err);
             Status::Done
         }
         Status::Faulty => Status::Faulty,

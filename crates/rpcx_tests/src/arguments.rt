@@ -16,6 +16,7 @@ fn sweep_reading(rt: HostRuntime) -> Result<(), Fail> {
         output: None,
         explains: false,
         plain: false,
+        strict: false,
         before: nothing(rt.alloc()),
         file: "t.x",
     };

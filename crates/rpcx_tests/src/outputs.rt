@@ -55,6 +55,7 @@ fn header_args(alloc: Global) -> GenArgs<'static> {
         output: Some("t.h"),
         explains: false,
         plain: false,
+        strict: false,
         before: nothing(alloc),
         file: "t.x",
     }

@@ -34,6 +34,7 @@ fn two_letters(alloc: Global) -> GenArgs<'static> {
         output: None,
         explains: false,
         plain: false,
+        strict: false,
         before: nothing(alloc),
         file: "t.x",
     }

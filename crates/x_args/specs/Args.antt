@@ -85,6 +85,10 @@ explain_rule = request_rule (codes "explain") (codes "explain") SetTrue
 abbrev pub plain_rule : Rule
 plain_rule = request_rule (codes "plain") (codes "plain") SetTrue
 
+-- `--strict`
+abbrev pub strict_rule : Rule
+strict_rule = request_rule (codes "strict") (codes "strict") SetTrue
+
 -- `--known FILE`, as often as one likes
 abbrev pub known_rule : Rule
 known_rule =
@@ -123,10 +127,14 @@ with_letters app =
 abbrev pub lettered_app : App
 lettered_app = with_rule (with_letters (plain_app (codes "rpcgen"))) output_rule
 
--- `rpcgen [--help] [--version] [-c] [-h] [-l] [-t] [-o OUT] [--explain] [--plain]
+-- how faults and clashes of names are reported, behind what a command knows
+abbrev pub with_reports : App → App
+with_reports app = with_rule (with_rule (with_rule app explain_rule) plain_rule) strict_rule
+
+-- `rpcgen [--help] [--version] [-c] [-h] [-l] [-t] [-o OUT] [--explain] [--plain] [--strict]
 -- [--known FILE].. [--c-types] [--foreign] FILE`
 unfoldable pub gen_app : App
-gen_app = with_rule (with_before (with_rule (with_rule lettered_app explain_rule) plain_rule)) file_rule
+gen_app = with_rule (with_before (with_reports lettered_app)) file_rule
 
 -- `--check`
 abbrev pub check_rule : Rule
@@ -136,12 +144,11 @@ check_rule = request_rule (codes "check") (codes "check") SetTrue
 abbrev pub files_rule : Rule
 files_rule = record (new_rule (codes "file")) { action = Some Append; required = true }
 
--- `rpcgen [--help] [--version] --check [--explain] [--plain]
+-- `rpcgen [--help] [--version] --check [--explain] [--plain] [--strict]
 -- [--known FILE].. [--c-types] [--foreign] FILE..`
 unfoldable pub check_app : App
 check_app = with_rule
-    (with_before (with_rule (with_rule
-    (with_rule (plain_app (codes "rpcgen")) check_rule) explain_rule) plain_rule)) files_rule
+    (with_before (with_reports (with_rule (plain_app (codes "rpcgen")) check_rule))) files_rule
 
 -- one of the words is `--check`, and stands before each `--`
 unfoldable pub has_check : List Text → Bool
@@ -249,6 +256,7 @@ pub record IsGenArgs (rows : List Row) (args : GenArgs) : Type 0 where
   pub output : option_map (λ s. s.now) args.output ≡ first_of (codes "output") rows
   pub explains : args.explains ≡ is_in_words (codes "explain") rows
   pub plain : args.plain ≡ is_in_words (codes "plain") rows
+  pub strict : args.strict ≡ is_in_words (codes "strict") rows
   pub before : IsBeforeArgs rows args.before
   pub file : Some args.file.now ≡ first_of (codes "file") rows
 
@@ -256,6 +264,7 @@ pub record IsGenArgs (rows : List Row) (args : GenArgs) : Type 0 where
 pub record IsCheckArgs (rows : List Row) (args : CheckArgs) : Type 0 where
   pub explains : args.explains ≡ is_in_words (codes "explain") rows
   pub plain : args.plain ≡ is_in_words (codes "plain") rows
+  pub strict : args.strict ≡ is_in_words (codes "strict") rows
   pub before : IsBeforeArgs rows args.before
   pub files : Some (map (λ s. s.now) args.files.items) ≡ all_of (codes "file") rows
   pub some : 0 < length args.files.items

@@ -18,6 +18,8 @@ pub struct CheckArgs<'a> {
     pub explains: bool,
     /// `--plain`: they are not, also on a terminal.
     pub plain: bool,
+    /// `--strict`: a text with names that clash in C counts as one with faults.
+    pub strict: bool,
     /// `--known FILE`, `--c-types`, `--foreign`: what stands before each text.
     pub before: BeforeArgs<'a>,
     /// The files whose texts are checked, in their order.
@@ -58,6 +60,7 @@ pub fn check_args<'a, S: AsStr>(alloc: Global, words: &'a [S]) -> Result<CheckAr
     Ok(CheckArgs {
         explains: is_given(&matches, "explain"),
         plain: is_given(&matches, "plain"),
+        strict: is_given(&matches, "strict"),
         before: before_args(alloc, &matches)?,
         files: files.to_vec(alloc)?,
     })
@@ -72,6 +75,7 @@ fn check_command<'a>(alloc: Global) -> Result<Command<'a>, AllocError>
         .arg(request(alloc, "check", "check", ArgAction::SetTrue))?
         .arg(request(alloc, "explain", "explain", ArgAction::SetTrue))?
         .arg(request(alloc, "plain", "plain", ArgAction::SetTrue))?
+        .arg(request(alloc, "strict", "strict", ArgAction::SetTrue))?
         .arg(known(alloc))?
         .arg(request(alloc, "c_types", "c-types", ArgAction::SetTrue))?
         .arg(request(alloc, "foreign", "foreign", ArgAction::SetTrue))?

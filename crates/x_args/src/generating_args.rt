@@ -31,6 +31,8 @@ pub struct GenArgs<'a> {
     pub explains: bool,
     /// `--plain`: they are not, also on a terminal.
     pub plain: bool,
+    /// `--strict`: a text with names that clash in C is not written.
+    pub strict: bool,
     /// `--known FILE`, `--c-types`, `--foreign`: what stands before the text.
     pub before: BeforeArgs<'a>,
     /// FILE: the text that is read.
@@ -54,6 +56,7 @@ pub fn gen_args<'a, S: AsStr>(alloc: Global, words: &'a [S]) -> Result<GenArgs<'
         output: matches.get_str("output"),
         explains: is_given(&matches, "explain"),
         plain: is_given(&matches, "plain"),
+        strict: is_given(&matches, "strict"),
         before: before_args(alloc, &matches)?,
         file: matches.get_str("file").unwrap(),
     })
@@ -72,6 +75,7 @@ fn gen_command<'a>(alloc: Global) -> Result<Command<'a>, AllocError>
         .arg(valued(alloc, "output", 'o', "OUT"))?
         .arg(request(alloc, "explain", "explain", ArgAction::SetTrue))?
         .arg(request(alloc, "plain", "plain", ArgAction::SetTrue))?
+        .arg(request(alloc, "strict", "strict", ArgAction::SetTrue))?
         .arg(known(alloc))?
         .arg(request(alloc, "c_types", "c-types", ArgAction::SetTrue))?
         .arg(request(alloc, "foreign", "foreign", ArgAction::SetTrue))?

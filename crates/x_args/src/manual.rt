@@ -33,8 +33,8 @@ reports what is wrong with it on standard error.
   --foreign     take names that nobody declares as types or constants of C
   --explain     show each fault with its line and a hint, as on a terminal
   --plain       report one fault a line, also on a terminal
-  --help        show this text
-  --version     show the version
+  --strict      names that clash in C are faults: report them, write nothing
+  --help        show this text; --version shows the version
 
 Give exactly one of -c, -h, -l, -t and --check. With #include, run cpp first.
 
@@ -57,6 +57,7 @@ standard input, one a line and in order. FILE itself is never changed.
   definitions           list the definitions
   faults                list the faults and their places
   explain               print what rpcgen --explain says of them
+  clashes               list names that clash in C, of a text without faults
   header, routines, stubs, table
                         print what rpcgen -h, -c, -l or -t writes
   dump TYPE [HEX]       print the value of TYPE that these bytes encode

@@ -16,6 +16,7 @@ pub mod NumberMeant
 pub mod OneAnswer
 pub mod OneBefore
 pub mod OneDump
+pub mod OneClash
 pub mod OneExplanation
 pub mod OneShowing
 pub mod ReadFiles

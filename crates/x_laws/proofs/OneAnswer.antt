@@ -19,15 +19,17 @@ use Rattle.x_prelude.specs.Leading.{AreLed, IsForeignUse, IsForeignUseBy, declar
 use Rattle.x_prelude.specs.Leading.{not_taken, undeclared}
 use Rattle.x_prelude.specs.declared.definition.FromC.{FromC}
 use Rattle.x_script.specs.Answers.{Answer, answer, answered, refused}
-use Rattle.x_script.specs.Commands.{command_of, dump_asked, explain_asked}
+use Rattle.x_script.specs.Clashing.{IsClashAnswer, clashes_answer}
+use Rattle.x_script.specs.Clashing as clashing
+use Rattle.x_script.specs.Commands.{clashes_asked, command_of, dump_asked, explain_asked}
 use Rattle.x_script.specs.declared.script.command.Command.{Command}
 use Rattle.x_compile.specs.Compile.{Item, definitions_of, faults_of}
 use Rattle.x_compile.specs.Known.{KnownText, known_names}
 use Rattle.x_session.specs.Typed.{all_definitions}
 use Rattle.x_script.specs.Explaining.{IsExplainAnswer, explained_answer, telling_of}
 use Rattle.x_script.specs.LineAnswers as answers
-use Rattle.x_script.specs.LineAnswers.{IsCommandAnswer, IsDumped, IsLineAnswer, IsShownBy, alone, asks, explains}
-use Rattle.x_script.specs.LineAnswers.{hidden, leads, read, shows, stands, too_long, within}
+use Rattle.x_script.specs.LineAnswers.{IsCommandAnswer, IsDumped, IsLineAnswer, IsShownBy, alone, asks, clashes}
+use Rattle.x_script.specs.LineAnswers.{explains, hidden, leads, read, shows, stands, too_long, within}
 use Rattle.x_script.specs.Refusals.{unknown_line}
 use Rattle.x_script.specs.Situations.{How, Over}
 use Rattle.x_script.specs.Script.{AreAnswered, then_answer}
@@ -37,6 +39,7 @@ use Rattle.x_compile.proofs.Compiled.{one_compilation}
 use Rattle.x_laws.specs.Showing.{ShowsAlike}
 use Rattle.x_explain.specs.Explained.{AreExplained}
 use Rattle.x_laws.proofs.OneBefore.{AreSame, one_before, one_known, over_other, same_names}
+use Rattle.x_laws.proofs.OneClash.{one_warnings}
 use Rattle.x_laws.proofs.OneExplanation.{one_explanation}
 use Rattle.x_laws.proofs.OneShowing.{types_show}
 
@@ -118,6 +121,25 @@ one_explained how text items a b h k =
 -- it asks to show no value
 explains_no_value : (line : List ℕ) → explain_asked line ≡ true → dump_asked line ≡ None
 explains_no_value line is = ap dump_asked ((bytes_eq-Decides line (codes "explain")).0 is)
+
+-- ---- a line that asks for names that clash
+
+one_clash : (how : How) (text : List ℕ) (items : List Item) (a b : Answer) → IsClashAnswer how text items a
+    → IsClashAnswer how text items b → a ≡ b
+one_clash how text items a b (clashing.faulty p e) (clashing.faulty q f) = e ∙ sym f
+one_clash how text items a b (clashing.faulty p e) (clashing.faultless ws none are f) =
+    absurd (none_left (faults_of text items) p none)
+one_clash how text items a b (clashing.faultless ws none are e) (clashing.faulty q f) =
+    absurd (none_left (faults_of text items) q none)
+one_clash how text items a b (clashing.faultless ws none are e) (clashing.faultless others none' are' f) =
+    e ∙ ap (λ l. answered text (clashes_answer how.file l)) (one_warnings text items ws others are are') ∙ sym f
+
+-- it asks for nothing else
+clashes_no_value : (line : List ℕ) → clashes_asked line ≡ true → dump_asked line ≡ None
+clashes_no_value line is = ap dump_asked ((bytes_eq-Decides line (codes "clashes")).0 is)
+
+clashes_no_reason : (line : List ℕ) → clashes_asked line ≡ true → explain_asked line ≡ false
+clashes_no_reason line is = ap explain_asked ((bytes_eq-Decides line (codes "clashes")).0 is)
 
 -- ---- a line
 
@@ -242,14 +264,17 @@ one_dumped how text name message a b (read is e) (read is' f) = one_over how tex
 
 pub one_line : (how : How) (text line : List ℕ) (a b : Answer) → IsLineAnswer how text line a
     → IsLineAnswer how text line b → a ≡ b
-one_line how text line a b (within x none unasked e) (within y none' unasked' f) =
+one_line how text line a b (within x none unasked free e) (within y none' unasked' free' f) =
     one_command how text (command_of line) a b e f
-one_line how text line a b (within x none unasked e) (shows name message y asked f) =
+one_line how text line a b (within x none unasked free e) (shows name message y asked f) =
     absurd (asked_none (dump_asked line) (name, message) none asked)
-one_line how text line a b (within x none unasked e) (explains y is f) =
+one_line how text line a b (within x none unasked free e) (explains y is f) =
     absurd (both_ways (explain_asked line) is unasked)
-one_line how text line a b (within x none unasked e) (too_long y f) = absurd (too_much (length line) _ x y)
-one_line how text line a b (shows name message x asked e) (within y none unasked f) =
+one_line how text line a b (within x none unasked free e) (clashes y is f) =
+    absurd (both_ways (clashes_asked line) is free)
+one_line how text line a b (within x none unasked free e) (too_long y f) =
+    absurd (too_much (length line) _ x y)
+one_line how text line a b (shows name message x asked e) (within y none unasked free f) =
     absurd (asked_none (dump_asked line) (name, message) none asked)
 one_line how text line a b (shows name message x asked e) (shows name' message' y asked' f) =
     let same = asked_both (dump_asked line) name name' message message' asked asked' in
@@ -257,20 +282,36 @@ one_line how text line a b (shows name message x asked e) (shows name' message' 
     (subst (λ n. IsDumped how text n message' a) same.0 (subst (λ m. IsDumped how text name m a) same.1 e)) f
 one_line how text line a b (shows name message x asked e) (explains y is f) =
     absurd (asked_none (dump_asked line) (name, message) (explains_no_value line is) asked)
+one_line how text line a b (shows name message x asked e) (clashes y is f) =
+    absurd (asked_none (dump_asked line) (name, message) (clashes_no_value line is) asked)
 one_line how text line a b (shows name message x asked e) (too_long y f) =
     absurd (too_much (length line) _ x y)
-one_line how text line a b (explains x is e) (within y none unasked f) =
+one_line how text line a b (explains x is e) (within y none unasked free f) =
     absurd (both_ways (explain_asked line) is unasked)
 one_line how text line a b (explains x is e) (shows name message y asked f) =
     absurd (asked_none (dump_asked line) (name, message) (explains_no_value line is) asked)
 one_line how text line a b (explains x is e) (explains y is' f) = one_over how text
     (λ known items. IsExplainAnswer how text items a) (λ known items. IsExplainAnswer how text items b) a b
     (λ k l items same p q. one_explained how text items a b p q) e f
+one_line how text line a b (explains x is e) (clashes y is' f) =
+    absurd (both_ways (explain_asked line) is (clashes_no_reason line is'))
 one_line how text line a b (explains x is e) (too_long y f) = absurd (too_much (length line) _ x y)
-one_line how text line a b (too_long x e) (within y none unasked f) = absurd (too_much (length line) _ y x)
+one_line how text line a b (clashes x is e) (within y none unasked free f) =
+    absurd (both_ways (clashes_asked line) is free)
+one_line how text line a b (clashes x is e) (shows name message y asked f) =
+    absurd (asked_none (dump_asked line) (name, message) (clashes_no_value line is) asked)
+one_line how text line a b (clashes x is e) (explains y is' f) =
+    absurd (both_ways (explain_asked line) is' (clashes_no_reason line is))
+one_line how text line a b (clashes x is e) (clashes y is' f) = one_over how text
+    (λ known items. IsClashAnswer how text items a) (λ known items. IsClashAnswer how text items b) a b
+    (λ k l items same p q. one_clash how text items a b p q) e f
+one_line how text line a b (clashes x is e) (too_long y f) = absurd (too_much (length line) _ x y)
+one_line how text line a b (too_long x e) (within y none unasked free f) =
+    absurd (too_much (length line) _ y x)
 one_line how text line a b (too_long x e) (shows name message y asked f) =
     absurd (too_much (length line) _ y x)
 one_line how text line a b (too_long x e) (explains y is f) = absurd (too_much (length line) _ y x)
+one_line how text line a b (too_long x e) (clashes y is f) = absurd (too_much (length line) _ y x)
 one_line how text line a b (too_long x e) (too_long y f) = e ∙ sym f
 
 -- ---- a script

@@ -1,4 +1,5 @@
 pub mod AskedLines
+pub mod ClashingLemmas
 pub mod CommandLemmas
 pub mod DefinitionLemmas
 pub mod ExplainingLemmas

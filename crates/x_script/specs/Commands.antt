@@ -61,6 +61,10 @@ command_of line = asked_by (words_of line)
 abbrev pub explain_asked : List ℕ → Bool
 explain_asked line = bytes_eq line (codes "explain")
 
+-- the line asks for the names that clash in C
+abbrev pub clashes_asked : List ℕ → Bool
+clashes_asked line = bytes_eq line (codes "clashes")
+
 -- a type's name and a message, if they are asked for
 abbrev pub asked_if : Bool → List ℕ → List ℕ → Option (List ℕ × List ℕ)
 asked_if is name message = if is then Some (name, message) else None

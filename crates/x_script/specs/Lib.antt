@@ -1,4 +1,5 @@
 pub mod Answers
+pub mod Clashing
 pub mod Commands
 pub mod Explaining
 pub mod Giving

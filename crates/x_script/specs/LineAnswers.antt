@@ -3,7 +3,8 @@ use Rattle.std.specs.Prelude.{◌≡◌, ◌<◌, ◌≤◌, ℕ, true, false, L
 use Rattle.x_declared.specs.declared.declared.Spot.{Spot}
 use Rattle.x_prelude.specs.Leading.{IsForeignUse}
 use Rattle.x_script.specs.Answers.{Answer, answer, refused, refused_by}
-use Rattle.x_script.specs.Commands.{command_of, dump_asked, explain_asked}
+use Rattle.x_script.specs.Clashing.{IsClashAnswer}
+use Rattle.x_script.specs.Commands.{clashes_asked, command_of, dump_asked, explain_asked}
 use Rattle.x_compile.specs.Compile.{Item, faults_of}
 use Rattle.x_compile.specs.Known.{KnownText}
 use Rattle.x_script.specs.Explaining.{IsExplainAnswer}
@@ -42,17 +43,20 @@ pub data IsDumped (how : How) (text name message : List ℕ) (a : Answer) : Type
   read : how.is_plain ≡ true → Over how text (λ known items. IsShownBy how known text items name message a)
       → IsDumped how text name message a
 
--- A line is answered so: it may ask to show a value or to explain the faults, or be any other command; or it
--- is too long.
+-- A line is answered so: it may ask to show a value, to explain the faults or for names that clash, or be any
+-- other command; or it is too long.
 pub data IsLineAnswer (how : How) (text line : List ℕ) (a : Answer) : Type 0 where
   within : length line ≤ most_line → dump_asked line ≡ None → explain_asked line ≡ false
-      → IsCommandAnswer how text (command_of line) a
+      → clashes_asked line ≡ false → IsCommandAnswer how text (command_of line) a
       → IsLineAnswer how text line a
   shows : (name message : List ℕ) → length line ≤ most_line → dump_asked line ≡ Some (name, message)
       → IsDumped how text name message a
       → IsLineAnswer how text line a
   explains : length line ≤ most_line → explain_asked line ≡ true
       → Over how text (λ known items. IsExplainAnswer how text items a)
+      → IsLineAnswer how text line a
+  clashes : length line ≤ most_line → clashes_asked line ≡ true
+      → Over how text (λ known items. IsClashAnswer how text items a)
       → IsLineAnswer how text line a
   too_long : most_line < length line → a ≡ refused_by text LongLine
       → IsLineAnswer how text line a

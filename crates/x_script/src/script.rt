@@ -16,13 +16,15 @@ ghost use Rattle.x_text.specs.Engines.{NamesCause};
 ghost use Rattle.x_lines.specs.Lines.{FailsBy};
 
 mod answer;
+mod clashing;
 mod command;
 mod explaining;
 mod refusal;
 mod showing;
 
 use answer::{add_counted, add_definitions, add_faults, add_text, add_tokens};
-use command::asks_to_explain;
+use clashing::answer_clashes;
+use command::{asks_for_clashes, asks_to_explain};
 pub use command::{Command, Insert, dump_words, parse_command};
 use explaining::answer_explained;
 use refusal::LineRefusal;
@@ -219,6 +221,9 @@ fn answer_line<S: Sink>(
     }
     if asks_to_explain(line) {
         return answer_explained(alloc, text, file, pen, sink);
+    }
+    if asks_for_clashes(line) {
+        return answer_clashes(alloc, text, file, pen, sink);
     }
     let command = parse_command(alloc, line)?;
     carry_out(text, &command, pen, sink)

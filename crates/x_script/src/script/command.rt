@@ -6,7 +6,8 @@ ghost use Rattle.std.specs.List.{list_all};
 ghost use Rattle.std.specs.Str.Parse.{digits_value};
 ghost use Rattle.x_script.specs.Commands.{edit_by, command_of, words_of, one_word, edit_of};
 ghost use Rattle.x_lines.specs.Numbers.{is_number};
-ghost use Rattle.x_script.specs.Commands.{is_hex, bytes_of, asked_if, dump_by, dump_asked, explain_asked};
+ghost use Rattle.x_script.specs.Commands.{is_hex, bytes_of, asked_if, clashes_asked, dump_by, dump_asked};
+ghost use Rattle.x_script.specs.Commands.{explain_asked};
 
 use memchr::memchr;
 use std::alloc::Global;
@@ -109,6 +110,13 @@ pub(crate) fn asks_to_explain(line: &[u8]) -> bool
     ensures { result ≡ explain_asked line.now }
 {
     line == b"explain".as_slice()
+}
+
+/// Whether a line asks for the names that clash in C.
+pub(crate) fn asks_for_clashes(line: &[u8]) -> bool
+    ensures { result ≡ clashes_asked line.now }
+{
+    line == b"clashes".as_slice()
 }
 
 /// The type and the digits that the words behind `dump` name.

@@ -62,6 +62,7 @@ returns-clause-reads g c =
     record {
       explains = c.is_given.ensures ∙ ap (is_in_words (codes "explain")) rows;
       plain = c.is_given-2.ensures ∙ ap (is_in_words (codes "plain")) rows;
+      strict = c.is_given-3.ensures ∙ ap (is_in_words (codes "strict")) rows;
       before = subst (λ rows. IsBeforeArgs rows c.in_ok-before_args.field-0) rows c.in_ok-before_args.ensures;
       files = read ∙ values_are found (codes "file") _ rows;
       some = subst (λ n. 0 < n) (length-map c.in_ok-to_vec.field-0.items (λ s. s.now)) some;

@@ -27,6 +27,7 @@ returns-clause-reads g c =
       output = c.get_str.ensures ∙ value_is found (codes "output") _ rows;
       explains = c.is_given-5.ensures ∙ ap (is_in_words (codes "explain")) rows;
       plain = c.is_given-6.ensures ∙ ap (is_in_words (codes "plain")) rows;
+      strict = c.is_given-7.ensures ∙ ap (is_in_words (codes "strict")) rows;
       before = subst (λ rows. IsBeforeArgs rows c.in_ok-before_args.field-0) rows c.in_ok-before_args.ensures;
       file = ap (option_map (λ s. s.now)) (sym c.unwrap.ensures) ∙ c.get_str-2.ensures ∙ value_is found (codes "file") _ rows;
     }

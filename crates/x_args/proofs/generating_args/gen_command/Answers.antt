@@ -15,14 +15,16 @@ returns-clause-app c =
     let five = c.in_ok-arg-5.ensures.shape c.valued.ensures.fits.1 ∙ ap₂ with_rule four c.valued.ensures.rule in
     let six = c.in_ok-arg-6.ensures.shape c.request.ensures.fits.1 ∙ ap₂ with_rule five c.request.ensures.rule in
     let seven = c.in_ok-arg-7.ensures.shape c.request-2.ensures.fits.1 ∙ ap₂ with_rule six c.request-2.ensures.rule in
-    let eight = c.in_ok-arg-8.ensures.shape c.known.ensures.fits.1
-    ∙ ap₂ with_rule seven c.known.ensures.rule in
-    let nine = c.in_ok-arg-9.ensures.shape c.request-3.ensures.fits.1
-    ∙ ap₂ with_rule eight c.request-3.ensures.rule in
+    let eight = c.in_ok-arg-8.ensures.shape c.request-3.ensures.fits.1
+    ∙ ap₂ with_rule seven c.request-3.ensures.rule in
+    let nine = c.in_ok-arg-9.ensures.shape c.known.ensures.fits.1
+    ∙ ap₂ with_rule eight c.known.ensures.rule in
     let ten = c.in_ok-arg-10.ensures.shape c.request-4.ensures.fits.1
     ∙ ap₂ with_rule nine c.request-4.ensures.rule in
-    IfOk-weaker c.arg-11.result _ _
-    (λ r h. h.shape c.file.ensures.fits.1 ∙ ap₂ with_rule ten c.file.ensures.rule) c.arg-11.ensures
+    let eleven = c.in_ok-arg-11.ensures.shape c.request-5.ensures.fits.1
+    ∙ ap₂ with_rule ten c.request-5.ensures.rule in
+    IfOk-weaker c.arg-12.result _ _
+    (λ r h. h.shape c.file.ensures.fits.1 ∙ ap₂ with_rule eleven c.file.ensures.rule) c.arg-12.ensures
 
 pub returns-clause-file : goal.returns-clause-file
 returns-clause-file c =
@@ -34,13 +36,15 @@ returns-clause-file c =
     let five = chain_on _ _ _ c.valued.result (codes "output") four c.in_ok-arg-5.ensures c.valued.ensures.fits (ap id c.valued.ensures.rule) in
     let six = chain_on _ _ _ c.request.result (codes "explain") five c.in_ok-arg-6.ensures c.request.ensures.fits (ap id c.request.ensures.rule) in
     let seven = chain_on _ _ _ c.request-2.result (codes "plain") six c.in_ok-arg-7.ensures c.request-2.ensures.fits (ap id c.request-2.ensures.rule) in
-    let eight = chain_on _ _ _ c.known.result (codes "known") seven c.in_ok-arg-8.ensures c.known.ensures.fits
-    (ap id c.known.ensures.rule) in
-    let nine = chain_on _ _ _ c.request-3.result (codes "c_types") eight c.in_ok-arg-9.ensures
+    let eight = chain_on _ _ _ c.request-3.result (codes "strict") seven c.in_ok-arg-8.ensures
     c.request-3.ensures.fits (ap id c.request-3.ensures.rule) in
-    let ten = chain_on _ _ _ c.request-4.result (codes "foreign") nine c.in_ok-arg-10.ensures
+    let nine = chain_on _ _ _ c.known.result (codes "known") eight c.in_ok-arg-9.ensures c.known.ensures.fits
+    (ap id c.known.ensures.rule) in
+    let ten = chain_on _ _ _ c.request-4.result (codes "c_types") nine c.in_ok-arg-10.ensures
     c.request-4.ensures.fits (ap id c.request-4.ensures.rule) in
-    IfOk-weaker c.arg-11.result _ _
-    (λ r h. last_has _ _ r c.file.result (codes "file") ten h c.file.ensures.fits c.file.ensures.value
+    let eleven = chain_on _ _ _ c.request-5.result (codes "foreign") ten c.in_ok-arg-11.ensures
+    c.request-5.ensures.fits (ap id c.request-5.ensures.rule) in
+    IfOk-weaker c.arg-12.result _ _
+    (λ r h. last_has _ _ r c.file.result (codes "file") eleven h c.file.ensures.fits c.file.ensures.value
     (ap id c.file.ensures.rule) refl)
-    c.arg-11.ensures
+    c.arg-12.ensures

@@ -3,5 +3,5 @@ use Rattle.rpcx.proofs.Checking.{firsts}
 use Rattle.rpcx.proofs.rpcgen.checking.check_run.Given as goal
 
 abbrev pub invariant-loop-file : goal.invariant-loop-file
-invariant-loop-file g l = AreChecked l.how (firsts l.file-index l.file-items)
+invariant-loop-file g l = AreChecked l.args.strict l.how (firsts l.file-index l.file-items)
     (g.E.Sink.state l.initial.err) (g.E.Sink.state l.err) l.status

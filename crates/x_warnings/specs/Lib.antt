@@ -1,0 +1,2 @@
+pub mod WarningLines
+pub mod Warnings
