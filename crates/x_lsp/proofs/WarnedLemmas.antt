@@ -37,13 +37,13 @@ warned_more c uri shown text found i none ds here lt are is =
     (warned_behind c uri shown text (map view_warning (take i found)) (view_warning w) ds here are is)
 
 -- what holds by a test, where it comes out so
-pub if_passed : {P Q : Type 0} (b : Bool) → b ≡ true → P → MatchBool b P Q
-if_passed true is p = p
-if_passed false is p = absurd (cc)
+pub if_passed : (P Q : Type 0) (b : Bool) → b ≡ true → P → MatchBool b P Q
+if_passed P Q true is p = p
+if_passed P Q false is p = absurd (cc)
 
-pub if_failed : {P Q : Type 0} (b : Bool) → b ≡ false → Q → MatchBool b P Q
-if_failed true is q = absurd (cc)
-if_failed false is q = q
+pub if_failed : (P Q : Type 0) (b : Bool) → b ≡ false → Q → MatchBool b P Q
+if_failed P Q true is q = absurd (cc)
+if_failed P Q false is q = q
 
 -- what follows where a result is good
 pub on_ok : {X E P Q : Type 0} (r : Result X E) → OnOk r P → (P → Q) → OnOk r Q

@@ -3,8 +3,9 @@ use Rattle.std.specs.Prelude.{option_map}
 use Rattle.std.specs.Option.{option_to_list}
 use Rattle.std.proofs.lemmas.List.{take_all}
 use Rattle.x_warnings.specs.Warnings.{view_warning}
+use Rattle.x_warnings.specs.declared.warning.Warning as rust
 use Rattle.x_published.specs.Published.{data_of}
-use Rattle.x_published.specs.Warned.{AreWarned}
+use Rattle.x_published.specs.Warned.{AreWarned, IsWarnedAt}
 use Rattle.x_lsp.proofs.WarnedLemmas.{warned_more}
 use Rattle.x_lsp.proofs.warned_names.add_found.Goals as goal
 
@@ -13,11 +14,18 @@ loop-warning-init c = ([], refl, sym (append-nil (map data_of c.args.list.now.it
 
 pub loop-warning-preserved : goal.loop-warning-preserved
 loop-warning-preserved c =
+    let client = c.args.client in
+    let uri = c.args.uri.now in
+    let shown = c.args.shown.now in
+    let text = c.args.text.now in
     let inv = c.loop-warning.invariant in
+    let w = c.warning-item.result in
     let here = option_to_list (option_map data_of c.in_ok-diagnostic.diagnostic) in (
       inv.0 ++ here,
-      warned_more c.args.client c.args.uri.now c.args.shown.now c.args.text.now c.args.found.now
-          c.loop-warning.warning-index _ inv.0 here c.loop-warning-test.true inv.1 c.in_ok-diagnostic.ensures,
+      warned_more client uri shown text c.args.found.now c.loop-warning.warning-index w inv.0 here
+          c.loop-warning-test.true inv.1
+          (subst (λ (v : rust.Warning). IsWarnedAt client uri shown text (view_warning v) v.spot here)
+          c.warning-item.is c.in_ok-diagnostic.ensures),
       c.in_ok-add_some.ensures ∙ ap (λ l. l ++ here) inv.2
           ∙ append_assoc (map data_of c.args.list.now.items) inv.0 here,
     )

@@ -17,7 +17,7 @@ returns-then-not-is_searched c =
       count.0,
       count.1,
       count.2,
-      ([], if_failed _ failed refl, sym (append-nil (map data_of c.args.list.now.items))),
+      ([], if_failed _ _ _ failed refl, sym (append-nil (map data_of c.args.list.now.items))),
     )
 
 pub returns : goal.returns
@@ -40,7 +40,7 @@ returns c =
       count.2,
       (
         added.0,
-        if_passed _ passed (names, of_each text c.in_ok-found.ensures count.0 count.1 count.2, told),
+        if_passed _ _ _ passed (names, of_each text c.in_ok-found.ensures count.0 count.1 count.2, told),
         added.2,
       ),
     ))
