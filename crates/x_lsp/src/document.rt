@@ -131,7 +131,8 @@ impl OpenDocument {
             (IsCompiled self.new.files.items self.new.blanks self.new.shown self.new.compiled) }
         ensures client { self.new.client ≡ self.old.client }
         ensures uri { self.new.uri ≡ self.old.uri }
-        ensures standing { ground_with self.new.files.items self.new.compiled.from_c self.new.blanks self.new.warns
+        ensures standing { ground_with self.new.files.items self.new.compiled.from_c self.new.blanks
+            self.new.warns
             ≡ ground_with self.old.files.items self.old.compiled.from_c self.old.blanks self.old.warns }
     {
         let changed = apply_changes(alloc, &mut self.shown, &mut self.marks, changes);

@@ -21,8 +21,8 @@ use x_warnings::{Warning, warnings};
 /// with each change.
 const MOST_WARNED: usize = 262_144;
 
-/// Adds a warning for each name of a text that clashes in C: of a text without a fault, that is not too large,
-/// if the client wants that.
+/// Adds a warning for each name of a text that clashes in C: of a text without a fault that is not too
+/// large, if the client wants that.
 pub(crate) fn add_warnings<'d>(
     alloc: Global,
     client: Client,
