@@ -19,6 +19,7 @@ import sys
 sys.dont_write_bytecode = True
 
 import before
+import clashes
 import directives
 import explained
 import rpcedit
@@ -30,10 +31,14 @@ INNER = bytes(range(0x80, 0xc0))
 # How many units a character counts, by what a client and a server agree on.
 WIDTHS = {"utf-8": lambda character: len(character.encode()), "utf-16": lambda character: 1 + (character > "\uffff")}
 GREATEST_TEXT = 16_777_216
+# Names that clash in C are looked for in texts up to this size.
+GREATEST_WARNED = 262_144
 INVALID_PARAMS = -32602
 CAPABILITIES = {"textDocumentSync": {"openClose": True, "change": 2}}
 # Duplicate and RepeatedField.
 TWICE = (20, 32)
+# Duplicate, LateName, NotType, NotConst and UsesFaulty say how their word is declared.
+OF_DECLARERS = (20, 22, 23, 24, 37)
 UNREAD = "14 Directive: not read: both branches of #if are"
 
 
@@ -94,25 +99,26 @@ def changed(text, change, encoding):
 # ---------------------------------------------------------------- how a text is compiled
 
 class Setting:
-    """What is known before a text, whether C's types and other names are left to C, and whether lines of cpp
-    are blanked."""
+    """What is known before a text, whether C's types and other names are left to C, whether lines of cpp are
+    blanked, and whether names that clash in C are told."""
 
-    def __init__(self, known=rpclang.NOTHING, types=False, foreigners=False, blanks=True):
+    def __init__(self, known=rpclang.NOTHING, types=False, foreigners=False, blanks=True, warns=True):
         # A server keeps no places of known files.
         self.known = known._replace(places={})
-        self.types, self.foreigners, self.blanks = types, foreigners, blanks
+        self.types, self.foreigners, self.blanks, self.warns = types, foreigners, blanks, warns
 
     def chosen(self, options):
         """What a client's `initializationOptions` make of it."""
         if not isinstance(options, dict):
             return self
         types, foreigners = options.get("cTypes"), options.get("foreign")
-        way = options.get("directives")
+        way, warns = options.get("directives"), options.get("warnings")
         return Setting(
             self.known,
             types if isinstance(types, bool) else self.types,
             foreigners if isinstance(foreigners, bool) else self.foreigners,
-            way == "blank" if way in ("blank", "fault") else self.blanks)
+            way == "blank" if way in ("blank", "fault") else self.blanks,
+            warns if isinstance(warns, bool) else self.warns)
 
     @functools.lru_cache(rpclang.KEPT_TEXTS)
     def compiled(self, text):
@@ -143,11 +149,29 @@ def sentence(compilation, fault):
     return said if suggested is None else f"{said}; did you mean '{suggested.decode()}'?"
 
 
-def diagnostic(lines, compilation, fault):
+def related(lines, uri, token, said):
+    """What is told with a fault or a warning of another place that matters to it; nothing where there is none, or where
+    the client shows none."""
+    if uri is None or token is None:
+        return {}
+    return {"relatedInformation": [{"location": {"uri": uri, "range": lines.range(token)}, "message": said}]}
+
+
+def declared_elsewhere(compilation, fault):
+    """The token that declares the name of a fault first, if the fault says how that is declared; None where it is the
+    fault's own."""
+    if fault.code not in OF_DECLARERS:
+        return None
+    token = definition(compilation, explained.name_of(compilation, fault))
+    return None if token == compilation.items[fault.item][fault.token] else token
+
+
+def diagnostic(lines, uri, compilation, fault):
     token = compilation.items[fault.item][fault.token]
     name = rpclang.CODE_NAMES[fault.code]
     said = f"{fault.code} {name}: {sentence(compilation, fault)}"
-    return {"code": fault.code, "message": said, "severity": 1, "source": "rpcgen", "range": lines.range(token)}
+    return {"code": fault.code, "message": said, "severity": 1, "source": "rpcgen", "range": lines.range(token),
+            **related(lines, uri, declared_elsewhere(compilation, fault), "first declared here")}
 
 
 def hint(lines, start, end):
@@ -190,13 +214,34 @@ def foreign_hint(lines, token):
             "range": lines.range(token)}
 
 
-def diagnostics(lines, setting):
+def warning(lines, uri, compilation, clash):
+    """What is told of a name that clashes in C, with the line of the other thing as the client counts it, from 1."""
+    other = None
+    if isinstance(clash.other, str):
+        said = clashes.SAID[clash.other]
+    else:
+        item, word = clash.other
+        other = compilation.items[item][word]
+        said = f"has two meanings in C; the other is in line {lines.place(other.start)['line'] + 1}"
+    return {"message": f"'{clash.name.decode()}' {said}", "severity": 2, "source": "rpcgen",
+            "range": lines.range(compilation.items[clash.item][clash.word]),
+            **related(lines, uri, other, "the other one is here")}
+
+
+def warnings(lines, uri, setting, compilation):
+    if not setting.warns or compilation.faults or len(lines.bytes) > GREATEST_WARNED:
+        return []
+    return [warning(lines, uri, compilation, clash) for clash in clashes.clashes_of(compilation)]
+
+
+def diagnostics(lines, uri, setting):
+    """All that is published of a text, with other places of this document if the client shows them."""
     compilation = setting.compiled(lines.bytes)
-    told = [diagnostic(lines, compilation, fault) for fault in told_faults(lines, setting, compilation)]
+    told = [diagnostic(lines, uri, compilation, fault) for fault in told_faults(lines, setting, compilation)]
     if setting.blanks:
         told += [hint(lines, *places) for places in directives.conditionals(lines.bytes)]
     told += [foreign_hint(lines, compilation.items[item][place]) for item, place in compilation.foreign]
-    return told
+    return told + warnings(lines, uri, setting, compilation)
 
 
 def names_of(compilation):
@@ -256,8 +301,8 @@ SHOWN = note("window/showMessage", {"type": 1, "message": ""})
 class Server:
     """Says what is said to one message after another."""
 
-    def __init__(self, encoding, setting=Setting()):
-        self.encoding, self.setting = encoding, setting
+    def __init__(self, encoding, setting=Setting(), shows_related=False):
+        self.encoding, self.setting, self.shows_related = encoding, setting, shows_related
         self.documents = {}
 
     def reply(self, message):
@@ -274,7 +319,8 @@ class Server:
     def published(self, document):
         return note("textDocument/publishDiagnostics", {
             "uri": document.uri, "version": document.version,
-            "diagnostics": diagnostics(Text(document.text, self.encoding), self.setting)})
+            "diagnostics": diagnostics(Text(document.text, self.encoding), document.uri if self.shows_related else None,
+                                       self.setting)})
 
     def open(self, uri, params):
         document = params["textDocument"]
@@ -352,7 +398,8 @@ def begun(setting, params):
     """The server that `initialize` with these parameters begins."""
     offered = params["capabilities"].get("general", {}).get("positionEncodings", [])
     encoding = "utf-8" if "utf-8" in offered else "utf-16"
-    return Server(encoding, setting.chosen(params.get("initializationOptions")))
+    shown = params["capabilities"].get("textDocument", {}).get("publishDiagnostics", {})
+    return Server(encoding, setting.chosen(params.get("initializationOptions")), shown.get("relatedInformation", False))
 
 
 def answers(setting, messages):

@@ -27,6 +27,7 @@ fn run(rt: &HostRuntime) -> Result<Status, Status> {
             foreign: args.before.foreign,
         },
         blanks: !args.faults_directives,
+        warns: true,
     };
     let hash_key = draw_key(rt, "rpcls", &mut err)?;
     let mut input = In::new(rt.stdin());

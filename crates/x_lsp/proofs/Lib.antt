@@ -3,3 +3,4 @@ pub mod HintLemmas
 pub mod ListLemmas
 pub mod SaidLemmas
 pub mod ServingLemmas
+pub mod WarnedLemmas

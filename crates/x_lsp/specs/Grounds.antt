@@ -1,4 +1,4 @@
--- On what the documents of an editor are compiled.
+-- On what the documents of an editor are compiled, and of what it is warned.
 use Rattle.std.specs.Prelude.{ℕ, Bool, List, [], ◌++◌, codes, if◌then◌else◌}
 use Rattle.std.specs.List.{flat_map}
 use Rattle.x_compile.specs.Compile.{Item}
@@ -8,17 +8,20 @@ use Rattle.x_prelude.specs.Before.{CompilesBy}
 use Rattle.x_prelude.specs.declared.definition.FromC.{FromC}
 use Rattle.x_lsp.specs.declared.setting.Setting.{Setting}
 
--- the text of the known files, the names of C that a text may use, and whether the lines of cpp are blanked
+-- the text of the known files, the names of C that a text may use, whether the lines of cpp are blanked, and
+-- whether names that clash in C are published
 pub record Ground : Type 0 where
   pub files : List ℕ
   pub from : FromC
   pub blanks : Bool
+  pub warns : Bool
 
 abbrev pub ground_of : Setting → Ground
-ground_of s = record { files = s.files.now; from = s.from_c; blanks = s.blanks }
+ground_of s = record { files = s.files.now; from = s.from_c; blanks = s.blanks; warns = s.warns }
 
-abbrev pub ground_with : (files : List ℕ) → FromC → (blanks : Bool) → Ground
-ground_with files from blanks = record { files = files; from = from; blanks = blanks }
+abbrev pub ground_with : (files : List ℕ) → FromC → (blanks warns : Bool) → Ground
+ground_with files from blanks warns =
+    record { files = files; from = from; blanks = blanks; warns = warns }
 
 -- what is compiled of a text that a client has
 abbrev pub compiled_of : (blanks : Bool) → List ℕ → List ℕ

@@ -1,7 +1,7 @@
 //! What is published of a text's faults.
 
 ghost use Rattle.std.specs.List.{before_first};
-ghost use Rattle.std.specs.Prelude.{◌≡◌, ◌==◌, ◌≤◌, ◌++◌, ℕ, List, IfOk, codes, option_map};
+ghost use Rattle.std.specs.Prelude.{◌≡◌, ◌==◌, ◌≤◌, ◌++◌, ℕ, List, IfOk, codes};
 ghost use Rattle.std.specs.Prelude.{length, string_bytes, map, OnOk};
 ghost use Rattle.serde_json.specs.Data.{Data};
 ghost use Rattle.serde_json.specs.View.{view};
@@ -11,22 +11,23 @@ ghost use Rattle.x_session.specs.Session.{Compiles};
 ghost use Rattle.x_declared.specs.Foreign.{view_all};
 ghost use Rattle.x_directives.specs.Conditionals.{conditionals};
 ghost use Rattle.x_published.specs.Diagnostics.{AreDiagnostics, AreForeignHints, closing_data};
-ghost use Rattle.x_published.specs.Diagnostics.{diagnostic_data, fault_number, hint_data, related_data};
-ghost use Rattle.x_published.specs.Published.{data_of, place_data};
+ghost use Rattle.x_published.specs.Diagnostics.{diagnostic_data, fault_number, hint_data};
+ghost use Rattle.x_published.specs.Published.{data_of};
 ghost use Rattle.x_lsp.specs.Publishing.{IsPublishedOf};
 ghost use Rattle.x_told.specs.Telling.{told_of};
 ghost use Rattle.x_positions.specs.Waymarks.{AreWaymarks};
 
+use crate::warned_names::add_warnings;
 use serde_json::json;
 use std::alloc::{AllocError, Global};
 use x_declared::ForeignName;
 use x_directives::conditionals;
 use x_explain::token_end;
 use x_frames::note;
-use x_positions::{Marker, Range, Waymarks};
+use x_positions::{Marker, Waymarks};
 use x_published::{
-    Client, Diagnostic, FaultMessages, OtherPlaces, Place, Severity, branch_message,
-    foreign_message, published_text,
+    Client, Diagnostic, FaultMessages, Message, OtherPlaces, Severity, branch_message,
+    foreign_message, place_of, published_text,
 };
 use x_session::Session;
 use x_text::NoMemory;
@@ -40,11 +41,13 @@ pub struct Hints<'n> {
     pub blanks: bool,
     /// The names that the text takes from C.
     pub foreign: &'n [ForeignName<'n>],
+    /// Whether names are told that clash in C.
+    pub warns: bool,
 }
 
 /// The note that publishes the faults of a document: of what is compiled of its text, which is shown, by
-/// waymarks of that and by the messages of those that were published before; and hints. Keeps these faults
-/// among the waymarks, and their messages.
+/// waymarks of that and by the messages of those that were published before; hints; and the names that clash
+/// in C. Keeps these faults among the waymarks, and their messages.
 pub fn publish(
     alloc: Global,
     client: Client,
@@ -59,8 +62,8 @@ pub fn publish(
     requires marks { AreWaymarks shown.now marks.old }
     requires encoding { marks.old.encoding ≡ client.encoding }
     ensures said { IfOk result (λ said. Compiles session.now.known session.now.text (λ items.
-        IsPublishedOf client uri.now version hints.now.blanks (view_all hints.now.foreign.now) shown.now
-        session.now.text items said.items)) }
+        IsPublishedOf client uri.now version hints.now.blanks hints.now.warns
+        (view_all hints.now.foreign.now) shown.now session.now.text items said.items)) }
     ensures marks { AreWaymarks shown.now marks.new }
     ensures encoding { marks.new.encoding ≡ marks.old.encoding }
 {
@@ -87,6 +90,16 @@ pub fn publish(
         hints.foreign,
         &mut list,
     )?;
+    add_warnings(
+        alloc,
+        client,
+        uri,
+        hints.warns,
+        shown,
+        session,
+        marks,
+        &mut list,
+    )?;
     let (said, list) = published_text(alloc, uri, version, list)?;
     messages.keep(list);
     marks.keep_faults(marker.list);
@@ -107,7 +120,7 @@ fn add_hints(
     for place in &conditionals(alloc, shown)? {
         list.push(Diagnostic {
             severity: Severity::Hint,
-            message: branch_message(alloc)?,
+            message: Message::OfFault(branch_message(alloc)?),
             range: marks.range(shown, place.start, place.end),
             related: None,
         })?;
@@ -133,7 +146,7 @@ fn add_foreign_hints(
         let start = name.spot.start;
         list.push(Diagnostic {
             severity: Severity::Hint,
-            message: foreign_message(alloc, name.name)?,
+            message: Message::OfFault(foreign_message(alloc, name.name)?),
             range: marks.range(shown, start, token_end(text, start)),
             related: None,
         })?;
@@ -181,26 +194,16 @@ fn diagnostics<'d>(
         marker.mark_place(start, range.start)?;
         let word = word_at(text, start, fault.end);
         let other = others.range(alloc, fault.code, word, start)?;
-        let related = place_of(uri, other);
+        let related = place_of(uri, other, "first declared here");
         others.make(alloc, fault.code)?;
         let known = others.known(fault.code, start, word);
         let message = messages.next(alloc, fault.code, &known)?;
         list.push(Diagnostic {
             severity: Severity::Error,
-            message,
+            message: Message::OfFault(message),
             range,
             related,
         })?;
     }
     Ok(list)
-}
-
-/// A range of a document.
-fn place_of(uri: &str, range: Option<Range>) -> Option<Place<'_>>
-    ensures { option_map place_data result ≡ option_map (related_data uri.now) range }
-{
-    match range {
-        Some(range) => Some(Place { uri, range }),
-        None => None,
-    }
 }

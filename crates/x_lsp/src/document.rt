@@ -40,6 +40,8 @@ pub(crate) struct OpenDocument {
     files: Vec<u8>,
     /// Whether the lines of cpp are blanked in what is compiled.
     blanks: bool,
+    /// Whether names that clash in C are published.
+    warns: bool,
     /// What is compiled of it.
     pub(crate) compiled: FollowedText,
     /// Places of the text near which others are found.
@@ -68,7 +70,7 @@ impl OpenDocument {
         ensures uri { IfOk result (λ d. string_bytes d.uri ≡ uri.now) }
         ensures version { IfOk result (λ d. d.version ≡ version) }
         ensures standing { IfOk result
-            (λ d. ground_with d.files.items d.compiled.from_c d.blanks ≡ ground_of setting.now) }
+            (λ d. ground_with d.files.items d.compiled.from_c d.blanks d.warns ≡ ground_of setting.now) }
         ensures text { IfOk result (λ d. d.shown ≡ text.now) }
         ensures followed { IfOk result (λ d. IsCompiled d.files.items d.blanks d.shown d.compiled) }
     {
@@ -90,6 +92,7 @@ impl OpenDocument {
             shown,
             files,
             blanks: setting.blanks,
+            warns: setting.warns,
             compiled,
             marks,
             messages: FaultMessages::new(alloc),
@@ -102,7 +105,7 @@ impl OpenDocument {
     /// of step.
     pub(crate) fn change(&mut self, alloc: Global, version: i64, changes: &[TextChange]) -> Reply
         ensures says { Publishes self.old.client (string_bytes self.old.uri) version
-            (ground_with self.old.files.items self.old.compiled.from_c self.old.blanks)
+            (ground_with self.old.files.items self.old.compiled.from_c self.old.blanks self.old.warns)
             (changed_by_all self.old.client.encoding self.old.shown changes.now) (said_of result) }
         ensures note { IsToNotification (said_of result) }
     {
@@ -129,7 +132,8 @@ impl OpenDocument {
         ensures client { self.new.client ≡ self.old.client }
         ensures uri { self.new.uri ≡ self.old.uri }
         ensures standing { ground_with self.new.files.items self.new.compiled.from_c self.new.blanks
-            ≡ ground_with self.old.files.items self.old.compiled.from_c self.old.blanks }
+            self.new.warns
+            ≡ ground_with self.old.files.items self.old.compiled.from_c self.old.blanks self.old.warns }
     {
         let changed = apply_changes(alloc, &mut self.shown, &mut self.marks, changes);
         let followed = follow_text(
@@ -152,8 +156,8 @@ impl OpenDocument {
     pub(crate) fn publish(&mut self, alloc: Global) -> Reply
         requires { IsCompiled self.old.files.items self.old.blanks self.old.shown self.old.compiled }
         ensures says { Publishes self.old.client (string_bytes self.old.uri) self.old.version
-            (ground_with self.old.files.items self.old.compiled.from_c self.old.blanks) self.old.shown
-            (said_of result) }
+            (ground_with self.old.files.items self.old.compiled.from_c self.old.blanks self.old.warns)
+            self.old.shown (said_of result) }
         ensures note { IsToNotification (said_of result) }
     {
         let compiled = &self.compiled;
@@ -163,6 +167,7 @@ impl OpenDocument {
         let hints = Hints {
             blanks: self.blanks,
             foreign: &foreign,
+            warns: self.warns,
         };
         match publish(
             alloc,

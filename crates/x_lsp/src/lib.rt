@@ -12,6 +12,7 @@ mod running;
 mod server;
 mod serving;
 mod setting;
+mod warned_names;
 
 pub use changes::apply_change;
 pub use diagnostics::{Hints, publish};

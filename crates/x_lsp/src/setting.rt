@@ -1,4 +1,4 @@
-//! How the documents of a client are compiled.
+//! How the documents of a client are compiled, and of what it is warned.
 
 use serde_json::Value;
 use x_prelude::FromC;
@@ -12,6 +12,8 @@ pub struct Setting<'k> {
     pub from_c: FromC,
     /// Whether the lines of cpp are blanked, and are not faults.
     pub blanks: bool,
+    /// Whether names that clash in C are published.
+    pub warns: bool,
 }
 
 impl<'k> Setting<'k> {
@@ -27,6 +29,7 @@ impl<'k> Setting<'k> {
                 foreign: flag(options, "foreign").unwrap_or(self.from_c.foreign),
             },
             blanks: blanks(options).unwrap_or(self.blanks),
+            warns: flag(options, "warnings").unwrap_or(self.warns),
         }
     }
 }

@@ -49,6 +49,7 @@ fn a_change_is_published(rt: HostRuntime) -> Result<(), Fail> {
     let hints = Hints {
         blanks: true,
         foreign: &[],
+        warns: true,
     };
     let note = publish(
         alloc,

@@ -33,6 +33,17 @@ const WHOLE: &[u8] =
     b"{\"method\":\"textDocument/didChange\",\"params\":{\"textDocument\":{\"uri\":\"t.x\",\
 \"version\":2},\"contentChanges\":[{\"text\":\"struct s { int a; };const N = M;\"}]}}";
 
+/// Another text, with a name that C has, and what is published of it.
+const CLASHING: &[u8] =
+    b"{\"method\":\"textDocument/didChange\",\"params\":{\"textDocument\":{\"uri\":\"t.x\",\
+\"version\":2},\"contentChanges\":[{\"text\":\"struct register { int a; };\"}]}}";
+
+const WARNED: &[u8] =
+    b"{\"jsonrpc\":\"2.0\",\"method\":\"textDocument/publishDiagnostics\",\"params\":{\
+\"diagnostics\":[{\"message\":\"'register' is a keyword of C\",\"range\":{\"end\":{\
+\"character\":15,\"line\":0},\"start\":{\"character\":7,\"line\":0}},\"severity\":2,\
+\"source\":\"rpcgen\"}],\"uri\":\"t.x\",\"version\":2}}";
+
 /// Where the struct is used, and where it is declared.
 const REFERENCES: &[u8] =
     b"{\"id\":7,\"method\":\"textDocument/references\",\"params\":{\"textDocument\":{\
@@ -68,6 +79,11 @@ const OF_THE_CHANGE: Exchange = Exchange {
 const OF_THE_WHOLE: Exchange = Exchange {
     message: WHOLE,
     wanted: CHANGED,
+};
+
+const OF_THE_CLASH: Exchange = Exchange {
+    message: CLASHING,
+    wanted: WARNED,
 };
 
 const OF_THE_QUESTION: Exchange = Exchange {
@@ -121,11 +137,12 @@ fn say_with_little_memory(
     panic!(rt; "a message never ends")
 }
 
-/// Each allocation of a change, and of a question, refused in turn.
+/// Each allocation of a change, of one to a name that clashes in C, and of a question, refused in turn.
 #[test]
 fn refused_messages(rt: HostRuntime) -> Result<(), Fail> {
     let change = say_with_little_memory(&rt, rt.alloc(), OF_THE_CHANGE)?;
+    let clash = say_with_little_memory(&rt, rt.alloc(), OF_THE_CLASH)?;
     let question = say_with_little_memory(&rt, rt.alloc(), OF_THE_QUESTION)?;
-    println!(rt; "turns: {change} {question}")?;
+    println!(rt; "turns: {change} {clash} {question}")?;
     Ok(())
 }

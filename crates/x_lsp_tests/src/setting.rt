@@ -2,7 +2,7 @@
 use x_lsp::Setting;
 use x_prelude::FromC;
 
-/// Types of C are known, and lines of cpp blanked.
+/// Types of C are known, lines of cpp blanked, and names that clash in C published.
 pub const SETTING: Setting = Setting {
     files: b"",
     from_c: FromC {
@@ -10,4 +10,5 @@ pub const SETTING: Setting = Setting {
         foreign: false,
     },
     blanks: true,
+    warns: true,
 };

@@ -1,3 +1,4 @@
 pub mod DiagnosticLemmas
 mod PlaceTableLemmas
+mod WarningLemmas
 mod WritingLemmas

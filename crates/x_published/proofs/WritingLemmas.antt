@@ -9,12 +9,17 @@ use Rattle.serde_json.specs.Data.{array}
 use Rattle.std.proofs.Common.{ℕ, ℤ, false, None}
 use Rattle.std.specs.Prelude.{◌||◌, pos, negsuc, option_map}
 use Rattle.serde_json.specs.Find.{is_float, of_integer}
-use Rattle.serde_json.specs.Written.{has_float, items_have_float, members_have_float}
+use Rattle.serde_json.specs.Written.{items_have_float, members_have_float}
+use Rattle.serde_json.specs.Written.{has_float}
+use Rattle.x_positions.specs.PositionData.{range_data}
+use Rattle.x_positions.specs.declared.range.Range.{Range}
 use Rattle.x_published.specs.declared.published.Diagnostic.{Diagnostic}
+use Rattle.x_published.specs.declared.published.Message.{Message}
+use Rattle.x_published.specs.declared.published.Message.TheVariants.{OfClash, OfFault}
 use Rattle.x_published.specs.declared.published.Place.{Place}
 use Rattle.x_published.specs.declared.published.Severity.{Severity}
 use Rattle.x_published.specs.Diagnostics.{published_data, rest_members}
-use Rattle.x_published.specs.Published.{data_of, place_data}
+use Rattle.x_published.specs.Published.{data_of, message_data, place_data}
 
 -- what follows where a result is good
 pub on_ok : {X E : Type 0} {P Q : Type 0} (r : Result X E) → (P → Q) → OnOk r P → OnOk r Q
@@ -41,9 +46,16 @@ plain_rest : (s : Severity) (o : Option Place) → members_have_float (rest_memb
 plain_rest s None = refl
 plain_rest s (Some p) = refl
 
+plain_message : (s : Severity) (r : Range) (m : Message) (o : Option Place)
+    → has_float (message_data s (range_data r.start r.end) m (option_map place_data o)) ≡ false
+plain_message s r (OfFault m) o = plain_rest s o
+plain_message s r (OfClash text) o = plain_rest s o
+
 plain_list : (ds : List Diagnostic) → items_have_float (items_of (map data_of ds)) ≡ false
 plain_list [] = refl
-plain_list (d ∷ ds) = ap (λ t. t || items_have_float (items_of (map data_of ds))) (plain_rest d.severity d.related) ∙ plain_list ds
+plain_list (d ∷ ds) =
+    ap (λ t. t || items_have_float (items_of (map data_of ds)))
+    (plain_message d.severity d.range d.message d.related) ∙ plain_list ds
 
 plain_version : (n : ℤ) → is_float (of_integer n) ≡ false
 plain_version (pos n) = refl

@@ -24,7 +24,7 @@ use Rattle.x_positions.specs.declared.range.Range.{Range}
 use Rattle.x_published.specs.declared.client.Client.{Client}
 use Rattle.x_positions.specs.declared.encoding.Encoding.{Encoding}
 use Rattle.x_published.specs.declared.published.Severity.{Severity}
-use Rattle.x_published.specs.declared.published.Severity.TheVariants.{Error, Hint}
+use Rattle.x_published.specs.declared.published.Severity.TheVariants.{Error, Hint, Warning}
 use Rattle.x_frames.specs.Answers.{note_data}
 use Rattle.x_frames.specs.Framing.{number_of}
 use Rattle.x_positions.specs.Positions.{position_of}
@@ -34,16 +34,21 @@ use Rattle.x_positions.specs.PositionData.{range_data}
 abbrev pub fault_number : FaultCode → ℕ
 fault_number code = unwrap_or (number_of (before_first (λ b. b == 32) (fault_text code))) 0
 
--- another place of a document that matters to a fault
-abbrev pub related_data : List ℕ → Range → Data
-related_data uri range = object
+-- another place of a document that matters, and what is said of it
+abbrev pub related_data : (said uri : List ℕ) → Range → Data
+related_data said uri range = object
     (member (codes "location") (object (member (codes "range") (range_data range.start range.end)
     (member (codes "uri") (string uri) no_members)))
-    (member (codes "message") (string (codes "first declared here")) no_members))
+    (member (codes "message") (string said) no_members))
+
+-- the same of a fault
+abbrev pub declared_data : (uri : List ℕ) → Range → Data
+declared_data uri = related_data (codes "first declared here") uri
 
 -- the number of a severity
 abbrev pub severity_number : Severity → ℕ
 severity_number Error = 1
+severity_number Warning = 2
 severity_number Hint = 4
 
 -- the members of a diagnostic behind its range; with the other place, if there is one
@@ -56,11 +61,18 @@ rest_members severity None = last_members severity
 rest_members severity (Some related) =
     member (codes "relatedInformation") (array (item related no_items)) (last_members severity)
 
+-- those behind its code
+abbrev pub message_members : Severity → Data → List ℕ → Option Data → Members
+message_members severity range message related = member (codes "message") (string message)
+    (member (codes "range") range (rest_members severity related))
+
+-- a diagnostic with the number of a fault as its code, and one without a code
 abbrev pub diagnostic_data : Severity → ℕ → Data → List ℕ → Option Data → Data
 diagnostic_data severity number' range message related = object
-    (member (codes "code") (number (unsigned number'))
-    (member (codes "message") (string message)
-    (member (codes "range") range (rest_members severity related))))
+    (member (codes "code") (number (unsigned number')) (message_members severity range message related))
+
+abbrev pub plain_data : Severity → Data → List ℕ → Option Data → Data
+plain_data severity range message related = object (message_members severity range message related)
 
 -- the code says something of how its word is declared
 abbrev pub is_of_declarer : FaultCode → Bool
@@ -107,7 +119,7 @@ pub record IsDiagnostic (client : Client) (uri shown text : List ℕ) (items : L
   pub data_is : data' ≡ diagnostic_data Error (fault_number fault.code)
       (range_data (position_of client.encoding shown fault.start)
       (position_of client.encoding shown end))
-      (fault_text fault.code ++ codes ": " ++ sentence) (option_map (related_data uri) other)
+      (fault_text fault.code ++ codes ": " ++ sentence) (option_map (declared_data uri) other)
 
 -- what is published of faults, one after another
 abbrev pub AreDiagnostics : Client → (uri shown text : List ℕ) → List Item → List FaultPlace → List Data

@@ -2,3 +2,4 @@ pub mod Diagnostics
 pub mod FaultMessages
 pub mod OtherPlaces
 pub mod Published
+pub mod Warned

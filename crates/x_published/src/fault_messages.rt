@@ -9,7 +9,7 @@ ghost use Rattle.x_compile.specs.declared.fault.FaultCode.TheVariants.{Rule};
 ghost use Rattle.x_published.specs.Diagnostics.{branch_message, fault_number};
 ghost use Rattle.x_published.specs.FaultMessages.{GoesOn};
 
-use crate::published::{Diagnostic, Severity};
+use crate::published::{Diagnostic, Message, Severity};
 use memchr::memchr;
 use std::alloc::{AllocError, Global};
 use std::str;
@@ -243,12 +243,21 @@ impl FaultMessages {
         }
         while let Some(diagnostic) = published.pop() {
             if diagnostic.severity == Severity::Error
-                && self.list.push(diagnostic.message).is_err()
+                && keep_message(&mut self.list, diagnostic.message).is_err()
             {
                 return;
             }
         }
     }
+}
+
+/// Keeps what is said of a fault.
+fn keep_message(list: &mut Vec<FaultMessage>, message: Message) -> Result<(), AllocError> {
+    match message {
+        Message::OfFault(message) => list.push(message)?,
+        Message::OfClash(_text) => {}
+    }
+    Ok(())
 }
 
 /// The number of a fault, which its text begins with.

@@ -6,9 +6,9 @@ ghost use Rattle.serde_json.specs.Data.{number};
 ghost use Rattle.serde_json.specs.Find.{of_integer};
 ghost use Rattle.serde_json.specs.View.{view};
 ghost use Rattle.serde_json.specs.Written.{compact_text};
-ghost use Rattle.x_published.specs.Diagnostics.{last_members, published_data};
+ghost use Rattle.x_published.specs.Diagnostics.{diagnostic_data, last_members, message_members, plain_data};
 ghost use Rattle.x_positions.specs.PositionData.{position_data, range_data};
-ghost use Rattle.x_published.specs.Diagnostics.{rest_members, severity_number};
+ghost use Rattle.x_published.specs.Diagnostics.{published_data, related_data, rest_members, severity_number};
 ghost use Rattle.x_published.specs.Published.{data_of, place_data};
 
 use crate::fault_messages::FaultMessage;
@@ -22,6 +22,8 @@ use x_positions::{Position, Range};
 pub enum Severity {
     /// It is a fault of the text.
     Error,
+    /// It says what C makes of a text that has no fault.
+    Warning,
     /// It says how the text is read.
     Hint,
 }
@@ -33,6 +35,7 @@ impl Severity {
     {
         match self {
             Severity::Error => 1,
+            Severity::Warning => 2,
             Severity::Hint => 4,
         }
     }
@@ -45,15 +48,36 @@ pub struct Place<'d> {
     pub uri: &'d str,
     /// The part.
     pub range: Range,
+    /// What is said of it.
+    pub said: &'static str,
 }
 
-/// What is published of a fault, or as a hint.
+/// A range of a document, if there is one, and what is said of it.
+pub fn place_of<'d>(uri: &'d str, range: Option<Range>, said: &'static str) -> Option<Place<'d>>
+    ensures { option_map place_data result ≡ option_map (related_data said.now uri.now) range }
+{
+    match range {
+        Some(range) => Some(Place { uri, range, said }),
+        None => None,
+    }
+}
+
+/// What a diagnostic says.
+#[derive(Drop)]
+pub enum Message {
+    /// What is said of a fault, or as a hint: it has the number of a fault.
+    OfFault(FaultMessage),
+    /// What is said of a name that clashes in C.
+    OfClash(String),
+}
+
+/// What is published of a fault, as a warning or as a hint.
 #[derive(Drop)]
 pub struct Diagnostic<'d> {
     /// How much it matters.
     pub severity: Severity,
     /// What is said.
-    pub message: FaultMessage,
+    pub message: Message,
     /// Of which part of the text.
     pub range: Range,
     /// Another place that matters.
@@ -69,19 +93,48 @@ impl<'d> Described for Diagnostic<'d> {
 
 impl<'d> Serialize for Diagnostic<'d> {
     fn serialize<S: Serializer>(&self, out: &mut S) -> Result<(), S::Error> {
-        out.begin_map(Some(member_count(self.severity, &self.related)))?;
-        out.key("code")?;
-        out.u64(self.message.number as u64)?;
-        out.key("message")?;
-        out.str(self.message.text.as_str())?;
-        out.key("range")?;
-        write_range(out, &self.range)?;
-        write_rest(out, self.severity, &self.related)
+        match &self.message {
+            Message::OfFault(message) => {
+                write_with_code(out, self, message.number, message.text.as_str())
+            }
+            Message::OfClash(text) => write_without_code(out, self, text.as_str()),
+        }
     }
 }
 
-/// How many members a diagnostic has.
-fn member_count(severity: Severity, related: &Option<Place>) -> usize
+/// Writes a diagnostic with a code and this text.
+fn write_with_code<S: Serializer>(
+    out: &mut S,
+    diagnostic: &Diagnostic,
+    code: usize,
+    text: &str,
+) -> Result<(), S::Error>
+    ensures { let d = diagnostic.now in OnOk result (SendsValue
+        (diagnostic_data d.severity code (range_data d.range.start d.range.end) text.now
+        (option_map place_data d.related)) (S.written out.old) (S.written out.new)) }
+{
+    out.begin_map(Some(count_with_code(diagnostic.severity, &diagnostic.related)))?;
+    out.key("code")?;
+    out.u64(code as u64)?;
+    write_members(out, diagnostic, text)
+}
+
+/// Writes one without a code.
+fn write_without_code<S: Serializer>(
+    out: &mut S,
+    diagnostic: &Diagnostic,
+    text: &str,
+) -> Result<(), S::Error>
+    ensures { let d = diagnostic.now in OnOk result (SendsValue
+        (plain_data d.severity (range_data d.range.start d.range.end) text.now
+        (option_map place_data d.related)) (S.written out.old) (S.written out.new)) }
+{
+    out.begin_map(Some(count_without_code(diagnostic.severity, &diagnostic.related)))?;
+    write_members(out, diagnostic, text)
+}
+
+/// How many members a diagnostic with a code has.
+fn count_with_code(severity: Severity, related: &Option<Place>) -> usize
     ensures { result
         ≡ suc (suc (suc (members_len (rest_members severity (option_map place_data related.now))))) }
 {
@@ -89,6 +142,33 @@ fn member_count(severity: Severity, related: &Option<Place>) -> usize
         Some(_) => 6,
         None => 5,
     }
+}
+
+/// How many members one without a code has.
+fn count_without_code(severity: Severity, related: &Option<Place>) -> usize
+    ensures { result ≡ suc (suc (members_len (rest_members severity (option_map place_data related.now)))) }
+{
+    match related {
+        Some(_) => 5,
+        None => 4,
+    }
+}
+
+/// Writes the members of a diagnostic that stand behind its code.
+fn write_members<S: Serializer>(
+    out: &mut S,
+    diagnostic: &Diagnostic,
+    text: &str,
+) -> Result<(), S::Error>
+    ensures { let d = diagnostic.now in OnOk result (SendsMembers
+        (message_members d.severity (range_data d.range.start d.range.end) text.now
+        (option_map place_data d.related)) (S.written out.old) (S.written out.new)) }
+{
+    out.key("message")?;
+    out.str(text)?;
+    out.key("range")?;
+    write_range(out, &diagnostic.range)?;
+    write_rest(out, diagnostic.severity, &diagnostic.related)
 }
 
 /// Writes the members of a diagnostic that stand behind its range.
@@ -136,7 +216,7 @@ fn write_place<S: Serializer>(out: &mut S, place: &Place) -> Result<(), S::Error
     out.str(place.uri)?;
     out.end_map()?;
     out.key("message")?;
-    out.str("first declared here")?;
+    out.str(place.said)?;
     out.end_map()
 }
 

@@ -10,6 +10,7 @@ use Rattle.x_published.specs.Diagnostics.{AreForeignHints, diagnostic_data, faul
 use Rattle.x_positions.specs.PositionData.{range_data}
 use Rattle.x_published.specs.Published.{data_of}
 use Rattle.x_published.specs.declared.published.Diagnostic.{Diagnostic}
+use Rattle.x_published.specs.declared.published.Message.TheVariants.{OfFault}
 use Rattle.x_published.specs.declared.published.Severity.TheVariants.{Hint}
 use Rattle.x_published.proofs.DiagnosticLemmas.{begun_so, map-snoc}
 use Rattle.x_lsp.proofs.HintLemmas.{hint_more}
@@ -25,7 +26,7 @@ loop-name-preserved c =
     let text = c.args.text.now in
     let inv = c.loop-name.invariant in
     let message = c.in_ok-foreign_message.field-0 in
-    let made : Diagnostic = record { severity = Hint; message = message; range = c.range.result; related = None } in
+    let made : Diagnostic = record { severity = Hint; message = OfFault message; range = c.range.result; related = None } in
     let front = fault_text (Rule Unknown) ++ codes ": " in
     let begins : take (length front) (string_bytes message.text) ≡ front =
     subst (λ v. take (length (fault_text v ++ codes ": ")) (string_bytes message.text) ≡ fault_text v ++ codes ": ")

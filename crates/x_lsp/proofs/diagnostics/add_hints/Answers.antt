@@ -4,6 +4,7 @@ use Rattle.x_published.specs.Diagnostics.{diagnostic_data, hint_data}
 use Rattle.x_positions.specs.PositionData.{range_data}
 use Rattle.x_published.specs.Published.{data_of}
 use Rattle.x_published.specs.declared.published.Diagnostic.{Diagnostic}
+use Rattle.x_published.specs.declared.published.Message.TheVariants.{OfFault}
 use Rattle.x_published.specs.declared.published.Severity.TheVariants.{Hint}
 use Rattle.x_lsp.proofs.HintLemmas.{one_more}
 use Rattle.x_lsp.proofs.diagnostics.add_hints.Goals as goal
@@ -11,7 +12,7 @@ use Rattle.x_lsp.proofs.diagnostics.add_hints.Goals as goal
 pub loop-place-preserved : goal.loop-place-preserved
 loop-place-preserved c =
     let message = c.in_ok-branch_message.field-0 in
-    let made : Diagnostic = record { severity = Hint; message = message; range = c.range.result; related = None } in
+    let made : Diagnostic = record { severity = Hint; message = OfFault message; range = c.range.result; related = None } in
     one_more data_of (hint_data c.args.marks.now.encoding c.args.shown.now) c.loop-place.list.items made
     c.push.new.self.items c.deref-place-items.result.now c.loop-place.place-index _
     (map data_of c.args.list.now.items ++ map (hint_data c.args.marks.now.encoding c.args.shown.now)

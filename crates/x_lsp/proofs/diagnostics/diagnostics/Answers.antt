@@ -8,6 +8,7 @@ use Rattle.x_item.specs.declared.parsing.fault_code.FaultCode.TheVariants as ite
 use Rattle.x_session.specs.Session.{Compiles, Document}
 use Rattle.x_explain.specs.declared.found.FoundFault.{FoundFault}
 use Rattle.x_published.specs.declared.published.Diagnostic.{Diagnostic}
+use Rattle.x_published.specs.declared.published.Message.TheVariants.{OfFault}
 use Rattle.x_published.specs.declared.published.Severity.TheVariants.{Error}
 use Rattle.x_positions.specs.declared.waymarks.Waymarks.{Waymarks}
 use Rattle.x_published.specs.Diagnostics.{AreDiagnostics, IsDiagnostic, IsRangeAt, diagnostic_data, fault_number, other_place}
@@ -56,7 +57,7 @@ loop-fault-preserved c =
     let sentence = drop (length front) (string_bytes message.text) in
     let said : string_bytes message.text ≡ fault_text f.code ++ codes ": " ++ sentence = begun_so front (string_bytes message.text) begins in
     let numbered : message.number ≡ fault_number f.code = message.numbered ∙ ap fault_number same in
-    let value : Diagnostic = record { severity = Error; message = message; range = c.range-range.result; related = c.place_of-related.result } in
+    let value : Diagnostic = record { severity = Error; message = OfFault message; range = c.range-range.result; related = c.place_of-related.result } in
     let others = c.loop-fault.others in
     let word = c.word_at-word.result.now in
     let seen : text ≡ others.session.now.text = c.bytes-text.ensures ∙ sym (ap (λ (d : Document). d.text) inv.session) in

@@ -3,6 +3,7 @@ use Rattle.std.specs.Prelude.{All}
 use Rattle.serde_json.specs.Written.{compact_text}
 use Rattle.std.proofs.lemmas.Int.{to_z-of_z}
 use Rattle.x_declared.specs.Foreign.{view_all}
+use Rattle.x_declared.proofs.DeclaredLemmas.{of_each}
 use Rattle.x_published.specs.Diagnostics.{AreForeignHints, hints_of, published_data}
 use Rattle.x_published.specs.Published.{data_of}
 use Rattle.x_positions.specs.Waymarks.{IsWaymark}
@@ -27,6 +28,8 @@ returns-clause-said c =
     let diagnostics = c.in_ok-list.ensures.diagnostics in
     let ds = map data_of c.in_ok-list.list.items in
     let foreign = c.in_ok-add_foreign_hints.ensures in
+    let warned = of_each c.args.session.now.text c.in_ok-add_warnings.ensures diagnostics.0 diagnostics.1
+    diagnostics.2 in
     let listed : map data_of c.if-hints.list.items ≡ ds ++ hints_of hints.blanks e shown =
     elim c.if-hints.branch [
       | then-hints+in_ok-add_hints w ↦ ap (λ l. map data_of l.items) w.list-is ∙ w.in_ok-add_hints.ensures
@@ -40,15 +43,18 @@ returns-clause-said c =
       (
         ds,
         foreign.0,
+        warned.0,
         diagnostics.3,
         subst (λ x. AreForeignHints x shown c.args.session.now.text (view_all hints.foreign.now) foreign.0)
             c.requires.encoding
             (subst (λ t. AreForeignHints c.args.marks.now.encoding shown t (view_all hints.foreign.now) foreign.0)
             c.bytes.ensures foreign.1),
+        warned.1,
         subst (λ v. c.in_ok-said.said.items ≡ compact_text (published_data c.args.uri.now v
-            (ds ++ hints_of hints.blanks e shown ++ foreign.0)))
+            (ds ++ hints_of hints.blanks e shown ++ foreign.0 ++ warned.0)))
             (to_z-of_z w64 c.args.version c.ranges.version)
-            (said_so c.in_ok-said.said.items c.args.uri.now _ _ _ (foreign.2 ∙ ap (λ l. l ++ foreign.0) listed)
+            (said_so c.in_ok-said.said.items c.args.uri.now _ _ _
+            (warned.2 ∙ ap (λ l. l ++ warned.0) (foreign.2 ∙ ap (λ l. l ++ foreign.0) listed))
             c.in_ok-said.ensures),
       ),
     )

@@ -24,13 +24,13 @@ returns-in-Ok-publish-clause-says c =
     let front = d.files.items ++ constants_of d.blanks d.shown in
     let names = view_all c.in-Ok.foreign.items in
     let published = subst (λ n. Compiles known text (λ items. IsPublishedOf d.client (string_bytes d.uri)
-    d.version d.blanks (view_all n) d.shown text items said)) c.deref.ensures.value
+    d.version d.blanks d.warns (view_all n) d.shown text items said)) c.deref.ensures.value
     (subst (λ s. Compiles known text (λ items. IsPublishedOf d.client (string_bytes d.uri) d.version d.blanks
-    (view_all c.deref.result.now) s text items said)) c.bytes.ensures.text
+    d.warns (view_all c.deref.result.now) s text items said)) c.bytes.ensures.text
     (subst (λ u. Compiles known text (λ items. IsPublishedOf d.client u d.version d.blanks
-    (view_all c.deref.result.now) c.bytes.result.now text items said)) c.as_str.ensures.value
+    d.warns (view_all c.deref.result.now) c.bytes.result.now text items said)) c.as_str.ensures.value
     (subst (λ v. Compiles known text (λ items. IsPublishedOf d.client c.as_str.result.now v d.blanks
-    (view_all c.deref.result.now) c.bytes.result.now text items said))
+    d.warns (view_all c.deref.result.now) c.bytes.result.now text items said))
     (to_z-of_z w64 d.version (search rules)) c.in-Ok-publish.ensures.said))) in
     let items = published.1 in
     inl (
@@ -40,8 +40,10 @@ returns-in-Ok-publish-clause-says c =
         known,
         subst (λ t. IsBefore front from t known) is.text_is
             (subst (λ f. IsBefore f from text known) is.files_are before),
-        subst (λ t. Compiles known t (λ items. (foreign : List ForeignName) × AreForeign front from t items foreign
-            × IsPublishedOf d.client (string_bytes d.uri) d.version d.blanks foreign d.shown t items said)) is.text_is (
+        subst (λ t. Compiles known t (λ items. (foreign : List ForeignName)
+            × AreForeign front from t items foreign
+            × IsPublishedOf d.client (string_bytes d.uri) d.version d.blanks d.warns foreign d.shown t items said))
+            is.text_is (
               published.0,
               items,
               published.2,
@@ -59,8 +61,9 @@ pub returns-in-Ok-publish-clause-note : goal.returns-in-Ok-publish-clause-note
 returns-in-Ok-publish-clause-note c =
     let d = c.args.self.now in
     let of = c.in-Ok-publish.ensures.said.3 in
-    published_note c.as_str.result.now _ (of.0 ++ hints_of d.blanks d.client.encoding c.bytes.result.now ++ of.1)
-    c.in-Ok-publish.text.items of.4
+    published_note c.as_str.result.now _
+    (of.0 ++ hints_of d.blanks d.client.encoding c.bytes.result.now ++ of.1 ++ of.2)
+    c.in-Ok-publish.text.items of.6
 
 pub returns-in_default-clause-says : goal.returns-in_default-clause-says
 returns-in_default-clause-says c = inr no_memory_shown

@@ -1,31 +1,34 @@
-use Rattle.std.proofs.Common.{Some, subst}
-use Rattle.serde.specs.Event.{Logs, map_begins, text}
-use Rattle.x_published.proofs.WritingLemmas.{on_ok}
+use Rattle.std.proofs.Common.{subst, sym}
+use Rattle.std.specs.Prelude.{OnOk, option_map}
+use Rattle.serde_json.specs.Events.{SendsValue}
+use Rattle.x_positions.specs.PositionData.{range_data}
+use Rattle.x_published.specs.Diagnostics.{diagnostic_data, plain_data}
+use Rattle.x_published.specs.Published.{message_data, place_data}
 use Rattle.x_published.proofs.published.DiagnosticSerialize.serialize.Goals as goal
 
-pub returns : goal.returns
-returns g c =
+pub returns-in-OfFault : goal.returns-in-OfFault
+returns-in-OfFault g c =
     let w = g.S.Serializer.written in
-    on_ok c.write_rest.result (λ rest. (
-      w c.begin_map.new.self,
-      subst (λ n. Logs (w c.args.out.now) (w c.begin_map.new.self) (map_begins (Some n))) c.member_count.ensures c.in_ok-begin_map.ensures,
-      (
-        w c.key.new.self,
-        w c.u64.new.self,
-        c.in_ok-key.ensures,
-        c.in_ok-u64.ensures,
-        (
-          w c.key-2.new.self,
-          w c.str.new.self,
-          c.in_ok-key-2.ensures,
-          subst (λ t. Logs (w c.key-2.new.self) (w c.str.new.self) (text t)) c.as_str.ensures.value c.in_ok-str.ensures,
-          (
-            w c.key-3.new.self,
-            w c.write_range.new.out,
-            c.in_ok-key-3.ensures,
-            c.in_ok-write_range.ensures,
-            rest,
-          ),
-        ),
-      ),
-    )) c.write_rest.ensures
+    let d = c.args.self.now in
+    let range = range_data d.range.start d.range.end in
+    let related = option_map place_data d.related in
+    let r = c.write_with_code.result in
+    let old = w c.args.out.now in
+    let new = w c.write_with_code.new.out in
+    subst (λ m. OnOk r (SendsValue (message_data d.severity range m related) old new)) (sym c.in-OfFault.is)
+    (subst (λ t. OnOk r (SendsValue
+    (diagnostic_data d.severity c.in-OfFault.message.number range t related) old new))
+    c.as_str.ensures.value c.write_with_code.ensures)
+
+pub returns-in-OfClash : goal.returns-in-OfClash
+returns-in-OfClash g c =
+    let w = g.S.Serializer.written in
+    let d = c.args.self.now in
+    let range = range_data d.range.start d.range.end in
+    let related = option_map place_data d.related in
+    let r = c.write_without_code.result in
+    let old = w c.args.out.now in
+    let new = w c.write_without_code.new.out in
+    subst (λ m. OnOk r (SendsValue (message_data d.severity range m related) old new)) (sym c.in-OfClash.is)
+    (subst (λ t. OnOk r (SendsValue (plain_data d.severity range t related) old new))
+    c.as_str-in-OfClash.ensures.value c.write_without_code.ensures)
