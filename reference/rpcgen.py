@@ -4,6 +4,7 @@ faults. rpcgen --check [OPTIONS] FILE..: writes the faults of each FILE.
 
 The OPTIONS are --explain, --plain, --strict, --known FILE, --c-types and --foreign. With --explain the names of
 a FILE without faults that clash in C are told too, and with --strict in place of the text."""
+import contextlib
 import getopt
 import os
 import sys
@@ -37,6 +38,13 @@ def stopped(reason):
     return status if said is None else stop(said)
 
 
+def say(text):
+    """Writes to standard error what that takes."""
+    sys.stderr.flush()
+    with contextlib.suppress(OSError):
+        os.write(2, text)
+
+
 class Opening:
     """How texts are opened, by the options."""
 
@@ -52,8 +60,7 @@ class Opening:
             self.tell(*faulty.args)
 
     def tell(self, path, compilation):
-        sys.stderr.flush()
-        os.write(2, told_of(path, compilation, self.explains))
+        say(told_of(path, compilation, self.explains))
         raise rpcedit.Stop(1, None)
 
     def open(self, path):
@@ -66,15 +73,13 @@ class Opening:
     def warn(self, path, compilation):
         """Tells the clashes of a text without faults, where faults are explained."""
         if self.explains:
-            sys.stderr.flush()
-            os.write(2, clashes.warnings(os.fsencode(path), compilation))
+            say(clashes.warnings(os.fsencode(path), compilation))
 
     def insist(self, path, compilation):
         """Goes no further where clashes count as faults and there are some."""
         said = clashes.warnings(os.fsencode(path), compilation) if self.is_strict else b""
         if said:
-            sys.stderr.flush()
-            os.write(2, said)
+            say(said)
             raise rpcedit.Stop(1, None)
 
     def status_of(self, path):
