@@ -1,5 +1,6 @@
 //! Command lines.
 use crate::before::nothing;
+use asserts::expect_eq;
 use clap::error::ErrorKind;
 use rpcx::{GenArgs, RPCGEN, Status, answer_words, gen_args, mark_under_word, request_first};
 use std::test::Fail;
@@ -44,12 +45,12 @@ fn sweep_refusing(rt: HostRuntime) -> Result<(), Fail> {
     let mut err = MemSink::new(&mut told, 128, 128);
     if let Err(error) = gen_args(rt.alloc(), ["rpcgen", "-s"].as_slice()) {
         let status = answer_words(rt.alloc(), &RPCGEN, &error, &mut out, &mut err);
-        assert_eq!(rt; status, Status::Failed);
+        expect_eq(&rt, status, Status::Failed);
     }
     if err.bytes() == REFUSED.as_bytes() {
         println!(rt; "nothing was refused")?;
     } else {
-        assert_eq!(rt; err.bytes(), b"rpcgen: out of memory\n".as_slice());
+        expect_eq(&rt, err.bytes(), b"rpcgen: out of memory\n".as_slice());
     }
     Ok(())
 }
@@ -68,8 +69,8 @@ fn sweep_asking(rt: HostRuntime) -> Result<(), Fail> {
     if out.bytes() == b"rpcgen 0.1.0\n".as_slice() {
         println!(rt; "nothing was refused")?;
     } else {
-        assert_eq!(rt; out.bytes(), b"".as_slice());
-        assert_eq!(rt; err.bytes(), b"rpcgen: out of memory\n".as_slice());
+        expect_eq(&rt, out.bytes(), b"".as_slice());
+        expect_eq(&rt, err.bytes(), b"rpcgen: out of memory\n".as_slice());
     }
     Ok(())
 }

@@ -2,6 +2,7 @@
 ghost use Rattle.std.specs.Prelude.{Some, option_map};
 
 use crate::before::nothing;
+use asserts::expect_eq;
 use rpcx::{FaultStyle, GenArgs, KnownSources, Opening, Output, OutputFault, Status, gen_run};
 use std::alloc::Global;
 use std::test::Fail;
@@ -89,17 +90,17 @@ fn a_generator_leaves_the_whole_text_or_what_stood(rt: HostRuntime) -> Result<()
     let which = Which::Header;
     let faulty = b"const A = 12; const A = 12;";
     let status = gen_run(alloc, which, &args, &how, faulty, &mut output, &mut err);
-    assert_eq!(rt; status, Status::Faulty);
+    expect_eq(&rt, status, Status::Faulty);
     let text = b"const A = 12;";
     let status = gen_run(alloc, which, &args, &how, text, &mut output, &mut err);
-    assert_eq!(rt; status, Status::Failed);
+    expect_eq(&rt, status, Status::Failed);
     assert!(rt; output.file.is_none());
     let wanted = "t.x:1:21: 20 Duplicate\nrpcgen: t.h: cannot be written\n";
-    assert_eq!(rt; err.bytes(), wanted.as_bytes());
+    expect_eq(&rt, err.bytes(), wanted.as_bytes());
     output.takes = true;
     let status = gen_run(alloc, which, &args, &how, text, &mut output, &mut err);
-    assert_eq!(rt; status, Status::Done);
-    assert_eq!(rt; output.file.as_deref(), Some(HEADER));
+    expect_eq(&rt, status, Status::Done);
+    expect_eq(&rt, output.file.as_deref(), Some(HEADER));
     assert!(rt; !output.has_draft);
     Ok(())
 }

@@ -1,5 +1,6 @@
 //! Runs of the programs.
 use crate::before::nothing;
+use asserts::expect_eq;
 use rpcx::{
     DumpArgs, EditArgs, FaultStyle, GenArgs, KnownSources, Mode, Opening, Status, dump_run,
     edit_run, gen_mode, gen_open, gen_write,
@@ -16,10 +17,11 @@ fn a_generator_tells_of_a_full_sink(rt: HostRuntime) -> Result<(), Fail> {
     let mut told = [0u8; 64];
     let mut err = MemSink::new(&mut told, 64, 64);
     let status = gen_write(Which::Header, &session, &mut full, &mut err);
-    assert_eq!(rt; status, Status::Failed);
-    assert_eq!(rt;
+    expect_eq(&rt, status, Status::Failed);
+    expect_eq(
+        &rt,
         err.bytes(),
-        b"rpcgen: output cannot be written\n".as_slice()
+        b"rpcgen: output cannot be written\n".as_slice(),
     );
     Ok(())
 }
@@ -55,7 +57,7 @@ fn a_generator_wants_one_letter_and_no_fault(rt: HostRuntime) {
     let opened = gen_open(rt.alloc(), "t.x", FAULTY, &how, &mut err);
     assert!(rt; matches!(opened, Err(Status::Faulty)));
     let wanted = "rpcgen: exactly one of -c, -h, -l, -t\nt.x:1:42: 21 Unknown\n";
-    assert_eq!(rt; err.bytes(), wanted.as_bytes());
+    expect_eq(&rt, err.bytes(), wanted.as_bytes());
 }
 
 #[test]
@@ -79,7 +81,7 @@ fn an_editor_tells_of_a_failed_tap_and_a_full_sink(rt: HostRuntime) {
         &mut full,
         &mut err,
     );
-    assert_eq!(rt; status, Status::Failed);
+    expect_eq(&rt, status, Status::Failed);
     let mut input = MemTap::new(b"tokens\n", 64, usize::MAX);
     let status = edit_run(
         rt.alloc(),
@@ -90,9 +92,9 @@ fn an_editor_tells_of_a_failed_tap_and_a_full_sink(rt: HostRuntime) {
         &mut full,
         &mut err,
     );
-    assert_eq!(rt; status, Status::Failed);
+    expect_eq(&rt, status, Status::Failed);
     let wanted = "rpcedit: -: cannot be read\nrpcedit: output cannot be written\n";
-    assert_eq!(rt; err.bytes(), wanted.as_bytes());
+    expect_eq(&rt, err.bytes(), wanted.as_bytes());
 }
 
 /// A command line without options.
@@ -125,7 +127,7 @@ fn a_dumper_tells_of_a_failed_tap_and_a_full_sink(rt: HostRuntime) {
         &mut full,
         &mut err,
     );
-    assert_eq!(rt; status, Status::Failed);
+    expect_eq(&rt, status, Status::Failed);
     // A record of no bytes.
     let mut input = MemTap::new(b"\x80\0\0\0", 64, usize::MAX);
     let status = dump_run(
@@ -138,9 +140,9 @@ fn a_dumper_tells_of_a_failed_tap_and_a_full_sink(rt: HostRuntime) {
         &mut full,
         &mut err,
     );
-    assert_eq!(rt; status, Status::Failed);
+    expect_eq(&rt, status, Status::Failed);
     let wanted = "rpcdump: s: cannot be read\nrpcdump: output cannot be written\n";
-    assert_eq!(rt; err.bytes(), wanted.as_bytes());
+    expect_eq(&rt, err.bytes(), wanted.as_bytes());
 }
 
 #[test]
@@ -167,9 +169,9 @@ fn a_dumper_tells_of_a_failed_tap_before_a_value(rt: HostRuntime) {
         &mut out,
         &mut err,
     );
-    assert_eq!(rt; status, Status::Failed);
-    assert_eq!(rt; err.bytes(), b"rpcdump: s: cannot be read\n".as_slice());
-    assert_eq!(rt; out.bytes(), b"".as_slice());
+    expect_eq(&rt, status, Status::Failed);
+    expect_eq(&rt, err.bytes(), b"rpcdump: s: cannot be read\n".as_slice());
+    expect_eq(&rt, out.bytes(), b"".as_slice());
     let mut input = MemTap::new(b"\xff\xff\xff\xff", 2, usize::MAX);
     let status = dump_run(
         rt.alloc(),
@@ -181,8 +183,8 @@ fn a_dumper_tells_of_a_failed_tap_before_a_value(rt: HostRuntime) {
         &mut out,
         &mut err,
     );
-    assert_eq!(rt; status, Status::Done);
-    assert_eq!(rt; out.bytes(), b"0 w = 4294967295\n".as_slice());
+    expect_eq(&rt, status, Status::Done);
+    expect_eq(&rt, out.bytes(), b"0 w = 4294967295\n".as_slice());
 }
 
 #[test]
@@ -205,7 +207,7 @@ fn a_dumper_tells_of_a_bad_stream_before_a_failed_tap(rt: HostRuntime) {
         &mut out,
         &mut err,
     );
-    assert_eq!(rt; status, Status::Faulty);
+    expect_eq(&rt, status, Status::Faulty);
     // It fails behind the header.
     let mut broken = MemTap::new(b"\x80\x10\0\x01\0", 4, 4);
     let status = dump_run(
@@ -218,8 +220,8 @@ fn a_dumper_tells_of_a_bad_stream_before_a_failed_tap(rt: HostRuntime) {
         &mut out,
         &mut err,
     );
-    assert_eq!(rt; status, Status::Faulty);
+    expect_eq(&rt, status, Status::Faulty);
     let wanted = "fault 61 Truncated at 2\nfault 60 RecordTooLong at 0\n";
-    assert_eq!(rt; out.bytes(), wanted.as_bytes());
-    assert_eq!(rt; err.bytes(), b"".as_slice());
+    expect_eq(&rt, out.bytes(), wanted.as_bytes());
+    expect_eq(&rt, err.bytes(), b"".as_slice());
 }

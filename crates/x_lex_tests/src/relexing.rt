@@ -2,6 +2,7 @@
 ghost use Rattle.std.specs.Prelude.{◌≤◌};
 ghost use Rattle.x_lex.specs.Tiling.{AreTokens};
 
+use asserts::expect_eq;
 use refusals::{ALL, MOST_TURNS, begin, end};
 use std::alloc::Global;
 use std::process::Abort;
@@ -25,20 +26,20 @@ const AFTER: [(Kind, usize, usize); 4] = [
 ];
 
 fn expect_tokens(rt: &impl Abort, tokens: &Tokens, places: &[(Kind, usize, usize)]) {
-    assert_eq!(rt; tokens.len(), places.len());
+    expect_eq(rt, tokens.len(), places.len());
     for (index, place) in places.iter().enumerate() {
-        assert_eq!(rt; tokens.get(index), Some(*place));
+        expect_eq(rt, tokens.get(index), Some(*place));
     }
-    assert_eq!(rt; tokens.get(places.len()), None);
+    expect_eq(rt, tokens.get(places.len()), None);
 }
 
 /// Checks the patch: the token at the edit goes too, since what follows it decides its end.
 fn expect_patch(rt: &impl Abort, patch: &Patch) {
-    assert_eq!(rt; (patch.at(), patch.removed(), patch.len()), (1, 3, 3));
-    assert_eq!(rt; patch.get(0), Some((Kind::Punct, 1)));
-    assert_eq!(rt; patch.get(1), Some((Kind::BadByte, 1)));
-    assert_eq!(rt; patch.get(2), Some((Kind::Name, 1)));
-    assert_eq!(rt; patch.get(3), None);
+    expect_eq(rt, (patch.at(), patch.removed(), patch.len()), (1, 3, 3));
+    expect_eq(rt, patch.get(0), Some((Kind::Punct, 1)));
+    expect_eq(rt, patch.get(1), Some((Kind::BadByte, 1)));
+    expect_eq(rt, patch.get(2), Some((Kind::Name, 1)));
+    expect_eq(rt, patch.get(3), None);
 }
 
 /// Follows the edit with allocations refused. It tells whether one was, and leaves all as before then.
@@ -73,7 +74,7 @@ fn follow(
     begin(alloc, ALL)?;
     expect_tokens(rt, tokens, &BEFORE);
     expect_patch(rt, &patch);
-    assert_eq!(rt; tokens.put(patch), 0);
+    expect_eq(rt, tokens.put(patch), 0);
     expect_tokens(rt, tokens, &AFTER);
     assert!(rt; !end(alloc));
     Ok(refused)
@@ -86,7 +87,7 @@ fn refused_edit(rt: HostRuntime) -> Result<(), Fail> {
     let old = Source::from_bytes(rt.alloc(), b"x;\n%y")?;
     for turn in 0..MOST_TURNS {
         let mut tokens = lex(rt.alloc(), &old, &mut Meter::new())?;
-        assert_eq!(rt; tokens.iter_from(tokens.len(), &old).count(), 0);
+        expect_eq(&rt, tokens.iter_from(tokens.len(), &old).count(), 0);
         let refused = follow(&rt, rt.alloc(), &mut tokens, &old, turn)?;
         if !refused {
             println!(rt; "turns: {turn}")?;

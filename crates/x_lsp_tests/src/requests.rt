@@ -4,6 +4,7 @@ ghost use Rattle.std.specs.Prelude.{◌≤◌};
 
 use crate::memory::{ANSWER, ANSWER_TO_NONE};
 use crate::setting::SETTING;
+use asserts::expect_eq;
 use refusals::{MOST_TURNS, begin, end};
 use std::alloc::Global;
 use std::process::Abort;
@@ -169,7 +170,7 @@ fn serve_once(
     let result = serve(alloc, HashKey::of_bytes(b""), SETTING, &mut tap, &mut sink);
     let refused = end(alloc);
     if sink.bytes() == wanted {
-        assert_eq!(rt; result, Ok(true));
+        expect_eq(rt, result, Ok(true));
         return Ok(refused);
     }
     let written = sink.bytes().len() as u64;
@@ -199,15 +200,16 @@ fn refused_conversation(rt: HostRuntime) -> Result<(), Fail> {
     let mut said = [0u8; 4096];
     let mut sink = MemSink::new(&mut said, 4096, 4096);
     let mut tap = MemTap::new(&stream, 64, usize::MAX);
-    assert_eq!(rt;
+    expect_eq(
+        &rt,
         serve(
             rt.alloc(),
             HashKey::of_bytes(b""),
             SETTING,
             &mut tap,
-            &mut sink
+            &mut sink,
         ),
-        Ok(true)
+        Ok(true),
     );
     let turns = serve_in_turns(&rt, rt.alloc(), &stream, sink.bytes())?;
     println!(rt; "turns: {turns}")?;

@@ -3,6 +3,7 @@
 ghost use Rattle.std.specs.Prelude.{IfOk};
 ghost use Rattle.x_prelude.specs.Followed.{IsOver};
 
+use asserts::expect_eq;
 use std::alloc::Global;
 use std::process::Abort;
 use x_explain::KnownFiles;
@@ -84,6 +85,6 @@ pub fn expect_answers(
 {
     let mut buffer = [0u8; 32768];
     let length = write_answers(alloc, text, asked, &mut buffer)?;
-    assert_eq!(rt; buffer.get(..length), Some(wanted));
+    expect_eq(rt, buffer.get(..length), Some(wanted));
     Ok(())
 }

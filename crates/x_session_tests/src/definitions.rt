@@ -1,5 +1,6 @@
 //! One definition by the calls below a session: what checking it finds, and what is generated of it.
 
+use asserts::expect_eq;
 use refusals::{ALL, begin, end};
 use std::alloc::Global;
 use std::process::Abort;
@@ -39,10 +40,14 @@ fn expect_parts(
 ) -> Result<(), Fail> {
     begin(alloc, ALL)?;
     assert!(rt; checked.faults().is_empty());
-    assert_eq!(rt; checked.meaning(0), Meaning::Constant(12));
-    assert_eq!(rt; pieces.forward(), b"".as_slice());
-    assert_eq!(rt; pieces.piece(Which::Header), b"#define A 12\n\n".as_slice());
-    assert_eq!(rt; pieces.piece(Which::Routines), b"".as_slice());
+    expect_eq(rt, checked.meaning(0), Meaning::Constant(12));
+    expect_eq(rt, pieces.forward(), b"".as_slice());
+    expect_eq(
+        rt,
+        pieces.piece(Which::Header),
+        b"#define A 12\n\n".as_slice(),
+    );
+    expect_eq(rt, pieces.piece(Which::Routines), b"".as_slice());
     assert!(rt; !end(alloc));
     Ok(())
 }
@@ -61,8 +66,12 @@ fn expect_duplicate(rt: &impl Abort, alloc: Global, definition: &Definition) -> 
 }
 
 fn expect_fault(rt: &impl Abort, checked: &Checked, code: RuleCode) {
-    assert_eq!(rt; checked.faults(), [WordFault { word: 1, code }].as_slice());
-    assert_eq!(rt; checked.meaning(0), Meaning::Bad);
+    expect_eq(
+        rt,
+        checked.faults(),
+        [WordFault { word: 1, code }].as_slice(),
+    );
+    expect_eq(rt, checked.meaning(0), Meaning::Bad);
 }
 
 /// Checks who declares a name first.
@@ -75,7 +84,7 @@ fn expect_names(rt: &impl Abort, alloc: Global, definition: &Definition) -> Resu
 fn expect_first(rt: &impl Abort, alloc: Global, names: &Names) -> Result<(), Fail> {
     begin(alloc, ALL)?;
     let place = names.first(b"A").map(|first| (first.item, first.word));
-    assert_eq!(rt; place, Some((1, 1)));
+    expect_eq(rt, place, Some((1, 1)));
     assert!(rt; names.first(b"B").is_none() && names.first(b"TRUE").is_none());
     assert!(rt; !end(alloc));
     Ok(())

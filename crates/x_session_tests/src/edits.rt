@@ -5,6 +5,7 @@ ghost use Rattle.std.specs.Prelude.{◌≤◌};
 ghost use Rattle.x_prelude.specs.Followed.{IsOver};
 
 use crate::answers::{expect_answers, opened, run, write_answers};
+use asserts::expect_eq;
 use refusals::{MOST_TURNS, begin, end};
 use std::alloc::Global;
 use std::process::Abort;
@@ -353,7 +354,7 @@ fn apply_once(
     let refused = end(alloc);
     match answer {
         Ok(work) => {
-            assert_eq!(rt; work, row.work);
+            expect_eq(rt, work, row.work);
             return Ok(refused);
         }
         Err(fault) => assert!(rt; refused && fault == TextFault::NoMemory),
@@ -361,13 +362,13 @@ fn apply_once(
     expect_text(rt, &text.session, row.text);
     expect_answers(rt, alloc, text, ASKED, before)?;
     let work = text.apply(&row.edit)?;
-    assert_eq!(rt; work, row.work);
+    expect_eq(rt, work, row.work);
     Ok(refused)
 }
 
 /// Checks the text that a session has.
 pub fn expect_text(rt: &impl Abort, session: &Session, text: &[u8]) {
-    assert_eq!(rt; session.bytes(), text);
+    expect_eq(rt, session.bytes(), text);
 }
 
 /// Then the lines behind the edit.
@@ -440,7 +441,7 @@ fn make_in_turns(rt: &impl Abort, alloc: Global, session: &Session) -> Result<us
         let fault = session.schema().err();
         let refused = end(alloc);
         match fault {
-            None => assert_eq!(rt; session.fault_count(), 0),
+            None => expect_eq(rt, session.fault_count(), 0),
             Some(SchemaFault::NoMemory) => assert!(rt; refused && session.schema().is_ok()),
             Some(SchemaFault::Faulty) => assert!(rt; !refused && session.fault_count() > 0),
         }
@@ -464,13 +465,13 @@ fn go_on(
     let written = sink.bytes().len();
     let (lines, bytes) = row.whole_answers(written);
     let answers = row.answers(alloc, 0)?;
-    assert_eq!(rt; bytes, written);
+    expect_eq(rt, bytes, written);
     assert!(rt; answers.starts_with(sink.bytes()));
     expect_text(rt, &text.session, row.text_behind(lines));
     let rest = row.script(alloc, lines)?;
     let mut tap = MemTap::new(&rest, 64, usize::MAX);
     run(alloc, text, &mut tap, sink)?;
-    assert_eq!(rt; sink.bytes(), answers.as_slice());
+    expect_eq(rt, sink.bytes(), answers.as_slice());
     expect_text(rt, &text.session, row.edited);
     Ok(written)
 }
@@ -523,7 +524,7 @@ fn run_once(
     let refused = end(alloc);
     let written = go_on(rt, alloc, text, &mut sink, row)? as u64;
     match outcome {
-        Ok(_) => assert_eq!(rt; written, sink.bytes().len() as u64),
+        Ok(_) => expect_eq(rt, written, sink.bytes().len() as u64),
         Err(fault) => assert!(rt; refused && fault == EngineFault::NoMemory { written }),
     }
     Ok(refused)

@@ -1,4 +1,5 @@
 //! Texts before which definitions are known.
+use asserts::expect_eq;
 use std::alloc::Global;
 use std::test::Fail;
 use x_hash::HashKey;
@@ -24,15 +25,19 @@ fn known_names_come_before_the_text(rt: HostRuntime) -> Result<(), Fail> {
     let text = b"typedef char cs<N>; typedef pt *link; typedef N bad;";
     let mut session = opened_over(rt.alloc(), text)?;
     let fault = session.fault(0).map(|fault| (fault.col, fault.code));
-    assert_eq!(rt; fault, Some((47, FaultCode::Rule(RuleCode::NotType))));
-    assert_eq!(rt; session.schema().is_err(), true);
+    expect_eq(&rt, fault, Some((47, FaultCode::Rule(RuleCode::NotType))));
+    expect_eq(&rt, session.schema().is_err(), true);
     let work = session.apply(&Edit {
         start: 46,
         end: 47,
         insert: b"pt",
     })?;
-    assert_eq!(rt; (work.parsed, work.checked), (1, 1));
-    assert_eq!(rt; (session.fault_count(), session.definition_count()), (0, 3));
+    expect_eq(&rt, (work.parsed, work.checked), (1, 1));
+    expect_eq(
+        &rt,
+        (session.fault_count(), session.definition_count()),
+        (0, 3),
+    );
     let schema = session.schema()?;
     assert!(rt; schema.type_named(b"pt").is_some() && schema.type_named(b"link").is_some());
     Ok(())
@@ -43,13 +48,13 @@ fn known_names_come_before_the_text(rt: HostRuntime) -> Result<(), Fail> {
 fn known_names_are_not_declared_again(rt: HostRuntime) -> Result<(), Fail> {
     let mut session = opened_over(rt.alloc(), b"const N = 4; const M = N;")?;
     let fault = session.fault(0).map(|fault| (fault.col, fault.code));
-    assert_eq!(rt; fault, Some((7, FaultCode::Rule(RuleCode::Duplicate))));
-    assert_eq!(rt; session.fault_count(), 1);
+    expect_eq(&rt, fault, Some((7, FaultCode::Rule(RuleCode::Duplicate))));
+    expect_eq(&rt, session.fault_count(), 1);
     let work = session.apply(&Edit {
         start: 6,
         end: 7,
         insert: b"L",
     })?;
-    assert_eq!(rt; (work.checked, session.fault_count()), (1, 0));
+    expect_eq(&rt, (work.checked, session.fault_count()), (1, 0));
     Ok(())
 }

@@ -2,6 +2,7 @@
 ghost use Rattle.std.specs.Prelude.{◌≡◌, length, IfOk, IfSome};
 ghost use Rattle.x_lines.specs.Lines.{script_lines};
 
+use asserts::expect_eq;
 use std::alloc::Global;
 use std::process::Abort;
 use std::test::Fail;
@@ -10,8 +11,8 @@ use x_text::{MemTap, Tap};
 
 /// Checks that the reader finds a line next.
 fn expect_line(rt: &impl Abort, reader: &mut LineReader, tap: &mut impl Tap, line: &[u8]) {
-    assert_eq!(rt; reader.next(tap), Ok(LineEvent::Line));
-    assert_eq!(rt; reader.line(), line);
+    expect_eq(rt, reader.next(tap), Ok(LineEvent::Line));
+    expect_eq(rt, reader.line(), line);
 }
 
 /// Checks that the reader finds no line next, for this reason.
@@ -21,7 +22,7 @@ fn expect_none(
     tap: &mut impl Tap,
     wanted: Result<LineEvent, LineFault>,
 ) {
-    assert_eq!(rt; reader.next(tap), wanted);
+    expect_eq(rt, reader.next(tap), wanted);
 }
 
 #[test]
@@ -62,6 +63,6 @@ fn count_lines<R: Tap>(alloc: Global, tap: &mut R) -> Result<u64, LineFault>
 #[test]
 fn a_loop_counts_the_lines_of_a_tap(rt: HostRuntime) -> Result<(), Fail> {
     let mut tap = MemTap::new(b"a\n\nb\nc", 2, 1000);
-    assert_eq!(rt; count_lines(rt.alloc(), &mut tap)?, 3);
+    expect_eq(&rt, count_lines(rt.alloc(), &mut tap)?, 3);
     Ok(())
 }

@@ -1,6 +1,7 @@
 //! Scripts.
 use crate::answers::{opened, run};
 use crate::edits::expect_text;
+use asserts::expect_eq;
 use std::alloc::Global;
 use std::io::{self, Write};
 use std::process::Abort;
@@ -27,8 +28,8 @@ fn a_failed_tap_leaves_the_lines_before(rt: HostRuntime) -> Result<(), Fail> {
     let mut sink = MemSink::new(&mut buffer, 64, 64);
     let mut tap = MemTap::new(b"edit 3 4\nfaults", 64, 12);
     let fault = run_on_ints(&rt, rt.alloc(), &mut tap, &mut sink)?;
-    assert_eq!(rt; fault, Some(EngineFault::Read { written: 5 }));
-    assert_eq!(rt; sink.bytes(), b"ok 4\n".as_slice());
+    expect_eq(&rt, fault, Some(EngineFault::Read { written: 5 }));
+    expect_eq(&rt, sink.bytes(), b"ok 4\n".as_slice());
     Ok(())
 }
 
@@ -38,8 +39,8 @@ fn a_full_sink_leaves_the_line_carried_out(rt: HostRuntime) -> Result<(), Fail> 
     let mut sink = MemSink::new(&mut buffer, 1, 3);
     let mut tap = MemTap::new(b"edit 3 4\nedit 0 1\n", 64, usize::MAX);
     let fault = run_on_ints(&rt, rt.alloc(), &mut tap, &mut sink)?;
-    assert_eq!(rt; fault, Some(EngineFault::Write { written: 3 }));
-    assert_eq!(rt; sink.bytes(), b"ok ".as_slice());
+    expect_eq(&rt, fault, Some(EngineFault::Write { written: 3 }));
+    expect_eq(&rt, sink.bytes(), b"ok ".as_slice());
     Ok(())
 }
 
@@ -62,6 +63,6 @@ fn each_answer_is_passed_on(rt: HostRuntime) -> Result<(), Fail> {
     let mut tap = MemTap::new(b"edit 3 4\nedit 0 1\n", 64, usize::MAX);
     let mut out = Out::new(Blocked);
     let fault = run_on_ints(&rt, rt.alloc(), &mut tap, &mut out)?;
-    assert_eq!(rt; fault, Some(EngineFault::Write { written: 5 }));
+    expect_eq(&rt, fault, Some(EngineFault::Write { written: 5 }));
     Ok(())
 }

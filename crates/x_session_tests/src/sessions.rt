@@ -1,4 +1,5 @@
 //! Sessions and their answers.
+use asserts::expect_eq;
 use refusals::{ALL, begin, end};
 use std::process::Abort;
 use std::test::Fail;
@@ -13,9 +14,9 @@ fn expect_parts(rt: &impl Abort, session: &Session) {
     let token = session
         .token(6)
         .map(|token| (token.kind, token.start, token.end));
-    assert_eq!(rt; token, Some((Kind::Number, 10, 12)));
+    expect_eq(rt, token, Some((Kind::Number, 10, 12)));
     let bytes = session.token(6).map(|token| token.text);
-    assert_eq!(rt; bytes, Some(b"12".as_slice()));
+    expect_eq(rt, bytes, Some(b"12".as_slice()));
     assert!(rt; session.definition(0).is_some() && session.definition(1).is_none());
 }
 
@@ -23,11 +24,12 @@ fn expect_parts(rt: &impl Abort, session: &Session) {
 fn expect_fault(rt: &impl Abort, session: &Session) {
     let fault = session.fault(0);
     let place = fault.map(|fault| (fault.item, fault.token));
-    assert_eq!(rt; place, Some((1, 0)));
+    expect_eq(rt, place, Some((1, 0)));
     let told = fault.map(|fault| (fault.line, fault.col, fault.code));
-    assert_eq!(rt;
+    expect_eq(
+        rt,
         told,
-        Some((1, 14, FaultCode::Syntax(x_item::FaultCode::Syntax)))
+        Some((1, 14, FaultCode::Syntax(x_item::FaultCode::Syntax))),
     );
 }
 
@@ -38,12 +40,12 @@ fn expect_counts(rt: &impl Abort, session: &Session) {
         session.item_count(),
         session.fault_count(),
     );
-    assert_eq!(rt; counts, (9, 3, 1));
+    expect_eq(rt, counts, (9, 3, 1));
     let mut walked = 0usize;
     for _ in session.tokens() {
         walked = walked.saturating_add(1);
     }
-    assert_eq!(rt; walked, 9);
+    expect_eq(rt, walked, 9);
 }
 
 /// Checks that a sink of ten bytes has those of the header.
@@ -51,8 +53,8 @@ fn expect_ten_bytes(rt: &impl Abort, session: &Session) {
     let mut room = [0u8; 10];
     let mut sink = MemSink::new(&mut room, 256, 256);
     let answer = session.write_text(Which::Header, &mut sink);
-    assert_eq!(rt; answer, Err(WriteFault { written: 10 }));
-    assert_eq!(rt; sink.bytes(), b"/* Generat".as_slice());
+    expect_eq(rt, answer, Err(WriteFault { written: 10 }));
+    expect_eq(rt, sink.bytes(), b"/* Generat".as_slice());
 }
 
 /// Each query, with every allocation refused: none takes memory.
@@ -60,12 +62,12 @@ fn expect_ten_bytes(rt: &impl Abort, session: &Session) {
 fn bare_queries(rt: HostRuntime) -> Result<(), Fail> {
     let session = Session::open(rt.alloc(), b"t", b"const A = 12;;")?;
     begin(rt.alloc(), ALL)?;
-    assert_eq!(rt; session.bytes(), b"const A = 12;;".as_slice());
+    expect_eq(&rt, session.bytes(), b"const A = 12;;".as_slice());
     expect_counts(&rt, &session);
     expect_parts(&rt, &session);
     expect_fault(&rt, &session);
     expect_ten_bytes(&rt, &session);
-    assert_eq!(rt; session.schema().err(), Some(SchemaFault::Faulty));
+    expect_eq(&rt, session.schema().err(), Some(SchemaFault::Faulty));
     assert!(rt; !end(rt.alloc()));
     Ok(())
 }
@@ -93,8 +95,8 @@ fn expect_both(rt: &impl Abort, session: &mut Session) {
         checked: 2,
         moved: 2,
     };
-    assert_eq!(rt; session.apply_all(&[LONGER, OTHER]), Ok(both));
-    assert_eq!(rt; session.bytes(), b"const A = 13;".as_slice());
+    expect_eq(rt, session.apply_all(&[LONGER, OTHER]), Ok(both));
+    expect_eq(rt, session.bytes(), b"const A = 13;".as_slice());
 }
 
 /// Checks that of two edits the second is refused, which lies outside of the text, and the first is done.
@@ -105,8 +107,8 @@ fn expect_stop(rt: &impl Abort, session: &mut Session) {
         insert: b"",
     };
     let answer = session.apply_all(&[LONGER, outside]);
-    assert_eq!(rt; answer.err(), Some((1, TextFault::BadRange)));
-    assert_eq!(rt; session.bytes(), b"const A = 12;".as_slice());
+    expect_eq(rt, answer.err(), Some((1, TextFault::BadRange)));
+    expect_eq(rt, session.bytes(), b"const A = 12;".as_slice());
 }
 
 #[test]
@@ -121,7 +123,7 @@ fn edits_stop_at_the_first_that_is_refused(rt: HostRuntime) -> Result<(), Fail> 
 /// Checks that procedure 1 is there, and no other, and what type stands under a name.
 fn expect_types(rt: &impl Abort, schema: &Schema) {
     let name = schema.procedure(3, 2, 1).map(|procedure| procedure.name);
-    assert_eq!(rt; name, Some(b"F".as_slice()));
+    expect_eq(rt, name, Some(b"F".as_slice()));
     assert!(rt; schema.procedure(3, 2, 2).is_none() && schema.type_named(b"F").is_none());
     let Some(id) = schema.type_named(b"T") else {
         panic!(rt; "there is no such type");
@@ -139,8 +141,8 @@ fn bare_types(rt: HostRuntime) -> Result<(), Fail> {
     begin(rt.alloc(), ALL)?;
     expect_types(&rt, &schema);
     let words = (b"T".as_slice(), b"00".as_slice());
-    assert_eq!(rt; dump_words(b"dump T 00"), Some(words));
-    assert_eq!(rt; dump_words(b"dump T 0"), None);
+    expect_eq(&rt, dump_words(b"dump T 00"), Some(words));
+    expect_eq(&rt, dump_words(b"dump T 0"), None);
     assert!(rt; !end(rt.alloc()));
     Ok(())
 }

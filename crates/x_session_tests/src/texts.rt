@@ -1,22 +1,8 @@
-//! The four texts of a session.
-use std::alloc::Global;
-use std::fmt::Display;
-use std::process::Abort;
+//! The texts of faults.
+use asserts::expect_text;
 use std::test::Fail;
 use x_script::{EngineFault, LineFault};
 use x_session::{SchemaFault, near_edits, one_compilation, one_work};
-
-/// Checks the text of a fault.
-fn expect_text(
-    rt: &impl Abort,
-    alloc: Global,
-    fault: &impl Display,
-    wanted: &str,
-) -> Result<(), Fail> {
-    let text = fault.to_string(alloc)?;
-    assert_eq!(rt; text.as_str(), wanted);
-    Ok(())
-}
 
 #[test]
 fn faults_of_a_run_have_their_texts(rt: HostRuntime) -> Result<(), Fail> {

@@ -4,6 +4,7 @@ ghost use Rattle.x_prelude.specs.Followed.{IsOver};
 
 use crate::answers::{opened, run};
 use crate::edits::{ROWS, Row, expect_text};
+use asserts::expect_eq;
 use refusals::{ALL, begin, end};
 use std::alloc::Global;
 use std::io::{self, Write};
@@ -59,8 +60,8 @@ fn stop_at(
     let mut tap = MemTap::new(script, 64, usize::MAX);
     let outcome = run(alloc, text, &mut tap, &mut sink);
     let written = count as u64;
-    assert_eq!(rt; outcome, Err(EngineFault::Write { written }));
-    assert_eq!(rt; sink.bytes().len(), count);
+    expect_eq(rt, outcome, Err(EngineFault::Write { written }));
+    expect_eq(rt, sink.bytes().len(), count);
     assert!(rt; answers.starts_with(sink.bytes()));
     let (lines, _) = row.whole_answers(count);
     expect_text(rt, &text.session, row.text_behind(lines.saturating_add(1)));
@@ -96,7 +97,7 @@ fn stick(rt: &impl Abort, alloc: Global, text: &mut FollowedText, script: &[u8])
 {
     let mut tap = MemTap::new(script, 64, usize::MAX);
     let outcome = run(alloc, text, &mut tap, &mut Out::new(Stuck));
-    assert_eq!(rt; outcome, Err(EngineFault::Write { written: 0 }));
+    expect_eq(rt, outcome, Err(EngineFault::Write { written: 0 }));
 }
 
 const TEXTS: [Which; 4] = [Which::Header, Which::Routines, Which::Stubs, Which::Table];
@@ -123,15 +124,15 @@ fn cut_text(rt: &impl Abort, alloc: Global, session: &Session, which: Which) -> 
         let mut sink = MemSink::new(&mut room, step, count);
         let answer = session.write_text(which, &mut sink);
         let written = count as u64;
-        assert_eq!(rt; answer, Err(WriteFault { written }));
-        assert_eq!(rt; sink.bytes().len(), count);
+        expect_eq(rt, answer, Err(WriteFault { written }));
+        expect_eq(rt, sink.bytes().len(), count);
         // All of a short text, the end of what is written of a long one.
         let from = count.saturating_sub(4096);
         assert!(rt; sink.bytes().get(from..) == text.get(from..count));
         count = count.saturating_add(step);
     }
     let answer = session.write_text(which, &mut Out::new(Stuck));
-    assert_eq!(rt; answer, Err(WriteFault { written: 0 }));
+    expect_eq(rt, answer, Err(WriteFault { written: 0 }));
     Ok(())
 }
 
@@ -187,7 +188,7 @@ fn read_to(
     let outcome = run(alloc, text, &mut tap, &mut sink);
     let (lines, length) = row.answered(count);
     let written = length as u64;
-    assert_eq!(rt; outcome, Err(EngineFault::Read { written }));
+    expect_eq(rt, outcome, Err(EngineFault::Read { written }));
     assert!(rt; answers.get(..length) == Some(sink.bytes()));
     expect_text(rt, &text.session, row.text_behind(lines));
 }
@@ -238,7 +239,7 @@ fn open_and_cut(rt: &impl Abort, alloc: Global, text: &[u8]) -> Result<(), Fail>
 }
 
 fn cut_texts(rt: &impl Abort, alloc: Global, session: &Session) -> Result<(), Fail> {
-    assert_eq!(rt; session.fault_count(), 0);
+    expect_eq(rt, session.fault_count(), 0);
     for which in TEXTS {
         cut_text(rt, alloc, session, which)?;
     }

@@ -1,4 +1,5 @@
 //! The texts of error types.
+use asserts::{expect_eq, expect_text};
 use refusals::{ALL, begin, end};
 use std::test::Fail;
 use x_text::{Broken, Meter, NoMemory, TextFault, WriteFault};
@@ -6,21 +7,17 @@ use x_text::{Broken, Meter, NoMemory, TextFault, WriteFault};
 #[test]
 fn faults_have_their_texts(rt: HostRuntime) -> Result<(), Fail> {
     let alloc = rt.alloc();
-    let texts = [
-        (format!(in alloc; "{}", TextFault::BadRange)?, "1 BadRange"),
-        (format!(in alloc; "{}", TextFault::TooLarge)?, "2 TooLarge"),
-        (format!(in alloc; "{}", TextFault::NoMemory)?, "3 NoMemory"),
-        (format!(in alloc; "{}", NoMemory)?, "out of memory"),
-        (format!(in alloc; "{}", Broken)?, "a read or a write failed"),
-        (
-            format!(in alloc; "{}", WriteFault { written: 10 })?,
-            "the write failed after 10 bytes",
-        ),
-    ];
-    for (text, expected) in &texts {
-        assert_eq!(rt; text.as_str(), *expected);
+    for (fault, wanted) in [
+        (TextFault::BadRange, "1 BadRange"),
+        (TextFault::TooLarge, "2 TooLarge"),
+        (TextFault::NoMemory, "3 NoMemory"),
+    ] {
+        expect_text(&rt, alloc, &fault, wanted)?;
     }
-    Ok(())
+    expect_text(&rt, alloc, &NoMemory, "out of memory")?;
+    expect_text(&rt, alloc, &Broken, "a read or a write failed")?;
+    let fault = WriteFault { written: 10 };
+    expect_text(&rt, alloc, &fault, "the write failed after 10 bytes")
 }
 
 /// A counter stays at the greatest number; with every allocation refused, since a meter takes no memory.
@@ -39,7 +36,7 @@ fn bare_meter(rt: HostRuntime) -> Result<(), Fail> {
         meter.checked(),
         meter.moved(),
     );
-    assert_eq!(rt; counts, (1, 1, 1, u64::MAX));
+    expect_eq(&rt, counts, (1, 1, 1, u64::MAX));
     assert!(rt; !end(rt.alloc()));
     Ok(())
 }

@@ -1,4 +1,5 @@
 //! Readers that fail.
+use asserts::expect_eq;
 use std::io::{self, Read};
 use x_text::{Broken, In, MemTap, Tap};
 
@@ -37,20 +38,20 @@ fn a_failed_read_breaks_a_tap(rt: HostRuntime) {
     let turns = [Turn::Give(b"ab"), Turn::Fail, Turn::Give(b"c")];
     let mut tap = In::new(Turns { turns: &turns });
     let mut buffer = [0u8; 4];
-    assert_eq!(rt; tap.take(&mut buffer), Ok(2));
-    assert_eq!(rt; &buffer, b"ab\0\0");
-    assert_eq!(rt; tap.take(&mut buffer), Err(Broken));
+    expect_eq(&rt, tap.take(&mut buffer), Ok(2));
+    expect_eq(&rt, &buffer, b"ab\0\0");
+    expect_eq(&rt, tap.take(&mut buffer), Err(Broken));
     // The reader would give a byte.
-    assert_eq!(rt; tap.take(&mut buffer), Err(Broken));
+    expect_eq(&rt, tap.take(&mut buffer), Err(Broken));
 }
 
 #[test]
 fn a_tap_over_bytes_fails_as_it_is_told(rt: HostRuntime) {
     let mut tap = MemTap::new(b"abcdefg", 2, 3);
     let mut buffer = *b"......";
-    assert_eq!(rt; tap.take(&mut buffer), Ok(2));
-    assert_eq!(rt; tap.take(&mut buffer[2..]), Ok(1));
-    assert_eq!(rt; tap.take(&mut buffer[3..]), Err(Broken));
-    assert_eq!(rt; tap.take(&mut []), Err(Broken));
-    assert_eq!(rt; &buffer, b"abc...");
+    expect_eq(&rt, tap.take(&mut buffer), Ok(2));
+    expect_eq(&rt, tap.take(&mut buffer[2..]), Ok(1));
+    expect_eq(&rt, tap.take(&mut buffer[3..]), Err(Broken));
+    expect_eq(&rt, tap.take(&mut []), Err(Broken));
+    expect_eq(&rt, &buffer, b"abc...");
 }

@@ -2,6 +2,7 @@
 ghost use Rattle.std.specs.Prelude.{◌≡◌, ◌+◌, ◌≤◌, OnOk, OnErr, IfOk, length};
 ghost use Rattle.std.specs.List.{splice};
 
+use asserts::expect_eq;
 use refusals::{ALL, begin, end};
 use std::alloc::Global;
 use std::process::Abort;
@@ -26,7 +27,7 @@ fn change<S: Seq<u32>>(
 
 /// Checks that the list has these entries.
 fn expect_entries<S: Seq<u32>>(rt: &impl Abort, seq: &S, expected: &[u32]) {
-    assert_eq!(rt; seq.len(), expected.len());
+    expect_eq(rt, seq.len(), expected.len());
     for (index, entry) in expected.iter().enumerate() {
         assert!(rt; seq.get(index) == Some(entry));
     }
@@ -37,9 +38,9 @@ fn fill<S: Seq<u32>>(rt: &impl Abort, alloc: Global, seq: &mut S) -> Result<(), 
     ensures { OnOk result (length (S.list seq.new) ≡ 10) }
 {
     let ten = Vec::from_slice(alloc, &[0, 1, 2, 3, 4, 5, 6, 7, 8, 9])?;
-    assert_eq!(rt; seq.len(), 0);
+    assert!(rt; seq.len() == 0);
     change(seq, 0, 0, ten)?;
-    assert_eq!(rt; seq.len(), 10);
+    assert!(rt; seq.len() == 10);
     Ok(())
 }
 
@@ -49,7 +50,7 @@ fn replace_two<S: Seq<u32>>(rt: &impl Abort, alloc: Global, seq: &mut S) -> Resu
     requires { length (S.list seq.old) ≡ 10 }
 {
     let moved = change(seq, 3, 2, Vec::from_slice(alloc, &[30])?)?;
-    assert_eq!(rt; seq.len(), 9);
+    expect_eq(rt, seq.len(), 9);
     let again = change(seq, 4, 0, Vec::new(alloc))?;
     expect_entries(rt, seq, &[0, 1, 2, 30, 5, 6, 7, 8, 9]);
     Ok((moved, again))
@@ -59,14 +60,14 @@ fn replace_two<S: Seq<u32>>(rt: &impl Abort, alloc: Global, seq: &mut S) -> Resu
 fn carries_changes_out(rt: HostRuntime) -> Result<(), Fail> {
     let mut plain = PlainSeq::new(rt.alloc());
     fill(&rt, rt.alloc(), &mut plain)?;
-    assert_eq!(rt; replace_two(&rt, rt.alloc(), &mut plain)?, (5, 5));
+    expect_eq(&rt, replace_two(&rt, rt.alloc(), &mut plain)?, (5, 5));
     let mut gap = GapSeq::new(rt.alloc());
-    assert_eq!(rt; gap.seat(), 0);
+    expect_eq(&rt, gap.seat(), 0);
     fill(&rt, rt.alloc(), &mut gap)?;
-    assert_eq!(rt; gap.seat(), 10);
-    assert_eq!(rt; replace_two(&rt, rt.alloc(), &mut gap)?, (5, 0));
-    assert_eq!(rt; gap.seat(), 4);
-    assert_eq!(rt; gap.iter().count(), 9);
+    expect_eq(&rt, gap.seat(), 10);
+    expect_eq(&rt, replace_two(&rt, rt.alloc(), &mut gap)?, (5, 0));
+    expect_eq(&rt, gap.seat(), 4);
+    expect_eq(&rt, gap.iter().count(), 9);
     Ok(())
 }
 
@@ -95,28 +96,28 @@ fn bare_sequences(rt: HostRuntime) -> Result<(), Fail> {
     begin(rt.alloc(), ALL)?;
     let mut plain = PlainSeq::new(rt.alloc());
     let mut gap = GapSeq::new(rt.alloc());
-    assert_eq!(rt; gap.seat(), 0);
+    expect_eq(&rt, gap.seat(), 0);
     assert!(rt; !end(rt.alloc()));
     fill(&rt, rt.alloc(), &mut plain)?;
-    assert_eq!(rt; replace_two_in_room(&rt, rt.alloc(), &mut plain)?, 5);
+    expect_eq(&rt, replace_two_in_room(&rt, rt.alloc(), &mut plain)?, 5);
     fill(&rt, rt.alloc(), &mut gap)?;
-    assert_eq!(rt; replace_two_in_room(&rt, rt.alloc(), &mut gap)?, 5);
-    assert_eq!(rt; gap.seat(), 4);
+    expect_eq(&rt, replace_two_in_room(&rt, rt.alloc(), &mut gap)?, 5);
+    expect_eq(&rt, gap.seat(), 4);
     Ok(())
 }
 
 #[test]
 fn makes_room(rt: HostRuntime) -> Result<(), Fail> {
     let mut plain: PlainSeq<u32> = PlainSeq::new(rt.alloc());
-    assert_eq!(rt; plain.spare(), 0);
+    expect_eq(&rt, plain.spare(), 0);
     plain.reserve(100)?;
     assert!(rt; plain.spare() >= 100);
-    assert_eq!(rt; plain.reserve(usize::MAX), Err(NoMemory));
+    expect_eq(&rt, plain.reserve(usize::MAX), Err(NoMemory));
     let mut gap: GapSeq<u32> = GapSeq::new(rt.alloc());
-    assert_eq!(rt; gap.spare(), 0);
+    expect_eq(&rt, gap.spare(), 0);
     gap.reserve(100)?;
     assert!(rt; gap.spare() >= 100);
-    assert_eq!(rt; gap.reserve(usize::MAX), Err(NoMemory));
+    expect_eq(&rt, gap.reserve(usize::MAX), Err(NoMemory));
     Ok(())
 }
 
@@ -127,7 +128,7 @@ fn reserve_with_little_memory<S: Seq<u32>>(
     seq: &mut S,
 ) -> Result<(), NoMemory> {
     change(seq, 0, 0, Vec::from_slice(alloc, &[1, 2, 3])?)?;
-    assert_eq!(rt; seq.len(), 3);
+    expect_eq(rt, seq.len(), 3);
     seq.splice(1, 1, Vec::new(alloc));
     let answer = seq.reserve(1000);
     expect_entries(rt, seq, &[1, 3]);
@@ -150,7 +151,7 @@ fn sweep_reserve_of_a_gap_seq(rt: HostRuntime) -> Result<(), Fail> {
     let mut seq = GapSeq::new(alloc);
     let answer = reserve_with_little_memory(&rt, alloc, &mut seq);
     // Of two entries, or of none.
-    assert_eq!(rt; seq.seat(), seq.len() / 2);
+    expect_eq(&rt, seq.seat(), seq.len() / 2);
     if answer.is_ok() {
         println!(rt; "nothing was refused")?;
     }
@@ -161,11 +162,12 @@ fn sweep_reserve_of_a_gap_seq(rt: HostRuntime) -> Result<(), Fail> {
 fn a_patch_lends_and_gives_its_entries(rt: HostRuntime) -> Result<(), Fail> {
     let fresh = Vec::from_slice(rt.alloc(), &[7u32, 8])?;
     let patch = SeqPatch::new(1, 2, 3, fresh);
-    assert_eq!(rt;
+    expect_eq(
+        &rt,
         (patch.at(), patch.removed(), patch.start(), patch.len()),
-        (1, 2, 3, 2)
+        (1, 2, 3, 2),
     );
-    assert_eq!(rt; patch.fresh(), [7, 8].as_slice());
-    assert_eq!(rt; patch.into_fresh().as_slice(), [7, 8].as_slice());
+    expect_eq(&rt, patch.fresh(), [7, 8].as_slice());
+    expect_eq(&rt, patch.into_fresh().as_slice(), [7, 8].as_slice());
     Ok(())
 }

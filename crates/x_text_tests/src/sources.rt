@@ -1,4 +1,5 @@
 //! Texts and edits, and their wants of memory.
+use asserts::expect_eq;
 use refusals::{ALL, begin, end};
 use std::process::Abort;
 use std::test::Fail;
@@ -8,10 +9,10 @@ use x_text::{Edit, MAX_TEXT, Source, TextBuffers, TextFault};
 fn sweep_from_bytes(rt: HostRuntime) -> Result<(), Fail> {
     match Source::from_bytes(rt.alloc(), b"a\nb") {
         Ok(source) => {
-            assert_eq!(rt; source.bytes(), b"a\nb".as_slice());
+            expect_eq(&rt, source.bytes(), b"a\nb".as_slice());
             println!(rt; "nothing was refused")?;
         }
-        Err(fault) => assert_eq!(rt; fault, TextFault::NoMemory),
+        Err(fault) => expect_eq(&rt, fault, TextFault::NoMemory),
     }
     Ok(())
 }
@@ -23,14 +24,14 @@ fn edit(start: usize, end: usize, insert: &[u8]) -> Edit<'_> {
 /// Edits that answer the same whether or not there is memory, and then one that needs some.
 fn edit_with_little_memory(rt: &impl Abort, source: &mut Source) -> Result<(), TextFault> {
     let bad = source.replace(&edit(2, 1, b"x"));
-    assert_eq!(rt; bad, Err(TextFault::BadRange));
+    expect_eq(rt, bad, Err(TextFault::BadRange));
     let answer = source.replace(&edit(1, 2, b"0123456789"));
     let expected: &[u8] = if answer.is_ok() {
         b"a0123456789c"
     } else {
         b"abc"
     };
-    assert_eq!(rt; source.bytes(), expected);
+    expect_eq(rt, source.bytes(), expected);
     answer
 }
 
@@ -41,18 +42,34 @@ fn sweep_replace(rt: HostRuntime) -> Result<(), Fail> {
     );
     match answer {
         Ok(()) => println!(rt; "nothing was refused")?,
-        Err(fault) => assert_eq!(rt; fault, TextFault::NoMemory),
+        Err(fault) => expect_eq(&rt, fault, TextFault::NoMemory),
     }
     Ok(())
 }
 
 /// Checks that the edits of a text are refused that lie outside of it or make it too long, and that it stays.
 fn expect_refused(rt: &impl Abort, source: &mut Source, long: &[u8]) {
-    assert_eq!(rt; source.replace(&edit(2, 1, b"x")), Err(TextFault::BadRange));
-    assert_eq!(rt; source.replace(&edit(0, 4, b"x")), Err(TextFault::BadRange));
-    assert_eq!(rt; source.replace(&edit(0, 1, long)), Err(TextFault::TooLarge));
-    assert_eq!(rt; source.bytes(), b"a\nb".as_slice());
-    assert_eq!(rt; (source.line_col(1), source.line_col(2)), ((1, 2), (2, 1)));
+    expect_eq(
+        rt,
+        source.replace(&edit(2, 1, b"x")),
+        Err(TextFault::BadRange),
+    );
+    expect_eq(
+        rt,
+        source.replace(&edit(0, 4, b"x")),
+        Err(TextFault::BadRange),
+    );
+    expect_eq(
+        rt,
+        source.replace(&edit(0, 1, long)),
+        Err(TextFault::TooLarge),
+    );
+    expect_eq(rt, source.bytes(), b"a\nb".as_slice());
+    expect_eq(
+        rt,
+        (source.line_col(1), source.line_col(2)),
+        ((1, 2), (2, 1)),
+    );
 }
 
 /// What takes no memory of a text: an empty one, an edit that is refused, lines and columns.
@@ -62,8 +79,8 @@ fn bare_sources(rt: HostRuntime) -> Result<(), Fail> {
     let long = vec![in rt.alloc(); b'x'; MAX_TEXT]?;
     begin(rt.alloc(), ALL)?;
     let empty = Source::new(rt.alloc());
-    assert_eq!(rt; empty.bytes(), b"".as_slice());
-    assert_eq!(rt; empty.line_col(0), (1, 1));
+    expect_eq(&rt, empty.bytes(), b"".as_slice());
+    expect_eq(&rt, empty.line_col(0), (1, 1));
     expect_refused(&rt, &mut source, &long);
     assert!(rt; !end(rt.alloc()));
     Ok(())
@@ -72,9 +89,9 @@ fn bare_sources(rt: HostRuntime) -> Result<(), Fail> {
 /// Two edits in turn, the second of which comes first in the text.
 fn turn_with_little_memory(rt: &impl Abort, buffers: &mut TextBuffers) -> Result<(), TextFault> {
     let bad = buffers.prepare(&edit(2, 1, b"x"));
-    assert_eq!(rt; bad, Err(TextFault::BadRange));
+    expect_eq(rt, bad, Err(TextFault::BadRange));
     let first = buffers.prepare(&edit(2, 3, b"0123456789"));
-    assert_eq!(rt; buffers.text().bytes(), b"abcd".as_slice());
+    expect_eq(rt, buffers.text().bytes(), b"abcd".as_slice());
     first?;
     buffers.turn();
     let answer = buffers.prepare(&edit(1, 1, b"-"));
@@ -82,8 +99,8 @@ fn turn_with_little_memory(rt: &impl Abort, buffers: &mut TextBuffers) -> Result
     if answer.is_err() {
         buffers.prepare(&edit(1, 1, b"-"))?;
     }
-    assert_eq!(rt; buffers.text().bytes(), b"ab0123456789d".as_slice());
-    assert_eq!(rt; buffers.ready().bytes(), b"a-b0123456789d".as_slice());
+    expect_eq(rt, buffers.text().bytes(), b"ab0123456789d".as_slice());
+    expect_eq(rt, buffers.ready().bytes(), b"a-b0123456789d".as_slice());
     answer
 }
 
@@ -96,7 +113,7 @@ fn sweep_prepare(rt: HostRuntime) -> Result<(), Fail> {
     });
     match answer {
         Ok(()) => println!(rt; "nothing was refused")?,
-        Err(fault) => assert_eq!(rt; fault, TextFault::NoMemory),
+        Err(fault) => expect_eq(&rt, fault, TextFault::NoMemory),
     }
     Ok(())
 }

@@ -1,4 +1,5 @@
 //! Writers that fail.
+use asserts::expect_eq;
 use std::io::{self, Write};
 use std::process::Abort;
 use x_text::{Broken, MemSink, Out, Pen, Sink, WriteFault};
@@ -47,10 +48,10 @@ impl Write for Turns<'_> {
 /// Checks that the sink over a writer takes two bytes and is then broken, though the writer would take more.
 fn expect_broken(rt: &impl Abort, turns: &[Turn]) {
     let mut out = Out::new(Turns { turns });
-    assert_eq!(rt; out.put(b"abc"), Ok(2));
-    assert_eq!(rt; out.put(b"c"), Err(Broken));
-    assert_eq!(rt; out.put(b"c"), Err(Broken));
-    assert_eq!(rt; out.flush(), Err(Broken));
+    expect_eq(rt, out.put(b"abc"), Ok(2));
+    expect_eq(rt, out.put(b"c"), Err(Broken));
+    expect_eq(rt, out.put(b"c"), Err(Broken));
+    expect_eq(rt, out.flush(), Err(Broken));
 }
 
 #[test]
@@ -63,22 +64,22 @@ fn a_write_that_fails_or_takes_nothing_breaks_a_sink(rt: HostRuntime) {
 fn a_failed_flush_breaks_a_sink(rt: HostRuntime) {
     let turns = [Turn::Take(3), Turn::Fail];
     let mut out = Out::new(Turns { turns: &turns });
-    assert_eq!(rt; out.put(b"abc"), Ok(3));
-    assert_eq!(rt; out.flush(), Err(Broken));
+    expect_eq(&rt, out.put(b"abc"), Ok(3));
+    expect_eq(&rt, out.flush(), Err(Broken));
     // The writer would flush, and take the byte.
-    assert_eq!(rt; out.flush(), Err(Broken));
-    assert_eq!(rt; out.put(b"d"), Err(Broken));
+    expect_eq(&rt, out.flush(), Err(Broken));
+    expect_eq(&rt, out.put(b"d"), Err(Broken));
 }
 
 #[test]
 fn a_sink_over_bytes_fails_as_it_is_told(rt: HostRuntime) {
     let mut room = [0u8; 8];
     let mut sink = MemSink::new(&mut room, 2, 3);
-    assert_eq!(rt; sink.put(b"abc"), Ok(2));
-    assert_eq!(rt; sink.put(b"cd"), Ok(1));
-    assert_eq!(rt; sink.put(b"d"), Err(Broken));
-    assert_eq!(rt; sink.flush(), Err(Broken));
-    assert_eq!(rt; sink.bytes(), b"abc".as_slice());
+    expect_eq(&rt, sink.put(b"abc"), Ok(2));
+    expect_eq(&rt, sink.put(b"cd"), Ok(1));
+    expect_eq(&rt, sink.put(b"d"), Err(Broken));
+    expect_eq(&rt, sink.flush(), Err(Broken));
+    expect_eq(&rt, sink.bytes(), b"abc".as_slice());
 }
 
 /// The length of a text that a pen can't hold back as a whole.
@@ -93,9 +94,9 @@ fn write_in_pieces(rt: &impl Abort, room: &mut [u8], expected: Result<(), WriteF
     for piece in text.chunks(7) {
         pen.add(piece, &mut sink);
     }
-    assert_eq!(rt; pen.finish(&mut sink), expected);
+    expect_eq(rt, pen.finish(&mut sink), expected);
     let left = sink.bytes().iter().filter(|byte| **byte != b'a').count();
-    assert_eq!(rt; left, 0);
+    expect_eq(rt, left, 0);
 }
 
 #[test]

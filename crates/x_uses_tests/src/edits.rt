@@ -1,4 +1,5 @@
 //! What an edit leaves of the table of names.
+use asserts::expect_eq;
 use std::alloc::Global;
 use std::process::Abort;
 use std::test::Fail;
@@ -41,7 +42,7 @@ fn follow(
     uses.make_room(alloc, &fresh)?;
     let first = uses.first_after(&fresh, place, b"A");
     uses.replace(place, &gone, &fresh);
-    assert_eq!(rt; uses.first(b"A"), first);
+    expect_eq(rt, uses.first(b"A"), first);
     Ok(())
 }
 
@@ -55,11 +56,11 @@ fn expect_uses(
     users: (&[u32], &[u32]),
 ) -> Result<(), NoMemory> {
     let names = Names::of(alloc, definitions)?;
-    assert_eq!(rt; uses.first(b"A"), names.first(b"A"));
-    assert_eq!(rt; uses.first(b"T"), names.first(b"T"));
-    assert_eq!(rt; uses.first(b"TRUE"), None);
-    assert_eq!(rt; uses.users(b"A"), users.0);
-    assert_eq!(rt; uses.users(b"T"), users.1);
+    expect_eq(rt, uses.first(b"A"), names.first(b"A"));
+    expect_eq(rt, uses.first(b"T"), names.first(b"T"));
+    expect_eq(rt, uses.first(b"TRUE"), None);
+    expect_eq(rt, uses.users(b"A"), users.0);
+    expect_eq(rt, uses.users(b"T"), users.1);
     Ok(())
 }
 

@@ -5,6 +5,7 @@ ghost use Rattle.std.specs.Prelude.{◌≤◌};
 use crate::streams::{
     CALL_TEXT, NULL_CALL, READDIR, READDIR_CALL_TEXT, READDIR_RESULTS, nfs2_schema,
 };
+use asserts::expect_eq;
 use refusals::{MOST_TURNS, begin, end};
 use std::alloc::Global;
 use std::process::Abort;
@@ -61,11 +62,15 @@ fn show_once(
     let refused = end(alloc);
     if result == Err(EngineFault::NoMemory { written: 0 }) {
         assert!(rt; refused && sink.bytes().is_empty());
-        assert_eq!(rt; show(rt, alloc, schema, row, &mut sink), Ok(Outcome::Clean));
+        expect_eq(
+            rt,
+            show(rt, alloc, schema, row, &mut sink),
+            Ok(Outcome::Clean),
+        );
     } else {
-        assert_eq!(rt; result, Ok(Outcome::Clean));
+        expect_eq(rt, result, Ok(Outcome::Clean));
     }
-    assert_eq!(rt; sink.bytes(), row.text);
+    expect_eq(rt, sink.bytes(), row.text);
     Ok(refused)
 }
 

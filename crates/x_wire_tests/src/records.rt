@@ -1,5 +1,6 @@
 //! Records of streams.
 use crate::streams::{NULL_CALL, READDIR};
+use asserts::{expect_eq, expect_text};
 use refusals::{ALL, MOST_TURNS, begin, end};
 use std::alloc::{AllocError, Global};
 use std::process::Abort;
@@ -59,8 +60,8 @@ fn a_stream_has_its_records_in_every_cut(rt: HostRuntime) {
     for cut in 0..25 {
         let mut text = Vec::new(rt.alloc());
         let end = feed_cut(rt.alloc(), STREAM, cut, &mut text);
-        assert_eq!(rt; end, refusal(23, RecordCode::Truncated), "cut at {cut}");
-        assert_eq!(rt; text.as_slice(), b"abcde;;".as_slice(), "cut at {cut}");
+        expect_eq(&rt, end, refusal(23, RecordCode::Truncated));
+        expect_eq(&rt, text.as_slice(), b"abcde;;".as_slice());
     }
 }
 
@@ -72,8 +73,8 @@ fn feed_header(rt: &impl Abort, alloc: Global, header: &[u8]) -> Result<(), Reco
     let again = feed_all(&mut records, b"x", &mut text);
     assert!(rt; text.is_empty());
     if answer.is_err() {
-        assert_eq!(rt; answer, again);
-        assert_eq!(rt; answer, records.finish());
+        expect_eq(rt, answer, again);
+        expect_eq(rt, answer, records.finish());
     }
     answer
 }
@@ -81,10 +82,18 @@ fn feed_header(rt: &impl Abort, alloc: Global, header: &[u8]) -> Result<(), Reco
 #[test]
 fn the_header_decides_that_a_record_is_too_long(rt: HostRuntime) {
     let too_long = refusal(0, RecordCode::RecordTooLong);
-    assert_eq!(rt; feed_header(&rt, rt.alloc(), b"\x7f\xff\xff\xff"), too_long);
-    assert_eq!(rt; feed_header(&rt, rt.alloc(), b"\x80\x10\0\x01"), too_long);
-    assert_eq!(rt; feed_header(&rt, rt.alloc(), b"\0\x10\0\x01"), too_long);
-    assert_eq!(rt; feed_header(&rt, rt.alloc(), b"\x80\x10\0\0"), Ok(()));
+    expect_eq(
+        &rt,
+        feed_header(&rt, rt.alloc(), b"\x7f\xff\xff\xff"),
+        too_long,
+    );
+    expect_eq(
+        &rt,
+        feed_header(&rt, rt.alloc(), b"\x80\x10\0\x01"),
+        too_long,
+    );
+    expect_eq(&rt, feed_header(&rt, rt.alloc(), b"\0\x10\0\x01"), too_long);
+    expect_eq(&rt, feed_header(&rt, rt.alloc(), b"\x80\x10\0\0"), Ok(()));
 }
 
 #[test]
@@ -96,8 +105,8 @@ fn a_record_may_have_the_most_bytes(rt: HostRuntime) -> Result<(), Fail> {
         Ok(fed) => fed.whole.map(|whole| whole.len()),
         Err(_) => None,
     };
-    assert_eq!(rt; len, Some(MAX_RECORD));
-    assert_eq!(rt; records.finish(), Ok(()));
+    expect_eq(&rt, len, Some(MAX_RECORD));
+    expect_eq(&rt, records.finish(), Ok(()));
     Ok(())
 }
 
@@ -106,14 +115,19 @@ fn fragments_add_up_to_a_record_that_is_too_long(rt: HostRuntime) -> Result<(), 
     let data = vec![in rt.alloc(); 7u8; 524_288]?;
     let mut records = Records::new(rt.alloc());
     let mut text = Vec::new(rt.alloc());
-    assert_eq!(rt; feed_all(&mut records, b"\0\x08\0\0", &mut text), Ok(()));
-    assert_eq!(rt; feed_all(&mut records, &data, &mut text), Ok(()));
-    let too_long = refusal(524_292, RecordCode::RecordTooLong);
-    assert_eq!(rt;
-        feed_all(&mut records, b"\x80\x08\0\x01", &mut text),
-        too_long
+    expect_eq(
+        &rt,
+        feed_all(&mut records, b"\0\x08\0\0", &mut text),
+        Ok(()),
     );
-    assert_eq!(rt; records.finish(), too_long);
+    expect_eq(&rt, feed_all(&mut records, &data, &mut text), Ok(()));
+    let too_long = refusal(524_292, RecordCode::RecordTooLong);
+    expect_eq(
+        &rt,
+        feed_all(&mut records, b"\x80\x08\0\x01", &mut text),
+        too_long,
+    );
+    expect_eq(&rt, records.finish(), too_long);
     Ok(())
 }
 
@@ -121,23 +135,21 @@ fn fragments_add_up_to_a_record_that_is_too_long(rt: HostRuntime) -> Result<(), 
 fn empty_fragments_leave_a_record_open(rt: HostRuntime) {
     let mut records = Records::new(rt.alloc());
     let mut text = Vec::new(rt.alloc());
-    assert_eq!(rt; records.finish(), Ok(()));
+    expect_eq(&rt, records.finish(), Ok(()));
     for _ in 0..1000 {
-        assert_eq!(rt; feed_all(&mut records, &[0; 4], &mut text), Ok(()));
+        expect_eq(&rt, feed_all(&mut records, &[0; 4], &mut text), Ok(()));
     }
-    assert_eq!(rt; records.finish(), refusal(4000, RecordCode::Truncated));
+    expect_eq(&rt, records.finish(), refusal(4000, RecordCode::Truncated));
 }
 
 #[test]
 fn a_reason_has_its_text(rt: HostRuntime) -> Result<(), Fail> {
-    assert_eq!(rt; RecordCode::NoMemory.text(), "58 NoMemory");
+    expect_eq(&rt, RecordCode::NoMemory.text(), "58 NoMemory");
     let fault = RecordFault {
         at: 23,
         code: RecordCode::Truncated,
     };
-    let line = format!(in rt.alloc(); "{fault}")?;
-    assert_eq!(rt; line.as_str(), "61 Truncated at 23");
-    Ok(())
+    expect_text(&rt, rt.alloc(), &fault, "61 Truncated at 23")
 }
 
 /// Feeds what stands behind a cut with one allocation refused after another. After a refusal all is as before
@@ -151,7 +163,7 @@ fn feed_with_little_memory(
     for turn in 0..MOST_TURNS {
         let mut records = Records::new(alloc);
         let mut text = Vec::new(alloc);
-        assert_eq!(rt; feed_all(&mut records, first, &mut text), Ok(()));
+        expect_eq(rt, feed_all(&mut records, first, &mut text), Ok(()));
         let before = records.finish();
         begin(alloc, turn)?;
         let answer = records.feed(rest);
@@ -169,12 +181,12 @@ fn feed_with_little_memory(
             }
         };
         if used == 0 {
-            assert_eq!(rt; records.finish(), before);
+            expect_eq(rt, records.finish(), before);
         }
         let rest = rest.get(used..).unwrap_or_default();
-        assert_eq!(rt; feed_all(&mut records, rest, &mut text), Ok(()));
-        assert_eq!(rt; records.finish(), Ok(()));
-        assert_eq!(rt; text.as_slice(), whole);
+        expect_eq(rt, feed_all(&mut records, rest, &mut text), Ok(()));
+        expect_eq(rt, records.finish(), Ok(()));
+        expect_eq(rt, text.as_slice(), whole);
         if !refused {
             return Ok(turn);
         }
@@ -225,16 +237,16 @@ fn refused_feeding(rt: HostRuntime) -> Result<(), Fail> {
 fn bare_records(rt: HostRuntime) -> Result<(), Fail> {
     begin(rt.alloc(), ALL)?;
     let mut records = Records::new(rt.alloc());
-    assert_eq!(rt; records.finish(), Ok(()));
+    expect_eq(&rt, records.finish(), Ok(()));
     assert!(rt; records.feed(b"\x7f\xff\xff\xff").is_err());
-    assert_eq!(rt; records.finish(), refusal(0, RecordCode::RecordTooLong));
+    expect_eq(&rt, records.finish(), refusal(0, RecordCode::RecordTooLong));
     let read = message(&NULL_CALL[4..44]).map(|message| message.xid);
-    assert_eq!(rt; read, Ok(1));
+    expect_eq(&rt, read, Ok(1));
     let short = ReadFault {
         at: 3,
         code: ReadCode::Short,
     };
-    assert_eq!(rt; message(&NULL_CALL[4..7]).err(), Some(short));
+    expect_eq(&rt, message(&NULL_CALL[4..7]).err(), Some(short));
     assert!(rt; !end(rt.alloc()));
     Ok(())
 }

@@ -2,6 +2,7 @@
 ghost use Rattle.std.specs.Prelude.{◌≤◌};
 
 use crate::records::feed_cut;
+use asserts::expect_eq;
 use refusals::{MOST_TURNS, begin, end};
 use std::alloc::Global;
 use std::io::{self, Write};
@@ -189,8 +190,8 @@ fn expect_told(
     let mut told = [0u8; 256];
     let mut sink = MemSink::new(&mut told, 256, 256);
     let result = dump_stream(alloc, schema, tap, &mut sink);
-    assert_eq!(rt; result, wanted);
-    assert_eq!(rt; sink.bytes(), text);
+    expect_eq(rt, result, wanted);
+    expect_eq(rt, sink.bytes(), text);
 }
 
 /// The stream cut to so many bytes, whole and byte by byte.
@@ -266,8 +267,8 @@ fn stop_behind(rt: &impl Abort, alloc: Global, schema: &Schema, text: &[u8], cou
     let mut tap = MemTap::new(NULL_CALL, 7, usize::MAX);
     let result = dump_stream(alloc, schema, &mut tap, &mut sink);
     let written = count as u64;
-    assert_eq!(rt; result, Err(EngineFault::Write { written }));
-    assert_eq!(rt; Some(sink.bytes()), text.get(..count));
+    expect_eq(rt, result, Err(EngineFault::Write { written }));
+    expect_eq(rt, Some(sink.bytes()), text.get(..count));
 }
 
 /// A writer that takes nothing.
@@ -288,20 +289,22 @@ impl Write for Stuck {
 fn expect_stuck(rt: &impl Abort, alloc: Global, schema: &Schema) {
     let stuck = Err(EngineFault::Write { written: 0 });
     let mut tap = MemTap::new(NULL_CALL, 7, usize::MAX);
-    assert_eq!(rt;
+    expect_eq(
+        rt,
         dump_stream(alloc, schema, &mut tap, &mut Out::new(Stuck)),
-        stuck
+        stuck,
     );
     let call = &NULL_CALL[4..44];
-    assert_eq!(rt;
+    expect_eq(
+        rt,
         dump_message(alloc, schema, call, &mut Out::new(Stuck)),
-        stuck
+        stuck,
     );
     let value = match schema.type_named(b"ftype") {
         Some(id) => dump_value(alloc, schema, id, &[0u8; 4], &mut Out::new(Stuck)),
         None => Ok(Outcome::Clean),
     };
-    assert_eq!(rt; value, stuck);
+    expect_eq(rt, value, stuck);
 }
 
 #[test]
@@ -323,8 +326,8 @@ fn expect_row(rt: &impl Abort, alloc: Global, schema: &Schema, stream: &[u8], te
     let mut sink = MemSink::new(&mut told, 1024, 1024);
     let mut tap = MemTap::new(stream, 7, usize::MAX);
     let result = dump_stream(alloc, schema, &mut tap, &mut sink);
-    assert_eq!(rt; result, Ok(Outcome::Clean));
-    assert_eq!(rt; sink.bytes(), text);
+    expect_eq(rt, result, Ok(Outcome::Clean));
+    expect_eq(rt, sink.bytes(), text);
 }
 
 /// Tells of a stream with one allocation refused after another: what was told before is told whole, and the
@@ -361,7 +364,7 @@ fn tell_once(
     let result = dump_stream(alloc, schema, &mut tap, &mut sink);
     let refused = end(alloc);
     let written = sink.bytes().len();
-    assert_eq!(rt; Some(sink.bytes()), text.get(..written));
+    expect_eq(rt, Some(sink.bytes()), text.get(..written));
     match result {
         Ok(outcome) => assert!(rt; outcome == Outcome::Clean && written == text.len()),
         Err(fault) => {

@@ -1,6 +1,7 @@
 //! Values that are read with every allocation refused in turn, and the text of a refusal.
 
 use crate::streams::{READDIR, nfs2_schema};
+use asserts::{expect_eq, expect_text};
 use refusals::{MOST_TURNS, begin, end};
 use std::alloc::Global;
 use std::process::Abort;
@@ -37,7 +38,7 @@ fn read_with_little_memory(
         let refused = end(alloc);
         if answer != wanted {
             assert!(rt; refused && answer == fault(0, ReadCode::NoMemory));
-            assert_eq!(rt; count_nodes(alloc, schema, name, message), wanted);
+            expect_eq(rt, count_nodes(alloc, schema, name, message), wanted);
         }
         if !refused {
             return Ok(turn);
@@ -114,9 +115,7 @@ fn a_refusal_has_its_text(rt: HostRuntime) -> Result<(), Fail> {
         (ReadCode::NoMemory, "58 NoMemory at 4"),
     ];
     for (code, wanted) in rows {
-        let fault = ReadFault { at: 4, code };
-        let text = format!(in rt.alloc(); "{fault}")?;
-        assert_eq!(rt; text.as_str(), wanted);
+        expect_text(&rt, rt.alloc(), &ReadFault { at: 4, code }, wanted)?;
     }
     Ok(())
 }
