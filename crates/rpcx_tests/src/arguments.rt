@@ -1,6 +1,6 @@
 //! Command lines.
+use crate::asserts::expect_eq;
 use crate::before::nothing;
-use asserts::expect_eq;
 use clap::error::ErrorKind;
 use rpcx::{GenArgs, RPCGEN, Status, answer_words, gen_args, mark_under_word, request_first};
 use std::test::Fail;

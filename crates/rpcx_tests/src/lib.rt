@@ -4,6 +4,8 @@
 #[cfg(test)]
 mod arguments;
 #[cfg(test)]
+mod asserts;
+#[cfg(test)]
 mod before;
 #[cfg(test)]
 mod outputs;

@@ -1,8 +1,8 @@
 //! Runs of `rpcgen` over an output in memory, which tells what stands under its name.
 ghost use Rattle.std.specs.Prelude.{Some, option_map};
 
+use crate::asserts::expect_eq;
 use crate::before::nothing;
-use asserts::expect_eq;
 use rpcx::{FaultStyle, GenArgs, KnownSources, Opening, Output, OutputFault, Status, gen_run};
 use std::alloc::Global;
 use std::test::Fail;

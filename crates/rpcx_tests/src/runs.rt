@@ -1,6 +1,6 @@
 //! Runs of the programs.
+use crate::asserts::expect_eq;
 use crate::before::nothing;
-use asserts::expect_eq;
 use rpcx::{
     DumpArgs, EditArgs, FaultStyle, GenArgs, KnownSources, Mode, Opening, Status, dump_run,
     edit_run, gen_mode, gen_open, gen_write,

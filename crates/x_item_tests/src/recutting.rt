@@ -6,7 +6,6 @@ ghost use Rattle.x_lex.specs.Places.{lexemes};
 ghost use Rattle.x_cutting.specs.Items.{IsCut};
 ghost use Rattle.x_cutting.specs.ItemList.{counts};
 
-use asserts::expect_eq;
 use std::alloc::Global;
 use std::process::Abort;
 use std::test::Fail;
@@ -44,9 +43,9 @@ fn follow(
 
 /// Checks how many tokens each item has.
 fn expect_items(rt: &impl Abort, items: &Items<u8>, counts: &[u32]) {
-    expect_eq(rt, items.len(), counts.len());
+    assert!(rt; items.len() == counts.len());
     for (index, count) in counts.iter().enumerate() {
-        expect_eq(rt, items.get(index).map(|item| item.tokens), Some(*count));
+        assert!(rt; items.get(index).map(|item| item.tokens) == Some(*count));
     }
 }
 
@@ -71,7 +70,7 @@ fn follow_with_little_memory(rt: &impl Abort, alloc: Global) -> Result<(), TextF
         expect_items(rt, &items, &[19]);
         return Err(TextFault::NoMemory);
     };
-    expect_eq(rt, count, 3);
+    assert!(rt; count == 3);
     expect_items(rt, &items, &[13, 9, 0]);
     Ok(())
 }
@@ -80,7 +79,7 @@ fn follow_with_little_memory(rt: &impl Abort, alloc: Global) -> Result<(), TextF
 fn sweep_recut(rt: HostRuntime) -> Result<(), Fail> {
     match follow_with_little_memory(&rt, rt.alloc()) {
         Ok(()) => println!(rt; "nothing was refused")?,
-        Err(fault) => expect_eq(&rt, fault, TextFault::NoMemory),
+        Err(fault) => assert!(rt; fault == TextFault::NoMemory),
     }
     Ok(())
 }

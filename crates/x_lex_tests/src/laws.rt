@@ -1,5 +1,4 @@
 //! Each law called once.
-use asserts::expect_eq;
 use refusals::{ALL, begin, end};
 use std::test::Fail;
 use x_lex::{Kind, has_tokens, lex_one, one_meeting, one_patch, one_tiling, tokens_by_place};
@@ -20,9 +19,9 @@ fn bare_token(rt: HostRuntime) -> Result<(), Fail> {
     begin(rt.alloc(), ALL)?;
     let mut meter = Meter::new();
     let at_start = lex_one(b"a\n% b", 2, true, &mut meter);
-    expect_eq(&rt, at_start, (Kind::Percent, 5));
+    assert!(rt; at_start == (Kind::Percent, 5));
     let elsewhere = lex_one(b"a\n% b", 2, false, &mut meter);
-    expect_eq(&rt, elsewhere, (Kind::BadByte, 3));
+    assert!(rt; elsewhere == (Kind::BadByte, 3));
     assert!(rt; !end(rt.alloc()));
     Ok(())
 }

@@ -2,7 +2,6 @@
 ghost use Rattle.std.specs.Prelude.{◌≤◌};
 ghost use Rattle.x_lex.specs.Tiling.{AreTokens};
 
-use asserts::expect_eq;
 use refusals::{ALL, MOST_TURNS, begin, end};
 use std::alloc::Global;
 use std::process::Abort;
@@ -26,20 +25,20 @@ const AFTER: [(Kind, usize, usize); 4] = [
 ];
 
 fn expect_tokens(rt: &impl Abort, tokens: &Tokens, places: &[(Kind, usize, usize)]) {
-    expect_eq(rt, tokens.len(), places.len());
+    assert!(rt; tokens.len() == places.len());
     for (index, place) in places.iter().enumerate() {
-        expect_eq(rt, tokens.get(index), Some(*place));
+        assert!(rt; tokens.get(index) == Some(*place));
     }
-    expect_eq(rt, tokens.get(places.len()), None);
+    assert!(rt; tokens.get(places.len()) == None);
 }
 
 /// Checks the patch: the token at the edit goes too, since what follows it decides its end.
 fn expect_patch(rt: &impl Abort, patch: &Patch) {
-    expect_eq(rt, (patch.at(), patch.removed(), patch.len()), (1, 3, 3));
-    expect_eq(rt, patch.get(0), Some((Kind::Punct, 1)));
-    expect_eq(rt, patch.get(1), Some((Kind::BadByte, 1)));
-    expect_eq(rt, patch.get(2), Some((Kind::Name, 1)));
-    expect_eq(rt, patch.get(3), None);
+    assert!(rt; (patch.at(), patch.removed(), patch.len()) == (1, 3, 3));
+    assert!(rt; patch.get(0) == Some((Kind::Punct, 1)));
+    assert!(rt; patch.get(1) == Some((Kind::BadByte, 1)));
+    assert!(rt; patch.get(2) == Some((Kind::Name, 1)));
+    assert!(rt; patch.get(3) == None);
 }
 
 /// Follows the edit with allocations refused. It tells whether one was, and leaves all as before then.
@@ -74,7 +73,7 @@ fn follow(
     begin(alloc, ALL)?;
     expect_tokens(rt, tokens, &BEFORE);
     expect_patch(rt, &patch);
-    expect_eq(rt, tokens.put(patch), 0);
+    assert!(rt; tokens.put(patch) == 0);
     expect_tokens(rt, tokens, &AFTER);
     assert!(rt; !end(alloc));
     Ok(refused)
@@ -87,7 +86,7 @@ fn refused_edit(rt: HostRuntime) -> Result<(), Fail> {
     let old = Source::from_bytes(rt.alloc(), b"x;\n%y")?;
     for turn in 0..MOST_TURNS {
         let mut tokens = lex(rt.alloc(), &old, &mut Meter::new())?;
-        expect_eq(&rt, tokens.iter_from(tokens.len(), &old).count(), 0);
+        assert!(rt; tokens.iter_from(tokens.len(), &old).count() == 0);
         let refused = follow(&rt, rt.alloc(), &mut tokens, &old, turn)?;
         if !refused {
             println!(rt; "turns: {turn}")?;

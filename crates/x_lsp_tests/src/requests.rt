@@ -4,7 +4,6 @@ ghost use Rattle.std.specs.Prelude.{◌≤◌};
 
 use crate::memory::{ANSWER, ANSWER_TO_NONE};
 use crate::setting::SETTING;
-use asserts::expect_eq;
 use refusals::{MOST_TURNS, begin, end};
 use std::alloc::Global;
 use std::process::Abort;
@@ -170,7 +169,7 @@ fn serve_once(
     let result = serve(alloc, HashKey::of_bytes(b""), SETTING, &mut tap, &mut sink);
     let refused = end(alloc);
     if sink.bytes() == wanted {
-        expect_eq(rt, result, Ok(true));
+        assert!(rt; result == Ok(true));
         return Ok(refused);
     }
     let written = sink.bytes().len() as u64;
@@ -200,16 +199,14 @@ fn refused_conversation(rt: HostRuntime) -> Result<(), Fail> {
     let mut said = [0u8; 4096];
     let mut sink = MemSink::new(&mut said, 4096, 4096);
     let mut tap = MemTap::new(&stream, 64, usize::MAX);
-    expect_eq(
-        &rt,
+    assert!(rt;
         serve(
             rt.alloc(),
             HashKey::of_bytes(b""),
             SETTING,
             &mut tap,
             &mut sink,
-        ),
-        Ok(true),
+        ) == Ok(true)
     );
     let turns = serve_in_turns(&rt, rt.alloc(), &stream, sink.bytes())?;
     println!(rt; "turns: {turns}")?;

@@ -1,5 +1,4 @@
 //! The parts of a schema, by its public calls alone.
-use asserts::expect_eq;
 use std::alloc::Global;
 use std::process::Abort;
 use std::test::Fail;
@@ -34,12 +33,12 @@ fn expect_enumerators(rt: &impl Abort, schema: &Schema) {
     let Form::Enum(names) = schema.form(id) else {
         panic!(rt; "it is no enum");
     };
-    expect_eq(rt, names.len(), 2);
+    assert!(rt; names.len() == 2);
     assert!(rt; names.get(2).is_none());
     let Some((word, name)) = names.get(1) else {
         panic!(rt; "it has no second name");
     };
-    expect_eq(rt, (word, schema.name(name)), (7, b"B".as_slice()));
+    assert!(rt; (word, schema.name(name)) == (7, b"B".as_slice()));
 }
 
 /// Checks what a union's arms hold, and where a link in it leads.
@@ -50,21 +49,21 @@ fn expect_arms(rt: &impl Abort, schema: &Schema) {
     let Form::Union(discriminant, arms) = schema.form(id) else {
         panic!(rt; "it is no union");
     };
-    expect_eq(rt, schema.name(discriminant.name), b"e".as_slice());
+    assert!(rt; schema.name(discriminant.name) == b"e".as_slice());
     assert!(rt; matches!(schema.form_at(discriminant.form), Form::Enum(_)));
-    expect_eq(rt, arms.case_count(), 1);
+    assert!(rt; arms.case_count() == 1);
     let Some((1, Arm::Of(next))) = arms.case(0) else {
         panic!(rt; "its case holds nothing");
     };
-    expect_eq(rt, schema.name(next.name), b"next".as_slice());
+    assert!(rt; schema.name(next.name) == b"next".as_slice());
     let Form::Optional(link) = schema.form_at(next.form) else {
         panic!(rt; "it is no link");
     };
-    expect_eq(rt, schema.target(*link), id.form());
+    assert!(rt; schema.target(*link) == id.form());
     let Some(Arm::Of(other)) = arms.default() else {
         panic!(rt; "its default holds nothing");
     };
-    expect_eq(rt, schema.name(other.name), b"x".as_slice());
+    assert!(rt; schema.name(other.name) == b"x".as_slice());
 }
 
 #[test]

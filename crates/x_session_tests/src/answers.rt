@@ -3,7 +3,7 @@
 ghost use Rattle.std.specs.Prelude.{IfOk};
 ghost use Rattle.x_prelude.specs.Followed.{IsOver};
 
-use asserts::expect_eq;
+use crate::asserts::expect_eq;
 use std::alloc::Global;
 use std::process::Abort;
 use x_explain::KnownFiles;

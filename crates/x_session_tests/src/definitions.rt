@@ -1,6 +1,6 @@
 //! One definition by the calls below a session: what checking it finds, and what is generated of it.
 
-use asserts::expect_eq;
+use crate::asserts::expect_eq;
 use refusals::{ALL, begin, end};
 use std::alloc::Global;
 use std::process::Abort;

@@ -5,7 +5,7 @@ ghost use Rattle.std.specs.Prelude.{◌≤◌};
 ghost use Rattle.x_prelude.specs.Followed.{IsOver};
 
 use crate::answers::{expect_answers, opened, run, write_answers};
-use asserts::expect_eq;
+use crate::asserts::expect_eq;
 use refusals::{MOST_TURNS, begin, end};
 use std::alloc::Global;
 use std::process::Abort;

@@ -1,5 +1,5 @@
 //! Texts before which definitions are known.
-use asserts::expect_eq;
+use crate::asserts::expect_eq;
 use std::alloc::Global;
 use std::test::Fail;
 use x_hash::HashKey;

@@ -4,6 +4,8 @@
 #[cfg(test)]
 mod answers;
 #[cfg(test)]
+mod asserts;
+#[cfg(test)]
 mod definitions;
 #[cfg(test)]
 mod edits;

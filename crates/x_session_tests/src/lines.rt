@@ -2,7 +2,7 @@
 ghost use Rattle.std.specs.Prelude.{◌≡◌, length, IfOk, IfSome};
 ghost use Rattle.x_lines.specs.Lines.{script_lines};
 
-use asserts::expect_eq;
+use crate::asserts::expect_eq;
 use std::alloc::Global;
 use std::process::Abort;
 use std::test::Fail;

@@ -1,7 +1,7 @@
 //! Scripts.
 use crate::answers::{opened, run};
+use crate::asserts::expect_eq;
 use crate::edits::expect_text;
-use asserts::expect_eq;
 use std::alloc::Global;
 use std::io::{self, Write};
 use std::process::Abort;

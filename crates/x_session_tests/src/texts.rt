@@ -1,5 +1,5 @@
 //! The texts of faults.
-use asserts::expect_text;
+use crate::asserts::expect_text;
 use std::test::Fail;
 use x_script::{EngineFault, LineFault};
 use x_session::{SchemaFault, near_edits, one_compilation, one_work};

@@ -3,8 +3,8 @@
 ghost use Rattle.x_prelude.specs.Followed.{IsOver};
 
 use crate::answers::{opened, run};
+use crate::asserts::expect_eq;
 use crate::edits::{ROWS, Row, expect_text};
-use asserts::expect_eq;
 use refusals::{ALL, begin, end};
 use std::alloc::Global;
 use std::io::{self, Write};

@@ -1,5 +1,5 @@
 //! The texts of error types.
-use asserts::{expect_eq, expect_text};
+use crate::asserts::{expect_eq, expect_text};
 use refusals::{ALL, begin, end};
 use std::test::Fail;
 use x_text::{Broken, Meter, NoMemory, TextFault, WriteFault};

@@ -1,5 +1,5 @@
 //! Readers that fail.
-use asserts::expect_eq;
+use crate::asserts::expect_eq;
 use std::io::{self, Read};
 use x_text::{Broken, In, MemTap, Tap};
 

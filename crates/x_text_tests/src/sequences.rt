@@ -2,7 +2,7 @@
 ghost use Rattle.std.specs.Prelude.{◌≡◌, ◌+◌, ◌≤◌, OnOk, OnErr, IfOk, length};
 ghost use Rattle.std.specs.List.{splice};
 
-use asserts::expect_eq;
+use crate::asserts::expect_eq;
 use refusals::{ALL, begin, end};
 use std::alloc::Global;
 use std::process::Abort;

@@ -1,5 +1,5 @@
 //! Texts and edits, and their wants of memory.
-use asserts::expect_eq;
+use crate::asserts::expect_eq;
 use refusals::{ALL, begin, end};
 use std::process::Abort;
 use std::test::Fail;

@@ -1,5 +1,5 @@
 //! Writers that fail.
-use asserts::expect_eq;
+use crate::asserts::expect_eq;
 use std::io::{self, Write};
 use std::process::Abort;
 use x_text::{Broken, MemSink, Out, Pen, Sink, WriteFault};

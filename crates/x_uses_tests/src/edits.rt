@@ -1,5 +1,4 @@
 //! What an edit leaves of the table of names.
-use asserts::expect_eq;
 use std::alloc::Global;
 use std::process::Abort;
 use std::test::Fail;
@@ -42,7 +41,7 @@ fn follow(
     uses.make_room(alloc, &fresh)?;
     let first = uses.first_after(&fresh, place, b"A");
     uses.replace(place, &gone, &fresh);
-    expect_eq(rt, uses.first(b"A"), first);
+    assert!(rt; uses.first(b"A") == first);
     Ok(())
 }
 
@@ -56,11 +55,11 @@ fn expect_uses(
     users: (&[u32], &[u32]),
 ) -> Result<(), NoMemory> {
     let names = Names::of(alloc, definitions)?;
-    expect_eq(rt, uses.first(b"A"), names.first(b"A"));
-    expect_eq(rt, uses.first(b"T"), names.first(b"T"));
-    expect_eq(rt, uses.first(b"TRUE"), None);
-    expect_eq(rt, uses.users(b"A"), users.0);
-    expect_eq(rt, uses.users(b"T"), users.1);
+    assert!(rt; uses.first(b"A") == names.first(b"A"));
+    assert!(rt; uses.first(b"T") == names.first(b"T"));
+    assert!(rt; uses.first(b"TRUE") == None);
+    assert!(rt; uses.users(b"A") == users.0);
+    assert!(rt; uses.users(b"T") == users.1);
     Ok(())
 }
 

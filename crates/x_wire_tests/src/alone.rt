@@ -2,10 +2,10 @@
 
 ghost use Rattle.std.specs.Prelude.{◌≤◌};
 
+use crate::asserts::expect_eq;
 use crate::streams::{
     CALL_TEXT, NULL_CALL, READDIR, READDIR_CALL_TEXT, READDIR_RESULTS, nfs2_schema,
 };
-use asserts::expect_eq;
 use refusals::{MOST_TURNS, begin, end};
 use std::alloc::Global;
 use std::process::Abort;

@@ -4,6 +4,8 @@
 #[cfg(test)]
 mod alone;
 #[cfg(test)]
+mod asserts;
+#[cfg(test)]
 mod laws;
 #[cfg(test)]
 mod records;

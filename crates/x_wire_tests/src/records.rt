@@ -1,6 +1,6 @@
 //! Records of streams.
+use crate::asserts::{expect_eq, expect_text};
 use crate::streams::{NULL_CALL, READDIR};
-use asserts::{expect_eq, expect_text};
 use refusals::{ALL, MOST_TURNS, begin, end};
 use std::alloc::{AllocError, Global};
 use std::process::Abort;

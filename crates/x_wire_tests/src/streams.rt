@@ -1,8 +1,8 @@
 //! Streams as they are shown.
 ghost use Rattle.std.specs.Prelude.{◌≤◌};
 
+use crate::asserts::expect_eq;
 use crate::records::feed_cut;
-use asserts::expect_eq;
 use refusals::{MOST_TURNS, begin, end};
 use std::alloc::Global;
 use std::io::{self, Write};

@@ -1,7 +1,7 @@
 //! Values that are read with every allocation refused in turn, and the text of a refusal.
 
+use crate::asserts::{expect_eq, expect_text};
 use crate::streams::{READDIR, nfs2_schema};
-use asserts::{expect_eq, expect_text};
 use refusals::{MOST_TURNS, begin, end};
 use std::alloc::Global;
 use std::process::Abort;
