@@ -4,7 +4,7 @@ use Rattle.std.specs.List.{All, list_any, slice_index_or}
 use Rattle.std.specs.Str.{bytes_eq}
 use Rattle.std.proofs.lemmas.Slice.Eq.{bytes_eq-Decides}
 use Rattle.std.proofs.Math.Seq.{get_or-append_seam}
-use Rattle.std.proofs.lemmas.List.{map-append}
+use Rattle.std.proofs.lemmas.List.{append_assoc, map-append}
 use Rattle.std.proofs.lemmas.List.Elements.{All-nil, All-push}
 use Rattle.std.proofs.lemmas.List.Folds.{list_any_at}
 use Rattle.std.proofs.lemmas.Bool.{and_parts, both_ways, not-true}
@@ -124,6 +124,10 @@ chain_on ids mid cmd a id chain added fits is = record {
   fit = All-push FitsChain chain.args a chain.fit fits;
   ids_are = map-append id_of chain.args (a ∷ []) ∙ (λ i. chain.ids_are i ++ is i ∷ []);
 }
+
+-- three at the end of a list, one after another or as a list
+pub three_on : (ids : List Text) (a b c : Text) → ((ids ++ a ∷ []) ++ b ∷ []) ++ c ∷ [] ≡ ids ++ a ∷ b ∷ c ∷ []
+three_on ids a b c = append_assoc (ids ++ a ∷ []) (b ∷ []) (c ∷ []) ∙ append_assoc ids (a ∷ []) (b ∷ c ∷ [])
 
 -- the last argument of a chain, where it is required and takes a value, always has one
 pub last_has : (ids : List Text) (mid cmd : Command) (a : Arg) (id : Text) → IsChain ids mid → AddsArg mid a cmd → FitsChain a → TakesValue a

@@ -114,6 +114,19 @@ bare_app name = on_top (λ s. record s { disable_help_flag = true }) (new_app na
 abbrev pub plain_app : Text → App
 plain_app name = with_rule (with_rule (bare_app name) help_rule) version_rule
 
+-- the ids of the options for what stands before a text
+abbrev pub before_ids : List Text
+before_ids = codes "known" ∷ codes "c_types" ∷ codes "foreign" ∷ []
+
+-- those of the options for how faults and clashes of names are reported
+abbrev pub report_ids : List Text
+report_ids = codes "explain" ∷ codes "plain" ∷ codes "strict" ∷ []
+
+-- those of `--help`, `--version` and the letters of `rpcgen`
+abbrev pub letter_ids : List Text
+letter_ids = request_ids
+    ++ codes "routines" ∷ codes "header" ∷ codes "stubs" ∷ codes "table" ∷ codes "output" ∷ []
+
 -- the options for what stands before a text, behind what a command knows
 abbrev pub with_before : App → App
 with_before app = with_rule (with_rule (with_rule app known_rule) c_types_rule) foreign_rule

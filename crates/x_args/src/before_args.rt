@@ -1,11 +1,11 @@
 //! What stands before a text, by the options of a command line.
 
-ghost use Rattle.std.specs.Prelude.{IfOk};
-ghost use Rattle.clap.specs.Words.{found_of, rows_of};
-ghost use Rattle.x_args.specs.Args.{IsBeforeArgs};
+ghost use Rattle.std.specs.Prelude.{◌≡◌, ◌++◌, IfOk, List};
+ghost use Rattle.clap.specs.Words.{Text, app_of, found_of, rows_of};
+ghost use Rattle.x_args.specs.Args.{IsBeforeArgs, IsChain, before_ids, with_before};
 
-use crate::arguments::{is_given, values};
-use clap::ArgMatches;
+use crate::arguments::{is_given, known, request, values};
+use clap::{ArgAction, ArgMatches, Command};
 use std::alloc::{AllocError, Global};
 
 /// What stands before a text: files of definitions, and names of C.
@@ -31,4 +31,16 @@ pub fn before_args<'a>(
         c_types: is_given(matches, "c_types"),
         foreign: is_given(matches, "foreign"),
     })
+}
+
+/// The three options, after what a command has.
+pub fn with_before<'a>(alloc: Global, command: Command<'a>) -> Result<Command<'a>, AllocError>
+    ensures app { IfOk result (λ c. app_of c ≡ with_before (app_of command.entry)) }
+    ensures chain { IfOk result
+        (λ c. (ids : List Text) → IsChain ids command.entry → IsChain (ids ++ before_ids) c) }
+{
+    command
+        .arg(known(alloc))?
+        .arg(request(alloc, "c_types", "c-types", ArgAction::SetTrue))?
+        .arg(request(alloc, "foreign", "foreign", ArgAction::SetTrue))
 }

@@ -5,8 +5,9 @@ ghost use Rattle.clap.specs.Built.{FitsChain};
 ghost use Rattle.clap.specs.Words.{FailsBy, app_of, fault_of, matches_of, rule_of};
 ghost use Rattle.x_args.specs.Args.{HasSome, IsCheckArgs, asks_check, check_app, files_rule};
 
-use crate::arguments::{is_given, known, plain_command, request};
-use crate::before_args::{BeforeArgs, before_args};
+use crate::arguments::{is_given, plain_command, request};
+use crate::before_args::{BeforeArgs, before_args, with_before};
+use crate::generating_args::with_reports;
 use clap::{Arg, ArgAction, Command, Error};
 use std::alloc::{AllocError, Global};
 use std::convert::AsStr;
@@ -71,15 +72,13 @@ fn check_command<'a>(alloc: Global) -> Result<Command<'a>, AllocError>
     ensures app { IfOk result (λ c. app_of c ≡ check_app) }
     ensures files { IfOk result (HasSome (codes "file")) }
 {
-    plain_command(alloc, "rpcgen")?
-        .arg(request(alloc, "check", "check", ArgAction::SetTrue))?
-        .arg(request(alloc, "explain", "explain", ArgAction::SetTrue))?
-        .arg(request(alloc, "plain", "plain", ArgAction::SetTrue))?
-        .arg(request(alloc, "strict", "strict", ArgAction::SetTrue))?
-        .arg(known(alloc))?
-        .arg(request(alloc, "c_types", "c-types", ArgAction::SetTrue))?
-        .arg(request(alloc, "foreign", "foreign", ArgAction::SetTrue))?
-        .arg(files(alloc))
+    let command = plain_command(alloc, "rpcgen")?.arg(request(
+        alloc,
+        "check",
+        "check",
+        ArgAction::SetTrue,
+    ))?;
+    with_before(alloc, with_reports(alloc, command)?)?.arg(files(alloc))
 }
 
 // FILE, once or more often.

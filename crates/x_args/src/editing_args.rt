@@ -4,9 +4,9 @@ ghost use Rattle.std.specs.Prelude.{◌≡◌, IfOk, codes, map};
 ghost use Rattle.clap.specs.Words.{FailsBy, app_of, fault_of, matches_of};
 ghost use Rattle.x_args.specs.Args.{AlwaysHas, IsEditArgs, edit_app};
 
-use crate::arguments::{file, known, plain_command, request};
-use crate::before_args::{BeforeArgs, before_args};
-use clap::{ArgAction, Command, Error};
+use crate::arguments::{file, plain_command};
+use crate::before_args::{BeforeArgs, before_args, with_before};
+use clap::{Command, Error};
 use std::alloc::{AllocError, Global};
 use std::convert::AsStr;
 
@@ -39,9 +39,5 @@ fn edit_command<'a>(alloc: Global) -> Result<Command<'a>, AllocError>
     ensures app { IfOk result (λ c. app_of c ≡ edit_app) }
     ensures file { IfOk result (AlwaysHas (codes "file")) }
 {
-    plain_command(alloc, "rpcedit")?
-        .arg(known(alloc))?
-        .arg(request(alloc, "c_types", "c-types", ArgAction::SetTrue))?
-        .arg(request(alloc, "foreign", "foreign", ArgAction::SetTrue))?
-        .arg(file(alloc))
+    with_before(alloc, plain_command(alloc, "rpcedit")?)?.arg(file(alloc))
 }

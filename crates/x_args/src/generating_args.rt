@@ -1,12 +1,13 @@
 //! The command line of `rpcgen`, and the text that it asks for.
 
-ghost use Rattle.std.specs.Prelude.{◌≡◌, ◌≢◌, None, IfOk, codes, map};
-ghost use Rattle.clap.specs.Words.{FailsBy, app_of, fault_of, matches_of};
+ghost use Rattle.std.specs.Prelude.{◌≡◌, ◌≢◌, ◌++◌, None, IfOk, List, codes, map};
+ghost use Rattle.clap.specs.Words.{FailsBy, Text, app_of, fault_of, matches_of};
 ghost use Rattle.x_args.specs.Telling.{IsTold};
-ghost use Rattle.x_args.specs.Args.{AlwaysHas, IsGenArgs, asked_by, gen_app, only_of};
+ghost use Rattle.x_args.specs.Args.{AlwaysHas, IsChain, IsGenArgs, asked_by, gen_app, letter_ids};
+ghost use Rattle.x_args.specs.Args.{lettered_app, only_of, report_ids, with_reports};
 
-use crate::arguments::{file, flag, is_given, known, plain_command, request, valued};
-use crate::before_args::{BeforeArgs, before_args};
+use crate::arguments::{file, flag, is_given, plain_command, request, valued};
+use crate::before_args::{BeforeArgs, before_args, with_before};
 use crate::complaint::complain;
 use clap::{ArgAction, Command, Error};
 use std::alloc::{AllocError, Global};
@@ -62,24 +63,38 @@ pub fn gen_args<'a, S: AsStr>(alloc: Global, words: &'a [S]) -> Result<GenArgs<'
     })
 }
 
-// The letters and values of `rpcgen`.
+/// The command line of `rpcgen` with a letter.
 fn gen_command<'a>(alloc: Global) -> Result<Command<'a>, AllocError>
     ensures app { IfOk result (λ c. app_of c ≡ gen_app) }
     ensures file { IfOk result (AlwaysHas (codes "file")) }
+{
+    let command = with_reports(alloc, lettered_command(alloc)?)?;
+    with_before(alloc, command)?.arg(file(alloc))
+}
+
+/// The letters, and OUT.
+fn lettered_command<'a>(alloc: Global) -> Result<Command<'a>, AllocError>
+    ensures app { IfOk result (λ c. app_of c ≡ lettered_app) }
+    ensures chain { IfOk result (IsChain letter_ids) }
 {
     plain_command(alloc, "rpcgen")?
         .arg(flag(alloc, "routines", 'c'))?
         .arg(flag(alloc, "header", 'h'))?
         .arg(flag(alloc, "stubs", 'l'))?
         .arg(flag(alloc, "table", 't'))?
-        .arg(valued(alloc, "output", 'o', "OUT"))?
+        .arg(valued(alloc, "output", 'o', "OUT"))
+}
+
+/// `--explain`, `--plain` and `--strict`, after what a command has.
+pub fn with_reports<'a>(alloc: Global, command: Command<'a>) -> Result<Command<'a>, AllocError>
+    ensures app { IfOk result (λ c. app_of c ≡ with_reports (app_of command.entry)) }
+    ensures chain { IfOk result
+        (λ c. (ids : List Text) → IsChain ids command.entry → IsChain (ids ++ report_ids) c) }
+{
+    command
         .arg(request(alloc, "explain", "explain", ArgAction::SetTrue))?
         .arg(request(alloc, "plain", "plain", ArgAction::SetTrue))?
-        .arg(request(alloc, "strict", "strict", ArgAction::SetTrue))?
-        .arg(known(alloc))?
-        .arg(request(alloc, "c_types", "c-types", ArgAction::SetTrue))?
-        .arg(request(alloc, "foreign", "foreign", ArgAction::SetTrue))?
-        .arg(file(alloc))
+        .arg(request(alloc, "strict", "strict", ArgAction::SetTrue))
 }
 
 /// The text that a command line asks for: exactly one letter tells it.

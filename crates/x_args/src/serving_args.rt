@@ -4,8 +4,8 @@ ghost use Rattle.std.specs.Prelude.{◌≡◌, IfOk, map};
 ghost use Rattle.clap.specs.Words.{FailsBy, app_of, fault_of, matches_of};
 ghost use Rattle.x_args.specs.Args.{IsServeArgs, serve_app};
 
-use crate::arguments::{is_given, known, plain_command, request};
-use crate::before_args::{BeforeArgs, before_args};
+use crate::arguments::{is_given, plain_command, request};
+use crate::before_args::{BeforeArgs, before_args, with_before};
 use clap::{ArgAction, Command, Error};
 use std::alloc::{AllocError, Global};
 use std::convert::AsStr;
@@ -41,15 +41,16 @@ pub fn serve_args<'a, S: AsStr>(alloc: Global, words: &'a [S]) -> Result<ServeAr
 fn serve_command<'a>(alloc: Global) -> Result<Command<'a>, AllocError>
     ensures { IfOk result (λ c. app_of c ≡ serve_app) }
 {
-    plain_command(alloc, "rpcls")?
-        .arg(request(alloc, "stdio", "stdio", ArgAction::SetTrue))?
-        .arg(known(alloc))?
-        .arg(request(alloc, "c_types", "c-types", ArgAction::SetTrue))?
-        .arg(request(alloc, "foreign", "foreign", ArgAction::SetTrue))?
-        .arg(request(
-            alloc,
-            "fault_directives",
-            "fault-directives",
-            ArgAction::SetTrue,
-        ))
+    let command = plain_command(alloc, "rpcls")?.arg(request(
+        alloc,
+        "stdio",
+        "stdio",
+        ArgAction::SetTrue,
+    ))?;
+    with_before(alloc, command)?.arg(request(
+        alloc,
+        "fault_directives",
+        "fault-directives",
+        ArgAction::SetTrue,
+    ))
 }

@@ -335,22 +335,22 @@ names_of text definitions first count few counted names are =
 
 pub use_found : (own : KnownNames) (from : FromC) (text : List ℕ) (items : List Item) (name : List ℕ)
     (definitions : List (Option (Bor rust_tree.Definition))) (first : List ℕ → Option Declarer)
-    (marks : List Bool) (at : Declarer) (item word : ℕ) (spot : Option Spot)
+    (is_led : ℕ → Bool) (at : Declarer) (item word : ℕ) (spot : Option Spot)
     → from.foreign ≡ true → first name ≡ Some at
     → map tree_at definitions ≡ definitions_of items
     → ((name : List ℕ) → first name ≡ first_declarer (definitions_of items) name)
-    → AreLed (map tree_at definitions) at.item (is_marked marks)
+    → AreLed (map tree_at definitions) at.item is_led
     → ◌≡◌ {A = Option (ℕ × ℕ)} (Some (item, word)) (option_map (λ (o : Occurrence). (o.item, o.mention.word))
-    (first_led (is_marked marks) (foreign_uses from own (map tree_at definitions))))
+    (first_led is_led (foreign_uses from own (map tree_at definitions))))
     → spot ≡ option_map (λ t. spot_at text t.start) (word_of_item items item word)
     → IsForeignUseBy own from text items name spot
-use_found own from text items name definitions first marks at item word spot foreign is are names led found
+use_found own from text items name definitions first is_led at item word spot foreign is are names led found
     spot_is =
-    declared foreign at (sym (names name) ∙ is) (is_marked marks)
-    (subst (λ ds. AreLed ds at.item (is_marked marks)) are led)
-    (by (first_led (is_marked marks) (foreign_uses from own (definitions_of items)))
+    declared foreign at (sym (names name) ∙ is) is_led
+    (subst (λ ds. AreLed ds at.item is_led) are led)
+    (by (first_led is_led (foreign_uses from own (definitions_of items)))
     (found ∙ ap (λ ds. option_map (λ (o : Occurrence). (o.item, o.mention.word))
-    (first_led (is_marked marks) (foreign_uses from own ds))) are))
+    (first_led is_led (foreign_uses from own ds))) are))
   where
     by : (o : Option Occurrence) → ◌≡◌ {A = Option (ℕ × ℕ)} (Some (item, word))
         (option_map (λ (o : Occurrence). (o.item, o.mention.word)) o)
@@ -362,19 +362,19 @@ use_found own from text items name definitions first marks at item word spot for
 
 pub none_found : (own : KnownNames) (from : FromC) (text : List ℕ) (items : List Item) (name : List ℕ)
     (definitions : List (Option (Bor rust_tree.Definition))) (first : List ℕ → Option Declarer)
-    (marks : List Bool) (at : Declarer) → from.foreign ≡ true → first name ≡ Some at
+    (is_led : ℕ → Bool) (at : Declarer) → from.foreign ≡ true → first name ≡ Some at
     → map tree_at definitions ≡ definitions_of items
     → ((name : List ℕ) → first name ≡ first_declarer (definitions_of items) name)
-    → AreLed (map tree_at definitions) at.item (is_marked marks)
+    → AreLed (map tree_at definitions) at.item is_led
     → ◌≡◌ {A = Option (ℕ × ℕ)} None (option_map (λ (o : Occurrence). (o.item, o.mention.word))
-    (first_led (is_marked marks) (foreign_uses from own (map tree_at definitions))))
+    (first_led is_led (foreign_uses from own (map tree_at definitions))))
     → IsForeignUseBy own from text items name None
-none_found own from text items name definitions first marks at foreign is are names led found =
-    declared foreign at (sym (names name) ∙ is) (is_marked marks)
-    (subst (λ ds. AreLed ds at.item (is_marked marks)) are led)
-    (by (first_led (is_marked marks) (foreign_uses from own (definitions_of items)))
+none_found own from text items name definitions first is_led at foreign is are names led found =
+    declared foreign at (sym (names name) ∙ is) is_led
+    (subst (λ ds. AreLed ds at.item is_led) are led)
+    (by (first_led is_led (foreign_uses from own (definitions_of items)))
     (found ∙ ap (λ ds. option_map (λ (o : Occurrence). (o.item, o.mention.word))
-    (first_led (is_marked marks) (foreign_uses from own ds))) are))
+    (first_led is_led (foreign_uses from own ds))) are))
   where
     by : (o : Option Occurrence) → ◌≡◌ {A = Option (ℕ × ℕ)} None
         (option_map (λ (o : Occurrence). (o.item, o.mention.word)) o)

@@ -7,7 +7,8 @@ use Rattle.x_trees.specs.Mentions.{Mention}
 use Rattle.x_names.specs.Declarers.{AreShort, first_declarer}
 use Rattle.x_names.specs.declared.names.Declarer.{Declarer}
 use Rattle.x_rules.specs.Results.{KnownNames}
-use Rattle.x_prelude.specs.Lacking.{is_lacking}
+use Rattle.x_prelude.specs.Lacking.{Occurrence, is_lacking}
+use Rattle.x_prelude.specs.Leading.{AreLed, first_led, foreign_uses}
 use Rattle.x_prelude.specs.Prelude.{is_type}
 use Rattle.x_prelude.specs.declared.definition.FromC.{FromC}
 use Rattle.x_prelude.specs.declared.leading.Reached.{Reached}
@@ -44,3 +45,14 @@ AreNamesOf definitions first =
 abbrev pub foreign_word : FromC → KnownNames → (List ℕ → Option Declarer) → List Mention → Option ℕ
 foreign_word from known first mentions = option_map (λ m. m.word)
     (slice_get (filter (λ m. is_lacking known first m.name && not (is_type from m.name)) mentions) 0)
+
+-- the item and the word of an occurrence
+abbrev pub place_of : Occurrence → ℕ × ℕ
+place_of o = (o.item, o.mention.word)
+
+-- the item and the word of the first name of C that an item leads to, if it leads to any
+pub record IsFirstLed (from_c : FromC) (known : KnownNames) (definitions : List (Option Definition)) (from : ℕ)
+    (found : Option (ℕ × ℕ)) : Type 0 where
+  pub is_led : ℕ → Bool
+  pub led : AreLed definitions from is_led
+  pub first : found ≡ option_map place_of (first_led is_led (foreign_uses from_c known definitions))

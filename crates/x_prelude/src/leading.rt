@@ -6,9 +6,10 @@ ghost use Rattle.x_trees.specs.View.{tree_at};
 ghost use Rattle.x_names.specs.DeclarerTable.{first_in};
 ghost use Rattle.x_compile.specs.Known.{known_names};
 ghost use Rattle.x_session.specs.Session.{Compiles};
+ghost use Rattle.x_declared.specs.DeclaredNames.{spot_at, word_of_item};
 ghost use Rattle.x_prelude.specs.Leading.{AreLed, IsForeignUseBy, declaring_all, first_led, foreign_uses};
-ghost use Rattle.x_prelude.specs.Reaching.{AreNamesOf, AreReached, GoesOnTo, LeadsWithin, foreign_word};
-ghost use Rattle.x_prelude.specs.Reaching.{is_marked};
+ghost use Rattle.x_prelude.specs.Reaching.{AreNamesOf, AreReached, GoesOnTo, IsFirstLed, LeadsWithin};
+ghost use Rattle.x_prelude.specs.Reaching.{foreign_word, is_marked};
 
 use crate::definition::{FromC, is_type};
 use crate::lacking::is_lacking;
@@ -55,11 +56,42 @@ pub(crate) fn foreign_use(
         return Ok(None);
     };
     let definitions = definitions(alloc, session)?;
-    let marks = led_from(alloc, &definitions, &names, declarer.item)?;
-    match first_marked(alloc, &definitions, &names, known, from_c, &marks)? {
-        Some((item, word)) => Ok(DeclaredNames::of(alloc, session)?.word(item, word)),
+    match first_led(alloc, &definitions, &names, known, from_c, declarer.item)? {
+        Some((item, word)) => spot_in(alloc, session, item, word),
         None => Ok(None),
     }
+}
+
+/// Where a word of an item starts.
+fn spot_in(
+    alloc: Global,
+    session: &Session,
+    item: usize,
+    word: usize,
+) -> Result<Option<Spot>, NoMemory>
+    ensures { IfOk result (λ spot. Compiles session.now.known session.now.text (λ items.
+        spot ≡ option_map (λ t. spot_at session.now.text t.start) (word_of_item items item word))) }
+{
+    let table = DeclaredNames::of(alloc, session)?;
+    Ok(table.word(item, word))
+}
+
+/// The item and the word of the first name of C, in no table, that one of them leads to.
+fn first_led(
+    alloc: Global,
+    definitions: &[Option<&Definition>],
+    names: &Names,
+    known: &KnownDefinitions,
+    from_c: FromC,
+    from: usize,
+) -> Result<Option<(usize, usize)>, NoMemory>
+    requires from { from < length definitions.now }
+    requires within { LeadsWithin (length definitions.now) (first_in names.now) }
+    ensures { IfOk result (λ found. AreNamesOf (map tree_at definitions.now) (first_in names.now)
+        → IsFirstLed from_c (known_names known.now) (map tree_at definitions.now) from found) }
+{
+    let marks = led_from(alloc, definitions, names, from)?;
+    first_marked(alloc, definitions, names, known, from_c, &marks)
 }
 
 /// Marks the items that one of them leads to.
