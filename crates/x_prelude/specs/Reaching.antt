@@ -51,8 +51,8 @@ abbrev pub place_of : Occurrence → ℕ × ℕ
 place_of o = (o.item, o.mention.word)
 
 -- the item and the word of the first name of C that an item leads to, if it leads to any
-pub record IsFirstLed (from_c : FromC) (known : KnownNames) (definitions : List (Option Definition)) (from : ℕ)
-    (found : Option (ℕ × ℕ)) : Type 0 where
+pub record IsFirstLed (from_c : FromC) (known : KnownNames) (definitions : List (Option Definition))
+    (from : ℕ) (found : Option (ℕ × ℕ)) : Type 0 where
   pub is_led : ℕ → Bool
   pub led : AreLed definitions from is_led
   pub first : found ≡ option_map place_of (first_led is_led (foreign_uses from_c known definitions))
