@@ -126,7 +126,8 @@ chain_on ids mid cmd a id chain added fits is = record {
 }
 
 -- three at the end of a list, one after another or as a list
-pub three_on : (ids : List Text) (a b c : Text) → ((ids ++ a ∷ []) ++ b ∷ []) ++ c ∷ [] ≡ ids ++ a ∷ b ∷ c ∷ []
+pub three_on : (ids : List Text) (a b c : Text)
+    → ((ids ++ a ∷ []) ++ b ∷ []) ++ c ∷ [] ≡ ids ++ a ∷ b ∷ c ∷ []
 three_on ids a b c = append_assoc (ids ++ a ∷ []) (b ∷ []) (c ∷ []) ∙ append_assoc ids (a ∷ []) (b ∷ c ∷ [])
 
 -- the last argument of a chain, where it is required and takes a value, always has one

@@ -8,7 +8,8 @@ use Rattle.x_args.proofs.before_args.with_before.Goals as goal
 pub returns-clause-app : goal.returns-clause-app
 returns-clause-app c =
     let one = c.in_ok-arg.ensures.shape c.known.ensures.fits.1 ∙ ap₂ with_rule refl c.known.ensures.rule in
-    let two = c.in_ok-arg-2.ensures.shape c.request.ensures.fits.1 ∙ ap₂ with_rule one c.request.ensures.rule in
+    let two = c.in_ok-arg-2.ensures.shape c.request.ensures.fits.1
+    ∙ ap₂ with_rule one c.request.ensures.rule in
     IfOk-weaker c.arg-3.result _ _
     (λ r h. h.shape c.request-2.ensures.fits.1 ∙ ap₂ with_rule two c.request-2.ensures.rule) c.arg-3.ensures
 

@@ -20,8 +20,8 @@ returns-clause-app c =
 pub returns-clause-chain : goal.returns-clause-chain
 returns-clause-chain c =
     let id : Rule → Text = λ r. r.id in
-    let one = chain_on _ _ _ c.flag.result (codes "routines") c.in_ok-plain_command.ensures.chain c.in_ok-arg.ensures
-    c.flag.ensures.fits (ap id c.flag.ensures.rule) in
+    let one = chain_on _ _ _ c.flag.result (codes "routines") c.in_ok-plain_command.ensures.chain
+    c.in_ok-arg.ensures c.flag.ensures.fits (ap id c.flag.ensures.rule) in
     let two = chain_on _ _ _ c.flag-2.result (codes "header") one c.in_ok-arg-2.ensures
     c.flag-2.ensures.fits (ap id c.flag-2.ensures.rule) in
     let three = chain_on _ _ _ c.flag-3.result (codes "stubs") two c.in_ok-arg-3.ensures
