@@ -3,7 +3,7 @@ use Rattle.std.proofs.Common.{◌≡◌, ◌<◌, ◌≤◌, ℕ, List, [], ◌�
 use Rattle.std.proofs.Common.{arith, ap, refl, subst, sym, ◌∙◌}
 use Rattle.std.specs.Prelude.{IsTrue, MatchBool}
 use Rattle.std.specs.List.{flat_map}
-use Rattle.x_text.specs.Streams.{Stream}
+use Rattle.x_streams.specs.Streams.{Stream}
 use Rattle.x_compile.specs.Compile.{Item, faults_of}
 use Rattle.x_compile.specs.Known.{KnownText}
 use Rattle.x_declared.proofs.DeclaredLemmas.{of_each}

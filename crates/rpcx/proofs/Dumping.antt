@@ -2,14 +2,14 @@
 use Rattle.std.proofs.Common.{◌≡◌, ◌∙◌, ℕ, ◌≤◌, ◌<◌, Bool, true, false, List, [], ◌++◌, length, Option, Some, None, Result, Ok, Err, Bor, ◌⊎◌, inl, inr, codes, refl, sym, subst, ap, append_assoc, append-nil, length-append, arith}
 use Rattle.std.specs.Prelude.{MatchOption, option_map, unwrap_or, IsErrAnd, IsErrOf}
 use Rattle.std.specs.Io.KnownBytes.{Consumes, IsAtEnd, Keeps}
-use Rattle.x_text.specs.Streams.{Stream}
+use Rattle.x_streams.specs.Streams.{Stream}
 use Rattle.x_text.specs.declared.text.source.TheConstants.{MAX_TEXT}
 use Rattle.x_schema.specs.Schema.{Schema}
 use Rattle.x_session.specs.Session.{Compiles}
 use Rattle.x_compile.specs.Compile.{faults_of}
 use Rattle.x_compile.specs.Known.{KnownText}
 use Rattle.x_session.specs.Typed.{GivesSchema}
-use Rattle.x_text.specs.declared.streams.outcome.Outcome.{Outcome}
+use Rattle.x_streams.specs.declared.outcome.Outcome.{Outcome}
 use Rattle.x_session.specs.declared.session.Session.{Session}
 use Rattle.x_args.proofs.Grown.{stays}
 use Rattle.rpcx.proofs.Unopened.{fits}

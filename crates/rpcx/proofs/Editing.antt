@@ -2,15 +2,15 @@
 use Rattle.std.proofs.Common.{◌≡◌, ◌<◌, ◌≤◌, ℕ, Bool, true, false, List, length, Option, Some, None}
 use Rattle.std.proofs.Common.{Ok, Err, refl, sym, subst, ◌∙◌}
 use Rattle.std.specs.Prelude.{MatchOption, IsErrOf}
-use Rattle.x_text.specs.Streams.{Stream}
+use Rattle.x_streams.specs.Streams.{Stream}
 use Rattle.x_text.specs.declared.text.fault.TextFault.{TextFault}
 use Rattle.x_text.specs.declared.text.fault.TextFault.TheVariants as faults
 use Rattle.x_text.specs.declared.text.source.TheConstants.{MAX_TEXT}
 use Rattle.x_lines.specs.Lines.{script_lines}
 use Rattle.x_script.specs.Script.{HasRun, Runs}
-use Rattle.x_text.specs.Engines.{is_refused, NamesCause}
-use Rattle.x_text.specs.declared.streams.outcome.Outcome.{Outcome}
-use Rattle.x_text.specs.declared.streams.outcome.EngineFault.{EngineFault}
+use Rattle.x_streams.specs.Engines.{is_refused, NamesCause}
+use Rattle.x_streams.specs.declared.outcome.Outcome.{Outcome}
+use Rattle.x_streams.specs.declared.outcome.EngineFault.{EngineFault}
 use Rattle.x_explain.specs.KnownFiles.{KnownPlaces, no_places}
 use Rattle.x_prelude.specs.declared.followed.FollowedText.{FollowedText}
 use Rattle.x_script.specs.Situations.{Situation}

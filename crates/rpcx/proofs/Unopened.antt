@@ -2,7 +2,7 @@
 use Rattle.std.proofs.Common.{◌⊎◌, inl, inr, ℕ, ◌+◌, ◌<◌, ◌≤◌, List, codes, Result, Err, length, refl, arith}
 use Rattle.std.specs.Prelude.{IsErrOf}
 use Rattle.std.proofs.Math.Nat.{lt_of_not-le}
-use Rattle.x_text.specs.Streams.{Stream}
+use Rattle.x_streams.specs.Streams.{Stream}
 use Rattle.x_text.specs.declared.text.fault.TextFault.{TextFault}
 use Rattle.x_text.specs.declared.text.fault.TextFault.TheVariants as faults
 use Rattle.x_text.specs.declared.text.source.TheConstants.{MAX_TEXT}

@@ -1,6 +1,6 @@
 -- What `rpcgen --check` does.
 use Rattle.std.specs.Prelude.{◌≡◌, ◌⊎◌, ℕ, Bool, List, [], ◌∷◌, ◌++◌, codes}
-use Rattle.x_text.specs.Streams.{Stream}
+use Rattle.x_streams.specs.Streams.{Stream}
 use Rattle.x_args.specs.Status.{worse}
 use Rattle.x_args.specs.Telling.{IsTold, told_of}
 use Rattle.x_args.specs.declared.status.Status.{Status}

@@ -1,6 +1,6 @@
 -- What a run reads and what it writes.
 use Rattle.std.specs.Prelude.{◌≡◌}
-use Rattle.x_text.specs.Streams.{Stream}
+use Rattle.x_streams.specs.Streams.{Stream}
 
 -- the file of a run, or its standard input, and its output, before and after it
 pub record Course : Type 0 where

@@ -2,7 +2,7 @@
 use Rattle.std.specs.Prelude.{◌≡◌, ◌≢◌, ◌⊎◌, ◌<◌, ◌≤◌, ℕ, Bool, true, false, List, [], ◌++◌, length, Option}
 use Rattle.std.specs.Prelude.{Some, None, MatchOption, Result, Ok, Err, codes, option_map, unwrap_or}
 use Rattle.std.specs.Io.KnownBytes.{Consumes, IsAtEnd}
-use Rattle.x_text.specs.Streams.{Stream}
+use Rattle.x_streams.specs.Streams.{Stream}
 use Rattle.x_text.specs.Limits.{most_text}
 use Rattle.x_schema.specs.Schema.{Schema, id_named}
 use Rattle.x_schema.specs.Schemas.{IsSchemaOf}
@@ -11,11 +11,11 @@ use Rattle.x_session.specs.Session.{Compiles}
 use Rattle.x_session.specs.Typed.{all_definitions}
 use Rattle.x_compile.specs.Compile.{Item, faults_of}
 use Rattle.x_compile.specs.Known.{KnownText}
-use Rattle.x_text.specs.Engines.{NamesCause}
+use Rattle.x_streams.specs.Engines.{NamesCause}
 use Rattle.x_value.specs.ValueTexts.{WritesValue}
-use Rattle.x_text.specs.declared.streams.outcome.Outcome.{Outcome}
-use Rattle.x_text.specs.declared.streams.outcome.Outcome.TheVariants.{Clean, Refused}
-use Rattle.x_text.specs.declared.streams.outcome.EngineFault.{EngineFault}
+use Rattle.x_streams.specs.declared.outcome.Outcome.{Outcome}
+use Rattle.x_streams.specs.declared.outcome.Outcome.TheVariants.{Clean, Refused}
+use Rattle.x_streams.specs.declared.outcome.EngineFault.{EngineFault}
 use Rattle.x_wire.specs.StreamTexts.{DumpsMessage, DumpsStream}
 use Rattle.x_wire.specs.declared.nfs2.TheConstants.{NFS2_X}
 use Rattle.rpcx.specs.Course.{Course, IsIdle}

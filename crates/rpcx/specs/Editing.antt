@@ -1,9 +1,9 @@
 -- What a run of `rpcedit` does with the script that it is given.
 use Rattle.std.specs.Prelude.{◌≡◌, ◌≤◌, ℕ, Bool, List, length, Option, MatchOption, Err, codes, if◌then◌else◌}
-use Rattle.x_text.specs.Streams.{Stream}
-use Rattle.x_text.specs.Engines.{NamesCause}
+use Rattle.x_streams.specs.Streams.{Stream}
+use Rattle.x_streams.specs.Engines.{NamesCause}
 use Rattle.x_text.specs.Limits.{most_text}
-use Rattle.x_text.specs.declared.streams.outcome.EngineFault.{EngineFault}
+use Rattle.x_streams.specs.declared.outcome.EngineFault.{EngineFault}
 use Rattle.x_explain.specs.KnownFiles.{KnownPlaces, no_places}
 use Rattle.x_prelude.specs.declared.followed.FollowedText.{FollowedText}
 use Rattle.x_lines.specs.Lines.{script_lines}

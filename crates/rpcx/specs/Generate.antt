@@ -4,13 +4,13 @@ use Rattle.std.specs.Prelude.{◌++◌, length, take, drop, codes, if◌then◌e
 use Rattle.std.specs.Prelude.{Result, IfOk, OnOk, IfErr, IsErrOf}
 use Rattle.std.specs.List.{after_last, flat_map}
 use Rattle.std.specs.Str.{bytes_eq}
-use Rattle.x_text.specs.Streams.{Stream}
+use Rattle.x_streams.specs.Streams.{Stream}
 use Rattle.x_compile.specs.declared.fault.Fault.{Fault}
 use Rattle.x_session.specs.Session.{Compiles, Document}
 use Rattle.x_compile.specs.Compile.{Item, faults_of}
 use Rattle.x_compile.specs.Faults.{fault_text}
-use Rattle.x_text.specs.declared.streams.outcome.EngineFault.{EngineFault}
-use Rattle.x_text.specs.declared.streams.outcome.EngineFault.TheVariants.{Read, Write, NoMemory}
+use Rattle.x_streams.specs.declared.outcome.EngineFault.{EngineFault}
+use Rattle.x_streams.specs.declared.outcome.EngineFault.TheVariants.{Read, Write, NoMemory}
 use Rattle.x_session.specs.FaultLines.{fault_place}
 use Rattle.x_text.specs.declared.text.fault.TextFault.{TextFault}
 use Rattle.x_text.specs.declared.text.fault.TextFault.TheVariants as faults

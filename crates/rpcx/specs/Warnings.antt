@@ -1,7 +1,7 @@
 -- What `rpcgen` says of the names of a text that clash in C, and what it makes of them.
 use Rattle.std.specs.Prelude.{◌≡◌, ◌<◌, ℕ, Bool, true, false, List, [], ◌∷◌, length, IsTrue, MatchBool}
 use Rattle.std.specs.List.{flat_map}
-use Rattle.x_text.specs.Streams.{Stream}
+use Rattle.x_streams.specs.Streams.{Stream}
 use Rattle.x_compile.specs.Compile.{Item, faults_of}
 use Rattle.x_args.specs.Telling.{IsTold}
 use Rattle.x_warnings.specs.WarningLines.{warning_line}

@@ -1,7 +1,7 @@
 //! What `rpcedit` does over a text that was read, a tap and sinks.
 
 ghost use Rattle.std.specs.Prelude.{◌≡◌, ◌≢◌, ◌<◌, MatchOption, length};
-ghost use Rattle.x_text.specs.Engines.{WorksOn};
+ghost use Rattle.x_streams.specs.Engines.{WorksOn};
 ghost use Rattle.x_text.specs.Limits.{most_text};
 ghost use Rattle.rpcx.specs.Course.{course};
 ghost use Rattle.x_explain.specs.KnownFiles.{places_of_files};

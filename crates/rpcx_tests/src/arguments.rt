@@ -2,7 +2,7 @@
 use crate::asserts::expect_eq;
 use crate::before::nothing;
 use clap::error::ErrorKind;
-use rpcx::{GenArgs, RPCGEN, Status, answer_words, gen_args, mark_under_word, request_first};
+use rpcx::{GenArgs, RPCGEN, Status, answer_words, gen_args};
 use std::test::Fail;
 use x_text::MemSink;
 
@@ -73,10 +73,4 @@ fn sweep_asking(rt: HostRuntime) -> Result<(), Fail> {
         expect_eq(&rt, err.bytes(), b"rpcgen: out of memory\n".as_slice());
     }
     Ok(())
-}
-
-#[test]
-fn laws() {
-    mark_under_word();
-    request_first();
 }

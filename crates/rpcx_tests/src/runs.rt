@@ -9,6 +9,7 @@ use std::alloc::Global;
 use std::test::Fail;
 use x_session::{Session, Which};
 use x_text::{MemSink, MemTap};
+use x_wire::NFS2_X;
 
 #[test]
 fn a_generator_tells_of_a_full_sink(rt: HostRuntime) -> Result<(), Fail> {
@@ -23,6 +24,21 @@ fn a_generator_tells_of_a_full_sink(rt: HostRuntime) -> Result<(), Fail> {
         err.bytes(),
         b"rpcgen: output cannot be written\n".as_slice(),
     );
+    Ok(())
+}
+
+/// The built-in text has no fault, and types for all that it lists.
+#[test]
+fn the_schema_of_nfs_has_its_procedures(rt: HostRuntime) -> Result<(), Fail> {
+    let session = Session::open(rt.alloc(), b"nfs2", NFS2_X)?;
+    let schema = session.schema()?;
+    for number in 0..18 {
+        assert!(rt;
+            schema.procedure(100003, 2, number).is_some(),
+            "procedure {number}"
+        );
+    }
+    assert!(rt; schema.procedure(100003, 2, 18).is_none());
     Ok(())
 }
 

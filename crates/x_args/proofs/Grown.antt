@@ -3,9 +3,9 @@ use Rattle.std.proofs.Common.{◌≡◌, ℕ, Bool, true, false, List, length, t
 use Rattle.std.proofs.lemmas.List.{take_all}
 use Rattle.std.specs.Prelude.{MatchBool}
 use Rattle.std.specs.Io.KnownBytes.{Appends, Keeps}
-use Rattle.x_text.specs.declared.streams.pen.WriteFault.{WriteFault}
-use Rattle.x_text.specs.Streams.{Stream}
-use Rattle.x_text.specs.Writing.{IsWritten}
+use Rattle.x_streams.specs.declared.pen.WriteFault.{WriteFault}
+use Rattle.x_streams.specs.Streams.{Stream}
+use Rattle.x_streams.specs.Writing.{IsWritten}
 use Rattle.x_args.specs.Telling.{Grows, IsTold}
 
 pub grows_all : (before after : Stream) (text : List ℕ) → Appends before.bytes after.bytes text → Grows before after text

@@ -1,7 +1,7 @@
 -- What the programs tell on standard error, as far as it takes that.
 use Rattle.std.specs.Prelude.{◌≡◌, ℕ, Bool, MatchBool, ◌≤◌, List, ◌++◌, length, take, codes}
 use Rattle.std.specs.Io.KnownBytes.{Appends}
-use Rattle.x_text.specs.Streams.{Stream}
+use Rattle.x_streams.specs.Streams.{Stream}
 
 -- what a sink holds grew by the text, or by a front of it
 abbrev pub Grows : Stream → Stream → List ℕ → Type 0

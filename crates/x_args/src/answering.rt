@@ -2,8 +2,8 @@
 
 ghost use Rattle.std.specs.Prelude.{◌≡◌, List, ℕ};
 ghost use Rattle.clap.specs.Words.{kind_of};
-ghost use Rattle.x_text.specs.Writing.{Writes};
-ghost use Rattle.x_text.specs.Streams.{Stream};
+ghost use Rattle.x_streams.specs.Writing.{Writes};
+ghost use Rattle.x_streams.specs.Streams.{Stream};
 ghost use Rattle.x_args.specs.Telling.{IsTold};
 ghost use Rattle.x_args.specs.Answering.{help_text, refused_told, version_text, AnswersWords};
 ghost use Rattle.x_args.specs.Answering.{IsOneLine, IsRefused, IsShown};

@@ -2,9 +2,9 @@
 use Rattle.std.proofs.Common.{◌≡◌, ℕ, ◌+◌, ◌≤◌, List, [], ◌∷◌, ◌++◌, length, map, take, drop, refl, sym, ap, subst, ◌∙◌, arith, length-append, length-drop}
 use Rattle.std.proofs.lemmas.List.{drop-map, drop-drop, take-append-le, take-append-drop}
 use Rattle.std.specs.List.{take-map}
-use Rattle.x_text.proofs.LengthLemmas.{total-append}
-use Rattle.x_text.proofs.ListLemmas.{map_append}
-use Rattle.x_text.proofs.SeqLemmas.{drop_front}
+use Rattle.x_lists.proofs.LengthLemmas.{total-append}
+use Rattle.x_lists.proofs.ListLemmas.{map_append}
+use Rattle.x_lists.proofs.SeqLemmas.{drop_front}
 use Rattle.x_lex.specs.Places.{Lexeme}
 use Rattle.x_cutting.specs.ItemList.{counts, tokens_before, tokens_in, total}
 use Rattle.x_cutting.specs.Items.{IsCut, joined}

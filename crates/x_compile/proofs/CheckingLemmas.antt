@@ -22,7 +22,7 @@ use Rattle.x_pieces.specs.Pieces.{Pieces}
 use Rattle.x_pieces.specs.Rendering.{pieces_of}
 use Rattle.x_names.proofs.DeclarerLaws.{as_found}
 use Rattle.x_rules.proofs.HasResults.{stays_result, agree_front}
-use Rattle.x_text.proofs.ListLemmas.{drop_one, get_at, take_next}
+use Rattle.x_lists.proofs.ListLemmas.{drop_one, get_at, take_next}
 use Rattle.x_rules.proofs.OutlineLemmas.{map_map}
 use Rattle.x_rules.proofs.ResultLaws.{AgreeBefore}
 use Rattle.x_text.proofs.Listing.{mapped_one}

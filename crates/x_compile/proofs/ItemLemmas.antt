@@ -5,7 +5,8 @@ use Rattle.std.proofs.lemmas.List.{length_push, length-append, length-map}
 use Rattle.std.proofs.lemmas.List.Sums.{length-filter, count_by-le-length}
 use Rattle.std.proofs.lemmas.Option.{same_Some}
 use Rattle.std.proofs.Math.Seq.{take-append_seam, drop-append_seam}
-use Rattle.x_text.specs.Counts.{Counts, raised}
+use Rattle.x_text.specs.Counts.{Counts}
+use Rattle.x_streams.specs.Counters.{raised}
 use Rattle.x_lex.specs.Places.{Lexeme}
 use Rattle.x_text.specs.declared.text.source.TheConstants.{MAX_TEXT}
 use Rattle.x_trees.specs.Tree.{Definition}
@@ -13,7 +14,7 @@ use Rattle.x_trees.specs.Spell.{spell}
 use Rattle.x_trees.specs.Words.{word_of, words_of, is_significant}
 use Rattle.x_item.specs.Parse.{Parse, Nothing, Def, Fault, IsParse}
 use Rattle.x_cutting.specs.Items.{joined, AreWhole, IsNext}
-use Rattle.x_item.specs.declared.parsing.fault_code.FaultCode.{FaultCode}
+use Rattle.x_parser.specs.declared.fault_code.FaultCode.{FaultCode}
 use Rattle.x_cutting.proofs.ItemListLemmas.{joined_push, whole_push}
 use Rattle.x_names.specs.Declarers.{AreShort}
 use Rattle.x_compile.specs.Compile.{parsed_definition}

@@ -4,7 +4,7 @@ use Rattle.std.specs.Global.{Box}
 use Rattle.std.specs.Prelude.{Some, slice_get, slice_set}
 use Rattle.std.proofs.lemmas.Option.{same_Some}
 use Rattle.std.proofs.lemmas.List.{length_push, length-append, length-take-le, map-set, take-append-drop}
-use Rattle.x_text.proofs.ListLemmas.{drop_none, some_at}
+use Rattle.x_lists.proofs.ListLemmas.{drop_none, some_at}
 use Rattle.x_cutting.specs.ItemList.{byte_counts, counts}
 use Rattle.x_cutting.specs.ItemList as items
 use Rattle.x_cutting.specs.declared.cutting.item_entry.ItemEntry.{ItemEntry}

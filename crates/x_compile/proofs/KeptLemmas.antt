@@ -8,7 +8,7 @@ use Rattle.std.proofs.lemmas.List.{length-map, length-append}
 use Rattle.x_lex.specs.declared.kind.Kind.{Kind}
 use Rattle.x_lex.specs.Places.{Lexeme, lexemes}
 use Rattle.x_lex.specs.Tiling.{AreTokens}
-use Rattle.x_text.proofs.ListLemmas.{map_append}
+use Rattle.x_lists.proofs.ListLemmas.{map_append}
 use Rattle.x_cutting.specs.ItemList.{AreOfText, ItemChange, counts}
 use Rattle.x_cutting.specs.ItemList as items
 use Rattle.x_trees.specs.Tree.{Definition}

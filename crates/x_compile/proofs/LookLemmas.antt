@@ -7,8 +7,9 @@ use Rattle.x_lex.specs.declared.kind.Kind.{Kind}
 use Rattle.x_lex.specs.Places.{Lexeme}
 use Rattle.x_trees.specs.Spell.{Begins}
 use Rattle.x_trees.specs.Words.{Word, is_significant, word_by, word_of, words_of}
-use Rattle.x_item.specs.Parse.{Parse, Nothing, Def, Fault, IsParse, IsStuck, IsLastWord, IsUnfinished, code_of}
-use Rattle.x_item.specs.declared.parsing.fault_code.FaultCode.{FaultCode}
+use Rattle.x_parser.specs.Stuck.{IsStuck, code_of}
+use Rattle.x_item.specs.Parse.{Parse, Nothing, Def, Fault, IsParse, IsLastWord, IsUnfinished}
+use Rattle.x_parser.specs.declared.fault_code.FaultCode.{FaultCode}
 use Rattle.x_compile.specs.Generated.{is_percent, lines_of}
 use Rattle.x_compile.specs.KeptView.{byte_count}
 

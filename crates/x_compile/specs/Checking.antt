@@ -2,7 +2,8 @@
 use Rattle.std.specs.Prelude.{◌≡◌, ℕ, false, List, [], ◌∷◌, map, Option, None, Some, option_map, slice_get}
 use Rattle.std.specs.Prelude.{if◌then◌else◌}
 use Rattle.std.specs.Global.{Box}
-use Rattle.x_text.specs.Counts.{Counts, raised}
+use Rattle.x_text.specs.Counts.{Counts}
+use Rattle.x_streams.specs.Counters.{raised}
 use Rattle.x_trees.specs.Tree.{Definition}
 use Rattle.x_trees.specs.declared.names.declared_name.NameKind.TheVariants as kinds
 use Rattle.x_rules.specs.Views.{View, Earlier}

@@ -1,6 +1,6 @@
 -- The numbers and names of faults.
 use Rattle.std.specs.Prelude.{ℕ, List}
-use Rattle.x_item.specs.FaultTexts as syntax
+use Rattle.x_parser.specs.FaultTexts as syntax
 use Rattle.x_rules.specs.RuleTexts.{rule_text}
 use Rattle.x_compile.specs.declared.fault.FaultCode.{FaultCode}
 use Rattle.x_compile.specs.declared.fault.FaultCode.TheVariants.{Syntax, Rule}

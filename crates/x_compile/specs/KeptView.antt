@@ -2,7 +2,7 @@
 use Rattle.std.specs.Prelude.{◌≡◌, ℕ, List, [], ◌∷◌, length, map, take, drop, Option, None, Some, slice_get}
 use Rattle.std.specs.Prelude.{slice_set, Bool, false, true}
 use Rattle.std.specs.Global.{Box}
-use Rattle.x_text.specs.Lengths.{total_length}
+use Rattle.x_lists.specs.Lengths.{total_length}
 use Rattle.x_lex.specs.Places.{Lexeme}
 use Rattle.x_cutting.specs.Items.{AreItems}
 use Rattle.x_trees.specs.Tree as tree

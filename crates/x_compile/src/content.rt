@@ -1,7 +1,7 @@
 //! What is kept with an item.
 
 ghost use Rattle.std.specs.Prelude.{◌≡◌, ◌≤◌, [], length, map, IfOk, None, option_copied};
-ghost use Rattle.x_text.specs.Counts.{raised};
+ghost use Rattle.x_streams.specs.Counters.{raised};
 ghost use Rattle.x_text.specs.declared.text.source.TheConstants.{MAX_TEXT};
 ghost use Rattle.x_lex.specs.Places.{lexeme};
 ghost use Rattle.x_item.specs.Parse.{IsParse};

@@ -1,7 +1,7 @@
 //! The items of a text, each with what it parses to.
 
 ghost use Rattle.std.specs.Prelude.{◌≡◌, length, All, IfOk, None};
-ghost use Rattle.x_text.specs.Counts.{raised};
+ghost use Rattle.x_streams.specs.Counters.{raised};
 ghost use Rattle.x_lex.specs.Tiling.{AreTokens};
 ghost use Rattle.x_lex.specs.Places.{lexemes};
 ghost use Rattle.x_cutting.specs.ItemList.{AreOfText, counts};

@@ -3,7 +3,7 @@ use Rattle.std.proofs.Common.{◌≡◌, ℕ, zero, suc, ◌+◌, ◌≤◌, ◌
 use Rattle.std.specs.Prelude.{IfSome, slice_get, slice_set}
 use Rattle.std.specs.List.{splice}
 use Rattle.std.proofs.lemmas.List.{map-append, take-map, drop-map, map-set}
-use Rattle.x_text.specs.Lengths.{total_length, length_before}
+use Rattle.x_lists.specs.Lengths.{total_length, length_before}
 use Rattle.x_cutting.specs.declared.cutting.item_entry.ItemEntry.{ItemEntry}
 use Rattle.x_cutting.specs.ItemList.{total, byte_counts, counts, kept, tokens_in, tokens_before}
 

@@ -4,7 +4,7 @@ use Rattle.std.specs.Prelude.{slice_get, slice_range, ◌==◌, ◌||◌}
 use Rattle.std.proofs.lemmas.List.{drop-drop, ext_get_or}
 use Rattle.std.proofs.lemmas.Option.{slice_get_past}
 use Rattle.std.proofs.lemmas.Slice.Eq.{bytes_eq-Decides}
-use Rattle.x_text.proofs.ListLemmas.{get_drop}
+use Rattle.x_lists.proofs.ListLemmas.{get_drop}
 use Rattle.x_lex.specs.declared.kind.Kind.{Kind}
 use Rattle.x_lex.specs.declared.kind.Kind.TheVariants as kinds
 use Rattle.x_lex.specs.Tiling.{AreTokens, span, end_of}

@@ -1,9 +1,9 @@
 -- Items as they are kept, and what takes the place of some of them.
 use Rattle.std.specs.Prelude.{ℕ, ◌+◌, ◌<◌, ◌≤◌, List, length, map}
-use Rattle.x_text.specs.Lengths.{total_length, length_before, Patch}
+use Rattle.x_lists.specs.Lengths.{total_length, length_before, Patch}
 use Rattle.x_text.specs.declared.text.source.TheConstants.{MAX_TEXT}
 use Rattle.x_cutting.specs.declared.cutting.item_entry.ItemEntry.{ItemEntry}
-pub use Rattle.x_text.specs.Lengths.{patched, LiesAmong, HasRoom}
+pub use Rattle.x_lists.specs.Lengths.{patched, LiesAmong, HasRoom}
 
 -- how many tokens an item has
 abbrev pub tokens_in : {K : Type 0} → ItemEntry K → ℕ

@@ -5,7 +5,7 @@ use Rattle.std.specs.Option.{option_copied}
 use Rattle.std.proofs.lemmas.List.{append-nil, length-append}
 use Rattle.std.proofs.lemmas.List.Sums.{length-filter, count_by-le-length}
 use Rattle.std.proofs.lemmas.Option.{slice_get-map, slice_get_read}
-use Rattle.x_text.proofs.ListLemmas.{get_mapped}
+use Rattle.x_lists.proofs.ListLemmas.{get_mapped}
 use Rattle.x_lex.specs.declared.kind.Kind.{Kind}
 use Rattle.x_lex.specs.declared.tokens.token.Token.{Token}
 use Rattle.x_lex.specs.Places.{Lexeme, lexeme}

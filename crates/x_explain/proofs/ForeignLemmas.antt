@@ -2,9 +2,9 @@
 use Rattle.std.proofs.Common.{◌≡◌, ℕ, ◌+◌, ◌<◌, Bool, List, ◌∷◌, drop, get_or, length, sym, subst}
 use Rattle.std.specs.List.{flat_map}
 use Rattle.std.proofs.lemmas.List.{drop_more}
-use Rattle.x_text.specs.Streams.{Stream}
-use Rattle.x_text.specs.Writing.{Adds, Inked}
-use Rattle.x_text.proofs.Pens.{adds_trans}
+use Rattle.x_streams.specs.Streams.{Stream}
+use Rattle.x_streams.specs.Writing.{Adds, Inked}
+use Rattle.x_streams.proofs.Pens.{adds_trans}
 use Rattle.x_explain.specs.Explained.{foreign_line}
 use Rattle.x_declared.specs.Foreign.{view_all, view_foreign}
 use Rattle.x_declared.specs.declared.foreign.ForeignName as rust

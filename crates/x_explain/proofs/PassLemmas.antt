@@ -4,9 +4,9 @@ use Rattle.std.specs.Prelude.{slice_range}
 use Rattle.std.specs.List.{flat_map}
 use Rattle.std.proofs.lemmas.List.Sums.{sum_by-cons}
 use Rattle.std.proofs.lemmas.Grind.{flat_map-append}
-use Rattle.x_text.specs.Streams.{Stream}
-use Rattle.x_text.specs.Writing.{Adds, Inked}
-use Rattle.x_text.proofs.Pens.{adds_none, adds_trans}
+use Rattle.x_streams.specs.Streams.{Stream}
+use Rattle.x_streams.specs.Writing.{Adds, Inked}
+use Rattle.x_streams.proofs.Pens.{adds_none, adds_trans}
 use Rattle.x_compile.specs.declared.fault.FaultPlace.{FaultPlace}
 use Rattle.x_explain.specs.declared.explained.Pass.{Pass}
 use Rattle.x_explain.specs.declared.found.FoundFault.{FoundFault}

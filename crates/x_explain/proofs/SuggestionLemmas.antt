@@ -8,7 +8,7 @@ use Rattle.std.proofs.lemmas.List.{take_all}
 use Rattle.x_trees.specs.Collected.{view_name}
 use Rattle.x_trees.specs.Names.{Declared}
 use Rattle.x_trees.specs.declared.names.declared_name.DeclaredName.{DeclaredName}
-use Rattle.x_text.proofs.ListLemmas.{drop_one, map_append}
+use Rattle.x_lists.proofs.ListLemmas.{drop_one, map_append}
 use Rattle.x_compile.specs.declared.fault.FaultPlace.{FaultPlace}
 use Rattle.x_explain.specs.Suggestions.{is_unknown, nearest, is_nearer}
 

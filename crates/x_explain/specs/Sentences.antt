@@ -4,8 +4,8 @@ use Rattle.std.specs.List.{flat_map}
 use Rattle.std.specs.Option.{option_map_or}
 use Rattle.x_trees.specs.declared.names.declared_name.NameKind.{NameKind}
 use Rattle.x_trees.specs.declared.names.declared_name.NameKind.TheVariants as kinds
-use Rattle.x_item.specs.declared.parsing.fault_code.FaultCode as item
-use Rattle.x_item.specs.declared.parsing.fault_code.FaultCode.TheVariants as items
+use Rattle.x_parser.specs.declared.fault_code.FaultCode as item
+use Rattle.x_parser.specs.declared.fault_code.FaultCode.TheVariants as items
 use Rattle.x_rules.specs.declared.fault.RuleCode.{RuleCode}
 use Rattle.x_rules.specs.declared.fault.RuleCode.TheVariants as rules
 use Rattle.x_compile.specs.declared.fault.FaultCode.{FaultCode}

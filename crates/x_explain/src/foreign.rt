@@ -1,7 +1,7 @@
 //! The names that a text takes from C, as they are told.
 
 ghost use Rattle.std.specs.List.{flat_map};
-ghost use Rattle.x_text.specs.Writing.{Adds};
+ghost use Rattle.x_streams.specs.Writing.{Adds};
 ghost use Rattle.x_explain.specs.Explained.{foreign_line};
 ghost use Rattle.x_declared.specs.Foreign.{view_all, view_foreign};
 

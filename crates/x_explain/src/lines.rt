@@ -1,7 +1,7 @@
 //! The lines that explain a fault.
 
 ghost use Rattle.std.specs.Prelude.{◌≡◌, Some, option_map};
-ghost use Rattle.x_text.specs.Writing.{Adds};
+ghost use Rattle.x_streams.specs.Writing.{Adds};
 ghost use Rattle.x_explain.specs.Excerpts.{view_excerpt};
 ghost use Rattle.x_explain.specs.KnownFiles.{view_first};
 ghost use Rattle.x_explain.specs.Explained.{blank_front, caret_line, declared_line, green, gutter, help_line};

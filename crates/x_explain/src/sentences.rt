@@ -1,7 +1,7 @@
 //! What is wrong with a word, in a sentence, and what helps.
 
 ghost use Rattle.std.specs.Prelude.{◌≡◌, None, Some, option_map};
-ghost use Rattle.x_text.specs.Writing.{Adds};
+ghost use Rattle.x_streams.specs.Writing.{Adds};
 ghost use Rattle.x_explain.specs.Sentences.{about, alone, helped, item_saying, no_constant, not_a_type};
 ghost use Rattle.x_explain.specs.Sentences.{not_const_saying, not_type_saying, other_type, rule_saying};
 ghost use Rattle.x_explain.specs.Sentences.{saying, sentence, view_sentence};

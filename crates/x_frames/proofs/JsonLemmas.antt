@@ -11,7 +11,7 @@ use Rattle.serde_json.specs.Data.{Data, Members, no_members, member, put}
 use Rattle.serde_json.specs.View.{items_of, items_view, members_view, view}
 use Rattle.serde_json.specs.Written.{has_float, items_have_float, members_have_float}
 use Rattle.serde_json.specs.declared.value.Value.{Value}
-use Rattle.x_text.proofs.ListLemmas.{map_append}
+use Rattle.x_lists.proofs.ListLemmas.{map_append}
 
 none_of : (t u v : Bool) → (t || u) ≡ false → (u ≡ false → v ≡ false) → (t || v) ≡ false
 none_of true u v e f = absurd (cc)

@@ -6,10 +6,11 @@ use Rattle.x_trees.specs.Words.{Word, word_of, words_of, is_significant}
 use Rattle.x_trees.specs.Tree as tree
 use Rattle.x_trees.specs.Tree.{Definition}
 use Rattle.x_trees.specs.Spell.{spell, KeepsLimits, Begins}
-use Rattle.x_item.specs.Parse.{Parse, Nothing, Def, Fault, IsParse, IsStuck, IsLastWord, code_of}
-use Rattle.x_item.specs.declared.parsing.fault_code.FaultCode.{FaultCode}
-use Rattle.x_item.proofs.WordLemmas.{words_of-append, words_of-word}
-use Rattle.x_item.proofs.SpellingLaws.{one_spelling}
+use Rattle.x_parser.specs.Stuck.{IsStuck, code_of}
+use Rattle.x_item.specs.Parse.{Parse, Nothing, Def, Fault, IsParse, IsLastWord}
+use Rattle.x_parser.specs.declared.fault_code.FaultCode.{FaultCode}
+use Rattle.x_parser.proofs.WordLemmas.{words_of-append, words_of-word}
+use Rattle.x_parser.proofs.SpellingLaws.{one_spelling}
 
 same_head : {A : Type 0} {x y : A} {a b : List A} → x ∷ a ≡ y ∷ b → x ≡ y
 same_head e = cc

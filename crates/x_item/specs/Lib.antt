@@ -1,4 +1,1 @@
-pub mod FaultTexts
 pub mod Parse
-pub mod Reading
-pub mod Symbols

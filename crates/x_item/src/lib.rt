@@ -1,15 +1,15 @@
-//! The items of a `.x` file: how an item is parsed ([`parse_item`]). The trees of definitions, their spelling
-//! and the names in them (`x_trees`), and how tokens are cut into items and what an edit does to these
-//! (`x_cutting`), are offered here too.
+//! The items of a `.x` file: what an item is ([`parse_item`]). The parser (`x_parser`), the trees of
+//! definitions, their spelling and the names in them (`x_trees`), and how tokens are cut into items and what
+//! an edit does to these (`x_cutting`), are offered here too.
 #![tactic(auto)]
 
 mod laws;
-mod parsing;
+mod parse_item;
 
 pub use laws::{one_parse, spell_law};
-pub use parsing::parse_item::{Parsed, parse_item};
-pub use parsing::{FaultCode, is_significant};
+pub use parse_item::{Parsed, parse_item};
 pub use x_cutting::{ItemEntry, ItemPatch, Items, cut, next_item, one_cut, one_recut, recut};
+pub use x_parser::{FaultCode, is_significant};
 pub use x_trees::{
     Argument, Arm, BASIC_MARKS, Basic, Body, DataType, Declaration, DeclaredName, Definition,
     Enumerator, Glossary, Length, MOST_INLINE, Mention, NameKind, Procedure, Shape, Spelling, Tag,

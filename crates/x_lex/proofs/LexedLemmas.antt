@@ -2,7 +2,8 @@
 use Rattle.std.proofs.Common.{◌≡◌, ℕ, ◌+◌, ◌-◌, ◌<◌, ◌≤◌, Bool, true, List, [], ◌∷◌, ◌++◌, length, get_or, drop, arith, refl, sym, ap, subst, ◌∙◌}
 use Rattle.std.specs.Prelude.{◌==◌}
 use Rattle.std.proofs.lemmas.List.{length_push}
-use Rattle.x_text.specs.Counts.{Counts, raised}
+use Rattle.x_text.specs.Counts.{Counts}
+use Rattle.x_streams.specs.Counters.{raised}
 use Rattle.x_lex.specs.declared.kind.Kind.{Kind}
 use Rattle.x_lex.specs.Word.{IsToken}
 use Rattle.x_lex.specs.Tiling.{AreTokens, span}

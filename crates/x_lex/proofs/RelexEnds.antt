@@ -7,7 +7,7 @@ use Rattle.x_lex.specs.declared.kind.Kind.{Kind}
 use Rattle.x_lex.specs.Word.{IsToken}
 use Rattle.std.specs.Prelude.{◌==◌, IfOk}
 use Rattle.x_text.specs.declared.text.source.TheConstants.{MAX_TEXT}
-use Rattle.x_text.specs.declared.no_memory.NoMemory.{NoMemory}
+use Rattle.x_lists.specs.declared.no_memory.NoMemory.{NoMemory}
 use Rattle.x_lex.specs.Tiling.{Tiles, starts_after, AreTokens, span, end_of}
 use Rattle.x_lex.specs.Places.{is_line_start}
 use Rattle.x_lex.specs.TokenList.{TokenPatch, patched, IsOfText}

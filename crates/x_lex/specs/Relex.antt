@@ -3,7 +3,7 @@
 use Rattle.std.specs.Prelude.{◌≡◌, ℕ, ◌+◌, ◌-◌, ◌<◌, ◌≤◌, ◌||◌, ◌⊎◌, nat_lt, nat_le, List, [], ◌∷◌, ◌++◌}
 use Rattle.std.specs.Prelude.{length, take, drop, if◌then◌else◌}
 use Rattle.x_text.specs.Edits.{Change, edited_by}
-use Rattle.x_text.specs.Lengths.{IsCountBefore}
+use Rattle.x_lists.specs.Lengths.{IsCountBefore}
 use Rattle.x_lex.specs.declared.kind.Kind.{Kind}
 use Rattle.x_lex.specs.Tiling.{AreTokens, bytes_of, end_of}
 use Rattle.x_lex.specs.Places.{is_line_start}

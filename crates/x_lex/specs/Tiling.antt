@@ -1,6 +1,6 @@
 -- The tokens of a text, each with its kind and length, one after another.
 use Rattle.std.specs.Prelude.{◌≡◌, ℕ, ◌-◌, ◌==◌, Bool, true, List, [], ◌∷◌, drop, slice_index}
-use Rattle.x_text.specs.Lengths.{total_length, length_before}
+use Rattle.x_lists.specs.Lengths.{total_length, length_before}
 use Rattle.x_lex.specs.declared.kind.Kind.{Kind}
 use Rattle.x_lex.specs.Word.{IsToken}
 

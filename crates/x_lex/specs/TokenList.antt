@@ -1,11 +1,11 @@
 -- Tokens as they are kept, and what takes the place of some of them.
 use Rattle.std.specs.Prelude.{ℕ, ◌≤◌, List, length}
-use Rattle.x_text.specs.Seqs.{Gapped}
-use Rattle.x_text.specs.Lengths.{Patch}
+use Rattle.x_lists.specs.Seqs.{Gapped}
+use Rattle.x_lists.specs.Lengths.{Patch}
 use Rattle.x_text.specs.declared.text.source.TheConstants.{MAX_TEXT}
 use Rattle.x_lex.specs.declared.kind.Kind.{Kind}
 use Rattle.x_lex.specs.Tiling.{span}
-pub use Rattle.x_text.specs.Lengths.{patched, LiesAmong, HasRoom}
+pub use Rattle.x_lists.specs.Lengths.{patched, LiesAmong, HasRoom}
 
 -- tokens in order, each with its kind and length; the index behind those that were put in last; and how many
 -- more there is room for

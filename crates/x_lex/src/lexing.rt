@@ -1,6 +1,6 @@
 //! All tokens of a text.
 ghost use Rattle.std.specs.Prelude.{◌≡◌, ◌≤◌, [], length, IfOk, IsOk};
-ghost use Rattle.x_text.specs.Counts.{raised};
+ghost use Rattle.x_streams.specs.Counters.{raised};
 ghost use Rattle.x_lex.specs.Tiling.{AreTokens};
 
 use crate::scan::lex_one;

@@ -1,7 +1,7 @@
 //! What an edit does to the tokens of a text.
 ghost use Rattle.std.specs.Prelude.{◌≡◌, ◌+◌, ◌-◌, ◌≤◌, [], length, IfOk, IsOk};
 ghost use Rattle.x_text.specs.declared.text.source.TheConstants.{MAX_TEXT};
-ghost use Rattle.x_text.specs.Counts.{raised};
+ghost use Rattle.x_streams.specs.Counters.{raised};
 ghost use Rattle.x_text.specs.Edits.{change_of, edited_by, LiesWithin};
 ghost use Rattle.x_lex.specs.Tiling.{AreTokens, end_of};
 ghost use Rattle.x_lex.specs.Places.{is_line_start};

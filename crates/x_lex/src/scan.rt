@@ -1,6 +1,6 @@
 //! The token at one place.
 ghost use Rattle.std.specs.Prelude.{◌≡◌, ◌+◌, ◌-◌, ◌<◌, ◌≤◌, length, drop, slice_index, if◌then◌else◌};
-ghost use Rattle.x_text.specs.Counts.{raised};
+ghost use Rattle.x_streams.specs.Counters.{raised};
 ghost use Rattle.x_lex.specs.Bytes.{is_number};
 ghost use Rattle.x_lex.specs.Word.{IsToken};
 ghost use Rattle.x_lex.specs.Places.{is_line_start, IsTokenAt};

@@ -3,7 +3,7 @@ ghost use Rattle.std.specs.Prelude.{◌≡◌, ◌+◌, ◌<◌, ◌≤◌, ◌�
 ghost use Rattle.std.specs.Prelude.{drop, option_map, slice_get};
 ghost use Rattle.std.specs.Iterator.{YieldsFirstBy, item_count};
 ghost use Rattle.x_text.specs.declared.text.source.TheConstants.{MAX_TEXT};
-ghost use Rattle.x_text.specs.Seqs.{distance};
+ghost use Rattle.x_lists.specs.Seqs.{distance};
 ghost use Rattle.x_lex.specs.Tiling.{AreTokens, span, end_of};
 ghost use Rattle.x_lex.specs.TokenList.{patched, LiesAmong, HasRoom, IsOfText};
 ghost use Rattle.x_lex.specs.Places.{places, lexeme, lexeme_at, lexemes};

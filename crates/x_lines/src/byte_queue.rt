@@ -8,7 +8,7 @@ ghost use Rattle.x_lines.specs.declared.byte_queue.TheConstants.{PIECE};
 use crate::lines::LineFault;
 use std::alloc::{AllocError, Global};
 use std::marker::Model;
-use x_text::Tap;
+use x_streams::Tap;
 
 /// Room for this many bytes at least is offered to a tap.
 const PIECE: usize = 65_536;

@@ -13,7 +13,7 @@ use memchr::memchr;
 use std::alloc::Global;
 use std::marker::Model;
 use thiserror::Error;
-use x_text::Tap;
+use x_streams::Tap;
 
 /// The most bytes of a line, without its line feed.
 pub const LONGEST: usize = 33_600_000;

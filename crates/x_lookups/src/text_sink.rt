@@ -2,7 +2,7 @@
 
 ghost use Rattle.std.specs.Prelude.{◌≡◌, [], Some, false};
 ghost use Rattle.std.specs.Io.KnownBytes.{Keeps};
-ghost use Rattle.x_text.specs.Streams.{FailsForGood, Puts};
+ghost use Rattle.x_streams.specs.Streams.{FailsForGood, Puts};
 
 use std::alloc::Global;
 use std::marker::Model;
@@ -17,7 +17,7 @@ pub struct TextSink {
 
 impl Model for TextSink {
     ghost use Rattle.std.specs.Prelude.{Some};
-    ghost use Rattle.x_text.specs.Streams.{Stream};
+    ghost use Rattle.x_streams.specs.Streams.{Stream};
 
     ghost Value = { Stream };
 

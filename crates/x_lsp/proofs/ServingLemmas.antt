@@ -5,9 +5,9 @@ use Rattle.std.specs.Io.KnownBytes.{Consumes, IsAtEnd}
 use Rattle.std.proofs.KnownBytes.{Appends-nil}
 use Rattle.httparse.specs.Grammar.{ReadsSection}
 use Rattle.httparse.proofs.GrammarLemmas.{ReadsSection-append}
-use Rattle.x_text.specs.Streams.{Stream}
-use Rattle.x_text.specs.Writing.{Adds, Inked, Writes, counted}
-use Rattle.x_text.proofs.Pens.{all_written, counted_all, front_written, writes_none}
+use Rattle.x_streams.specs.Streams.{Stream}
+use Rattle.x_streams.specs.Writing.{Adds, Inked, Writes, counted}
+use Rattle.x_streams.proofs.Pens.{all_written, counted_all, front_written, writes_none}
 use Rattle.x_frames.specs.Answers.{IsSaid, framed_if}
 use Rattle.x_frames.specs.Framing.{FrameReading, IsFramed, IsUnframed, ReadsFrame}
 use Rattle.x_frames.specs.Lives.{end_of}

@@ -1,7 +1,7 @@
 //! A conversation with a client, over a tap and a sink.
 
 ghost use Rattle.std.specs.Prelude.{◌≡◌, MatchOption};
-ghost use Rattle.x_text.specs.Writing.{Adds};
+ghost use Rattle.x_streams.specs.Writing.{Adds};
 ghost use Rattle.x_frames.specs.Answers.{framed, framed_if};
 ghost use Rattle.x_frames.specs.Framing.{FailsReading, ReadsFrame};
 ghost use Rattle.x_lsp.specs.Replies.{said_of};

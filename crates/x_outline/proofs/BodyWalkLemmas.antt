@@ -16,7 +16,7 @@ use Rattle.x_outline.specs.Parts.{view_name_at, view_value_at}
 use Rattle.x_outline.specs.declared.parts.BodyAt.{BodyAt}
 use Rattle.x_outline.specs.declared.bodies.BodyWalk.{BodyWalk}
 use Rattle.x_outline.specs.declared.bodies.Contents.{Contents}
-use Rattle.x_text.proofs.ListLemmas.{map_append}
+use Rattle.x_lists.proofs.ListLemmas.{map_append}
 use Rattle.x_trees.proofs.AmongLemmas.{among_parts, among_cases, among_none}
 
 pub goes_none : (a : Stand) → Goes a a 0 (λ k. []) (λ k. []) (λ k. [])

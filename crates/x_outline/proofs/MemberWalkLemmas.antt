@@ -9,7 +9,7 @@ use Rattle.x_outline.specs.MemberWalks.{Skips, WalkState, Adds, AddsName, AddsNu
 use Rattle.x_outline.specs.Parts.{view_name_at, view_number_at, view_members}
 use Rattle.x_outline.specs.declared.bodies.BodyWalk.{BodyWalk}
 use Rattle.x_outline.specs.declared.parts.Members as rust
-use Rattle.x_text.proofs.ListLemmas.{map_append}
+use Rattle.x_lists.proofs.ListLemmas.{map_append}
 
 -- the members of two parts
 abbrev joined : Members → Members → Members

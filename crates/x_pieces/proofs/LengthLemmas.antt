@@ -4,7 +4,7 @@ use Rattle.std.specs.Prelude.{slice_get}
 use Rattle.std.specs.List.{flat_map}
 use Rattle.std.specs.Option.{option_map_or, option_copied}
 use Rattle.std.proofs.lemmas.List.Concat.{flat_map-append}
-use Rattle.x_text.proofs.ListLemmas.{some_at, get_at, take_next}
+use Rattle.x_lists.proofs.ListLemmas.{some_at, get_at, take_next}
 use Rattle.x_pieces.specs.Pieces.{Pieces}
 
 -- one element more

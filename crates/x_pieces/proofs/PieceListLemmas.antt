@@ -2,9 +2,9 @@
 use Rattle.std.proofs.Common.{◌≡◌, ℕ, ◌+◌, List, [], ◌++◌, length, length-append, Option, Some, None, Bor, refl, sym, ap, ◌∙◌}
 use Rattle.std.specs.Prelude.{slice_get}
 use Rattle.std.specs.Option.{option_map_or, option_copied}
-use Rattle.x_text.specs.Streams.{Stream}
-use Rattle.x_text.specs.Writing.{Inked, Adds}
-use Rattle.x_text.proofs.Pens.{adds_none}
+use Rattle.x_streams.specs.Streams.{Stream}
+use Rattle.x_streams.specs.Writing.{Inked, Adds}
+use Rattle.x_streams.proofs.Pens.{adds_none}
 use Rattle.x_pieces.specs.Pieces.{Pieces, piece, Part, lines_at, pieces_at}
 use Rattle.x_pieces.specs.Texts.{forward_of, part_text}
 use Rattle.x_pieces.specs.declared.which.Which.{Which}

@@ -1,7 +1,7 @@
 //! What stands before all items.
 
 ghost use Rattle.std.specs.Prelude.{◌≡◌, length, map};
-ghost use Rattle.x_text.specs.Writing.{Adds};
+ghost use Rattle.x_streams.specs.Writing.{Adds};
 ghost use Rattle.x_pieces.specs.Texts.{base_byte, guard_byte, guard, header_front, include_header, prologue};
 
 use crate::Which;

@@ -2,7 +2,7 @@
 
 ghost use Rattle.std.specs.Prelude.{◌≡◌, ◌≤◌, ◌^◌, false, length, OnOk};
 ghost use Rattle.std.specs.List.{flat_map};
-ghost use Rattle.x_text.specs.Writing.{Adds, IsWritten};
+ghost use Rattle.x_streams.specs.Writing.{Adds, IsWritten};
 ghost use Rattle.x_pieces.specs.Texts.{epilogue, forwards, part_text, text};
 
 use crate::prologue::{add_prologue, prologue_length};

@@ -10,7 +10,7 @@ use Rattle.std.specs.Str.{bytes_eq}
 use Rattle.std.proofs.lemmas.List.{append-nil}
 use Rattle.std.proofs.lemmas.List.Elements.{filter-append}
 use Rattle.std.proofs.lemmas.Slice.Eq.{bytes_eq-Decides}
-use Rattle.x_text.proofs.ListLemmas.{drop_one, map_append, take_next}
+use Rattle.x_lists.proofs.ListLemmas.{drop_one, map_append, take_next}
 use Rattle.x_trees.specs.declared.names.mention.Mention as mention
 use Rattle.x_trees.specs.declared.trees.declaration.Tag.{Tag}
 use Rattle.x_prelude.specs.Lacking.{Occurrence, first_of_each, first_tag, name_of}

@@ -5,7 +5,7 @@ use Rattle.std.proofs.Common.{arith, length, length-take-le}
 use Rattle.std.specs.Prelude.{not, ◌||◌, is_some, nat_lt, option_map}
 use Rattle.std.proofs.lemmas.List.{length-map}
 use Rattle.std.proofs.lemmas.Simd.{map-map}
-use Rattle.x_text.proofs.ListLemmas.{map_append, take_next}
+use Rattle.x_lists.proofs.ListLemmas.{map_append, take_next}
 use Rattle.x_lex.specs.declared.kind.Kind.{Kind}
 use Rattle.x_trees.specs.Collected.{view_mention}
 use Rattle.x_trees.specs.Mentions.{Mention, mentioned}

@@ -8,7 +8,7 @@ use Rattle.std.proofs.lemmas.Grind.{flat_map-append}
 use Rattle.std.proofs.lemmas.List.{length-map, take-append-drop, take_all, take_more}
 use Rattle.std.proofs.lemmas.List.Elements.{filter-append}
 use Rattle.std.proofs.lemmas.Option.{get_or_from_slice_get, slice_get-get_or, slice_get-map, slice_get_within}
-use Rattle.x_text.proofs.ListLemmas.{map_append}
+use Rattle.x_lists.proofs.ListLemmas.{map_append}
 use Rattle.x_trees.specs.Collected.{view_mention}
 use Rattle.x_trees.specs.Mentions.{Mention, mentioned}
 use Rattle.x_trees.specs.Tree.{Definition}

@@ -8,7 +8,7 @@ use Rattle.x_trees.specs.declared.names.mention.Use.TheVariants as uses
 use Rattle.x_trees.specs.declared.trees.declaration.Tag.{Tag}
 use Rattle.x_trees.specs.declared.trees.declaration.Tag.TheVariants as tags
 use Rattle.x_rules.specs.Results.{KnownNames}
-use Rattle.x_session.specs.Lacking.{is_lacking_name}
+use Rattle.x_follow.specs.Lacking.{is_lacking_name}
 use Rattle.x_prelude.specs.CTypes.{c_type, c_types}
 use Rattle.x_prelude.specs.Lacking.{Occurrence, first_of_each, first_tag, lacking, name_of}
 use Rattle.x_prelude.specs.declared.definition.FromC.{FromC}

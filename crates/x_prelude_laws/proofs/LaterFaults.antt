@@ -7,7 +7,7 @@ use Rattle.x_lex.specs.Places.{Lexeme}
 use Rattle.x_trees.specs.Spell.{Begins}
 use Rattle.x_trees.specs.Words.{is_significant, word_of, words_of}
 use Rattle.x_item.specs.Parse.{Def, Fault, IsParse, Nothing, Parse}
-use Rattle.x_item.specs.declared.parsing.fault_code.FaultCode.{FaultCode}
+use Rattle.x_parser.specs.declared.fault_code.FaultCode.{FaultCode}
 use Rattle.x_item.proofs.ParseLaws.{one_parse}
 use Rattle.x_rules.specs.declared.fault.WordFault.{WordFault}
 use Rattle.x_compile.specs.Compile.{at_token, faults_at, start_of, token_of_word}

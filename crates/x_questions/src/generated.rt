@@ -6,7 +6,7 @@ ghost use Rattle.std.specs.Str.Lossy.{utf8_lossy};
 ghost use Rattle.serde_json.specs.Data.{string};
 ghost use Rattle.serde_json.specs.View.{view};
 ghost use Rattle.serde_json.specs.Written.{has_float};
-ghost use Rattle.x_text.specs.Writing.{Adds};
+ghost use Rattle.x_streams.specs.Writing.{Adds};
 ghost use Rattle.x_compile.specs.Compile.{faults_of};
 ghost use Rattle.x_compile.specs.Generated.{text_of};
 ghost use Rattle.x_session.specs.FaultLines.{fault_line};

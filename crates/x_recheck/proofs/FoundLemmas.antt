@@ -2,7 +2,8 @@
 use Rattle.std.specs.List.{IsAmong}
 use Rattle.std.proofs.Common.{◌≡◌, ◌<◌, ℕ, ◌+◌, ◌^◌, List, [], ◌∷◌, map, Option, Some, None, sym, ap, subst, ◌∙◌, arith}
 use Rattle.std.proofs.lemmas.Option.{same_Some}
-use Rattle.x_text.specs.Counts.{Counts, raised}
+use Rattle.x_text.specs.Counts.{Counts}
+use Rattle.x_streams.specs.Counters.{raised}
 use Rattle.x_trees.specs.Tree.{Definition}
 use Rattle.x_rules.specs.Results.{KnownNames, Outcome, IsOutcome, IsResult, AreResults, result_at, view_by}
 use Rattle.x_rules.specs.Views.{View}

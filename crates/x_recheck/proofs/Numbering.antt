@@ -6,7 +6,7 @@ use Rattle.std.proofs.lemmas.Bool.{ltb-true, ltb-false, lt-ltb, le-ltb}
 use Rattle.std.proofs.lemmas.List.{length-take-le}
 use Rattle.std.proofs.lemmas.Option.{same_Some, slice_get_within}
 use Rattle.x_trees.specs.Tree.{Definition}
-use Rattle.x_text.proofs.ListLemmas.{get_drop}
+use Rattle.x_lists.proofs.ListLemmas.{get_drop}
 use Rattle.x_uses.specs.declared.uses.ItemSplice.{ItemSplice}
 use Rattle.x_recheck.specs.Editing.{TextEdit, definitions_after, IsEdit, definition_at, old_number}
 use Rattle.x_trees.specs.Spell.{IsShort}

@@ -5,7 +5,7 @@ use Rattle.std.proofs.Common.{◌≡◌, ◌<◌, ◌≤◌, ◌⊎◌, inl, inr
 use Rattle.std.proofs.lemmas.Bool.{cases_lt}
 use Rattle.std.proofs.lemmas.List.{take_all}
 use Rattle.std.proofs.lemmas.Option.{get_or_from_slice_get, slice_get-get_or, slice_get_within}
-use Rattle.x_text.proofs.ListLemmas.{drop_one, take_next}
+use Rattle.x_lists.proofs.ListLemmas.{drop_one, take_next}
 use Rattle.x_trees.proofs.AmongLemmas.{among_cases, among_none, among_parts, among_same, among_more}
 
 among_last : {X : Type 0} (xs : List X) (x y : X) → IsAmong (xs ++ x ∷ []) y → IsAmong xs y ⊎ (y ≡ x)

@@ -3,7 +3,8 @@ use Rattle.std.specs.Prelude.{◌≡◌, ◌<◌, ◌≤◌, ◌↔◌, ℕ, suc
 use Rattle.std.specs.Prelude.{None, if◌then◌else◌}
 use Rattle.std.specs.List.{IsAmong}
 use Rattle.std.specs.Option.{option_or}
-use Rattle.x_text.specs.Counts.{Counts, raised}
+use Rattle.x_text.specs.Counts.{Counts}
+use Rattle.x_streams.specs.Counters.{raised}
 use Rattle.x_trees.specs.Tree.{Definition}
 use Rattle.x_rules.specs.Results.{Outcome, AreResults, result_at, view_by}
 use Rattle.x_trees.specs.Seen.{names_of}

@@ -12,7 +12,7 @@ use Rattle.x_rules.specs.declared.fault.WordFault.{WordFault}
 use Rattle.x_trees.proofs.AmongLemmas.{among_none, among_front, among_rear, among_parts}
 use Rattle.x_rules.proofs.DuplicateLemmas.{found_behind, behind_found}
 use Rattle.x_rules.proofs.FamilyLemmas.{fault_is, is_fault}
-use Rattle.x_text.proofs.ListLemmas.{map_append}
+use Rattle.x_lists.proofs.ListLemmas.{map_append}
 
 abbrev name_of : NameAt → List ℕ
 name_of x = x.name

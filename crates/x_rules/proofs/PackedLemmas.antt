@@ -2,7 +2,7 @@
 use Rattle.std.specs.Prelude.{All, ℤ, Option, slice_get}
 use Rattle.std.proofs.Common.{◌≡◌, ◌<◌, ℕ, zero, suc, List, [], ◌∷◌, ◌++◌, length, map, arith, refl, ap, ◌∙◌}
 use Rattle.std.proofs.lemmas.List.Elements.{All-head, All-tail}
-use Rattle.x_text.proofs.ListLemmas.{map_append}
+use Rattle.x_lists.proofs.ListLemmas.{map_append}
 use Rattle.x_rules.specs.Packed.{Grows, IsWithin, unpacked}
 use Rattle.x_rules.specs.declared.rules.packed_numbers.Packed.{Packed}
 use Rattle.x_rules.specs.declared.rules.packed_numbers.Packed.TheVariants as packed

@@ -10,7 +10,7 @@ use Rattle.x_trees.specs.View.{view_most}
 use Rattle.x_outline.specs.Parts.{view_enumerator_at}
 use Rattle.x_outline.specs.declared.parts.EnumeratorAt.{EnumeratorAt as Kept}
 use Rattle.x_rules.specs.declared.fault.WordFault.{WordFault}
-use Rattle.x_text.proofs.ListLemmas.{drop_one, drop_none}
+use Rattle.x_lists.proofs.ListLemmas.{drop_one, drop_none}
 
 no_number : (given : Option Value) → past_last given None ≡ None
 no_number None = refl

@@ -9,7 +9,7 @@ use Rattle.x_rules.specs.FirstPlaces.{first_from, first_place}
 use Rattle.x_outline.specs.Parts.{view_enumerator_at}
 use Rattle.x_rules.specs.Tables.{HasNumbers}
 use Rattle.x_rules.proofs.FirstLemmas.{first_named, shift}
-use Rattle.x_text.proofs.ListLemmas.{some_at, take_next, map_append, get_at, drop_none}
+use Rattle.x_lists.proofs.ListLemmas.{some_at, take_next, map_append, get_at, drop_none}
 use Rattle.x_rules.specs.Views.{View}
 use Rattle.x_rules.specs.declared.rules.constants.Constants.{Constants}
 

@@ -11,7 +11,7 @@ use Rattle.x_names.specs.Declarers.{is_beforehand, first_declarer}
 use Rattle.x_names.specs.declared.names.Declarer.{Declarer}
 use Rattle.x_rules.specs.Results.{KnownNames, known_or, Outcome, IsOutcome, IsResult, AreResultsFrom, AreResults, result_at, view_of, view_by, meaning_in, meaning_at, beforehand_meaning, meanings_by}
 use Rattle.x_rules.proofs.FaultLists.{one_faults}
-use Rattle.x_text.proofs.ListLemmas.{get_at, drop_next}
+use Rattle.x_lists.proofs.ListLemmas.{get_at, drop_next}
 
 pub one_outcome : (d : Definition) (views : List View) (a b : Outcome) → IsOutcome d views a → IsOutcome d views b → a ≡ b
 one_outcome d views a b h k =

@@ -14,7 +14,7 @@ use Rattle.x_schema.specs.declared.maker.Link.{Link}
 use Rattle.x_schema.specs.declared.maker.Link.TheVariants as links
 use Rattle.x_schema.specs.declared.maker.Maker.{Maker}
 use Rattle.x_schema.specs.declared.schema.NamedType.{NamedType}
-use Rattle.x_text.proofs.ListLemmas.{map_append}
+use Rattle.x_lists.proofs.ListLemmas.{map_append}
 
 -- ---- fronts
 

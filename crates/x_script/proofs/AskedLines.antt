@@ -1,8 +1,8 @@
 -- Lines that ask to show a value, to explain the faults or for names that clash, and others.
 use Rattle.std.proofs.Common.{◌≡◌, ◌≤◌, ℕ, List, Bool, true, false, length, Some, None, Result, Ok, Err}
-use Rattle.x_text.specs.declared.no_memory.NoMemory.{NoMemory}
-use Rattle.x_text.specs.Streams.{Stream}
-use Rattle.x_text.specs.Writing.{Inked}
+use Rattle.x_lists.specs.declared.no_memory.NoMemory.{NoMemory}
+use Rattle.x_streams.specs.Streams.{Stream}
+use Rattle.x_streams.specs.Writing.{Inked}
 use Rattle.x_script.specs.Clashing.{IsClashAnswer}
 use Rattle.x_script.specs.Commands.{clashes_asked, command_of, dump_asked, explain_asked}
 use Rattle.x_script.specs.Explaining.{IsExplainAnswer}

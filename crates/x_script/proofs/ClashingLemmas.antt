@@ -2,9 +2,9 @@
 use Rattle.std.proofs.Common.{◌≡◌, ◌<◌, ◌≤◌, ◌++◌, ℕ, List, [], length, codes, true, false, Ok, arith, refl, subst}
 use Rattle.std.specs.List.{flat_map}
 use Rattle.std.proofs.lemmas.List.{nil_from_length}
-use Rattle.x_text.specs.Streams.{Stream}
-use Rattle.x_text.specs.Writing.{Inked, Adds}
-use Rattle.x_text.proofs.Pens.{adds_trans}
+use Rattle.x_streams.specs.Streams.{Stream}
+use Rattle.x_streams.specs.Writing.{Inked, Adds}
+use Rattle.x_streams.proofs.Pens.{adds_trans}
 use Rattle.x_compile.specs.Compile.{faults_of}
 use Rattle.x_compile.specs.Known.{KnownText}
 use Rattle.x_declared.proofs.DeclaredLemmas.{of_each}

@@ -1,9 +1,9 @@
 -- The definitions of a text, listed item by item.
 use Rattle.std.proofs.Common.{◌≡◌, ℕ, zero, suc, ◌+◌, ◌≤◌, List, [], ◌∷◌, drop, length, Option, None, Some, refl, sym, ap, subst, ◌∙◌, arith}
-use Rattle.x_text.specs.Streams.{Stream}
+use Rattle.x_streams.specs.Streams.{Stream}
 use Rattle.std.specs.Prelude.{slice_get, option_and_then}
 use Rattle.std.specs.List.{flat_map}
-use Rattle.x_text.specs.Writing.{Inked, Adds}
+use Rattle.x_streams.specs.Writing.{Inked, Adds}
 use Rattle.x_lex.specs.declared.kind.Kind.{Kind}
 use Rattle.x_trees.specs.Tree.{Definition}
 use Rattle.x_compile.specs.Compile.{Item, IsCompilation, definitions_of, definition_at}
@@ -12,7 +12,7 @@ use Rattle.x_compile.specs.Definitions.{numbered}
 use Rattle.x_script.specs.Answers.{definition_line}
 use Rattle.x_session.specs.Session.{Compiles}
 use Rattle.x_compile.proofs.Compiled.{one_compilation}
-use Rattle.x_text.proofs.ListLemmas.{drop_none}
+use Rattle.x_lists.proofs.ListLemmas.{drop_none}
 use Rattle.x_text.proofs.Listing.{HasListed, lists_none, lists_more, lists_all}
 
 -- the definitions of the first items are listed

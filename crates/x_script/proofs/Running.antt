@@ -1,9 +1,9 @@
 -- How a run of a script goes on.
 use Rattle.std.proofs.Common.{◌≡◌, ◌≤◌, ℕ, arith, Bool, true, false, ◌||◌, List, [], ◌∷◌, ◌++◌, length, Option, Some, Ok, refl, sym, ap, subst, ◌∙◌, append-nil}
 use Rattle.std.specs.Io.KnownBytes.{Appends}
-use Rattle.x_text.specs.Streams.{Stream}
-use Rattle.x_text.specs.Writing.{Inked, Writes, Adds, counted}
-use Rattle.x_text.proofs.Pens.{writes_none, all_written, counted_all, front_written}
+use Rattle.x_streams.specs.Streams.{Stream}
+use Rattle.x_streams.specs.Writing.{Inked, Writes, Adds, counted}
+use Rattle.x_streams.proofs.Pens.{writes_none, all_written, counted_all, front_written}
 use Rattle.x_script.specs.Answers.{Answer}
 use Rattle.x_script.specs.LineAnswers.{IsLineAnswer}
 use Rattle.x_lines.specs.Lines.{Reading, IsUnread, script_lines}

@@ -1,8 +1,8 @@
 -- What private functions do to the text of a script.
 use Rattle.std.specs.Prelude.{◌≡◌, ℕ, Bool, true, false, List, Result, Ok, Err, OnOk}
-use Rattle.x_text.specs.Streams.{Stream}
-use Rattle.x_text.specs.Writing.{Inked}
-use Rattle.x_text.specs.declared.no_memory.NoMemory.{NoMemory}
+use Rattle.x_streams.specs.Streams.{Stream}
+use Rattle.x_streams.specs.Writing.{Inked}
+use Rattle.x_lists.specs.declared.no_memory.NoMemory.{NoMemory}
 use Rattle.x_prelude.specs.Before.{IsBefore}
 use Rattle.x_prelude.specs.Followed.{IsOver}
 use Rattle.x_prelude.specs.declared.followed.FollowedText.{FollowedText}

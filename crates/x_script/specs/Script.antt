@@ -1,17 +1,17 @@
 -- What a script does with a text.
 use Rattle.std.specs.Prelude.{◌≡◌, ◌≤◌, ℕ, Bool, true, false, ◌||◌, List, [], ◌∷◌, ◌++◌, length, Option, Some}
 use Rattle.std.specs.Prelude.{None, Result, Ok, Err}
-use Rattle.x_text.specs.Streams.{Stream}
-use Rattle.x_text.specs.Writing.{Inked, Adds, HasFront, counted}
+use Rattle.x_streams.specs.Streams.{Stream}
+use Rattle.x_streams.specs.Writing.{Inked, Adds, HasFront, counted}
 use Rattle.x_script.specs.Answers.{Answer}
 use Rattle.x_script.specs.LineAnswers.{IsLineAnswer}
 use Rattle.x_script.specs.Situations.{How, Situation, Leaves}
 use Rattle.x_lines.specs.declared.lines.LineFault.{LineFault}
 use Rattle.x_lines.specs.declared.lines.State.TheVariants.{Ended}
-use Rattle.x_text.specs.declared.streams.outcome.Outcome.{Outcome}
-use Rattle.x_text.specs.Engines.{is_refused}
-use Rattle.x_text.specs.declared.streams.outcome.EngineFault.{EngineFault}
-use Rattle.x_text.specs.declared.streams.outcome.EngineFault.TheVariants.{Read, Write, NoMemory}
+use Rattle.x_streams.specs.declared.outcome.Outcome.{Outcome}
+use Rattle.x_streams.specs.Engines.{is_refused}
+use Rattle.x_streams.specs.declared.outcome.EngineFault.{EngineFault}
+use Rattle.x_streams.specs.declared.outcome.EngineFault.TheVariants.{Read, Write, NoMemory}
 use Rattle.x_lines.specs.Lines.{Reading, IsUnread, StopsBehind, script_lines, whole_lines}
 use Rattle.std.specs.Io.KnownBytes.{Appends, Consumes}
 

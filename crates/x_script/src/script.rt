@@ -2,7 +2,7 @@
 
 ghost use Rattle.std.specs.Prelude.{◌≡◌, ◌≤◌, ℕ, true, false, List, length, OnErr, MatchOption};
 ghost use Rattle.x_text.specs.Edits.{change_of};
-ghost use Rattle.x_text.specs.Writing.{Adds};
+ghost use Rattle.x_streams.specs.Writing.{Adds};
 ghost use Rattle.x_prelude.specs.Followed.{IsOver};
 ghost use Rattle.x_session.specs.Session.{Compiles};
 ghost use Rattle.x_script.specs.Answers.{answer, edit_answer};
@@ -12,7 +12,7 @@ ghost use Rattle.x_script.specs.Situations.{situation};
 ghost use Rattle.x_lines.specs.declared.lines.TheConstants.{LONGEST};
 ghost use Rattle.x_script.specs.Script.{AddsAnswer, AddsIfFound, HasGiven, GoesOn, Runs};
 ghost use Rattle.x_script.specs.declared.script.ScriptFile.{ScriptFile};
-ghost use Rattle.x_text.specs.Engines.{NamesCause};
+ghost use Rattle.x_streams.specs.Engines.{NamesCause};
 ghost use Rattle.x_lines.specs.Lines.{FailsBy};
 
 mod answer;

@@ -1,15 +1,4 @@
-pub mod CountingLemmas
 pub mod EditLists
-pub mod FollowLemmas
-pub mod FreshLemmas
-pub mod LackingLemmas
-pub mod MoveLemmas
-pub mod PatchLemmas
-pub mod PlacingLemmas
-pub mod PlannedLemmas
-pub mod RenderLemmas
-pub mod StaleLemmas
-pub mod TableLemmas
 pub mod TypedLemmas
 pub mod WorkLaws
 pub mod WorkLemmas

@@ -6,7 +6,7 @@ use Rattle.std.proofs.lemmas.List.{length-map}
 use Rattle.std.proofs.lemmas.List.Sums.{sum_by-append}
 use Rattle.x_text.specs.Edits.{Change, edited_by, LiesWithin}
 use Rattle.x_text.specs.declared.text.edit.Edit.{Edit}
-use Rattle.x_text.specs.Seqs.{distance}
+use Rattle.x_lists.specs.Seqs.{distance}
 use Rattle.x_lex.specs.declared.kind.Kind.{Kind}
 use Rattle.x_lex.specs.Places.{lexemes}
 use Rattle.x_lex.specs.Relex.{IsPatch}
@@ -23,12 +23,12 @@ use Rattle.x_recheck.specs.Staleness.{AreStale}
 use Rattle.x_recheck.proofs.StaleLists.{one_stale_list}
 use Rattle.x_compile.specs.Compile.{definitions_of}
 use Rattle.x_compile.specs.Known.{KnownText, known_names}
-use Rattle.x_session.specs.Moves.{AreNear, Changed, changed_items, moves, place_of, seat_behind}
+use Rattle.x_follow.specs.Moves.{AreNear, Changed, changed_items, moves, place_of, seat_behind}
 use Rattle.x_session.specs.Session.{Document}
 use Rattle.x_session.specs.Work.{AreNearWorks, AreStaleItems, IsWork, definitions_edit}
 use Rattle.x_session.specs.declared.session.work.Work.{Work}
 use Rattle.x_compile.proofs.Compiled.{one_compilation}
-use Rattle.x_session.proofs.PatchLemmas.{same_patch}
+use Rattle.x_follow.proofs.PatchLemmas.{same_patch}
 
 -- what stands between the same lists is the same
 between : {X : Type 0} (front xs ys rear more : List X) → length xs ≡ length ys → front ++ (xs ++ rear) ≡ front ++ (ys ++ more) → xs ≡ ys

@@ -6,9 +6,9 @@ use Rattle.std.specs.List as Among
 use Rattle.std.specs.List.{splice}
 use Rattle.std.proofs.lemmas.List.{length-append, length-map}
 use Rattle.std.proofs.lemmas.List.Sums.{sum_by-append}
-use Rattle.x_text.specs.Counts.{raised}
+use Rattle.x_streams.specs.Counters.{raised}
 use Rattle.x_text.specs.Edits.{Change, change_of, edited_by}
-use Rattle.x_text.specs.Seqs.{distance}
+use Rattle.x_lists.specs.Seqs.{distance}
 use Rattle.x_text.specs.declared.text.edit.Edit.{Edit}
 use Rattle.x_text.specs.declared.text.source.TheConstants.{MAX_TEXT}
 use Rattle.x_lex.specs.declared.kind.Kind.{Kind}
@@ -28,21 +28,21 @@ use Rattle.x_recheck.specs.Editing.{TextEdit, definitions_after}
 use Rattle.x_uses.specs.Occurrences.{UseTable}
 use Rattle.x_recheck.specs.Staleness.{AreStale, Ascending}
 use Rattle.x_compile.specs.Checking.{AreChecked}
-use Rattle.x_session.specs.Following.{AreUsed, IsPlan, behind, edit_of}
+use Rattle.x_follow.specs.Following.{AreUsed, IsPlan, behind, edit_of}
 use Rattle.x_compile.specs.KeptView.{AreWith, entry_definitions, found_result, kept_definition}
-use Rattle.x_session.specs.Moves.{changed_items, moves, place_of, seat_behind}
-use Rattle.x_session.specs.Planned.{numbers_of}
+use Rattle.x_follow.specs.Moves.{changed_items, moves, place_of, seat_behind}
+use Rattle.x_follow.specs.Planned.{numbers_of}
 use Rattle.x_session.specs.Session.{Document, LeavesText}
 use Rattle.x_compile.specs.KeptText.{IsKept, items_of}
 use Rattle.x_compile.specs.Known.{KnownText, known_names}
 use Rattle.x_session.specs.Work.{AreStaleItems, AreWorks, IsWork, IsWorkOfAll, definitions_edit}
 use Rattle.x_compile.specs.declared.content.CheckResult.{CheckResult}
 use Rattle.x_compile.specs.declared.content.Content.{Content}
-use Rattle.x_session.specs.declared.follow.planned.PlannedResult.{PlannedResult}
-use Rattle.x_session.specs.declared.follow.planning.Plan.{Plan}
+use Rattle.x_follow.specs.declared.planned.PlannedResult.{PlannedResult}
+use Rattle.x_follow.specs.declared.planning.Plan.{Plan}
 use Rattle.x_session.specs.declared.session.work.Work.{Work}
 use Rattle.x_compile.proofs.AlongLemmas.{cut_of}
-use Rattle.x_session.proofs.PatchLemmas.{definitions_splice, same_patch}
+use Rattle.x_follow.proofs.PatchLemmas.{definitions_splice, same_patch}
 use Rattle.x_compile.proofs.Compiled.{compilation, definitions-items, results-items}
 use Rattle.x_compile.proofs.KeptLemmas.{definitions_with, kept_is, results_with}
 

@@ -1,9 +1,9 @@
 -- What has failed where a loop reads of a tap and writes to a sink through a pen.
 use Rattle.std.proofs.Common.{◌≡◌, ℕ, Bool, true, false, List, [], ◌++◌, refl, sym, ap, subst, ◌∙◌}
-use Rattle.x_text.specs.Streams.{Stream}
-use Rattle.x_text.specs.Writing.{Inked, Writes, Adds}
-use Rattle.x_text.specs.Engines.{WorksOn}
-use Rattle.x_text.proofs.Pens.{writes_none, front_written}
+use Rattle.x_streams.specs.Streams.{Stream}
+use Rattle.x_streams.specs.Writing.{Inked, Writes, Adds}
+use Rattle.x_streams.specs.Engines.{WorksOn}
+use Rattle.x_streams.proofs.Pens.{writes_none, front_written}
 
 -- between two answers the pen works, and the sink and the tap have failed no more than at the start
 pub record IsWorking (start : Stream) (pen : Inked) (now : Stream) (tap tap' : Bool) : Type 0 where

@@ -1,9 +1,4 @@
 pub mod FaultLines
-pub mod Following
-pub mod Lacking
-pub mod Moves
-pub mod Planned
-pub mod Rendered
 pub mod Session
 pub mod Typed
 pub mod Work

@@ -1,8 +1,8 @@
 -- What work an edit takes, by both texts: each is compiled from its start, and then they are compared.
 use Rattle.std.specs.Prelude.{◌≡◌, ◌≤◌, ℕ, ◌+◌, List, [], ◌∷◌, Option, length, map, sum_by}
-use Rattle.x_text.specs.Counts.{raised}
+use Rattle.x_streams.specs.Counters.{raised}
 use Rattle.x_text.specs.Edits.{Change, change_of, edited_by}
-use Rattle.x_text.specs.Seqs.{distance}
+use Rattle.x_lists.specs.Seqs.{distance}
 use Rattle.x_text.specs.declared.text.edit.Edit.{Edit}
 use Rattle.x_lex.specs.declared.kind.Kind.{Kind}
 use Rattle.x_lex.specs.Places.{lexemes}
@@ -18,7 +18,7 @@ use Rattle.x_recheck.specs.Editing.{TextEdit, definitions_after}
 use Rattle.x_recheck.specs.Staleness.{AreStale}
 use Rattle.x_compile.specs.Compile.{Item, IsCompilation, definitions_of}
 use Rattle.x_compile.specs.Known.{KnownText, known_names}
-use Rattle.x_session.specs.Moves.{AreNear, changed_items, moves, place_of, seat_behind}
+use Rattle.x_follow.specs.Moves.{AreNear, changed_items, moves, place_of, seat_behind}
 use Rattle.x_session.specs.Session.{Document, LeavesText}
 use Rattle.x_session.specs.declared.session.work.Work.{Work}
 

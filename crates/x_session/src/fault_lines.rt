@@ -1,6 +1,6 @@
 //! What is told of a fault in a line.
 
-ghost use Rattle.x_text.specs.Writing.{Adds};
+ghost use Rattle.x_streams.specs.Writing.{Adds};
 ghost use Rattle.x_session.specs.FaultLines.{fault_place};
 
 use x_compile::Fault;

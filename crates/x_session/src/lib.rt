@@ -2,7 +2,6 @@
 #![tactic(auto)]
 
 mod fault_lines;
-mod follow;
 mod laws;
 mod session;
 

@@ -2,7 +2,7 @@
 use crate::asserts::expect_text;
 use std::test::Fail;
 use x_script::{EngineFault, LineFault};
-use x_session::{SchemaFault, near_edits, one_compilation, one_work};
+use x_session::SchemaFault;
 
 #[test]
 fn faults_of_a_run_have_their_texts(rt: HostRuntime) -> Result<(), Fail> {
@@ -32,11 +32,4 @@ fn faults_of_a_line_and_of_types_have_their_texts(rt: HostRuntime) -> Result<(),
     expect_text(&rt, rt.alloc(), &LineFault::NoMemory, "out of memory")?;
     expect_text(&rt, rt.alloc(), &SchemaFault::Faulty, "40 Faulty")?;
     expect_text(&rt, rt.alloc(), &SchemaFault::NoMemory, "41 NoMemory")
-}
-
-#[test]
-fn the_laws_do_nothing(_rt: HostRuntime) {
-    one_compilation();
-    one_work();
-    near_edits();
 }

@@ -1,8 +1,8 @@
 -- Adding one thing behind another.
 use Rattle.std.proofs.Common.{ℕ, List, ◌++◌}
-use Rattle.x_text.specs.Streams.{Stream}
-use Rattle.x_text.specs.Writing.{Inked, Adds}
-use Rattle.x_text.proofs.Pens.{adds_trans}
+use Rattle.x_streams.specs.Streams.{Stream}
+use Rattle.x_streams.specs.Writing.{Inked, Adds}
+use Rattle.x_streams.proofs.Pens.{adds_trans}
 
 pub two : (p q r : Inked) (a b c : Stream) (ws xs : List ℕ) → Adds p a q b ws → Adds q b r c xs → Adds p a r c (ws ++ xs)
 two p q r a b c ws xs one more = adds_trans p q r a b c ws xs one more

@@ -2,10 +2,4 @@ pub mod Adding
 pub mod Cases
 pub mod Columns
 pub mod Edits
-pub mod LengthLemmas
-pub mod ListLemmas
 pub mod Listing
-pub mod PassLemmas
-pub mod PatchLemmas
-pub mod Pens
-pub mod SeqLemmas

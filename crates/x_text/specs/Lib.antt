@@ -1,11 +1,5 @@
 pub mod Buffers
 pub mod Counts
 pub mod Edits
-pub mod Engines
-pub mod Lengths
 pub mod Limits
-pub mod Memory
-pub mod Seqs
-pub mod Streams
 pub mod Text
-pub mod Writing

@@ -2,7 +2,7 @@
 use Rattle.std.proofs.Common.{◌≡◌, ℕ, ◌+◌, ◌<◌, List, ◌∷◌, Some, None, length, drop, get_or, ap, sym, ◌∙◌}
 use Rattle.std.specs.Prelude.{slice_get}
 use Rattle.std.proofs.lemmas.Option.{get_or_from_slice_get, none-some, slice_get-get_or}
-use Rattle.x_text.proofs.ListLemmas.{drop_one}
+use Rattle.x_lists.proofs.ListLemmas.{drop_one}
 use Rattle.x_value.specs.Shown.{Node, node, Star, Null}
 
 none : Node

@@ -1,8 +1,8 @@
 -- What is written of bytes as a value of a type.
 use Rattle.std.specs.Prelude.{◌≡◌, ℕ, List, Result, Ok, Err}
 use Rattle.std.specs.Io.KnownBytes.{Appends}
-use Rattle.x_text.specs.Streams.{Stream}
-use Rattle.x_text.specs.Writing.{StopsWithin}
+use Rattle.x_streams.specs.Streams.{Stream}
+use Rattle.x_streams.specs.Writing.{StopsWithin}
 use Rattle.x_schema.specs.Schema.{Schema}
 use Rattle.x_schema.specs.declared.schema.TypeId.{TypeId}
 use Rattle.x_value.specs.Dumps.{IsReadFault, IsShown}
@@ -11,10 +11,10 @@ use Rattle.x_value.specs.Lines.{node_lines}
 use Rattle.x_value.specs.Shown.{Node}
 use Rattle.x_value.specs.declared.fault.ReadCode.{ReadCode}
 use Rattle.x_value.specs.declared.fault.ReadCode.TheVariants as codes
-use Rattle.x_text.specs.declared.streams.outcome.Outcome.{Outcome}
-use Rattle.x_text.specs.declared.streams.outcome.Outcome.TheVariants.{Clean, Refused}
-use Rattle.x_text.specs.declared.streams.outcome.EngineFault.{EngineFault}
-use Rattle.x_text.specs.declared.streams.outcome.EngineFault.TheVariants.{Read, Write, NoMemory}
+use Rattle.x_streams.specs.declared.outcome.Outcome.{Outcome}
+use Rattle.x_streams.specs.declared.outcome.Outcome.TheVariants.{Clean, Refused}
+use Rattle.x_streams.specs.declared.outcome.EngineFault.{EngineFault}
+use Rattle.x_streams.specs.declared.outcome.EngineFault.TheVariants.{Read, Write, NoMemory}
 
 -- the lines of the value whose encoding the bytes are, or that of the fault of bytes that are none
 pub data IsValueText (s : Schema) (id : TypeId) (bytes text : List ℕ) (outcome : Outcome) : Type 0 where

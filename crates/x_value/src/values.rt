@@ -1,7 +1,7 @@
 //! One value of a type, as text.
 
 ghost use Rattle.std.specs.Prelude.{◌≡◌, false, ℕ, List, IfOk, OnOk, OnErr};
-ghost use Rattle.x_text.specs.Writing.{Adds};
+ghost use Rattle.x_streams.specs.Writing.{Adds};
 ghost use Rattle.x_schema.specs.Schema.{IsTypeId};
 ghost use Rattle.x_value.specs.ValueTexts.{IsValueText, WritesValue};
 

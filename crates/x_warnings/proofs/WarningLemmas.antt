@@ -4,9 +4,9 @@ use Rattle.std.proofs.Common.{get_or, length, refl, sym, ap, subst, ◌∙◌, a
 use Rattle.std.proofs.lemmas.Bool.Decides.{nat_tests}
 use Rattle.std.specs.List.{flat_map}
 use Rattle.std.proofs.lemmas.List.{drop_more}
-use Rattle.x_text.specs.Streams.{Stream}
-use Rattle.x_text.specs.Writing.{Adds, Inked}
-use Rattle.x_text.proofs.Pens.{adds_trans}
+use Rattle.x_streams.specs.Streams.{Stream}
+use Rattle.x_streams.specs.Writing.{Adds, Inked}
+use Rattle.x_streams.proofs.Pens.{adds_trans}
 use Rattle.x_trees.specs.Tree.{Definition}
 use Rattle.x_names.specs.Declarers.{AreShort}
 use Rattle.x_compile.specs.Compile.{Item, definitions_of, tokens_of}

@@ -2,7 +2,7 @@
 
 ghost use Rattle.std.specs.Prelude.{◌≡◌, map};
 ghost use Rattle.std.specs.List.{flat_map};
-ghost use Rattle.x_text.specs.Writing.{Adds};
+ghost use Rattle.x_streams.specs.Writing.{Adds};
 ghost use Rattle.x_warnings.specs.WarningLines.{kind_text, other_place_text, other_text, place_text};
 ghost use Rattle.x_warnings.specs.WarningLines.{spot_text, warning_line};
 ghost use Rattle.x_warnings.specs.Warnings.{view_warning};

@@ -2,9 +2,9 @@
 use Rattle.std.proofs.Common.{◌≡◌, ℕ, ◌+◌, ◌-◌, Bool, true, false, ◌||◌, List, [], ◌∷◌, ◌++◌, length, take, drop, refl, sym, ap, subst, ◌∙◌, append_assoc, append-nil, arith}
 use Rattle.std.specs.Prelude.{Option, Some, None, Result, Ok, Err, OnErr}
 use Rattle.std.proofs.lemmas.List.{length-append, take_rest, take-append-drop}
-use Rattle.x_text.specs.Streams.{Stream}
-use Rattle.x_text.specs.Writing.{Inked, Adds, Writes}
-use Rattle.x_text.proofs.Pens.{adds_none, adds_trans, writes_none}
+use Rattle.x_streams.specs.Streams.{Stream}
+use Rattle.x_streams.specs.Writing.{Inked, Adds, Writes}
+use Rattle.x_streams.proofs.Pens.{adds_none, adds_trans, writes_none}
 use Rattle.x_schema.specs.Schema.{Schema}
 use Rattle.x_wire.specs.Calls.{Calls}
 use Rattle.x_wire.specs.Dumpers.{HasTold, TellsMore, IsAt, Tells, TellsFront, front_taken}

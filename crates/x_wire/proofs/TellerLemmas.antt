@@ -2,16 +2,16 @@
 use Rattle.std.proofs.Common.{◌≡◌, ℕ, nat_eq, Bor, Bool, true, false, cond, IfOk, Result, Ok, Err, List, [], ◌∷◌, ◌++◌, Option, Some, None, codes, refl, sym, ap, subst, ◌∙◌, append-nil, arith, MatchOption}
 use Rattle.std.proofs.lemmas.Bool.Decides.{nat_tests}
 use Rattle.std.specs.Prelude.{option_map, option_and_then}
-use Rattle.x_text.specs.Streams.{Stream}
-use Rattle.x_text.specs.Writing.{Inked, Adds}
-use Rattle.x_text.proofs.Pens.{adds_trans}
+use Rattle.x_streams.specs.Streams.{Stream}
+use Rattle.x_streams.specs.Writing.{Inked, Adds}
+use Rattle.x_streams.proofs.Pens.{adds_trans}
 use Rattle.x_schema.specs.Schema.{Schema, IsTypeId}
 use Rattle.x_schema.specs.declared.procedure.CompactProcedure.{CompactProcedure}
 use Rattle.x_schema.specs.declared.schema.TypeId.{TypeId}
 use Rattle.x_schema.specs.declared.procedure.Procedure.{Procedure}
 use Rattle.x_schema.specs.declared.procedure.ProcedureNumbers.{ProcedureNumbers}
 use Rattle.x_value.specs.declared.fault.ReadCode.{ReadCode}
-use Rattle.x_text.specs.declared.no_memory.NoMemory.{NoMemory}
+use Rattle.x_lists.specs.declared.no_memory.NoMemory.{NoMemory}
 use Rattle.x_wire.specs.Messages.{accept_of, body_of_reply, header_of_reply, results_of}
 use Rattle.x_wire.specs.declared.messages.parts.AcceptStat.{AcceptStat}
 use Rattle.x_wire.specs.declared.messages.parts.AcceptStat.TheVariants as accepts

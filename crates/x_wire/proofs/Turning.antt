@@ -4,14 +4,14 @@ use Rattle.std.specs.Prelude.{Option, Some, None, Ok, Err, ◌⊎◌, IsErr, IsT
 use Rattle.std.proofs.lemmas.List.{length-take}
 use Rattle.std.specs.Io.KnownBytes.{Consumes, IsAtEnd, Keeps}
 use Rattle.std.proofs.KnownBytes.{Appends-nil, Consumes-nil, Consumes-trans, Consumes-kept}
-use Rattle.x_text.specs.Streams.{Stream, FailsForGood}
-use Rattle.x_text.specs.declared.streams.sink.Broken.{Broken}
-use Rattle.x_text.specs.Writing.{Inked, Writes, Adds}
-use Rattle.x_text.proofs.Pens.{adds_trans, all_written, counted_all, front_written, writes_none}
+use Rattle.x_streams.specs.Streams.{Stream, FailsForGood}
+use Rattle.x_streams.specs.declared.sink.Broken.{Broken}
+use Rattle.x_streams.specs.Writing.{Inked, Writes, Adds}
+use Rattle.x_streams.proofs.Pens.{adds_trans, all_written, counted_all, front_written, writes_none}
 use Rattle.x_schema.specs.Schema.{Schema}
-use Rattle.x_text.specs.Engines.{is_refused, WorksOn}
-use Rattle.x_text.specs.declared.streams.outcome.Outcome.{Outcome}
-use Rattle.x_text.specs.declared.streams.outcome.EngineFault.TheVariants as faults
+use Rattle.x_streams.specs.Engines.{is_refused, WorksOn}
+use Rattle.x_streams.specs.declared.outcome.Outcome.{Outcome}
+use Rattle.x_streams.specs.declared.outcome.EngineFault.TheVariants as faults
 use Rattle.x_wire.specs.Dumpers.{IsAt, Tells, TellsFront, IsOver, IsUnder, IsTurn, TellsTurn}
 use Rattle.x_wire.specs.Framers.{left_by}
 use Rattle.x_wire.specs.MessageTexts.{Told, plain, then_told}

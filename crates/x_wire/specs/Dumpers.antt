@@ -1,10 +1,10 @@
 -- What a dumper told of a stream that comes in blocks.
 use Rattle.std.specs.Prelude.{◌≡◌, ℕ, ◌<◌, ◌≤◌, Bool, List, [], ◌++◌, length, take, Option, Some, None}
 use Rattle.std.specs.Io.KnownBytes.{Consumes}
-use Rattle.x_text.specs.Streams.{Stream}
-use Rattle.x_text.specs.Writing.{Inked, Adds}
+use Rattle.x_streams.specs.Streams.{Stream}
+use Rattle.x_streams.specs.Writing.{Inked, Adds}
 use Rattle.x_schema.specs.Schema.{Schema}
-use Rattle.x_text.specs.Engines.{is_refused}
+use Rattle.x_streams.specs.Engines.{is_refused}
 use Rattle.x_wire.specs.Calls.{Calls}
 use Rattle.x_wire.specs.Framers.{left_by}
 use Rattle.x_wire.specs.LastCalls.{last_call}

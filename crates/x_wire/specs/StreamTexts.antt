@@ -4,13 +4,13 @@ use Rattle.std.specs.Prelude.{Ok}
 use Rattle.std.specs.Prelude.{Err, codes}
 use Rattle.std.specs.Fmt.{decimal}
 use Rattle.std.specs.Io.KnownBytes.{Appends, Consumes}
-use Rattle.x_text.specs.Streams.{Stream}
-use Rattle.x_text.specs.Writing.{StopsWithin, counted}
+use Rattle.x_streams.specs.Streams.{Stream}
+use Rattle.x_streams.specs.Writing.{StopsWithin, counted}
 use Rattle.x_schema.specs.Schema.{Schema}
-use Rattle.x_text.specs.Engines.{is_refused}
-use Rattle.x_text.specs.declared.streams.outcome.Outcome.{Outcome}
-use Rattle.x_text.specs.declared.streams.outcome.EngineFault.{EngineFault}
-use Rattle.x_text.specs.declared.streams.outcome.EngineFault.TheVariants.{Read, Write, NoMemory}
+use Rattle.x_streams.specs.Engines.{is_refused}
+use Rattle.x_streams.specs.declared.outcome.Outcome.{Outcome}
+use Rattle.x_streams.specs.declared.outcome.EngineFault.{EngineFault}
+use Rattle.x_streams.specs.declared.outcome.EngineFault.TheVariants.{Read, Write, NoMemory}
 use Rattle.x_wire.specs.Calls.{Calls}
 use Rattle.x_wire.specs.Limits.{most_block}
 use Rattle.x_wire.specs.MessageTexts.{Told, plain, refused, then_told, IsMessageText}

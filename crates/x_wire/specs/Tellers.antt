@@ -1,8 +1,8 @@
 -- What a teller keeps of calls, and what it tells of a message.
 use Rattle.std.specs.Prelude.{◌≡◌, ℕ, Bool, List, Option, Some, None, MatchOption, codes}
 use Rattle.std.specs.Prelude.{option_map, option_and_then}
-use Rattle.x_text.specs.Streams.{Stream}
-use Rattle.x_text.specs.Writing.{Inked, Adds}
+use Rattle.x_streams.specs.Streams.{Stream}
+use Rattle.x_streams.specs.Writing.{Inked, Adds}
 use Rattle.x_schema.specs.Schema.{Schema, IsShownAs, IsTypeId, kept_at}
 use Rattle.x_schema.specs.declared.procedure.CompactProcedure.{CompactProcedure}
 use Rattle.x_schema.specs.declared.procedure.Procedure.{Procedure}

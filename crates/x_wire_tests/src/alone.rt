@@ -3,9 +3,8 @@
 ghost use Rattle.std.specs.Prelude.{◌≤◌};
 
 use crate::asserts::expect_eq;
-use crate::streams::{
-    CALL_TEXT, NULL_CALL, READDIR, READDIR_CALL_TEXT, READDIR_RESULTS, nfs2_schema,
-};
+use crate::schemas::nfs2_schema;
+use crate::streams::{CALL_TEXT, NULL_CALL, READDIR, READDIR_CALL_TEXT, READDIR_RESULTS};
 use refusals::{MOST_TURNS, begin, end};
 use std::alloc::Global;
 use std::process::Abort;

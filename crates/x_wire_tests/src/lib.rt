@@ -6,9 +6,9 @@ mod alone;
 #[cfg(test)]
 mod asserts;
 #[cfg(test)]
-mod laws;
-#[cfg(test)]
 mod records;
+#[cfg(test)]
+mod schemas;
 #[cfg(test)]
 mod streams;
 #[cfg(test)]

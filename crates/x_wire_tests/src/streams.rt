@@ -3,14 +3,14 @@ ghost use Rattle.std.specs.Prelude.{◌≤◌};
 
 use crate::asserts::expect_eq;
 use crate::records::feed_cut;
+use crate::schemas::nfs2_schema;
 use refusals::{MOST_TURNS, begin, end};
 use std::alloc::Global;
 use std::io::{self, Write};
 use std::process::Abort;
 use std::test::Fail;
-use x_session::{SchemaFault, Session};
-use x_text::{MemSink, MemTap, Out, TextFault};
-use x_wire::{EngineFault, NFS2_X, Outcome, Schema, dump_message, dump_stream, dump_value};
+use x_text::{MemSink, MemTap, Out};
+use x_wire::{EngineFault, Outcome, Schema, dump_message, dump_stream, dump_value};
 
 /// A call of procedure 0 of NFS version 2, and its reply.
 pub const NULL_CALL: &[u8] =
@@ -115,26 +115,6 @@ impl Row {
 
 /// Where the call ends in the first stream.
 const CALL_END: usize = 44;
-
-#[test]
-fn the_schema_of_nfs_has_its_procedures(rt: HostRuntime) -> Result<(), Fail> {
-    let session = Session::open(rt.alloc(), b"nfs2", NFS2_X)?;
-    let schema = session.schema()?;
-    for number in 0..18 {
-        assert!(rt;
-            schema.procedure(100003, 2, number).is_some(),
-            "procedure {number}"
-        );
-    }
-    assert!(rt; schema.procedure(100003, 2, 18).is_none());
-    Ok(())
-}
-
-/// The types of NFS version 2.
-pub fn nfs2_schema(alloc: Global) -> Result<Schema, Fail> {
-    let session = Session::open(alloc, b"nfs2", NFS2_X)?;
-    Ok(session.schema()?)
-}
 
 /// Whole, byte by byte, and in pieces of every size between.
 #[test]
@@ -376,49 +356,9 @@ fn tell_once(
     Ok(refused)
 }
 
-/// Why there are no types of a text.
-#[derive(Clone, Copy, Debug, PartialEq, Eq)]
-enum Lacking {
-    Session(TextFault),
-    Schema(SchemaFault),
-}
-
-/// Whether the built-in schema has the procedure of a number.
-fn has_procedure(alloc: Global, number: u32) -> Result<bool, Lacking> {
-    let session = match Session::open(alloc, b"nfs2", NFS2_X) {
-        Ok(session) => session,
-        Err(fault) => return Err(Lacking::Session(fault)),
-    };
-    match session.schema() {
-        Ok(schema) => Ok(schema.procedure(100003, 2, number).is_some()),
-        Err(fault) => Err(Lacking::Schema(fault)),
-    }
-}
-
-/// Makes the built-in schema with one allocation refused after another, and after a refusal with memory.
-fn open_with_little_memory(rt: &impl Abort, alloc: Global) -> Result<usize, Fail> {
-    for turn in 0..MOST_TURNS {
-        begin(alloc, turn)?;
-        let answer = has_procedure(alloc, 17);
-        let refused = end(alloc);
-        if answer != Ok(true) {
-            let told = answer == Err(Lacking::Session(TextFault::NoMemory))
-                || answer == Err(Lacking::Schema(SchemaFault::NoMemory));
-            assert!(rt; refused && told);
-        }
-        if !refused {
-            return Ok(turn);
-        }
-    }
-    panic!(rt; "opening never ends")
-}
-
-/// Each allocation of opening the schema of NFS version 2 with its types, and of telling of two streams by
-/// it.
+/// Each allocation of telling of two streams.
 #[test]
 fn refused_streams(rt: HostRuntime) -> Result<(), Fail> {
-    let turns = open_with_little_memory(&rt, rt.alloc())?;
-    println!(rt; "turns: {turns}")?;
     let schema = nfs2_schema(rt.alloc())?;
     for row in &ROWS {
         let turns = tell_with_little_memory(&rt, rt.alloc(), &schema, row)?;

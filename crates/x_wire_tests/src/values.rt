@@ -1,12 +1,12 @@
 //! Values that are read with every allocation refused in turn, and the text of a refusal.
 
 use crate::asserts::{expect_eq, expect_text};
-use crate::streams::{READDIR, nfs2_schema};
+use crate::schemas::{nfs2_schema, schema_of};
+use crate::streams::READDIR;
 use refusals::{MOST_TURNS, begin, end};
 use std::alloc::Global;
 use std::process::Abort;
 use std::test::Fail;
-use x_session::Session;
 use x_wire::{ReadCode, ReadFault, Schema, dump};
 
 /// How many nodes a value of a type has, and the level of the last.
@@ -78,18 +78,13 @@ fn refused_values(rt: HostRuntime) -> Result<(), Fail> {
     Ok(())
 }
 
-fn links_schema(alloc: Global) -> Result<Schema, Fail> {
-    let session = Session::open(alloc, b"t", b"struct l { l *n; };")?;
-    Ok(session.schema()?)
-}
-
 fn read_links(
     rt: &impl Abort,
     alloc: Global,
     count: u32,
     wanted: Result<(usize, Option<u32>), ReadFault>,
 ) -> Result<usize, Fail> {
-    let schema = links_schema(alloc)?;
+    let schema = schema_of(alloc, b"struct l { l *n; };")?;
     let list = links(alloc, count)?;
     read_with_little_memory(rt, alloc, &schema, (b"l", &list), wanted)
 }

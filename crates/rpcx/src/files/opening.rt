@@ -1,7 +1,7 @@
 //! The text of a file, opened for a run.
 
 ghost use Rattle.std.specs.Prelude.{◌≡◌, ◌⊎◌, codes, OnErr, OnOk};
-ghost use Rattle.x_text.specs.Writing.{Adds};
+ghost use Rattle.x_streams.specs.Writing.{Adds};
 ghost use Rattle.rpcx.specs.Generate.{told_fault, told_faults, ExplainsFaults, IsOpened, TellsFaults};
 ghost use Rattle.x_explain.specs.KnownFiles.{no_places, places_of_files};
 ghost use Rattle.rpcx.specs.Opening.{HavePlaces, from_options};

@@ -2,7 +2,7 @@
 ghost use Rattle.std.specs.Prelude.{◌≡◌, ◌+◌, ◌<◌, ◌≤◌, ◌↔◌, ℕ, Some, IfOk, OnOk, OnErr, length};
 ghost use Rattle.std.specs.Prelude.{option_copied, slice_get, slice_set};
 ghost use Rattle.x_text.specs.declared.text.source.TheConstants.{MAX_TEXT};
-ghost use Rattle.x_text.specs.Seqs.{distance};
+ghost use Rattle.x_lists.specs.Seqs.{distance};
 ghost use Rattle.x_cutting.specs.ItemList.{byte_counts, counts, kept, total, tokens_before, patched};
 ghost use Rattle.x_cutting.specs.ItemList.{AreOfText, HasRoom, LiesAmong};
 
@@ -21,7 +21,7 @@ pub struct Items<K> {
 }
 
 impl<K> Model for Items<K> {
-    ghost use Rattle.x_text.specs.Seqs.{Gapped};
+    ghost use Rattle.x_lists.specs.Seqs.{Gapped};
     ghost use Rattle.x_cutting.specs.declared.cutting.item_entry.ItemEntry.{ItemEntry};
     ghost use Rattle.x_cutting.specs.ItemList.{counts, AreOfText};
 

@@ -1,7 +1,7 @@
 //! What a script is answered.
 
 ghost use Rattle.std.specs.Prelude.{◌≡◌, option_map};
-ghost use Rattle.x_text.specs.Writing.{Adds};
+ghost use Rattle.x_streams.specs.Writing.{Adds};
 ghost use Rattle.x_lex.specs.Places.{lexeme};
 ghost use Rattle.x_trees.specs.View.{view_body, view_declaration, view_definition};
 ghost use Rattle.x_compile.specs.Compile.{tokens_of, definitions_of, faults_of};

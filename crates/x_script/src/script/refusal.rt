@@ -1,7 +1,7 @@
 //! Why a line of a script is refused.
 
 ghost use Rattle.std.specs.Prelude.{◌≡◌};
-ghost use Rattle.x_text.specs.Writing.{Adds};
+ghost use Rattle.x_streams.specs.Writing.{Adds};
 ghost use Rattle.x_script.specs.Refusals.{refusal_line, refusal_text};
 
 use x_text::{Pen, Sink};

@@ -1,7 +1,7 @@
 //! What a script is answered that asks to show a value.
 
 ghost use Rattle.std.specs.Prelude.{◌≡◌, ◌<◌, true, length, IfOk, OnErr};
-ghost use Rattle.x_text.specs.Writing.{Adds};
+ghost use Rattle.x_streams.specs.Writing.{Adds};
 ghost use Rattle.x_schema.specs.Schema.{IsTypeId};
 ghost use Rattle.x_prelude.specs.Followed.{IsOver};
 ghost use Rattle.x_script.specs.Answers.{Answer};

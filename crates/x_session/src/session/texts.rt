@@ -1,7 +1,7 @@
 //! The texts that are generated of a session's text.
 
 ghost use Rattle.std.specs.Prelude.{◌≡◌, false, length, OnOk};
-ghost use Rattle.x_text.specs.Writing.{Adds, IsWritten};
+ghost use Rattle.x_streams.specs.Writing.{Adds, IsWritten};
 ghost use Rattle.x_session.specs.Session.{Compiles};
 ghost use Rattle.x_compile.specs.Generated.{text_of};
 

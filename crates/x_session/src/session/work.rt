@@ -1,6 +1,6 @@
 //! The work of an edit.
 ghost use Rattle.std.specs.Prelude.{◌≡◌};
-ghost use Rattle.x_text.specs.Counts.{raised};
+ghost use Rattle.x_streams.specs.Counters.{raised};
 
 use x_text::Meter;
 

@@ -2,7 +2,7 @@
 
 ghost use Rattle.std.specs.Prelude.{◌≡◌, ◌<◌, ◌≤◌, ◌*◌, ◌++◌, Some, codes, decimal, length, slice_get, take};
 ghost use Rattle.std.specs.List.{flat_map, list_all};
-ghost use Rattle.x_text.specs.Writing.{Adds};
+ghost use Rattle.x_streams.specs.Writing.{Adds};
 ghost use Rattle.x_value.specs.FaultTexts.{read_text, fault_line};
 ghost use Rattle.x_value.specs.Lines.{hex_digit, hex_byte, hex_text, quoted_byte, quoted_text, is_plain};
 ghost use Rattle.x_value.specs.Lines.{label_text, leaf_text, truth_text, node_line, node_lines};

@@ -1,6 +1,6 @@
 //! The arguments and the results in messages.
 ghost use Rattle.std.specs.Prelude.{◌≡◌, ◌++◌, MatchOption, IfOk};
-ghost use Rattle.x_text.specs.Writing.{Adds};
+ghost use Rattle.x_streams.specs.Writing.{Adds};
 ghost use Rattle.x_schema.specs.Schema.{IsTypeId};
 ghost use Rattle.x_value.specs.FaultTexts.{fault_line};
 ghost use Rattle.x_wire.specs.Bodies.{IsReadAs, told_of};

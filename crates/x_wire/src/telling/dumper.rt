@@ -1,8 +1,8 @@
 //! What is printed of a stream that comes in blocks.
 ghost use Rattle.std.specs.Prelude.{◌≡◌, ◌<◌, ◌||◌, ◌∷◌, [], ℕ, List, false, length, true, IfOk, OnErr};
 ghost use Rattle.x_schema.specs.Schema.{Schema};
-ghost use Rattle.x_text.specs.Engines.{is_refused};
-ghost use Rattle.x_text.specs.Writing.{Adds};
+ghost use Rattle.x_streams.specs.Engines.{is_refused};
+ghost use Rattle.x_streams.specs.Writing.{Adds};
 ghost use Rattle.x_wire.specs.Dumpers.{HasTold, IsAt, IsOver, IsOverAt, IsUnder, IsUsed, Tells, TellsFront};
 ghost use Rattle.x_wire.specs.Dumpers.{TellsMore, front_taken};
 ghost use Rattle.x_wire.specs.Framers.{IsOpen, left_by};

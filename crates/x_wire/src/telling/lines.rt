@@ -1,6 +1,6 @@
 //! The lines that headers and their faults are written as.
 ghost use Rattle.std.specs.Prelude.{◌≡◌, ◌++◌, codes, decimal};
-ghost use Rattle.x_text.specs.Writing.{Adds};
+ghost use Rattle.x_streams.specs.Writing.{Adds};
 ghost use Rattle.x_wire.specs.Messages.{accept_of, auth_of, reject_of};
 ghost use Rattle.x_wire.specs.MessageTexts.{accept_details, accept_name, bounds_line, call_number};
 ghost use Rattle.x_wire.specs.MessageTexts.{auth_line, bad_header_line, call_line, raw_line, reply_line};

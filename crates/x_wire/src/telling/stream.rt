@@ -1,8 +1,8 @@
 //! What is printed of a recorded stream.
 ghost use Rattle.std.specs.Prelude.{◌≡◌, ◌<◌, ◌≤◌, ℕ, List, length, IfOk, OnErr, MatchOption};
 ghost use Rattle.std.specs.Io.KnownBytes.{Keeps};
-ghost use Rattle.x_text.specs.Engines.{NamesCause};
-ghost use Rattle.x_text.specs.Streams.{FailsForGood};
+ghost use Rattle.x_streams.specs.Engines.{NamesCause};
+ghost use Rattle.x_streams.specs.Streams.{FailsForGood};
 ghost use Rattle.x_wire.specs.Dumpers.{IsAt, TellsTurn};
 ghost use Rattle.x_wire.specs.Framers.{IsOpen};
 ghost use Rattle.x_wire.specs.Limits.{most_block};

@@ -1,5 +1,5 @@
 use Rattle.std.proofs.Common.{ap, sym}
-use Rattle.x_text.specs.Engines.{is_refused}
+use Rattle.x_streams.specs.Engines.{is_refused}
 use Rattle.x_script.specs.Situations.{situation}
 use Rattle.rpcx.specs.Editing.{status_of}
 use Rattle.x_args.specs.declared.status.Status.TheVariants.{Done, Faulty}

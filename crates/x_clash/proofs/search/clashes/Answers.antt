@@ -1,6 +1,6 @@
 use Rattle.std.proofs.Common.{◌≡◌, suc, ◌+◌, ◌∷◌, ◌++◌, List, [], Some, drop, map, sym, ap, subst, ◌∙◌, arith}
 use Rattle.std.proofs.lemmas.List.{drop_all}
-use Rattle.x_text.proofs.ListLemmas.{drop_one, get_mapped}
+use Rattle.x_lists.proofs.ListLemmas.{drop_one, get_mapped}
 use Rattle.x_taken.specs.TakenNames.{taken_in}
 use Rattle.x_trees.specs.View.{tree_at, view_definition}
 use Rattle.x_clash.specs.Clashes.{AreClashes, things_of}

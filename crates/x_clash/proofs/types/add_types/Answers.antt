@@ -2,7 +2,7 @@ use Rattle.std.proofs.Common.{◌+◌, ◌∷◌, drop, map, sym, ap, ◌∙◌}
 use Rattle.x_trees.specs.Collected.{view_name}
 use Rattle.x_trees.specs.View.{view_definition}
 use Rattle.x_outline.specs.BodyWalks.{view_body_at}
-use Rattle.x_text.proofs.ListLemmas.{drop_one}
+use Rattle.x_lists.proofs.ListLemmas.{drop_one}
 use Rattle.x_clash.specs.Views.{view_all}
 use Rattle.x_clash.proofs.TypeLemmas.{types_more}
 use Rattle.x_clash.proofs.types.add_types.Goals as goal

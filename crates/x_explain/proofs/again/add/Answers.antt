@@ -1,6 +1,6 @@
 use Rattle.std.proofs.Common.{◌≡◌, [], ◌∷◌, ◌++◌, length, map, take, drop, ap, subst, ◌∙◌}
 use Rattle.std.specs.Option.{option_or}
-use Rattle.x_text.proofs.ListLemmas.{before_last}
+use Rattle.x_lists.proofs.ListLemmas.{before_last}
 use Rattle.x_trees.specs.Collected.{view_name}
 use Rattle.x_explain.specs.AgainNames.{again_among, at_start, entry_at, name_at, start_again}
 use Rattle.x_explain.proofs.AgainLemmas.{name_before}

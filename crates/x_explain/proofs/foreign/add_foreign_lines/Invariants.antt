@@ -1,7 +1,7 @@
 use Rattle.std.proofs.Common.{drop}
 use Rattle.std.specs.List.{flat_map}
-use Rattle.x_text.specs.Streams.{Stream}
-use Rattle.x_text.specs.Writing.{Adds, Inked}
+use Rattle.x_streams.specs.Streams.{Stream}
+use Rattle.x_streams.specs.Writing.{Adds, Inked}
 use Rattle.x_explain.specs.Explained.{foreign_line}
 use Rattle.x_declared.specs.Foreign.{view_all}
 use Rattle.x_explain.proofs.foreign.add_foreign_lines.Given as goal

@@ -1,5 +1,5 @@
 use Rattle.std.proofs.Common.{◌++◌, codes, sym, subst}
-use Rattle.x_text.specs.Writing.{Adds}
+use Rattle.x_streams.specs.Writing.{Adds}
 use Rattle.x_text.proofs.Adding.{six}
 use Rattle.x_explain.specs.Explained.{cyan, gutter, help_line, painted}
 use Rattle.std.specs.Prelude.{option_map}

@@ -1,6 +1,6 @@
 use Rattle.std.proofs.Common.{ℕ, drop, get_or, ◌+◌, subst, arith}
-use Rattle.x_text.specs.Writing.{Adds}
-use Rattle.x_text.proofs.ListLemmas.{drop_one, drop_none}
+use Rattle.x_streams.specs.Writing.{Adds}
+use Rattle.x_lists.proofs.ListLemmas.{drop_one, drop_none}
 use Rattle.x_text.proofs.Listing.{HasListed, lists_more, lists_all}
 use Rattle.x_explain.specs.Shown.{blank}
 use Rattle.x_explain.proofs.shown.add_blanks.Goals as goal

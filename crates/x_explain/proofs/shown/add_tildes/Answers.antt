@@ -1,6 +1,6 @@
 use Rattle.std.proofs.Common.{ℕ, drop, take, get_or, ◌+◌, ◌∙◌, ap, codes, subst, arith}
-use Rattle.x_text.specs.Writing.{Adds}
-use Rattle.x_text.proofs.ListLemmas.{drop_one, drop_none}
+use Rattle.x_streams.specs.Writing.{Adds}
+use Rattle.x_lists.proofs.ListLemmas.{drop_one, drop_none}
 use Rattle.x_text.proofs.Listing.{HasListed, lists_more, lists_all}
 use Rattle.x_explain.specs.Shown.{tildes}
 use Rattle.x_explain.proofs.shown.add_tildes.Goals as goal

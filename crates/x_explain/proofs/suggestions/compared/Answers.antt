@@ -3,7 +3,7 @@ use Rattle.std.specs.Cow.{cow_slice_items}
 use Rattle.std.specs.List.{flat_map}
 use Rattle.x_trees.specs.Names.{declared}
 use Rattle.x_trees.specs.View.{tree_at, view_definition}
-use Rattle.x_text.proofs.ListLemmas.{drop_none, drop_one, get_mapped}
+use Rattle.x_lists.proofs.ListLemmas.{drop_none, drop_one, get_mapped}
 use Rattle.x_explain.specs.Suggestions.{compared, names_in}
 use Rattle.x_explain.proofs.SuggestionLemmas.{all_taken, mapped_many, only_none, some_taken}
 use Rattle.x_explain.proofs.suggestions.compared.Goals as goal

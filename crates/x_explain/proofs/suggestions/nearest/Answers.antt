@@ -1,7 +1,7 @@
 use Rattle.std.proofs.Common.{◌≡◌, ◌-◌, ◌∷◌, map, drop, length, ap, sym, ◌∙◌, arith}
 use Rattle.std.specs.Cow.{cow_slice_items}
 use Rattle.std.specs.Prelude.{option_map, true, false}
-use Rattle.x_text.proofs.ListLemmas.{drop_none}
+use Rattle.x_lists.proofs.ListLemmas.{drop_none}
 use Rattle.x_explain.proofs.SuggestionLemmas.{mapped_next, nearest_next, nearest_none}
 use Rattle.x_explain.proofs.suggestions.nearest.Goals as goal
 

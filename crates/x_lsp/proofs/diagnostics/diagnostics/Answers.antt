@@ -4,7 +4,7 @@ use Rattle.x_compile.specs.Compile.{IsCompilation}
 use Rattle.x_compile.specs.Faults.{fault_text}
 use Rattle.x_compile.specs.declared.fault.FaultPlace.{FaultPlace}
 use Rattle.x_compile.specs.declared.fault.FaultCode.TheVariants as fault_codes
-use Rattle.x_item.specs.declared.parsing.fault_code.FaultCode.TheVariants as item_codes
+use Rattle.x_parser.specs.declared.fault_code.FaultCode.TheVariants as item_codes
 use Rattle.x_session.specs.Session.{Compiles, Document}
 use Rattle.x_explain.specs.declared.found.FoundFault.{FoundFault}
 use Rattle.x_published.specs.declared.published.Diagnostic.{Diagnostic}

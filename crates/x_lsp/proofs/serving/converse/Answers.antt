@@ -1,7 +1,7 @@
 use Rattle.std.proofs.Common.{sym, ap, subst, false, ◌∙◌, Ok, Err}
 use Rattle.x_session.proofs.Working.{works_at_start, works_on}
 use Rattle.x_text.proofs.Cases.{match_some}
-use Rattle.x_text.specs.Streams.{Stream}
+use Rattle.x_streams.specs.Streams.{Stream}
 use Rattle.x_frames.specs.Answers.{framed_if}
 use Rattle.x_frames.specs.Framing.{ReadsFrame}
 use Rattle.x_lsp.specs.Serving.{IsAnswered, Serves, stop_by}

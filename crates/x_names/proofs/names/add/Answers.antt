@@ -6,7 +6,7 @@ use Rattle.x_trees.specs.Collected.{view_name}
 use Rattle.std.specs.Option.{option_or}
 use Rattle.x_names.specs.Declarers.{declarer_at, place_of_name}
 use Rattle.x_names.specs.DeclarerTable.{entry_in}
-use Rattle.x_text.proofs.ListLemmas.{before_last}
+use Rattle.x_lists.proofs.ListLemmas.{before_last}
 use Rattle.x_names.proofs.NameLemmas.{name_before}
 use Rattle.x_names.proofs.names.add.Goals as goal
 

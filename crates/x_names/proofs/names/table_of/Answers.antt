@@ -1,7 +1,7 @@
 use Rattle.std.proofs.Common.{◌≡◌, ◌<◌, suc, ◌+◌, ◌-◌, ◌∷◌, Some, length, map, drop, ap, ◌∙◌, arith}
 use Rattle.x_names.specs.DeclarerTable.{entry_in}
 use Rattle.x_trees.specs.View.{tree_at}
-use Rattle.x_text.proofs.ListLemmas.{drop_one, get_mapped}
+use Rattle.x_lists.proofs.ListLemmas.{drop_one, get_mapped}
 use Rattle.x_names.proofs.NameLemmas.{item_before}
 use Rattle.x_names.proofs.names.table_of.Goals as goal
 

@@ -1,5 +1,5 @@
 use Rattle.std.proofs.Common.{◌∷◌, [], subst}
-use Rattle.x_text.specs.Writing.{Adds}
+use Rattle.x_streams.specs.Writing.{Adds}
 use Rattle.x_pieces.specs.Texts.{base_byte}
 use Rattle.x_text.proofs.Listing.{maps_at, maps_past}
 use Rattle.x_pieces.proofs.prologue.add_base.Goals as goal

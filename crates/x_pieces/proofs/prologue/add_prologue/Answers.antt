@@ -1,6 +1,6 @@
 use Rattle.std.proofs.Common.{◌≡◌, ◌⊎◌, inl, inr, ◌++◌, ℕ, List, codes, sym, ap, subst}
-use Rattle.x_text.specs.Writing.{Adds}
-use Rattle.x_text.proofs.Pens.{adds_trans}
+use Rattle.x_streams.specs.Writing.{Adds}
+use Rattle.x_streams.proofs.Pens.{adds_trans}
 use Rattle.x_pieces.specs.Texts.{header_front, include_header, prologue}
 use Rattle.x_pieces.specs.declared.which.Which.{Which}
 use Rattle.x_pieces.specs.declared.which.Which.TheVariants as texts

@@ -1,6 +1,6 @@
 use Rattle.std.proofs.Common.{[], arith, sym, subst}
 use Rattle.std.specs.Option.{option_map_or}
-use Rattle.x_text.specs.Writing.{Adds}
+use Rattle.x_streams.specs.Writing.{Adds}
 use Rattle.x_pieces.specs.Pieces.{pieces_at}
 use Rattle.x_pieces.specs.Texts.{forward_of}
 use Rattle.x_text.proofs.Listing.{lists_at}

@@ -1,7 +1,7 @@
 use Rattle.std.proofs.Common.{[], arith, sym, subst}
 use Rattle.std.specs.Option.{option_map_or}
-use Rattle.x_text.specs.Writing.{Adds}
-use Rattle.x_text.proofs.Pens.{adds_trans}
+use Rattle.x_streams.specs.Writing.{Adds}
+use Rattle.x_streams.proofs.Pens.{adds_trans}
 use Rattle.x_pieces.specs.Pieces.{piece, lines_at, pieces_at}
 use Rattle.x_pieces.specs.Texts.{part_text}
 use Rattle.x_text.proofs.Listing.{lists_at}

@@ -1,6 +1,6 @@
 use Rattle.std.proofs.Common.{rules, subst}
 use Rattle.std.specs.List.{flat_map}
-use Rattle.x_text.specs.Writing.{Adds}
+use Rattle.x_streams.specs.Writing.{Adds}
 use Rattle.x_pieces.specs.Texts.{prologue, forwards, part_text, epilogue}
 use Rattle.x_text.proofs.Adding.{four}
 use Rattle.x_pieces.proofs.text.add_text.Goals.{then-eq, else-eq}

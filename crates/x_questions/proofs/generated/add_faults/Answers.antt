@@ -1,6 +1,6 @@
 use Rattle.std.proofs.Common.{◌≡◌, subst, ◌∙◌}
 use Rattle.std.specs.List.{flat_map}
-use Rattle.x_text.specs.Writing.{Adds}
+use Rattle.x_streams.specs.Writing.{Adds}
 use Rattle.x_text.proofs.Listing.{HasListed, lists_more, lists_all}
 use Rattle.x_compile.specs.Compile.{faults_of}
 use Rattle.x_compile.specs.declared.fault.Fault.{Fault}

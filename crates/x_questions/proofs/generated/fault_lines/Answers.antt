@@ -2,9 +2,9 @@ use Rattle.std.proofs.Common.{[], ap, subst, sym}
 use Rattle.std.specs.Prelude.{Some}
 use Rattle.std.specs.List.{flat_map}
 use Rattle.std.specs.Io.KnownBytes.{Appends}
-use Rattle.x_text.specs.Streams.{Stream}
-use Rattle.x_text.specs.Writing.{Inked, Writes}
-use Rattle.x_text.proofs.Pens.{writes_none}
+use Rattle.x_streams.specs.Streams.{Stream}
+use Rattle.x_streams.specs.Writing.{Inked, Writes}
+use Rattle.x_streams.proofs.Pens.{writes_none}
 use Rattle.x_compile.specs.Compile.{faults_of}
 use Rattle.x_session.specs.FaultLines.{fault_line}
 use Rattle.x_questions.proofs.generated.fault_lines.Goals as goal

@@ -1,7 +1,7 @@
 use Rattle.std.proofs.Common.{◌∙◌, ◌∷◌, [], ap, map}
 use Rattle.serde_json.specs.View.{items_of, items_view, view}
 use Rattle.serde_json.specs.Written.{items_have_float}
-use Rattle.x_text.proofs.ListLemmas.{map_append}
+use Rattle.x_lists.proofs.ListLemmas.{map_append}
 use Rattle.x_frames.proofs.JsonLemmas.{plain_more}
 use Rattle.x_questions.proofs.locations.places_value.Goals as goal
 

@@ -1,6 +1,6 @@
 use Rattle.std.proofs.Common.{Bool, ◌||◌, ◌++◌, Option, Ok, Err, refl, sym, subst, ◌∙◌}
 use Rattle.x_lines.specs.Lines.{script_lines}
-use Rattle.x_text.specs.Engines.{is_refused}
+use Rattle.x_streams.specs.Engines.{is_refused}
 use Rattle.x_script.specs.Situations.{situation}
 use Rattle.x_script.specs.Script.{GoesOn, HasRun, HasStopped, HasFailed, IsFrontOf}
 use Rattle.x_script.proofs.Running.{IsBetween, added_some, at_start, behind, between, at_stop, at_fault, so_still}

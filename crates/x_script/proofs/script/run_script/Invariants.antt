@@ -1,5 +1,5 @@
 use Rattle.std.proofs.Common.{◌≡◌, List, ℕ, Some}
-use Rattle.x_text.specs.Engines.{is_refused}
+use Rattle.x_streams.specs.Engines.{is_refused}
 use Rattle.x_prelude.specs.Followed.{IsOver}
 use Rattle.x_script.specs.Situations.{situation}
 use Rattle.x_script.proofs.Running.{IsBetween}

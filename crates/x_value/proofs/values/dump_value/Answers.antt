@@ -1,6 +1,6 @@
 use Rattle.std.proofs.Common.{[], sym, subst}
-use Rattle.x_text.specs.Writing.{Inked, Writes}
-use Rattle.x_text.proofs.Pens.{writes_none}
+use Rattle.x_streams.specs.Writing.{Inked, Writes}
+use Rattle.x_streams.proofs.Pens.{writes_none}
 use Rattle.x_value.proofs.values.dump_value.Goals as goal
 
 pub returns-in-Ok-finish-clause-written : goal.returns-in-Ok-finish-clause-written

@@ -1,6 +1,6 @@
 use Rattle.std.proofs.Common.{◌++◌, codes, subst}
 use Rattle.std.specs.Cow.{cow_slice_items}
-use Rattle.x_text.specs.Writing.{Adds}
+use Rattle.x_streams.specs.Writing.{Adds}
 use Rattle.x_text.proofs.Adding.{six}
 use Rattle.x_warnings.specs.WarningLines.{other_text, place_text}
 use Rattle.x_warnings.proofs.lines.add_warning.Goals as goal

@@ -1,8 +1,8 @@
 use Rattle.std.proofs.Common.{map, sym, subst}
 use Rattle.std.specs.List.{flat_map}
 use Rattle.std.proofs.lemmas.List.{drop_all}
-use Rattle.x_text.specs.Writing.{Adds}
-use Rattle.x_text.proofs.Pens.{adds_none}
+use Rattle.x_streams.specs.Writing.{Adds}
+use Rattle.x_streams.proofs.Pens.{adds_none}
 use Rattle.x_warnings.specs.WarningLines.{warning_line}
 use Rattle.x_warnings.specs.Warnings.{view_warning}
 use Rattle.x_warnings.proofs.WarningLemmas.{line_more}

@@ -1,7 +1,7 @@
 use Rattle.std.proofs.Common.{drop, map}
 use Rattle.std.specs.List.{flat_map}
-use Rattle.x_text.specs.Streams.{Stream}
-use Rattle.x_text.specs.Writing.{Adds, Inked}
+use Rattle.x_streams.specs.Streams.{Stream}
+use Rattle.x_streams.specs.Writing.{Adds, Inked}
 use Rattle.x_warnings.specs.WarningLines.{warning_line}
 use Rattle.x_warnings.specs.Warnings.{view_warning}
 use Rattle.x_warnings.proofs.lines.add_warnings.Given as goal

@@ -1,6 +1,6 @@
 use Rattle.std.proofs.Common.{[], sym, subst}
-use Rattle.x_text.specs.Writing.{Inked, Writes}
-use Rattle.x_text.proofs.Pens.{writes_none}
+use Rattle.x_streams.specs.Writing.{Inked, Writes}
+use Rattle.x_streams.proofs.Pens.{writes_none}
 use Rattle.x_explain.specs.Facts.{before_in, foreign_in}
 use Rattle.x_declared.proofs.DeclaredLemmas.{of_each}
 use Rattle.x_prelude.specs.Foreign.{AreForeign}

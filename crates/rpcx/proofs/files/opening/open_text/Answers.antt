@@ -7,7 +7,7 @@ use Rattle.x_compile.specs.Compile.{faults_of}
 use Rattle.x_compile.specs.Known.{KnownText}
 use Rattle.x_compile.specs.declared.fault.Fault.{Fault}
 use Rattle.x_args.specs.declared.status.Status.TheVariants as status
-use Rattle.x_text.specs.Streams.{Stream}
+use Rattle.x_streams.specs.Streams.{Stream}
 use Rattle.x_text.specs.Limits.{most_text}
 use Rattle.x_args.specs.declared.status.Status.{Status}
 use Rattle.x_args.specs.Telling.{IsTold, told_of}

@@ -1,6 +1,6 @@
 use Rattle.std.proofs.Common.{[], sym, subst}
-use Rattle.x_text.specs.Writing.{Inked, Writes}
-use Rattle.x_text.proofs.Pens.{writes_none}
+use Rattle.x_streams.specs.Writing.{Inked, Writes}
+use Rattle.x_streams.proofs.Pens.{writes_none}
 use Rattle.rpcx.specs.Generate.{told_fault, told_faults}
 use Rattle.x_args.specs.Telling.{IsTold}
 use Rattle.x_compile.specs.declared.fault.Fault.{Fault}

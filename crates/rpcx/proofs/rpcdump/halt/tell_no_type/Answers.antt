@@ -1,6 +1,6 @@
 use Rattle.std.proofs.Common.{◌≡◌, ◌++◌, codes, [], sym, subst}
-use Rattle.x_text.specs.Writing.{Inked, Writes, IsWritten}
-use Rattle.x_text.proofs.Pens.{writes_none}
+use Rattle.x_streams.specs.Writing.{Inked, Writes, IsWritten}
+use Rattle.x_streams.proofs.Pens.{writes_none}
 use Rattle.x_args.proofs.Grown.{told}
 use Rattle.rpcx.proofs.rpcdump.halt.tell_no_type.Goals as goal
 

@@ -1,7 +1,7 @@
 use Rattle.std.proofs.Common.{[], map, sym, subst}
 use Rattle.std.specs.List.{flat_map}
-use Rattle.x_text.specs.Writing.{Inked, Writes}
-use Rattle.x_text.proofs.Pens.{writes_none}
+use Rattle.x_streams.specs.Writing.{Inked, Writes}
+use Rattle.x_streams.proofs.Pens.{writes_none}
 use Rattle.x_args.proofs.Grown.{told}
 use Rattle.x_warnings.specs.WarningLines.{warning_line}
 use Rattle.x_warnings.specs.Warnings.{view_warning}

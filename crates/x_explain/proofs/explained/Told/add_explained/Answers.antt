@@ -1,5 +1,5 @@
 use Rattle.std.proofs.Common.{◌++◌, ◌∙◌, ap, subst}
-use Rattle.x_text.specs.Writing.{Adds}
+use Rattle.x_streams.specs.Writing.{Adds}
 use Rattle.x_text.proofs.Adding.{five}
 use Rattle.x_explain.specs.Excerpts.{excerpt, view_excerpt}
 use Rattle.x_explain.specs.Explained.{Telling, caret_line, headline, help_line, help_of, note_line, source_line}

@@ -1,5 +1,5 @@
 use Rattle.std.proofs.Common.{codes, ◌++◌, subst}
-use Rattle.x_text.specs.Writing.{Adds}
+use Rattle.x_streams.specs.Writing.{Adds}
 use Rattle.x_text.proofs.Adding.{two}
 use Rattle.x_explain.specs.Explained.{place}
 use Rattle.x_explain.proofs.explained.Told.add_heading.Goals as goal

@@ -1,5 +1,5 @@
 use Rattle.std.proofs.Common.{codes, ◌++◌, ◌∙◌, subst}
-use Rattle.x_text.specs.Writing.{Adds}
+use Rattle.x_streams.specs.Writing.{Adds}
 use Rattle.x_text.proofs.Adding.{five}
 use Rattle.x_explain.specs.Explained.{heading, painted, red}
 use Rattle.x_explain.specs.Sentences.{sentence}

@@ -1,7 +1,7 @@
 use Rattle.std.proofs.Common.{◌≡◌, ◌+◌, Some, length, sym, ap, ◌∙◌, arith}
 use Rattle.std.specs.Prelude.{slice_get}
 use Rattle.std.proofs.lemmas.Option.{slice_get_within}
-use Rattle.x_text.proofs.LengthLemmas.{before_le, before_read, none_past}
+use Rattle.x_lists.proofs.LengthLemmas.{before_le, before_read, none_past}
 use Rattle.x_lex.specs.Tiling.{bytes_of, end_of}
 use Rattle.x_lex.proofs.SpanLemmas.{place_found, place_past}
 use Rattle.x_lex.proofs.tokens.Tokens.get.Goals as goal

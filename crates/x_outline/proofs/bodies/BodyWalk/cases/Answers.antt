@@ -4,7 +4,7 @@ use Rattle.x_trees.specs.View.{view_value}
 use Rattle.x_outline.specs.Parts.{view_value_at}
 use Rattle.x_outline.specs.BodyWalks.{GoesCases, stand}
 use Rattle.x_outline.specs.declared.bodies.Contents.{Contents}
-use Rattle.x_text.proofs.ListLemmas.{map_append}
+use Rattle.x_lists.proofs.ListLemmas.{map_append}
 use Rattle.x_outline.proofs.BodyWalkLemmas.{goes_none, goes_value, goes_cases}
 use Rattle.x_outline.proofs.bodies.BodyWalk.cases.Goals as goal
 

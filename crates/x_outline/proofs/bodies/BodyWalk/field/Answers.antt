@@ -2,7 +2,7 @@ use Rattle.std.proofs.Common.{map, refl, ap, ◌∙◌}
 use Rattle.x_outline.specs.Parts.{view_name_at}
 use Rattle.x_outline.specs.BodyWalks.{stand}
 use Rattle.x_outline.specs.declared.bodies.Contents.{Contents}
-use Rattle.x_text.proofs.ListLemmas.{map_append}
+use Rattle.x_lists.proofs.ListLemmas.{map_append}
 use Rattle.x_outline.proofs.BodyWalkLemmas.{goes_name, goes_before}
 use Rattle.x_outline.proofs.bodies.BodyWalk.field.Goals as goal
 

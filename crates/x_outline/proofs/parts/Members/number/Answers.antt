@@ -1,7 +1,7 @@
 use Rattle.std.proofs.Common.{map, refl, ap, ◌∙◌}
 use Rattle.x_outline.specs.Parts.{view_number_at}
 use Rattle.x_outline.specs.declared.parts.Members.{Members}
-use Rattle.x_text.proofs.ListLemmas.{map_append}
+use Rattle.x_lists.proofs.ListLemmas.{map_append}
 use Rattle.x_outline.proofs.MemberWalkLemmas.{adds_number}
 use Rattle.x_outline.proofs.parts.Members.number.Goals as goal
 

@@ -4,7 +4,7 @@ use Rattle.x_rules.specs.Found.{repeated_cases, repeated_numbers}
 use Rattle.x_outline.specs.Parts.{view_value_at}
 use Rattle.x_rules.specs.Tables.{seen_by}
 use Rattle.x_rules.specs.declared.fault.RuleCode.TheVariants as codes
-use Rattle.x_text.proofs.ListLemmas.{drop_none, listed_more, listed_all}
+use Rattle.x_lists.proofs.ListLemmas.{drop_none, listed_more, listed_all}
 use Rattle.x_rules.proofs.rules.cases.add_repeated_cases.Goals as goal
 
 pub loop-body-preserved : goal.loop-body-preserved

@@ -2,7 +2,7 @@ use Rattle.std.proofs.Common.{◌≡◌, ◌+◌, ◌∷◌, drop, ap, sym, ◌�
 use Rattle.std.proofs.lemmas.List.{drop_more}
 use Rattle.x_rules.specs.Cases.{bad_cases_of}
 use Rattle.x_rules.specs.Tables.{seen_by}
-use Rattle.x_text.proofs.ListLemmas.{drop_none, listed_more, listed_all}
+use Rattle.x_lists.proofs.ListLemmas.{drop_none, listed_more, listed_all}
 use Rattle.x_rules.proofs.rules.cases.bad_cases.Goals as goal
 
 pub loop-body-preserved : goal.loop-body-preserved

@@ -4,7 +4,7 @@ use Rattle.x_rules.specs.Constants.{limit_of, number_by}
 use Rattle.x_rules.specs.Found.{numbered}
 use Rattle.x_outline.specs.Parts.{view_value_at}
 use Rattle.x_rules.specs.Tables.{seen_by}
-use Rattle.x_text.proofs.ListLemmas.{drop_none, listed_more, listed_all}
+use Rattle.x_lists.proofs.ListLemmas.{drop_none, listed_more, listed_all}
 use Rattle.x_rules.proofs.rules.cases.case_numbers.Goals as goal
 
 pub loop-case-preserved : goal.loop-case-preserved

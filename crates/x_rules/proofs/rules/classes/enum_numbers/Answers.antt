@@ -7,7 +7,7 @@ use Rattle.x_trees.specs.View.{view_enumerator}
 use Rattle.x_rules.specs.Constants.{number_named}
 use Rattle.x_rules.specs.Types.{enum_number}
 use Rattle.x_rules.proofs.ClassLemmas.{with_all_start, with_all, with_all_more, with_all_none, with_all_end}
-use Rattle.x_text.proofs.ListLemmas.{drop_none}
+use Rattle.x_lists.proofs.ListLemmas.{drop_none}
 use Rattle.x_rules.proofs.rules.classes.enum_numbers.Goals as goal
 
 pub loop-enumerator-init : goal.loop-enumerator-init

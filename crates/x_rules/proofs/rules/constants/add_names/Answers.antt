@@ -5,7 +5,7 @@ use Rattle.x_trees.specs.Collected.{Walked}
 use Rattle.x_trees.proofs.CollectLemmas.{finds_none}
 use Rattle.x_outline.specs.Bodies.{EnumeratorAt}
 use Rattle.x_outline.specs.Parts.{view_enumerator_at}
-use Rattle.x_text.proofs.ListLemmas.{map_append}
+use Rattle.x_lists.proofs.ListLemmas.{map_append}
 use Rattle.x_rules.proofs.EnumeratorLemmas.{GoesNames, goes_names}
 use Rattle.x_rules.proofs.rules.constants.add_names.Goals as goal
 

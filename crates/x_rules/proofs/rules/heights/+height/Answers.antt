@@ -6,7 +6,7 @@ use Rattle.x_trees.proofs.Rows.{struct_view, union_parts}
 use Rattle.x_rules.specs.Types.{body_height, held_height, fields_height, arms_height, default_height}
 use Rattle.x_rules.specs.Tables.{seen_by, capped}
 use Rattle.x_rules.proofs.HeightLemmas.{higher, highest, around, higher_two}
-use Rattle.x_text.proofs.ListLemmas.{drop_one, drop_none}
+use Rattle.x_lists.proofs.ListLemmas.{drop_one, drop_none}
 use Rattle.x_rules.proofs.rules.heights.+height.Goals as goal
 
 pub fields_height-loop-declaration-preserved : goal.fields_height-loop-declaration-preserved

@@ -1,7 +1,7 @@
 use Rattle.std.proofs.Common.{◌≡◌, ◌+◌, ◌∷◌, ◌++◌, map, drop, ap, sym, ◌∙◌}
 use Rattle.x_trees.specs.Collected.{view_name}
 use Rattle.x_rules.specs.Found.{fault_at, too_high}
-use Rattle.x_text.proofs.ListLemmas.{drop_one, drop_none, listed_more, listed_all}
+use Rattle.x_lists.proofs.ListLemmas.{drop_one, drop_none, listed_more, listed_all}
 use Rattle.x_rules.proofs.rules.heights.add_too_high_names.Goals as goal
 
 pub loop-name-preserved : goal.loop-name-preserved

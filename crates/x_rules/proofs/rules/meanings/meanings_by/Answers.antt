@@ -5,7 +5,7 @@ use Rattle.x_trees.specs.View.{view_definition}
 use Rattle.x_rules.specs.KeptViews.{kept_meaning}
 use Rattle.x_rules.specs.Results.{meaning_of}
 use Rattle.x_rules.specs.Tables.{seen_by}
-use Rattle.x_text.proofs.ListLemmas.{drop_none, map_append}
+use Rattle.x_lists.proofs.ListLemmas.{drop_none, map_append}
 use Rattle.x_rules.proofs.MeaningLemmas.{mapped_more, mapped_all}
 use Rattle.x_rules.proofs.rules.meanings.meanings_by.Goals as goal
 

@@ -5,7 +5,7 @@ use Rattle.x_trees.specs.Collected.{view_mention}
 use Rattle.x_rules.specs.Mentioned.{mention_fault}
 use Rattle.x_rules.specs.Tables.{seen_by}
 use Rattle.x_rules.specs.Found.{fault_at}
-use Rattle.x_text.proofs.ListLemmas.{drop_one, drop_none, listed_more, listed_all}
+use Rattle.x_lists.proofs.ListLemmas.{drop_one, drop_none, listed_more, listed_all}
 use Rattle.x_rules.proofs.rules.mentioned.add_mentioned.Goals as goal
 
 pub loop-mention-preserved : goal.loop-mention-preserved

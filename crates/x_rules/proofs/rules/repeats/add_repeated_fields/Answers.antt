@@ -2,7 +2,7 @@ use Rattle.std.proofs.Common.{◌≡◌, ◌+◌, ◌∷◌, ◌++◌, map, drop
 use Rattle.std.proofs.lemmas.List.{drop_more}
 use Rattle.x_rules.specs.Found.{repeated_names}
 use Rattle.x_outline.specs.Parts.{view_name_at}
-use Rattle.x_text.proofs.ListLemmas.{drop_none, listed_more, listed_all}
+use Rattle.x_lists.proofs.ListLemmas.{drop_none, listed_more, listed_all}
 use Rattle.x_rules.proofs.rules.repeats.add_repeated_fields.Goals as goal
 
 pub loop-body-preserved : goal.loop-body-preserved

@@ -2,7 +2,7 @@ use Rattle.std.proofs.Common.{◌≡◌, ◌+◌, ◌∷◌, drop, ap, sym, ◌�
 use Rattle.std.proofs.lemmas.List.{drop_more}
 use Rattle.x_rules.specs.Found.{repeated_members}
 use Rattle.x_outline.specs.Parts.{view_members}
-use Rattle.x_text.proofs.ListLemmas.{drop_none, listed_more, listed_all}
+use Rattle.x_lists.proofs.ListLemmas.{drop_none, listed_more, listed_all}
 use Rattle.x_rules.proofs.rules.repeats.add_repeated_members.Goals as goal
 
 pub loop-group-preserved : goal.loop-group-preserved

@@ -5,7 +5,7 @@ use Rattle.x_rules.specs.FirstPlaces.{first_from, first_place, is_behind}
 use Rattle.x_outline.specs.Parts.{view_name_at}
 use Rattle.x_outline.specs.declared.parts.NameAt.{NameAt}
 use Rattle.x_rules.proofs.FirstLemmas.{first_named}
-use Rattle.x_text.proofs.ListLemmas.{drop_one, drop_none}
+use Rattle.x_lists.proofs.ListLemmas.{drop_one, drop_none}
 use Rattle.x_rules.proofs.rules.repeats.add_repeated_names.Goals as goal
 
 pub loop-place-preserved : goal.loop-place-preserved

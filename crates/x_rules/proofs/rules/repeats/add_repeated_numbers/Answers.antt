@@ -5,7 +5,7 @@ use Rattle.std.proofs.Common.{◌≡◌, ◌+◌, ◌++◌, take, drop, get_or, 
 use Rattle.x_rules.specs.Found.{fault_at, repeated_code}
 use Rattle.x_rules.specs.FirstPlaces.{first_from, is_behind}
 use Rattle.x_rules.specs.declared.rules.repeats.Numbered.{Numbered}
-use Rattle.x_text.proofs.ListLemmas.{drop_one}
+use Rattle.x_lists.proofs.ListLemmas.{drop_one}
 use Rattle.x_rules.proofs.FirstLemmas.{behind_first}
 use Rattle.x_rules.proofs.NumberLemmas.{counted_next, number_more}
 use Rattle.x_rules.proofs.rules.repeats.add_repeated_numbers.Goals as goal

@@ -3,7 +3,7 @@ use Rattle.x_numbers.specs.Numbers.{number_spelled}
 use Rattle.x_rules.specs.Found.{numbered}
 use Rattle.x_outline.specs.Parts.{view_number_at}
 use Rattle.x_outline.specs.declared.parts.NumberAt.{NumberAt}
-use Rattle.x_text.proofs.ListLemmas.{drop_one, drop_none, listed_more, listed_all}
+use Rattle.x_lists.proofs.ListLemmas.{drop_one, drop_none, listed_more, listed_all}
 use Rattle.x_rules.proofs.NumberLemmas.{spelled}
 use Rattle.x_rules.proofs.rules.repeats.numbers_of.Goals as goal
 

@@ -2,7 +2,7 @@ use Rattle.std.proofs.Common.{◌≡◌, ◌+◌, ◌∷◌, ◌++◌, map, drop
 use Rattle.x_trees.specs.Notes.{view_note_at}
 use Rattle.x_rules.specs.Tables.{seen_by}
 use Rattle.x_rules.specs.Found.{fault_at, note_fault}
-use Rattle.x_text.proofs.ListLemmas.{drop_one, drop_none, listed_more, listed_all}
+use Rattle.x_lists.proofs.ListLemmas.{drop_one, drop_none, listed_more, listed_all}
 use Rattle.x_rules.proofs.rules.words.add_words.Goals as goal
 
 pub loop-noted-preserved : goal.loop-noted-preserved

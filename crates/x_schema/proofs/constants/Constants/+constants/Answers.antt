@@ -5,7 +5,7 @@ use Rattle.x_trees.specs.View.{view_body, view_declarations, view_arms, view_def
 use Rattle.x_trees.specs.declared.trees.declaration.Body.TheViews.{out-UnionBody}
 use Rattle.x_trees.proofs.Rows.{struct_view, union_parts}
 use Rattle.x_schema.specs.SchemaOf.{with_body, with_declarations, with_arms, with_default}
-use Rattle.x_text.proofs.ListLemmas.{drop_one, drop_none}
+use Rattle.x_lists.proofs.ListLemmas.{drop_one, drop_none}
 use Rattle.x_schema.proofs.constants.Constants.+constants.Goals as goal
 
 pub arms-loop-arm-preserved : goal.arms-loop-arm-preserved

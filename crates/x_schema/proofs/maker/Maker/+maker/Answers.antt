@@ -11,7 +11,7 @@ use Rattle.x_schema.specs.SchemaOf.{AreArms, AreFields, IsBody, IsDeclared, IsDe
 use Rattle.x_schema.specs.SchemaMaking.{PutsAll, PutsPlace, PutsLink, AddsForm, AreSoundCases}
 use Rattle.x_schema.specs.Sound.{AreSoundFields, IsSoundDefault}
 use Rattle.x_schema.specs.declared.form.Form.TheVariants as forms
-use Rattle.x_text.proofs.ListLemmas.{drop_one, drop_none}
+use Rattle.x_lists.proofs.ListLemmas.{drop_one, drop_none}
 use Rattle.x_schema.proofs.MakerForms.{FieldsSoFar, held_basic, held_named, held_opaque, held_string, to_link, to_named, optional, counted, fixed, plain, named_type, field_put, fields_start, fields_more, fields_end, struct_put, arm_field}
 use Rattle.x_schema.proofs.MakerArms.{ArmsSoFar, arms_start, arms_more, arms_end, default_some, union_put}
 use Rattle.x_schema.proofs.maker.Maker.+maker.Goals as goal

@@ -2,7 +2,7 @@ use Rattle.std.proofs.Common.{◌≡◌, length, Some, ◌+◌, ◌∷◌, drop,
 use Rattle.x_trees.specs.View.{view_argument, view_passed}
 use Rattle.x_schema.specs.ProcedureMaking.{PutsField}
 use Rattle.x_schema.specs.ProceduresOf.{IsArgumentField}
-use Rattle.x_text.proofs.ListLemmas.{drop_one, drop_none}
+use Rattle.x_lists.proofs.ListLemmas.{drop_one, drop_none}
 use Rattle.x_schema.proofs.ProcedureLemmas.{FieldsPut, fields_end, fields_first, fields_more}
 use Rattle.x_schema.proofs.maker.Maker.argument_fields.Goals as goal
 

@@ -2,7 +2,7 @@ use Rattle.std.proofs.Common.{◌≡◌, ◌+◌, ◌∷◌, [], drop, map, pos,
 use Rattle.x_trees.specs.View.{view_enumerator}
 use Rattle.x_schema.specs.SchemaOf.{with_word}
 use Rattle.x_schema.specs.SchemaMaking.{PutsAll, AreSoundWords, words_named}
-use Rattle.x_text.proofs.ListLemmas.{drop_one, drop_none}
+use Rattle.x_lists.proofs.ListLemmas.{drop_one, drop_none}
 use Rattle.x_schema.proofs.MakerArms.{EnumSoFar, enum_start, enum_more, enum_end}
 use Rattle.x_schema.proofs.maker.Maker.enumerators.Goals as goal
 

@@ -2,7 +2,7 @@ use Rattle.std.proofs.Common.{◌≡◌, ◌+◌, ◌++◌, ◌∷◌, [], map, 
 use Rattle.std.proofs.lemmas.List.{take_more}
 use Rattle.x_trees.specs.View.{tree_at}
 use Rattle.x_schema.specs.SchemaMaking.{FindsItems}
-use Rattle.x_text.proofs.ListLemmas.{map_append}
+use Rattle.x_lists.proofs.ListLemmas.{map_append}
 use Rattle.x_schema.proofs.MakerItems.{finds_more}
 use Rattle.x_schema.proofs.maker.Maker.items.Goals as goal
 

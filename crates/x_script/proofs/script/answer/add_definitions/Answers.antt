@@ -1,7 +1,7 @@
 use Rattle.std.proofs.Common.{◌≡◌, ◌++◌, ◌+◌, length, codes, refl, sym, ap, subst, ◌∙◌}
 use Rattle.std.specs.List.{flat_map}
-use Rattle.x_text.specs.Writing.{Adds}
-use Rattle.x_text.proofs.Pens.{adds_trans}
+use Rattle.x_streams.specs.Writing.{Adds}
+use Rattle.x_streams.proofs.Pens.{adds_trans}
 use Rattle.x_trees.specs.View.{view_definition}
 use Rattle.x_trees.specs.View.{tree_at}
 use Rattle.x_compile.specs.Compile.{definitions_of}

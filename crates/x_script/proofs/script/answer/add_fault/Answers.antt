@@ -1,5 +1,5 @@
 use Rattle.std.proofs.Common.{◌++◌, codes, subst, ◌∙◌}
-use Rattle.x_text.specs.Writing.{Adds}
+use Rattle.x_streams.specs.Writing.{Adds}
 use Rattle.x_session.specs.FaultLines.{fault_place}
 use Rattle.x_text.proofs.Adding.{four}
 use Rattle.x_script.proofs.script.answer.add_fault.Goals as goal

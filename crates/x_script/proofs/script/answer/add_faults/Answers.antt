@@ -1,7 +1,7 @@
 use Rattle.std.proofs.Common.{◌≡◌, ◌++◌, length, codes, ap, subst, ◌∙◌}
 use Rattle.std.specs.List.{flat_map}
-use Rattle.x_text.specs.Writing.{Adds}
-use Rattle.x_text.proofs.Pens.{adds_trans}
+use Rattle.x_streams.specs.Writing.{Adds}
+use Rattle.x_streams.proofs.Pens.{adds_trans}
 use Rattle.x_compile.specs.Compile.{faults_of}
 use Rattle.x_compile.specs.declared.fault.Fault.{Fault}
 use Rattle.x_script.specs.Answers.{counted_line, faults_answer}

@@ -1,6 +1,6 @@
 use Rattle.std.proofs.Common.{◌≡◌, ◌++◌, length, codes, ap, subst, ◌∙◌}
-use Rattle.x_text.specs.Writing.{Adds}
-use Rattle.x_text.proofs.Pens.{adds_trans}
+use Rattle.x_streams.specs.Writing.{Adds}
+use Rattle.x_streams.proofs.Pens.{adds_trans}
 use Rattle.x_compile.specs.Generated.{text_of}
 use Rattle.x_script.specs.Answers.{counted_line, text_answer}
 use Rattle.x_compile.proofs.Compiled.{one_compilation}

@@ -1,6 +1,6 @@
 use Rattle.std.proofs.Common.{◌++◌, codes, subst, ◌∙◌}
 use Rattle.std.specs.Fmt.{decimal}
-use Rattle.x_text.specs.Writing.{Adds}
+use Rattle.x_streams.specs.Writing.{Adds}
 use Rattle.x_text.proofs.Adding.{six}
 use Rattle.x_script.proofs.script.answer.add_token.Goals as goal
 

@@ -1,7 +1,7 @@
 use Rattle.std.proofs.Common.{◌≡◌, Ok, false, length, map, subst, sym, true, ◌∙◌}
 use Rattle.std.proofs.lemmas.List.{length-map}
 use Rattle.std.specs.List.{flat_map}
-use Rattle.x_text.specs.Writing.{Adds}
+use Rattle.x_streams.specs.Writing.{Adds}
 use Rattle.x_prelude.proofs.BeforeLemmas.{passed_on}
 use Rattle.x_warnings.specs.WarningLines.{warning_line}
 use Rattle.x_warnings.specs.Warnings.{view_warning}

@@ -1,5 +1,5 @@
 use Rattle.std.proofs.Common.{ℕ, List, Ok, false, subst}
-use Rattle.x_text.specs.Writing.{Adds}
+use Rattle.x_streams.specs.Writing.{Adds}
 use Rattle.x_explain.specs.Explained.{AreExplained}
 use Rattle.x_explain.specs.Facts.{before_in}
 use Rattle.x_declared.specs.Foreign.{view_all}

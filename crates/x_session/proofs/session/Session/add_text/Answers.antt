@@ -1,5 +1,5 @@
 use Rattle.std.proofs.Common.{subst}
-use Rattle.x_text.specs.Writing.{Adds}
+use Rattle.x_streams.specs.Writing.{Adds}
 use Rattle.x_pieces.specs.Texts.{text}
 use Rattle.x_session.specs.Session.{Compiles}
 use Rattle.x_compile.specs.KeptText.{items_of}

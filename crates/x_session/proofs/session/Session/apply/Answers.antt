@@ -1,20 +1,21 @@
 use Rattle.std.proofs.Common.{◌≡◌, ◌+◌, length, ap, subst, sym, ◌∙◌}
-use Rattle.x_text.specs.Counts.{Counts, raised}
+use Rattle.x_text.specs.Counts.{Counts}
+use Rattle.x_streams.specs.Counters.{raised}
 use Rattle.x_text.specs.Edits.{change_of, edited_by}
-use Rattle.x_text.specs.Seqs.{distance}
+use Rattle.x_lists.specs.Seqs.{distance}
 use Rattle.x_lex.specs.TokenList as tokens
 use Rattle.x_cutting.specs.ItemList as items
 use Rattle.x_cutting.specs.ItemList.{AreOfText, counts}
-use Rattle.x_session.specs.Following.{AreUsed, IsPlan, IsToFollow, behind}
+use Rattle.x_follow.specs.Following.{AreUsed, IsPlan, IsToFollow, behind}
 use Rattle.x_compile.specs.Known.{known_names}
 use Rattle.x_compile.specs.KeptView.{AreWith}
-use Rattle.x_session.specs.Moves.{changed_items, moves, place_of, seat_behind}
-use Rattle.x_session.specs.Planned.{numbers_of}
+use Rattle.x_follow.specs.Moves.{changed_items, moves, place_of, seat_behind}
+use Rattle.x_follow.specs.Planned.{numbers_of}
 use Rattle.x_session.specs.Session.{Document}
 use Rattle.x_compile.specs.KeptText.{IsKept}
 use Rattle.x_session.specs.Work.{IsWork}
 use Rattle.x_session.specs.declared.session.work.Work.{Work}
-use Rattle.x_session.proofs.TableLemmas.{table_checked}
+use Rattle.x_follow.proofs.TableLemmas.{table_checked}
 use Rattle.x_session.proofs.WorkLemmas.{kept_edited, work_edited}
 use Rattle.x_session.proofs.session.Session.apply.Goals as goal
 use Rattle.x_session.proofs.session.Session.apply.Goals.{After-of}

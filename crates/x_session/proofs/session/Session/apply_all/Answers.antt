@@ -3,7 +3,7 @@ use Rattle.x_text.specs.declared.text.edit.Edit.{Edit}
 use Rattle.std.proofs.lemmas.List.{take_all}
 use Rattle.x_session.specs.Work.{IsWorkOfAll}
 use Rattle.x_session.proofs.EditLists.{HasTaken, taken_more, stops_at}
-use Rattle.x_text.proofs.ListLemmas.{drop_one, take_next}
+use Rattle.x_lists.proofs.ListLemmas.{drop_one, take_next}
 use Rattle.x_session.proofs.WorkLemmas.{worked_more}
 use Rattle.x_session.proofs.session.Session.apply_all.Goals as goal
 

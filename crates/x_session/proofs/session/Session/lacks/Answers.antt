@@ -4,7 +4,7 @@ use Rattle.x_lex.specs.Places.{lexemes}
 use Rattle.x_compile.specs.Compile.{definitions_of}
 use Rattle.x_compile.specs.KeptText.{items_of}
 use Rattle.x_compile.proofs.Compiled.{compilation, definitions-items}
-use Rattle.x_session.specs.Lacking.{is_lacking_name}
+use Rattle.x_follow.specs.Lacking.{is_lacking_name}
 use Rattle.x_session.specs.Session.{Compiles}
 use Rattle.x_session.proofs.session.Session.lacks.Goals as goal
 

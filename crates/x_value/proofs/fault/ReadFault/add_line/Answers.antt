@@ -1,6 +1,6 @@
 use Rattle.std.proofs.Common.{◌++◌, codes, subst, ◌∙◌}
 use Rattle.std.specs.Fmt.{decimal}
-use Rattle.x_text.specs.Writing.{Adds}
+use Rattle.x_streams.specs.Writing.{Adds}
 use Rattle.x_text.proofs.Adding.{five}
 use Rattle.x_value.proofs.fault.ReadFault.add_line.Goals as goal
 

@@ -1,5 +1,5 @@
 use Rattle.std.proofs.Common.{ℕ, drop, get_or, ◌+◌, subst, arith}
-use Rattle.x_text.proofs.ListLemmas.{drop_one, drop_none}
+use Rattle.x_lists.proofs.ListLemmas.{drop_one, drop_none}
 use Rattle.x_text.proofs.Listing.{HasListed, lists_more, lists_all}
 use Rattle.x_value.specs.Lines.{quoted_byte}
 use Rattle.x_value.proofs.nodes.lines.add_each_quoted.Goals as goal

@@ -2,8 +2,8 @@ use Rattle.std.proofs.Common.{ℕ, List, [], ◌++◌, sym, ap, ◌∙◌, subst
 use Rattle.std.proofs.lemmas.Grind.{flat_map-append}
 use Rattle.std.proofs.lemmas.List.{nil_from_length}
 use Rattle.std.specs.List.{flat_map}
-use Rattle.x_text.specs.Writing.{Adds}
-use Rattle.x_text.proofs.Pens.{adds_none, adds_trans}
+use Rattle.x_streams.specs.Writing.{Adds}
+use Rattle.x_streams.proofs.Pens.{adds_none, adds_trans}
 use Rattle.x_value.specs.Lines.{hex_byte}
 use Rattle.x_value.proofs.nodes.lines.add_hex_bytes.Goals as goal
 

@@ -1,7 +1,7 @@
 use Rattle.std.proofs.Common.{◌≡◌, ℕ, List, ◌++◌}
 use Rattle.std.specs.List.{flat_map}
 use Rattle.std.specs.Slice.Iter.{chunks_rest, chunks_size}
-use Rattle.x_text.specs.Writing.{Adds}
+use Rattle.x_streams.specs.Writing.{Adds}
 use Rattle.x_value.specs.Lines.{hex_byte}
 use Rattle.x_value.proofs.nodes.lines.add_hex_bytes.Given as goal
 

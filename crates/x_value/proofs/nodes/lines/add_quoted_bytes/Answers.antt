@@ -1,5 +1,5 @@
 use Rattle.std.proofs.Common.{sym, subst, ◌∙◌}
-use Rattle.x_text.specs.Writing.{Adds}
+use Rattle.x_streams.specs.Writing.{Adds}
 use Rattle.x_value.proofs.Quoting.{plain_text}
 use Rattle.x_value.proofs.nodes.lines.add_quoted_bytes.Goals as goal
 

@@ -1,5 +1,5 @@
 use Rattle.std.proofs.Common.{◌≡◌, ◌++◌, codes, refl, subst, ◌∙◌}
-use Rattle.x_text.specs.Writing.{Adds}
+use Rattle.x_streams.specs.Writing.{Adds}
 use Rattle.x_text.proofs.Adding.{three}
 use Rattle.x_wire.specs.Messages.{accept_of, accept_text, auth_of}
 use Rattle.x_wire.specs.MessageTexts.{accept_details, accept_name, auth_line, reply_line}

@@ -1,5 +1,5 @@
 use Rattle.std.proofs.Common.{codes, ◌++◌, decimal, subst}
-use Rattle.x_text.specs.Writing.{Adds}
+use Rattle.x_streams.specs.Writing.{Adds}
 use Rattle.x_text.proofs.Adding.{six}
 use Rattle.x_value.specs.Lines.{hex_text}
 use Rattle.x_wire.proofs.telling.lines.add_auth.Goals as goal

@@ -1,5 +1,5 @@
 use Rattle.std.proofs.Common.{◌≡◌, ◌++◌, false, codes, sym, ap, subst, ◌∙◌}
-use Rattle.x_text.specs.Writing.{Adds}
+use Rattle.x_streams.specs.Writing.{Adds}
 use Rattle.x_wire.specs.Bodies.{IsReadAs}
 use Rattle.x_wire.specs.Messages.{accept_of, auth_of, body_of_reply, header_of_reply, reject_of, results_of}
 use Rattle.x_wire.specs.MessageTexts.{accept_details, accept_name, auth_line, reject_details, reject_name, reply_line}

@@ -1,5 +1,5 @@
 use Rattle.std.proofs.Common.{ap, ◌∙◌, arith}
-use Rattle.x_text.specs.Lengths.{patched}
+use Rattle.x_lists.specs.Lengths.{patched}
 use Rattle.x_cutting.proofs.CountLemmas.{total_as}
 use Rattle.x_cutting.proofs.cutting.items.Items.put.Goals as goal
 

@@ -1,5 +1,5 @@
 use Rattle.std.proofs.Common.{◌<◌, ◌+◌, drop, length, subst, arith}
-use Rattle.x_text.proofs.ListLemmas.{drop_none}
+use Rattle.x_lists.proofs.ListLemmas.{drop_none}
 use Rattle.x_text.proofs.Listing.{HasListed, lists_more, lists_all}
 use Rattle.x_value.specs.Lines.{node_line}
 use Rattle.x_value.specs.Shown.{Node}

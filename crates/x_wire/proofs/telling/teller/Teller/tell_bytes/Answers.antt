@@ -1,6 +1,6 @@
 use Rattle.std.proofs.Common.{◌++◌, subst}
 use Rattle.x_wire.specs.Messages.{body_of, header_of}
-use Rattle.x_text.specs.Writing.{Adds}
+use Rattle.x_streams.specs.Writing.{Adds}
 use Rattle.x_wire.specs.MessageTexts.{bad_header_line, raw_line}
 use Rattle.x_wire.specs.LastCalls.{last_call}
 use Rattle.x_wire.proofs.TellerLemmas.{tells_read, tells_refused}

@@ -1,5 +1,5 @@
 use Rattle.std.proofs.Common.{codes, ◌++◌, subst}
-use Rattle.x_text.specs.Writing.{Adds}
+use Rattle.x_streams.specs.Writing.{Adds}
 use Rattle.x_wire.specs.Bodies.{IsReadAs}
 use Rattle.x_wire.specs.Messages.{auth_of}
 use Rattle.x_wire.specs.MessageTexts.{auth_line, call_line}

@@ -1,0 +1,11 @@
+pub mod CountingLemmas
+pub mod FollowLemmas
+pub mod FreshLemmas
+pub mod LackingLemmas
+pub mod MoveLemmas
+pub mod PatchLemmas
+pub mod PlacingLemmas
+pub mod PlannedLemmas
+pub mod RenderLemmas
+pub mod StaleLemmas
+pub mod TableLemmas

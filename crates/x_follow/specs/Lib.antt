@@ -1,0 +1,5 @@
+pub mod Following
+pub mod Lacking
+pub mod Moves
+pub mod Planned
+pub mod Rendered

@@ -1,6 +1,0 @@
-use Rattle.std.proofs.Common.{◌≡◌, drop}
-use Rattle.x_item.specs.Reading.{ahead}
-use Rattle.x_item.proofs.parsing.words.split_word.Given as goal
-
-abbrev pub invariant-loop-at : goal.invariant-loop-at
-invariant-loop-at l = ahead (drop l.at l.tokens) ≡ ahead l.tokens

@@ -1,0 +1,5 @@
+pub mod LengthLemmas
+pub mod ListLemmas
+pub mod PassLemmas
+pub mod PatchLemmas
+pub mod SeqLemmas

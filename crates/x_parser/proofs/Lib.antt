@@ -1,0 +1,11 @@
+pub mod FaultLemmas
+pub mod FaultTexts
+pub mod Grammar
+pub mod ItemLemmas
+pub mod LoopLemmas
+pub mod Machine
+pub mod PlaceLemmas
+pub mod ProgramLemmas
+pub mod ReadLemmas
+pub mod SpellingLaws
+pub mod WordLemmas

@@ -1,0 +1,4 @@
+pub mod FaultTexts
+pub mod Reading
+pub mod Stuck
+pub mod Symbols
