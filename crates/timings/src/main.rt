@@ -1,5 +1,5 @@
-//! `timings FILE` times the lexing of a file, and then the relexing of one byte typed at several places of it;
-//! `timings SCHEMA TYPE MESSAGE` the reading of a message as a value of a type of a `.x` file. Without
+//! `timings FILE` times the lexing of a file, and then the relexing of one byte typed at several places of
+//! it; `timings SCHEMA TYPE MESSAGE` the reading of a message as a value of a type of a `.x` file. Without
 //! arguments it does nothing.
 #![tactic(auto)]
 

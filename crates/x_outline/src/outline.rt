@@ -13,6 +13,7 @@ use x_trees::{DeclaredName, Definition, Glossary, Mention, NoteAt};
 
 /// The names that stand in a definition, and its bodies: what is found of it once, both for its views and for
 /// its check.
+#[derive(Drop)]
 pub struct Outline<'d> {
     pub definition: &'d Definition,
     pub declared: Vec<DeclaredName<'d>>,
@@ -20,19 +21,6 @@ pub struct Outline<'d> {
     pub bodies: Vec<BodyAt<'d>>,
     /// What its words are to the rules.
     pub notes: Vec<NoteAt<'d>>,
-}
-
-// By hand, so that who lets it go calls this, and need not prove anew how its parts are let go.
-impl<'d> Drop for Outline<'d> {
-    fn drop(self) {
-        let Outline {
-            definition: _,
-            declared: _,
-            mentioned: _,
-            bodies: _,
-            notes: _,
-        } = self;
-    }
 }
 
 impl<'d> Outline<'d> {
@@ -66,31 +54,20 @@ impl<'d> Outline<'d> {
         ensures outline { IfOk result
             (λ outline. IsShort (view_definition definition.now) → IsOutline outline) }
     {
-        let Outline {
-            definition: _,
-            declared,
-            mentioned,
-            mut bodies,
-            notes,
-        } = self;
         let mut glossary = Glossary {
-            declared,
-            mentioned,
-            notes,
+            declared: self.declared,
+            mentioned: self.mentioned,
+            notes: self.notes,
         };
+        let mut bodies = self.bodies;
         glossary.read(alloc, definition)?;
         bodies_into(alloc, &mut bodies, definition)?;
-        let Glossary {
-            declared,
-            mentioned,
-            notes,
-        } = glossary;
         Ok(Outline {
             definition,
-            declared,
-            mentioned,
+            declared: glossary.declared,
+            mentioned: glossary.mentioned,
             bodies,
-            notes,
+            notes: glossary.notes,
         })
     }
 

@@ -19,6 +19,5 @@ pub use marking::Marker;
 pub use places::Places;
 pub use positions::Position;
 pub use range::Range;
-pub use spots::offset_of;
 pub use values::range_value;
 pub use waymarks::Waymarks;

@@ -26,16 +26,8 @@ pub(crate) const START: Spot = Spot {
     },
 };
 
-/// The place of a position: past a line's end that end, within a character its start, and past the last line
-/// the end of the text.
-pub fn offset_of(encoding: Encoding, text: &[u8], position: Position) -> usize
-    ensures place { result ≡ offset_of encoding text.now position }
-    ensures within { result ≤ length text.now }
-{
-    offset_from(encoding, text, START, position)
-}
-
-/// The place of a position that is not before that of a spot, from there on.
+/// The place of a position that is not before that of a spot, from there on: past a line's end that end,
+/// within a character its start, and past the last line the end of the text.
 pub(crate) fn offset_from(encoding: Encoding, text: &[u8], from: Spot, position: Position) -> usize
     requires from { IsAt encoding text.now from.at from.position }
     requires outside { IsOutsidePair text.now from.at }

@@ -28,18 +28,12 @@ pub(crate) struct FirstUse<'s> {
 }
 
 /// The names that a text lacks.
+#[derive(Drop)]
 pub(crate) struct LackingNames<'s> {
     /// Each with its first use, in the order of these.
     pub firsts: KeyedTable<&'s [u8], FirstUse<'s>>,
     /// The first keyword in front of each that has one.
     tags: KeyedTable<&'s [u8], Tag>,
-}
-
-// By hand, so that who lets it go calls this, and need not prove anew how its parts are let go.
-impl<'s> Drop for LackingNames<'s> {
-    fn drop(self) {
-        let LackingNames { firsts: _, tags: _ } = self;
-    }
 }
 
 /// The names that a text lacks, behind what is known. It takes time in proportion to the text, and memory for

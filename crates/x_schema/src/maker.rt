@@ -51,23 +51,13 @@ use x_trees::{
 pub type TypeTable = KeyedTable<Vec<u8>, NamedType>;
 
 /// What an item is read by. It is seen as the constants with their numbers, and the types of names.
+#[derive(Drop)]
 pub struct Known<'d> {
     constants: Constants<'d>,
     /// The types of the items before it.
     types: TypeTable,
     /// What the tables of names and of numbers hash by.
     pub(super) hash_key: HashKey,
-}
-
-// By hand, so that who lets it go calls this, and need not prove anew how its parts are let go.
-impl<'d> Drop for Known<'d> {
-    fn drop(self) {
-        let Known {
-            constants: _,
-            types: _,
-            hash_key: _,
-        } = self;
-    }
 }
 
 impl<'d> Model for Known<'d> {
@@ -123,24 +113,13 @@ pub enum Link<'d> {
 }
 
 /// The types of a text in the making.
+#[derive(Drop)]
 pub struct Maker<'d> {
     pub names: Vec<Vec<u8>>,
     pub forms: Vec<Form>,
     pub links: Vec<Link<'d>>,
     /// The types that the item declares.
     pub found: Vec<NamedType>,
-}
-
-// By hand, as above.
-impl<'d> Drop for Maker<'d> {
-    fn drop(self) {
-        let Maker {
-            names: _,
-            forms: _,
-            links: _,
-            found: _,
-        } = self;
-    }
 }
 
 /// The form of a type that is spelled by keywords alone.
@@ -894,13 +873,11 @@ impl Schema {
         maker.items(alloc, &mut known, definitions)?;
         let procedures = maker.procedures(alloc, &known, definitions)?;
         let links = places_linked(alloc, &known.types, &maker.links)?;
-        let Known { types, .. } = known;
-        let Maker { names, forms, .. } = maker;
         Ok(Schema {
-            names,
-            forms,
+            names: maker.names,
+            forms: maker.forms,
             links,
-            types,
+            types: known.types,
             procedures,
         })
     }

@@ -1,7 +1,7 @@
 //! Readers that fail.
 use crate::asserts::expect_eq;
 use std::io::{self, Read};
-use x_text::{Broken, In, MemTap, Tap};
+use x_text::{Broken, In, Tap};
 
 /// What a reader of these tests does at one of its calls.
 #[derive(Clone, Copy)]
@@ -43,15 +43,4 @@ fn a_failed_read_breaks_a_tap(rt: HostRuntime) {
     expect_eq(&rt, tap.take(&mut buffer), Err(Broken));
     // The reader would give a byte.
     expect_eq(&rt, tap.take(&mut buffer), Err(Broken));
-}
-
-#[test]
-fn a_tap_over_bytes_fails_as_it_is_told(rt: HostRuntime) {
-    let mut tap = MemTap::new(b"abcdefg", 2, 3);
-    let mut buffer = *b"......";
-    expect_eq(&rt, tap.take(&mut buffer), Ok(2));
-    expect_eq(&rt, tap.take(&mut buffer[2..]), Ok(1));
-    expect_eq(&rt, tap.take(&mut buffer[3..]), Err(Broken));
-    expect_eq(&rt, tap.take(&mut []), Err(Broken));
-    expect_eq(&rt, &buffer, b"abc...");
 }

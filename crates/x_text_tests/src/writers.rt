@@ -71,17 +71,6 @@ fn a_failed_flush_breaks_a_sink(rt: HostRuntime) {
     expect_eq(&rt, out.put(b"d"), Err(Broken));
 }
 
-#[test]
-fn a_sink_over_bytes_fails_as_it_is_told(rt: HostRuntime) {
-    let mut room = [0u8; 8];
-    let mut sink = MemSink::new(&mut room, 2, 3);
-    expect_eq(&rt, sink.put(b"abc"), Ok(2));
-    expect_eq(&rt, sink.put(b"cd"), Ok(1));
-    expect_eq(&rt, sink.put(b"d"), Err(Broken));
-    expect_eq(&rt, sink.flush(), Err(Broken));
-    expect_eq(&rt, sink.bytes(), b"abc".as_slice());
-}
-
 /// The length of a text that a pen can't hold back as a whole.
 const LONG: usize = 20_000;
 

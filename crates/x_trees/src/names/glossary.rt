@@ -36,6 +36,7 @@ use std::mem;
 use x_text::NoMemory;
 
 /// The names in a definition, and what its words are beside them, each in the order of the words.
+#[derive(Drop)]
 pub struct Glossary<'d> {
     /// The names that it declares; at one word the own name comes first. What is written as an argument or a
     /// result declares none.
@@ -44,17 +45,6 @@ pub struct Glossary<'d> {
     pub mentioned: Vec<Mention<'d>>,
     /// What its words are to the rules beside that.
     pub notes: Vec<NoteAt<'d>>,
-}
-
-// By hand, so that who lets it go calls this, and need not prove anew how its parts are let go.
-impl<'d> Drop for Glossary<'d> {
-    fn drop(self) {
-        let Glossary {
-            declared: _,
-            mentioned: _,
-            notes: _,
-        } = self;
-    }
 }
 
 impl<'d> Glossary<'d> {
@@ -110,8 +100,7 @@ pub fn declares(alloc: Global, definition: &Definition) -> Result<Vec<DeclaredNa
 {
     let mut glossary = Glossary::new(alloc);
     glossary.read(alloc, definition)?;
-    let Glossary { declared, .. } = glossary;
-    Ok(declared)
+    Ok(glossary.declared)
 }
 
 /// The names that the definition uses, in the order of their words. What an inline type holds that is an
@@ -126,8 +115,7 @@ pub fn mentions(alloc: Global, definition: &Definition) -> Result<Vec<Mention<'_
 {
     let mut glossary = Glossary::new(alloc);
     glossary.read(alloc, definition)?;
-    let Glossary { mentioned, .. } = glossary;
-    Ok(mentioned)
+    Ok(glossary.mentioned)
 }
 
 /// Where a declaration stands.
