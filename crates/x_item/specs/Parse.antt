@@ -6,8 +6,8 @@ use Rattle.x_trees.specs.Tree.{Definition}
 use Rattle.x_trees.specs.Spell.{spell, KeepsLimits, Begins}
 use Rattle.x_trees.specs.View.{view_definition}
 use Rattle.x_parser.specs.Stuck.{IsStuck}
-use Rattle.x_item.specs.declared.parse_item.Parsed.{Parsed}
-use Rattle.x_item.specs.declared.parse_item.Parsed.TheVariants as parsed
+use Rattle.x_item.specs.declared.item.Parsed.{Parsed}
+use Rattle.x_item.specs.declared.item.Parsed.TheVariants as parsed
 use Rattle.x_parser.specs.declared.fault_code.FaultCode.{FaultCode}
 use Rattle.x_parser.specs.declared.fault_code.FaultCode.TheVariants as codes
 

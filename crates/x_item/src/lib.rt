@@ -3,11 +3,11 @@
 //! an edit does to these (`x_cutting`), are offered here too.
 #![tactic(auto)]
 
+mod item;
 mod laws;
-mod parse_item;
 
+pub use item::{Parsed, parse_item};
 pub use laws::{one_parse, spell_law};
-pub use parse_item::{Parsed, parse_item};
 pub use x_cutting::{ItemEntry, ItemPatch, Items, cut, next_item, one_cut, one_recut, recut};
 pub use x_parser::{FaultCode, is_significant};
 pub use x_trees::{

@@ -1,6 +1,6 @@
 use Rattle.std.proofs.Common.{◌-◌, length, arith, sym, ◌∙◌}
 use Rattle.x_item.proofs.LastWordLemmas.{none_behind, last_here, none_past, none_at_all}
-use Rattle.x_item.proofs.parse_item.last_word.Goals as goal
+use Rattle.x_item.proofs.item.last_word.Goals as goal
 
 pub loop-at-init : goal.loop-at-init
 loop-at-init c = none_past c.args.tokens.now (length c.args.tokens.now) (omega arith)
