@@ -15,6 +15,7 @@ import json
 import os
 import re
 import sys
+import urllib.parse
 
 sys.dont_write_bytecode = True
 
@@ -278,10 +279,15 @@ def written(compilation, uri, which):
     if which == "faults":
         return "".join(f"{fault.line}:{fault.column} {fault.code} {rpclang.CODE_NAMES[fault.code]}\n"
                        for fault in compilation.faults)
-    return texts.text_of(which, rpcedit.base_of(uri.encode()), compilation).decode()
+    return texts.text_of(which, rpcedit.base_of(name_of(uri)), compilation).decode(errors="replace")
 
 
 # ---------------------------------------------------------------- the server
+
+def name_of(uri):
+    """The bytes that a document's URI stands for, escapes read: two spellings of one document have one name."""
+    return urllib.parse.unquote_to_bytes(uri)
+
 
 class Document:
     """A document that is open. It is in step where no change was refused since it was sent whole."""
@@ -303,7 +309,18 @@ class Server:
 
     def __init__(self, encoding, setting=Setting(), shows_related=False):
         self.encoding, self.setting, self.shows_related = encoding, setting, shows_related
+        # By their URIs as they were opened.
         self.documents = {}
+
+    def document(self, uri):
+        """The open document of a URI, however that is spelled."""
+        return next((document for document in self.documents.values() if name_of(document.uri) == name_of(uri)), None)
+
+    def forget(self, uri):
+        document = self.document(uri)
+        if document is not None:
+            del self.documents[document.uri]
+        return document
 
     def reply(self, message):
         """What is said to a message behind `initialize`; None where nothing is."""
@@ -326,11 +343,12 @@ class Server:
         document = params["textDocument"]
         if len(document["text"].encode()) > GREATEST_TEXT:
             return SHOWN
+        self.forget(uri)
         self.documents[uri] = Document(uri, document["version"], document["text"])
         return self.published(self.documents[uri])
 
     def change(self, uri, params):
-        document = self.documents.get(uri)
+        document = self.document(uri)
         if document is None:
             return None
         for change in params["contentChanges"]:
@@ -348,17 +366,18 @@ class Server:
         return self.published(document)
 
     def close(self, uri, _):
-        if self.documents.pop(uri, None) is None:
+        document = self.forget(uri)
+        if document is None:
             return None
-        return note("textDocument/publishDiagnostics", {"uri": uri, "diagnostics": []})
+        return note("textDocument/publishDiagnostics", {"uri": document.uri, "diagnostics": []})
 
     def answer(self, number, name, uri, params):
         said = {"jsonrpc": "2.0", "id": number}
-        document = self.documents.get(uri)
+        document = self.document(uri)
         if document is None or name == "text" and params["which"] not in ["faults", *texts.KINDS]:
             return said | {"error": {"code": INVALID_PARAMS, "message": ""}}
         lines = Text(document.text, self.encoding)
-        return said | {"result": self.found(lines, name, uri, params)}
+        return said | {"result": self.found(lines, name, document.uri, params)}
 
     def found(self, lines, name, uri, params):
         compilation = self.setting.compiled(lines.bytes)

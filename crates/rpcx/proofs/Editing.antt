@@ -17,7 +17,7 @@ use Rattle.x_script.specs.Situations.{Situation}
 use Rattle.rpcx.specs.Course.{course}
 use Rattle.rpcx.specs.declared.files.opening.Opening.{Opening}
 use Rattle.rpcx.specs.Editing.{Answers, AnswersBy, EndsBy, EndsEarly, found_by, found_over, status_of}
-use Rattle.rpcx.specs.Generate.{base_of}
+use Rattle.x_args.specs.BaseNames.{base_of}
 use Rattle.rpcx.specs.Opening.{HavePlaces}
 use Rattle.rpcx.proofs.Unopened.{fits}
 use Rattle.x_args.specs.declared.status.Status.{Status}

@@ -1,4 +1,3 @@
-pub mod Bases
 pub mod Before
 pub mod Checking
 pub mod ClashLemmas

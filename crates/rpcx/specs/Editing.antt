@@ -13,7 +13,8 @@ use Rattle.x_args.specs.declared.status.Status.{Status}
 use Rattle.x_args.specs.declared.status.Status.TheVariants.{Done, Faulty}
 use Rattle.rpcx.specs.Course.{Course, IsIdle}
 use Rattle.rpcx.specs.declared.files.opening.Opening.{Opening}
-use Rattle.rpcx.specs.Generate.{base_of, NotOpened, TellsStop}
+use Rattle.x_args.specs.BaseNames.{base_of}
+use Rattle.rpcx.specs.Generate.{NotOpened, TellsStop}
 use Rattle.rpcx.specs.Opening.{HavePlaces}
 
 -- the status of a run that carried out each line, whether or not one was refused

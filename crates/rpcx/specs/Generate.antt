@@ -1,9 +1,8 @@
 -- What runs of the programs do, and what they tell.
-use Rattle.std.specs.Prelude.{◌≡◌, ◌⊎◌, ℕ, Bool, true, false, ◌-◌, ◌<◌, ◌≤◌, ◌==◌, List, []}
-use Rattle.std.specs.Prelude.{◌++◌, length, take, drop, codes, if◌then◌else◌, option_map, unwrap_or}
+use Rattle.std.specs.Prelude.{◌≡◌, ◌⊎◌, ℕ, Bool, true, false, ◌<◌, ◌≤◌, List, []}
+use Rattle.std.specs.Prelude.{◌++◌, length, take, codes, option_map, unwrap_or}
 use Rattle.std.specs.Prelude.{Result, IfOk, OnOk, IfErr, IsErrOf}
-use Rattle.std.specs.List.{after_last, flat_map}
-use Rattle.std.specs.Str.{bytes_eq}
+use Rattle.std.specs.List.{flat_map}
 use Rattle.x_streams.specs.Streams.{Stream}
 use Rattle.x_compile.specs.declared.fault.Fault.{Fault}
 use Rattle.x_session.specs.Session.{Compiles, Document}
@@ -19,6 +18,7 @@ use Rattle.x_explain.specs.Explained.{AreExplained}
 use Rattle.x_declared.specs.Foreign.{ForeignName}
 use Rattle.x_explain.specs.KnownFiles.{KnownPlaces, no_places}
 use Rattle.x_prelude.specs.Foreign.{AreForeign}
+use Rattle.x_args.specs.BaseNames.{base_of}
 use Rattle.x_args.specs.Telling.{Complains, IsTold, told_of}
 use Rattle.x_args.specs.declared.generating_args.GenArgs.{GenArgs}
 use Rattle.rpcx.specs.declared.files.opening.FaultStyle.{FaultStyle}
@@ -31,15 +31,6 @@ use Rattle.rpcx.specs.declared.rpcgen.output.OutputFault.{OutputFault}
 use Rattle.rpcx.specs.declared.rpcgen.output.OutputFault.TheVariants as outputs
 use Rattle.x_args.specs.declared.status.Status.{Status}
 use Rattle.x_args.specs.declared.status.Status.TheVariants.{Faulty, Failed}
-
--- a name without a final `.x`
-abbrev pub without_x : List ℕ → List ℕ
-without_x name =
-    if bytes_eq (drop (length name - 2) name) (codes ".x") then take (length name - 2) name else name
-
--- the name that generated texts use: that of the file, behind its last `/`
-abbrev pub base_of : List ℕ → List ℕ
-base_of file = without_x (after_last (λ b. b == 47) file)
 
 -- `FILE:LINE:COL: CODE NAME`
 abbrev pub told_fault : List ℕ → Fault → List ℕ

@@ -3,7 +3,8 @@
 ghost use Rattle.std.specs.Prelude.{◌≡◌, ◌≢◌, ◌⊎◌, ◌<◌, [], false, map, not, codes, length, IsTrue, OnOk};
 ghost use Rattle.std.specs.Prelude.{if◌then◌else◌};
 ghost use Rattle.std.specs.Io.KnownBytes.{Appends};
-ghost use Rattle.rpcx.specs.Generate.{IsFaultless, IsOpened, NotGenerated, NotWritten, base_of};
+ghost use Rattle.rpcx.specs.Generate.{IsFaultless, IsOpened, NotGenerated, NotWritten};
+ghost use Rattle.x_args.specs.BaseNames.{base_of};
 ghost use Rattle.rpcx.specs.Generate.{no_output_told, output_told};
 ghost use Rattle.rpcx.specs.Opening.{CompilesBy};
 ghost use Rattle.rpcx.specs.Outputs.{Holds, IsNamed};

@@ -1,3 +1,4 @@
+pub mod BaseNameLemmas
 pub mod Checks
 pub mod Commands
 pub mod Filled

@@ -25,6 +25,7 @@ pub(crate) fn open_text(
     ensures over { IfOk result (λ text. ∥ IsOver text ∥₁) }
     ensures from_c { IfOk result (λ text. text.from_c ≡ setting.now.from_c) }
     ensures compiled { IfOk result (IsCompiled setting.now.files.now setting.now.blanks shown.now) }
+    ensures base { IfOk result (λ text. text.session.base ≡ base.now) }
 {
     let Ok(parts) = Parts::of(alloc, setting.files, setting.blanks, shown) else {
         return Err(EditFault::NoMemory);

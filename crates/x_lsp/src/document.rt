@@ -5,20 +5,23 @@ ghost use Rattle.x_prelude.specs.Followed.{IsOver};
 ghost use Rattle.x_frames.specs.Answers.{IsToNotification};
 ghost use Rattle.x_lsp.specs.Changes.{changed_by_all};
 ghost use Rattle.x_lsp.specs.Compiled.{IsCompiled};
+ghost use Rattle.x_args.specs.BaseNames.{base_of};
+ghost use Rattle.x_lsp.specs.Documents.{name_of};
 ghost use Rattle.x_lsp.specs.Grounds.{ground_of, ground_with};
 ghost use Rattle.x_positions.specs.Positions.{offset_of};
 ghost use Rattle.x_lsp.specs.Publishing.{Publishes};
 ghost use Rattle.x_lsp.specs.Replies.{said_of};
 ghost use Rattle.x_positions.specs.Waymarks.{AreWaymarks};
 
-use crate::base::base_of;
 use crate::changes::apply_change;
 use crate::compiled::{follow_text, open_text};
 use crate::diagnostics::{Hints, publish};
 use crate::kept::{ChangeFault, Reply, told};
+use crate::names::name_of;
 use crate::setting::Setting;
 use serde_json::Value;
 use std::alloc::Global;
+use x_args::base_name;
 use x_frames::{TextChange, position_asked};
 use x_hash::HashKey;
 use x_positions::{Position, Waymarks};
@@ -32,6 +35,8 @@ use x_text::Source;
 #[derive(Drop)]
 pub(crate) struct OpenDocument {
     pub(crate) uri: String,
+    /// The name that all spellings of its URI have.
+    pub(crate) name: Vec<u8>,
     version: i64,
     client: Client,
     /// The text that the client has.
@@ -53,6 +58,7 @@ pub(crate) struct OpenDocument {
     ghost over: { ∥ IsOver compiled ∥₁ },
     ghost marked: { AreWaymarks shown marks },
     ghost counted: { marks.encoding ≡ client.encoding },
+    ghost named: { name.items ≡ name_of (string_bytes uri) },
 }
 
 impl OpenDocument {
@@ -73,20 +79,25 @@ impl OpenDocument {
             (λ d. ground_with d.files.items d.compiled.from_c d.blanks d.warns ≡ ground_of setting.now) }
         ensures text { IfOk result (λ d. d.shown ≡ text.now) }
         ensures followed { IfOk result (λ d. IsCompiled d.files.items d.blanks d.shown d.compiled) }
+        ensures base { IfOk result (λ d. d.compiled.session.base ≡ base_of (name_of uri.now)) }
     {
-        let (Ok(name), Ok(files)) = (
+        let Ok(name) = name_of(alloc, uri) else {
+            return Err(EditFault::NoMemory);
+        };
+        let (Ok(own_uri), Ok(files)) = (
             String::from_str(alloc, uri),
             Vec::from_slice(alloc, setting.files),
         ) else {
             return Err(EditFault::NoMemory);
         };
         let shown = Source::from_bytes(alloc, text.as_bytes())?;
-        let compiled = open_text(alloc, hash_key, setting, base_of(uri), shown.bytes())?;
+        let compiled = open_text(alloc, hash_key, setting, base_name(&name), shown.bytes())?;
         let Ok(marks) = Waymarks::of(alloc, client.encoding, shown.bytes()) else {
             return Err(EditFault::NoMemory);
         };
         Ok(OpenDocument {
-            uri: name,
+            uri: own_uri,
+            name,
             version,
             client,
             shown,

@@ -2,12 +2,12 @@
 //! and what is said to each message.
 #![tactic(auto)]
 
-mod base;
 mod changes;
 mod compiled;
 mod diagnostics;
 mod document;
 mod kept;
+mod names;
 mod running;
 mod server;
 mod serving;

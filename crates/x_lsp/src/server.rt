@@ -18,6 +18,7 @@ ghost use Rattle.x_lsp.specs.Replies.{said_of};
 use crate::diagnostics::closing_note;
 use crate::document::OpenDocument;
 use crate::kept::{ChangeFault, KeptTexts, Reply, refused, shown, told};
+use crate::names::name_of;
 use crate::setting::Setting;
 use serde_json::Value;
 use std::alloc::{AllocError, Global};
@@ -170,7 +171,10 @@ impl<'k> Server<'k> {
         let Some(uri) = uri_in(params) else {
             return Err(ErrorCode::InvalidParams);
         };
-        match self.find(uri) {
+        let Ok(name) = name_of(self.alloc, uri) else {
+            return Err(ErrorCode::InternalError);
+        };
+        match self.find(&name) {
             Some(at) => {
                 let document = &self.documents[at];
                 result_of(
@@ -228,19 +232,19 @@ impl<'k> Server<'k> {
         }
     }
 
-    /// The index of a document.
-    fn find(&self, uri: &str) -> Option<usize>
+    /// The index of the document of this name.
+    fn find(&self, name: &[u8]) -> Option<usize>
         ensures { IfSome result (λ at. at < vec_len self.now.documents) }
     {
         for at in 0..self.documents.len() {
-            if self.documents[at].uri.as_str() == uri {
+            if self.documents[at].name.as_slice() == name {
                 return Some(at);
             }
         }
         None
     }
 
-    /// Opens a document, in place of one that is open by its name.
+    /// Opens a document, in place of one of its name that is open.
     fn open(&mut self, params: Option<&Value>) -> Reply
         ensures note { IsToNotification (said_of result) }
         ensures life { self.new.life ≡ self.old.life }
@@ -251,7 +255,7 @@ impl<'k> Server<'k> {
         }
     }
 
-    /// Opens a document, in place of one that is open by its name, and publishes its faults.
+    /// Opens a document, in place of one of its name that is open, and publishes its faults.
     fn open_document(&mut self, uri: &str, version: i64, text: &str) -> Reply
         ensures says { Publishes self.old.client uri.now version (ground_of self.old.setting) text.now
             (said_of result) }
@@ -274,7 +278,7 @@ impl<'k> Server<'k> {
         if self.documents.reserve(1).is_err() {
             return Reply::NoMemoryNote;
         }
-        forget(&mut self.documents, uri);
+        forget(&mut self.documents, &opened.name);
         if self.documents.push(opened).is_err() {
             return Reply::NoMemoryNote;
         }
@@ -289,7 +293,11 @@ impl<'k> Server<'k> {
         let Some((uri, version, changes)) = changed_in(params) else {
             return shown(self.alloc, "the parameters of didChange are wrong");
         };
-        let Some(at) = self.find(uri) else {
+        let Ok(name) = name_of(self.alloc, uri) else {
+            self.fall_out_of_step();
+            return Reply::NoMemoryNote;
+        };
+        let Some(at) = self.find(&name) else {
             return Reply::Nothing;
         };
         let document = &mut self.documents[at];
@@ -314,34 +322,40 @@ impl<'k> Server<'k> {
         let Some(uri) = uri_in(params) else {
             return Reply::Nothing;
         };
-        if self.find(uri).is_none() {
-            return Reply::Nothing;
+        let Ok(name) = name_of(self.alloc, uri) else {
+            return Reply::NoMemoryNote;
+        };
+        match self.find(&name) {
+            Some(at) => self.close_document(at, &name),
+            None => Reply::Nothing,
         }
-        self.close_document(uri)
     }
 
-    /// Closes a document, and publishes that nothing is wrong with it.
-    fn close_document(&mut self, uri: &str) -> Reply
+    /// Closes the document at an index, which has this name, and publishes, by its URI as it was opened, that
+    /// nothing is wrong with it.
+    fn close_document(&mut self, at: usize, name: &[u8]) -> Reply
+        requires { at < vec_len self.old.documents }
         ensures note { IsToNotification (said_of result) }
-        ensures closed { self.new.documents.items ≡ without uri.now self.old.documents.items }
+        ensures closed { self.new.documents.items ≡ without name.now self.old.documents.items }
         ensures life { self.new.life ≡ self.old.life }
     {
-        forget(&mut self.documents, uri);
-        match closing_note(self.alloc, uri) {
+        let said = closing_note(self.alloc, self.documents[at].uri.as_str());
+        forget(&mut self.documents, name);
+        match said {
             Ok(text) => Reply::Text(text),
             Err(_) => Reply::NoMemoryNote,
         }
     }
 }
 
-/// Takes a document out.
-fn forget(documents: &mut Vec<OpenDocument>, uri: &str)
-    ensures { documents.new.items ≡ without uri.now documents.old.items }
+/// Takes the document of a name out.
+fn forget(documents: &mut Vec<OpenDocument>, name: &[u8])
+    ensures { documents.new.items ≡ without name.now documents.old.items }
 {
     let mut at = documents.len();
     'documents: while at > 0 {
         at -= 1;
-        if documents[at].uri.as_str() == uri {
+        if documents[at].name.as_slice() == name {
             remove_at(documents, at);
         }
     }

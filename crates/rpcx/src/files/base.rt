@@ -1,32 +1,13 @@
 //! The name that generated texts use.
 
-ghost use Rattle.std.specs.Prelude.{◌≡◌, ◌==◌};
-ghost use Rattle.std.specs.List.{after_last};
-ghost use Rattle.rpcx.specs.Generate.{base_of, without_x};
+ghost use Rattle.std.specs.Prelude.{◌≡◌};
+ghost use Rattle.x_args.specs.BaseNames.{base_of};
 
-use memchr::memrchr;
-
-/// The part of a path behind its last `/`.
-#[tactic(auto, using(crate::proofs::Bases::behind_last))]
-fn file_name(path: &[u8]) -> &[u8]
-    ensures { result.now ≡ after_last (λ b. b == 47) path.now }
-{
-    match memrchr(b'/', path) {
-        Some(slash) => &path[slash + 1..],
-        None => path,
-    }
-}
-
-/// A name without a final `.x`.
-fn without_x(name: &[u8]) -> &[u8]
-    ensures { result.now ≡ without_x name.now }
-{
-    name.strip_suffix(b".x").unwrap_or(name)
-}
+use x_args::base_name;
 
 /// The name that generated texts use: that of the file, behind its last `/`, without a final `.x`.
 pub fn base_of_file(file: &str) -> &[u8]
     ensures { result.now ≡ base_of file.now }
 {
-    without_x(file_name(file.as_bytes()))
+    base_name(file.as_bytes())
 }

@@ -1,5 +1,5 @@
 use Rattle.std.proofs.Common.{◌≡◌, ◌∙◌, ◌+◌, ◌-◌, not, ap, sym, true, false, arith}
-use Rattle.std.specs.Prelude.{bytes_eq, string_bytes}
+use Rattle.std.specs.Prelude.{bytes_eq}
 use Rattle.x_lsp.specs.declared.document.OpenDocument.{OpenDocument}
 use Rattle.x_lsp.proofs.ListLemmas.{gone, stays}
 use Rattle.x_lsp.proofs.server.forget.Goals as goal
@@ -11,10 +11,10 @@ documents-preserved-then-eq c =
     let next : k + 1 ≡ c.documents.at = omega arith in
     let within = c.documents.invariant.within in
     let x = c.index.result.now in
-    let named : not (bytes_eq (string_bytes x.uri) c.args.uri.now) ≡ false =
-    ap not (ap (λ n. bytes_eq n c.args.uri.now) (sym c.as_str.ensures.value) ∙ sym c.eq.ensures ∙ c.if-eq.true) in
+    let named : not (bytes_eq x.name.items c.args.name.now) ≡ false =
+    ap not (ap (λ n. bytes_eq n c.args.name.now) (sym c.as_slice.ensures.value) ∙ sym c.eq.ensures ∙ c.if-eq.true) in
     record {
-      left = c.remove_at.ensures ∙ gone (λ (d : OpenDocument). not (bytes_eq (string_bytes d.uri) c.args.uri.now)) old c.documents.documents.items c.documents.at k x next within
+      left = c.remove_at.ensures ∙ gone (λ (d : OpenDocument). not (bytes_eq d.name.items c.args.name.now)) old c.documents.documents.items c.documents.at k x next within
           c.documents.invariant.left c.index.ensures named;
       within = omega (arith, within);
     }
@@ -26,10 +26,10 @@ documents-preserved c =
     let next : k + 1 ≡ c.documents.at = omega arith in
     let within = c.documents.invariant.within in
     let x = c.index.result.now in
-    let other : not (bytes_eq (string_bytes x.uri) c.args.uri.now) ≡ true =
-    ap not (ap (λ n. bytes_eq n c.args.uri.now) (sym c.as_str.ensures.value) ∙ sym c.eq.ensures ∙ c.if-eq.false) in
+    let other : not (bytes_eq x.name.items c.args.name.now) ≡ true =
+    ap not (ap (λ n. bytes_eq n c.args.name.now) (sym c.as_slice.ensures.value) ∙ sym c.eq.ensures ∙ c.if-eq.false) in
     record {
-      left = stays (λ (d : OpenDocument). not (bytes_eq (string_bytes d.uri) c.args.uri.now)) old c.documents.documents.items c.documents.at k x next within
+      left = stays (λ (d : OpenDocument). not (bytes_eq d.name.items c.args.name.now)) old c.documents.documents.items c.documents.at k x next within
           c.documents.invariant.left c.index.ensures other;
       within = omega (arith, within);
     }

@@ -1,0 +1,21 @@
+//! The names of documents.
+
+ghost use Rattle.std.specs.Prelude.{◌≡◌, IfOk};
+ghost use Rattle.x_lsp.specs.Documents.{name_of};
+
+use percent_encoding::percent_decode;
+use std::alloc::Global;
+use x_text::NoMemory;
+
+/// The name of the document of a URI. Two spellings of one document's URI have one name.
+///
+/// # Errors
+///
+/// [`NoMemory`] where the name could not be kept.
+pub(crate) fn name_of(alloc: Global, uri: &str) -> Result<Vec<u8>, NoMemory>
+    ensures { IfOk result (λ name. name.items ≡ name_of uri.now) }
+{
+    let mut name = Vec::new(alloc);
+    percent_decode(uri.as_bytes()).append_to(&mut name)?;
+    Ok(name)
+}
