@@ -24,8 +24,8 @@ fn without_x(name: &[u8]) -> &[u8]
     name.strip_suffix(b".x").unwrap_or(name)
 }
 
-/// The name that the texts use which are generated of a file: the file's own, behind the last `/` of its path,
-/// without a final `.x`.
+/// The name that the texts use which are generated of a file: the file's own, behind the last `/` of its
+/// path, without a final `.x`.
 pub fn base_name(path: &[u8]) -> &[u8]
     ensures { result.now ≡ base_of path.now }
 {
