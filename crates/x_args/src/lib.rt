@@ -3,7 +3,7 @@
 
 mod answering;
 mod arguments;
-mod base_name;
+mod bases;
 mod before_args;
 mod checking_args;
 mod complaint;
@@ -18,7 +18,7 @@ mod status;
 mod words;
 
 pub use answering::answer_words;
-pub use base_name::base_name;
+pub use bases::base_name;
 pub use before_args::BeforeArgs;
 pub use checking_args::{CheckArgs, asks_check, check_args};
 pub use complaint::{complain_of_output, tell_of_file};
