@@ -35,6 +35,7 @@ GREATEST_TEXT = 16_777_216
 # Names that clash in C are looked for in texts up to this size.
 GREATEST_WARNED = 262_144
 INVALID_PARAMS = -32602
+CONTENT_MODIFIED = -32801
 CAPABILITIES = {"textDocumentSync": {"openClose": True, "change": 2}}
 # Duplicate and RepeatedField.
 TWICE = (20, 32)
@@ -290,7 +291,7 @@ def name_of(uri):
 
 
 class Document:
-    """A document that is open. It is in step where no change was refused since it was sent whole."""
+    """A document that is open. It is in step where no change was refused, or not understood, since it was sent whole."""
 
     def __init__(self, uri, version, text):
         self.uri, self.version, self.text = uri, version, text
@@ -342,6 +343,9 @@ class Server:
     def open(self, uri, params):
         document = params["textDocument"]
         if len(document["text"].encode()) > GREATEST_TEXT:
+            if self.document(uri) is None:
+                self.documents[uri] = Document(uri, 0, "")
+            self.document(uri).in_step = False
             return SHOWN
         self.forget(uri)
         self.documents[uri] = Document(uri, document["version"], document["text"])
@@ -351,18 +355,19 @@ class Server:
         document = self.document(uri)
         if document is None:
             return None
-        for change in params["contentChanges"]:
-            if "range" in change and not document.in_step:
-                return SHOWN
+        was_in_step, document.in_step = document.in_step, False
+        version, changes = params["textDocument"].get("version", ""), params["contentChanges"]
+        if not isinstance(version, int | None) or not isinstance(changes, list):
+            return SHOWN if was_in_step else None
+        if not was_in_step and (not changes or "range" in changes[0]):
+            return None
+        for change in changes:
             try:
                 document.text = changed(document.text, change, self.encoding)
-                document.in_step = True
             except Refused:
-                document.in_step = False
-                return SHOWN
-        if not document.in_step:
-            return SHOWN
-        document.version = params["textDocument"]["version"]
+                return SHOWN if was_in_step else None
+        document.in_step = True
+        document.version = document.version if version is None else version
         return self.published(document)
 
     def close(self, uri, _):
@@ -374,6 +379,8 @@ class Server:
     def answer(self, number, name, uri, params):
         said = {"jsonrpc": "2.0", "id": number}
         document = self.document(uri)
+        if document is not None and not document.in_step:
+            return said | {"error": {"code": CONTENT_MODIFIED, "message": ""}}
         if document is None or name == "text" and params["which"] not in ["faults", *texts.KINDS]:
             return said | {"error": {"code": INVALID_PARAMS, "message": ""}}
         lines = Text(document.text, self.encoding)

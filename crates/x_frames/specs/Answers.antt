@@ -9,7 +9,7 @@ use Rattle.serde_json.specs.Written.{compact_text}
 use Rattle.x_frames.specs.declared.answers.ErrorCode.{ErrorCode}
 use Rattle.x_frames.specs.declared.answers.ErrorCode.TheVariants.{ParseError, InvalidRequest, MethodNotFound}
 use Rattle.x_frames.specs.declared.answers.ErrorCode.TheVariants.{InvalidParams, InternalError, RequestFailed}
-use Rattle.x_frames.specs.declared.answers.ErrorCode.TheVariants.{NotInitialized}
+use Rattle.x_frames.specs.declared.answers.ErrorCode.TheVariants.{NotInitialized, ContentModified}
 use Rattle.x_frames.specs.declared.life.Life.{Life}
 use Rattle.x_frames.specs.declared.method.Method.{Method}
 use Rattle.x_frames.specs.Lives.{admitted, is_of_request, life_behind, life_noted, method_named}
@@ -23,6 +23,7 @@ error_number MethodNotFound = negsuc 32600
 error_number InvalidParams = negsuc 32601
 error_number InternalError = negsuc 32602
 error_number RequestFailed = negsuc 32802
+error_number ContentModified = negsuc 32800
 error_number NotInitialized = negsuc 32001
 
 -- the name of an error
@@ -33,6 +34,7 @@ error_name MethodNotFound = codes "the method is not known"
 error_name InvalidParams = codes "the parameters are wrong"
 error_name InternalError = codes "out of memory"
 error_name RequestFailed = codes "the new name is none, or is declared"
+error_name ContentModified = codes "the document is out of step"
 error_name NotInitialized = codes "the server is not initialized"
 
 abbrev pub version_member : Members → Members

@@ -5,6 +5,7 @@ use Rattle.x_frames.specs.declared.answers.ErrorCode.{ErrorCode}
 use Rattle.x_frames.specs.declared.answers.ErrorCode.TheVariants.{InvalidRequest, MethodNotFound}
 use Rattle.x_frames.specs.declared.answers.ErrorCode.TheVariants.{InvalidParams, InternalError, ParseError}
 use Rattle.x_frames.specs.declared.answers.ErrorCode.TheVariants.{NotInitialized, RequestFailed}
+use Rattle.x_frames.specs.declared.answers.ErrorCode.TheVariants.{ContentModified}
 use Rattle.x_frames.specs.declared.life.Life.{Life}
 use Rattle.x_frames.specs.declared.life.Life.TheVariants.{Fresh, Running, ShutDown, Ended}
 use Rattle.x_frames.specs.declared.method.Method.{Method}
@@ -91,8 +92,8 @@ is_shut_down (Ended asked) = false
 abbrev pub life_noted : Life → List ℕ → Life
 life_noted life method = if bytes_eq method (codes "exit") then Ended (is_shut_down life) else life
 
--- an error of a request that was carried out: its parameters are wrong, it asks for what may not be, or
--- memory ran out
+-- an error of a request that was carried out: its parameters are wrong, it asks for what may not be, or is
+-- about a text that is not the client's, or memory ran out
 abbrev pub is_of_request : ErrorCode → Bool
 is_of_request ParseError = false
 is_of_request InvalidRequest = false
@@ -100,4 +101,5 @@ is_of_request MethodNotFound = false
 is_of_request InvalidParams = true
 is_of_request InternalError = true
 is_of_request RequestFailed = true
+is_of_request ContentModified = true
 is_of_request NotInitialized = false

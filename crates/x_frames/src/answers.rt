@@ -24,6 +24,8 @@ pub enum ErrorCode {
     InternalError,
     /// It asks for what may not be: a name that is none, or is declared.
     RequestFailed,
+    /// It is about a text that is not the client's.
+    ContentModified,
     /// No request came before that initializes the server.
     NotInitialized,
 }
@@ -39,6 +41,7 @@ impl ErrorCode {
             ErrorCode::InvalidParams => -32602,
             ErrorCode::InternalError => -32603,
             ErrorCode::RequestFailed => -32803,
+            ErrorCode::ContentModified => -32801,
             ErrorCode::NotInitialized => -32002,
         }
     }
@@ -53,6 +56,7 @@ impl ErrorCode {
             ErrorCode::InvalidParams => "the parameters are wrong",
             ErrorCode::InternalError => "out of memory",
             ErrorCode::RequestFailed => "the new name is none, or is declared",
+            ErrorCode::ContentModified => "the document is out of step",
             ErrorCode::NotInitialized => "the server is not initialized",
         }
     }

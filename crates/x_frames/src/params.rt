@@ -14,12 +14,15 @@ pub fn opened_in(params: Option<&Value>) -> Option<(&str, i64, &str)> {
     Some((uri, version, text))
 }
 
-/// The name of a document that is changed, its version then, and the changes.
-pub fn changed_in(params: Option<&Value>) -> Option<(&str, i64, &Vec<Value>)> {
+/// The name of a document that is changed, its version then, if it is not null, and the changes.
+pub fn changed_in(params: Option<&Value>) -> Option<(&str, Option<i64>, &Vec<Value>)> {
     let params = params?;
     let document = params.get("textDocument")?;
     let uri = document.get("uri")?.as_str()?;
-    let version = document.get("version")?.as_i64()?;
+    let version = match document.get("version")? {
+        Value::Null => None,
+        version => Some(version.as_i64()?),
+    };
     let changes = params.get("contentChanges")?.as_array()?;
     Some((uri, version, changes))
 }

@@ -1,7 +1,7 @@
 -- What is published of a document, and said where it was opened or changed (LSP 3.17,
 -- `textDocument/publishDiagnostics`).
 use Rattle.std.specs.Prelude.{◌≡◌, ◌⊎◌, ℕ, ℤ, ◌==◌, nat_le, ◌&&◌, Bool, MatchBool, List, [], ◌++◌, length}
-use Rattle.std.specs.Prelude.{Option, Some}
+use Rattle.std.specs.Prelude.{Option, None, Some, false}
 use Rattle.serde_json.specs.Data.{Data}
 use Rattle.serde_json.specs.Written.{compact_text}
 use Rattle.x_compile.specs.Compile.{Item, faults_of}
@@ -57,3 +57,10 @@ abbrev pub Publishes : Client → (uri : List ℕ) → (version : ℤ) → Groun
 Publishes client uri version on shown said =
     ((published : List ℕ) × (said ≡ Some published) × ∥ IsPublished client uri version on shown published ∥₁)
     ⊎ IsShown said
+
+-- What is said to changes that leave this text: the same, but nothing where the document was out of step and
+-- stays so.
+abbrev pub PublishesChange : (in_step : Bool) → Client → (uri : List ℕ) → (version : ℤ) → Ground
+    → (shown : List ℕ) → Option (List ℕ) → Type 0
+PublishesChange in_step client uri version on shown said =
+    ((in_step ≡ false) × (said ≡ None)) ⊎ Publishes client uri version on shown said

@@ -1,6 +1,6 @@
 //! A document that a client has open.
 
-ghost use Rattle.std.specs.Prelude.{◌≡◌, IfOk, OnOk, string_bytes};
+ghost use Rattle.std.specs.Prelude.{◌≡◌, IfOk, OnOk, false, string_bytes};
 ghost use Rattle.x_prelude.specs.Followed.{IsOver};
 ghost use Rattle.x_frames.specs.Answers.{IsToNotification};
 ghost use Rattle.x_lsp.specs.Changes.{changed_by_all};
@@ -9,18 +9,19 @@ ghost use Rattle.x_args.specs.BaseNames.{base_of};
 ghost use Rattle.x_lsp.specs.Documents.{name_of};
 ghost use Rattle.x_lsp.specs.Grounds.{ground_of, ground_with};
 ghost use Rattle.x_positions.specs.Positions.{offset_of};
-ghost use Rattle.x_lsp.specs.Publishing.{Publishes};
+ghost use Rattle.x_lsp.specs.Publishing.{Publishes, PublishesChange};
 ghost use Rattle.x_lsp.specs.Replies.{said_of};
 ghost use Rattle.x_positions.specs.Waymarks.{AreWaymarks};
 
 use crate::changes::apply_change;
 use crate::compiled::{follow_text, open_text};
 use crate::diagnostics::{Hints, publish};
-use crate::kept::{ChangeFault, Reply, told};
+use crate::kept::{Reply, told};
 use crate::names::name_of;
 use crate::setting::Setting;
 use serde_json::Value;
 use std::alloc::Global;
+use std::mem;
 use x_args::base_name;
 use x_frames::{TextChange, position_asked};
 use x_hash::HashKey;
@@ -37,7 +38,7 @@ pub(crate) struct OpenDocument {
     pub(crate) uri: String,
     /// The name that all spellings of its URI have.
     pub(crate) name: Vec<u8>,
-    version: i64,
+    pub(crate) version: i64,
     client: Client,
     /// The text that the client has.
     pub(crate) shown: Source,
@@ -53,8 +54,9 @@ pub(crate) struct OpenDocument {
     marks: Waymarks,
     /// What was said of its faults last.
     messages: FaultMessages,
-    /// Whether the text is the client's, and is compiled: no change was refused since it was sent whole.
-    in_step: bool,
+    /// Whether the text is the client's, and is compiled: no change was refused, or not understood, since it
+    /// was sent whole.
+    pub(crate) in_step: bool,
     ghost over: { ∥ IsOver compiled ∥₁ },
     ghost marked: { AreWaymarks shown marks },
     ghost counted: { marks.encoding ≡ client.encoding },
@@ -113,20 +115,24 @@ impl OpenDocument {
 
     /// Carries changes out, one after another, which leave this version, and publishes the faults of the text
     /// then. At the first that is refused it stops: the changes before it are done, and the document is out
-    /// of step.
+    /// of step. While it is, changes are passed over that do not begin with a whole text.
     pub(crate) fn change(&mut self, alloc: Global, version: i64, changes: &[TextChange]) -> Reply
-        ensures says { Publishes self.old.client (string_bytes self.old.uri) version
+        ensures says { PublishesChange self.old.in_step self.old.client (string_bytes self.old.uri) version
             (ground_with self.old.files.items self.old.compiled.from_c self.old.blanks self.old.warns)
             (changed_by_all self.old.client.encoding self.old.shown changes.now) (said_of result) }
         ensures note { IsToNotification (said_of result) }
     {
         let is_sent_whole = changes.first().is_some_and(|change| change.range.is_none());
-        if !self.in_step && !is_sent_whole {
-            return told(alloc, ChangeFault::OutOfStep);
+        let was_in_step = self.falls_out_of_step();
+        if !was_in_step && !is_sent_whole {
+            return Reply::Nothing;
         }
-        self.in_step = false;
         if let Err(fault) = self.carry_out(alloc, changes) {
-            return told(alloc, ChangeFault::Edit(fault));
+            return if was_in_step {
+                told(alloc, fault)
+            } else {
+                Reply::Nothing
+            };
         }
         self.in_step = true;
         self.version = version;
@@ -158,9 +164,12 @@ impl OpenDocument {
         followed
     }
 
-    /// A change was not understood.
-    pub(crate) fn falls_out_of_step(&mut self) {
-        self.in_step = false;
+    /// A change was refused, or not understood. Whether the document was in step.
+    pub(crate) fn falls_out_of_step(&mut self) -> bool
+        ensures fell { result ≡ self.old.in_step }
+        ensures others { self.new ≡ record self.old { in_step = false } }
+    {
+        mem::replace(&mut self.in_step, false)
     }
 
     /// What publishes what is wrong with the text, which is compiled.

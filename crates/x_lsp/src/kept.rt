@@ -25,15 +25,6 @@ pub enum Reply {
     NoMemoryNote,
 }
 
-/// Why a change is refused.
-#[derive(Clone, Copy, Debug, PartialEq, Eq)]
-pub(crate) enum ChangeFault {
-    /// The text does not take it.
-    Edit(EditFault),
-    /// An earlier change was refused, and this one is not of the whole text.
-    OutOfStep,
-}
-
 /// The texts that tell that memory ran out, made before it does.
 #[derive(Drop)]
 pub(crate) struct KeptTexts {
@@ -87,16 +78,15 @@ pub(crate) fn shown(alloc: Global, text: &str) -> Reply
 }
 
 /// The note that tells the user why a document is not what the client has.
-pub(crate) fn told(alloc: Global, fault: ChangeFault) -> Reply
+pub(crate) fn told(alloc: Global, fault: EditFault) -> Reply
     ensures { IsShown (said_of result) }
 {
     match fault {
-        ChangeFault::OutOfStep => shown(
+        EditFault::BadRange => shown(
             alloc,
-            "an earlier change was refused: open the document again",
+            "a change was refused, open the document again: 1 BadRange",
         ),
-        ChangeFault::Edit(EditFault::BadRange) => shown(alloc, "a change was refused: 1 BadRange"),
-        ChangeFault::Edit(EditFault::TooLarge) => shown(alloc, "a text was refused: 2 TooLarge"),
-        ChangeFault::Edit(EditFault::NoMemory) => Reply::NoMemoryNote,
+        EditFault::TooLarge => shown(alloc, "a text was refused: 2 TooLarge"),
+        EditFault::NoMemory => Reply::NoMemoryNote,
     }
 }

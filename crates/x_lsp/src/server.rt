@@ -1,6 +1,6 @@
 //! A server: what it says to each message, and the documents that are open.
 
-ghost use Rattle.std.specs.Prelude.{◌≡◌, ◌<◌, false, true, IfErr, IfOk, IfSome, option_map, remove};
+ghost use Rattle.std.specs.Prelude.{◌≡◌, ◌<◌, false, true, Err, IfErr, IfOk, IfSome, option_map, remove};
 ghost use Rattle.std.specs.Prelude.{vec_len};
 ghost use Rattle.serde_json.specs.Data.{null};
 ghost use Rattle.serde_json.specs.View.{view};
@@ -11,13 +11,14 @@ ghost use Rattle.x_lsp.specs.Documents.{without};
 ghost use Rattle.x_lsp.specs.Grounds.{ground_of};
 ghost use Rattle.x_frames.specs.Lives.{end_of, is_of_request, life_behind, life_noted};
 ghost use Rattle.x_frames.specs.Messages.{asked_by};
+ghost use Rattle.x_frames.specs.declared.answers.ErrorCode.TheVariants.{ContentModified};
 ghost use Rattle.x_frames.specs.declared.life.Life.TheVariants.{Fresh};
 ghost use Rattle.x_lsp.specs.Publishing.{Publishes};
 ghost use Rattle.x_lsp.specs.Replies.{said_of};
 
 use crate::diagnostics::closing_note;
 use crate::document::OpenDocument;
-use crate::kept::{ChangeFault, KeptTexts, Reply, refused, shown, told};
+use crate::kept::{KeptTexts, Reply, refused, shown, told};
 use crate::names::name_of;
 use crate::setting::Setting;
 use serde_json::Value;
@@ -30,6 +31,9 @@ use x_hash::HashKey;
 use x_positions::Encoding;
 use x_published::{Client, client_in};
 use x_questions::result_of;
+
+/// What the user is shown where a change is not understood.
+const WRONG_CHANGE: &str = "the parameters of didChange are wrong";
 
 /// A server of a client.
 #[derive(Drop)]
@@ -91,19 +95,53 @@ impl<'k> Server<'k> {
             Ok(message) => return self.reply_to(&message),
             Err(error) => error,
         };
-        self.fall_out_of_step();
+        let _ = self.fall_out_of_step();
         if error.is_memory() {
             return Reply::NoMemoryAnswer;
         }
         refused(self.alloc, &Value::Null, ErrorCode::ParseError)
     }
 
-    /// A message was not understood: it may have been a change of any document.
-    fn fall_out_of_step(&mut self)
-        ensures { self.new.life ≡ self.old.life }
+    /// A message was not understood that may have been a change of any document. Whether one was in step.
+    fn fall_out_of_step(&mut self) -> bool
+        ensures life { self.new.life ≡ self.old.life }
     {
+        let mut fell = false;
         for document in &mut self.documents {
-            document.falls_out_of_step();
+            if document.falls_out_of_step() {
+                fell = true;
+            }
+        }
+        fell
+    }
+
+    /// A notification was not understood that concerns a document: the one that it names, or any. That is out
+    /// of step then, which the user is shown where it was in step.
+    fn miss(&mut self, params: Option<&Value>, what: &str) -> Reply
+        ensures note { IsToNotification (said_of result) }
+        ensures life { self.new.life ≡ self.old.life }
+    {
+        let fell = match uri_in(params) {
+            Some(uri) => self.lose(uri),
+            None => self.fall_out_of_step(),
+        };
+        if fell {
+            shown(self.alloc, what)
+        } else {
+            Reply::Nothing
+        }
+    }
+
+    /// A change of a document was not understood. Whether one was in step that is not now.
+    fn lose(&mut self, uri: &str) -> bool
+        ensures life { self.new.life ≡ self.old.life }
+    {
+        let Ok(name) = name_of(self.alloc, uri) else {
+            return self.fall_out_of_step();
+        };
+        match self.find(&name) {
+            Some(at) => self.documents[at].falls_out_of_step(),
+            None => false,
         }
     }
 
@@ -175,19 +213,33 @@ impl<'k> Server<'k> {
             return Err(ErrorCode::InternalError);
         };
         match self.find(&name) {
-            Some(at) => {
-                let document = &self.documents[at];
-                result_of(
-                    self.alloc,
-                    self.client.encoding,
-                    &document.open_text(),
-                    document.place_asked(params),
-                    question,
-                    params,
-                )
-            }
+            Some(at) => self.asked_of(&self.documents[at], question, params),
             None => Err(ErrorCode::InvalidParams),
         }
+    }
+
+    /// The result of a question about an open document, which must be in step.
+    fn asked_of(
+        &self,
+        document: &OpenDocument,
+        question: Question,
+        params: Option<&Value>,
+    ) -> Result<Value, ErrorCode>
+        ensures value { IfOk result (λ v. has_float (view v) ≡ false) }
+        ensures code { IfErr result (λ code. is_of_request code ≡ true) }
+        ensures out_of_step { document.now.in_step ≡ false → result ≡ Err ContentModified }
+    {
+        if !document.in_step {
+            return Err(ErrorCode::ContentModified);
+        }
+        result_of(
+            self.alloc,
+            self.client.encoding,
+            &document.open_text(),
+            document.place_asked(params),
+            question,
+            params,
+        )
     }
 
     /// Goes on with the server's life behind a request that was answered.
@@ -251,7 +303,58 @@ impl<'k> Server<'k> {
     {
         match opened_in(params) {
             Some((uri, version, text)) => self.open_document(uri, version, text),
-            None => shown(self.alloc, "the parameters of didOpen are wrong"),
+            None => self.miss_opening(params),
+        }
+    }
+
+    /// A document could not be opened, since what is said of it is not understood.
+    fn miss_opening(&mut self, params: Option<&Value>) -> Reply
+        ensures note { IsToNotification (said_of result) }
+        ensures life { self.new.life ≡ self.old.life }
+    {
+        let wrong = "the parameters of didOpen are wrong";
+        match uri_in(params) {
+            Some(uri) => {
+                self.refuse_opening(uri);
+                shown(self.alloc, wrong)
+            }
+            None => self.miss(params, wrong),
+        }
+    }
+
+    /// A document that could not be opened is open out of step: with the text of the one of its name, or with
+    /// none.
+    fn refuse_opening(&mut self, uri: &str)
+        ensures life { self.new.life ≡ self.old.life }
+    {
+        let Ok(name) = name_of(self.alloc, uri) else {
+            let _ = self.fall_out_of_step();
+            return;
+        };
+        match self.find(&name) {
+            Some(at) => {
+                let _ = self.documents[at].falls_out_of_step();
+            }
+            None => self.open_empty(uri),
+        }
+    }
+
+    /// Opens a document out of step, without a text, where there is memory.
+    fn open_empty(&mut self, uri: &str)
+        ensures life { self.new.life ≡ self.old.life }
+    {
+        let opened = OpenDocument::open(
+            self.alloc,
+            self.hash_key,
+            self.client,
+            &self.setting,
+            uri,
+            0,
+            "",
+        );
+        if let Ok(mut document) = opened {
+            let _ = document.falls_out_of_step();
+            let _ = self.documents.push(document);
         }
     }
 
@@ -272,10 +375,14 @@ impl<'k> Server<'k> {
             text,
         ) {
             Ok(opened) => opened,
-            Err(fault) => return told(self.alloc, ChangeFault::Edit(fault)),
+            Err(fault) => {
+                self.refuse_opening(uri);
+                return told(self.alloc, fault);
+            }
         };
         let reply = opened.publish(self.alloc);
         if self.documents.reserve(1).is_err() {
+            let _ = self.lose(uri);
             return Reply::NoMemoryNote;
         }
         forget(&mut self.documents, &opened.name);
@@ -291,10 +398,10 @@ impl<'k> Server<'k> {
         ensures life { self.new.life ≡ self.old.life }
     {
         let Some((uri, version, changes)) = changed_in(params) else {
-            return shown(self.alloc, "the parameters of didChange are wrong");
+            return self.miss(params, WRONG_CHANGE);
         };
         let Ok(name) = name_of(self.alloc, uri) else {
-            self.fall_out_of_step();
+            let _ = self.fall_out_of_step();
             return Reply::NoMemoryNote;
         };
         let Some(at) = self.find(&name) else {
@@ -302,13 +409,19 @@ impl<'k> Server<'k> {
         };
         let document = &mut self.documents[at];
         match text_changes(self.alloc, changes) {
-            Ok(Some(changes)) => document.change(self.alloc, version, &changes),
+            Ok(Some(changes)) => {
+                let version = version.unwrap_or(document.version);
+                document.change(self.alloc, version, &changes)
+            }
             Ok(None) => {
-                document.falls_out_of_step();
-                shown(self.alloc, "the parameters of didChange are wrong")
+                if document.falls_out_of_step() {
+                    shown(self.alloc, WRONG_CHANGE)
+                } else {
+                    Reply::Nothing
+                }
             }
             Err(_) => {
-                document.falls_out_of_step();
+                let _ = document.falls_out_of_step();
                 Reply::NoMemoryNote
             }
         }
@@ -320,7 +433,7 @@ impl<'k> Server<'k> {
         ensures life { self.new.life ≡ self.old.life }
     {
         let Some(uri) = uri_in(params) else {
-            return Reply::Nothing;
+            return self.miss(params, "the parameters of didClose are wrong");
         };
         let Ok(name) = name_of(self.alloc, uri) else {
             return Reply::NoMemoryNote;
