@@ -123,10 +123,11 @@ impl OpenDocument {
         ensures note { IsToNotification (said_of result) }
     {
         let is_sent_whole = changes.first().is_some_and(|change| change.range.is_none());
-        let was_in_step = self.falls_out_of_step();
+        let was_in_step = self.in_step;
         if !was_in_step && !is_sent_whole {
             return Reply::Nothing;
         }
+        self.in_step = false;
         if let Err(fault) = self.carry_out(alloc, changes) {
             return if was_in_step {
                 told(alloc, fault)
