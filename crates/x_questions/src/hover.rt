@@ -6,6 +6,7 @@ ghost use Rattle.serde_json.specs.Written.{has_float};
 
 use crate::locations::range_of;
 use crate::open_text::OpenText;
+use memchr::memchr_iter;
 use serde_json::{Value, json};
 use std::alloc::{AllocError, Global};
 use x_item::{is_significant, next_item};
@@ -14,6 +15,9 @@ use x_positions::{Encoding, Places, range_value};
 use x_rules::Meaning;
 use x_session::{SchemaFault, Session};
 use x_text::NoMemory;
+
+/// The most lines of a definition that are told.
+const MOST_LINES: usize = 20;
 
 /// The definition of the name at a place, with what it means: a `Hover`; null where no name stands there, or
 /// nobody declares it.
@@ -49,7 +53,8 @@ fn hover_value(alloc: Global, told: &str, range: Value) -> Result<Value, AllocEr
     json!(in alloc; {"contents": contents, "range": range})
 }
 
-/// The definition of a name as it is written, and what the name means behind an empty line, if that is told.
+/// The definition of a name as it is written, or its first lines and two dots, and what the name means behind
+/// an empty line, if that is told.
 fn told_of(
     alloc: Global,
     session: &Session,
@@ -57,7 +62,11 @@ fn told_of(
     tells_meaning: bool,
 ) -> Result<String, NoMemory> {
     let span = item_span(alloc, session, found.declarer.item)?;
-    let mut told = String::from_utf8_lossy(alloc, written(session.bytes(), span))?;
+    let (lines, is_all) = first_lines(written(session.bytes(), span));
+    let mut told = String::from_utf8_lossy(alloc, lines)?;
+    if !is_all {
+        told.push_str("\n..")?;
+    }
     if !tells_meaning {
         return Ok(told);
     }
@@ -130,5 +139,13 @@ fn written(text: &[u8], span: Option<(usize, usize)>) -> &[u8] {
     match span {
         Some((start, end)) => text.get(start..end).unwrap_or(&[]),
         None => &[],
+    }
+}
+
+/// The first lines of what is written, and whether they are all.
+fn first_lines(written: &[u8]) -> (&[u8], bool) {
+    match memchr_iter(b'\n', written).nth(MOST_LINES - 1) {
+        Some(end) => (written.get(..end).unwrap_or(written), false),
+        None => (written, true),
     }
 }
