@@ -1,6 +1,6 @@
 -- What a run of `rpcdump` does, put together.
-use Rattle.std.proofs.Common.{◌≡◌, ◌∙◌, ℕ, ◌≤◌, ◌<◌, Bool, true, false, List, [], ◌++◌, length, Option, Some, None, Result, Ok, Err, Bor, ◌⊎◌, inl, inr, codes, refl, sym, subst, ap, append_assoc, append-nil, length-append, arith}
-use Rattle.std.specs.Prelude.{MatchOption, option_map, unwrap_or, IsErrAnd, IsErrOf}
+use Rattle.std.proofs.Common.{◌≡◌, ◌∙◌, ℕ, ◌≤◌, ◌<◌, Bool, true, false, List, [], ◌++◌, length, Option, Some, None, Result, Ok, Err, ◌⊎◌, inl, inr, codes, refl, sym, subst, ap, append_assoc, append-nil, length-append, arith}
+use Rattle.std.specs.Prelude.{MatchOption, IsErrOf}
 use Rattle.std.specs.Io.KnownBytes.{Consumes, IsAtEnd, Keeps}
 use Rattle.x_streams.specs.Streams.{Stream}
 use Rattle.x_text.specs.declared.text.source.TheConstants.{MAX_TEXT}
@@ -12,27 +12,21 @@ use Rattle.x_session.specs.Typed.{GivesSchema}
 use Rattle.x_streams.specs.declared.outcome.Outcome.{Outcome}
 use Rattle.x_session.specs.declared.session.Session.{Session}
 use Rattle.x_args.proofs.Grown.{stays}
-use Rattle.rpcx.proofs.Unopened.{fits}
+use Rattle.x_opening.proofs.Unopened.{fits}
 use Rattle.x_args.specs.declared.dumping_args.DumpArgs.{DumpArgs}
 use Rattle.rpcx.specs.Course.{Course, IsIdle, course}
 use Rattle.rpcx.specs.Dumping.{HasDumped, HasTypes, IsWholeFile, Opens, ReadsAll, ReadsOn, Shows, ShowsFile}
 use Rattle.rpcx.specs.Dumping.{schema_name, unopened, untyped}
 use Rattle.rpcx.specs.Dumping.{StopsAt}
-use Rattle.rpcx.specs.declared.files.opening.Opening.{Opening}
-use Rattle.rpcx.specs.Opening.{CompilesBy, IsBefore}
-use Rattle.rpcx.specs.Generate.{IsFaultless, NotOpened, TellsFaults}
+use Rattle.x_opening.specs.declared.opening.Opening.{Opening}
+use Rattle.x_opening.specs.Opening.{CompilesBy, IsBefore}
+use Rattle.x_opening.specs.Opened.{NotOpened, TellsFaults}
 use Rattle.rpcx.specs.declared.rpcdump.halt.Halt.{Halt}
 use Rattle.rpcx.specs.declared.rpcdump.halt.Halt.TheVariants.{NoType, Unread, TooLarge, NoRoom, Ended, Unwritten}
 use Rattle.x_args.specs.declared.dumping_args.Mode.{Mode}
 use Rattle.x_args.specs.declared.dumping_args.Mode.TheVariants as modes
 use Rattle.x_args.specs.declared.status.Status.{Status}
 use Rattle.x_args.specs.declared.status.Status.TheVariants.{Done, Faulty, Failed}
-
--- what an option of a text or another text says
-pub now_or : (o : Option (Bor (List ℕ))) (other : Bor (List ℕ)) (chosen : Bor (List ℕ)) → chosen ≡ unwrap_or o other
-    → chosen.now ≡ unwrap_or (option_map (λ s. s.now) o) other.now
-now_or None other chosen is = ap (λ s. s.now) is
-now_or (Some s) other chosen is = ap (λ s. s.now) is
 
 -- ---- reading
 
@@ -49,11 +43,6 @@ consumes_none None = tt
 consumes_none (Some x) = refl
 
 -- ---- the types of the schema
-
--- an error that is passed on
-pub passed_on : {T E : Type 0} (P : Result T E → Type 0) (r : Result T E) (e : E) → IsErrAnd r (λ x. x ≡ e) → P (Err e) → P r
-passed_on P (Ok x) e again h = absurd again
-passed_on P (Err x) e again h = subst (λ y. P (Err y)) (sym again) h
 
 abbrev FailsWith : Status → Status → Type 0
 FailsWith status other = let r : Result Session Status = Err status in IsErrOf r other
@@ -80,11 +69,6 @@ not_dumped how args mode text c is_closed before after Failed opens idle =
 pub has_types : (how : Opening) (text : List ℕ) (s : Schema) (known : KnownText) → (MAX_TEXT < length text → ⊥)
     → IsBefore how text known → Compiles known text (λ items. GivesSchema known text items (Ok s)) → HasTypes how text s
 has_types how text s known large before gives = (fits (length text) large, known, before, gives)
-
--- a text without a fault whose types could not be made
-pub faultless : (how : Opening) (text : List ℕ) → (MAX_TEXT < length text → ⊥)
-    → CompilesBy how text (λ items. faults_of text items ≡ []) → IsFaultless how text
-faultless how text large clean = record { fits = fits (length text) large; clean = clean }
 
 -- ---- reading
 

@@ -15,11 +15,11 @@ use Rattle.x_explain.specs.KnownFiles.{KnownPlaces, no_places}
 use Rattle.x_prelude.specs.declared.followed.FollowedText.{FollowedText}
 use Rattle.x_script.specs.Situations.{Situation}
 use Rattle.rpcx.specs.Course.{course}
-use Rattle.rpcx.specs.declared.files.opening.Opening.{Opening}
+use Rattle.x_opening.specs.declared.opening.Opening.{Opening}
 use Rattle.rpcx.specs.Editing.{Answers, AnswersBy, EndsBy, EndsEarly, found_by, found_over, status_of}
 use Rattle.x_args.specs.BaseNames.{base_of}
-use Rattle.rpcx.specs.Opening.{HavePlaces}
-use Rattle.rpcx.proofs.Unopened.{fits}
+use Rattle.x_opening.specs.Opening.{HavePlaces}
+use Rattle.x_opening.proofs.Unopened.{fits}
 use Rattle.x_args.specs.declared.status.Status.{Status}
 
 one_status : (a b : Bool) → status_of a ≡ status_of b → a ≡ b

@@ -19,9 +19,9 @@ use Rattle.x_streams.specs.declared.outcome.EngineFault.{EngineFault}
 use Rattle.x_wire.specs.StreamTexts.{DumpsMessage, DumpsStream}
 use Rattle.x_wire.specs.declared.nfs2.TheConstants.{NFS2_X}
 use Rattle.rpcx.specs.Course.{Course, IsIdle}
-use Rattle.rpcx.specs.declared.files.opening.Opening.{Opening}
-use Rattle.rpcx.specs.Opening.{CompilesBy, IsBefore}
-use Rattle.rpcx.specs.Generate.{IsFaultless, NotOpened, TellsFaults, TellsStop}
+use Rattle.x_opening.specs.declared.opening.Opening.{Opening}
+use Rattle.x_opening.specs.Opening.{CompilesBy, IsBefore}
+use Rattle.x_opening.specs.Opened.{IsFaultless, NotOpened, TellsFaults, TellsStop}
 use Rattle.x_args.specs.Telling.{Complains, IsTold}
 use Rattle.rpcx.specs.declared.rpcdump.halt.Halt.{Halt}
 use Rattle.rpcx.specs.declared.rpcdump.halt.Halt.TheVariants.{NoType, Unread, TooLarge, NoRoom, Ended}

@@ -12,10 +12,10 @@ use Rattle.x_script.specs.Situations.{Situation}
 use Rattle.x_args.specs.declared.status.Status.{Status}
 use Rattle.x_args.specs.declared.status.Status.TheVariants.{Done, Faulty}
 use Rattle.rpcx.specs.Course.{Course, IsIdle}
-use Rattle.rpcx.specs.declared.files.opening.Opening.{Opening}
+use Rattle.x_opening.specs.declared.opening.Opening.{Opening}
 use Rattle.x_args.specs.BaseNames.{base_of}
-use Rattle.rpcx.specs.Generate.{NotOpened, TellsStop}
-use Rattle.rpcx.specs.Opening.{HavePlaces}
+use Rattle.x_opening.specs.Opened.{NotOpened, TellsStop}
+use Rattle.x_opening.specs.Opening.{HavePlaces}
 
 -- the status of a run that carried out each line, whether or not one was refused
 abbrev pub status_of : Bool → Status

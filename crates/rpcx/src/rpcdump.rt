@@ -8,12 +8,12 @@ mod halt;
 mod input;
 mod showing;
 
-use crate::files::opening::{Opening, open_text};
 use halt::tell_halt;
 use showing::show;
 use std::alloc::Global;
 use std::mem;
 use x_args::{DumpArgs, Mode, Status, tell_of_file};
+use x_opening::{Opening, open_text};
 use x_text::{Outlet, Sink, Tap};
 use x_wire::{NFS2_X, Outcome, Schema};
 

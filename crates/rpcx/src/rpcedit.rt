@@ -9,15 +9,12 @@ ghost use Rattle.rpcx.specs.Editing.{Answers, AnswersBy, IsStopped, NotRun, foun
 ghost use Rattle.x_prelude.specs.Followed.{IsOver};
 ghost use Rattle.x_script.specs.Situations.{situation};
 
-use crate::files::base::base_of_file;
-use crate::files::complaint::{tell_stop, tell_unopened};
-use crate::files::known::open_followed;
-use crate::files::opening::Opening;
 use std::alloc::Global;
 use std::mem;
 use x_args::{EditArgs, Status};
 use x_explain::KnownFiles;
 use x_hash::HashKey;
+use x_opening::{Opening, base_of_file, open_followed, tell_stop, tell_unopened};
 use x_prelude::FollowedText;
 use x_script::{Outcome, ScriptFile, run_script};
 use x_text::{Outlet, Sink, Tap, TextFault};

@@ -16,8 +16,8 @@ use Rattle.x_prelude_laws.proofs.Behind.{next_whole}
 use Rattle.x_prelude_laws.proofs.Nothing.{no_fault_unknown}
 use Rattle.x_prelude_laws.proofs.Wholes.{ends_whole, whole_none}
 use Rattle.x_prelude_laws.specs.Wholes.{EndsWhole}
-use Rattle.rpcx.specs.Opening.{AreRead}
-use Rattle.rpcx.specs.declared.files.known.KnownSource.{KnownSource}
+use Rattle.x_opening.specs.Opening.{AreRead}
+use Rattle.x_opening.specs.declared.known.KnownSource.{KnownSource}
 
 abbrev IsShort : KnownSource → Type 0
 IsShort f = length f.session.text ≤ most_text

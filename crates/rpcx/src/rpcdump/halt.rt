@@ -4,8 +4,8 @@ ghost use Rattle.std.specs.Prelude.{◌++◌, codes};
 ghost use Rattle.rpcx.specs.Dumping.{type_asked, TellsHalt};
 ghost use Rattle.x_args.specs.Telling.{IsTold};
 
-use crate::files::complaint::tell_stop;
 use x_args::{DumpArgs, complain_of_output, tell_of_file};
+use x_opening::tell_stop;
 use x_text::{EngineFault, Outlet, Pen, Sink};
 
 /// Why the bytes of a file are not shown to their end.

@@ -1,6 +1,6 @@
 use Rattle.std.proofs.Common.{ℕ, List, subst}
 use Rattle.rpcx.specs.Dumping.{Opens}
-use Rattle.rpcx.proofs.Dumping.{now_or}
+use Rattle.x_opening.proofs.Passing.{now_or}
 use Rattle.rpcx.proofs.rpcdump.open_schema.Goals as goal
 
 pub returns-clause-opens : goal.returns-clause-opens

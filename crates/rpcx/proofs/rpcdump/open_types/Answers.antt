@@ -3,7 +3,8 @@ use Rattle.x_session.specs.Session.{Compiles}
 use Rattle.x_session.specs.Typed.{GivesSchema}
 use Rattle.rpcx.specs.Dumping.{Opens}
 use Rattle.x_args.specs.Telling.{IsTold}
-use Rattle.rpcx.proofs.Dumping.{faultless, has_types, not_opened, passed_on}
+use Rattle.x_opening.proofs.Passing.{faultless, passed_on}
+use Rattle.rpcx.proofs.Dumping.{has_types, not_opened}
 use Rattle.rpcx.proofs.rpcdump.open_types.Goals as goal
 
 pub returns-in_err-session-clause-opens : goal.returns-in_err-session-clause-opens

@@ -3,9 +3,9 @@ use Rattle.x_explain.specs.KnownFiles.{places_of_files}
 use Rattle.x_prelude.specs.declared.followed.FollowedText.{FollowedText}
 use Rattle.rpcx.specs.Course.{course}
 use Rattle.rpcx.specs.Editing.{IsStopped, found_over, stopped, unopened}
-use Rattle.rpcx.specs.Generate.{NoRoom}
+use Rattle.x_opening.specs.Opened.{NoRoom}
 use Rattle.rpcx.proofs.Editing.{answers_by, found_is, opened_fits}
-use Rattle.rpcx.proofs.Unopened.{not_opened}
+use Rattle.x_opening.proofs.Unopened.{not_opened}
 use Rattle.rpcx.proofs.rpcedit.edit_run_keyed.Goals as goal
 
 pub returns-clause-answers : goal.returns-clause-answers

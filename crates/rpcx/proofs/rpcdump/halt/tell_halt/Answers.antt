@@ -1,7 +1,7 @@
 use Rattle.std.proofs.Common.{sym, subst, codes, ◌++◌}
 use Rattle.rpcx.specs.Dumping.{type_asked, TellsHalt}
 use Rattle.x_args.specs.Telling.{IsTold}
-use Rattle.rpcx.proofs.Dumping.{now_or}
+use Rattle.x_opening.proofs.Passing.{now_or}
 use Rattle.rpcx.proofs.rpcdump.halt.tell_halt.Goals as goal
 
 pub returns-in-NoType : goal.returns-in-NoType

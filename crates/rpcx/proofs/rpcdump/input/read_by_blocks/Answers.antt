@@ -3,7 +3,8 @@ use Rattle.std.specs.Prelude.{IfErr}
 use Rattle.std.specs.Io.KnownBytes.{Consumes}
 use Rattle.x_text.specs.declared.text.source.TheConstants.{MAX_TEXT}
 use Rattle.rpcx.specs.Dumping.{StopsAt}
-use Rattle.rpcx.proofs.Dumping.{consumes_none, passed_on, reads_all, reads_more, stops_behind}
+use Rattle.x_opening.proofs.Passing.{passed_on}
+use Rattle.rpcx.proofs.Dumping.{consumes_none, reads_all, reads_more, stops_behind}
 use Rattle.rpcx.proofs.rpcdump.input.read_by_blocks.Goals as goal
 
 pub loop-bytes-init : goal.loop-bytes-init

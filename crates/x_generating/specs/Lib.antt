@@ -1,0 +1,4 @@
+pub mod Checking
+pub mod Generate
+pub mod Outputs
+pub mod Warnings
