@@ -1,5 +1,6 @@
 pub mod Changes
 pub mod Compiled
+pub mod DocumentNames
 pub mod Documents
 pub mod Grounds
 pub mod Publishing

@@ -6,7 +6,7 @@ ghost use Rattle.x_frames.specs.Answers.{IsToNotification};
 ghost use Rattle.x_lsp.specs.Changes.{changed_by_all};
 ghost use Rattle.x_lsp.specs.Compiled.{IsCompiled};
 ghost use Rattle.x_args.specs.BaseNames.{base_of};
-ghost use Rattle.x_lsp.specs.Documents.{name_of};
+ghost use Rattle.x_lsp.specs.DocumentNames.{name_of};
 ghost use Rattle.x_lsp.specs.Grounds.{ground_of, ground_with};
 ghost use Rattle.x_positions.specs.Positions.{offset_of};
 ghost use Rattle.x_lsp.specs.Publishing.{Publishes, PublishesChange};

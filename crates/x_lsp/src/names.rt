@@ -1,7 +1,7 @@
 //! The names of documents.
 
 ghost use Rattle.std.specs.Prelude.{◌≡◌, IfOk};
-ghost use Rattle.x_lsp.specs.Documents.{name_of};
+ghost use Rattle.x_lsp.specs.DocumentNames.{name_of};
 
 use percent_encoding::percent_decode;
 use std::alloc::Global;

@@ -1,4 +1,4 @@
-use Rattle.std.proofs.Common.{◌≡◌, subst, w64}
+use Rattle.std.proofs.Common.{◌≡◌, inr, subst, w64}
 use Rattle.std.proofs.lemmas.Int.{to_z-of_z}
 use Rattle.std.specs.Prelude.{string_bytes}
 use Rattle.x_lsp.specs.Changes.{changed_by_all}
@@ -8,11 +8,11 @@ use Rattle.x_lsp.specs.Replies.{said_of}
 use Rattle.x_lsp.proofs.SaidLemmas.{shown_note}
 use Rattle.x_lsp.proofs.document.OpenDocument.change.Goals as goal
 
-pub returns-then-not-is_sent_whole-clause-note : goal.returns-then-not-is_sent_whole-clause-note
-returns-then-not-is_sent_whole-clause-note c = shown_note (said_of c.told.result) c.told.ensures
+pub returns-then-was_in_step-clause-note : goal.returns-then-was_in_step-clause-note
+returns-then-was_in_step-clause-note c = shown_note (said_of c.told.result) c.told.ensures
 
-pub returns-in-Err-clause-note : goal.returns-in-Err-clause-note
-returns-in-Err-clause-note c = shown_note (said_of c.told-in-Err.result) c.told-in-Err.ensures
+pub returns-then-was_in_step-clause-says : goal.returns-then-was_in_step-clause-says
+returns-then-was_in_step-clause-says c = inr (inr c.told.ensures)
 
 pub returns-clause-says : goal.returns-clause-says
 returns-clause-says c =
@@ -23,11 +23,11 @@ returns-clause-says c =
     let version = c.args.version in
     let on = ground_with old.files.items old.compiled.from_c old.blanks old.warns in
     let shown = changed_by_all old.client.encoding old.shown c.args.changes.now in
-    subst (λ e. Publishes e (string_bytes old.uri) version on shown said) left.client
+    inr (subst (λ e. Publishes e (string_bytes old.uri) version on shown said) left.client
     (subst (λ u. Publishes new.client (string_bytes u) version on shown said) left.uri
     (subst (λ g. Publishes new.client (string_bytes new.uri) version g shown said) left.standing
     (subst (λ t. Publishes new.client (string_bytes new.uri) version
     (ground_with new.files.items new.compiled.from_c new.blanks new.warns) t said) left.text
     (subst (λ v. Publishes new.client (string_bytes new.uri) v
     (ground_with new.files.items new.compiled.from_c new.blanks new.warns) new.shown said)
-    (to_z-of_z w64 version c.ranges.version) c.publish.ensures.says))))
+    (to_z-of_z w64 version c.ranges.version) c.publish.ensures.says)))))

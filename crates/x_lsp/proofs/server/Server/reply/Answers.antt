@@ -8,4 +8,4 @@ pub returns-in-Ok : goal.returns-in-Ok
 returns-in-Ok c = to_message (view c.in-Ok.message) c.in-Ok.ensures.ok.1 c.reply_to.ensures
 
 pub returns-then-is_memory : goal.returns-then-is_memory
-returns-then-is_memory c = no_memory no_memory_answer refl refl c.fall_out_of_step.ensures
+returns-then-is_memory c = no_memory no_memory_answer refl refl c.fall_out_of_step.ensures.life
