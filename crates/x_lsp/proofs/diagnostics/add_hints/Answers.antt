@@ -1,5 +1,5 @@
-use Rattle.std.proofs.Common.{◌≡◌, ◌∙◌, ap, get_or, map, ◌++◌}
-use Rattle.std.specs.Prelude.{None, string_bytes}
+use Rattle.std.proofs.Common.{map, ◌++◌}
+use Rattle.std.specs.Prelude.{None}
 use Rattle.x_published.specs.Diagnostics.{diagnostic_data, hint_data}
 use Rattle.x_positions.specs.PositionData.{range_data}
 use Rattle.x_published.specs.Published.{data_of}

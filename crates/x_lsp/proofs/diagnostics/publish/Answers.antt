@@ -1,4 +1,4 @@
-use Rattle.std.proofs.Common.{◌≡◌, ◌++◌, ◌∙◌, [], append-nil, ap, map, subst, sym, w64}
+use Rattle.std.proofs.Common.{◌≡◌, ◌++◌, ◌∙◌, append-nil, ap, map, subst, sym, w64}
 use Rattle.std.specs.Prelude.{All}
 use Rattle.serde_json.specs.Written.{compact_text}
 use Rattle.std.proofs.lemmas.Int.{to_z-of_z}

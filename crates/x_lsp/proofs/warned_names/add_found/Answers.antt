@@ -1,4 +1,4 @@
-use Rattle.std.proofs.Common.{◌≡◌, ◌++◌, ◌∙◌, [], append-nil, append_assoc, map, sym, ap, subst, refl}
+use Rattle.std.proofs.Common.{◌++◌, ◌∙◌, [], append-nil, append_assoc, map, sym, ap, subst, refl}
 use Rattle.std.specs.Prelude.{option_map}
 use Rattle.std.specs.Option.{option_to_list}
 use Rattle.std.proofs.lemmas.List.{take_all}

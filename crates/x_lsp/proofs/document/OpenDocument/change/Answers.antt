@@ -1,4 +1,4 @@
-use Rattle.std.proofs.Common.{◌≡◌, inr, subst, w64}
+use Rattle.std.proofs.Common.{inr, subst, w64}
 use Rattle.std.proofs.lemmas.Int.{to_z-of_z}
 use Rattle.std.specs.Prelude.{string_bytes}
 use Rattle.x_lsp.specs.Changes.{changed_by_all}

@@ -1,4 +1,4 @@
-use Rattle.std.proofs.Common.{◌≡◌, ◌++◌, List, inl, inr, refl, rules, subst, w64}
+use Rattle.std.proofs.Common.{◌++◌, List, inl, inr, refl, rules, subst, w64}
 use Rattle.std.proofs.lemmas.Int.{to_z-of_z}
 use Rattle.std.proofs.Math.Logic.{∥∥₁_map₂}
 use Rattle.std.specs.Prelude.{string_bytes}
@@ -9,7 +9,7 @@ use Rattle.x_prelude.specs.Foreign.{AreForeign}
 use Rattle.x_session.specs.Session.{Compiles}
 use Rattle.x_published.specs.Diagnostics.{hints_of}
 use Rattle.x_lsp.specs.Publishing.{IsPublishedOf}
-use Rattle.x_lsp.specs.Grounds.{compiled_of, constants_of}
+use Rattle.x_lsp.specs.Grounds.{constants_of}
 use Rattle.x_lsp.proofs.SaidLemmas.{no_memory_is_note, no_memory_shown, published_note}
 use Rattle.x_lsp.proofs.document.OpenDocument.publish.Goals as goal
 
