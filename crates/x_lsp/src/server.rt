@@ -7,7 +7,7 @@ ghost use Rattle.serde_json.specs.View.{view};
 ghost use Rattle.serde_json.specs.Written.{has_float};
 ghost use Rattle.x_frames.specs.Answers.{IsRefused, IsSaid, IsSaidTo, IsToMethod, IsToNotification};
 ghost use Rattle.x_frames.specs.Answers.{IsToRequest};
-ghost use Rattle.x_lsp.specs.Documents.{without};
+ghost use Rattle.x_lsp.specs.Documents.{IsNamedAt, without};
 ghost use Rattle.x_lsp.specs.Grounds.{ground_of};
 ghost use Rattle.x_frames.specs.Lives.{end_of, is_of_request, life_behind, life_noted};
 ghost use Rattle.x_frames.specs.Messages.{asked_by};
@@ -286,7 +286,8 @@ impl<'k> Server<'k> {
 
     /// The index of the document of this name.
     fn find(&self, name: &[u8]) -> Option<usize>
-        ensures { IfSome result (λ at. at < vec_len self.now.documents) }
+        ensures within { IfSome result (λ at. at < vec_len self.now.documents) }
+        ensures named { IfSome result (λ at. IsNamedAt self.now.documents.items at name.now) }
     {
         for at in 0..self.documents.len() {
             if self.documents[at].name.as_slice() == name {
