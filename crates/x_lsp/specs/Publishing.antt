@@ -60,7 +60,7 @@ Publishes client uri version on shown said =
 
 -- What is said to changes that leave this text: the same, but nothing where the document was out of step and
 -- stays so.
-abbrev pub PublishesChange : (in_step : Bool) → Client → (uri : List ℕ) → (version : ℤ) → Ground
+abbrev pub PublishesChange : (in_step in_step' : Bool) → Client → (uri : List ℕ) → (version : ℤ) → Ground
     → (shown : List ℕ) → Option (List ℕ) → Type 0
-PublishesChange in_step client uri version on shown said =
-    ((in_step ≡ false) × (said ≡ None)) ⊎ Publishes client uri version on shown said
+PublishesChange in_step in_step' client uri version on shown said =
+    ((in_step ≡ false) × (in_step' ≡ false) × (said ≡ None)) ⊎ Publishes client uri version on shown said

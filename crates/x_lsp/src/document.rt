@@ -117,7 +117,8 @@ impl OpenDocument {
     /// then. At the first that is refused it stops: the changes before it are done, and the document is out
     /// of step. While it is, changes are passed over that do not begin with a whole text.
     pub(crate) fn change(&mut self, alloc: Global, version: i64, changes: &[TextChange]) -> Reply
-        ensures says { PublishesChange self.old.in_step self.old.client (string_bytes self.old.uri) version
+        ensures says { PublishesChange self.old.in_step self.new.in_step self.old.client
+            (string_bytes self.old.uri) version
             (ground_with self.old.files.items self.old.compiled.from_c self.old.blanks self.old.warns)
             (changed_by_all self.old.client.encoding self.old.shown changes.now) (said_of result) }
         ensures note { IsToNotification (said_of result) }
@@ -147,6 +148,7 @@ impl OpenDocument {
             (self.new.shown ≡ changed_by_all self.old.client.encoding self.old.shown changes.now) }
         ensures followed { OnOk result
             (IsCompiled self.new.files.items self.new.blanks self.new.shown self.new.compiled) }
+        ensures in_step { self.new.in_step ≡ self.old.in_step }
         ensures client { self.new.client ≡ self.old.client }
         ensures uri { self.new.uri ≡ self.old.uri }
         ensures standing { ground_with self.new.files.items self.new.compiled.from_c self.new.blanks
