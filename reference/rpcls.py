@@ -89,7 +89,7 @@ class Refused(Exception):
 
 def changed(text, change, encoding):
     """The characters behind one change."""
-    if "range" not in change:
+    if change.get("range") is None:
         return change["text"]
     lines = Text(text, encoding)
     start, end = (lines.index(change["range"][side]) for side in ("start", "end"))
@@ -359,7 +359,7 @@ class Server:
         version, changes = params["textDocument"].get("version", ""), params["contentChanges"]
         if not isinstance(version, int | None) or not isinstance(changes, list):
             return SHOWN if was_in_step else None
-        if not was_in_step and (not changes or "range" in changes[0]):
+        if not was_in_step and (not changes or changes[0].get("range") is not None):
             return None
         for change in changes:
             try:

@@ -4,3 +4,5 @@ pub mod Framing
 pub mod KeptSaid
 pub mod Lives
 pub mod Messages
+pub mod Notes
+pub mod Params

@@ -1,5 +1,11 @@
 //! What a client says that it does to a text.
 
+ghost use Rattle.std.specs.Prelude.{◌≡◌, option_and_then, option_map};
+ghost use Rattle.serde_json.specs.Find.{get};
+ghost use Rattle.serde_json.specs.View.{view};
+ghost use Rattle.x_frames.specs.Params.{natural_in, position_in, range_if, range_in, replacement_in};
+ghost use Rattle.x_frames.specs.Params.{replacement_of};
+
 use serde_json::Value;
 use x_positions::{Position, Range};
 
@@ -13,31 +19,52 @@ pub struct TextChange<'m> {
 }
 
 /// The change that a client describes, if it does.
-pub(crate) fn text_change(change: &Value) -> Option<TextChange<'_>> {
+pub(crate) fn text_change(change: &Value) -> Option<TextChange<'_>>
+    ensures { option_map replacement_of result ≡ replacement_in (view change.now) }
+{
+    let range = range_if(change.get("range"))?;
     let text = change.get("text")?.as_str()?;
-    let range = match change.get("range") {
-        None => None,
-        Some(range) => Some(range_of(range)?),
-    };
     Some(TextChange { range, text })
 }
 
+/// The range that is described, if any is, where it is understood. Null describes none.
+fn range_if(range: Option<&Value>) -> Option<Option<Range>>
+    ensures { result ≡ range_if (option_map (λ r. view r.now) range.entry) }
+{
+    match range {
+        None | Some(Value::Null) => Some(None),
+        Some(range) => Some(Some(range_in(range)?)),
+    }
+}
+
 /// The range that a client describes, if it does.
-fn range_of(range: &Value) -> Option<Range> {
-    Some(Range {
-        start: position_in(range.get("start")?)?,
-        end: position_in(range.get("end")?)?,
-    })
+fn range_in(range: &Value) -> Option<Range>
+    ensures { result ≡ range_in (view range.now) }
+{
+    let start = position_at(range, "start")?;
+    let end = position_at(range, "end")?;
+    Some(Range { start, end })
+}
+
+/// The position that a member describes, if it does.
+fn position_at(range: &Value, name: &str) -> Option<Position>
+    ensures { result ≡ option_and_then position_in (get name.now (view range.now)) }
+{
+    position_in(range.get(name)?)
 }
 
 /// The position that a client describes, if it does.
-pub(crate) fn position_in(position: &Value) -> Option<Position> {
-    Some(Position {
-        line: number_in(position.get("line")?)?,
-        character: number_in(position.get("character")?)?,
-    })
+pub(crate) fn position_in(position: &Value) -> Option<Position>
+    ensures { result ≡ position_in (view position.now) }
+{
+    let line = natural_in(position, "line")?;
+    let character = natural_in(position, "character")?;
+    Some(Position { line, character })
 }
 
-fn number_in(number: &Value) -> Option<usize> {
-    Some(number.as_u64()? as usize)
+/// The natural number that a member is, if it is one.
+fn natural_in(position: &Value, name: &str) -> Option<usize>
+    ensures { result ≡ natural_in name.now (view position.now) }
+{
+    Some(position.get(name)?.as_u64()? as usize)
 }

@@ -1,14 +1,18 @@
 -- What is compiled of the text that a client has.
-use Rattle.std.proofs.Common.{◌≡◌, ℕ, Bool, List, ◌++◌, subst, sym, ◌∙◌}
-use Rattle.std.specs.Prelude.{Result, Ok, Err, IfOk, OnErr, OnOk}
+use Rattle.std.proofs.Common.{◌≡◌, ◌<◌, ◌⊎◌, ℕ, Bool, List, ◌++◌, length, refl, subst, sym, ◌∙◌}
+use Rattle.std.specs.Prelude.{Result, Ok, Err, IfErr, IfOk, IsErrOf, OnErr, OnOk}
 use Rattle.std.proofs.Math.Logic.{∥∥₁_map}
 use Rattle.std.proofs.lemmas.Grind.{merely}
-use Rattle.x_prelude.specs.Before.{IsBefore}
+use Rattle.x_text.specs.Limits.{most_text}
+use Rattle.x_text.specs.declared.text.fault.TextFault.{TextFault}
+use Rattle.x_text.specs.declared.text.fault.TextFault.TheVariants.{BadRange, TooLarge, NoMemory}
+use Rattle.x_prelude.specs.Before.{IsBefore, IsCrowded}
 use Rattle.x_prelude.specs.Followed.{IsOver}
 use Rattle.x_prelude.specs.declared.definition.FromC.{FromC}
 use Rattle.x_prelude.specs.declared.followed.FollowedText.{FollowedText}
 use Rattle.x_lsp.specs.Compiled.{IsCompiled}
-use Rattle.x_lsp.specs.Grounds.{compiled_of, constants_of}
+use Rattle.x_lsp.specs.Grounds.{compiled_of, constants_of, ground_with}
+use Rattle.x_lsp.specs.Noting.{IsNotCompiled}
 
 -- what is opened behind these files, of this text
 is_compiled : (files : List ℕ) (blanks : Bool) (shown front bytes : List ℕ) (from : FromC) (text : FollowedText)
@@ -54,3 +58,15 @@ pub over_replaced : {T E : Type 0} (r : Result T E) (old new : FollowedText) →
     → OnErr r (new ≡ old) → ∥ IsOver old ∥₁ → ∥ IsOver new ∥₁
 over_replaced (Ok x) old new over same had = merely over
 over_replaced (Err e) old new over same had = subst (λ t. ∥ IsOver t ∥₁) (sym same) had
+
+-- why it is not compiled, behind these files
+pub not_compiled : {T : Type 0} (r : Result T TextFault) (files : List ℕ) (from : FromC) (blanks warns : Bool)
+    (shown front bytes : List ℕ) → front ≡ files ++ constants_of blanks shown → bytes ≡ compiled_of blanks shown
+    → (IsErrOf r TooLarge → ∥ (most_text < length bytes) ⊎ IsCrowded front from bytes ∥₁) → (IsErrOf r BadRange → ⊥)
+    → IfErr r (IsNotCompiled (ground_with files from blanks warns) shown)
+not_compiled (Ok x) files from blanks warns shown front bytes f b large range = tt
+not_compiled (Err BadRange) files from blanks warns shown front bytes f b large range = range refl
+not_compiled (Err TooLarge) files from blanks warns shown front bytes f b large range =
+    subst (λ t. ∥ (most_text < length t) ⊎ IsCrowded (files ++ constants_of blanks shown) from t ∥₁) b
+    (subst (λ g. ∥ (most_text < length bytes) ⊎ IsCrowded g from bytes ∥₁) f (large refl))
+not_compiled (Err NoMemory) files from blanks warns shown front bytes f b large range = tt

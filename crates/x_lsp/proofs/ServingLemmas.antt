@@ -8,254 +8,255 @@ use Rattle.httparse.proofs.GrammarLemmas.{ReadsSection-append}
 use Rattle.x_streams.specs.Streams.{Stream}
 use Rattle.x_streams.specs.Writing.{Adds, Inked, Writes, counted}
 use Rattle.x_streams.proofs.Pens.{all_written, counted_all, front_written, writes_none}
-use Rattle.x_frames.specs.Answers.{IsSaid, framed_if}
+use Rattle.x_frames.specs.Answers.{framed_if}
 use Rattle.x_frames.specs.Framing.{FrameReading, IsFramed, IsUnframed, ReadsFrame}
 use Rattle.x_frames.specs.Lives.{end_of}
 use Rattle.x_lsp.specs.Serving.{AreServed, Exchange, HasFailed, HasServed, HasStopped, Serves, stop_by, written_of}
 use Rattle.x_frames.specs.declared.framing.FrameFault.{FrameFault}
 use Rattle.x_frames.specs.declared.framing.FrameFault.TheVariants as frame
 use Rattle.x_frames.specs.declared.framing.FrameFound.TheVariants.{Message, End}
-use Rattle.x_frames.specs.declared.life.Life.{Life}
-use Rattle.x_frames.specs.declared.life.Life.TheVariants.{Fresh}
+use Rattle.x_lsp.specs.Grounds.{Ground}
+use Rattle.x_lsp.specs.States.{IsServed, ServerState, fresh}
 use Rattle.x_lsp.specs.declared.serving.ServeFault.TheVariants.{NoMemory, Write}
 
--- ---- messages
+module _ (on : Ground) where
+  -- ---- messages
 
--- a message is one whatever follows
-framed_more : (bytes body rest more : List ℕ) → IsFramed bytes body rest → IsFramed (bytes ++ more) body (rest ++ more)
-framed_more bytes body rest more f = record {
-  fields = f.fields;
-  last = f.last;
-  reads = subst (ReadsSection (bytes ++ more) f.fields f.last) (append_assoc body rest more) (ReadsSection-append bytes f.fields f.last (body ++ rest) more f.reads);
-  length_is = f.length_is;
-  few = f.few;
-  short_head = f.short_head;
-  short_body = f.short_body;
-}
+  -- a message is one whatever follows
+  framed_more : (bytes body rest more : List ℕ) → IsFramed bytes body rest → IsFramed (bytes ++ more) body (rest ++ more)
+  framed_more bytes body rest more f = record {
+    fields = f.fields;
+    last = f.last;
+    reads = subst (ReadsSection (bytes ++ more) f.fields f.last) (append_assoc body rest more) (ReadsSection-append bytes f.fields f.last (body ++ rest) more f.reads);
+    length_is = f.length_is;
+    few = f.few;
+    short_head = f.short_head;
+    short_body = f.short_body;
+  }
 
--- more follows
-served_more : (life life' : Life) (served : List Exchange) (input rest more : List ℕ) → AreServed life served input rest life' → AreServed life served (input ++ more) (rest ++ more) life'
-served_more life life' [] input rest more h = (ap (λ l. l ++ more) h.0, h.1)
-served_more life life' (x ∷ xs) input rest more h =
-    (h.0, h.1 ++ more, framed_more input x.body h.1 more h.2, h.3, served_more x.life life' xs h.1 rest more h.4)
+  -- more follows
+  served_more : (state state' : ServerState) (served : List Exchange) (input rest more : List ℕ) → AreServed state served input rest state' → AreServed state served (input ++ more) (rest ++ more) state'
+  served_more state state' [] input rest more h = (ap (λ l. l ++ more) h.0, h.1)
+  served_more state state' (x ∷ xs) input rest more h =
+      (h.0, h.1 ++ more, framed_more input x.body h.1 more h.2, h.3, served_more x.state state' xs h.1 rest more h.4)
 
--- one message more
-served_then : (life mid : Life) (served : List Exchange) (x : Exchange) (input rest next : List ℕ) → AreServed life served input rest mid → end_of mid ≡ None
-    → IsFramed rest x.body next → IsSaid mid x.body x.said x.life → AreServed life (served ++ x ∷ []) input next x.life
-served_then life mid [] x input rest next h goes is says = (
-  ap end_of (sym h.1) ∙ goes,
-  next,
-  subst (λ b. IsFramed b x.body next) h.0 is,
-  subst (λ l. IsSaid l x.body x.said x.life) h.1 says,
-  (refl, refl),
-)
-served_then life mid (y ∷ ys) x input rest next h goes is says = (h.0, h.1, h.2, h.3, served_then y.life mid ys x h.1 rest next h.4 goes is says)
+  -- one message more
+  served_then : (state mid : ServerState) (served : List Exchange) (x : Exchange) (input rest next : List ℕ) → AreServed state served input rest mid → end_of mid.life ≡ None
+      → IsFramed rest x.body next → IsServed mid x.body x.said x.state → AreServed state (served ++ x ∷ []) input next x.state
+  served_then state mid [] x input rest next h goes is says = (
+    ap (λ (s : ServerState). end_of s.life) (sym h.1) ∙ goes,
+    next,
+    subst (λ b. IsFramed b x.body next) h.0 is,
+    subst (λ l. IsServed l x.body x.said x.state) h.1 says,
+    (refl, refl),
+  )
+  served_then state mid (y ∷ ys) x input rest next h goes is says = (h.0, h.1, h.2, h.3, served_then y.state mid ys x h.1 rest next h.4 goes is says)
 
-written_then : (served : List Exchange) (x : Exchange) → written_of (served ++ x ∷ []) ≡ written_of served ++ framed_if x.said
-written_then [] x = append-nil (framed_if x.said)
-written_then (y ∷ ys) x = ap (λ l. framed_if y.said ++ l) (written_then ys x) ∙ sym (append_assoc (framed_if y.said) (written_of ys) (framed_if x.said))
+  written_then : (served : List Exchange) (x : Exchange) → written_of (served ++ x ∷ []) ≡ written_of served ++ framed_if x.said
+  written_then [] x = append-nil (framed_if x.said)
+  written_then (y ∷ ys) x = ap (λ l. framed_if y.said ++ l) (written_then ys x) ∙ sym (append_assoc (framed_if y.said) (written_of ys) (framed_if x.said))
 
--- ---- what was read
+  -- ---- what was read
 
--- what is left of what the tap told
-come_split : (left : Option (List ℕ)) (later come : List ℕ) → Consumes (Some later) left come → (rest : List ℕ) × (left ≡ Some rest) × (later ≡ come ++ rest)
-come_split None later come h = absurd h
-come_split (Some rest) later come h = (rest, refl, h)
+  -- what is left of what the tap told
+  come_split : (left : Option (List ℕ)) (later come : List ℕ) → Consumes (Some later) left come → (rest : List ℕ) × (left ≡ Some rest) × (later ≡ come ++ rest)
+  come_split None later come h = absurd h
+  come_split (Some rest) later come h = (rest, refl, h)
 
--- the messages before these bytes are served, which were read of the input
-pub record HasRead (input : List ℕ) (served : List Exchange) (life : Life) (bytes : List ℕ) (left : Option (List ℕ)) : Type 0 where
-  pub read : List ℕ
-  pub later : List ℕ
-  pub left_is : left ≡ Some later
-  pub input_is : input ≡ read ++ later
-  pub are_served : AreServed Fresh served read bytes life
+  -- the messages before these bytes are served, which were read of the input
+  pub record HasRead (input : List ℕ) (served : List Exchange) (state : ServerState) (bytes : List ℕ) (left : Option (List ℕ)) : Type 0 where
+    pub read : List ℕ
+    pub later : List ℕ
+    pub left_is : left ≡ Some later
+    pub input_is : input ≡ read ++ later
+    pub are_served : AreServed (fresh on) served read bytes state
 
--- between two messages: those before are served, and what is said to them is written
-pub record IsBetween (input : List ℕ) (start : Stream) (life : Life) (reader : FrameReading) (left : Option (List ℕ)) (pen : Inked) (now : Stream) : Type 0 where
-  pub served : List Exchange
-  pub has_read : HasRead input served life reader.unread left
-  pub alive : end_of life ≡ None
-  pub writes : Writes start (written_of served) pen now
-  pub goes : pen.stopped ≡ false
-  pub empty : pen.pending ≡ []
+  -- between two messages: those before are served, and what is said to them is written
+  pub record IsBetween (input : List ℕ) (start : Stream) (state : ServerState) (reader : FrameReading) (left : Option (List ℕ)) (pen : Inked) (now : Stream) : Type 0 where
+    pub served : List Exchange
+    pub has_read : HasRead input served state reader.unread left
+    pub alive : end_of state.life ≡ None
+    pub writes : Writes start (written_of served) pen now
+    pub goes : pen.stopped ≡ false
+    pub empty : pen.pending ≡ []
 
-pub at_start : (input : List ℕ) (start : Stream) (life : Life) (reader : FrameReading) (left : Option (List ℕ)) (pen : Inked)
-    → life ≡ Fresh → reader ≡ record { body = []; unread = [] } → left ≡ Some input → pen ≡ record { pending = []; written = 0; stopped = false }
-    → IsBetween input start life reader left pen start
-at_start input start life reader left pen life_is reader_is left_is pen_is = record {
-  served = [];
-  has_read = record { read = []; later = input; left_is = left_is; input_is = refl; are_served = (ap (λ (r : FrameReading). r.unread) reader_is, life_is) };
-  alive = ap end_of life_is;
-  writes = subst (λ (p : Inked). Writes start [] p start) (sym pen_is) (writes_none start);
-  goes = ap (λ (p : Inked). p.stopped) pen_is;
-  empty = ap (λ (p : Inked). p.pending) pen_is;
-}
+  pub at_start : (input : List ℕ) (start : Stream) (state : ServerState) (reader : FrameReading) (left : Option (List ℕ)) (pen : Inked)
+      → state ≡ fresh on → reader ≡ record { body = []; unread = [] } → left ≡ Some input → pen ≡ record { pending = []; written = 0; stopped = false }
+      → IsBetween input start state reader left pen start
+  at_start input start state reader left pen state_is reader_is left_is pen_is = record {
+    served = [];
+    has_read = record { read = []; later = input; left_is = left_is; input_is = refl; are_served = (ap (λ (r : FrameReading). r.unread) reader_is, state_is) };
+    alive = ap end_of state.state_is;
+    writes = subst (λ (p : Inked). Writes start [] p start) (sym pen_is) (writes_none start);
+    goes = ap (λ (p : Inked). p.stopped) pen_is;
+    empty = ap (λ (p : Inked). p.pending) pen_is;
+  }
 
--- more came
-read_more : (input : List ℕ) (served : List Exchange) (life : Life) (bytes come : List ℕ) (left left' : Option (List ℕ)) → HasRead input served life bytes left → Consumes left left' come
-    → HasRead input served life (bytes ++ come) left'
-read_more input served life bytes come left left' h from =
-    let split = come_split left' h.later come (subst (λ b. Consumes b left' come) h.left_is from) in
-    record {
-      read = h.read ++ come;
-      later = split.0;
-      left_is = split.1;
-      input_is = h.input_is ∙ ap (λ l. h.read ++ l) split.2 ∙ sym (append_assoc h.read come split.0);
-      are_served = served_more Fresh life served h.read bytes come h.are_served;
-    }
+  -- more came
+  read_more : (input : List ℕ) (served : List Exchange) (state : ServerState) (bytes come : List ℕ) (left left' : Option (List ℕ)) → HasRead input served state bytes left → Consumes left left' come
+      → HasRead input served state (bytes ++ come) left'
+  read_more input served state bytes come left left' h from =
+      let split = come_split left' h.later come (subst (λ b. Consumes b left' come) h.left_is from) in
+      record {
+        read = h.read ++ come;
+        later = split.0;
+        left_is = split.1;
+        input_is = h.input_is ∙ ap (λ l. h.read ++ l) split.2 ∙ sym (append_assoc h.read come split.0);
+        are_served = served_more (fresh on) state served h.read bytes come h.are_served;
+      }
 
--- they are served of the whole input
-of_all : (input : List ℕ) (served : List Exchange) (life : Life) (bytes : List ℕ) (left : Option (List ℕ)) → (h : HasRead input served life bytes left)
-    → AreServed Fresh served input (bytes ++ h.later) life
-of_all input served life bytes left h =
-    subst (λ i. AreServed Fresh served i (bytes ++ h.later) life) (sym h.input_is) (served_more Fresh life served h.read bytes h.later h.are_served)
+  -- they are served of the whole input
+  of_all : (input : List ℕ) (served : List Exchange) (state : ServerState) (bytes : List ℕ) (left : Option (List ℕ)) → (h : HasRead input served state bytes left)
+      → AreServed (fresh on) served input (bytes ++ h.later) state
+  of_all input served state bytes left h =
+      subst (λ i. AreServed (fresh on) served i (bytes ++ h.later) state) (sym h.input_is) (served_more (fresh on) state served h.read bytes h.later h.are_served)
 
--- ---- a message more
+  -- ---- a message more
 
--- a message is answered behind the others, and that is passed on, or the sink has failed
-pub record IsBehind (input : List ℕ) (start : Stream) (life : Life) (reader : FrameReading) (left : Option (List ℕ)) (pen : Inked) (now : Stream) : Type 0 where
-  pub earlier : List Exchange
-  pub last : Exchange
-  pub life_is : life ≡ last.life
-  pub has_read : HasRead input (earlier ++ last ∷ []) last.life reader.unread left
-  pub writes : Writes start (written_of (earlier ++ last ∷ [])) pen now
-  pub whole : counted (length (written_of earlier)) ≤ pen.written
+  -- a message is answered behind the others, and that is passed on, or the sink has failed
+  pub record IsBehind (input : List ℕ) (start : Stream) (state : ServerState) (reader : FrameReading) (left : Option (List ℕ)) (pen : Inked) (now : Stream) : Type 0 where
+    pub earlier : List Exchange
+    pub last : Exchange
+    pub state_is : state ≡ last.state
+    pub has_read : HasRead input (earlier ++ last ∷ []) last.state reader.unread left
+    pub writes : Writes start (written_of (earlier ++ last ∷ [])) pen now
+    pub whole : counted (length (written_of earlier)) ≤ pen.written
 
-no_fewer_then : (a b c d : ℕ) → b ≡ a → b ≤ c → c ≤ d → a ≤ d
-no_fewer_then a b c d is first second = omega (arith, is, first, second)
+  no_fewer_then : (a b c d : ℕ) → b ≡ a → b ≤ c → c ≤ d → a ≤ d
+  no_fewer_then a b c d is first second = omega (arith, is, first, second)
 
-pub behind : (input : List ℕ) (start : Stream) (life life' : Life) (reader reader' : FrameReading) (left left' : Option (List ℕ)) (p q r : Inked) (now now' now'' : Stream)
-    → IsBetween input start life reader left p now → ReadsFrame reader reader' left left' (Ok Message)
-    → ((said : Option (List ℕ)) × IsSaid life reader'.body said life' × Adds p now q now' (framed_if said)) → Adds q now' r now'' []
-    → IsBehind input start life' reader' left' r now''
-behind input start life life' reader reader' left left' p q r now now' now'' h reads answers flushed =
-    let said = answers.0 in
-    let x : Exchange = record { body = reader'.body; said = said; life = life' } in
-    let read = read_more input h.served life reader.unread reads.come left left' h.has_read reads.from_tap in
-    let writes = flushed.goes_on start (written_of h.served ++ framed_if said) (answers.2.goes_on start (written_of h.served) h.writes) in
-    record {
-      earlier = h.served;
-      last = x;
-      life_is = refl;
-      has_read = record {
-        read = read.read;
-        later = read.later;
-        left_is = read.left_is;
-        input_is = read.input_is;
-        are_served = served_then Fresh life h.served x read.read (reader.unread ++ reads.come) reader'.unread read.are_served h.alive reads.found answers.1;
-      };
-      writes = subst (λ t. Writes start t r now'') (append-nil (written_of h.served ++ framed_if said) ∙ sym (written_then h.served x)) writes;
-      whole = no_fewer_then (counted (length (written_of h.served))) p.written q.written r.written (counted_all p start now (written_of h.served) h.goes h.empty h.writes) answers.2.no_fewer flushed.no_fewer;
-    }
+  pub behind : (input : List ℕ) (start : Stream) (state state' : ServerState) (reader reader' : FrameReading) (left left' : Option (List ℕ)) (p q r : Inked) (now now' now'' : Stream)
+      → IsBetween input start state reader left p now → ReadsFrame reader reader' left left' (Ok Message)
+      → ((said : Option (List ℕ)) × IsServed state reader'.body said state' × Adds p now q now' (framed_if said)) → Adds q now' r now'' []
+      → IsBehind input start state' reader' left' r now''
+  behind input start state state' reader reader' left left' p q r now now' now'' h reads answers flushed =
+      let said = answers.0 in
+      let x : Exchange = record { body = reader'.body; said = said; state = state' } in
+      let read = read_more input h.served state reader.unread reads.come left left' h.has_read reads.from_tap in
+      let writes = flushed.goes_on start (written_of h.served ++ framed_if said) (answers.2.goes_on start (written_of h.served) h.writes) in
+      record {
+        earlier = h.served;
+        last = x;
+        state_is = refl;
+        has_read = record {
+          read = read.read;
+          later = read.later;
+          left_is = read.left_is;
+          input_is = read.input_is;
+          are_served = served_then (fresh on) state h.served x read.read (reader.unread ++ reads.come) reader'.unread read.are_served h.alive reads.found answers.1;
+        };
+        writes = subst (λ t. Writes start t r now'') (append-nil (written_of h.served ++ framed_if said) ∙ sym (written_then h.served x)) writes;
+        whole = no_fewer_then (counted (length (written_of h.served))) p.written q.written r.written (counted_all p start now (written_of h.served) h.goes h.empty h.writes) answers.2.no_fewer flushed.no_fewer;
+      }
 
-pub between : (input : List ℕ) (start : Stream) (life : Life) (reader : FrameReading) (left : Option (List ℕ)) (pen : Inked) (now : Stream)
-    → IsBehind input start life reader left pen now → pen.stopped ≡ false → pen.pending ≡ [] → end_of life ≡ None → IsBetween input start life reader left pen now
-between input start life reader left pen now h goes empty alive = record {
-  served = h.earlier ++ h.last ∷ [];
-  has_read = subst (λ l. HasRead input (h.earlier ++ h.last ∷ []) l reader.unread left) (sym h.life_is) h.has_read;
-  alive = alive;
-  writes = h.writes;
-  goes = goes;
-  empty = empty;
-}
+  pub between : (input : List ℕ) (start : Stream) (state : ServerState) (reader : FrameReading) (left : Option (List ℕ)) (pen : Inked) (now : Stream)
+      → IsBehind input start state reader left pen now → pen.stopped ≡ false → pen.pending ≡ [] → end_of state.life ≡ None → IsBetween input start state reader left pen now
+  between input start state reader left pen now h goes empty alive = record {
+    served = h.earlier ++ h.last ∷ [];
+    has_read = subst (λ l. HasRead input (h.earlier ++ h.last ∷ []) l reader.unread left) (sym h.state_is) h.has_read;
+    alive = alive;
+    writes = h.writes;
+    goes = goes;
+    empty = empty;
+  }
 
--- ---- how a conversation ends
+  -- ---- how a conversation ends
 
--- all that is said is written
-has_served : (input rest : List ℕ) (served : List Exchange) (life : Life) (start : Stream) (pen : Inked) (now : Stream) → AreServed Fresh served input rest life
-    → Writes start (written_of served) pen now → pen.stopped ≡ false → pen.pending ≡ [] → HasServed served input rest life start now
-has_served input rest served life start pen now are writes goes empty = record { are_served = are; has = all_written pen start now (written_of served) goes empty writes }
+  -- all that is said is written
+  has_served : (input rest : List ℕ) (served : List Exchange) (state : ServerState) (start : Stream) (pen : Inked) (now : Stream) → AreServed (fresh on) served input rest state
+      → Writes start (written_of served) pen now → pen.stopped ≡ false → pen.pending ≡ [] → HasServed on served input rest state start now
+  has_served input rest served state start pen now are writes goes empty = record { are_served = are; has = all_written pen start now (written_of served) goes empty writes }
 
-has_stopped : (input rest : List ℕ) (served : List Exchange) (life : Life) (start : Stream) (pen : Inked) (now : Stream) (count : ℕ) → AreServed Fresh served input rest life
-    → Writes start (written_of served) pen now → pen.stopped ≡ false → pen.pending ≡ [] → count ≡ pen.written → HasStopped input rest start now count
-has_stopped input rest served life start pen now count are writes goes empty is = record {
-  served = served;
-  life = life;
-  has = has_served input rest served life start pen now are writes goes empty;
-  count_is = is ∙ counted_all pen start now (written_of served) goes empty writes;
-}
+  has_stopped : (input rest : List ℕ) (served : List Exchange) (state : ServerState) (start : Stream) (pen : Inked) (now : Stream) (count : ℕ) → AreServed (fresh on) served input rest state
+      → Writes start (written_of served) pen now → pen.stopped ≡ false → pen.pending ≡ [] → count ≡ pen.written → HasStopped on input rest start now count
+  has_stopped input rest served state start pen now count are writes goes empty is = record {
+    served = served;
+    state = state;
+    has = has_served input rest served state start pen now are writes goes empty;
+    count_is = is ∙ counted_all pen start now (written_of served) goes empty writes;
+  }
 
--- behind the message that ends the server
-pub at_exit : (input : List ℕ) (start : Stream) (life : Life) (reader : FrameReading) (left : Option (List ℕ)) (pen : Inked) (now : Stream) (asked : Bool)
-    → IsBehind input start life reader left pen now → pen.stopped ≡ false → pen.pending ≡ [] → end_of life ≡ Some asked → Serves input left start now (Ok asked)
-at_exit input start life reader left pen now asked h goes empty ends =
-    let served = h.earlier ++ h.last ∷ [] in (
-      served,
-      reader.unread ++ h.has_read.later,
-      h.last.life,
-      has_served input (reader.unread ++ h.has_read.later) served h.last.life start pen now (of_all input served h.last.life reader.unread left h.has_read) h.writes goes empty,
-      inl (ap end_of (sym h.life_is) ∙ ends),
-    )
+  -- behind the message that ends the server
+  pub at_exit : (input : List ℕ) (start : Stream) (state : ServerState) (reader : FrameReading) (left : Option (List ℕ)) (pen : Inked) (now : Stream) (asked : Bool)
+      → IsBehind input start state reader left pen now → pen.stopped ≡ false → pen.pending ≡ [] → end_of state.life ≡ Some asked → Serves on input left start now (Ok asked)
+  at_exit input start state reader left pen now asked h goes empty ends =
+      let served = h.earlier ++ h.last ∷ [] in (
+        served,
+        reader.unread ++ h.has_read.later,
+        h.last.state,
+        has_served input (reader.unread ++ h.has_read.later) served h.last.state start pen now (of_all input served h.last.state reader.unread left h.has_read) h.writes goes empty,
+        inl (ap (λ (s : ServerState). end_of s.life) (sym h.state_is) ∙ ends),
+      )
 
-none_left : (bytes later : List ℕ) (left : Option (List ℕ)) → left ≡ Some later → bytes ≡ [] → IsAtEnd left → bytes ++ later ≡ []
-none_left bytes later left is none end = (λ i. none i ++ (subst IsAtEnd is end) i)
+  none_left : (bytes later : List ℕ) (left : Option (List ℕ)) → left ≡ Some later → bytes ≡ [] → IsAtEnd left → bytes ++ later ≡ []
+  none_left bytes later left is none end = (λ i. none i ++ (subst IsAtEnd is end) i)
 
--- where there are no more messages
-pub at_end : (input : List ℕ) (start : Stream) (life : Life) (reader reader' : FrameReading) (left left' : Option (List ℕ)) (pen : Inked) (now : Stream)
-    → IsBetween input start life reader left pen now → ReadsFrame reader reader' left left' (Ok End) → Serves input left' start now (Ok false)
-at_end input start life reader reader' left left' pen now h reads =
-    let bytes = reader.unread ++ reads.come in
-    let read = read_more input h.served life reader.unread reads.come left left' h.has_read reads.from_tap in (
-      h.served,
-      bytes ++ read.later,
-      life,
-      has_served input (bytes ++ read.later) h.served life start pen now (of_all input h.served life bytes left' read) h.writes h.goes h.empty,
-      inr (h.alive, none_left bytes read.later left' read.left_is reads.found.0 reads.found.2, refl),
-    )
+  -- where there are no more messages
+  pub at_end : (input : List ℕ) (start : Stream) (state : ServerState) (reader reader' : FrameReading) (left left' : Option (List ℕ)) (pen : Inked) (now : Stream)
+      → IsBetween input start state reader left pen now → ReadsFrame reader reader' left left' (Ok End) → Serves on input left' start now (Ok false)
+  at_end input start state reader reader' left left' pen now h reads =
+      let bytes = reader.unread ++ reads.come in
+      let read = read_more input h.served state reader.unread reads.come left left' h.has_read reads.from_tap in (
+        h.served,
+        bytes ++ read.later,
+        state,
+        has_served input (bytes ++ read.later) h.served state start pen now (of_all input h.served state bytes left' read) h.writes h.goes h.empty,
+        inr (h.alive, none_left bytes read.later left' read.left_is reads.found.0 reads.found.2, refl),
+      )
 
-unframed_left : (bytes : List ℕ) (left : Option (List ℕ)) (later : List ℕ) → left ≡ Some later → IfSome left (λ l. IsUnframed (bytes ++ l)) → IsUnframed (bytes ++ later)
-unframed_left bytes left later is h = subst (λ o. IfSome o (λ l. IsUnframed (bytes ++ l))) is h
+  unframed_left : (bytes : List ℕ) (left : Option (List ℕ)) (later : List ℕ) → left ≡ Some later → IfSome left (λ l. IsUnframed (bytes ++ l)) → IsUnframed (bytes ++ later)
+  unframed_left bytes left later is h = subst (λ o. IfSome o (λ l. IsUnframed (bytes ++ l))) is h
 
--- where no message is found
-pub at_fault : (fault : FrameFault) (input : List ℕ) (start : Stream) (life : Life) (reader reader' : FrameReading) (left left' : Option (List ℕ)) (pen : Inked) (now : Stream) (count : ℕ)
-    → IsBetween input start life reader left pen now → ReadsFrame reader reader' left left' (Err fault) → count ≡ pen.written → Serves input left' start now (Err (stop_by fault count))
-at_fault frame.Read input start life reader reader' left left' pen now count h reads is =
-    let bytes = reader.unread ++ reads.come in
-    let read = read_more input h.served life reader.unread reads.come left left' h.has_read reads.from_tap in (
-      read.read,
-      bytes,
-      subst (λ l. Consumes (Some input) l read.read) (sym read.left_is) read.input_is,
-      has_stopped read.read bytes h.served life start pen now count read.are_served h.writes h.goes h.empty is,
-      reads.found.1,
-    )
-at_fault frame.NoMemory input start life reader reader' left left' pen now count h reads is =
-    let bytes = reader.unread ++ reads.come in
-    let read = read_more input h.served life reader.unread reads.come left left' h.has_read reads.from_tap in
-    (bytes ++ read.later, has_stopped input (bytes ++ read.later) h.served life start pen now count (of_all input h.served life bytes left' read) h.writes h.goes h.empty is)
-at_fault frame.Bad input start life reader reader' left left' pen now count h reads is =
-    let bytes = reader.unread ++ reads.come in
-    let read = read_more input h.served life reader.unread reads.come left left' h.has_read reads.from_tap in (
-      bytes ++ read.later,
-      has_stopped input (bytes ++ read.later) h.served life start pen now count (of_all input h.served life bytes left' read) h.writes h.goes h.empty is,
-      unframed_left bytes left' read.later read.left_is reads.found,
-    )
+  -- where no message is found
+  pub at_fault : (fault : FrameFault) (input : List ℕ) (start : Stream) (state : ServerState) (reader reader' : FrameReading) (left left' : Option (List ℕ)) (pen : Inked) (now : Stream) (count : ℕ)
+      → IsBetween input start state reader left pen now → ReadsFrame reader reader' left left' (Err fault) → count ≡ pen.written → Serves on input left' start now (Err (stop_by fault count))
+  at_fault frame.Read input start state reader reader' left left' pen now count h reads is =
+      let bytes = reader.unread ++ reads.come in
+      let read = read_more input h.served state reader.unread reads.come left left' h.has_read reads.from_tap in (
+        read.read,
+        bytes,
+        subst (λ l. Consumes (Some input) l read.read) (sym read.left_is) read.input_is,
+        has_stopped read.read bytes h.served state start pen now count read.are_served h.writes h.goes h.empty is,
+        reads.found.1,
+      )
+  at_fault frame.NoMemory input start state reader reader' left left' pen now count h reads is =
+      let bytes = reader.unread ++ reads.come in
+      let read = read_more input h.served state reader.unread reads.come left left' h.has_read reads.from_tap in
+      (bytes ++ read.later, has_stopped input (bytes ++ read.later) h.served state start pen now count (of_all input h.served state bytes left' read) h.writes h.goes h.empty is)
+  at_fault frame.Bad input start state reader reader' left left' pen now count h reads is =
+      let bytes = reader.unread ++ reads.come in
+      let read = read_more input h.served state reader.unread reads.come left left' h.has_read reads.from_tap in (
+        bytes ++ read.later,
+        has_stopped input (bytes ++ read.later) h.served state start pen now count (of_all input h.served state bytes left' read) h.writes h.goes h.empty is,
+        unframed_left bytes left' read.later read.left_is reads.found,
+      )
 
--- between two messages, where the conversation goes no further
-pub so_far : (input : List ℕ) (start : Stream) (life : Life) (reader : FrameReading) (left : Option (List ℕ)) (pen : Inked) (now : Stream) (count : ℕ)
-    → IsBetween input start life reader left pen now → count ≡ pen.written → Serves input left start now (Err (NoMemory count))
-so_far input start life reader left pen now count h is =
-    let bytes = reader.unread in
-    let read = h.has_read in
-    (bytes ++ read.later, has_stopped input (bytes ++ read.later) h.served life start pen now count (of_all input h.served life bytes left read) h.writes h.goes h.empty is)
+  -- between two messages, where the conversation goes no further
+  pub so_far : (input : List ℕ) (start : Stream) (state : ServerState) (reader : FrameReading) (left : Option (List ℕ)) (pen : Inked) (now : Stream) (count : ℕ)
+      → IsBetween input start state reader left pen now → count ≡ pen.written → Serves on input left start now (Err (NoMemory count))
+  so_far input start state reader left pen now count h is =
+      let bytes = reader.unread in
+      let read = h.has_read in
+      (bytes ++ read.later, has_stopped input (bytes ++ read.later) h.served state start pen now count (of_all input h.served state bytes left read) h.writes h.goes h.empty is)
 
--- where the sink failed
-pub at_stop : (input : List ℕ) (start : Stream) (life : Life) (reader : FrameReading) (left : Option (List ℕ)) (pen : Inked) (now : Stream) (count : ℕ)
-    → IsBehind input start life reader left pen now → pen.stopped ≡ true → count ≡ pen.written → Serves input left start now (Err (Write count))
-at_stop input start life reader left pen now count h stops is =
-    let served = h.earlier ++ h.last ∷ [] in
-    let front = front_written pen start now (written_of served) stops h.writes in
-    subst (HasFailed input start now) (sym is) (record {
-      earlier = h.earlier;
-      last = h.last;
-      rest = reader.unread ++ h.has_read.later;
-      are_served = of_all input served h.last.life reader.unread left h.has_read;
-      front = front.front;
-      whole = h.whole;
-    })
+  -- where the sink failed
+  pub at_stop : (input : List ℕ) (start : Stream) (state : ServerState) (reader : FrameReading) (left : Option (List ℕ)) (pen : Inked) (now : Stream) (count : ℕ)
+      → IsBehind input start state reader left pen now → pen.stopped ≡ true → count ≡ pen.written → Serves on input left start now (Err (Write count))
+  at_stop input start state reader left pen now count h stops is =
+      let served = h.earlier ++ h.last ∷ [] in
+      let front = front_written pen start now (written_of served) stops h.writes in
+      subst (HasFailed on input start now) (sym is) (record {
+        earlier = h.earlier;
+        last = h.last;
+        rest = reader.unread ++ h.has_read.later;
+        are_served = of_all input served h.last.state reader.unread left h.has_read;
+        front = front.front;
+        whole = h.whole;
+      })
 
--- where nothing was done
-pub unserved : (input : List ℕ) (left : Option (List ℕ)) (start : Stream) → Serves input left start start (Err (NoMemory 0))
-unserved input left start = (
-  input,
-  record { served = []; life = Fresh; has = record { are_served = (refl, refl); has = Appends-nil start.bytes }; count_is = refl },
-)
+  -- where nothing was done
+  pub unserved : (input : List ℕ) (left : Option (List ℕ)) (start : Stream) → Serves on input left start start (Err (NoMemory 0))
+  unserved input left start = (
+    input,
+    record { served = []; state = fresh on; has = record { are_served = (refl, refl); has = Appends-nil start.bytes }; count_is = refl },
+  )

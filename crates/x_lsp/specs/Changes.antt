@@ -2,7 +2,7 @@
 use Rattle.std.specs.Prelude.{ℕ, List, [], ◌∷◌, length, Option, None, Some}
 use Rattle.x_text.specs.Edits.{Change, edited_by}
 use Rattle.x_positions.specs.declared.encoding.Encoding.{Encoding}
-use Rattle.x_frames.specs.declared.changes.TextChange.{TextChange}
+use Rattle.x_frames.specs.Params.{Replacement}
 use Rattle.x_positions.specs.declared.range.Range.{Range}
 use Rattle.x_positions.specs.Positions.{offset_of}
 
@@ -16,11 +16,11 @@ change_in encoding text (Some range) insert = record {
   insert = insert;
 }
 
-abbrev pub change_by : Encoding → List ℕ → TextChange → Change
-change_by encoding text change = change_in encoding text change.range change.text.now
+abbrev pub change_by : Encoding → List ℕ → Replacement → Change
+change_by encoding text change = change_in encoding text change.range change.text
 
 -- the text after all changes, one after another
-abbrev pub changed_by_all : Encoding → List ℕ → List TextChange → List ℕ
+abbrev pub changed_by_all : Encoding → List ℕ → List Replacement → List ℕ
 changed_by_all encoding text [] = text
 changed_by_all encoding text (change ∷ changes) =
     changed_by_all encoding (edited_by (change_by encoding text change)) changes

@@ -1,13 +1,13 @@
 -- What is published of a document, and said where it was opened or changed (LSP 3.17,
 -- `textDocument/publishDiagnostics`).
 use Rattle.std.specs.Prelude.{◌≡◌, ◌⊎◌, ℕ, ℤ, ◌==◌, nat_le, ◌&&◌, Bool, MatchBool, List, [], ◌++◌, length}
-use Rattle.std.specs.Prelude.{Option, None, Some, false}
+use Rattle.std.specs.Prelude.{Option, Some}
 use Rattle.serde_json.specs.Data.{Data}
 use Rattle.serde_json.specs.Written.{compact_text}
 use Rattle.x_compile.specs.Compile.{Item, faults_of}
 use Rattle.x_declared.specs.Foreign.{ForeignName}
 use Rattle.x_prelude.specs.Foreign.{AreForeign}
-use Rattle.x_frames.specs.Answers.{IsShown}
+use Rattle.x_frames.specs.KeptSaid.{no_memory_note}
 use Rattle.x_told.specs.Telling.{told_of}
 use Rattle.x_warnings.specs.Warnings.{AreWarnings, Warning}
 use Rattle.x_published.specs.declared.client.Client.{Client}
@@ -51,16 +51,10 @@ IsPublished client uri version on shown said = CompilesOn on shown (λ items. (f
     × IsPublishedOf client uri version on.blanks on.warns foreign shown
     (compiled_of on.blanks shown) items said)
 
--- The faults of this text are published, as those of a document's version; or the user is shown why not.
+-- The faults of this text are published, as those of a document's version; or the user is shown that memory
+-- ran out.
 abbrev pub Publishes : Client → (uri : List ℕ) → (version : ℤ) → Ground → (shown : List ℕ)
     → Option (List ℕ) → Type 0
 Publishes client uri version on shown said =
     ((published : List ℕ) × (said ≡ Some published) × ∥ IsPublished client uri version on shown published ∥₁)
-    ⊎ IsShown said
-
--- What is said to changes that leave this text: the same, but nothing where the document was out of step and
--- stays so.
-abbrev pub PublishesChange : (in_step in_step' : Bool) → Client → (uri : List ℕ) → (version : ℤ) → Ground
-    → (shown : List ℕ) → Option (List ℕ) → Type 0
-PublishesChange in_step in_step' client uri version on shown said =
-    ((in_step ≡ false) × (in_step' ≡ false) × (said ≡ None)) ⊎ Publishes client uri version on shown said
+    ⊎ (said ≡ Some no_memory_note)

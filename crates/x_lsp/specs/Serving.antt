@@ -8,7 +8,7 @@ use Rattle.x_streams.specs.Writing.{Adds, HasFront, Inked, counted}
 use Rattle.x_args.specs.Telling.{Complains, IsTold}
 use Rattle.x_args.specs.declared.status.Status.{Status}
 use Rattle.x_args.specs.declared.status.Status.TheVariants.{Done, Faulty, Failed}
-use Rattle.x_frames.specs.Answers.{IsSaid, framed_if}
+use Rattle.x_frames.specs.Answers.{framed_if}
 use Rattle.x_frames.specs.Framing.{IsFramed, IsUnframed}
 use Rattle.x_frames.specs.Lives.{end_of}
 use Rattle.x_frames.specs.declared.framing.FrameFault.{FrameFault}
@@ -16,24 +16,25 @@ use Rattle.x_frames.specs.declared.framing.FrameFault.TheVariants as frame
 use Rattle.x_frames.specs.declared.framing.FrameFound.{FrameFound}
 use Rattle.x_frames.specs.declared.framing.FrameFound.TheVariants.{Message}
 use Rattle.x_frames.specs.declared.life.Life.{Life}
-use Rattle.x_frames.specs.declared.life.Life.TheVariants.{Fresh}
+use Rattle.x_lsp.specs.Grounds.{Ground}
+use Rattle.x_lsp.specs.States.{IsServed, ServerState, fresh}
 use Rattle.x_lsp.specs.declared.serving.ServeFault.{ServeFault}
 use Rattle.x_lsp.specs.declared.serving.ServeFault.TheVariants.{Read, Bad, Write, NoMemory}
 
--- a message, what is said to it, and the server's life behind it
+-- a message, what is said to it, and the server behind it
 pub record Exchange : Type 0 where
   pub body : List ℕ
   pub said : Option (List ℕ)
-  pub life : Life
+  pub state : ServerState
 
 -- The messages at the front of an input are those of the exchanges, one behind another, and to each of them
--- this is said by a server whose life was `life` before the first one, and had not ended before any: the rest
--- of the input follows them, and the life is `life'` then.
-abbrev pub AreServed : Life → List Exchange → (input rest : List ℕ) → Life → Type 0
-AreServed life [] input rest life' = (rest ≡ input) × (life' ≡ life)
-AreServed life (x ∷ xs) input rest life' =
-    (end_of life ≡ None) × (next : List ℕ) × IsFramed input x.body next × IsSaid life x.body x.said x.life
-    × AreServed x.life xs next rest life'
+-- this is said by a server that was `state` before the first one, and had not ended before any: the rest of
+-- the input follows them, and the server is `state'` then.
+abbrev pub AreServed : ServerState → List Exchange → (input rest : List ℕ) → ServerState → Type 0
+AreServed state [] input rest state' = (rest ≡ input) × (state' ≡ state)
+AreServed state (x ∷ xs) input rest state' = (end_of state.life ≡ None) × (next : List ℕ)
+    × IsFramed input x.body next × IsServed state x.body x.said x.state
+    × AreServed x.state xs next rest state'
 
 -- what is written: what is said to each message, once, with its header
 abbrev pub written_of : List Exchange → List ℕ
@@ -42,25 +43,26 @@ written_of (x ∷ xs) = framed_if x.said ++ written_of xs
 
 -- A server that no client had initialized served the messages at the front of an input, the rest of which
 -- follows them, and the sink has what is written.
-pub record HasServed (served : List Exchange) (input rest : List ℕ) (life : Life)
+pub record HasServed (on : Ground) (served : List Exchange) (input rest : List ℕ) (state : ServerState)
     (before after : Stream) : Type 0 where
-  pub are_served : AreServed Fresh served input rest life
+  pub are_served : AreServed (fresh on) served input rest state
   pub has : Appends before.bytes after.bytes (written_of served)
 
 -- messages at the front of an input are served, and so many bytes were written
-pub record HasStopped (input rest : List ℕ) (before after : Stream) (count : ℕ) : Type 0 where
+pub record HasStopped (on : Ground) (input rest : List ℕ) (before after : Stream) (count : ℕ) : Type 0
+    where
   pub served : List Exchange
-  pub life : Life
-  pub has : HasServed served input rest life before after
+  pub state : ServerState
+  pub has : HasServed on served input rest state before after
   pub count_is : count ≡ counted (length (written_of served))
 
 -- Messages at the front of an input are served, and the sink failed within what is said to the last of them:
 -- it has the first bytes of what is written, so many.
-pub record HasFailed (input : List ℕ) (before after : Stream) (count : ℕ) : Type 0 where
+pub record HasFailed (on : Ground) (input : List ℕ) (before after : Stream) (count : ℕ) : Type 0 where
   pub earlier : List Exchange
   pub last : Exchange
   pub rest : List ℕ
-  pub are_served : AreServed Fresh (earlier ++ last ∷ []) input rest last.life
+  pub are_served : AreServed (fresh on) (earlier ++ last ∷ []) input rest last.state
   pub front : HasFront before after (written_of (earlier ++ last ∷ [])) count
   pub whole : counted (length (written_of earlier)) ≤ count
 
@@ -70,22 +72,22 @@ abbrev pub Ends : Life → (rest : List ℕ) → (asked : Bool) → Type 0
 Ends life rest asked =
     (end_of life ≡ Some asked) ⊎ ((end_of life ≡ None) × (rest ≡ []) × (asked ≡ false))
 
--- What a conversation does, of whose input the tap has `left` then. It is cut off where the input is no
--- message; where a read fails, behind what is said to all messages that are whole in what was read; for want
--- of memory, behind what is said to some messages; and where a write fails, within what is said to one.
-abbrev pub Serves : (input : List ℕ) (left : Option (List ℕ)) (before after : Stream)
+-- What a conversation does, where documents are compiled on a ground; the tap has `left` of the input then.
+-- It is cut off where the input is no message; where a read fails, behind what is said to all messages that
+-- are whole in what was read; for want of memory, behind what is said to some messages; and where a write
+-- fails, within what is said to one.
+abbrev pub Serves : Ground → (input : List ℕ) (left : Option (List ℕ)) (before after : Stream)
     → Result Bool ServeFault → Type 0
-Serves input left before after (Ok asked) =
-    (served : List Exchange) × (rest : List ℕ) × (life : Life) × HasServed served input rest life before after
-    × Ends life rest asked
-Serves input left before after (Err (Read count)) =
-    (read rest : List ℕ) × Consumes (Some input) left read × HasStopped read rest before after count
+Serves on input left before after (Ok asked) = (served : List Exchange) × (rest : List ℕ)
+    × (state : ServerState) × HasServed on served input rest state before after × Ends state.life rest asked
+Serves on input left before after (Err (Read count)) =
+    (read rest : List ℕ) × Consumes (Some input) left read × HasStopped on read rest before after count
     × IsUnframed rest
-Serves input left before after (Err (Bad count)) =
-    (rest : List ℕ) × HasStopped input rest before after count × IsUnframed rest
-Serves input left before after (Err (Write count)) = HasFailed input before after count
-Serves input left before after (Err (NoMemory count)) =
-    (rest : List ℕ) × HasStopped input rest before after count
+Serves on input left before after (Err (Bad count)) =
+    (rest : List ℕ) × HasStopped on input rest before after count × IsUnframed rest
+Serves on input left before after (Err (Write count)) = HasFailed on input before after count
+Serves on input left before after (Err (NoMemory count)) =
+    (rest : List ℕ) × HasStopped on input rest before after count
 
 -- A conversation names its fault by what failed, and names one where something did.
 abbrev pub NamesFault : Result Bool ServeFault → (tap tap' sink sink' : Bool) → Type 0
@@ -109,11 +111,11 @@ TellsFault is_closed (Write count) before after =
 TellsFault is_closed (NoMemory count) before after = IsTold before after (codes "rpcls: out of memory\n")
 
 -- A run of this status is a conversation, and its fault is told.
-pub record IsRun (tap tap' sink sink' : Stream) (is_closed : Bool) (before after : Stream) (status : Status)
-    : Type 0 where
+pub record IsRun (on : Ground) (tap tap' sink sink' : Stream) (is_closed : Bool) (before after : Stream)
+    (status : Status) : Type 0 where
   pub ended : Result Bool ServeFault
   pub status_is : status ≡ status_of ended
-  pub serves : MatchOption tap.bytes (Unit {0}) (λ input. Serves input tap'.bytes sink sink' ended)
+  pub serves : MatchOption tap.bytes (Unit {0}) (λ input. Serves on input tap'.bytes sink sink' ended)
   pub fault : NamesFault ended tap.failed tap'.failed sink.failed sink'.failed
   pub told : IfErr ended (λ fault. TellsFault is_closed fault before after)
 
@@ -124,8 +126,8 @@ stop_by frame.NoMemory count = NoMemory count
 stop_by frame.Bad count = Bad count
 
 -- where a message was found it is answered, and else nothing is done
-abbrev pub IsAnswered : Result FrameFound FrameFault → (life life' : Life) (body : List ℕ)
+abbrev pub IsAnswered : Result FrameFound FrameFault → (state state' : ServerState) (body : List ℕ)
     → (p : Inked) (now : Stream) (q : Inked) (now' : Stream) → Type 0
-IsAnswered (Ok Message) life life' body p now q now' =
-    (said : Option (List ℕ)) × IsSaid life body said life' × Adds p now q now' (framed_if said)
-IsAnswered found life life' body p now q now' = (life' ≡ life) × (q ≡ p) × (now' ≡ now)
+IsAnswered (Ok Message) state state' body p now q now' =
+    (said : Option (List ℕ)) × IsServed state body said state' × Adds p now q now' (framed_if said)
+IsAnswered found state state' body p now q now' = (state' ≡ state) × (q ≡ p) × (now' ≡ now)

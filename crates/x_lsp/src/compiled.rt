@@ -1,10 +1,12 @@
 //! What is compiled of the text that a client has.
 
-ghost use Rattle.std.specs.Prelude.{◌≡◌, ◌++◌, true, IfOk, OnOk};
-ghost use Rattle.x_prelude.specs.Before.{IsBefore};
+ghost use Rattle.std.specs.Prelude.{◌≡◌, ◌⊎◌, ◌<◌, ◌++◌, false, true, IfErr, IfOk, IsErrOf, OnOk, length};
+ghost use Rattle.x_prelude.specs.Before.{IsBefore, IsCrowded};
+ghost use Rattle.x_text.specs.Limits.{most_text};
 ghost use Rattle.x_prelude.specs.Followed.{IsOver};
 ghost use Rattle.x_lsp.specs.Compiled.{IsCompiled};
-ghost use Rattle.x_lsp.specs.Grounds.{compiled_of, constants_of};
+ghost use Rattle.x_lsp.specs.Grounds.{compiled_of, constants_of, ground_of, ground_with};
+ghost use Rattle.x_lsp.specs.Noting.{IsNotCompiled};
 
 use crate::setting::Setting;
 use std::alloc::Global;
@@ -26,6 +28,7 @@ pub(crate) fn open_text(
     ensures from_c { IfOk result (λ text. text.from_c ≡ setting.now.from_c) }
     ensures compiled { IfOk result (IsCompiled setting.now.files.now setting.now.blanks shown.now) }
     ensures base { IfOk result (λ text. text.session.base ≡ base.now) }
+    ensures fault { IfErr result (IsNotCompiled (ground_of setting.now) shown.now) }
 {
     let Ok(parts) = Parts::of(alloc, setting.files, setting.blanks, shown) else {
         return Err(EditFault::NoMemory);
@@ -52,6 +55,8 @@ pub(crate) fn follow_text(
     ensures over { ∥ IsOver text.new ∥₁ }
     ensures from_c { text.new.from_c ≡ text.old.from_c }
     ensures compiled { OnOk result (IsCompiled files.now blanks shown.now text.new) }
+    ensures fault { IfErr result
+        (IsNotCompiled (ground_with files.now text.old.from_c blanks false) shown.now) }
 {
     let Ok(parts) = Parts::of(alloc, files, blanks, shown) else {
         return Err(EditFault::NoMemory);
@@ -116,6 +121,9 @@ fn follow(text: &mut FollowedText, bytes: &[u8]) -> Result<(), EditFault>
     ensures text { OnOk result (text.new.session.text ≡ bytes.now) }
     ensures before { OnOk result ∥ IsBefore text.new.files.items text.new.from_c text.new.session.text
         text.new.session.known ∥₁ }
+    ensures large { IsErrOf result EditFault.TooLarge → ∥ (most_text < length bytes.now)
+        ⊎ IsCrowded text.old.files.items text.old.from_c bytes.now ∥₁ }
+    ensures in_range { IsErrOf result EditFault.BadRange → ⊥ }
 {
     let edit = edit_between(text.session.bytes(), bytes);
     text.apply(&edit)?;

@@ -1,15 +1,20 @@
 //! A document that a client has open.
 
-ghost use Rattle.std.specs.Prelude.{◌≡◌, IfOk, OnOk, false, string_bytes};
+ghost use Rattle.std.specs.Prelude.{◌≡◌, ◌≤◌, ◌⊎◌, IfErr, IfOk, OnOk, false, length, map};
+ghost use Rattle.std.specs.Prelude.{string_bytes, true};
 ghost use Rattle.x_prelude.specs.Followed.{IsOver};
 ghost use Rattle.x_frames.specs.Answers.{IsToNotification};
+ghost use Rattle.x_frames.specs.Params.{replacement_of};
 ghost use Rattle.x_lsp.specs.Changes.{changed_by_all};
 ghost use Rattle.x_lsp.specs.Compiled.{IsCompiled};
 ghost use Rattle.x_args.specs.BaseNames.{base_of};
 ghost use Rattle.x_lsp.specs.DocumentNames.{name_of};
+ghost use Rattle.x_lsp.specs.Documents.{document_with};
 ghost use Rattle.x_lsp.specs.Grounds.{ground_of, ground_with};
+ghost use Rattle.x_lsp.specs.Noting.{Fit, IsChanged, IsNotCompiled, IsNotOpened, IsStopped, begin_whole};
 ghost use Rattle.x_positions.specs.Positions.{offset_of};
-ghost use Rattle.x_lsp.specs.Publishing.{Publishes, PublishesChange};
+ghost use Rattle.x_text.specs.Limits.{most_text};
+ghost use Rattle.x_lsp.specs.Publishing.{Publishes};
 ghost use Rattle.x_lsp.specs.Replies.{said_of};
 ghost use Rattle.x_positions.specs.Waymarks.{AreWaymarks};
 
@@ -57,6 +62,7 @@ pub(crate) struct OpenDocument {
     /// Whether the text is the client's, and is compiled: no change was refused, or not understood, since it
     /// was sent whole.
     pub(crate) in_step: bool,
+    ghost followed: { in_step ≡ true → IsCompiled files.items blanks shown compiled },
     ghost over: { ∥ IsOver compiled ∥₁ },
     ghost marked: { AreWaymarks shown marks },
     ghost counted: { marks.encoding ≡ client.encoding },
@@ -80,7 +86,9 @@ impl OpenDocument {
         ensures standing { IfOk result
             (λ d. ground_with d.files.items d.compiled.from_c d.blanks d.warns ≡ ground_of setting.now) }
         ensures text { IfOk result (λ d. d.shown ≡ text.now) }
-        ensures followed { IfOk result (λ d. IsCompiled d.files.items d.blanks d.shown d.compiled) }
+        ensures in_step { IfOk result (λ d. d.in_step ≡ true) }
+        ensures small { OnOk result (length text.now ≤ most_text) }
+        ensures fault { IfErr result (IsNotOpened (ground_of setting.now) text.now) }
         ensures base { IfOk result (λ d. d.compiled.session.base ≡ base_of (name_of uri.now)) }
     {
         let Ok(name) = name_of(alloc, uri) else {
@@ -113,19 +121,27 @@ impl OpenDocument {
         })
     }
 
-    /// Carries changes out, one after another, which leave this version, and publishes the faults of the text
-    /// then. At the first that is refused it stops: the changes before it are done, and the document is out
+    /// Carries changes out, one after another, which leave this version, or the old one where it is null, and
+    /// publishes the faults of the text then. At the first that is refused it stops, and the document is out
     /// of step. While it is, changes are passed over that do not begin with a whole text.
-    pub(crate) fn change(&mut self, alloc: Global, version: i64, changes: &[TextChange]) -> Reply
-        ensures says { PublishesChange self.old.in_step self.new.in_step self.old.client
-            (string_bytes self.old.uri) version
+    pub(crate) fn change(
+        &mut self,
+        alloc: Global,
+        version: Option<i64>,
+        changes: &[TextChange],
+    ) -> Reply
+        ensures changed { IsChanged
+            (document_with (string_bytes self.old.uri) self.old.client
             (ground_with self.old.files.items self.old.compiled.from_c self.old.blanks self.old.warns)
-            (changed_by_all self.old.client.encoding self.old.shown changes.now) (said_of result) }
+            self.old.version self.old.in_step self.old.shown)
+            version (map replacement_of changes.now) (said_of result)
+            (document_with (string_bytes self.new.uri) self.new.client
+            (ground_with self.new.files.items self.new.compiled.from_c self.new.blanks self.new.warns)
+            self.new.version self.new.in_step self.new.shown) }
         ensures note { IsToNotification (said_of result) }
     {
-        let is_sent_whole = changes.first().is_some_and(|change| change.range.is_none());
         let was_in_step = self.in_step;
-        if !was_in_step && !is_sent_whole {
+        if !was_in_step && !begin_whole(changes) {
             return Reply::Nothing;
         }
         self.in_step = false;
@@ -137,20 +153,31 @@ impl OpenDocument {
             };
         }
         self.in_step = true;
-        self.version = version;
+        if let Some(version) = version {
+            self.version = version;
+        }
         self.publish(alloc)
     }
 
     /// Carries changes out, one after another, up to the first that is refused, and compiles what they leave,
     /// also where one is refused.
     fn carry_out(&mut self, alloc: Global, changes: &[TextChange]) -> Result<(), EditFault>
-        ensures text { OnOk result
-            (self.new.shown ≡ changed_by_all self.old.client.encoding self.old.shown changes.now) }
+        requires { self.old.in_step ≡ false }
+        ensures text { OnOk result (self.new.shown
+            ≡ changed_by_all self.old.client.encoding self.old.shown (map replacement_of changes.now)) }
+        ensures fit { OnOk result
+            (Fit self.old.client.encoding self.old.shown (map replacement_of changes.now)) }
         ensures followed { OnOk result
             (IsCompiled self.new.files.items self.new.blanks self.new.shown self.new.compiled) }
-        ensures in_step { self.new.in_step ≡ self.old.in_step }
+        ensures fault { IfErr result (λ fault.
+            IsStopped self.old.client.encoding self.old.shown fault (map replacement_of changes.now)
+            ⊎ IsNotCompiled (ground_with self.old.files.items self.old.compiled.from_c self.old.blanks
+            self.old.warns)
+            (changed_by_all self.old.client.encoding self.old.shown (map replacement_of changes.now)) fault) }
+        ensures in_step { self.new.in_step ≡ false }
         ensures client { self.new.client ≡ self.old.client }
         ensures uri { self.new.uri ≡ self.old.uri }
+        ensures version { self.new.version ≡ self.old.version }
         ensures standing { ground_with self.new.files.items self.new.compiled.from_c self.new.blanks
             self.new.warns
             ≡ ground_with self.old.files.items self.old.compiled.from_c self.old.blanks self.old.warns }
@@ -167,8 +194,8 @@ impl OpenDocument {
         followed
     }
 
-    /// A change was refused, or not understood. Whether the document was in step.
-    pub(crate) fn falls_out_of_step(&mut self) -> bool
+    /// The document is out of step. Whether it was in step before.
+    pub(crate) fn lose(&mut self) -> bool
         ensures fell { result ≡ self.old.in_step }
         ensures others { self.new ≡ record self.old { in_step = false } }
     {
@@ -177,11 +204,12 @@ impl OpenDocument {
 
     /// What publishes what is wrong with the text, which is compiled.
     pub(crate) fn publish(&mut self, alloc: Global) -> Reply
-        requires { IsCompiled self.old.files.items self.old.blanks self.old.shown self.old.compiled }
+        requires { self.old.in_step ≡ true }
         ensures says { Publishes self.old.client (string_bytes self.old.uri) self.old.version
             (ground_with self.old.files.items self.old.compiled.from_c self.old.blanks self.old.warns)
             self.old.shown (said_of result) }
         ensures note { IsToNotification (said_of result) }
+        ensures same { self.new ≡ record self.old { marks = self.new.marks; messages = self.new.messages } }
     {
         let compiled = &self.compiled;
         let Ok(foreign) = compiled.foreign_names() else {
@@ -239,7 +267,10 @@ fn apply_changes(
 ) -> Result<(), EditFault>
     requires { AreWaymarks text.old marks.old }
     ensures text { OnOk result
-        (text.new ≡ changed_by_all marks.old.encoding text.old changes.now) }
+        (text.new ≡ changed_by_all marks.old.encoding text.old (map replacement_of changes.now)) }
+    ensures fit { OnOk result (Fit marks.old.encoding text.old (map replacement_of changes.now)) }
+    ensures fault { IfErr result
+        (λ fault. IsStopped marks.old.encoding text.old fault (map replacement_of changes.now)) }
     ensures marks { AreWaymarks text.new marks.new }
     ensures encoding { marks.new.encoding ≡ marks.old.encoding }
 {
@@ -247,4 +278,14 @@ fn apply_changes(
         apply_change(alloc, text, marks, change)?;
     }
     Ok(())
+}
+
+/// Whether changes begin with a text that takes the place of all.
+fn begin_whole(changes: &[TextChange]) -> bool
+    ensures { result ≡ begin_whole (map replacement_of changes.now) }
+{
+    match changes {
+        [first, ..] => first.range.is_none(),
+        [] => false,
+    }
 }

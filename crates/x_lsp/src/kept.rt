@@ -1,15 +1,16 @@
 //! What is kept to be said when memory runs out.
 
-ghost use Rattle.std.specs.Prelude.{◌≡◌, false, option_map};
+ghost use Rattle.std.specs.Prelude.{◌≡◌, MatchBool, None, false, option_map};
 ghost use Rattle.serde_json.specs.View.{view};
 ghost use Rattle.serde_json.specs.Written.{has_float};
-ghost use Rattle.x_frames.specs.Answers.{IsRefused, IsShown};
+ghost use Rattle.x_frames.specs.Answers.{IsRefused};
 ghost use Rattle.x_frames.specs.KeptSaid.{no_memory_answer, no_memory_note};
+ghost use Rattle.x_lsp.specs.Noting.{Shows, refused_text, wrong_note};
 ghost use Rattle.x_lsp.specs.Replies.{said_of};
 
 use serde_json::Value;
 use std::alloc::{AllocError, Global};
-use x_frames::{ErrorCode, refusal, shown_text};
+use x_frames::{ErrorCode, NoteKind, refusal, shown_text};
 use x_session::EditFault;
 
 /// What is said to a message.
@@ -69,7 +70,7 @@ pub(crate) fn refused(alloc: Global, id: &Value, code: ErrorCode) -> Reply
 
 /// The note that shows a text to the user.
 pub(crate) fn shown(alloc: Global, text: &str) -> Reply
-    ensures { IsShown (said_of result) }
+    ensures { Shows text.now (said_of result) }
 {
     match shown_text(alloc, text) {
         Ok(text) => Reply::Text(text),
@@ -77,9 +78,31 @@ pub(crate) fn shown(alloc: Global, text: &str) -> Reply
     }
 }
 
+/// The note that shows why documents fell out of step, if one did.
+pub(crate) fn shown_if(alloc: Global, fell: bool, why: &str) -> Reply
+    ensures { MatchBool fell (Shows why.now (said_of result)) (said_of result ≡ None) }
+{
+    if fell {
+        shown(alloc, why)
+    } else {
+        Reply::Nothing
+    }
+}
+
+/// Why a notification about a document is not understood.
+pub(crate) fn wrong_note(kind: NoteKind) -> &'static str
+    ensures { result.now ≡ wrong_note kind }
+{
+    match kind {
+        NoteKind::Open => "the parameters of didOpen are wrong",
+        NoteKind::Change => "the parameters of didChange are wrong",
+        NoteKind::Close => "the parameters of didClose are wrong",
+    }
+}
+
 /// The note that tells the user why a document is not what the client has.
 pub(crate) fn told(alloc: Global, fault: EditFault) -> Reply
-    ensures { IsShown (said_of result) }
+    ensures { Shows (refused_text fault) (said_of result) }
 {
     match fault {
         EditFault::BadRange => shown(

@@ -6,6 +6,7 @@ mod changes;
 mod compiled;
 mod diagnostics;
 mod document;
+mod documents;
 mod kept;
 mod names;
 mod running;

@@ -1,6 +1,7 @@
 //! A run of `rpcls` over a tap and sinks.
 
 ghost use Rattle.std.specs.Prelude.{◌≡◌, ◌≢◌};
+ghost use Rattle.x_lsp.specs.Grounds.{ground_of};
 ghost use Rattle.x_lsp.specs.Serving.{IsRun, TellsFault};
 
 use crate::serving::{ServeFault, serve};
@@ -22,8 +23,8 @@ pub fn serve_run<I: Tap, O: Outlet, E: Sink>(
     out: &mut O,
     err: &mut E,
 ) -> Status
-    ensures run { IsRun (I.state input.old) (I.state input.new) (O.state out.old) (O.state out.new)
-        (O.is_closed out.new) (E.state err.old) (E.state err.new) result }
+    ensures run { IsRun (ground_of setting) (I.state input.old) (I.state input.new) (O.state out.old)
+        (O.state out.new) (O.is_closed out.new) (E.state err.old) (E.state err.new) result }
     ensures quiet { result ≢ Status.Failed → err.new ≡ err.old }
 {
     match serve(alloc, hash_key, setting, input, out) {

@@ -1,39 +1,43 @@
 //! A server: what it says to each message, and the documents that are open.
 
-ghost use Rattle.std.specs.Prelude.{◌≡◌, ◌<◌, false, true, Err, IfErr, IfOk, IfSome, option_map, remove};
-ghost use Rattle.std.specs.Prelude.{vec_len};
-ghost use Rattle.serde_json.specs.Data.{null};
+ghost use Rattle.std.specs.Prelude.{◌≡◌, ◌≢◌, ◌⊎◌, Err, IfErr, IfOk, IfSome, List, MatchBool, None, ℕ};
+ghost use Rattle.std.specs.Prelude.{◌≤◌, OnOk, codes, false, length, option_map, true};
+ghost use Rattle.serde_json.specs.Find.{get};
 ghost use Rattle.serde_json.specs.View.{view};
 ghost use Rattle.serde_json.specs.Written.{has_float};
 ghost use Rattle.x_frames.specs.Answers.{IsRefused, IsSaid, IsSaidTo, IsToMethod, IsToNotification};
 ghost use Rattle.x_frames.specs.Answers.{IsToRequest};
-ghost use Rattle.x_lsp.specs.Documents.{IsNamedAt, without};
-ghost use Rattle.x_lsp.specs.Grounds.{ground_of};
-ghost use Rattle.x_frames.specs.Lives.{end_of, is_of_request, life_behind, life_noted};
+ghost use Rattle.x_frames.specs.Lives.{end_of, is_of_request, life_behind, life_noted, question_named};
 ghost use Rattle.x_frames.specs.Messages.{asked_by};
+ghost use Rattle.x_frames.specs.Notes.{noted_by};
 ghost use Rattle.x_frames.specs.declared.answers.ErrorCode.TheVariants.{ContentModified};
-ghost use Rattle.x_frames.specs.declared.life.Life.TheVariants.{Fresh};
-ghost use Rattle.x_lsp.specs.Publishing.{Publishes};
+ghost use Rattle.x_frames.specs.declared.life.Life.TheVariants.{Running};
+ghost use Rattle.x_frames.specs.declared.method.Method.TheVariants.{Ask, Initialize};
+ghost use Rattle.x_lsp.specs.Documents.{opened_as};
+ghost use Rattle.x_lsp.specs.Grounds.{ground_of};
+ghost use Rattle.x_lsp.specs.Noting.{IsNotOpened, Misses, Notes, Opens, OpensLost, Shows};
 ghost use Rattle.x_lsp.specs.Replies.{said_of};
+ghost use Rattle.x_lsp.specs.States.{GoesBy, GoesBySame, IsInitialized, IsRefusedOf, Makes, MakesOf};
+ghost use Rattle.x_lsp.specs.States.{asked_document, fresh, is_running, refusal_by, state_of};
+ghost use Rattle.x_lsp.specs.Views.{view_document, views};
+ghost use Rattle.x_text.specs.Limits.{most_text};
 
-use crate::diagnostics::closing_note;
 use crate::document::OpenDocument;
-use crate::kept::{KeptTexts, Reply, refused, shown, told};
-use crate::names::name_of;
+use crate::documents::Documents;
+use crate::kept::{KeptTexts, Reply, refused, shown, shown_if, told, wrong_note};
 use crate::setting::Setting;
 use serde_json::Value;
 use std::alloc::{AllocError, Global};
 use x_frames::{
-    ErrorCode, Incoming, Life, Method, Question, answer, capabilities_of, changed_in, classify,
-    opened_in, text_changes, uri_in,
+    DocumentNote, ErrorCode, Incoming, Life, Method, NoteKind, Question, answer, capabilities_of,
+    classify, document_note, uri_in,
 };
 use x_hash::HashKey;
 use x_positions::Encoding;
 use x_published::{Client, client_in};
 use x_questions::result_of;
-
-/// What the user is shown where a change is not understood.
-const WRONG_CHANGE: &str = "the parameters of didChange are wrong";
+use x_session::EditFault;
+use x_text::NoMemory;
 
 /// A server of a client.
 #[derive(Drop)]
@@ -44,7 +48,7 @@ pub struct Server<'k> {
     setting: Setting<'k>,
     life: Life,
     client: Client,
-    documents: Vec<OpenDocument>,
+    documents: Documents,
     kept: KeptTexts,
 }
 
@@ -57,7 +61,7 @@ impl<'k> Server<'k> {
         hash_key: HashKey,
         setting: Setting<'k>,
     ) -> Result<Server<'k>, AllocError>
-        ensures { IfOk result (λ server. server.life ≡ Fresh) }
+        ensures { IfOk result (λ server. state_of server ≡ fresh (ground_of setting)) }
     {
         Ok(Server {
             alloc,
@@ -68,7 +72,7 @@ impl<'k> Server<'k> {
                 encoding: Encoding::Utf16,
                 shows_related: false,
             },
-            documents: Vec::new(alloc),
+            documents: Documents::new(alloc),
             kept: KeptTexts::new(alloc)?,
         })
     }
@@ -89,65 +93,25 @@ impl<'k> Server<'k> {
 
     /// Does what a message asks for, and answers what is said to it.
     pub fn reply(&mut self, body: &[u8]) -> Reply
-        ensures { IsSaid self.old.life body.now (said_of result) self.new.life }
+        ensures said { IsSaid self.old.life body.now (said_of result) self.new.life }
+        ensures makes { Makes (state_of self.old) body.now (said_of result) (state_of self.new) }
     {
         let error = match Value::from_slice(self.alloc, body) {
             Ok(message) => return self.reply_to(&message),
             Err(error) => error,
         };
-        let _ = self.fall_out_of_step();
+        let _ = self.documents.lose_all();
         if error.is_memory() {
             return Reply::NoMemoryAnswer;
         }
         refused(self.alloc, &Value::Null, ErrorCode::ParseError)
     }
 
-    /// A message was not understood that may have been a change of any document. Whether one was in step.
-    fn fall_out_of_step(&mut self) -> bool
-        ensures life { self.new.life ≡ self.old.life }
-    {
-        let mut fell = false;
-        for document in &mut self.documents {
-            if document.falls_out_of_step() {
-                fell = true;
-            }
-        }
-        fell
-    }
-
-    /// A notification was not understood that concerns a document: the one that it names, or any. That is out
-    /// of step then, which the user is shown where it was in step.
-    fn miss(&mut self, params: Option<&Value>, what: &str) -> Reply
-        ensures note { IsToNotification (said_of result) }
-        ensures life { self.new.life ≡ self.old.life }
-    {
-        let fell = match uri_in(params) {
-            Some(uri) => self.lose(uri),
-            None => self.fall_out_of_step(),
-        };
-        if fell {
-            shown(self.alloc, what)
-        } else {
-            Reply::Nothing
-        }
-    }
-
-    /// A change of a document was not understood. Whether one was in step that is not now.
-    fn lose(&mut self, uri: &str) -> bool
-        ensures life { self.new.life ≡ self.old.life }
-    {
-        let Ok(name) = name_of(self.alloc, uri) else {
-            return self.fall_out_of_step();
-        };
-        match self.find(&name) {
-            Some(at) => self.documents[at].falls_out_of_step(),
-            None => false,
-        }
-    }
-
     /// Does what a message asks for, and answers what is said to it.
     fn reply_to(&mut self, message: &Value) -> Reply
-        ensures { IsSaidTo self.old.life (asked_by (view message.now)) (said_of result) self.new.life }
+        ensures said { IsSaidTo self.old.life (asked_by (view message.now)) (said_of result) self.new.life }
+        ensures makes { MakesOf (state_of self.old) (asked_by (view message.now))
+            (get (codes "params") (view message.now)) (said_of result) (state_of self.new) }
     {
         let params = message.get("params");
         match classify(message) {
@@ -161,7 +125,14 @@ impl<'k> Server<'k> {
     /// Answers a request, and does what it asks for where the server's life admits it.
     fn answer_request(&mut self, id: &Value, name: &str, params: Option<&Value>) -> Reply
         requires { has_float (view id.now) ≡ false }
-        ensures { IsToRequest self.old.life (view id.now) name.now (said_of result) self.new.life }
+        ensures said { IsToRequest self.old.life (view id.now) name.now (said_of result) self.new.life }
+        ensures documents { self.new.documents ≡ self.old.documents }
+        ensures goes { GoesBySame (state_of self.old) (state_of self.new)
+            ⊎ IsInitialized (state_of self.old) (option_map (λ p. view p.now) params.entry)
+            (state_of self.new) }
+        ensures refused { self.old.life ≡ Running → IsRefusedOf (view id.now) (question_named name.now)
+            (views self.old.documents.list.items) (option_map (λ p. view p.now) params.entry)
+            (said_of result) }
     {
         match self.life.admit(Method::named(name)) {
             Ok(method) => self.carry_out(id, method, params),
@@ -172,7 +143,15 @@ impl<'k> Server<'k> {
     /// Does what a request asks for, and answers it.
     fn carry_out(&mut self, id: &Value, method: Method, params: Option<&Value>) -> Reply
         requires { has_float (view id.now) ≡ false }
-        ensures { IsToMethod self.old.life (view id.now) method (said_of result) self.new.life }
+        ensures said { IsToMethod self.old.life (view id.now) method (said_of result) self.new.life }
+        ensures documents { self.new.documents ≡ self.old.documents }
+        ensures goes { GoesBySame (state_of self.old) (state_of self.new)
+            ⊎ ((method ≡ Initialize) × (self.new.life ≡ Running)
+            × GoesBy (option_map (λ p. view p.now) params.entry) (state_of self.old) (state_of self.new)) }
+        ensures refused { (question : Question) → method ≡ Ask question
+            → IfSome (refusal_by (asked_document (views self.old.documents.list.items)
+            (option_map (λ p. view p.now) params.entry)))
+            (λ code. IsRefused (view id.now) code (said_of result)) }
     {
         match self.result_of(method, params) {
             Ok(value) => match answer(self.alloc, id, value) {
@@ -190,6 +169,9 @@ impl<'k> Server<'k> {
     fn result_of(&self, method: Method, params: Option<&Value>) -> Result<Value, ErrorCode>
         ensures value { IfOk result (λ v. has_float (view v) ≡ false) }
         ensures code { IfErr result (λ code. is_of_request code ≡ true) }
+        ensures refused { (question : Question) → method ≡ Ask question
+            → IfSome (refusal_by (asked_document (views self.now.documents.list.items)
+            (option_map (λ p. view p.now) params.entry))) (λ code. result ≡ Err code) }
     {
         match method {
             Method::Initialize => match capabilities_of(self.alloc, client_in(params).encoding) {
@@ -205,15 +187,14 @@ impl<'k> Server<'k> {
     fn asked(&self, question: Question, params: Option<&Value>) -> Result<Value, ErrorCode>
         ensures value { IfOk result (λ v. has_float (view v) ≡ false) }
         ensures code { IfErr result (λ code. is_of_request code ≡ true) }
+        ensures refused { IfSome (refusal_by (asked_document (views self.now.documents.list.items)
+            (option_map (λ p. view p.now) params.entry))) (λ code. result ≡ Err code) }
     {
         let Some(uri) = uri_in(params) else {
             return Err(ErrorCode::InvalidParams);
         };
-        let Ok(name) = name_of(self.alloc, uri) else {
-            return Err(ErrorCode::InternalError);
-        };
-        match self.find(&name) {
-            Some(at) => self.asked_of(&self.documents[at], question, params),
+        match self.documents.get(uri) {
+            Some(document) => self.asked_of(document, question, params),
             None => Err(ErrorCode::InvalidParams),
         }
     }
@@ -244,7 +225,12 @@ impl<'k> Server<'k> {
 
     /// Goes on with the server's life behind a request that was answered.
     fn go_on(&mut self, method: Method, params: Option<&Value>)
-        ensures { self.new.life ≡ life_behind self.old.life method }
+        ensures life { self.new.life ≡ life_behind self.old.life method }
+        ensures documents { self.new.documents ≡ self.old.documents }
+        ensures same { method ≢ Initialize
+            → (self.new.client ≡ self.old.client) × (self.new.setting ≡ self.old.setting) }
+        ensures goes { method ≡ Initialize → GoesBy (option_map (λ p. view p.now) params.entry)
+            (state_of self.old) (state_of self.new) }
     {
         if method == Method::Initialize {
             self.client = client_in(params);
@@ -258,6 +244,13 @@ impl<'k> Server<'k> {
     fn take_note(&mut self, name: &str, params: Option<&Value>) -> Reply
         ensures note { IsToNotification (said_of result) }
         ensures life { self.new.life ≡ life_noted self.old.life name.now }
+        ensures client { self.new.client ≡ self.old.client }
+        ensures setting { self.new.setting ≡ self.old.setting }
+        ensures notes { MatchBool (is_running self.old.life)
+            (Notes self.old.client (ground_of self.old.setting) (views self.old.documents.list.items)
+            (noted_by name.now (option_map (λ p. view p.now) params.entry)) (said_of result)
+            (views self.new.documents.list.items))
+            ((said_of result ≡ None) × (self.new.documents ≡ self.old.documents)) }
     {
         let serves = self.life == Life::Running;
         self.life = self.life.noted(name);
@@ -270,103 +263,63 @@ impl<'k> Server<'k> {
 
     /// Does what a notification about a document asks for.
     fn note_document(&mut self, name: &str, params: Option<&Value>) -> Reply
+        ensures notes { Notes self.old.client (ground_of self.old.setting)
+            (views self.old.documents.list.items)
+            (noted_by name.now (option_map (λ p. view p.now) params.entry)) (said_of result)
+            (views self.new.documents.list.items) }
         ensures note { IsToNotification (said_of result) }
-        ensures life { self.new.life ≡ self.old.life }
+        ensures same { self.new ≡ record self.old { documents = self.new.documents } }
     {
-        if name == "textDocument/didOpen" {
-            self.open(params)
-        } else if name == "textDocument/didChange" {
-            self.change(params)
-        } else if name == "textDocument/didClose" {
-            self.close(params)
-        } else {
-            Reply::Nothing
-        }
-    }
-
-    /// The index of the document of this name.
-    fn find(&self, name: &[u8]) -> Option<usize>
-        ensures within { IfSome result (λ at. at < vec_len self.now.documents) }
-        ensures named { IfSome result (λ at. IsNamedAt self.now.documents.items at name.now) }
-    {
-        for at in 0..self.documents.len() {
-            if self.documents[at].name.as_slice() == name {
-                return Some(at);
-            }
-        }
-        None
-    }
-
-    /// Opens a document, in place of one of its name that is open.
-    fn open(&mut self, params: Option<&Value>) -> Reply
-        ensures note { IsToNotification (said_of result) }
-        ensures life { self.new.life ≡ self.old.life }
-    {
-        match opened_in(params) {
-            Some((uri, version, text)) => self.open_document(uri, version, text),
-            None => self.miss_opening(params),
-        }
-    }
-
-    /// A document could not be opened, since what is said of it is not understood.
-    fn miss_opening(&mut self, params: Option<&Value>) -> Reply
-        ensures note { IsToNotification (said_of result) }
-        ensures life { self.new.life ≡ self.old.life }
-    {
-        let wrong = "the parameters of didOpen are wrong";
-        match uri_in(params) {
-            Some(uri) => {
-                self.refuse_opening(uri);
-                shown(self.alloc, wrong)
-            }
-            None => self.miss(params, wrong),
-        }
-    }
-
-    /// A document that could not be opened is open out of step: with the text of the one of its name, or with
-    /// none.
-    fn refuse_opening(&mut self, uri: &str)
-        ensures life { self.new.life ≡ self.old.life }
-    {
-        let Ok(name) = name_of(self.alloc, uri) else {
-            let _ = self.fall_out_of_step();
-            return;
-        };
-        match self.find(&name) {
-            Some(at) => {
-                let _ = self.documents[at].falls_out_of_step();
-            }
-            None => self.open_empty(uri),
-        }
-    }
-
-    /// Opens a document out of step, without a text, where there is memory.
-    fn open_empty(&mut self, uri: &str)
-        ensures life { self.new.life ≡ self.old.life }
-    {
-        let opened = OpenDocument::open(
-            self.alloc,
-            self.hash_key,
-            self.client,
-            &self.setting,
-            uri,
-            0,
-            "",
-        );
-        if let Ok(mut document) = opened {
-            let _ = document.falls_out_of_step();
-            let _ = self.documents.push(document);
+        match document_note(name, params) {
+            DocumentNote::Open { uri, version, text } => self.open(uri, version, text),
+            DocumentNote::Change {
+                uri,
+                version,
+                changes,
+            } => self.documents.change(self.alloc, uri, version, changes),
+            DocumentNote::Close { uri } => self.documents.close(self.alloc, uri),
+            DocumentNote::Wrong { kind, uri } => self.miss(kind, uri),
+            DocumentNote::Other => Reply::Nothing,
         }
     }
 
     /// Opens a document, in place of one of its name that is open, and publishes its faults.
-    fn open_document(&mut self, uri: &str, version: i64, text: &str) -> Reply
-        ensures says { Publishes self.old.client uri.now version (ground_of self.old.setting) text.now
-            (said_of result) }
+    fn open(&mut self, uri: &str, version: i64, text: &str) -> Reply
+        ensures opens { Opens self.old.client (ground_of self.old.setting)
+            (views self.old.documents.list.items) uri.now version text.now (said_of result)
+            (views self.new.documents.list.items) }
         ensures note { IsToNotification (said_of result) }
-        ensures life { self.new.life ≡ self.old.life }
+        ensures same { self.new ≡ record self.old { documents = self.new.documents } }
     {
-        let mut opened = match OpenDocument::open(
+        match self.document(uri, version, text) {
+            Ok(document) => {
+                let mut document = document;
+                let reply = document.publish(self.alloc);
+                match self.documents.put(uri, document) {
+                    Ok(()) => reply,
+                    Err(NoMemory) => Reply::NoMemoryNote,
+                }
+            }
+            Err(fault) => {
+                let why = told(self.alloc, fault);
+                self.open_lost(uri, why)
+            }
+        }
+    }
+
+    /// A document of the server's client.
+    fn document(
+        &self,
+        uri: &str,
+        version: i64,
+        text: &str,
+    ) -> Result<OpenDocument, EditFault>
+        ensures opened { IfOk result (λ d. view_document d
+            ≡ opened_as self.now.client (ground_of self.now.setting) uri.now version text.now) }
+        ensures small { OnOk result (length text.now ≤ most_text) }
+        ensures fault { IfErr result (IsNotOpened (ground_of self.now.setting) text.now) }
+    {
+        OpenDocument::open(
             self.alloc,
             self.hash_key,
             self.client,
@@ -374,111 +327,50 @@ impl<'k> Server<'k> {
             uri,
             version,
             text,
-        ) {
-            Ok(opened) => opened,
-            Err(fault) => {
-                self.refuse_opening(uri);
-                return told(self.alloc, fault);
-            }
-        };
-        let reply = opened.publish(self.alloc);
-        if self.documents.reserve(1).is_err() {
-            let _ = self.lose(uri);
-            return Reply::NoMemoryNote;
-        }
-        forget(&mut self.documents, &opened.name);
-        if self.documents.push(opened).is_err() {
-            return Reply::NoMemoryNote;
-        }
-        reply
+        )
     }
 
-    /// Carries changes of a document out.
-    fn change(&mut self, params: Option<&Value>) -> Reply
-        ensures note { IsToNotification (said_of result) }
-        ensures life { self.new.life ≡ self.old.life }
+    /// A document that could not be opened is open out of step, with the text of the one of its name, or with
+    /// none. The user is shown why; where there is no memory to have it open, that.
+    fn open_lost(&mut self, uri: &str, why: Reply) -> Reply
+        ensures opens { (told : List ℕ) → Shows told (said_of why) → OpensLost self.old.client
+            (ground_of self.old.setting) (views self.old.documents.list.items) uri.now told
+            (said_of result) (views self.new.documents.list.items) }
+        ensures note { IsToNotification (said_of why) → IsToNotification (said_of result) }
+        ensures same { self.new ≡ record self.old { documents = self.new.documents } }
     {
-        let Some((uri, version, changes)) = changed_in(params) else {
-            return self.miss(params, WRONG_CHANGE);
-        };
-        let Ok(name) = name_of(self.alloc, uri) else {
-            let _ = self.fall_out_of_step();
+        if self.documents.lose(uri).is_some() {
+            return why;
+        }
+        let Ok(mut unread) = self.document(uri, 0, "") else {
             return Reply::NoMemoryNote;
         };
-        let Some(at) = self.find(&name) else {
-            return Reply::Nothing;
-        };
-        let document = &mut self.documents[at];
-        match text_changes(self.alloc, changes) {
-            Ok(Some(changes)) => {
-                let version = version.unwrap_or(document.version);
-                document.change(self.alloc, version, &changes)
-            }
-            Ok(None) => {
-                if document.falls_out_of_step() {
-                    shown(self.alloc, WRONG_CHANGE)
-                } else {
-                    Reply::Nothing
-                }
-            }
-            Err(_) => {
-                let _ = document.falls_out_of_step();
-                Reply::NoMemoryNote
-            }
+        let _ = unread.lose();
+        match self.documents.put(uri, unread) {
+            Ok(()) => why,
+            Err(NoMemory) => Reply::NoMemoryNote,
         }
     }
 
-    /// Closes a document, and publishes that nothing is wrong with it.
-    fn close(&mut self, params: Option<&Value>) -> Reply
+    /// A notification was not understood that concerns a document: the one that it names, or any.
+    fn miss(&mut self, kind: NoteKind, uri: Option<&str>) -> Reply
+        ensures misses { Misses kind (option_map (λ u. u.now) uri.entry) self.old.client
+            (ground_of self.old.setting) (views self.old.documents.list.items) (said_of result)
+            (views self.new.documents.list.items) }
         ensures note { IsToNotification (said_of result) }
-        ensures life { self.new.life ≡ self.old.life }
+        ensures same { self.new ≡ record self.old { documents = self.new.documents } }
     {
-        let Some(uri) = uri_in(params) else {
-            return self.miss(params, "the parameters of didClose are wrong");
-        };
-        let Ok(name) = name_of(self.alloc, uri) else {
-            return Reply::NoMemoryNote;
-        };
-        match self.find(&name) {
-            Some(at) => self.close_document(at, &name),
-            None => Reply::Nothing,
+        let why = wrong_note(kind);
+        match uri {
+            None => shown_if(self.alloc, self.documents.lose_all(), why),
+            Some(uri) if kind == NoteKind::Open => {
+                let shown = shown(self.alloc, why);
+                self.open_lost(uri, shown)
+            }
+            Some(uri) => {
+                let fell = self.documents.lose(uri).unwrap_or(false);
+                shown_if(self.alloc, fell, why)
+            }
         }
     }
-
-    /// Closes the document at an index, which has this name, and publishes, by its URI as it was opened, that
-    /// nothing is wrong with it.
-    fn close_document(&mut self, at: usize, name: &[u8]) -> Reply
-        requires { at < vec_len self.old.documents }
-        ensures note { IsToNotification (said_of result) }
-        ensures closed { self.new.documents.items ≡ without name.now self.old.documents.items }
-        ensures life { self.new.life ≡ self.old.life }
-    {
-        let said = closing_note(self.alloc, self.documents[at].uri.as_str());
-        forget(&mut self.documents, name);
-        match said {
-            Ok(text) => Reply::Text(text),
-            Err(_) => Reply::NoMemoryNote,
-        }
-    }
-}
-
-/// Takes the document of a name out.
-fn forget(documents: &mut Vec<OpenDocument>, name: &[u8])
-    ensures { documents.new.items ≡ without name.now documents.old.items }
-{
-    let mut at = documents.len();
-    'documents: while at > 0 {
-        at -= 1;
-        if documents[at].name.as_slice() == name {
-            remove_at(documents, at);
-        }
-    }
-}
-
-/// Takes the document at an index out.
-fn remove_at(documents: &mut Vec<OpenDocument>, at: usize)
-    requires { at < vec_len documents.old }
-    ensures { documents.new.items ≡ remove documents.old.items at }
-{
-    let _ = documents.remove(at);
 }

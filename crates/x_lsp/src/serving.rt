@@ -4,9 +4,10 @@ ghost use Rattle.std.specs.Prelude.{◌≡◌, MatchOption};
 ghost use Rattle.x_streams.specs.Writing.{Adds};
 ghost use Rattle.x_frames.specs.Answers.{framed, framed_if};
 ghost use Rattle.x_frames.specs.Framing.{FailsReading, ReadsFrame};
+ghost use Rattle.x_lsp.specs.Grounds.{ground_of};
 ghost use Rattle.x_lsp.specs.Replies.{said_of};
 ghost use Rattle.x_lsp.specs.Serving.{IsAnswered, NamesFault, Serves, stop_by};
-ghost use Rattle.x_frames.specs.declared.life.Life.TheVariants.{Fresh};
+ghost use Rattle.x_lsp.specs.States.{fresh, state_of};
 
 use crate::kept::Reply;
 use crate::server::Server;
@@ -51,7 +52,8 @@ pub fn serve<I: Tap, O: Sink>(
     out: &mut O,
 ) -> Result<bool, ServeFault>
     ensures serves { MatchOption (I.state input.old).bytes (Unit {0})
-        (λ bytes. Serves bytes (I.state input.new).bytes (O.state out.old) (O.state out.new) result) }
+        (λ bytes. Serves (ground_of setting) bytes (I.state input.new).bytes (O.state out.old)
+        (O.state out.new) result) }
     ensures fault { NamesFault result (I.state input.old).failed (I.state input.new).failed
         (O.state out.old).failed (O.state out.new).failed }
 {
@@ -71,9 +73,10 @@ fn converse<I: Tap, O: Sink>(
     input: &mut I,
     out: &mut O,
 ) -> Result<bool, ServeFault>
-    requires { server.old.life ≡ Fresh }
+    requires { state_of server.old ≡ fresh (ground_of server.old.setting) }
     ensures serves { MatchOption (I.state input.old).bytes (Unit {0})
-        (λ bytes. Serves bytes (I.state input.new).bytes (O.state out.old) (O.state out.new) result) }
+        (λ bytes. Serves (ground_of server.old.setting) bytes (I.state input.new).bytes
+        (O.state out.old) (O.state out.new) result) }
     ensures fault { NamesFault result (I.state input.old).failed (I.state input.new).failed
         (O.state out.old).failed (O.state out.new).failed }
 {
@@ -122,7 +125,7 @@ fn answer_next<I: Tap, O: Sink>(
 ) -> Result<FrameFound, FrameFault>
     ensures reads { ReadsFrame reader.old reader.new (I.state input.old).bytes (I.state input.new).bytes
         result }
-    ensures answers { IsAnswered result server.old.life server.new.life reader.new.body
+    ensures answers { IsAnswered result (state_of server.old) (state_of server.new) reader.new.body
         pen.old (O.state out.old) pen.new (O.state out.new) }
     ensures failed { FailsReading result (I.state input.old).failed (I.state input.new).failed }
 {

@@ -1,6 +1,11 @@
 //! How the documents of a client are compiled, and of what it is warned.
 
+ghost use Rattle.std.specs.Prelude.{◌≡◌, option_map};
+ghost use Rattle.serde_json.specs.View.{view};
+ghost use Rattle.x_lsp.specs.Grounds.{asked_on, blanks_of, flag_of, ground_of};
+
 use serde_json::Value;
+use x_frames::member;
 use x_prelude::FromC;
 
 /// How documents are compiled.
@@ -18,10 +23,11 @@ pub struct Setting<'k> {
 
 impl<'k> Setting<'k> {
     /// The setting that a client asks for as it initializes the server: what it does not name stays.
-    pub(crate) fn asked(self, params: Option<&Value>) -> Setting<'k> {
-        let Some(options) = options_in(params) else {
-            return self;
-        };
+    pub(crate) fn asked(self, params: Option<&Value>) -> Setting<'k>
+        ensures { ground_of result
+            ≡ asked_on (ground_of self.entry) (option_map (λ p. view p.now) params.entry) }
+    {
+        let options = member(params, "initializationOptions");
         Setting {
             files: self.files,
             from_c: FromC {
@@ -34,21 +40,23 @@ impl<'k> Setting<'k> {
     }
 }
 
-/// The options of this server among what a client says of itself.
-fn options_in(params: Option<&Value>) -> Option<&Value> {
-    params?.get("initializationOptions")
-}
-
 /// What an option is set to.
-fn flag(options: &Value, name: &str) -> Option<bool> {
-    options.get(name)?.as_bool()
+fn flag(options: Option<&Value>, name: &str) -> Option<bool>
+    ensures { result ≡ flag_of name.now (option_map (λ o. view o.now) options.entry) }
+{
+    member(options, name)?.as_bool()
 }
 
 /// Whether the lines of cpp are to be blanked.
-fn blanks(options: &Value) -> Option<bool> {
-    match options.get("directives")?.as_str()? {
-        "blank" => Some(true),
-        "fault" => Some(false),
-        _ => None,
+fn blanks(options: Option<&Value>) -> Option<bool>
+    ensures { result ≡ blanks_of (option_map (λ o. view o.now) options.entry) }
+{
+    let word = member(options, "directives")?.as_str()?;
+    if word == "blank" {
+        Some(true)
+    } else if word == "fault" {
+        Some(false)
+    } else {
+        None
     }
 }

@@ -162,6 +162,9 @@ impl FollowedText {
         ensures text { OnOk result (self.new.session.text ≡ bytes.now) }
         ensures before { OnOk result
             (IsBefore files.now self.old.from_c bytes.now self.new.session.known) }
+        ensures large { IsErrOf result TextFault.TooLarge
+            → (most_text < length bytes.now) ⊎ IsCrowded files.now self.old.from_c bytes.now }
+        ensures in_range { IsErrOf result TextFault.BadRange → ⊥ }
         ensures same { OnErr result (self.new ≡ self.old) }
     {
         *self = FollowedText::open(

@@ -1,3 +1,4 @@
+pub mod Clients
 pub mod Diagnostics
 pub mod FaultMessages
 pub mod OtherPlaces

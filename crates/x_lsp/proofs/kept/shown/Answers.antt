@@ -1,5 +1,5 @@
-use Rattle.x_lsp.proofs.SaidLemmas.{no_memory_shown}
+use Rattle.std.proofs.Common.{inr, refl}
 use Rattle.x_lsp.proofs.kept.shown.Goals as goal
 
 pub returns-in-Err : goal.returns-in-Err
-returns-in-Err c = no_memory_shown
+returns-in-Err c = inr refl

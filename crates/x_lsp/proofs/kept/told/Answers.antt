@@ -1,5 +1,5 @@
-use Rattle.x_lsp.proofs.SaidLemmas.{no_memory_shown}
+use Rattle.std.proofs.Common.{inr, refl}
 use Rattle.x_lsp.proofs.kept.told.Goals as goal
 
 pub returns-in-NoMemory : goal.returns-in-NoMemory
-returns-in-NoMemory c = no_memory_shown
+returns-in-NoMemory c = inr refl

@@ -6,12 +6,14 @@ use Rattle.x_frames.specs.Answers.{framed_if}
 use Rattle.x_frames.specs.Framing.{ReadsFrame}
 use Rattle.x_lsp.specs.Serving.{IsAnswered, Serves, stop_by}
 use Rattle.x_lsp.proofs.ServingLemmas.{at_start, behind, between, at_exit, at_end, at_fault, so_far, at_stop}
+use Rattle.x_lsp.specs.Grounds.{ground_of}
+use Rattle.x_lsp.specs.States.{state_of}
 use Rattle.x_lsp.proofs.serving.converse.Goals as goal
 
 pub loop-init : goal.loop-init
 loop-init g c = (
   works_at_start (g.O.Sink.state c.args.out.now) c.new-pen.result (g.I.Tap.state c.args.input.now).failed c.new-pen.ensures,
-  λ input e. at_start input (g.O.Sink.state c.args.out.now) c.args.server.now.life c.new-reader.result (g.I.Tap.state c.args.input.now).bytes c.new-pen.result c.requires c.new-reader.ensures e c.new-pen.ensures,
+  λ input e. at_start (ground_of c.args.server.now.setting) input (g.O.Sink.state c.args.out.now) (state_of c.args.server.now) c.new-reader.result (g.I.Tap.state c.args.input.now).bytes c.new-pen.result c.requires c.new-reader.ensures e c.new-pen.ensures,
 )
 
 pub loop-preserved : goal.loop-preserved
@@ -22,18 +24,18 @@ loop-preserved g c =
     let now'' = g.O.Sink.state c.flush.new.sink in
     let left = (g.I.Tap.state c.loop.input).bytes in
     let left' = (g.I.Tap.state c.answer_next.new.input).bytes in
-    let life = c.loop.server.life in
-    let life' = c.answer_next.new.server.life in
+    let state = (state_of c.loop.server) in
+    let state' = (state_of c.answer_next.new.server) in
     let new = c.answer_next.new.reader in
     let is = c.in-Ok-Message.field-0-is in
     let reads = subst (λ f. ReadsFrame c.loop.reader new left left' (Ok f)) is c.in-Ok-Message.ensures.reads in
-    let answered = subst (λ f. IsAnswered (Ok f) life life' new.body c.loop.pen now c.answer_next.new.pen now') is c.in-Ok-Message.ensures.answers in
+    let answered = subst (λ f. IsAnswered (Ok f) state state' new.body c.loop.pen now c.answer_next.new.pen now') is c.in-Ok-Message.ensures.answers in
     let goes = sym c.has_stopped.ensures ∙ c.if-has_stopped.false in (
       works_on start c.loop.pen c.answer_next.new.pen c.flush.new.self now now' now''
           (g.I.Tap.state c.args.input.now).failed (g.I.Tap.state c.loop.input).failed (g.I.Tap.state c.answer_next.new.input).failed c.loop.invariant.0 (framed_if answered.0, answered.2) c.flush.ensures.adds goes c.flush.ensures.working c.in-Ok-Message.ensures.failed,
       λ input e.
-          let done = behind input start life life' c.loop.reader new left left' c.loop.pen c.answer_next.new.pen c.flush.new.self now now' now'' (c.loop.invariant.1 input e) reads answered c.flush.ensures.adds in
-          between input start life' new left' c.flush.new.self now'' done goes (c.flush.ensures.empty goes) (sym c.end.ensures ∙ c.in_default.is),
+          let done = behind (ground_of c.args.server.now.setting) input start state state' c.loop.reader new left left' c.loop.pen c.answer_next.new.pen c.flush.new.self now now' now'' (c.loop.invariant.1 input e) reads answered c.flush.ensures.adds in
+          between (ground_of c.args.server.now.setting) input start state' new left' c.flush.new.self now'' done goes (c.flush.ensures.empty goes) (sym c.end.ensures ∙ c.in_default.is),
     )
 
 pub returns-in-Ok-End-clause-serves : goal.returns-in-Ok-End-clause-serves
@@ -43,13 +45,13 @@ returns-in-Ok-End-clause-serves g c = match_some (g.I.Tap.state c.args.input.now
     let now' = g.O.Sink.state c.answer_next.new.out in
     let left = (g.I.Tap.state c.loop.input).bytes in
     let left' = (g.I.Tap.state c.answer_next.new.input).bytes in
-    let life = c.loop.server.life in
+    let state = (state_of c.loop.server) in
     let new = c.answer_next.new.reader in
     let is = c.in-Ok-End.field-0-is in
     let reads = subst (λ f. ReadsFrame c.loop.reader new left left' (Ok f)) is c.in-Ok-End.ensures.reads in
-    let same = subst (λ f. IsAnswered (Ok f) life c.answer_next.new.server.life new.body c.loop.pen now c.answer_next.new.pen now') is c.in-Ok-End.ensures.answers in
-    subst (λ (n : Stream). Serves input left' start n (Ok false)) (sym same.2)
-    (at_end input start life c.loop.reader new left left' c.loop.pen now (c.loop.invariant.1 input e) reads))
+    let same = subst (λ f. IsAnswered (Ok f) state (state_of c.answer_next.new.server) new.body c.loop.pen now c.answer_next.new.pen now') is c.in-Ok-End.ensures.answers in
+    subst (λ (n : Stream). Serves (ground_of c.args.server.now.setting) input left' start n (Ok false)) (sym same.2)
+    (at_end (ground_of c.args.server.now.setting) input start state c.loop.reader new left left' c.loop.pen now (c.loop.invariant.1 input e) reads))
 
 pub returns-in-Err-clause-serves : goal.returns-in-Err-clause-serves
 returns-in-Err-clause-serves g c = match_some (g.I.Tap.state c.args.input.now).bytes _ (λ input e.
@@ -57,9 +59,9 @@ returns-in-Err-clause-serves g c = match_some (g.I.Tap.state c.args.input.now).b
     let left' = (g.I.Tap.state c.answer_next.new.input).bytes in
     let fault = c.in-Err.fault in
     let count_is = c.written.ensures ∙ ap (λ p. p.written) c.in-Err.ensures.answers.1 in
-    subst (λ r. Serves input left' start (g.O.Sink.state c.answer_next.new.out) (Err r)) (sym c.stop_by.ensures)
-    (subst (λ (n : Stream). Serves input left' start n (Err (stop_by fault c.written.result))) (sym c.in-Err.ensures.answers.2)
-    (at_fault fault input start c.loop.server.life c.loop.reader c.answer_next.new.reader (g.I.Tap.state c.loop.input).bytes left' c.loop.pen (g.O.Sink.state c.loop.out) c.written.result
+    subst (λ r. Serves (ground_of c.args.server.now.setting) input left' start (g.O.Sink.state c.answer_next.new.out) (Err r)) (sym c.stop_by.ensures)
+    (subst (λ (n : Stream). Serves (ground_of c.args.server.now.setting) input left' start n (Err (stop_by fault c.written.result))) (sym c.in-Err.ensures.answers.2)
+    (at_fault fault input start (state_of c.loop.server) c.loop.reader c.answer_next.new.reader (g.I.Tap.state c.loop.input).bytes left' c.loop.pen (g.O.Sink.state c.loop.out) c.written.result
     (c.loop.invariant.1 input e) c.in-Err.ensures.reads count_is)))
 
 pub returns-then-has_stopped-clause-serves : goal.returns-then-has_stopped-clause-serves
@@ -70,14 +72,14 @@ returns-then-has_stopped-clause-serves g c = match_some (g.I.Tap.state c.args.in
     let now'' = g.O.Sink.state c.flush.new.sink in
     let left = (g.I.Tap.state c.loop.input).bytes in
     let left' = (g.I.Tap.state c.answer_next.new.input).bytes in
-    let life = c.loop.server.life in
-    let life' = c.answer_next.new.server.life in
+    let state = (state_of c.loop.server) in
+    let state' = (state_of c.answer_next.new.server) in
     let new = c.answer_next.new.reader in
     let is = c.in-Ok-Message.field-0-is in
     let reads = subst (λ f. ReadsFrame c.loop.reader new left left' (Ok f)) is c.in-Ok-Message.ensures.reads in
-    let answered = subst (λ f. IsAnswered (Ok f) life life' new.body c.loop.pen now c.answer_next.new.pen now') is c.in-Ok-Message.ensures.answers in
-    let done = behind input start life life' c.loop.reader new left left' c.loop.pen c.answer_next.new.pen c.flush.new.self now now' now'' (c.loop.invariant.1 input e) reads answered c.flush.ensures.adds in
-    at_stop input start life' new left' c.flush.new.self now'' c.written-then-has_stopped.result done (sym c.has_stopped.ensures ∙ c.if-has_stopped.true) c.written-then-has_stopped.ensures)
+    let answered = subst (λ f. IsAnswered (Ok f) state state' new.body c.loop.pen now c.answer_next.new.pen now') is c.in-Ok-Message.ensures.answers in
+    let done = behind (ground_of c.args.server.now.setting) input start state state' c.loop.reader new left left' c.loop.pen c.answer_next.new.pen c.flush.new.self now now' now'' (c.loop.invariant.1 input e) reads answered c.flush.ensures.adds in
+    at_stop (ground_of c.args.server.now.setting) input start state' new left' c.flush.new.self now'' c.written-then-has_stopped.result done (sym c.has_stopped.ensures ∙ c.if-has_stopped.true) c.written-then-has_stopped.ensures)
 
 pub returns-in-Some-clause-serves : goal.returns-in-Some-clause-serves
 returns-in-Some-clause-serves g c = match_some (g.I.Tap.state c.args.input.now).bytes _ (λ input e.
@@ -87,16 +89,16 @@ returns-in-Some-clause-serves g c = match_some (g.I.Tap.state c.args.input.now).
     let now'' = g.O.Sink.state c.flush.new.sink in
     let left = (g.I.Tap.state c.loop.input).bytes in
     let left' = (g.I.Tap.state c.answer_next.new.input).bytes in
-    let life = c.loop.server.life in
-    let life' = c.answer_next.new.server.life in
+    let state = (state_of c.loop.server) in
+    let state' = (state_of c.answer_next.new.server) in
     let new = c.answer_next.new.reader in
     let is = c.in-Ok-Message.field-0-is in
     let reads = subst (λ f. ReadsFrame c.loop.reader new left left' (Ok f)) is c.in-Ok-Message.ensures.reads in
-    let answered = subst (λ f. IsAnswered (Ok f) life life' new.body c.loop.pen now c.answer_next.new.pen now') is c.in-Ok-Message.ensures.answers in
+    let answered = subst (λ f. IsAnswered (Ok f) state state' new.body c.loop.pen now c.answer_next.new.pen now') is c.in-Ok-Message.ensures.answers in
     let goes = sym c.has_stopped.ensures ∙ c.if-has_stopped.false in
-    let done = behind input start life life' c.loop.reader new left left' c.loop.pen c.answer_next.new.pen c.flush.new.self now now' now'' (c.loop.invariant.1 input e) reads answered c.flush.ensures.adds in
-    at_exit input start life' new left' c.flush.new.self now'' c.in-Some.asked done goes (c.flush.ensures.empty goes) (sym c.end.ensures ∙ c.in-Some.is))
+    let done = behind (ground_of c.args.server.now.setting) input start state state' c.loop.reader new left left' c.loop.pen c.answer_next.new.pen c.flush.new.self now now' now'' (c.loop.invariant.1 input e) reads answered c.flush.ensures.adds in
+    at_exit (ground_of c.args.server.now.setting) input start state' new left' c.flush.new.self now'' c.in-Some.asked done goes (c.flush.ensures.empty goes) (sym c.end.ensures ∙ c.in-Some.is))
 
 pub returns-clause-serves : goal.returns-clause-serves
 returns-clause-serves g c = match_some (g.I.Tap.state c.args.input.now).bytes _ (λ input e.
-    so_far input (g.O.Sink.state c.args.out.now) c.loop.server.life c.loop.reader (g.I.Tap.state c.loop.input).bytes c.loop.pen (g.O.Sink.state c.loop.out) c.written-2.result (c.loop.invariant.1 input e) c.written-2.ensures)
+    so_far (ground_of c.args.server.now.setting) input (g.O.Sink.state c.args.out.now) (state_of c.loop.server) c.loop.reader (g.I.Tap.state c.loop.input).bytes c.loop.pen (g.O.Sink.state c.loop.out) c.written-2.result (c.loop.invariant.1 input e) c.written-2.ensures)

@@ -10,13 +10,13 @@ use Rattle.x_session.specs.Session.{Compiles}
 use Rattle.x_published.specs.Diagnostics.{hints_of}
 use Rattle.x_lsp.specs.Publishing.{IsPublishedOf}
 use Rattle.x_lsp.specs.Grounds.{constants_of}
-use Rattle.x_lsp.proofs.SaidLemmas.{no_memory_is_note, no_memory_shown, published_note}
+use Rattle.x_lsp.proofs.SaidLemmas.{no_memory_is_note, published_note}
 use Rattle.x_lsp.proofs.document.OpenDocument.publish.Goals as goal
 
 pub returns-in-Ok-publish-clause-says : goal.returns-in-Ok-publish-clause-says
 returns-in-Ok-publish-clause-says c =
     let d = c.args.self.now in
-    let is = c.requires in
+    let is = d.followed c.requires in
     let said = c.in-Ok-publish.text.items in
     let known = d.compiled.session.known in
     let text = d.compiled.session.text in
@@ -66,13 +66,13 @@ returns-in-Ok-publish-clause-note c =
     c.in-Ok-publish.text.items of.6
 
 pub returns-in_default-clause-says : goal.returns-in_default-clause-says
-returns-in_default-clause-says c = inr no_memory_shown
+returns-in_default-clause-says c = inr refl
 
 pub returns-in_default-clause-note : goal.returns-in_default-clause-note
 returns-in_default-clause-note c = no_memory_is_note
 
 pub returns-clause-says : goal.returns-clause-says
-returns-clause-says c = inr no_memory_shown
+returns-clause-says c = inr refl
 
 pub returns-clause-note : goal.returns-clause-note
 returns-clause-note c = no_memory_is_note

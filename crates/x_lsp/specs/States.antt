@@ -1,0 +1,118 @@
+-- A server as a state, and what a message makes of it. It has a place in its life, a client, what it compiles
+-- documents on, and the documents that are open.
+use Rattle.std.specs.Prelude.{◌≡◌, ◌⊎◌, ℕ, Bool, true, false, MatchBool, List, [], map, codes, IsUtf8}
+use Rattle.std.specs.Prelude.{Option, None, Some, IfSome, option_and_then}
+use Rattle.serde_json.specs.Data.{Data}
+use Rattle.serde_json.specs.Find.{get}
+use Rattle.serde_json.specs.Read.{read}
+use Rattle.x_frames.specs.Answers.{IsRefused, IsSaid}
+use Rattle.x_frames.specs.KeptSaid.{no_memory_answer}
+use Rattle.x_frames.specs.Lives.{question_named}
+use Rattle.x_frames.specs.Messages.{Asked, asked_by, request, notification, response, invalid}
+use Rattle.x_frames.specs.Notes.{noted_by}
+use Rattle.x_frames.specs.Params.{uri_in}
+use Rattle.x_frames.specs.declared.answers.ErrorCode.{ErrorCode}
+use Rattle.x_frames.specs.declared.answers.ErrorCode.TheVariants.{ContentModified, InvalidParams}
+use Rattle.x_frames.specs.declared.life.Life.{Life}
+use Rattle.x_frames.specs.declared.life.Life.TheVariants.{Fresh, Running, ShutDown, Ended}
+use Rattle.x_frames.specs.declared.method.Question.{Question}
+use Rattle.x_positions.specs.declared.encoding.Encoding.TheVariants.{Utf16}
+use Rattle.x_published.specs.Clients.{client_of}
+use Rattle.x_published.specs.declared.client.Client.{Client}
+use Rattle.x_lsp.specs.Documents.{Document, document_of, lost}
+use Rattle.x_lsp.specs.Grounds.{Ground, asked_on, ground_of}
+use Rattle.x_lsp.specs.Noting.{Notes}
+use Rattle.x_lsp.specs.Views.{views}
+use Rattle.x_lsp.specs.declared.server.Server.{Server}
+
+pub record ServerState : Type 0 where
+  pub life : Life
+  pub client : Client
+  pub on : Ground
+  pub documents : List Document
+
+-- no client has initialized it
+abbrev pub fresh : Ground → ServerState
+fresh on = record {
+  life = Fresh;
+  client = record { encoding = Utf16; shows_related = false };
+  on = on;
+  documents = [];
+}
+
+abbrev pub is_running : Life → Bool
+is_running Fresh = false
+is_running Running = true
+is_running ShutDown = false
+is_running (Ended asked) = false
+
+-- it goes by the same client, and compiles on the same ground
+abbrev pub GoesBySame : ServerState → ServerState → Type 0
+GoesBySame s s' = (s'.client ≡ s.client) × (s'.on ≡ s.on)
+
+-- it goes by what a client says and asks for with these parameters
+abbrev pub GoesBy : (params : Option Data) → ServerState → ServerState → Type 0
+GoesBy params s s' = (s'.client ≡ client_of params) × (s'.on ≡ asked_on s.on params)
+
+-- a client initializes it with these parameters
+abbrev pub IsInitialized : ServerState → (params : Option Data) → ServerState → Type 0
+IsInitialized s params s' = (s.life ≡ Fresh) × (s'.life ≡ Running) × GoesBy params s s'
+
+-- why a question is refused that names no open document, or one that is out of step
+abbrev pub refusal_by_text : Option (List ℕ) → Option ErrorCode
+refusal_by_text None = Some ContentModified
+refusal_by_text (Some text) = None
+
+abbrev pub refusal_by : Option Document → Option ErrorCode
+refusal_by None = Some InvalidParams
+refusal_by (Some d) = refusal_by_text d.text
+
+abbrev pub asked_document : List Document → (params : Option Data) → Option Document
+asked_document docs params = option_and_then (λ uri. document_of uri docs) (uri_in params)
+
+-- a question is refused for that
+abbrev pub IsRefusedOf : Data → Option Question → List Document → (params : Option Data)
+    → (said : Option (List ℕ)) → Type 0
+IsRefusedOf id None docs params said = Unit {0}
+IsRefusedOf id (Some question) docs params said =
+    IfSome (refusal_by (asked_document docs params)) (λ code. IsRefused id code said)
+
+-- What a message makes of a server beside its life. A request leaves the documents as they are. A
+-- notification makes of them what it asks for, where the server runs.
+abbrev pub MakesOf : ServerState → Asked → (params : Option Data) → (said : Option (List ℕ)) → ServerState
+    → Type 0
+MakesOf s (request id name) params said s' =
+    (s'.documents ≡ s.documents) × (GoesBySame s s' ⊎ IsInitialized s params s')
+    × (s.life ≡ Running → IsRefusedOf id (question_named name) s.documents params said)
+MakesOf s (notification name) params said s' = GoesBySame s s' × MatchBool (is_running s.life)
+    (Notes s.client s.on s.documents (noted_by name params) said s'.documents)
+    ((said ≡ None) × (s'.documents ≡ s.documents))
+MakesOf s response params said s' = GoesBySame s s' × (s'.documents ≡ s.documents)
+MakesOf s invalid params said s' = GoesBySame s s' × (s'.documents ≡ s.documents)
+
+-- what was not read may have been a change of any document
+abbrev pub LosesAll : ServerState → ServerState → Type 0
+LosesAll s s' = GoesBySame s s' × (s'.documents ≡ map lost s.documents)
+
+-- What a body makes of a server beside its life. It is a message, or it is no JSON, or there was no memory to
+-- read it.
+pub data Makes (s : ServerState) (body : List ℕ) (said : Option (List ℕ)) (s' : ServerState) : Type 0 where
+  by_message : (message : Data) → read body ≡ Some message
+      → MakesOf s (asked_by message) (get (codes "params") message) said s' → Makes s body said s'
+  by_no_json : (IsUtf8 body → read body ≡ None) → LosesAll s s' → Makes s body said s'
+  by_no_memory : said ≡ Some no_memory_answer → LosesAll s s' → Makes s body said s'
+
+-- what is said to a body, and what it makes of a server
+pub record IsServed (s : ServerState) (body : List ℕ) (said : Option (List ℕ)) (s' : ServerState) : Type 0
+    where
+  pub is_said : IsSaid s.life body said s'.life
+  pub makes : Makes s body said s'
+
+-- the server of the program
+abbrev pub state_of : Server → ServerState
+state_of s = record {
+  life = s.life;
+  client = s.client;
+  on = ground_of s.setting;
+  documents = views s.documents.list.items;
+}
