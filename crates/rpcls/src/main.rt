@@ -4,7 +4,8 @@
 use rpcx::{KnownSources, usual_style};
 use std::process::ExitCode;
 use x_args::{RPCLS, Status, answer_words, draw_key, read_words, serve_args};
-use x_lsp::{Setting, serve_run};
+use x_documents::Setting;
+use x_lsp::serve_run;
 use x_prelude::FromC;
 use x_text::{In, Out};
 

@@ -15,7 +15,7 @@ use Rattle.x_lsp.specs.Serving.{AreServed, Exchange, HasFailed, HasServed, HasSt
 use Rattle.x_frames.specs.declared.framing.FrameFault.{FrameFault}
 use Rattle.x_frames.specs.declared.framing.FrameFault.TheVariants as frame
 use Rattle.x_frames.specs.declared.framing.FrameFound.TheVariants.{Message, End}
-use Rattle.x_lsp.specs.Grounds.{Ground}
+use Rattle.x_documents.specs.Grounds.{Ground}
 use Rattle.x_lsp.specs.States.{IsServed, ServerState, fresh}
 use Rattle.x_lsp.specs.declared.serving.ServeFault.TheVariants.{NoMemory, Write}
 

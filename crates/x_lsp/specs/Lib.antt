@@ -1,11 +1,2 @@
-pub mod Changes
-pub mod Compiled
-pub mod DocumentNames
-pub mod Documents
-pub mod Grounds
-pub mod Noting
-pub mod Publishing
-pub mod Replies
 pub mod Serving
 pub mod States
-pub mod Views

@@ -16,7 +16,7 @@ use Rattle.x_frames.specs.declared.framing.FrameFault.TheVariants as frame
 use Rattle.x_frames.specs.declared.framing.FrameFound.{FrameFound}
 use Rattle.x_frames.specs.declared.framing.FrameFound.TheVariants.{Message}
 use Rattle.x_frames.specs.declared.life.Life.{Life}
-use Rattle.x_lsp.specs.Grounds.{Ground}
+use Rattle.x_documents.specs.Grounds.{Ground}
 use Rattle.x_lsp.specs.States.{IsServed, ServerState, fresh}
 use Rattle.x_lsp.specs.declared.serving.ServeFault.{ServeFault}
 use Rattle.x_lsp.specs.declared.serving.ServeFault.TheVariants.{Read, Bad, Write, NoMemory}

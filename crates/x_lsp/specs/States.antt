@@ -19,10 +19,10 @@ use Rattle.x_frames.specs.declared.method.Question.{Question}
 use Rattle.x_positions.specs.declared.encoding.Encoding.TheVariants.{Utf16}
 use Rattle.x_published.specs.Clients.{client_of}
 use Rattle.x_published.specs.declared.client.Client.{Client}
-use Rattle.x_lsp.specs.Documents.{Document, document_of, lost}
-use Rattle.x_lsp.specs.Grounds.{Ground, asked_on, ground_of}
-use Rattle.x_lsp.specs.Noting.{Notes}
-use Rattle.x_lsp.specs.Views.{views}
+use Rattle.x_documents.specs.Documents.{Document, document_of, lost}
+use Rattle.x_documents.specs.Grounds.{Ground, asked_on, ground_of}
+use Rattle.x_documents.specs.Noting.{Notes}
+use Rattle.x_documents.specs.Views.{documents_of}
 use Rattle.x_lsp.specs.declared.server.Server.{Server}
 
 pub record ServerState : Type 0 where
@@ -114,5 +114,5 @@ state_of s = record {
   life = s.life;
   client = s.client;
   on = ground_of s.setting;
-  documents = views s.documents.list.items;
+  documents = documents_of s.documents;
 }

@@ -1,13 +1,13 @@
 //! A run of `rpcls` over a tap and sinks.
 
 ghost use Rattle.std.specs.Prelude.{◌≡◌, ◌≢◌};
-ghost use Rattle.x_lsp.specs.Grounds.{ground_of};
+ghost use Rattle.x_documents.specs.Grounds.{ground_of};
 ghost use Rattle.x_lsp.specs.Serving.{IsRun, TellsFault};
 
 use crate::serving::{ServeFault, serve};
-use crate::setting::Setting;
 use std::alloc::Global;
 use x_args::{Status, complain_of_output, tell_of_file};
+use x_documents::Setting;
 use x_hash::HashKey;
 use x_text::{Outlet, Sink, Tap};
 

@@ -1,50 +1,41 @@
 //! A server: what it says to each message, and the documents that are open.
 
-ghost use Rattle.std.specs.Prelude.{◌≡◌, ◌≢◌, ◌⊎◌, Err, IfErr, IfOk, IfSome, List, MatchBool, None, ℕ};
-ghost use Rattle.std.specs.Prelude.{◌≤◌, OnOk, codes, false, length, option_map, true};
+ghost use Rattle.std.specs.Prelude.{◌≡◌, ◌≢◌, ◌⊎◌, IfErr, IfOk, IfSome, MatchBool, None, codes, false};
+ghost use Rattle.std.specs.Prelude.{Err, option_map, true};
 ghost use Rattle.serde_json.specs.Find.{get};
 ghost use Rattle.serde_json.specs.View.{view};
 ghost use Rattle.serde_json.specs.Written.{has_float};
+ghost use Rattle.x_documents.specs.Grounds.{ground_of};
+ghost use Rattle.x_documents.specs.Noting.{Notes};
+ghost use Rattle.x_documents.specs.Replies.{said_of};
+ghost use Rattle.x_documents.specs.Views.{documents_of};
 ghost use Rattle.x_frames.specs.Answers.{IsRefused, IsSaid, IsSaidTo, IsToMethod, IsToNotification};
 ghost use Rattle.x_frames.specs.Answers.{IsToRequest};
 ghost use Rattle.x_frames.specs.Lives.{end_of, is_of_request, life_behind, life_noted, question_named};
 ghost use Rattle.x_frames.specs.Messages.{asked_by};
 ghost use Rattle.x_frames.specs.Notes.{noted_by};
-ghost use Rattle.x_frames.specs.declared.answers.ErrorCode.TheVariants.{ContentModified};
 ghost use Rattle.x_frames.specs.declared.life.Life.TheVariants.{Running};
 ghost use Rattle.x_frames.specs.declared.method.Method.TheVariants.{Ask, Initialize};
-ghost use Rattle.x_lsp.specs.Documents.{opened_as};
-ghost use Rattle.x_lsp.specs.Grounds.{ground_of};
-ghost use Rattle.x_lsp.specs.Noting.{IsNotOpened, Misses, Notes, Opens, OpensLost, Shows};
-ghost use Rattle.x_lsp.specs.Replies.{said_of};
 ghost use Rattle.x_lsp.specs.States.{GoesBy, GoesBySame, IsInitialized, IsRefusedOf, Makes, MakesOf};
 ghost use Rattle.x_lsp.specs.States.{asked_document, fresh, is_running, refusal_by, state_of};
-ghost use Rattle.x_lsp.specs.Views.{view_document, views};
-ghost use Rattle.x_text.specs.Limits.{most_text};
 
-use crate::document::OpenDocument;
-use crate::documents::Documents;
-use crate::kept::{KeptTexts, Reply, refused, shown, shown_if, told, wrong_note};
-use crate::setting::Setting;
 use serde_json::Value;
 use std::alloc::{AllocError, Global};
+use x_contents::answer_about_document;
+use x_documents::{Documents, KeptTexts, OpenDocument, Reply, Setting, refused};
 use x_frames::{
-    DocumentNote, ErrorCode, Incoming, Life, Method, NoteKind, Question, answer, capabilities_of,
-    classify, document_note, uri_in,
+    ErrorCode, Incoming, Life, Method, Question, answer, capabilities_of, classify, document_note,
+    uri_in,
 };
 use x_hash::HashKey;
 use x_positions::Encoding;
 use x_published::{Client, client_in};
-use x_questions::result_of;
-use x_session::EditFault;
-use x_text::NoMemory;
+use x_questions::{OpenText, answer_about_place};
 
 /// A server of a client.
 #[derive(Drop)]
 pub struct Server<'k> {
     alloc: Global,
-    /// What tables of the names of documents hash by.
-    hash_key: HashKey,
     setting: Setting<'k>,
     life: Life,
     client: Client,
@@ -65,14 +56,13 @@ impl<'k> Server<'k> {
     {
         Ok(Server {
             alloc,
-            hash_key,
             setting,
             life: Life::Fresh,
             client: Client {
                 encoding: Encoding::Utf16,
                 shows_related: false,
             },
-            documents: Documents::new(alloc),
+            documents: Documents::new(alloc, hash_key),
             kept: KeptTexts::new(alloc)?,
         })
     }
@@ -131,7 +121,7 @@ impl<'k> Server<'k> {
             ⊎ IsInitialized (state_of self.old) (option_map (λ p. view p.now) params.entry)
             (state_of self.new) }
         ensures refused { self.old.life ≡ Running → IsRefusedOf (view id.now) (question_named name.now)
-            (views self.old.documents.list.items) (option_map (λ p. view p.now) params.entry)
+            (documents_of self.old.documents) (option_map (λ p. view p.now) params.entry)
             (said_of result) }
     {
         match self.life.admit(Method::named(name)) {
@@ -149,7 +139,7 @@ impl<'k> Server<'k> {
             ⊎ ((method ≡ Initialize) × (self.new.life ≡ Running)
             × GoesBy (option_map (λ p. view p.now) params.entry) (state_of self.old) (state_of self.new)) }
         ensures refused { (question : Question) → method ≡ Ask question
-            → IfSome (refusal_by (asked_document (views self.old.documents.list.items)
+            → IfSome (refusal_by (asked_document (documents_of self.old.documents)
             (option_map (λ p. view p.now) params.entry)))
             (λ code. IsRefused (view id.now) code (said_of result)) }
     {
@@ -170,7 +160,7 @@ impl<'k> Server<'k> {
         ensures value { IfOk result (λ v. has_float (view v) ≡ false) }
         ensures code { IfErr result (λ code. is_of_request code ≡ true) }
         ensures refused { (question : Question) → method ≡ Ask question
-            → IfSome (refusal_by (asked_document (views self.now.documents.list.items)
+            → IfSome (refusal_by (asked_document (documents_of self.now.documents)
             (option_map (λ p. view p.now) params.entry))) (λ code. result ≡ Err code) }
     {
         match method {
@@ -187,7 +177,7 @@ impl<'k> Server<'k> {
     fn asked(&self, question: Question, params: Option<&Value>) -> Result<Value, ErrorCode>
         ensures value { IfOk result (λ v. has_float (view v) ≡ false) }
         ensures code { IfErr result (λ code. is_of_request code ≡ true) }
-        ensures refused { IfSome (refusal_by (asked_document (views self.now.documents.list.items)
+        ensures refused { IfSome (refusal_by (asked_document (documents_of self.now.documents)
             (option_map (λ p. view p.now) params.entry))) (λ code. result ≡ Err code) }
     {
         let Some(uri) = uri_in(params) else {
@@ -208,19 +198,36 @@ impl<'k> Server<'k> {
     ) -> Result<Value, ErrorCode>
         ensures value { IfOk result (λ v. has_float (view v) ≡ false) }
         ensures code { IfErr result (λ code. is_of_request code ≡ true) }
-        ensures out_of_step { document.now.in_step ≡ false → result ≡ Err ContentModified }
+        ensures out_of_step { document.now.in_step ≡ false → result ≡ Err ErrorCode.ContentModified }
     {
-        if !document.in_step {
+        if !document.is_in_step() {
             return Err(ErrorCode::ContentModified);
         }
-        result_of(
-            self.alloc,
-            self.client.encoding,
-            &document.open_text(),
-            document.place_asked(params),
-            question,
-            params,
-        )
+        match question {
+            Question::OfDocument(question) => answer_about_document(
+                self.alloc,
+                self.client.encoding,
+                document.shown(),
+                &document.compiled().session,
+                question,
+                params,
+            ),
+            Question::OfPosition(question) => {
+                let text = OpenText {
+                    uri: document.uri(),
+                    shown: document.shown(),
+                    compiled: document.compiled(),
+                };
+                answer_about_place(
+                    self.alloc,
+                    self.client.encoding,
+                    &text,
+                    document.place_asked(params),
+                    question,
+                    params,
+                )
+            }
+        }
     }
 
     /// Goes on with the server's life behind a request that was answered.
@@ -247,130 +254,18 @@ impl<'k> Server<'k> {
         ensures client { self.new.client ≡ self.old.client }
         ensures setting { self.new.setting ≡ self.old.setting }
         ensures notes { MatchBool (is_running self.old.life)
-            (Notes self.old.client (ground_of self.old.setting) (views self.old.documents.list.items)
+            (Notes self.old.client (ground_of self.old.setting) (documents_of self.old.documents)
             (noted_by name.now (option_map (λ p. view p.now) params.entry)) (said_of result)
-            (views self.new.documents.list.items))
+            (documents_of self.new.documents))
             ((said_of result ≡ None) × (self.new.documents ≡ self.old.documents)) }
     {
         let serves = self.life == Life::Running;
         self.life = self.life.noted(name);
         if serves {
-            self.note_document(name, params)
+            let note = document_note(name, params);
+            self.documents.note(self.client, &self.setting, note)
         } else {
             Reply::Nothing
-        }
-    }
-
-    /// Does what a notification about a document asks for.
-    fn note_document(&mut self, name: &str, params: Option<&Value>) -> Reply
-        ensures notes { Notes self.old.client (ground_of self.old.setting)
-            (views self.old.documents.list.items)
-            (noted_by name.now (option_map (λ p. view p.now) params.entry)) (said_of result)
-            (views self.new.documents.list.items) }
-        ensures note { IsToNotification (said_of result) }
-        ensures same { self.new ≡ record self.old { documents = self.new.documents } }
-    {
-        match document_note(name, params) {
-            DocumentNote::Open { uri, version, text } => self.open(uri, version, text),
-            DocumentNote::Change {
-                uri,
-                version,
-                changes,
-            } => self.documents.change(self.alloc, uri, version, changes),
-            DocumentNote::Close { uri } => self.documents.close(self.alloc, uri),
-            DocumentNote::Wrong { kind, uri } => self.miss(kind, uri),
-            DocumentNote::Other => Reply::Nothing,
-        }
-    }
-
-    /// Opens a document, in place of one of its name that is open, and publishes its faults.
-    fn open(&mut self, uri: &str, version: i64, text: &str) -> Reply
-        ensures opens { Opens self.old.client (ground_of self.old.setting)
-            (views self.old.documents.list.items) uri.now version text.now (said_of result)
-            (views self.new.documents.list.items) }
-        ensures note { IsToNotification (said_of result) }
-        ensures same { self.new ≡ record self.old { documents = self.new.documents } }
-    {
-        match self.document(uri, version, text) {
-            Ok(document) => {
-                let mut document = document;
-                let reply = document.publish(self.alloc);
-                match self.documents.put(uri, document) {
-                    Ok(()) => reply,
-                    Err(NoMemory) => Reply::NoMemoryNote,
-                }
-            }
-            Err(fault) => {
-                let why = told(self.alloc, fault);
-                self.open_lost(uri, why)
-            }
-        }
-    }
-
-    /// A document of the server's client.
-    fn document(
-        &self,
-        uri: &str,
-        version: i64,
-        text: &str,
-    ) -> Result<OpenDocument, EditFault>
-        ensures opened { IfOk result (λ d. view_document d
-            ≡ opened_as self.now.client (ground_of self.now.setting) uri.now version text.now) }
-        ensures small { OnOk result (length text.now ≤ most_text) }
-        ensures fault { IfErr result (IsNotOpened (ground_of self.now.setting) text.now) }
-    {
-        OpenDocument::open(
-            self.alloc,
-            self.hash_key,
-            self.client,
-            &self.setting,
-            uri,
-            version,
-            text,
-        )
-    }
-
-    /// A document that could not be opened is open out of step, with the text of the one of its name, or with
-    /// none. The user is shown why; where there is no memory to have it open, that.
-    fn open_lost(&mut self, uri: &str, why: Reply) -> Reply
-        ensures opens { (told : List ℕ) → Shows told (said_of why) → OpensLost self.old.client
-            (ground_of self.old.setting) (views self.old.documents.list.items) uri.now told
-            (said_of result) (views self.new.documents.list.items) }
-        ensures note { IsToNotification (said_of why) → IsToNotification (said_of result) }
-        ensures same { self.new ≡ record self.old { documents = self.new.documents } }
-    {
-        if self.documents.lose(uri).is_some() {
-            return why;
-        }
-        let Ok(mut unread) = self.document(uri, 0, "") else {
-            return Reply::NoMemoryNote;
-        };
-        let _ = unread.lose();
-        match self.documents.put(uri, unread) {
-            Ok(()) => why,
-            Err(NoMemory) => Reply::NoMemoryNote,
-        }
-    }
-
-    /// A notification was not understood that concerns a document: the one that it names, or any.
-    fn miss(&mut self, kind: NoteKind, uri: Option<&str>) -> Reply
-        ensures misses { Misses kind (option_map (λ u. u.now) uri.entry) self.old.client
-            (ground_of self.old.setting) (views self.old.documents.list.items) (said_of result)
-            (views self.new.documents.list.items) }
-        ensures note { IsToNotification (said_of result) }
-        ensures same { self.new ≡ record self.old { documents = self.new.documents } }
-    {
-        let why = wrong_note(kind);
-        match uri {
-            None => shown_if(self.alloc, self.documents.lose_all(), why),
-            Some(uri) if kind == NoteKind::Open => {
-                let shown = shown(self.alloc, why);
-                self.open_lost(uri, shown)
-            }
-            Some(uri) => {
-                let fell = self.documents.lose(uri).unwrap_or(false);
-                shown_if(self.alloc, fell, why)
-            }
         }
     }
 }

@@ -1,7 +1,7 @@
 //! A change of a text, and what is published of it, outside of a server.
 use std::test::Fail;
+use x_documents::{Hints, apply_change, publish};
 use x_frames::TextChange;
-use x_lsp::{Hints, apply_change, publish};
 use x_positions::{Encoding, Waymarks};
 use x_published::{Client, FaultMessages};
 use x_session::Session;

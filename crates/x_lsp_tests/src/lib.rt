@@ -1,4 +1,4 @@
-//! Tests of `x_lsp` by its public calls: what no contract says and no program shows.
+//! Tests of `x_documents` and `x_lsp` by their public calls: what no contract says and no program shows.
 #![tactic(auto)]
 
 #[cfg(test)]

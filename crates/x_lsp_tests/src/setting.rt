@@ -1,5 +1,5 @@
 //! How the servers of the tests compile documents.
-use x_lsp::Setting;
+use x_documents::Setting;
 use x_prelude::FromC;
 
 /// Types of C are known, lines of cpp blanked, and names that clash in C published.

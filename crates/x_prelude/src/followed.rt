@@ -167,15 +167,21 @@ impl FollowedText {
         ensures in_range { IsErrOf result TextFault.BadRange → ⊥ }
         ensures same { OnErr result (self.new ≡ self.old) }
     {
-        *self = FollowedText::open(
+        let opened = FollowedText::open(
             self.alloc,
             files,
             self.from_c,
             self.hash_key,
             &self.base,
             bytes,
-        )?;
-        Ok(())
+        );
+        match opened {
+            Ok(text) => {
+                *self = text;
+                Ok(())
+            }
+            Err(fault) => Err(fault),
+        }
     }
 
     /// The names that the text takes from C, each where it uses it first, in the order of these places; types

@@ -1,4 +1,4 @@
-//! What is answered to questions about a document.
+//! What is answered to questions about a place in a document.
 
 ghost use Rattle.std.specs.Prelude.{◌≡◌, false, true, IfErr, IfOk};
 ghost use Rattle.serde_json.specs.View.{view};
@@ -6,73 +6,25 @@ ghost use Rattle.serde_json.specs.Written.{has_float};
 ghost use Rattle.x_frames.specs.Lives.{is_of_request};
 
 use crate::completion::completion;
-use crate::folds::folds;
-use crate::generated::text;
 use crate::hover::hover;
 use crate::locations::{Told, place_value, places_value, range_of};
 use crate::open_text::OpenText;
-use crate::params::{declared_in, new_name_in, which_in};
+use crate::params::{declared_in, new_name_in};
 use crate::renaming::{rename, renamed_range};
-use crate::symbols::symbols;
-use crate::token_kinds::token_kinds;
 use serde_json::Value;
 use std::alloc::Global;
-use x_frames::{DocumentQuestion, ErrorCode, PositionQuestion, Question};
+use x_frames::{ErrorCode, PositionQuestion};
 use x_lex::Token;
 use x_lookups::{definition_at, references_at};
 use x_positions::{Encoding, Places};
 use x_text::NoMemory;
 
-/// The result of a question about a document, at the place that its parameters name, if they name one.
+/// The result of a question about a place in a document, if its parameters name one.
 ///
 /// # Errors
 ///
 /// What the request is refused for: its parameters, a new name, or want of memory.
-pub fn result_of(
-    alloc: Global,
-    encoding: Encoding,
-    document: &OpenText,
-    place: Option<usize>,
-    question: Question,
-    params: Option<&Value>,
-) -> Result<Value, ErrorCode>
-    ensures value { IfOk result (λ v. has_float (view v) ≡ false) }
-    ensures code { IfErr result (λ code. is_of_request code ≡ true) }
-{
-    match question {
-        Question::OfDocument(question) => {
-            result_of_document(alloc, encoding, document, question, params)
-        }
-        Question::OfPosition(question) => {
-            result_of_position(alloc, encoding, document, place, question, params)
-        }
-    }
-}
-
-/// The result of a question about a whole document.
-fn result_of_document(
-    alloc: Global,
-    encoding: Encoding,
-    document: &OpenText,
-    question: DocumentQuestion,
-    params: Option<&Value>,
-) -> Result<Value, ErrorCode>
-    ensures value { IfOk result (λ v. has_float (view v) ≡ false) }
-    ensures code { IfErr result (λ code. is_of_request code ≡ true) }
-{
-    match question {
-        DocumentQuestion::Symbols => found(symbols(alloc, encoding, document)),
-        DocumentQuestion::Folds => found(folds(alloc, document)),
-        DocumentQuestion::Tokens => found(token_kinds(alloc, encoding, document)),
-        DocumentQuestion::Text => match which_in(params) {
-            Some(wanted) => found(text(alloc, document, wanted)),
-            None => Err(ErrorCode::InvalidParams),
-        },
-    }
-}
-
-/// The result of a question about a position in a document.
-fn result_of_position(
+pub fn answer_about_place(
     alloc: Global,
     encoding: Encoding,
     document: &OpenText,

@@ -6,7 +6,7 @@ use Rattle.x_frames.specs.Answers.{framed_if}
 use Rattle.x_frames.specs.Framing.{ReadsFrame}
 use Rattle.x_lsp.specs.Serving.{IsAnswered, Serves, stop_by}
 use Rattle.x_lsp.proofs.ServingLemmas.{at_start, behind, between, at_exit, at_end, at_fault, so_far, at_stop}
-use Rattle.x_lsp.specs.Grounds.{ground_of}
+use Rattle.x_documents.specs.Grounds.{ground_of}
 use Rattle.x_lsp.specs.States.{state_of}
 use Rattle.x_lsp.proofs.serving.converse.Goals as goal
 

@@ -1,7 +1,7 @@
 use Rattle.std.proofs.Common.{◌≡◌, List, ℕ, Some}
 use Rattle.x_session.proofs.Working.{IsWorking}
 use Rattle.x_lsp.proofs.ServingLemmas.{IsBetween}
-use Rattle.x_lsp.specs.Grounds.{ground_of}
+use Rattle.x_documents.specs.Grounds.{ground_of}
 use Rattle.x_lsp.specs.States.{state_of}
 use Rattle.x_lsp.proofs.serving.converse.Given as goal
 

@@ -1,6 +1,6 @@
 use Rattle.x_text.proofs.Cases.{match_some}
 use Rattle.x_lsp.proofs.ServingLemmas.{unserved}
-use Rattle.x_lsp.specs.Grounds.{ground_of}
+use Rattle.x_documents.specs.Grounds.{ground_of}
 use Rattle.x_lsp.proofs.serving.serve.Goals as goal
 
 pub returns-in-Err-clause-serves : goal.returns-in-Err-clause-serves

@@ -3,7 +3,7 @@ use Rattle.std.specs.Prelude.{MatchResult}
 use Rattle.serde_json.specs.View.{view}
 use Rattle.x_frames.specs.Answers.{IsRefused, IsToMethod}
 use Rattle.x_frames.specs.Lives.{admitted, method_named}
-use Rattle.x_lsp.specs.Replies.{said_of}
+use Rattle.x_documents.specs.Replies.{said_of}
 use Rattle.x_lsp.proofs.server.Server.answer_request.Goals as goal
 
 pub returns-in-Ok : goal.returns-in-Ok

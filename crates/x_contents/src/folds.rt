@@ -1,0 +1,138 @@
+//! Which lines of a document can be folded away.
+
+ghost use Rattle.std.specs.Prelude.{◌≡◌, false, IfOk};
+ghost use Rattle.serde_json.specs.View.{view};
+ghost use Rattle.serde_json.specs.Written.{has_float};
+
+use serde_json::{Value, json};
+use std::alloc::Global;
+use x_frames::PlainList;
+use x_lex::{Kind, Mark, Token};
+use x_positions::{Encoding, Places};
+use x_session::Session;
+use x_text::{NoMemory, Source};
+
+/// A `FoldingRange` of each part of a document that has more than one line.
+pub(crate) fn folds(alloc: Global, shown: &Source, session: &Session) -> Result<Value, NoMemory>
+    ensures { IfOk result (λ v. has_float (view v) ≡ false) }
+{
+    let mut reader = FoldReader {
+        alloc,
+        folds: PlainList::new(alloc),
+        places: Places::of(Encoding::Utf8, shown.bytes()),
+        braces: Vec::new(alloc),
+        passed_on: None,
+    };
+    for token in session.tokens() {
+        reader.read(&token)?;
+    }
+    reader.end_passed_on()?;
+    Ok(reader.folds.into_value())
+}
+
+/// Lines from one to another.
+#[derive(Clone, Copy, Debug)]
+struct Lines {
+    first: usize,
+    last: usize,
+}
+
+/// Finds what can be folded away, token by token.
+#[derive(Drop)]
+struct FoldReader<'s> {
+    alloc: Global,
+    folds: PlainList,
+    places: Places<'s>,
+    /// The lines of the braces that are open.
+    braces: Vec<usize>,
+    /// The lines behind one another so far that begin with `%`.
+    passed_on: Option<Lines>,
+}
+
+impl FoldReader<'_> {
+    fn read(&mut self, token: &Token) -> Result<(), NoMemory> {
+        let lines = Lines {
+            first: self.places.position(token.start).line,
+            last: self.places.position(token.end).line,
+        };
+        match token.kind {
+            Kind::Space => return Ok(()),
+            Kind::Percent => return self.pass_on(lines),
+            _ => self.end_passed_on()?,
+        }
+        match token.kind {
+            Kind::Comment | Kind::OpenComment => self.add(lines, true),
+            Kind::Punct => self.read_brace(lines.first, Mark::of(token.text)),
+            _ => Ok(()),
+        }
+    }
+
+    /// Takes note of a line that begins with `%`.
+    fn pass_on(&mut self, lines: Lines) -> Result<(), NoMemory> {
+        match self.passed_on {
+            Some(before) if before.last.saturating_add(1) == lines.first => {
+                self.passed_on = Some(Lines {
+                    first: before.first,
+                    last: lines.last,
+                });
+            }
+            _ => {
+                self.end_passed_on()?;
+                self.passed_on = Some(lines);
+            }
+        }
+        Ok(())
+    }
+
+    /// No further line goes on with those that begin with `%`.
+    fn end_passed_on(&mut self) -> Result<(), NoMemory> {
+        if let Some(lines) = self.passed_on {
+            self.add(lines, false)?;
+        }
+        self.passed_on = None;
+        Ok(())
+    }
+
+    fn read_brace(&mut self, line: usize, mark: Option<Mark>) -> Result<(), NoMemory> {
+        match mark {
+            Some(Mark::OpenBrace) => self.braces.push(line)?,
+            Some(Mark::CloseBrace) => {
+                if let Some(first) = self.braces.pop() {
+                    self.add(inside(first, line), false)?;
+                }
+            }
+            _ => {}
+        }
+        Ok(())
+    }
+
+    /// Adds a fold of lines, if there is more than one.
+    fn add(&mut self, lines: Lines, comment: bool) -> Result<(), NoMemory> {
+        if lines.first < lines.last {
+            let fold = fold(self.alloc, lines, comment)?;
+            self.folds.push(fold)?;
+        }
+        Ok(())
+    }
+}
+
+/// The lines to fold between braces: the line of the closing one stays, unless it is the next.
+fn inside(open: usize, close: usize) -> Lines {
+    let before = close.saturating_sub(1);
+    Lines {
+        first: open,
+        last: if before > open { before } else { close },
+    }
+}
+
+/// A `FoldingRange`.
+fn fold(alloc: Global, lines: Lines, comment: bool) -> Result<Value, NoMemory>
+    ensures { IfOk result (λ v. has_float (view v) ≡ false) }
+{
+    let first = lines.first;
+    let last = lines.last;
+    if comment {
+        return Ok(json!(in alloc; {"endLine": last, "kind": "comment", "startLine": first})?);
+    }
+    Ok(json!(in alloc; {"endLine": last, "startLine": first})?)
+}

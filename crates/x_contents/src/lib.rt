@@ -1,0 +1,12 @@
+//! What a whole document contains, for an editor (LSP 3.17): what it defines, which of its lines fold, what each
+//! of its tokens is, and what is generated of it.
+#![tactic(auto)]
+
+mod answers;
+mod folds;
+mod generated;
+mod symbols;
+mod token_kinds;
+mod wanted;
+
+pub use answers::answer_about_document;

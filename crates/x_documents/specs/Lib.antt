@@ -1,0 +1,9 @@
+pub mod Changes
+pub mod Compiled
+pub mod DocumentNames
+pub mod Documents
+pub mod Grounds
+pub mod Noting
+pub mod Publishing
+pub mod Replies
+pub mod Views

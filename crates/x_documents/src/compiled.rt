@@ -1,0 +1,131 @@
+//! What is compiled of the text that a client has.
+
+ghost use Rattle.std.specs.Prelude.{◌≡◌, ◌⊎◌, ◌<◌, ◌++◌, false, true, IfErr, IfOk, IsErrOf, OnOk, length};
+ghost use Rattle.x_prelude.specs.Before.{IsBefore, IsCrowded};
+ghost use Rattle.x_text.specs.Limits.{most_text};
+ghost use Rattle.x_prelude.specs.Followed.{IsOver};
+ghost use Rattle.x_documents.specs.Compiled.{IsCompiled};
+ghost use Rattle.x_documents.specs.Grounds.{compiled_of, constants_of, ground_of, ground_with};
+ghost use Rattle.x_documents.specs.Noting.{IsNotCompiled};
+
+use crate::setting::Setting;
+use std::alloc::Global;
+use x_directives::{blanked, defined, edit_between};
+use x_hash::HashKey;
+use x_prelude::FollowedText;
+use x_session::EditFault;
+use x_text::NoMemory;
+
+/// Compiles a text that a client has. `base` is the name that generated texts use.
+pub(crate) fn open_text(
+    alloc: Global,
+    hash_key: HashKey,
+    setting: &Setting,
+    base: &[u8],
+    shown: &[u8],
+) -> Result<FollowedText, EditFault>
+    ensures over { IfOk result (λ text. ∥ IsOver text ∥₁) }
+    ensures from_c { IfOk result (λ text. text.from_c ≡ setting.now.from_c) }
+    ensures compiled { IfOk result (IsCompiled setting.now.files.now setting.now.blanks shown.now) }
+    ensures base { IfOk result (λ text. text.session.base ≡ base.now) }
+    ensures fault { IfErr result (IsNotCompiled (ground_of setting.now) shown.now) }
+{
+    let Ok(parts) = Parts::of(alloc, setting.files, setting.blanks, shown) else {
+        return Err(EditFault::NoMemory);
+    };
+    FollowedText::open(
+        alloc,
+        &parts.files,
+        setting.from_c,
+        hash_key,
+        base,
+        &parts.text,
+    )
+}
+
+/// Compiles the text that a client has now: by one edit, or anew where its directives give other constants.
+pub(crate) fn follow_text(
+    alloc: Global,
+    text: &mut FollowedText,
+    files: &[u8],
+    blanks: bool,
+    shown: &[u8],
+) -> Result<(), EditFault>
+    requires { ∥ IsOver text.now ∥₁ }
+    ensures over { ∥ IsOver text.new ∥₁ }
+    ensures from_c { text.new.from_c ≡ text.old.from_c }
+    ensures compiled { OnOk result (IsCompiled files.now blanks shown.now text.new) }
+    ensures fault { IfErr result
+        (IsNotCompiled (ground_with files.now text.old.from_c blanks false) shown.now) }
+{
+    let Ok(parts) = Parts::of(alloc, files, blanks, shown) else {
+        return Err(EditFault::NoMemory);
+    };
+    if parts.files.as_slice() == text.files.as_slice() {
+        follow(text, &parts.text)
+    } else {
+        text.replace(&parts.files, &parts.text)
+    }
+}
+
+/// What is compiled of a text, and what stands first before it.
+#[derive(Drop)]
+struct Parts {
+    /// The text of known files, and the constants of its directives.
+    files: Vec<u8>,
+    text: Vec<u8>,
+}
+
+impl Parts {
+    /// The parts of a text that a client has.
+    fn of(alloc: Global, files: &[u8], blanks: bool, shown: &[u8]) -> Result<Parts, NoMemory>
+        ensures files { IfOk result
+            (λ parts. parts.files.items ≡ files.now ++ constants_of blanks shown.now) }
+        ensures text { IfOk result (λ parts. parts.text.items ≡ compiled_of blanks shown.now) }
+    {
+        let mut before = Vec::from_slice(alloc, files)?;
+        if !blanks {
+            return Ok(Parts {
+                files: before,
+                text: Vec::from_slice(alloc, shown)?,
+            });
+        }
+        add_constants(alloc, &mut before, shown)?;
+        Ok(Parts {
+            files: before,
+            text: blanked(alloc, shown)?,
+        })
+    }
+}
+
+/// Adds the constants that the directives of a text give.
+fn add_constants(alloc: Global, text: &mut Vec<u8>, shown: &[u8]) -> Result<(), NoMemory>
+    ensures { OnOk result (text.new.items ≡ text.old.items ++ constants_of true shown.now) }
+{
+    for constant in &defined(alloc, shown)? {
+        text.extend_from_slice(b"const ")?;
+        text.extend_from_slice(constant.name)?;
+        text.extend_from_slice(b" = ")?;
+        text.extend_from_slice(constant.number)?;
+        text.extend_from_slice(b";\n")?;
+    }
+    Ok(())
+}
+
+/// Makes these bytes the text that is compiled, by one edit, and puts before it what stands before it then.
+fn follow(text: &mut FollowedText, bytes: &[u8]) -> Result<(), EditFault>
+    requires { ∥ IsOver text.now ∥₁ }
+    ensures over { ∥ IsOver text.new ∥₁ }
+    ensures files { text.new.files ≡ text.old.files }
+    ensures from_c { text.new.from_c ≡ text.old.from_c }
+    ensures text { OnOk result (text.new.session.text ≡ bytes.now) }
+    ensures before { OnOk result ∥ IsBefore text.new.files.items text.new.from_c text.new.session.text
+        text.new.session.known ∥₁ }
+    ensures large { IsErrOf result EditFault.TooLarge → ∥ (most_text < length bytes.now)
+        ⊎ IsCrowded text.old.files.items text.old.from_c bytes.now ∥₁ }
+    ensures in_range { IsErrOf result EditFault.BadRange → ⊥ }
+{
+    let edit = edit_between(text.session.bytes(), bytes);
+    text.apply(&edit)?;
+    text.renew()
+}

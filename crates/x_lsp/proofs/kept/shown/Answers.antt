@@ -1,5 +1,0 @@
-use Rattle.std.proofs.Common.{inr, refl}
-use Rattle.x_lsp.proofs.kept.shown.Goals as goal
-
-pub returns-in-Err : goal.returns-in-Err
-returns-in-Err c = inr refl
