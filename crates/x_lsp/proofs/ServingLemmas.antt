@@ -86,7 +86,7 @@ module _ (on : Ground) where
   at_start input start state reader left pen state_is reader_is left_is pen_is = record {
     served = [];
     has_read = record { read = []; later = input; left_is = left_is; input_is = refl; are_served = (ap (λ (r : FrameReading). r.unread) reader_is, state_is) };
-    alive = ap end_of state.state_is;
+    alive = ap (λ (s : ServerState). end_of s.life) state_is;
     writes = subst (λ (p : Inked). Writes start [] p start) (sym pen_is) (writes_none start);
     goes = ap (λ (p : Inked). p.stopped) pen_is;
     empty = ap (λ (p : Inked). p.pending) pen_is;

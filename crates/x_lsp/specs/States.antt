@@ -7,7 +7,7 @@ use Rattle.serde_json.specs.Find.{get}
 use Rattle.serde_json.specs.Read.{read}
 use Rattle.x_frames.specs.Answers.{IsRefused, IsSaid}
 use Rattle.x_frames.specs.KeptSaid.{no_memory_answer}
-use Rattle.x_frames.specs.Lives.{question_named}
+use Rattle.x_frames.specs.Lives.{method_named}
 use Rattle.x_frames.specs.Messages.{Asked, asked_by, request, notification, response, invalid}
 use Rattle.x_frames.specs.Notes.{noted_by}
 use Rattle.x_frames.specs.Params.{uri_in}
@@ -15,7 +15,8 @@ use Rattle.x_frames.specs.declared.answers.ErrorCode.{ErrorCode}
 use Rattle.x_frames.specs.declared.answers.ErrorCode.TheVariants.{ContentModified, InvalidParams}
 use Rattle.x_frames.specs.declared.life.Life.{Life}
 use Rattle.x_frames.specs.declared.life.Life.TheVariants.{Fresh, Running, ShutDown, Ended}
-use Rattle.x_frames.specs.declared.method.Question.{Question}
+use Rattle.x_frames.specs.declared.method.Method.{Method}
+use Rattle.x_frames.specs.declared.method.Method.TheVariants.{Ask}
 use Rattle.x_positions.specs.declared.encoding.Encoding.TheVariants.{Utf16}
 use Rattle.x_published.specs.Clients.{client_of}
 use Rattle.x_published.specs.declared.client.Client.{Client}
@@ -71,11 +72,11 @@ abbrev pub asked_document : List Document → (params : Option Data) → Option 
 asked_document docs params = option_and_then (λ uri. document_of uri docs) (uri_in params)
 
 -- a question is refused for that
-abbrev pub IsRefusedOf : Data → Option Question → List Document → (params : Option Data)
+abbrev pub IsRefusedOf : Data → Option Method → List Document → (params : Option Data)
     → (said : Option (List ℕ)) → Type 0
-IsRefusedOf id None docs params said = Unit {0}
-IsRefusedOf id (Some question) docs params said =
+IsRefusedOf id (Some (Ask question)) docs params said =
     IfSome (refusal_by (asked_document docs params)) (λ code. IsRefused id code said)
+IsRefusedOf id method docs params said = Unit {0}
 
 -- What a message makes of a server beside its life. A request leaves the documents as they are. A
 -- notification makes of them what it asks for, where the server runs.
@@ -83,7 +84,7 @@ abbrev pub MakesOf : ServerState → Asked → (params : Option Data) → (said 
     → Type 0
 MakesOf s (request id name) params said s' =
     (s'.documents ≡ s.documents) × (GoesBySame s s' ⊎ IsInitialized s params s')
-    × (s.life ≡ Running → IsRefusedOf id (question_named name) s.documents params said)
+    × (s.life ≡ Running → IsRefusedOf id (method_named name) s.documents params said)
 MakesOf s (notification name) params said s' = GoesBySame s s' × MatchBool (is_running s.life)
     (Notes s.client s.on s.documents (noted_by name params) said s'.documents)
     ((said ≡ None) × (s'.documents ≡ s.documents))

@@ -23,7 +23,7 @@ pub fn serve_run<I: Tap, O: Outlet, E: Sink>(
     out: &mut O,
     err: &mut E,
 ) -> Status
-    ensures run { IsRun (ground_of setting) (I.state input.old) (I.state input.new) (O.state out.old)
+    ensures run { IsRun (ground_of setting.entry) (I.state input.old) (I.state input.new) (O.state out.old)
         (O.state out.new) (O.is_closed out.new) (E.state err.old) (E.state err.new) result }
     ensures quiet { result ≢ Status.Failed → err.new ≡ err.old }
 {

@@ -11,7 +11,7 @@ ghost use Rattle.x_documents.specs.Replies.{said_of};
 ghost use Rattle.x_documents.specs.Views.{documents_of};
 ghost use Rattle.x_frames.specs.Answers.{IsRefused, IsSaid, IsSaidTo, IsToMethod, IsToNotification};
 ghost use Rattle.x_frames.specs.Answers.{IsToRequest};
-ghost use Rattle.x_frames.specs.Lives.{end_of, is_of_request, life_behind, life_noted, question_named};
+ghost use Rattle.x_frames.specs.Lives.{end_of, is_of_request, life_behind, life_noted, method_named};
 ghost use Rattle.x_frames.specs.Messages.{asked_by};
 ghost use Rattle.x_frames.specs.Notes.{noted_by};
 ghost use Rattle.x_frames.specs.declared.life.Life.TheVariants.{Running};
@@ -52,7 +52,7 @@ impl<'k> Server<'k> {
         hash_key: HashKey,
         setting: Setting<'k>,
     ) -> Result<Server<'k>, AllocError>
-        ensures { IfOk result (λ server. state_of server ≡ fresh (ground_of setting)) }
+        ensures { IfOk result (λ server. state_of server ≡ fresh (ground_of setting.entry)) }
     {
         Ok(Server {
             alloc,
@@ -120,7 +120,7 @@ impl<'k> Server<'k> {
         ensures goes { GoesBySame (state_of self.old) (state_of self.new)
             ⊎ IsInitialized (state_of self.old) (option_map (λ p. view p.now) params.entry)
             (state_of self.new) }
-        ensures refused { self.old.life ≡ Running → IsRefusedOf (view id.now) (question_named name.now)
+        ensures refused { self.old.life ≡ Running → IsRefusedOf (view id.now) (method_named name.now)
             (documents_of self.old.documents) (option_map (λ p. view p.now) params.entry)
             (said_of result) }
     {

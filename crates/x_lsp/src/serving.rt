@@ -51,7 +51,7 @@ pub fn serve<I: Tap, O: Sink>(
     out: &mut O,
 ) -> Result<bool, ServeFault>
     ensures serves { MatchOption (I.state input.old).bytes (Unit {0})
-        (λ bytes. Serves (ground_of setting) bytes (I.state input.new).bytes (O.state out.old)
+        (λ bytes. Serves (ground_of setting.entry) bytes (I.state input.new).bytes (O.state out.old)
         (O.state out.new) result) }
     ensures fault { NamesFault result (I.state input.old).failed (I.state input.new).failed
         (O.state out.old).failed (O.state out.new).failed }

@@ -61,7 +61,7 @@ returns-in-Err-clause-serves g c = match_some (g.I.Tap.state c.args.input.now).b
     let count_is = c.written.ensures ∙ ap (λ p. p.written) c.in-Err.ensures.answers.1 in
     subst (λ r. Serves (ground_of c.args.server.now.setting) input left' start (g.O.Sink.state c.answer_next.new.out) (Err r)) (sym c.stop_by.ensures)
     (subst (λ (n : Stream). Serves (ground_of c.args.server.now.setting) input left' start n (Err (stop_by fault c.written.result))) (sym c.in-Err.ensures.answers.2)
-    (at_fault fault input start (state_of c.loop.server) c.loop.reader c.answer_next.new.reader (g.I.Tap.state c.loop.input).bytes left' c.loop.pen (g.O.Sink.state c.loop.out) c.written.result
+    (at_fault (ground_of c.args.server.now.setting) fault input start (state_of c.loop.server) c.loop.reader c.answer_next.new.reader (g.I.Tap.state c.loop.input).bytes left' c.loop.pen (g.O.Sink.state c.loop.out) c.written.result
     (c.loop.invariant.1 input e) c.in-Err.ensures.reads count_is)))
 
 pub returns-then-has_stopped-clause-serves : goal.returns-then-has_stopped-clause-serves
