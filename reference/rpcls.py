@@ -3,7 +3,8 @@
 characters, and is compiled anew by rpclang.py, with blanks in place of the lines of cpp and with what comes
 before it.
 
-Of what is told to the user, and of errors, the kind and the number stand alone here, without a sentence.
+Of what is told to the user, and of errors, the kind and the number stand alone here, without a sentence, but with the
+line that an error tells.
 
 As a program, `rpcls.py [--known FILE].. [--c-types] [--foreign] [--fault-directives]` serves a client that
 makes no mistakes and asks for nothing else.
@@ -28,6 +29,8 @@ import rpclang
 import texts
 
 LINE_END = re.compile("\r\n|\r|\n")
+# The line that the sentence of an error ends with.
+LINE_TOLD = re.compile("in line [0-9]+$")
 INNER = bytes(range(0x80, 0xc0))
 # How many units a character counts, by what a client and a server agree on.
 WIDTHS = {"utf-8": lambda character: len(character.encode()), "utf-16": lambda character: 1 + (character > "\uffff")}
@@ -36,6 +39,7 @@ GREATEST_TEXT = 16_777_216
 GREATEST_WARNED = 262_144
 INVALID_PARAMS = -32602
 CONTENT_MODIFIED = -32801
+REQUEST_FAILED = -32803
 CAPABILITIES = {"textDocumentSync": {"openClose": True, "change": 2}}
 # Duplicate and RepeatedField.
 TWICE = (20, 32)
@@ -264,6 +268,19 @@ def name_at(compilation, byte):
     return None
 
 
+def unparsed(compilation):
+    """The names in what does not parse, in the order of the text."""
+    for item, definition in zip(compilation.items, compilation.definitions):
+        if definition is None:
+            yield from (token for token in item if token.kind == "Name")
+
+
+def any_name_at(compilation, byte):
+    """The name at a place; where no item that parses has one, that of a word in what does not parse."""
+    words = (token.text for token in unparsed(compilation) if token.start <= byte <= token.end)
+    return name_at(compilation, byte) or next(words, None)
+
+
 def standing(compilation, name, declared):
     """The tokens that use a name, and if asked for, those that declare it, in the order of the text."""
     found = {token for token, other, declares in names_of(compilation) if other == name and (declared or not declares)}
@@ -384,10 +401,16 @@ class Server:
         if document is None or name == "text" and params["which"] not in ["faults", *texts.KINDS]:
             return said | {"error": {"code": INVALID_PARAMS, "message": ""}}
         lines = Text(document.text, self.encoding)
-        return said | {"result": self.found(lines, name, document.uri, params)}
-
-    def found(self, lines, name, uri, params):
         compilation = self.setting.compiled(lines.bytes)
+        if name == "references":
+            sought = any_name_at(compilation, lines.byte(params["position"]))
+            first = next((token for token in unparsed(compilation) if token.text == sought), None)
+            if first is not None:
+                line = lines.place(first.start)["line"] + 1
+                return said | {"error": {"code": REQUEST_FAILED, "message": f"in line {line}"}}
+        return said | {"result": self.found(lines, compilation, name, document.uri, params)}
+
+    def found(self, lines, compilation, name, uri, params):
         if name == "text":
             return written(compilation, uri, params["which"])
         sought = name_at(compilation, lines.byte(params["position"]))
@@ -401,10 +424,10 @@ class Server:
 
 
 def without_sentences(said):
-    """What a server said, as it is said here: of errors and of what is told to the user no sentence."""
+    """What a server said, as it is said here: of errors and of what is told to the user no sentence, but a line."""
     params = said.get("params", {})
     if "error" in said:
-        said["error"]["message"] = ""
+        said["error"]["message"] = "".join(LINE_TOLD.findall(said["error"]["message"]))
     if said.get("method") == "window/showMessage":
         params["message"] = ""
     return said
