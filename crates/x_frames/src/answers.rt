@@ -24,8 +24,8 @@ pub enum ErrorCode {
     InternalError,
     /// It asks for what may not be: a name that is none, or is declared.
     RequestFailed,
-    /// It asks for all places of a name, of which the first in a definition that does not parse stands in this
-    /// line, counted from 1.
+    /// It asks for all places of a name, of which the first in a definition that does not parse stands in
+    /// this line, counted from 1.
     NameUnparsed { line: usize },
     /// It asks to rename what has the name of an inline type.
     NameLifted,
