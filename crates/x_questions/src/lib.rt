@@ -10,10 +10,12 @@ mod hover;
 mod locations;
 mod open_text;
 mod params;
+mod parts_told;
 mod questions;
 mod renaming;
 mod symbols;
 mod token_kinds;
+mod written;
 
 pub use open_text::OpenText;
 pub use questions::result_of;
