@@ -5,7 +5,7 @@ use crate::written::{item_tokens, number_in, told_lines};
 use std::alloc::Global;
 use std::str;
 use x_item::{lifted_name, next_item};
-use x_lex::{Kind, Token};
+use x_lex::{Kind, Mark, Token};
 use x_lookups::{Part, PartKind, parts_of};
 use x_session::Session;
 use x_text::NoMemory;
@@ -23,11 +23,12 @@ pub(crate) fn told_part<'s>(
     let tokens = item_tokens(alloc, session, item)?;
     let parts = parts_of(alloc, &tokens)?;
     for (index, part) in parts.iter().enumerate() {
-        if let Some(token) = tokens.get(part.name)
+        if let Some(body) = part.within
+            && let Some(token) = tokens.get(part.name)
             && touches(token, at)
         {
             let rest = parts.get(index..).unwrap_or(&[]);
-            let told = told_of(alloc, session, item, &tokens, part, rest)?;
+            let told = told_of(alloc, session, item, &tokens, part, body, rest)?;
             return Ok(Some(ToldWord {
                 token: *token,
                 told,
@@ -58,13 +59,15 @@ fn touches(token: &Token, at: usize) -> bool {
     token.start <= at && at <= token.end
 }
 
-/// What is told of a part, which is the first of these: those behind it are around it, or no part of it.
+/// What is told of a part in the body of a keyword. It is the first of these parts: those behind it are
+/// around it, or no part of it.
 fn told_of(
     alloc: Global,
     session: &Session,
     item: usize,
     tokens: &[Token],
     part: &Part,
+    body: Mark,
     rest: &[Part],
 ) -> Result<String, NoMemory> {
     let words = tokens
@@ -73,13 +76,11 @@ fn told_of(
     let mut told = told_lines(alloc, session.bytes(), span_of(words))?;
     told.push_str("\n\n")?;
     told.push_str(kind_text(part.kind))?;
-    if let Some(mark) = part.within {
-        told.push_str(" of ")?;
-        told.push_str(str::from_utf8(mark.text()).unwrap_or("?"))?;
-        told.push_str(" ")?;
-        let around = name_around(alloc, tokens, rest)?;
-        told.push_str(String::from_utf8_lossy(alloc, &around)?.as_str())?;
-    }
+    told.push_str(" of ")?;
+    told.push_str(str::from_utf8(body.text()).unwrap_or("?"))?;
+    told.push_str(" ")?;
+    let around = name_around(alloc, tokens, rest)?;
+    told.push_str(String::from_utf8_lossy(alloc, &around)?.as_str())?;
     if has_number(part.kind)
         && is_faultless(session, item)
         && let Some(number) = number_in(words)
