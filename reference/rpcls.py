@@ -3,14 +3,17 @@
 characters, and is compiled anew by rpclang.py, with blanks in place of the lines of cpp and with what comes
 before it.
 
-Of what is told to the user, and of errors, the kind and the number stand alone here, without a sentence.
+Of what is told to the user, and of errors, the kind and the number stand alone here, without a sentence, but with the
+line that an error tells.
 
 As a program, `rpcls.py [--known FILE].. [--c-types] [--foreign] [--fault-directives]` serves a client that
 makes no mistakes and asks for nothing else.
 """
 import bisect
+import collections
 import functools
 import getopt
+import itertools
 import json
 import os
 import re
@@ -28,6 +31,12 @@ import rpclang
 import texts
 
 LINE_END = re.compile("\r\n|\r|\n")
+# The line that the sentence of an error ends with.
+LINE_TOLD = re.compile("in line [0-9]+$")
+# What is told of a type's size, behind a definition.
+SIZE_TOLD = re.compile("\n\n(at least )?[0-9]+ bytes, height(?= [0-9]+$)")
+# How many lines are told of a definition at most.
+MOST_TOLD = 20
 INNER = bytes(range(0x80, 0xc0))
 # How many units a character counts, by what a client and a server agree on.
 WIDTHS = {"utf-8": lambda character: len(character.encode()), "utf-16": lambda character: 1 + (character > "\uffff")}
@@ -36,6 +45,7 @@ GREATEST_TEXT = 16_777_216
 GREATEST_WARNED = 262_144
 INVALID_PARAMS = -32602
 CONTENT_MODIFIED = -32801
+REQUEST_FAILED = -32803
 CAPABILITIES = {"textDocumentSync": {"openClose": True, "change": 2}}
 # Duplicate and RepeatedField.
 TWICE = (20, 32)
@@ -256,12 +266,31 @@ def names_of(compilation):
                 yield item[name.place], name.name, False
 
 
+def touches(token, byte):
+    return token.start <= byte <= token.end
+
+
+def name_word_at(compilation, byte):
+    """The word of a name that holds a place, or ends there. That of an inline type is no word where it is declared."""
+    return next((token for token, name, _ in names_of(compilation) if token.text == name and touches(token, byte)), None)
+
+
 def name_at(compilation, byte):
-    """The name whose word holds a place, or ends there. That of an inline type is no word where it is declared."""
-    for token, name, _ in names_of(compilation):
-        if token.text == name and token.start <= byte <= token.end:
-            return name
-    return None
+    token = name_word_at(compilation, byte)
+    return None if token is None else token.text
+
+
+def unparsed(compilation):
+    """The names in what does not parse, in the order of the text."""
+    for item, definition in zip(compilation.items, compilation.definitions):
+        if definition is None:
+            yield from (token for token in item if token.kind == "Name")
+
+
+def any_name_at(compilation, byte):
+    """The name at a place; where no item that parses has one, that of a word in what does not parse."""
+    words = (token.text for token in unparsed(compilation) if touches(token, byte))
+    return name_at(compilation, byte) or next(words, None)
 
 
 def standing(compilation, name, declared):
@@ -273,6 +302,120 @@ def standing(compilation, name, declared):
 def definition(compilation, name):
     first = compilation.own.get(name)
     return None if first is None or first.item < 0 else compilation.items[first.item][first.place]
+
+
+# ---------------------------------------------------------------- what is told of a word
+
+def told_lines(text):
+    lines = text.split(b"\n")
+    return b"\n".join(lines[:MOST_TOLD]) + b"\n.." * (len(lines) > MOST_TOLD)
+
+
+def begins_line(lines, token):
+    return not re.split(b"[\r\n]", lines.bytes[:token.start])[-1].strip(b" \t")
+
+
+def told_first(lines, item):
+    """The first word of a definition, or the first of the comments directly in front of it: none of these has an empty
+    line behind it, nor stands behind something else in its line, unless the line goes on up to the word."""
+    line = lambda byte: lines.place(byte)["line"]
+    lead = [token for token in itertools.takewhile(lambda token: token.kind in rpclang.PASSED_OVER, item)]
+    word = item[len(lead)]
+    lead, run = [token for token in lead if token.kind != "Space"], [word]
+    while lead and lead[-1].kind == "Comment" and line(run[0].start) - line(lead[-1].end) <= 1:
+        run.insert(0, lead.pop())
+    while run[0] is not word and not begins_line(lines, run[0]):
+        count = next((k for k in range(1, len(run)) if line(run[k].start) > line(run[k - 1].end)), len(run))
+        if count == len(run):
+            break
+        run = run[count:]
+    return run[0]
+
+
+def meaning_told(compilation, name, first):
+    """What a name means whose definition has no fault: the number of a constant or a program, the height of a type.
+    Sizes of types are not told here."""
+    if first.item in compilation.faulty or before.foreign_use(compilation, name) is not None:
+        return ""
+    definition, meaning = compilation.definitions[first.item], compilation.meanings[name]
+    if isinstance(meaning, rpclang.Constant):
+        return f"\n\n= {meaning.number}"
+    if isinstance(definition, rpclang.Program):
+        return f"\n\n= {rpclang.number_of(definition.number.text)}"
+    return f"\n\nheight {meaning.height}"
+
+
+# A part of a definition: the places of its first word, its name and its last, what it is, what it belongs to, and the word
+# of its number, or None.
+Part = collections.namedtuple("Part", "first name last told number")
+
+
+def parts_of(item, definition):
+    """The enumerators, the fields, the versions and the procedures of a definition."""
+    words = [place for place, token in enumerate(item) if token.kind not in rpclang.PASSED_OVER]
+    behind = lambda place: next(word for word in words if word >= place and item[word].text == b";")
+    front = lambda place: words[words.index(place) - 1]
+    field = lambda first, declared, last, told: Part(first, declared.name.place, last, told, None)
+    for part in rpclang.parts_of(definition):
+        body, around = part.body, part.name.decode()
+        pairs = []
+        if isinstance(body, rpclang.EnumBody):
+            for name, value in body.enumerators:
+                yield Part(name.place, name.place, (value or name).place, f"enumerator of enum {around}", None)
+        if isinstance(body, rpclang.StructBody):
+            pairs = [(declared.first.place, declared) for declared in body.fields]
+        if isinstance(body, rpclang.UnionBody):
+            pairs = [(front(arm.values[0].place), arm.declaration) for arm in body.arms]
+            if body.default is not None:
+                pairs.append((front(front(body.default.first.place)), body.default))
+            if body.discriminant.name is not None:
+                first, last = body.discriminant.first.place, front(body.closing.place)
+                yield field(first, body.discriminant, last, f"field of union {around}")
+        word = "union" if isinstance(body, rpclang.UnionBody) else "struct"
+        for first, declared in pairs:
+            if declared.name is not None:
+                yield field(first, declared, behind(declared.name.place), f"field of {word} {around}")
+    for version in definition.versions if isinstance(definition, rpclang.Program) else []:
+        told = f"version of program {definition.name.text.decode()}"
+        yield Part(front(version.name.place), version.name.place, behind(version.number.place), told, version.number)
+        for it in version.procedures:
+            told = f"procedure of version {version.name.text.decode()}"
+            yield Part(it.result.first.place, it.name.place, behind(it.number.place), told, it.number)
+
+
+def part_at(compilation, byte):
+    """The item and the part of it whose name stands at a place, or None."""
+    for at, (item, definition) in enumerate(zip(compilation.items, compilation.definitions)):
+        if definition is not None and any(touches(token, byte) for token in item if token.kind == "Name"):
+            found = [part for part in parts_of(item, definition) if touches(item[part.name], byte)]
+            return (at, found[0]) if found else None
+    return None
+
+
+def told_of_part(compilation, at, part):
+    item = compilation.items[at]
+    told = told_lines(compilation.text[item[part.first].start:item[part.last].end]).decode(errors="replace")
+    number = ""
+    if part.number is not None and at not in compilation.faulty:
+        number = f"\n= {rpclang.number_of(part.number.text)}"
+    return f"{told}\n\n{part.told}{number}"
+
+
+def hover(compilation, lines, byte):
+    """What is told of the name at a place, or of the part of a definition there."""
+    token = name_word_at(compilation, byte)
+    first = compilation.own.get(token.text) if token else None
+    if first is not None and first.item >= 0:
+        item = compilation.items[first.item]
+        end = [word for word in item if word.kind not in rpclang.PASSED_OVER][-1].end
+        told = told_lines(compilation.text[told_first(lines, item).start:end]).decode(errors="replace")
+        told += meaning_told(compilation, token.text, first)
+    else:
+        found = part_at(compilation, byte)
+        if found is None:
+            return None
+        token, told = compilation.items[found[0]][found[1].name], told_of_part(compilation, *found)
+    return {"contents": {"kind": "plaintext", "value": told}, "range": lines.range(token)}
 
 
 def written(compilation, uri, which):
@@ -384,12 +527,20 @@ class Server:
         if document is None or name == "text" and params["which"] not in ["faults", *texts.KINDS]:
             return said | {"error": {"code": INVALID_PARAMS, "message": ""}}
         lines = Text(document.text, self.encoding)
-        return said | {"result": self.found(lines, name, document.uri, params)}
-
-    def found(self, lines, name, uri, params):
         compilation = self.setting.compiled(lines.bytes)
+        if name == "references":
+            sought = any_name_at(compilation, lines.byte(params["position"]))
+            first = next((token for token in unparsed(compilation) if token.text == sought), None)
+            if first is not None:
+                line = lines.place(first.start)["line"] + 1
+                return said | {"error": {"code": REQUEST_FAILED, "message": f"in line {line}"}}
+        return said | {"result": self.found(lines, compilation, name, document.uri, params)}
+
+    def found(self, lines, compilation, name, uri, params):
         if name == "text":
             return written(compilation, uri, params["which"])
+        if name == "hover":
+            return hover(compilation, lines, lines.byte(params["position"]))
         sought = name_at(compilation, lines.byte(params["position"]))
         if name == "definition":
             token = definition(compilation, sought)
@@ -401,10 +552,13 @@ class Server:
 
 
 def without_sentences(said):
-    """What a server said, as it is said here: of errors and of what is told to the user no sentence."""
-    params = said.get("params", {})
+    """What a server said, as it is said here: of errors and of what is told to the user no sentence, but a line, and of
+    types no size."""
+    params, result = said.get("params", {}), said.get("result")
+    if isinstance(result, dict) and "contents" in result:
+        result["contents"]["value"] = SIZE_TOLD.sub("\n\nheight", result["contents"]["value"])
     if "error" in said:
-        said["error"]["message"] = ""
+        said["error"]["message"] = "".join(LINE_TOLD.findall(said["error"]["message"]))
     if said.get("method") == "window/showMessage":
         params["message"] = ""
     return said

@@ -300,6 +300,12 @@ asks_of() {
     printf '{"jsonrpc":"2.0","id":%s,"method":"textDocument/%s","params":{"textDocument":{"uri":"file:///t.x"}}}' "$@"
 }
 
+# refers ID LINE CHARACTER: a question for where a name is used and declared.
+refers() { asks "$1" references "$2" "$3" ',"context":{"includeDeclaration":true}'; }
+
+# renames ID LINE CHARACTER NAME: a question for the edits that give a name another one.
+renames() { asks "$1" rename "$2" "$3" ',"newName":"'"$4"'"'; }
+
 # answers TEXT..: what is said in a conversation to questions, one a line, with places as LINE:CHARACTER-LINE:CHARACTER.
 answers() {
     conversation "$@" | grep '"id":' | places

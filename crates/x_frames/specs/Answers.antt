@@ -10,6 +10,7 @@ use Rattle.x_frames.specs.declared.answers.ErrorCode.{ErrorCode}
 use Rattle.x_frames.specs.declared.answers.ErrorCode.TheVariants.{ParseError, InvalidRequest, MethodNotFound}
 use Rattle.x_frames.specs.declared.answers.ErrorCode.TheVariants.{InvalidParams, InternalError, RequestFailed}
 use Rattle.x_frames.specs.declared.answers.ErrorCode.TheVariants.{NotInitialized, ContentModified}
+use Rattle.x_frames.specs.declared.answers.ErrorCode.TheVariants.{NameUnparsed, NameLifted}
 use Rattle.x_frames.specs.declared.life.Life.{Life}
 use Rattle.x_frames.specs.declared.method.Method.{Method}
 use Rattle.x_frames.specs.Lives.{admitted, is_of_request, life_behind, life_noted, method_named}
@@ -23,6 +24,8 @@ error_number MethodNotFound = negsuc 32600
 error_number InvalidParams = negsuc 32601
 error_number InternalError = negsuc 32602
 error_number RequestFailed = negsuc 32802
+error_number (NameUnparsed line) = negsuc 32802
+error_number NameLifted = negsuc 32802
 error_number ContentModified = negsuc 32800
 error_number NotInitialized = negsuc 32001
 
@@ -34,8 +37,15 @@ error_name MethodNotFound = codes "the method is not known"
 error_name InvalidParams = codes "the parameters are wrong"
 error_name InternalError = codes "out of memory"
 error_name RequestFailed = codes "the new name is none, or is declared"
+error_name (NameUnparsed line) = codes "the name stands in a definition that does not parse"
+error_name NameLifted = codes "an inline type has that name too"
 error_name ContentModified = codes "the document is out of step"
 error_name NotInitialized = codes "the server is not initialized"
+
+-- what is said of an error: its name, and the line that it tells
+abbrev pub error_text : ErrorCode → List ℕ
+error_text (NameUnparsed line) = error_name (NameUnparsed line) ++ codes ", in line " ++ decimal line
+error_text code = error_name code
 
 abbrev pub version_member : Members → Members
 version_member more = member (codes "jsonrpc") (string (codes "2.0")) more
@@ -49,7 +59,7 @@ answer_data id result =
 abbrev pub refusal_data : Data → ErrorCode → Data
 refusal_data id code = object (member (codes "error") (object
     (member (codes "code") (number (of_integer (error_number code)))
-    (member (codes "message") (string (error_name code)) no_members)))
+    (member (codes "message") (string (error_text code)) no_members)))
     (member (codes "id") id (version_member no_members)))
 
 -- a note: a notification of the server

@@ -5,7 +5,7 @@ use Rattle.x_frames.specs.declared.answers.ErrorCode.{ErrorCode}
 use Rattle.x_frames.specs.declared.answers.ErrorCode.TheVariants.{InvalidRequest, MethodNotFound}
 use Rattle.x_frames.specs.declared.answers.ErrorCode.TheVariants.{InvalidParams, InternalError, ParseError}
 use Rattle.x_frames.specs.declared.answers.ErrorCode.TheVariants.{NotInitialized, RequestFailed}
-use Rattle.x_frames.specs.declared.answers.ErrorCode.TheVariants.{ContentModified}
+use Rattle.x_frames.specs.declared.answers.ErrorCode.TheVariants.{ContentModified, NameUnparsed, NameLifted}
 use Rattle.x_frames.specs.declared.life.Life.{Life}
 use Rattle.x_frames.specs.declared.life.Life.TheVariants.{Fresh, Running, ShutDown, Ended}
 use Rattle.x_frames.specs.declared.method.Method.{Method}
@@ -101,5 +101,7 @@ is_of_request MethodNotFound = false
 is_of_request InvalidParams = true
 is_of_request InternalError = true
 is_of_request RequestFailed = true
+is_of_request (NameUnparsed line) = true
+is_of_request NameLifted = true
 is_of_request ContentModified = true
 is_of_request NotInitialized = false

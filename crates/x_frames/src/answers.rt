@@ -1,9 +1,9 @@
 //! What a server says.
 
-ghost use Rattle.std.specs.Prelude.{◌≡◌, false, IfOk};
+ghost use Rattle.std.specs.Prelude.{◌≡◌, false, IfOk, string_bytes};
 ghost use Rattle.serde_json.specs.View.{view};
 ghost use Rattle.serde_json.specs.Written.{compact_text, has_float};
-ghost use Rattle.x_frames.specs.Answers.{answer_data, error_name, error_number, note_data};
+ghost use Rattle.x_frames.specs.Answers.{answer_data, error_name, error_number, error_text, note_data};
 ghost use Rattle.x_frames.specs.Answers.{refusal_data, shown_data};
 
 use serde_json::{Value, json};
@@ -24,6 +24,11 @@ pub enum ErrorCode {
     InternalError,
     /// It asks for what may not be: a name that is none, or is declared.
     RequestFailed,
+    /// It asks for all places of a name, of which the first in a definition that does not parse stands in
+    /// this line, counted from 1.
+    NameUnparsed { line: usize },
+    /// It asks to rename what has the name of an inline type.
+    NameLifted,
     /// It is about a text that is not the client's.
     ContentModified,
     /// No request came before that initializes the server.
@@ -41,6 +46,8 @@ impl ErrorCode {
             ErrorCode::InvalidParams => -32602,
             ErrorCode::InternalError => -32603,
             ErrorCode::RequestFailed => -32803,
+            ErrorCode::NameUnparsed { .. } => -32803,
+            ErrorCode::NameLifted => -32803,
             ErrorCode::ContentModified => -32801,
             ErrorCode::NotInitialized => -32002,
         }
@@ -56,8 +63,21 @@ impl ErrorCode {
             ErrorCode::InvalidParams => "the parameters are wrong",
             ErrorCode::InternalError => "out of memory",
             ErrorCode::RequestFailed => "the new name is none, or is declared",
+            ErrorCode::NameUnparsed { .. } => "the name stands in a definition that does not parse",
+            ErrorCode::NameLifted => "an inline type has that name too",
             ErrorCode::ContentModified => "the document is out of step",
             ErrorCode::NotInitialized => "the server is not initialized",
+        }
+    }
+
+    /// What is said of it.
+    fn text(self, alloc: Global) -> Result<String, AllocError>
+        ensures { IfOk result (λ text. string_bytes text ≡ error_text self) }
+    {
+        let name = self.name();
+        match self {
+            ErrorCode::NameUnparsed { line } => format!(in alloc; "{name}, in line {line}"),
+            _ => String::from_str(alloc, name),
         }
     }
 }
@@ -89,11 +109,12 @@ fn refusal_value(alloc: Global, id: &Value, code: ErrorCode) -> Result<Value, Al
     ensures { IfOk result (λ v. view v ≡ refusal_data (view id.now) code) }
 {
     let number = code.number();
-    let name = code.name();
+    let text = code.text(alloc)?;
+    let message = text.as_str();
     json!(in alloc; {
         "jsonrpc": "2.0",
         "id": id,
-        "error": {"code": number, "message": name}
+        "error": {"code": number, "message": message}
     })
 }
 

@@ -1,3 +1,4 @@
 mod DeclarerLemmas
 mod LookupLemmas
 mod NamePlaceLemmas
+mod UnparsedLemmas

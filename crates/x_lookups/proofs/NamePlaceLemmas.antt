@@ -2,7 +2,7 @@
 use Rattle.std.proofs.Common.{◌≡◌, ℕ, zero, suc, ◌+◌, ◌<◌, ◌≤◌, Bool, true, false, cond, get_or, List, [], ◌∷◌, ◌++◌, length, map, drop, filter, Option, None, Some, refl, ap, sym, subst, ◌∙◌, append_assoc, arith}
 use Rattle.std.specs.Prelude.{slice_get}
 use Rattle.std.specs.List.{flat_map}
-use Rattle.std.proofs.lemmas.List.{append-nil, map-append, length-map}
+use Rattle.std.proofs.lemmas.List.{append-nil, map-append}
 use Rattle.std.proofs.lemmas.List.Elements.{filter-append}
 use Rattle.x_lex.specs.declared.kind.Kind.{Kind}
 use Rattle.x_lex.specs.declared.tokens.token.Token.{Token}
@@ -11,9 +11,8 @@ use Rattle.x_cutting.specs.Items.{AreItems, IsNext}
 use Rattle.x_trees.specs.Tree.{Definition}
 use Rattle.x_trees.specs.Names.{Declared, declared}
 use Rattle.x_trees.specs.Mentions.{Mention, mentioned}
-use Rattle.x_trees.specs.Spell.{spell}
-use Rattle.x_trees.specs.Words.{is_significant, word_of}
-use Rattle.x_item.specs.Parse.{Parse, Nothing, Def, Fault, IsParse}
+use Rattle.x_trees.specs.Words.{is_significant}
+use Rattle.x_item.specs.Parse.{Parse, IsParse}
 use Rattle.x_compile.specs.Compile.{Item, IsCompilation, definition_at, parsed_definition, tokens_of}
 use Rattle.x_compile.proofs.Compiled.{one_compilation}
 use Rattle.x_compile.specs.Known.{KnownText}

@@ -1,2 +1,3 @@
 pub mod NamePlaces
 pub mod Sought
+pub mod Unparsed

@@ -1,6 +1,6 @@
 -- Where names stand in a text: each is declared there, or used.
 use Rattle.std.specs.Prelude.{◌&&◌, ◌||◌, ℕ, Bool, true, false, nat_le, List, [], ◌∷◌, ◌++◌, map}
-use Rattle.std.specs.Prelude.{Option, None, Some, option_map, slice_get, if◌then◌else◌}
+use Rattle.std.specs.Prelude.{Option, None, Some, is_some, not, option_map, slice_get, if◌then◌else◌}
 use Rattle.std.specs.List.{filter, flat_map}
 use Rattle.std.specs.Str.{bytes_eq}
 use Rattle.x_lex.specs.Places.{Lexeme}
@@ -68,6 +68,11 @@ touches token at = nat_le token.start at && nat_le at token.end
 abbrev pub first_of : {X : Type 0} → List X → Option X
 first_of [] = None
 first_of (x ∷ xs) = Some x
+
+-- an inline type has this name
+abbrev pub is_lifted_name : List Item → List ℕ → Bool
+is_lifted_name items name = is_some (first_of
+    (tokens_where (λ n. not (is_own n.standing) && bytes_eq name n.name) (names_of items)))
 
 -- the name at a place: that of the first token there which is a declared name, or uses one
 abbrev pub name_at : List Item → ℕ → Option (List ℕ)

@@ -72,6 +72,8 @@ pub enum Sought<'n> {
     At(usize),
     /// Words that declare this name.
     Declaring(&'n [u8]),
+    /// Words that declare an inline type of this name.
+    Lifting(&'n [u8]),
     /// Words that use it, and if asked for, those that declare it too.
     Using { name: &'n [u8], declared: bool },
 }
@@ -86,6 +88,7 @@ impl<'n> Sought<'n> {
             Sought::Own => standing.is_own(),
             Sought::At(at) => standing.is_own() && token.start <= at && at <= token.end,
             Sought::Declaring(sought) => !standing.is_use() && sought == name,
+            Sought::Lifting(sought) => !standing.is_own() && sought == name,
             Sought::Using {
                 name: sought,
                 declared,

@@ -45,7 +45,7 @@ impl PartKind {
         }
     }
 
-    /// What stands in the next body behind a keyword.
+    /// What stands in the body of a keyword.
     fn inside(mark: Mark) -> Option<PartKind> {
         match mark {
             Mark::Enum => Some(PartKind::Enumerator),
@@ -64,6 +64,8 @@ pub struct Part {
     pub kind: PartKind,
     /// How many brackets of bodies it stands in.
     pub depth: usize,
+    /// The keyword of the body that it stands in, if it is no whole definition.
+    pub within: Option<Mark>,
     /// Its first word.
     pub first: usize,
     /// Its name.
@@ -82,7 +84,7 @@ pub fn parts_of(alloc: Global, tokens: &[Token]) -> Result<Vec<Part>, NoMemory> 
     let mut reader = PartReader {
         parts: Vec::new(alloc),
         outer: Vec::new(alloc),
-        body: Body::of(definition_kind(tokens)),
+        body: Body::of(definition_kind(tokens), None),
         before: None,
         last: 0,
     };
@@ -112,8 +114,8 @@ struct Begun {
     name: Option<usize>,
     /// Whether that is its name.
     settled: bool,
-    /// What stands in its next body.
-    inside: Option<PartKind>,
+    /// The keyword of its next body.
+    inside: Option<Mark>,
 }
 
 /// Nothing is read of a part.
@@ -154,8 +156,8 @@ impl Begun {
             }
             _ => {}
         }
-        if let Some(kind) = PartKind::inside(mark) {
-            self.inside = Some(kind);
+        if PartKind::inside(mark).is_some() {
+            self.inside = Some(mark);
         }
     }
 }
@@ -165,13 +167,16 @@ impl Begun {
 struct Body {
     /// What its parts are. Those of arguments are not told, nor what stands in them.
     kind: Option<PartKind>,
+    /// Its keyword.
+    within: Option<Mark>,
     begun: Begun,
 }
 
 impl Body {
-    fn of(kind: Option<PartKind>) -> Body {
+    fn of(kind: Option<PartKind>, within: Option<Mark>) -> Body {
         Body {
             kind,
+            within,
             begun: NOTHING,
         }
     }
@@ -207,7 +212,7 @@ impl PartReader {
         match mark {
             Mark::OpenBrace => self.open(self.body.begun.inside),
             Mark::OpenParenthesis => match self.before {
-                Some(Mark::Switch) => self.open(Some(PartKind::Field)),
+                Some(Mark::Switch) => self.open(Some(Mark::Union)),
                 _ => self.open(None),
             },
             Mark::CloseBrace | Mark::CloseParenthesis => {
@@ -224,15 +229,15 @@ impl PartReader {
         }
     }
 
-    /// Begins a body of such parts.
-    fn open(&mut self, inside: Option<PartKind>) -> Result<(), NoMemory> {
+    /// Begins the body of a keyword, or of arguments.
+    fn open(&mut self, within: Option<Mark>) -> Result<(), NoMemory> {
         self.body.begun.settle();
-        let kind = match self.body.kind {
-            Some(_) => inside,
-            None => None,
+        let kind = match (self.body.kind, within) {
+            (Some(_), Some(mark)) => PartKind::inside(mark),
+            _ => None,
         };
         self.outer.push(self.body)?;
-        self.body = Body::of(kind);
+        self.body = Body::of(kind, within);
         Ok(())
     }
 
@@ -248,6 +253,7 @@ impl PartReader {
             self.parts.push(Part {
                 kind,
                 depth,
+                within: self.body.within,
                 first,
                 name,
                 last,

@@ -6,21 +6,25 @@ ghost use Rattle.serde_json.specs.Written.{has_float};
 
 use crate::locations::range_of;
 use crate::open_text::OpenText;
-use memchr::memchr_iter;
+use crate::parts_told::told_part;
+use crate::written::{definition_span, item_tokens, number_in, told_lines};
 use serde_json::{Value, json};
 use std::alloc::{AllocError, Global};
-use x_item::{is_significant, next_item};
+use x_lex::Token;
 use x_lookups::{FoundName, Size, declared_name_at, names};
 use x_positions::{Encoding, Places, range_value};
 use x_rules::Meaning;
 use x_session::{SchemaFault, Session};
 use x_text::NoMemory;
 
-/// The most lines of a definition that are told.
-const MOST_LINES: usize = 20;
+/// A word, and what is told of it.
+#[derive(Drop)]
+pub(crate) struct ToldWord<'s> {
+    pub(crate) token: Token<'s>,
+    pub(crate) told: String,
+}
 
-/// The definition of the name at a place, with what it means: a `Hover`; null where no name stands there, or
-/// nobody declares it.
+/// What is told of the word at a place: a `Hover`. It is null where nothing is told.
 pub(crate) fn hover(
     alloc: Global,
     encoding: Encoding,
@@ -29,19 +33,34 @@ pub(crate) fn hover(
 ) -> Result<Value, NoMemory>
     ensures { IfOk result (λ v. has_float (view v) ≡ false) }
 {
-    let session = &document.compiled.session;
-    let names = names(alloc, session)?;
-    match declared_name_at(alloc, session, &names, at)? {
-        Some(found) => {
-            // Of names of C nobody knows the numbers and sizes, nor of what stands on them.
-            let tells_meaning = document.compiled.foreign_use(found.token.text)?.is_none();
-            let told = told_of(alloc, session, &found, tells_meaning)?;
+    match told_word(alloc, document, at)? {
+        Some(word) => {
             let mut places = Places::of(encoding, document.shown.bytes());
-            let range = range_value(alloc, &range_of(&mut places, &found.token))?;
-            Ok(hover_value(alloc, told.as_str(), range)?)
+            let range = range_value(alloc, &range_of(&mut places, &word.token))?;
+            Ok(hover_value(alloc, word.told.as_str(), range)?)
         }
         None => Ok(Value::Null),
     }
+}
+
+/// What is told of the name at a place, or of the part of a definition whose name stands there.
+fn told_word<'d>(
+    alloc: Global,
+    document: &OpenText<'d>,
+    at: usize,
+) -> Result<Option<ToldWord<'d>>, NoMemory> {
+    let session = &document.compiled.session;
+    let names = names(alloc, session)?;
+    let Some(found) = declared_name_at(alloc, session, &names, at)? else {
+        return told_part(alloc, session, at);
+    };
+    // Of names of C nobody knows the numbers and sizes, nor of what stands on them.
+    let tells_meaning = document.compiled.foreign_use(found.token.text)?.is_none();
+    let told = told_of(alloc, document, &found, tells_meaning)?;
+    Ok(Some(ToldWord {
+        token: found.token,
+        told,
+    }))
 }
 
 /// What is told of what stands in a range.
@@ -53,36 +72,35 @@ fn hover_value(alloc: Global, told: &str, range: Value) -> Result<Value, AllocEr
     json!(in alloc; {"contents": contents, "range": range})
 }
 
-/// The definition of a name as it is written, or its first lines and two dots, and what the name means behind
-/// an empty line, if that is told.
+/// The definition of a name as it is written, with the comments directly in front of it, and what the name
+/// means behind an empty line, if that is told.
 fn told_of(
     alloc: Global,
-    session: &Session,
+    document: &OpenText,
     found: &FoundName,
     tells_meaning: bool,
 ) -> Result<String, NoMemory> {
-    let span = item_span(alloc, session, found.declarer.item)?;
-    let (lines, is_all) = first_lines(written(session.bytes(), span));
-    let mut told = String::from_utf8_lossy(alloc, lines)?;
-    if !is_all {
-        told.push_str("\n..")?;
-    }
+    let session = &document.compiled.session;
+    let tokens = item_tokens(alloc, session, found.declarer.item)?;
+    let span = definition_span(document.shown, &tokens);
+    let mut told = told_lines(alloc, session.bytes(), span)?;
     if !tells_meaning {
         return Ok(told);
     }
-    if let Some(meaning) = meaning_of(alloc, session, found)? {
+    if let Some(meaning) = meaning_of(alloc, session, found, &tokens)? {
         told.push_str("\n\n")?;
         told.push_str(meaning.as_str())?;
     }
     Ok(told)
 }
 
-/// What a name means whose item has no fault: the number of a constant; of a type its height, and in a text
-/// without a fault how many bytes its values take.
+/// What a name means whose item has no fault: the number of a constant or a program; of a type its height,
+/// and in a text without a fault how many bytes its values take.
 fn meaning_of(
     alloc: Global,
     session: &Session,
     found: &FoundName,
+    tokens: &[Token],
 ) -> Result<Option<String>, NoMemory> {
     match session.meaning(&found.declarer) {
         Meaning::Constant(number) => Ok(Some(format!(in alloc; "= {number}")?)),
@@ -96,7 +114,11 @@ fn meaning_of(
             };
             Ok(Some(told))
         }
-        Meaning::Program | Meaning::Bad => Ok(None),
+        Meaning::Program => match number_in(tokens) {
+            Some(number) => Ok(Some(format!(in alloc; "= {number}")?)),
+            None => Ok(None),
+        },
+        Meaning::Bad => Ok(None),
     }
 }
 
@@ -110,42 +132,5 @@ fn size_of_type(alloc: Global, session: &Session, name: &[u8]) -> Result<Option<
     match schema.type_named(name) {
         Some(id) => Ok(Some(Size::of_type(alloc, &schema, id)?)),
         None => Ok(None),
-    }
-}
-
-/// The place of the first word of an item, and that behind its last one.
-fn item_span(
-    alloc: Global,
-    session: &Session,
-    item: usize,
-) -> Result<Option<(usize, usize)>, NoMemory> {
-    let mut tokens = Vec::new(alloc);
-    let mut walk = session.tokens();
-    for _ in 0..item.saturating_add(1) {
-        next_item(&mut tokens, &mut walk)?;
-    }
-    tokens.retain(|token| is_significant(token.kind));
-    match tokens.as_slice() {
-        [] => Ok(None),
-        [first, ..] => {
-            let last = tokens.last().unwrap_or(first);
-            Ok(Some((first.start, last.end)))
-        }
-    }
-}
-
-/// What is written from one place to another.
-fn written(text: &[u8], span: Option<(usize, usize)>) -> &[u8] {
-    match span {
-        Some((start, end)) => text.get(start..end).unwrap_or(&[]),
-        None => &[],
-    }
-}
-
-/// The first lines of what is written, and whether they are all.
-fn first_lines(written: &[u8]) -> (&[u8], bool) {
-    match memchr_iter(b'\n', written).nth(MOST_LINES - 1) {
-        Some(end) => (written.get(..end).unwrap_or(written), false),
-        None => (written, true),
     }
 }

@@ -7,8 +7,10 @@ mod hover;
 mod locations;
 mod open_text;
 mod params;
+mod parts_told;
 mod questions;
 mod renaming;
+mod written;
 
 pub use open_text::OpenText;
 pub use questions::answer_about_place;

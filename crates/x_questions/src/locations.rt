@@ -1,13 +1,16 @@
 //! The places of tokens, as LSP writes them.
 
-ghost use Rattle.std.specs.Prelude.{◌≡◌, ◌≤◌, false, IfOk, length};
+ghost use Rattle.std.specs.Prelude.{◌≡◌, ◌+◌, ◌≤◌, false, IfOk, length};
 ghost use Rattle.serde_json.specs.View.{view};
 ghost use Rattle.serde_json.specs.Written.{has_float};
 ghost use Rattle.x_text.specs.Limits.{most_text};
+ghost use Rattle.x_frames.specs.declared.answers.ErrorCode.TheVariants.{NameUnparsed};
+ghost use Rattle.x_positions.specs.Positions.{lines_before};
 
 use crate::open_text::OpenText;
 use serde_json::{Value, json, push};
 use std::alloc::Global;
+use x_frames::ErrorCode;
 use x_lex::Token;
 use x_positions::{Encoding, Places, Range, range_value};
 use x_text::NoMemory;
@@ -45,6 +48,16 @@ pub(crate) fn range_of(places: &mut Places, token: &Token) -> Range {
     Range {
         start: places.position(token.start),
         end: places.position(token.end),
+    }
+}
+
+/// That a name stands at this token in a definition that does not parse.
+pub(crate) fn name_unparsed(encoding: Encoding, document: &OpenText, token: &Token) -> ErrorCode
+    ensures { result ≡ NameUnparsed (lines_before document.now.shown.now token.now.start + 1) }
+{
+    let mut places = Places::of(encoding, document.shown.bytes());
+    ErrorCode::NameUnparsed {
+        line: places.position(token.start).line + 1,
     }
 }
 

@@ -7,7 +7,7 @@ ghost use Rattle.x_frames.specs.Lives.{is_of_request};
 
 use crate::completion::completion;
 use crate::hover::hover;
-use crate::locations::{Told, place_value, places_value, range_of};
+use crate::locations::{Told, name_unparsed, place_value, places_value, range_of};
 use crate::open_text::OpenText;
 use crate::params::{declared_in, new_name_in};
 use crate::renaming::{rename, renamed_range};
@@ -15,7 +15,7 @@ use serde_json::Value;
 use std::alloc::Global;
 use x_frames::{ErrorCode, PositionQuestion};
 use x_lex::Token;
-use x_lookups::{definition_at, references_at};
+use x_lookups::{definition_at, references_at, unparsed_use_at};
 use x_positions::{Encoding, Places};
 use x_text::NoMemory;
 
@@ -41,18 +41,11 @@ pub fn answer_about_place(
     match question {
         PositionQuestion::Definition => found(definition(alloc, encoding, document, at)),
         PositionQuestion::References => match declared_in(params) {
-            Some(declared) => found(references(
-                alloc,
-                encoding,
-                document,
-                at,
-                declared,
-                Told::Location,
-            )),
+            Some(declared) => references(alloc, encoding, document, at, declared),
             None => Err(ErrorCode::InvalidParams),
         },
         PositionQuestion::Highlights => {
-            found(references(alloc, encoding, document, at, true, Told::Highlight))
+            found(uses(alloc, encoding, document, at, true, Told::Highlight))
         }
         PositionQuestion::Hover => found(hover(alloc, encoding, document, at)),
         PositionQuestion::Completion => found(completion(alloc, document, at)),
@@ -95,8 +88,27 @@ fn definition(
     }
 }
 
-/// Where the name at a place is used, and if asked for, where it is declared.
+/// Where the name at a place is used, and if asked for, where it is declared; refused where it stands in what
+/// does not parse.
 fn references(
+    alloc: Global,
+    encoding: Encoding,
+    document: &OpenText,
+    at: usize,
+    declared: bool,
+) -> Result<Value, ErrorCode>
+    ensures value { IfOk result (λ v. has_float (view v) ≡ false) }
+    ensures code { IfErr result (λ code. is_of_request code ≡ true) }
+{
+    match unparsed_use_at(alloc, &document.compiled.session, at) {
+        Ok(Some(token)) => Err(name_unparsed(encoding, document, &token)),
+        Ok(None) => found(uses(alloc, encoding, document, at, declared, Told::Location)),
+        Err(NoMemory) => Err(ErrorCode::InternalError),
+    }
+}
+
+/// Where the name at a place is used, and if asked for, where it is declared.
+fn uses(
     alloc: Global,
     encoding: Encoding,
     document: &OpenText,

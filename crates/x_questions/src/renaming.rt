@@ -5,16 +5,18 @@ ghost use Rattle.serde_json.specs.View.{view};
 ghost use Rattle.serde_json.specs.Written.{has_float};
 ghost use Rattle.x_frames.specs.Lives.{is_of_request};
 
-use crate::locations::range_of;
+use crate::locations::{name_unparsed, range_of};
 use crate::open_text::OpenText;
 use serde_json::{Value, json};
 use std::alloc::{AllocError, Global};
 use std::collections::BTreeMap;
 use x_frames::{ErrorCode, PlainList};
-use x_item::{Glossary, NameKind, lifted_name};
+use x_item::{DeclaredName, Glossary, NameKind, lifted_name};
 use x_lex::{Kind, Token, lex_one};
-use x_lookups::{FoundName, Sought, declared_name_at, find_names, names};
-use x_names::{Declarer, Names, is_beforehand};
+use x_lookups::{
+    Sought, declared_name_at, find_names, is_lifted_name, names, unparsed_use, unparsed_use_at,
+};
+use x_names::{Names, is_beforehand};
 use x_positions::{Encoding, Places, range_value};
 use x_session::Session;
 use x_text::{Meter, NoMemory};
@@ -52,30 +54,36 @@ pub(crate) fn rename(
     ensures code { IfErr result (λ code. is_of_request code ≡ true) }
 {
     match renamed(alloc, encoding, document, at, name) {
-        Ok(Some(edits)) => Ok(edits),
-        Ok(None) => Err(ErrorCode::RequestFailed),
+        Ok(renamed) => renamed,
         Err(NoMemory) => Err(ErrorCode::InternalError),
     }
 }
 
-/// The edits that give the name at a place a new name; none where it may not be renamed so.
+/// The edits that give the name at a place a new name, or why it may not be renamed so.
 fn renamed(
     alloc: Global,
     encoding: Encoding,
     document: &OpenText,
     at: usize,
     name: &str,
-) -> Result<Option<Value>, NoMemory>
-    ensures { IfOk result (λ o. IfSome o (λ v. has_float (view v) ≡ false)) }
+) -> Result<Result<Value, ErrorCode>, NoMemory>
+    ensures value { IfOk result (λ r. IfOk r (λ v. has_float (view v) ≡ false)) }
+    ensures code { IfOk result (λ r. IfErr r (λ code. is_of_request code ≡ true)) }
 {
     let session = &document.compiled.session;
+    if let Some(token) = unparsed_use_at(alloc, session, at)? {
+        return Ok(Err(name_unparsed(encoding, document, &token)));
+    }
     let names = names(alloc, session)?;
     let Some(found) = declared_name_at(alloc, session, &names, at)? else {
-        return Ok(None);
+        return Ok(Err(ErrorCode::RequestFailed));
     };
-    match new_names(alloc, session, &names, &found, name.as_bytes())? {
-        Some(new_names) => Ok(Some(edits(alloc, encoding, document, &new_names)?)),
-        None => Ok(None),
+    if is_lifted_name(alloc, session, found.token.text)? {
+        return Ok(Err(ErrorCode::NameLifted));
+    }
+    match new_names(alloc, session, &names, found.token.text, name.as_bytes())? {
+        Some(new_names) => edits_of_all(alloc, encoding, document, &new_names),
+        None => Ok(Err(ErrorCode::RequestFailed)),
     }
 }
 
@@ -88,15 +96,15 @@ fn new_names(
     alloc: Global,
     session: &Session,
     names: &Names,
-    found: &FoundName,
-    name: &[u8],
+    old: &[u8],
+    new: &[u8],
 ) -> Result<Option<NewNames>, NoMemory> {
-    if found.declarer.lifted || !is_name(name) || !is_free(names, name) {
+    if !is_name(new) || !is_free(names, new) {
         return Ok(None);
     }
     let mut new_names = BTreeMap::new(alloc);
-    put_name(alloc, &mut new_names, found.token.text, name)?;
-    if lift_names(alloc, &mut new_names, session, names, found, name)? {
+    put_name(alloc, &mut new_names, old, new)?;
+    if lift_names(alloc, &mut new_names, session, names, old, new)? {
         Ok(Some(new_names))
     } else {
         Ok(None)
@@ -114,31 +122,54 @@ fn put_name(
     Ok(())
 }
 
-/// Adds the names of inline types that begin with a name that gets a new one, and says whether each of them
-/// may be changed so.
+/// Adds the names of inline types that begin with a name that gets a new one, in all definitions that declare
+/// it, and says whether each of them may be changed so.
 fn lift_names(
     alloc: Global,
     new_names: &mut NewNames,
     session: &Session,
     names: &Names,
-    found: &FoundName,
-    name: &[u8],
+    old: &[u8],
+    new: &[u8],
 ) -> Result<bool, NoMemory> {
-    let Declarer { item, kind, .. } = found.declarer;
-    let Some((old_front, new_front)) = fronts(alloc, kind, found.token.text, name)? else {
-        return Ok(true);
-    };
-    let Some(definition) = session.definition(item) else {
-        return Ok(true);
-    };
     let mut glossary = Glossary::new(alloc);
-    glossary.read(alloc, definition)?;
-    for declared in &glossary.declared {
-        let lifted = declared.name.as_slice();
+    for item in 0..session.item_count() {
+        if let Some(definition) = session.definition(item) {
+            glossary.read(alloc, definition)?;
+            if let Some((old_front, new_front)) = fronts_in(alloc, &glossary.declared, old, new)?
+                && !lift_names_in(
+                    alloc,
+                    new_names,
+                    names,
+                    &glossary.declared,
+                    item,
+                    &old_front,
+                    &new_front,
+                )?
+            {
+                return Ok(false);
+            }
+        }
+    }
+    Ok(true)
+}
+
+/// Adds those that an item declares which begin with some bytes.
+fn lift_names_in(
+    alloc: Global,
+    new_names: &mut NewNames,
+    names: &Names,
+    declared: &[DeclaredName],
+    item: usize,
+    old_front: &[u8],
+    new_front: &[u8],
+) -> Result<bool, NoMemory> {
+    for name in declared {
+        let lifted = name.name.as_slice();
         if is_lifted_in(names, lifted, item)
-            && let Some(rear) = lifted.strip_prefix(old_front.as_slice())
+            && let Some(rear) = lifted.strip_prefix(old_front)
         {
-            let mut new_name = Vec::from_slice(alloc, &new_front)?;
+            let mut new_name = Vec::from_slice(alloc, new_front)?;
             new_name.extend_from_slice(rear)?;
             if !is_free(names, &new_name) {
                 return Ok(false);
@@ -155,6 +186,25 @@ fn is_lifted_in(names: &Names, name: &[u8], item: usize) -> bool {
         Some(first) => first.lifted && first.item == item,
         None => false,
     }
+}
+
+/// What the names of inline types begin with in a definition that declares these names, one of them as a type
+/// of the old name, and what they begin with under its new name.
+fn fronts_in(
+    alloc: Global,
+    declared: &[DeclaredName],
+    old: &[u8],
+    new: &[u8],
+) -> Result<Option<(Vec<u8>, Vec<u8>)>, NoMemory> {
+    for name in declared {
+        if !name.lifted && name.name.as_slice() == old {
+            let fronts = fronts(alloc, name.kind, old, new)?;
+            if fronts.is_some() {
+                return Ok(fronts);
+            }
+        }
+    }
+    Ok(None)
 }
 
 /// What the names of inline types begin with that stand in a type of this name, and what under its new name.
@@ -188,6 +238,24 @@ fn is_name(bytes: &[u8]) -> bool {
 /// Whether nobody declares a name.
 fn is_free(names: &Names, name: &[u8]) -> bool {
     !is_beforehand(name) && names.first(name).is_none()
+}
+
+/// The edits that give names new ones wherever they stand; refused where one stands in what does not parse.
+fn edits_of_all(
+    alloc: Global,
+    encoding: Encoding,
+    document: &OpenText,
+    new_names: &NewNames,
+) -> Result<Result<Value, ErrorCode>, NoMemory>
+    ensures value { IfOk result (λ r. IfOk r (λ v. has_float (view v) ≡ false)) }
+    ensures code { IfOk result (λ r. IfErr r (λ code. is_of_request code ≡ true)) }
+{
+    for old in new_names.keys() {
+        if let Some(token) = unparsed_use(alloc, &document.compiled.session, old)? {
+            return Ok(Err(name_unparsed(encoding, document, &token)));
+        }
+    }
+    Ok(Ok(edits(alloc, encoding, document, new_names)?))
 }
 
 /// The edits that give names new ones wherever they stand, in the order of the text.
