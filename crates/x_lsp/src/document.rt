@@ -48,6 +48,8 @@ pub(crate) struct OpenDocument {
     blanks: bool,
     /// Whether names that clash in C are published.
     warns: bool,
+    /// How many of its faults are published at most.
+    most: usize,
     /// What is compiled of it.
     pub(crate) compiled: FollowedText,
     /// Places of the text near which others are found.
@@ -78,7 +80,8 @@ impl OpenDocument {
         ensures uri { IfOk result (λ d. string_bytes d.uri ≡ uri.now) }
         ensures version { IfOk result (λ d. d.version ≡ version) }
         ensures standing { IfOk result
-            (λ d. ground_with d.files.items d.compiled.from_c d.blanks d.warns ≡ ground_of setting.now) }
+            (λ d. ground_with d.files.items d.compiled.from_c d.blanks d.warns d.most
+            ≡ ground_of setting.now) }
         ensures text { IfOk result (λ d. d.shown ≡ text.now) }
         ensures followed { IfOk result (λ d. IsCompiled d.files.items d.blanks d.shown d.compiled) }
         ensures base { IfOk result (λ d. d.compiled.session.base ≡ base_of (name_of uri.now)) }
@@ -106,6 +109,7 @@ impl OpenDocument {
             files,
             blanks: setting.blanks,
             warns: setting.warns,
+            most: setting.most,
             compiled,
             marks,
             messages: FaultMessages::new(alloc),
@@ -119,7 +123,8 @@ impl OpenDocument {
     pub(crate) fn change(&mut self, alloc: Global, version: i64, changes: &[TextChange]) -> Reply
         ensures says { PublishesChange self.old.in_step self.new.in_step self.old.client
             (string_bytes self.old.uri) version
-            (ground_with self.old.files.items self.old.compiled.from_c self.old.blanks self.old.warns)
+            (ground_with self.old.files.items self.old.compiled.from_c self.old.blanks self.old.warns
+            self.old.most)
             (changed_by_all self.old.client.encoding self.old.shown changes.now) (said_of result) }
         ensures note { IsToNotification (said_of result) }
     {
@@ -152,8 +157,9 @@ impl OpenDocument {
         ensures client { self.new.client ≡ self.old.client }
         ensures uri { self.new.uri ≡ self.old.uri }
         ensures standing { ground_with self.new.files.items self.new.compiled.from_c self.new.blanks
-            self.new.warns
-            ≡ ground_with self.old.files.items self.old.compiled.from_c self.old.blanks self.old.warns }
+            self.new.warns self.new.most
+            ≡ ground_with self.old.files.items self.old.compiled.from_c self.old.blanks self.old.warns
+            self.old.most }
     {
         let changed = apply_changes(alloc, &mut self.shown, &mut self.marks, changes);
         let followed = follow_text(
@@ -179,7 +185,8 @@ impl OpenDocument {
     pub(crate) fn publish(&mut self, alloc: Global) -> Reply
         requires { IsCompiled self.old.files.items self.old.blanks self.old.shown self.old.compiled }
         ensures says { Publishes self.old.client (string_bytes self.old.uri) self.old.version
-            (ground_with self.old.files.items self.old.compiled.from_c self.old.blanks self.old.warns)
+            (ground_with self.old.files.items self.old.compiled.from_c self.old.blanks self.old.warns
+            self.old.most)
             self.old.shown (said_of result) }
         ensures note { IsToNotification (said_of result) }
     {
@@ -191,6 +198,7 @@ impl OpenDocument {
             blanks: self.blanks,
             foreign: &foreign,
             warns: self.warns,
+            most: self.most,
         };
         match publish(
             alloc,

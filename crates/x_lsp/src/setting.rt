@@ -1,4 +1,7 @@
-//! How the documents of a client are compiled, and of what it is warned.
+//! How the documents of a client are compiled, how many of their faults it is shown, and of what it is
+//! warned.
+
+ghost use Rattle.std.specs.Prelude.{◌<◌, IfSome};
 
 use serde_json::Value;
 use x_prelude::FromC;
@@ -14,6 +17,8 @@ pub struct Setting<'k> {
     pub blanks: bool,
     /// Whether names that clash in C are published.
     pub warns: bool,
+    /// How many faults of a document are published at most.
+    pub most: usize,
 }
 
 impl<'k> Setting<'k> {
@@ -30,6 +35,7 @@ impl<'k> Setting<'k> {
             },
             blanks: blanks(options).unwrap_or(self.blanks),
             warns: flag(options, "warnings").unwrap_or(self.warns),
+            most: most(options).unwrap_or(self.most),
         }
     }
 }
@@ -51,4 +57,12 @@ fn blanks(options: &Value) -> Option<bool> {
         "fault" => Some(false),
         _ => None,
     }
+}
+
+/// How many faults are to be published at most: one or more.
+fn most(options: &Value) -> Option<usize>
+    ensures { IfSome result (λ most. 0 < most) }
+{
+    let most = options.get("most")?.as_u64()?;
+    if most == 0 { None } else { Some(most as usize) }
 }

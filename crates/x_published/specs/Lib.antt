@@ -2,4 +2,5 @@ pub mod Diagnostics
 pub mod FaultMessages
 pub mod OtherPlaces
 pub mod Published
+pub mod Unshown
 pub mod Warned

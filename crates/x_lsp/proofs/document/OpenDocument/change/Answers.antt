@@ -21,13 +21,13 @@ returns-clause-says c =
     let left = c.in_default.ensures in
     let said = said_of c.publish.result in
     let version = c.args.version in
-    let on = ground_with old.files.items old.compiled.from_c old.blanks old.warns in
+    let on = ground_with old.files.items old.compiled.from_c old.blanks old.warns old.most in
     let shown = changed_by_all old.client.encoding old.shown c.args.changes.now in
     inr (subst (λ e. Publishes e (string_bytes old.uri) version on shown said) left.client
     (subst (λ u. Publishes new.client (string_bytes u) version on shown said) left.uri
     (subst (λ g. Publishes new.client (string_bytes new.uri) version g shown said) left.standing
     (subst (λ t. Publishes new.client (string_bytes new.uri) version
-    (ground_with new.files.items new.compiled.from_c new.blanks new.warns) t said) left.text
+    (ground_with new.files.items new.compiled.from_c new.blanks new.warns new.most) t said) left.text
     (subst (λ v. Publishes new.client (string_bytes new.uri) v
-    (ground_with new.files.items new.compiled.from_c new.blanks new.warns) new.shown said)
+    (ground_with new.files.items new.compiled.from_c new.blanks new.warns new.most) new.shown said)
     (to_z-of_z w64 version c.ranges.version) c.publish.ensures.says)))))

@@ -39,5 +39,5 @@ returns-clause-says c =
     (subst (λ t. Publishes e uri d.version on t said) opened.text
     (subst (λ g. Publishes e uri d.version g d.shown said) opened.standing
     (subst (λ k. Publishes k uri d.version
-    (ground_with d.files.items d.compiled.from_c d.blanks d.warns) d.shown said) opened.client
+    (ground_with d.files.items d.compiled.from_c d.blanks d.warns d.most) d.shown said) opened.client
     c.publish-reply.ensures.says))))
